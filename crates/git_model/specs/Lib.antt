@@ -1,0 +1,3 @@
+-- In reading order.
+pub mod Kind
+pub mod ObjectName

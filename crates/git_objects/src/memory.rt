@@ -1,0 +1,44 @@
+//! The one refusal of calls that can fail by memory alone.
+
+ghost use Rattle.std.specs.Prelude.{◌≡◌};
+
+use std::alloc::{AllocError, AllocFailed};
+use std::error::Error;
+use std::fmt;
+
+/// A growth was refused. It is answered only where that really happened.
+#[derive(Clone, Copy, Debug, PartialEq, Eq)]
+pub struct Memory;
+
+impl Memory {
+    /// The number of this refusal, 90.
+    pub fn code(self) -> u16
+        ensures { result ≡ 90 }
+    {
+        90
+    }
+}
+
+impl fmt::Display for Memory {
+    fn fmt<W: fmt::Write>(&self, f: &mut fmt::Formatter<W>) -> fmt::Result {
+        write!(f, "out of memory")
+    }
+}
+
+impl Error for Memory {}
+
+impl From<AllocError> for Memory {
+    ghost from_gives = { λ _ _. Unit {0} };
+
+    fn from(_e: AllocError) -> Memory {
+        Memory
+    }
+}
+
+impl<T: Drop> From<AllocFailed<T>> for Memory {
+    ghost from_gives = { λ _ _. Unit {0} };
+
+    fn from(_e: AllocFailed<T>) -> Memory {
+        Memory
+    }
+}

@@ -1,0 +1,33 @@
+//! Git's own names: SHA-1 of FIPS 180-4.
+
+ghost use Rattle.std.specs.Prelude.{◌++◌};
+ghost use Rattle.sha1.specs.Sha1.{sha1};
+
+use crate::memory::Memory;
+use crate::naming::Naming;
+use sha1::Sha1;
+use std::alloc::Global;
+
+/// Names objects by SHA-1, as Git does. Neither call takes memory: the pieces of a message are digested in turn.
+#[derive(Clone, Copy, Debug, Drop)]
+pub struct Sha1Naming;
+
+impl Naming for Sha1Naming {
+    ghost digest_of = { sha1 };
+
+    fn digest(&self, bytes: &[u8]) -> [u8; 20] {
+        Sha1::digest(bytes)
+    }
+
+    fn digest_parts(
+        &self,
+        _alloc: Global,
+        header: &[u8],
+        contents: &[u8],
+    ) -> Result<[u8; 20], Memory> {
+        let mut hasher = Sha1::new();
+        hasher.update(header);
+        hasher.update(contents);
+        Ok(hasher.finalize())
+    }
+}
