@@ -6,6 +6,8 @@ use std::alloc::{AllocError, AllocFailed};
 use std::error::Error;
 use std::fmt;
 
+const OUT_OF_MEMORY: u16 = 90;
+
 /// A growth was refused. It is answered only where that really happened.
 #[derive(Clone, Copy, Debug, PartialEq, Eq)]
 pub struct Memory;
@@ -15,7 +17,7 @@ impl Memory {
     pub fn code(self) -> u16
         ensures { result ≡ 90 }
     {
-        90
+        OUT_OF_MEMORY
     }
 }
 

@@ -32,7 +32,8 @@ impl Hash for Name {
 
     // The bytes of a digest are spread evenly already: eight of them decide a bucket.
     fn hash<H: Hasher>(&self, state: &mut H) {
-        state.write(&self.bytes[..8]);
+        let (first, _) = self.bytes.split_at(8);
+        state.write(first);
     }
 }
 
@@ -67,7 +68,7 @@ impl Name {
             (λ id. decode_sized digits.now 20 ≡ Ok id) }
     {
         match <[u8; 20]>::from_hex(digits) {
-            Ok(bytes) => Some(Name { bytes }),
+            Ok(bytes) => Some(Name::from_bytes(bytes)),
             Err(_) => None,
         }
     }
