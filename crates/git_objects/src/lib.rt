@@ -4,17 +4,48 @@
 //! function of the bytes.
 #![tactic(auto)]
 
+mod commit;
+mod counted;
+mod device_fault;
+mod failing_reader;
+mod failing_writer;
+mod fault;
+mod front;
+mod header;
+mod ident;
+mod ident_text;
+#[cfg(test)]
+mod made_by_git;
 mod memory;
+mod mode;
 mod name;
 mod naming;
 mod object_name;
+mod ref_name;
 mod sha1_naming;
+mod tag;
 mod tail_naming;
+mod tree;
+mod tree_entry;
+mod whole_text;
 
+pub use commit::{CommitParts, read_commit, write_commit};
+pub use counted::Counted;
+pub use device_fault::DeviceFault;
+pub use failing_reader::FailingReader;
+pub use failing_writer::FailingWriter;
+pub use fault::Fault;
 pub use git_model::{FileMode, Kind};
+pub use ident::{Ident, is_written_ident};
 pub use memory::Memory;
+pub use mode::{mode_digits, read_mode};
 pub use name::Name;
 pub use naming::Naming;
 pub use object_name::{kind_word, name_of};
+pub use ref_name::is_ref_name;
 pub use sha1_naming::Sha1Naming;
+pub use tag::{TagParts, read_tag, write_tag};
 pub use tail_naming::TailNaming;
+pub use tree::{read_tree, write_tree};
+pub use tree_entry::{TreeEntry, is_component};
+pub use whole_text::write_all;

@@ -1,0 +1,97 @@
+-- The header of a tag at the front of a text: its target, the target's kind, its name and its end.
+use Rattle.std.proofs.Common.{◌≡◌, ◌≢◌, ℕ, List, [], ◌∷◌, ◌++◌, sym, ap, subst, ◌∙◌, false, Option, Some, None, IfSome, codes}
+use Rattle.std.proofs.lemmas.Bool.{false≢true}
+use Rattle.std.proofs.lemmas.List.{append_assoc}
+use Rattle.std.proofs.lemmas.List.Elements.{All-from_recursion, All-drop, All-weaker}
+use Rattle.std.proofs.lemmas.Option.{none-some, some_pair_parts}
+use Rattle.git_model.specs.declared.kind.Kind.{Kind}
+use Rattle.git_model.specs.ObjectName.{IsObjectName}
+use Rattle.git_model.specs.RefName.{IsRefName, is_forbidden}
+use Rattle.git_model.specs.Commit.{line, name_line, optional_line}
+use Rattle.git_model.specs.Tag.{Tag, CanWriteTag, tag_contents}
+use Rattle.git_objects.specs.Fronts.{IsFront}
+use Rattle.git_objects.specs.HeaderParts.{end_lines}
+use Rattle.git_objects.specs.TagParts.{IsTagged, IsTagger, kind_line}
+use Rattle.git_objects.proofs.Fronts.{Both, both, first_missing, second_missing, both_there}
+use Rattle.git_objects.proofs.Lines.{IsOneLine, ident_one_line}
+
+pub tagger_one_line : (tagger : Option (List ℕ)) → IsTagger tagger → IfSome tagger IsOneLine
+tagger_one_line None is = tt
+tagger_one_line (Some text) is = ident_one_line text is
+
+-- a tag's name is one line, since a ref name has no line end
+name_one_line : (name : List ℕ) → IsRefName (codes "refs/tags/" ++ name) → IsOneLine name
+name_one_line name is =
+    let free = All-from_recursion (λ byte. is_forbidden byte ≡ false) (codes "refs/tags/" ++ name) is.no_forbidden_byte in
+    All-weaker (λ byte. is_forbidden byte ≡ false) (λ byte. byte ≢ 10) (λ b h e. false≢true (sym (subst (λ x. is_forbidden x ≡ false) e h))) name (All-drop (λ byte. is_forbidden byte ≡ false) 10 (codes "refs/tags/" ++ name) free)
+
+abbrev Named : List ℕ × Option (List ℕ) → Type 0
+Named = Both IsOneLine IsTagger (line (codes "tag ")) (end_lines (codes "tagger "))
+
+abbrev named : List ℕ × Option (List ℕ) → List ℕ
+named = both IsOneLine IsTagger (line (codes "tag ")) (end_lines (codes "tagger "))
+
+abbrev Lines : Kind × (List ℕ × Option (List ℕ)) → Type 0
+Lines = Both IsTagged Named kind_line named
+
+abbrev lines : Kind × (List ℕ × Option (List ℕ)) → List ℕ
+lines = both IsTagged Named kind_line named
+
+abbrev Head : Type 0
+Head = List ℕ × (Kind × (List ℕ × Option (List ℕ)))
+
+abbrev pub IsHead : Head → Type 0
+IsHead = Both IsObjectName Lines (name_line (codes "object ")) lines
+
+abbrev pub head_text : Head → List ℕ
+head_text = both IsObjectName Lines (name_line (codes "object ")) lines
+
+abbrev tag_from : Head → List ℕ → Tag
+tag_from h message = record { target = h.0; kind = h.1.0; name = h.1.1.0; tagger = h.1.1.1; message = message }
+
+abbrev head_of : Tag → Head
+head_of t = (t.target, (t.kind, (t.name, t.tagger)))
+
+regroup : (object type tag tagger message : List ℕ) → (object ++ (type ++ (tag ++ (tagger ++ 10 ∷ [])))) ++ message ≡ object ++ type ++ tag ++ tagger ++ 10 ∷ message
+regroup object type tag tagger message = simp append_assoc
+
+whole_text : (t : Tag) → head_text (head_of t) ++ t.message ≡ tag_contents t
+whole_text t = regroup (name_line (codes "object ") t.target) (kind_line t.kind) (line (codes "tag ") t.name) (optional_line (codes "tagger ") t.tagger) t.message
+
+head_is : (t : Tag) → CanWriteTag t → IsHead (head_of t)
+head_is t is = (is.target, (is.kind, (name_one_line t.name is.name, is.tagger)))
+
+pub no_tag : (bytes : List ℕ) → IsFront IsHead head_text bytes None → (t : Tag) → CanWriteTag t → bytes ≡ tag_contents t → ⊥
+no_tag bytes f t is e = none-some _ (f.only (head_of t) t.message (head_is t is) (e ∙ sym (whole_text t)))
+
+pub tag_found : (bytes : List ℕ) (h : Head) (message : List ℕ) → IsFront IsHead head_text bytes (Some (h, message)) → IsRefName (codes "refs/tags/" ++ h.1.1.0) → CanWriteTag (tag_from h message) × (bytes ≡ tag_contents (tag_from h message))
+tag_found bytes h message f name = (
+  record { target = f.found.0.0; kind = f.found.0.1.0; name = name; tagger = f.found.0.1.1.1 },
+  f.found.1 ∙ whole_text (tag_from h message),
+)
+
+pub tag_only : (bytes : List ℕ) (h : Head) (message : List ℕ) → IsFront IsHead head_text bytes (Some (h, message)) → (t : Tag) → CanWriteTag t → bytes ≡ tag_contents t → tag_from h message ≡ t
+tag_only bytes h message f t is e =
+    let same = some_pair_parts _ _ _ _ (f.only (head_of t) t.message (head_is t is) (e ∙ sym (whole_text t))) in
+    ap (λ (p : Head × List ℕ). tag_from p.0 p.1) (λ i. (same.0 i, same.1 i))
+
+-- the header is there, but no ref may have this name
+pub wrong_name : (bytes : List ℕ) (h : Head) (message : List ℕ) → IsFront IsHead head_text bytes (Some (h, message)) → (IsRefName (codes "refs/tags/" ++ h.1.1.0) → ⊥) → (t : Tag) → CanWriteTag t → bytes ≡ tag_contents t → ⊥
+wrong_name bytes h message f wrong t is e = wrong (subst (λ (x : Tag). IsRefName (codes "refs/tags/" ++ x.name)) (sym (tag_only bytes h message f t is e)) is.name)
+
+-- ---- what is missing
+
+pub target_missing : (bytes : List ℕ) → IsFront IsObjectName (name_line (codes "object ")) bytes None → IsFront IsHead head_text bytes None
+target_missing bytes o = first_missing IsObjectName Lines (name_line (codes "object ")) lines bytes o
+
+pub kind_missing : (bytes target r : List ℕ) → IsFront IsObjectName (name_line (codes "object ")) bytes (Some (target, r)) → IsFront IsTagged kind_line r None → IsFront IsHead head_text bytes None
+kind_missing bytes target r o k = second_missing IsObjectName Lines (name_line (codes "object ")) lines bytes target r o (first_missing IsTagged Named kind_line named r k)
+
+pub name_missing : (bytes target r : List ℕ) (kind : Kind) (s : List ℕ) → IsFront IsObjectName (name_line (codes "object ")) bytes (Some (target, r)) → IsFront IsTagged kind_line r (Some (kind, s)) → IsFront IsOneLine (line (codes "tag ")) s None → IsFront IsHead head_text bytes None
+name_missing bytes target r kind s o k n = second_missing IsObjectName Lines (name_line (codes "object ")) lines bytes target r o (second_missing IsTagged Named kind_line named r kind s k (first_missing IsOneLine IsTagger (line (codes "tag ")) (end_lines (codes "tagger ")) s n))
+
+pub tagger_missing : (bytes target r : List ℕ) (kind : Kind) (s name u : List ℕ) → IsFront IsObjectName (name_line (codes "object ")) bytes (Some (target, r)) → IsFront IsTagged kind_line r (Some (kind, s)) → IsFront IsOneLine (line (codes "tag ")) s (Some (name, u)) → IsFront IsTagger (end_lines (codes "tagger ")) u None → IsFront IsHead head_text bytes None
+tagger_missing bytes target r kind s name u o k n t = second_missing IsObjectName Lines (name_line (codes "object ")) lines bytes target r o (second_missing IsTagged Named kind_line named r kind s k (second_missing IsOneLine IsTagger (line (codes "tag ")) (end_lines (codes "tagger ")) s name u n t))
+
+pub head_there : (bytes target r : List ℕ) (kind : Kind) (s name u : List ℕ) (tagger : Option (List ℕ)) (message : List ℕ) → IsFront IsObjectName (name_line (codes "object ")) bytes (Some (target, r)) → IsFront IsTagged kind_line r (Some (kind, s)) → IsFront IsOneLine (line (codes "tag ")) s (Some (name, u)) → IsFront IsTagger (end_lines (codes "tagger ")) u (Some (tagger, message)) → IsFront IsHead head_text bytes (Some ((target, (kind, (name, tagger))), message))
+head_there bytes target r kind s name u tagger message o k n t = both_there IsObjectName Lines (name_line (codes "object ")) lines bytes target r (kind, (name, tagger)) message o (both_there IsTagged Named kind_line named r kind s (name, tagger) message k (both_there IsOneLine IsTagger (line (codes "tag ")) (end_lines (codes "tagger ")) s name u tagger message n t))

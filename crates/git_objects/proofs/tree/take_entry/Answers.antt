@@ -1,0 +1,15 @@
+use Rattle.std.proofs.Common.{arith}
+use Rattle.git_objects.proofs.TreeFronts.{name_missing, short_of_id, entry_there, behind_fits}
+use Rattle.git_objects.proofs.tree.take_entry.Goals as goal
+
+pub returns-in_default-take_name : goal.returns-in_default-take_name
+returns-in_default-take_name c = name_missing _ _ _ c.in-Some.ensures c.in_default-take_name.ensures
+
+pub returns-in_default-split_first_chunk : goal.returns-in_default-split_first_chunk
+returns-in_default-split_first_chunk c = short_of_id _ _ _ _ _ c.in-Some.ensures c.in-Some-take_name.ensures c.in_default-split_first_chunk.ensures.cases
+
+pub returns : goal.returns
+returns c =
+    let chunk = c.in-Some-split_first_chunk.ensures.cases in
+    rw (c.from_bytes-id.ensures, chunk.0, chunk.1)
+    (entry_there c.args.contents.now c.in-Some.mode c.in-Some.rest.now c.in-Some-take_name.name.now c.in-Some-take_name.rest.now (behind_fits _ _ _ c.in-Some-take_name.ensures.found.1 (behind_fits _ _ _ c.in-Some.ensures.found.1 c.type_inv.contents)) c.in-Some.ensures c.in-Some-take_name.ensures (omega (arith, chunk.2)))

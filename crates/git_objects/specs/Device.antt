@@ -1,0 +1,47 @@
+-- Counts of what a reader or a writer did.
+use Rattle.std.specs.Prelude.{◌≡◌, ℕ, zero, suc, ◌+◌, ◌-◌, ◌^◌, ◌<◌, min, List, [], ◌∷◌, ◌++◌, Option, Result, Ok, Err}
+use Rattle.std.specs.Io.KnownBytes.{Appends}
+use Rattle.git_objects.specs.declared.counted.Counted.{Counted}
+
+-- The reader or writer inside, its calls that failed so far, and the bytes that went through it so
+-- far.
+abbrev pub device_of : {T : Type 0} → Counted T → T
+device_of counted = counted.device
+
+abbrev pub faults_of : {T : Type 0} → Counted T → ℕ
+faults_of counted = counted.faults
+
+abbrev pub passed_of : {T : Type 0} → Counted T → ℕ
+passed_of counted = counted.passed
+
+-- A count that goes up by n stays at its greatest, 2^64 - 1.
+abbrev pub counted_on : ℕ → ℕ → ℕ
+counted_on count n = min (count + n) (2 ^ 64 - 1)
+
+-- A read failed where it answered an error.
+abbrev pub faults_after_read : {E : Type 0} → ℕ → Result ℕ E → ℕ
+faults_after_read faults (Ok n) = faults
+faults_after_read faults (Err e) = counted_on faults 1
+
+-- A write failed where it answered an error, and where it was given bytes and took none.
+abbrev pub faults_after_write : {E : Type 0} → ℕ → List ℕ → Result ℕ E → ℕ
+faults_after_write faults [] (Ok n) = faults
+faults_after_write faults (byte ∷ bytes) (Ok zero) = counted_on faults 1
+faults_after_write faults (byte ∷ bytes) (Ok (suc n)) = faults
+faults_after_write faults bytes (Err e) = counted_on faults 1
+
+-- The bytes that went through a read or a write are those that it says.
+abbrev pub passed_after : {E : Type 0} → ℕ → Result ℕ E → ℕ
+passed_after passed (Ok n) = counted_on passed n
+passed_after passed (Err e) = passed
+
+-- A fault was counted between two counts, unless they stood at their greatest.
+abbrev pub HasFault : ℕ → ℕ → Type 0
+HasFault old new = old < 2 ^ 64 - 1 → old < new
+
+-- Known bytes grew by a prefix of these.
+pub record AppendsFront (old new : Option (List ℕ)) (bytes : List ℕ) : Type 0 where
+  pub front : List ℕ
+  pub rest : List ℕ
+  pub parts : bytes ≡ front ++ rest
+  pub appends : Appends old new front

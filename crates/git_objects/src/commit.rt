@@ -1,0 +1,133 @@
+//! The contents of commits: "commit object" in gitglossary(7).
+
+ghost use Rattle.std.specs.Prelude.{◌≡◌, ◌≢◌, ◌++◌, length, take, IfSome, IfOk, IsNone, IsSomeAnd, OnOk, OnErr, codes};
+ghost use Rattle.std.specs.List.{flat_map};
+ghost use Rattle.std.specs.Option.{option_map, option_copied};
+ghost use Rattle.git_model.specs.Commit.{Commit, CanWriteCommit, commit_contents, name_line};
+ghost use Rattle.git_objects.specs.Parts.{commit_of};
+ghost use Rattle.git_objects.specs.Fronts.{IsFront};
+ghost use Rattle.git_objects.specs.HeaderParts.{end_lines};
+ghost use Rattle.git_objects.specs.CommitParts.{AreParents, IsIdents, idents_text, IsEncoded};
+
+use crate::header::{
+    append_end, append_line, append_name_line, take_end, take_ident_line, take_name_line,
+};
+use crate::memory::Memory;
+use crate::name::Name;
+use std::alloc::Global;
+
+/// What a commit says. Its texts are borrowed, as from the commit's contents.
+#[derive(Debug, Drop)]
+pub struct CommitParts<'a> {
+    /// The name of the commit's tree.
+    pub tree: Name,
+    /// The names of its parents, the first one first.
+    pub ancestors: Vec<Name>,
+    /// Who wrote the change and when: an ident, without the line end.
+    pub author: &'a [u8],
+    /// Who made the commit and when: an ident, without the line end.
+    pub committer: &'a [u8],
+    /// The encoding of the message, where it is not that of UTF-8.
+    pub encoding: Option<&'a [u8]>,
+    /// The message, with the line end that mostly stands at its end.
+    pub message: &'a [u8],
+}
+
+fn append_parents(ancestors: &[Name], contents: &mut Vec<u8>) -> Result<(), Memory>
+    ensures written { OnOk result (contents.new.items ≡ contents.old.items ++ flat_map (name_line (codes "parent ")) ancestors.now) }
+    ensures kept { take (length contents.old.items) contents.new.items ≡ contents.old.items }
+{
+    for parent in ancestors {
+        append_name_line(b"parent ", parent, contents)?;
+    }
+    Ok(())
+}
+
+fn append_commit(parts: &CommitParts<'_>, contents: &mut Vec<u8>) -> Result<(), Memory>
+    ensures written { OnOk result (contents.new.items ≡ contents.old.items ++ commit_contents (commit_of parts.now)) }
+    ensures kept { take (length contents.old.items) contents.new.items ≡ contents.old.items }
+{
+    append_name_line(b"tree ", &parts.tree, contents)?;
+    append_parents(&parts.ancestors, contents)?;
+    append_line(b"author ", parts.author, contents)?;
+    append_line(b"committer ", parts.committer, contents)?;
+    append_end(b"encoding ", parts.encoding, parts.message, contents)
+}
+
+/// Appends the contents of a commit.
+///
+/// `Memory` (90) where there is no room for all of it; `contents` is then unchanged. Any parts have a text; it is a
+/// commit's, which `read_commit` reads, where author and committer are idents that do not begin with `<` and the
+/// encoding, if there is one, is a line of text that is not empty.
+pub fn write_commit(parts: &CommitParts<'_>, contents: &mut Vec<u8>) -> Result<(), Memory>
+    ensures written { OnOk result (contents.new.items ≡ contents.old.items ++ commit_contents (commit_of parts.now)) }
+    ensures same { OnErr result (contents.new.items ≡ contents.old.items) }
+{
+    let start = contents.len();
+    let written = append_commit(parts, contents);
+    if written.is_err() {
+        contents.truncate(start);
+    }
+    written
+}
+
+fn take_parents(alloc: Global, bytes: &[u8]) -> Result<(Vec<Name>, &[u8]), Memory>
+    ensures { IfOk result (λ r. AreParents bytes.now r.0.items r.1.now) }
+{
+    let mut ancestors = Vec::new(alloc);
+    let mut rest = bytes;
+    while let Some((parent, after)) = take_name_line(b"parent ", rest) {
+        ancestors.push(parent)?;
+        rest = after;
+    }
+    Ok((ancestors, rest))
+}
+
+fn take_idents(bytes: &[u8]) -> Option<((&[u8], &[u8]), &[u8])>
+    ensures { IsFront IsIdents idents_text bytes.now (option_map (λ x. ((x.0.0.now, x.0.1.now), x.1.now)) result) }
+{
+    let (author, rest) = take_ident_line(b"author ", bytes)?;
+    let (committer, rest) = take_ident_line(b"committer ", rest)?;
+    Some(((author, committer), rest))
+}
+
+fn take_encoding(bytes: &[u8]) -> Option<(Option<&[u8]>, &[u8])>
+    ensures { IsFront IsEncoded (end_lines (codes "encoding ")) bytes.now (option_map (λ x. (option_copied x.0, x.1.now)) result) }
+{
+    match take_end(b"encoding ", bytes)? {
+        (Some(b""), _) => None,
+        end => Some(end),
+    }
+}
+
+/// Reads the contents of a commit; its texts are borrowed from the contents.
+///
+/// `None` where the contents are no commit's that `write_commit` makes of parts that are right: a header line that
+/// is missing, repeated or out of its place, a name that is not 40 hexadecimal digits of lower case, an author or
+/// committer that is no ident or begins with `<`, an encoding that is empty. `Memory` (90) where there is no room
+/// for the names of the parents.
+pub fn read_commit(alloc: Global, contents: &[u8]) -> Result<Option<CommitParts<'_>>, Memory>
+    ensures found { IfOk result (λ r. IfSome r (λ parts. CanWriteCommit (commit_of parts) × (contents.now ≡ commit_contents (commit_of parts)))) }
+    ensures only { (c : Commit) → CanWriteCommit c → contents.now ≡ commit_contents c → IfOk result (λ r. IsSomeAnd r (λ parts. commit_of parts ≡ c)) }
+    ensures exact { IfOk result (λ r. IsNone r → (c : Commit) → CanWriteCommit c → contents.now ≢ commit_contents c) }
+{
+    let Some(first) = take_name_line(b"tree ", contents) else {
+        return Ok(None);
+    };
+    let (tree, rest) = first;
+    let (ancestors, rest) = take_parents(alloc, rest)?;
+    let Some(((author, committer), rest)) = take_idents(rest) else {
+        return Ok(None);
+    };
+    let Some((encoding, message)) = take_encoding(rest) else {
+        return Ok(None);
+    };
+    Ok(Some(CommitParts {
+        tree,
+        ancestors,
+        author,
+        committer,
+        encoding,
+        message,
+    }))
+}

@@ -1,0 +1,29 @@
+//! The one refusal of calls that can fail by their device alone.
+
+ghost use Rattle.std.specs.Prelude.{◌≡◌};
+
+use std::error::Error;
+use std::fmt;
+
+/// A reader or a writer answered an error, or took nothing of what it was given.
+#[derive(Clone, Copy, Debug, PartialEq, Eq)]
+pub struct DeviceFault;
+
+const DEVICE: u16 = 68;
+
+impl DeviceFault {
+    /// The number of this refusal, 68.
+    pub fn code(self) -> u16
+        ensures { result ≡ 68 }
+    {
+        DEVICE
+    }
+}
+
+impl fmt::Display for DeviceFault {
+    fn fmt<W: fmt::Write>(&self, f: &mut fmt::Formatter<W>) -> fmt::Result {
+        write!(f, "a reader or a writer failed")
+    }
+}
+
+impl Error for DeviceFault {}

@@ -1,0 +1,63 @@
+//! Why a text is no ident, or could not be kept.
+
+ghost use Rattle.std.specs.Prelude.{◌≡◌};
+ghost use Rattle.git_objects.specs.declared.fault.Fault.TheVariants.{Memory as OutOfMemory};
+
+use crate::memory;
+use std::alloc::AllocError;
+use std::error::Error;
+use std::fmt;
+
+/// What is wrong with a text that is no ident, or that memory ran out.
+#[derive(Clone, Copy, Debug, PartialEq, Eq)]
+pub enum Fault {
+    /// The name, the email or the space behind it.
+    BadIdentity,
+    /// The seconds, or the offset behind them.
+    BadDate,
+    /// A growth was refused.
+    Memory,
+}
+
+impl Fault {
+    ghost use Rattle.git_objects.specs.Ident.{code_of};
+
+    /// The number of the fault: 21 for a bad identity, 22 for a bad date, 90 for memory.
+    pub fn code(self) -> u16
+        ensures { result ≡ code_of self }
+    {
+        match self {
+            Fault::BadIdentity => 21,
+            Fault::BadDate => 22,
+            Fault::Memory => 90,
+        }
+    }
+}
+
+impl fmt::Display for Fault {
+    fn fmt<W: fmt::Write>(&self, f: &mut fmt::Formatter<W>) -> fmt::Result {
+        match self {
+            Fault::BadIdentity => write!(f, "bad identity"),
+            Fault::BadDate => write!(f, "bad date"),
+            Fault::Memory => write!(f, "out of memory"),
+        }
+    }
+}
+
+impl Error for Fault {}
+
+impl From<memory::Memory> for Fault {
+    ghost from_gives = { λ _ e. e ≡ OutOfMemory };
+
+    fn from(_e: memory::Memory) -> Fault {
+        Fault::Memory
+    }
+}
+
+impl From<AllocError> for Fault {
+    ghost from_gives = { λ _ e. e ≡ OutOfMemory };
+
+    fn from(_e: AllocError) -> Fault {
+        Fault::Memory
+    }
+}

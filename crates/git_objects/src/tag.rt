@@ -1,0 +1,180 @@
+//! The contents of tags: git-mktag(1).
+
+ghost use Rattle.std.specs.Prelude.{◌≡◌, ◌≢◌, ◌↔◌, ◌++◌, length, take, MatchOption, IfSome, IfOk, IsNone, IsSomeAnd, IsTrue, OnOk, OnErr, codes};
+ghost use Rattle.std.specs.Option.{option_map, option_copied};
+ghost use Rattle.git_model.specs.declared.kind.Kind.{Kind as Kinds};
+ghost use Rattle.git_model.specs.Kind.{kind_word as word_of};
+ghost use Rattle.git_model.specs.RefName.{IsRefName};
+ghost use Rattle.git_model.specs.Commit.{line};
+ghost use Rattle.git_model.specs.Tag.{Tag, CanWriteTag, tag_contents};
+ghost use Rattle.git_objects.specs.Parts.{tag_of};
+ghost use Rattle.git_objects.specs.Fronts.{IsFront};
+ghost use Rattle.git_objects.specs.HeaderParts.{end_lines};
+ghost use Rattle.git_objects.specs.TagParts.{IsTagged, IsTagger, kind_line};
+
+use crate::header::{
+    append_end, append_line, append_name_line, take_end, take_line, take_name_line,
+};
+use crate::ident::is_written_ident;
+use crate::memory::Memory;
+use crate::name::Name;
+use crate::object_name::kind_word;
+use crate::ref_name::is_ref_name;
+use git_model::Kind;
+use std::alloc::Global;
+
+/// What a tag says. Its texts are borrowed, as from the tag's contents.
+#[derive(Clone, Copy, Debug)]
+pub struct TagParts<'a> {
+    /// The name of the object that is tagged.
+    pub target: Name,
+    /// The kind of that object: a commit, a blob or a tag.
+    pub kind: Kind,
+    /// The tag's own name, without `refs/tags/`.
+    pub name: &'a [u8],
+    /// Who made the tag and when, if it says so: an ident, without the line end.
+    pub tagger: Option<&'a [u8]>,
+    /// The message, with the line end that mostly stands at its end.
+    pub message: &'a [u8],
+}
+
+fn append_tag(parts: &TagParts<'_>, contents: &mut Vec<u8>) -> Result<(), Memory>
+    ensures written { OnOk result (contents.new.items ≡ contents.old.items ++ tag_contents (tag_of parts.now)) }
+    ensures kept { take (length contents.old.items) contents.new.items ≡ contents.old.items }
+{
+    append_name_line(b"object ", &parts.target, contents)?;
+    append_line(b"type ", kind_word(parts.kind), contents)?;
+    append_line(b"tag ", parts.name, contents)?;
+    append_end(b"tagger ", parts.tagger, parts.message, contents)
+}
+
+/// Appends the contents of a tag.
+///
+/// `Memory` (90) where there is no room for all of it; `contents` is then unchanged. Any parts have a text; it is a
+/// tag's, which `read_tag` reads, where the kind is not that of a tree, `refs/tags/` and the name are a ref name,
+/// and the tagger, if there is one, is an ident that does not begin with `<`.
+pub fn write_tag(parts: &TagParts<'_>, contents: &mut Vec<u8>) -> Result<(), Memory>
+    ensures written { OnOk result (contents.new.items ≡ contents.old.items ++ tag_contents (tag_of parts.now)) }
+    ensures same { OnErr result (contents.new.items ≡ contents.old.items) }
+{
+    let start = contents.len();
+    let written = append_tag(parts, contents);
+    if written.is_err() {
+        contents.truncate(start);
+    }
+    written
+}
+
+fn read_kind(word: &[u8]) -> Option<Kind>
+    ensures { MatchOption result ((kind : Kinds) → word.now ≢ word_of kind) (λ kind. word.now ≡ word_of kind) }
+{
+    match word {
+        b"commit" => Some(Kind::Commit),
+        b"tree" => Some(Kind::Tree),
+        b"blob" => Some(Kind::Blob),
+        b"tag" => Some(Kind::Tag),
+        _ => None,
+    }
+}
+
+// The kinds that can be tagged are those of all objects but trees.
+fn take_kind(bytes: &[u8]) -> Option<(Kind, &[u8])>
+    ensures { IsFront IsTagged kind_line bytes.now (option_map (λ x. (x.0, x.1.now)) result) }
+{
+    let (word, rest) = take_line(b"type ", bytes)?;
+    match read_kind(word) {
+        None | Some(Kind::Tree) => None,
+        Some(kind) => Some((kind, rest)),
+    }
+}
+
+// Whether there may be a ref of this name for tags.
+fn is_tag_name(alloc: Global, name: &[u8]) -> Result<bool, Memory>
+    ensures { IfOk result (λ b. IsTrue b ↔ IsRefName (codes "refs/tags/" ++ name.now)) }
+{
+    let mut ref_name = Vec::from_slice(alloc, b"refs/tags/")?;
+    ref_name.extend_from_slice(name)?;
+    Ok(is_ref_name(&ref_name))
+}
+
+fn is_tagger(tagger: Option<&[u8]>) -> bool
+    ensures { IsTrue result ↔ IsTagger (option_copied tagger.entry) }
+{
+    match tagger {
+        Some(text) => is_written_ident(text),
+        None => true,
+    }
+}
+
+fn take_tagger(bytes: &[u8]) -> Option<(Option<&[u8]>, &[u8])>
+    ensures { IsFront IsTagger (end_lines (codes "tagger ")) bytes.now (option_map (λ x. (option_copied x.0, x.1.now)) result) }
+{
+    let (tagger, message) = take_end(b"tagger ", bytes)?;
+    if is_tagger(tagger) {
+        Some((tagger, message))
+    } else {
+        None
+    }
+}
+
+/// Reads the contents of a tag; its texts are borrowed from the contents.
+///
+/// `None` where the contents are no tag's that `write_tag` makes of parts that are right: a header line that is
+/// missing, repeated or out of its place, a name that is not 40 hexadecimal digits of lower case, `type tree`, a
+/// tag's name that makes no ref name behind `refs/tags/`, a tagger that is no ident or begins with `<`. `Memory`
+/// (90) where there is no room to judge that ref name.
+pub fn read_tag(alloc: Global, contents: &[u8]) -> Result<Option<TagParts<'_>>, Memory>
+    ensures found { IfOk result (λ r. IfSome r (λ parts. CanWriteTag (tag_of parts) × (contents.now ≡ tag_contents (tag_of parts)))) }
+    ensures only { (t : Tag) → CanWriteTag t → contents.now ≡ tag_contents t → IfOk result (λ r. IsSomeAnd r (λ parts. tag_of parts ≡ t)) }
+    ensures exact { IfOk result (λ r. IsNone r → (t : Tag) → CanWriteTag t → contents.now ≢ tag_contents t) }
+{
+    let Some(first) = take_name_line(b"object ", contents) else {
+        return Ok(None);
+    };
+    let (target, rest) = first;
+    let Some((kind, rest)) = take_kind(rest) else {
+        return Ok(None);
+    };
+    let Some((name, rest)) = take_line(b"tag ", rest) else {
+        return Ok(None);
+    };
+    let Some((tagger, message)) = take_tagger(rest) else {
+        return Ok(None);
+    };
+    if !is_tag_name(alloc, name)? {
+        return Ok(None);
+    }
+    Ok(Some(TagParts {
+        target,
+        kind,
+        name,
+        tagger,
+        message,
+    }))
+}
+
+#[cfg(test)]
+mod tests {
+    use crate::{Memory, read_tag};
+    use std::alloc::Global;
+    use std::test::Fail;
+
+    fn is_read(alloc: Global, contents: &[u8]) -> Result<bool, Memory> {
+        match read_tag(alloc, contents) {
+            Ok(Some(_)) => Ok(true),
+            Ok(None) => Ok(false),
+            Err(memory) => Err(memory),
+        }
+    }
+
+    #[test]
+    fn refuses_tags_of_trees_and_names_of_no_ref(rt: HostRuntime) -> Result<(), Fail> {
+        let right = b"object ce013625030ba8dba906f756967f9e9ca394464a\ntype blob\ntag a.b\n\nx\n";
+        let dots = b"object ce013625030ba8dba906f756967f9e9ca394464a\ntype blob\ntag a..b\n\nx\n";
+        let tree = b"object ce013625030ba8dba906f756967f9e9ca394464a\ntype tree\ntag a.b\n\nx\n";
+        assert!(rt; is_read(rt.alloc(), right)?);
+        assert!(rt; !is_read(rt.alloc(), dots)?);
+        assert!(rt; !is_read(rt.alloc(), tree)?);
+        Ok(())
+    }
+}

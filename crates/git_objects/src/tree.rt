@@ -1,0 +1,210 @@
+//! The contents of trees: "tree object" in gitglossary(7).
+
+ghost use Rattle.std.specs.Prelude.{◌≡◌, ◌≢◌, ◌↔◌, List, ◌++◌, length, take, All, IfSome, IfOk, IsNone, IsSomeAnd, OnOk, OnErr, IsTrue, ⊤};
+ghost use Rattle.std.specs.Option.{option_map};
+ghost use Rattle.git_model.specs.Tree.{TreeEntry as Entry, IsComponent, CanWriteEntry, CanWriteTree, entry_text, tree_contents};
+ghost use Rattle.git_objects.specs.Parts.{entry_of, entries_of};
+ghost use Rattle.git_objects.specs.Fronts.{IsFront};
+ghost use Rattle.git_objects.specs.TreeParts.{mode_text, name_text, AreInOrder, HasTwin};
+
+use crate::front::split_at_byte;
+use crate::memory::Memory;
+use crate::mode::{mode_digits, read_mode};
+use crate::name::Name;
+use crate::tree_entry::{TreeEntry, is_component};
+use git_model::FileMode;
+use std::alloc::Global;
+
+fn append_entry(entry: &TreeEntry<'_>, contents: &mut Vec<u8>) -> Result<(), Memory>
+    ensures written { OnOk result (contents.new.items ≡ contents.old.items ++ entry_text (entry_of entry.now)) }
+    ensures kept { take (length contents.old.items) contents.new.items ≡ contents.old.items }
+{
+    contents.extend_from_slice(mode_digits(entry.mode))?;
+    contents.extend_from_slice(b" ")?;
+    contents.extend_from_slice(entry.name)?;
+    contents.push(0)?;
+    contents.extend_from_slice(entry.id.as_bytes())?;
+    Ok(())
+}
+
+fn append_entries(entries: &[TreeEntry<'_>], contents: &mut Vec<u8>) -> Result<(), Memory>
+    ensures written { OnOk result (contents.new.items ≡ contents.old.items ++ tree_contents (entries_of entries.now)) }
+    ensures kept { take (length contents.old.items) contents.new.items ≡ contents.old.items }
+{
+    for entry in entries {
+        append_entry(entry, contents)?;
+    }
+    Ok(())
+}
+
+/// Appends the contents of the tree with these entries, in this order.
+///
+/// `Memory` (90) where there is no room for all of it; `contents` is then unchanged. Any entries have a text; it is
+/// a tree's, which `read_tree` reads, where each name is a component, no two are the same, and the entries stand
+/// in the order of `TreeEntry::order`.
+pub fn write_tree(entries: &[TreeEntry<'_>], contents: &mut Vec<u8>) -> Result<(), Memory>
+    ensures written { OnOk result (contents.new.items ≡ contents.old.items ++ tree_contents (entries_of entries.now)) }
+    ensures same { OnErr result (contents.new.items ≡ contents.old.items) }
+{
+    let start = contents.len();
+    let written = append_entries(entries, contents);
+    if written.is_err() {
+        contents.truncate(start);
+    }
+    written
+}
+
+fn take_mode(contents: &[u8]) -> Option<(FileMode, &[u8])>
+    ensures { IsFront (λ _. ⊤) mode_text contents.now (option_map (λ x. (x.0, x.1.now)) result) }
+{
+    let (digits, rest) = split_at_byte(contents, b' ')?;
+    let mode = read_mode(digits)?;
+    Some((mode, rest))
+}
+
+fn take_name(contents: &[u8]) -> Option<(&[u8], &[u8])>
+    ensures { IsFront IsComponent name_text contents.now (option_map (λ x. (x.0.now, x.1.now)) result) }
+{
+    let (name, rest) = split_at_byte(contents, 0)?;
+    if is_component(name) {
+        Some((name, rest))
+    } else {
+        None
+    }
+}
+
+fn take_entry(contents: &[u8]) -> Option<(TreeEntry<'_>, &[u8])>
+    ensures { IsFront CanWriteEntry entry_text contents.now (option_map (λ x. (entry_of x.0, x.1.now)) result) }
+{
+    let Some((mode, rest)) = take_mode(contents) else {
+        return None;
+    };
+    let Some((name, rest)) = take_name(rest) else {
+        return None;
+    };
+    let Some((id, rest)) = rest.split_first_chunk::<20>() else {
+        return None;
+    };
+    let id = Name::from_bytes(*id);
+    Some((TreeEntry { mode, name, id }, rest))
+}
+
+// A file of the directory's name stands elsewhere among the entries, since only a directory's name is compared with
+// a slash behind it. The entries are in order, so one search finds it.
+fn has_twin(entries: &[TreeEntry<'_>], entry: &TreeEntry<'_>) -> bool
+    ensures { AreInOrder (entries_of entries.now) → (IsTrue result ↔ HasTwin (entries_of entries.now) (entry_of entry.now)) }
+{
+    let TreeEntry { mode, name, id } = *entry;
+    let file = TreeEntry {
+        mode: FileMode::Regular,
+        name,
+        id,
+    };
+    match mode {
+        FileMode::Directory => entries.binary_search_by(|other| other.order(&file)).is_ok(),
+        _ => false,
+    }
+}
+
+fn are_in_order(entries: &[TreeEntry<'_>]) -> bool
+    ensures { IsTrue result ↔ AreInOrder (entries_of entries.now) }
+{
+    entries.is_sorted_by(|entry, next| entry.order(next).is_lt())
+}
+
+fn is_tree(entries: &[TreeEntry<'_>]) -> bool
+    ensures { All CanWriteEntry (entries_of entries.now) → (IsTrue result ↔ CanWriteTree (entries_of entries.now)) }
+{
+    if !are_in_order(entries) {
+        return false;
+    }
+    for entry in entries {
+        if has_twin(entries, entry) {
+            return false;
+        }
+    }
+    true
+}
+
+fn take_entries(alloc: Global, contents: &[u8]) -> Result<Option<Vec<TreeEntry<'_>>>, Memory>
+    ensures found { IfOk result (λ r. IfSome r (λ es. All CanWriteEntry (entries_of es.items) × (contents.now ≡ tree_contents (entries_of es.items)))) }
+    ensures only { (es : List Entry) → All CanWriteEntry es → contents.now ≡ tree_contents es → IfOk result (λ r. IsSomeAnd r (λ v. entries_of v.items ≡ es)) }
+{
+    let mut entries = Vec::new(alloc);
+    let mut rest = contents;
+    while !rest.is_empty() {
+        let Some((entry, after)) = take_entry(rest) else {
+            return Ok(None);
+        };
+        if entries.push(entry).is_err() {
+            return Err(Memory);
+        }
+        rest = after;
+    }
+    Ok(Some(entries))
+}
+
+/// Reads the contents of a tree: its entries in order, with their names borrowed from the contents.
+///
+/// `None` where the contents are no tree's that `write_tree` makes: a mode that is none of the five or has a
+/// leading zero, a name that is no component, two entries of one name, whatever their kinds, or entries that are
+/// not in the order of `TreeEntry::order`. `Memory` (90) where there is no room for the entries.
+pub fn read_tree(alloc: Global, contents: &[u8]) -> Result<Option<Vec<TreeEntry<'_>>>, Memory>
+    ensures found { IfOk result (λ r. IfSome r (λ es. CanWriteTree (entries_of es.items) × (contents.now ≡ tree_contents (entries_of es.items)))) }
+    ensures only { (es : List Entry) → CanWriteTree es → contents.now ≡ tree_contents es → IfOk result (λ r. IsSomeAnd r (λ v. entries_of v.items ≡ es)) }
+    ensures exact { IfOk result (λ r. IsNone r → (es : List Entry) → CanWriteTree es → contents.now ≢ tree_contents es) }
+{
+    let Some(entries) = take_entries(alloc, contents)? else {
+        return Ok(None);
+    };
+    if is_tree(&entries) {
+        Ok(Some(entries))
+    } else {
+        Ok(None)
+    }
+}
+
+#[cfg(test)]
+mod tests {
+    use crate::{FileMode, Memory, is_component, mode_digits, read_mode, read_tree};
+    use std::alloc::Global;
+    use std::cmp::Ordering;
+    use std::test::Fail;
+
+    fn is_read(alloc: Global, contents: &[u8]) -> Result<bool, Memory> {
+        Ok(read_tree(alloc, contents)?.is_some())
+    }
+
+    #[test]
+    fn refuses_a_mode_with_a_leading_zero(rt: HostRuntime) -> Result<(), Fail> {
+        assert!(rt; is_read(rt.alloc(), b"40000 x\0oooooooooooooooooooo")?);
+        assert!(rt; !is_read(rt.alloc(), b"040000 x\0oooooooooooooooooooo")?);
+        assert!(rt; mode_digits(FileMode::Executable) == b"100755".as_slice());
+        assert!(rt; read_mode(b"160000") == Some(FileMode::Gitlink));
+        Ok(())
+    }
+
+    // A file `a`, a file `a.txt` and a directory `a`, each with an object name of twenty letters.
+    const THREE: &[u8; 90] =
+        b"100644 a\0oooooooooooooooooooo100644 a.txt\0oooooooooooooooooooo40000 a\0oooooooooooooooooooo";
+
+    #[test]
+    fn refuses_a_file_and_a_directory_of_one_name(rt: HostRuntime) -> Result<(), Fail> {
+        let three = THREE.as_slice();
+        assert!(rt; !is_read(rt.alloc(), three)?);
+        assert!(rt; is_read(rt.alloc(), &three[..62])?);
+        assert!(rt; is_read(rt.alloc(), &three[29..])?);
+        Ok(())
+    }
+
+    // `.` is below the slash that a directory's name is compared with.
+    #[test]
+    fn puts_a_file_before_a_directory(rt: HostRuntime) -> Result<(), Fail> {
+        let three = THREE.as_slice();
+        let entries = read_tree(rt.alloc(), &three[29..])?.ok_or("no tree")?;
+        assert_eq!(rt; entries.len(), 2);
+        assert!(rt; entries[0].order(&entries[1]) == Ordering::Less);
+        assert!(rt; is_component(entries[0].name) && !is_component(b"a/b"));
+        Ok(())
+    }
+}

@@ -1,0 +1,52 @@
+//! A direct entry of a tree, and the order in which Git lists entries.
+
+ghost use Rattle.std.specs.Prelude.{◌≡◌, ◌↔◌, IsTrue};
+ghost use Rattle.git_model.specs.Tree.{IsComponent, slash_of, tree_cmp};
+ghost use Rattle.git_objects.specs.Parts.{entry_of};
+
+use crate::name::Name;
+use git_model::FileMode;
+use std::cmp::Ordering;
+
+/// A direct entry of a tree. Its name is borrowed, as from the tree's contents.
+#[derive(Clone, Copy)]
+pub struct TreeEntry<'a> {
+    /// What the entry is.
+    pub mode: FileMode,
+    /// The entry's name: one component of a path, without a slash.
+    pub name: &'a [u8],
+    /// The name of the entry's object, or the commit of a gitlink.
+    pub id: Name,
+}
+
+/// Whether a tree entry may have this name: it is not empty, `.` or `..`, and holds no NUL and no slash.
+/// Takes no memory.
+pub fn is_component(name: &[u8]) -> bool
+    ensures { IsTrue result ↔ IsComponent name.now }
+{
+    match name {
+        [] | b"." | b".." => false,
+        _ => name.iter().all(|byte| *byte != 0 && *byte != b'/'),
+    }
+}
+
+fn slash_of(mode: FileMode) -> &'static [u8]
+    ensures { result.now ≡ slash_of mode }
+{
+    match mode {
+        FileMode::Directory => b"/",
+        _ => b"",
+    }
+}
+
+impl TreeEntry<'_> {
+    /// Git's order of tree entries: by the bytes of their names, a directory compared as if its name ended in a
+    /// slash. Takes no memory.
+    pub fn order(&self, other: &TreeEntry<'_>) -> Ordering
+        ensures { result ≡ tree_cmp (entry_of self.now) (entry_of other.now) }
+    {
+        let own = self.name.iter().chain(slash_of(self.mode).iter());
+        let others = other.name.iter().chain(slash_of(other.mode).iter());
+        own.cmp(others)
+    }
+}
