@@ -1,0 +1,18 @@
+-- Cases on a test, and the parts of what was read.
+use Rattle.std.proofs.Common.{◌≡◌, ℕ, List, Bool, true, false, Option, Some, refl, ap}
+
+pub by_cases : {P : Type 0} (b : Bool) → (b ≡ true → P) → (b ≡ false → P) → P
+by_cases true yea nay = yea refl
+by_cases false yea nay = nay refl
+
+pub some_is : {A : Type 0} (x y : A) → Some x ≡ Some y → x ≡ y
+some_is x y h = cc
+
+-- bytes that were read, and the rest behind them
+abbrev pub parts : List ℕ → List ℕ → Option (List ℕ × List ℕ)
+parts bytes rest = Some (bytes, rest)
+
+pub parts_are : (bytes rest others end : List ℕ) → parts bytes rest ≡ parts others end → (bytes ≡ others) × (rest ≡ end)
+parts_are bytes rest others end h =
+    let both : ◌≡◌ {A = List ℕ × List ℕ} (bytes, rest) (others, end) = some_is _ _ h in
+    (ap (λ (p : List ℕ × List ℕ). p.0) both, ap (λ (p : List ℕ × List ℕ). p.1) both)

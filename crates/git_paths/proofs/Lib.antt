@@ -1,0 +1,13 @@
+pub mod Joined
+pub mod Inside
+pub mod Printed
+pub mod Places
+pub mod Cases
+pub mod Decided
+pub mod Quoted
+pub mod Written
+pub mod Found
+pub mod Firsts
+pub mod Below
+pub mod Canonical
+pub mod Ordered

@@ -1,0 +1,66 @@
+//! Which bytes are a path, and which paths are within the limits.
+
+ghost use Rattle.std.specs.Prelude.{◌≡◌, ◌↔◌, ◌≤◌, ◌+◌, length, IsTrue, OnOk, IfErr, Ok, Err};
+ghost use Rattle.git_paths.specs.Paths.{IsComponent, is_component, is_path, is_within_limits, components_of};
+ghost use Rattle.git_paths.specs.Reading.{path_of};
+
+use crate::fault::Fault;
+
+/// The most bytes of a path.
+const MOST_BYTES: usize = 16383;
+
+/// The most components of a path.
+const MOST_COMPONENTS: usize = 256;
+
+#[tactic(auto, unfolding(crate::specs::Paths::is_component))]
+pub(crate) fn is_name(name: &[u8]) -> bool
+    ensures { result ≡ is_component name.now }
+{
+    !name.is_empty()
+        && name != b".".as_slice()
+        && name != b"..".as_slice()
+        && !name.contains(&0)
+        && !name.contains(&b'/')
+}
+
+pub(crate) fn are_names(bytes: &[u8]) -> bool
+    ensures { result ≡ is_path (components_of bytes.now) }
+{
+    bytes.is_empty() || bytes.split(|b| *b == b'/').all(|name| is_name(name))
+}
+
+pub(crate) fn count_components(bytes: &[u8]) -> usize
+    ensures { result ≡ length (components_of bytes.now) }
+{
+    if bytes.is_empty() {
+        return 0;
+    }
+    bytes.iter().filter(|b| **b == b'/').count() + 1
+}
+
+pub(crate) fn are_few(bytes: &[u8]) -> bool
+    ensures { result ≡ is_within_limits (components_of bytes.now) }
+{
+    bytes.len() <= MOST_BYTES && count_components(bytes) <= MOST_COMPONENTS
+}
+
+#[tactic(auto, unfolding(crate::specs::Reading::path_of))]
+pub(crate) fn judge(bytes: &[u8]) -> Result<(), Fault>
+    ensures ok { OnOk result (path_of bytes.now ≡ Ok (components_of bytes.now)) }
+    ensures err { IfErr result (λ e. path_of bytes.now ≡ Err e) }
+{
+    if !are_names(bytes) {
+        return Err(Fault::BadPath);
+    }
+    if !are_few(bytes) {
+        return Err(Fault::Limit);
+    }
+    Ok(())
+}
+
+/// Whether a name is a component of a path: not empty, `.` or `..`, with no NUL and no `/`.
+pub fn is_component(name: &[u8]) -> bool
+    ensures { IsTrue result ↔ IsComponent name.now }
+{
+    is_name(name)
+}

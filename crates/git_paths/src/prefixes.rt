@@ -1,0 +1,36 @@
+//! Paths and their prefixes, by their bytes.
+
+ghost use Rattle.std.specs.Prelude.{◌≡◌, ◌++◌, IfOk, is_some};
+ghost use Rattle.std.specs.Option.{option_map};
+ghost use Rattle.git_paths.specs.Paths.{IsPath, components_of, behind, joined_both};
+
+use std::alloc::{AllocError, Global};
+
+/// The bytes of what a path has behind its prefix.
+pub(crate) fn bytes_behind<'a>(top: &[u8], bytes: &'a [u8]) -> Option<&'a [u8]>
+    requires top { IsPath (components_of top.now) }
+    requires path { IsPath (components_of bytes.now) }
+    ensures { option_map (λ r. components_of r.now) result
+        ≡ behind (components_of top.now) (components_of bytes.now) }
+{
+    if top.is_empty() {
+        return Some(bytes);
+    }
+    let rest = bytes.strip_prefix(top)?;
+    match rest {
+        [] => Some(rest),
+        [first, below @ ..] => { if *first == b'/' { Some(below) } else { None } }
+    }
+}
+
+/// The bytes of one path behind another.
+pub(crate) fn join_bytes(alloc: Global, top: &[u8], rest: &[u8]) -> Result<Vec<u8>, AllocError>
+    ensures { IfOk result (λ v. v.items ≡ joined_both top.now rest.now) }
+{
+    let mut bytes = Vec::from_slice(alloc, top)?;
+    if !top.is_empty() && !rest.is_empty() {
+        bytes.push(b'/')?;
+    }
+    bytes.extend_from_slice(rest)?;
+    Ok(bytes)
+}

@@ -1,0 +1,82 @@
+//! How the bytes of a path are printed: git-config(1), core.quotePath.
+//!
+//! Nothing here knows what a path is: these are the bytes of one, or of one entry's name.
+
+ghost use Rattle.std.specs.Prelude.{◌≡◌, [], ◌∷◌, ◌++◌, take, vec_len, OnOk, OnErr};
+ghost use Rattle.std.specs.List.{flat_map};
+ghost use Rattle.git_paths.specs.Quoting.{letter_of_byte, is_special, escape, in_quotes, quoted};
+
+use std::alloc::AllocError;
+
+#[tactic(auto, unfolding(crate::specs::Quoting::letter_of_byte))]
+fn letter_of(byte: u8) -> Option<u8>
+    ensures { result ≡ letter_of_byte byte }
+{
+    match byte {
+        7 => Some(b'a'),
+        8 => Some(b'b'),
+        9 => Some(b't'),
+        10 => Some(b'n'),
+        11 => Some(b'v'),
+        12 => Some(b'f'),
+        13 => Some(b'r'),
+        b'"' => Some(b'"'),
+        b'\\' => Some(b'\\'),
+        _ => None,
+    }
+}
+
+fn must_quote(byte: u8) -> bool
+    ensures { result ≡ is_special byte }
+{
+    byte == b'"' || byte == b'\\' || byte < 32 || 127 <= byte
+}
+
+#[tactic(auto, unfolding(crate::specs::Quoting::escape))]
+fn escape_into(byte: u8, out: &mut Vec<u8>) -> Result<(), AllocError>
+    ensures ok { OnOk result (out.new.items ≡ out.old.items ++ escape byte) }
+    ensures err { OnErr result (out.new.items ≡ out.old.items) }
+{
+    if let Some(letter) = letter_of(byte) {
+        return out.extend_from_slice(&[b'\\', letter]);
+    }
+    if must_quote(byte) {
+        let digits = [b'0' + byte / 64, b'0' + byte / 8 % 8, b'0' + byte % 8];
+        return out.extend_from_slice(&[b'\\', digits[0], digits[1], digits[2]]);
+    }
+    out.extend_from_slice(&[byte])
+}
+
+fn write_quoted(bytes: &[u8], out: &mut Vec<u8>) -> Result<(), AllocError>
+    ensures ok { OnOk result (out.new.items ≡ out.old.items ++ in_quotes bytes.now) }
+    ensures err { OnErr result (take (vec_len out.old) out.new.items ≡ out.old.items) }
+{
+    out.push(b'"')?;
+    for byte in bytes {
+        escape_into(*byte, out)?;
+    }
+    out.push(b'"')?;
+    Ok(())
+}
+
+/// Prints bytes of a path, or of an entry's name, behind what `out` holds: git-config(1),
+/// core.quotePath.
+///
+/// They stand in quotes exactly where they hold a quote, a backslash, a byte below 0x20 or one from
+/// 0x7f on; each of these is then a backslash and its letter or three octal digits. Takes memory
+/// for the growth of `out`; after `AllocError` (90) its bytes are unchanged.
+#[tactic(auto, unfolding(crate::specs::Quoting::quoted))]
+pub fn quote_into(bytes: &[u8], out: &mut Vec<u8>) -> Result<(), AllocError>
+    ensures ok { OnOk result (out.new.items ≡ out.old.items ++ quoted bytes.now) }
+    ensures err { OnErr result (out.new.items ≡ out.old.items) }
+{
+    if !bytes.iter().any(|byte| must_quote(*byte)) {
+        return out.extend_from_slice(bytes);
+    }
+    let before = out.len();
+    let written = write_quoted(bytes, out);
+    if written.is_err() {
+        out.truncate(before);
+    }
+    written
+}
