@@ -1,0 +1,13 @@
+pub mod Cases
+pub mod Numbers
+pub mod LineEnds
+pub mod Delimiters
+pub mod LineKinds
+pub mod Firsts
+pub mod Settled
+pub mod Walks
+pub mod Lookings
+pub mod Searching
+pub mod Feeding
+pub mod Agrees
+pub mod Exists

@@ -1,0 +1,11 @@
+pub mod Faults
+pub mod Items
+pub mod Headers
+pub mod Reads
+pub mod Reading
+pub mod Running
+pub mod Lexer
+pub mod Lending
+pub mod Search
+pub mod Looking
+pub mod Cursor

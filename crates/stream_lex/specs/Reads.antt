@@ -1,0 +1,73 @@
+-- Items: git-fast-import(1), "Input Format" and "data".
+use Rattle.std.specs.Prelude.{◌≡◌, ◌≢◌, ℕ, ◌+◌, ◌<◌, ◌≤◌, true, false, List, [], ◌∷◌, ◌++◌, length}
+use Rattle.stream_lex.specs.declared.fault.Fault.TheVariants.{LineTooLong, BadData, Limit}
+use Rattle.stream_lex.specs.declared.header.LineKind.TheVariants.{Comment, Counted, Delimited, BadHeader, Other}
+use Rattle.stream_lex.specs.Items.{Item, Line, Data, Blank, Tail, Rest, Failed}
+use Rattle.stream_lex.specs.Headers.{longest_line, largest_data, HasNoLineEnd, IsLine, kind_of, delimiter_of}
+
+-- Whole lines, each with its line end, none of which is the delimiter.
+pub data OtherLines (delimiter : List ℕ) : List ℕ → Type 0 where
+  no_lines : OtherLines delimiter []
+  one_more : (text lines : List ℕ)
+      → HasNoLineEnd text → text ≢ delimiter → OtherLines delimiter lines
+      → OtherLines delimiter (text ++ 10 ∷ lines)
+
+-- The text is one whole data, its header and a delimiter line included, and gives these raw bytes.
+pub data IsData : List ℕ → List ℕ → Type 0 where
+  counted : (header raw : List ℕ)
+      → IsLine header → kind_of header ≡ Counted (length raw) → length raw ≤ largest_data
+      → IsData (header ++ 10 ∷ raw) raw
+  delimited : (header raw : List ℕ)
+      → IsLine header → kind_of header ≡ Delimited → OtherLines (delimiter_of header) raw
+      → length raw ≤ largest_data
+      → IsData (header ++ 10 ∷ (raw ++ (delimiter_of header ++ 10 ∷ []))) raw
+
+-- The text is the beginning of one data, which is not yet whole.
+pub data IsUnfinishedData : List ℕ → Type 0 where
+  counted_so_far : (header raw : List ℕ) (size : ℕ)
+      → IsLine header → kind_of header ≡ Counted size → size ≤ largest_data → length raw < size
+      → IsUnfinishedData (header ++ 10 ∷ raw)
+  delimited_so_far : (header lines text : List ℕ)
+      → IsLine header → kind_of header ≡ Delimited
+      → OtherLines (delimiter_of header) lines → HasNoLineEnd text
+      → length (lines ++ text) < largest_data + length (delimiter_of header) + 1
+      → IsUnfinishedData (header ++ 10 ∷ (lines ++ text))
+
+-- The text is the beginning of one data that is too large: its count says so, or behind its header
+-- stand so many bytes with no delimiter line that the raw bytes can only be too many.
+pub data IsTooLargeData : List ℕ → Type 0 where
+  counted_too_large : (header : List ℕ) (size : ℕ)
+      → IsLine header → kind_of header ≡ Counted size → largest_data < size
+      → IsTooLargeData (header ++ 10 ∷ [])
+  delimited_too_large : (header lines text : List ℕ)
+      → IsLine header → kind_of header ≡ Delimited
+      → OtherLines (delimiter_of header) lines → HasNoLineEnd text
+      → length (lines ++ text) ≡ largest_data + length (delimiter_of header) + 1
+      → IsTooLargeData (header ++ 10 ∷ (lines ++ text))
+
+-- The bytes of a stream so far, from a line's beginning on, give these items and leave this tail.
+pub data Reads : List ℕ → List Item → Tail → Type 0 where
+  nothing_left : Reads [] [] (Rest false [])
+  unfinished_line : (text : List ℕ) → IsLine text → text ≢ [] → Reads text [] (Rest false text)
+  line_too_long : (text rest : List ℕ) → HasNoLineEnd text → length text ≡ longest_line + 1
+      → Reads (text ++ rest) [] (Failed LineTooLong)
+  comment : (text rest : List ℕ) {items : List Item} {tail : Tail}
+      → IsLine text → kind_of text ≡ Comment → Reads rest items tail
+      → Reads (text ++ 10 ∷ rest) items tail
+  blank_line : (rest : List ℕ) {items : List Item} {tail : Tail}
+      → Reads rest items tail → Reads (10 ∷ rest) (Blank ∷ items) tail
+  line : (text rest : List ℕ) {items : List Item} {tail : Tail}
+      → IsLine text → kind_of text ≡ Other → Reads rest items tail
+      → Reads (text ++ 10 ∷ rest) (Line text ∷ items) tail
+  bad_header : (text rest : List ℕ) → IsLine text → kind_of text ≡ BadHeader
+      → Reads (text ++ 10 ∷ rest) [] (Failed BadData)
+  unfinished_data : (text : List ℕ) → IsUnfinishedData text → Reads text [] (Rest false text)
+  data_too_large : (text rest : List ℕ) → IsTooLargeData text
+      → Reads (text ++ rest) [] (Failed Limit)
+  data_at_end : (text raw : List ℕ) → IsData text raw → Reads text (Data raw ∷ []) (Rest true [])
+  data_and_line_end : (text raw rest : List ℕ) {items : List Item} {tail : Tail}
+      → IsData text raw → Reads rest items tail
+      → Reads (text ++ 10 ∷ rest) (Data raw ∷ items) tail
+  data_and_more : (text raw rest : List ℕ) (byte : ℕ) {items : List Item} {tail : Tail}
+      → IsData text raw → byte ≢ 10 → Reads (byte ∷ rest) items tail
+      → Reads (text ++ byte ∷ rest) (Data raw ∷ items) tail

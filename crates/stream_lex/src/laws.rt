@@ -1,0 +1,33 @@
+//! Laws of the items, over the definitions alone.
+//!
+//! Each is a function with an empty body: its clause is the law, and the check is its proof.
+
+ghost use Rattle.std.specs.Prelude.{◌≡◌, ℕ, false, List, ◌++◌};
+ghost use Rattle.stream_lex.specs.declared.fault.Fault.{Fault};
+ghost use Rattle.stream_lex.specs.Items.{Item, Tail, Failed, behind_items};
+ghost use Rattle.stream_lex.specs.Reading.{reading};
+ghost use Rattle.stream_lex.specs.Reads.{Reads};
+ghost use Rattle.stream_lex.specs.Running.{more_of};
+
+/// Bytes have at most one reading, and it is the one that the plain program gives.
+pub fn readings_agree()
+    ensures { (bytes : List ℕ) (items : List Item) (tail : Tail) → Reads bytes items tail
+        → reading false bytes ≡ record { items = items; tail = tail } }
+{}
+
+/// All bytes have a reading.
+pub fn readings_exist()
+    ensures { (bytes : List ℕ) → (items : List Item) × (tail : Tail) × Reads bytes items tail }
+{}
+
+/// The items of a prefix are a prefix of the items: it goes on from the tail of the prefix.
+pub fn prefixes_agree()
+    ensures { (bytes more : List ℕ) → reading false (bytes ++ more)
+        ≡ behind_items (reading false bytes).items (more_of (reading false bytes).tail more) }
+{}
+
+/// Behind a fault no byte changes the reading.
+pub fn faults_stay()
+    ensures { (bytes more : List ℕ) (fault : Fault) → (reading false bytes).tail ≡ Failed fault
+        → reading false (bytes ++ more) ≡ reading false bytes }
+{}
