@@ -1,0 +1,30 @@
+-- What a prefix of the items gives is a prefix of what all of them give.
+use Rattle.std.proofs.Common.{◌≡◌, refl, List, [], ◌∷◌, ◌++◌, Result, Ok, Err}
+use Rattle.stream_lex.specs.Items.{Item}
+use Rattle.stream_grammar.specs.declared.fault.Fault.{Fault}
+use Rattle.stream_grammar.specs.Commands.{Parsing, Done, commands, behind_given, then_given, done_by, after}
+
+-- Behind a fault nothing is given.
+pub commands-Err : (e : Fault) (items : List Item)
+    → commands (Err e) items ≡ record { given = []; rest = Err e }
+unfolding commands
+commands-Err e [] = refl
+commands-Err e (item ∷ items) = refl
+
+then_given-behind : (done : Result Done Fault) (front more : List Item) (parsing : Parsing)
+    → commands parsing (front ++ more)
+    ≡ behind_given (commands parsing front).given (commands (commands parsing front).rest more)
+    → then_given done (commands parsing (front ++ more))
+    ≡ behind_given (then_given done (commands parsing front)).given
+    (commands (then_given done (commands parsing front)).rest more)
+then_given-behind (Ok done) front more parsing same = rw same refl
+then_given-behind (Err e) front more parsing same = rw (commands-Err e more) refl
+
+pub commands-append : (parsing : Parsing) (front more : List Item)
+    → commands parsing (front ++ more)
+    ≡ behind_given (commands parsing front).given (commands (commands parsing front).rest more)
+unfolding commands
+commands-append parsing [] more = refl
+commands-append parsing (item ∷ front) more =
+    then_given-behind (done_by parsing item) front more (after parsing item)
+    (commands-append (after parsing item) front more)

@@ -1,0 +1,6 @@
+pub mod Filled
+pub mod InTurn
+pub mod Numbers
+pub mod Printed
+pub mod Streams
+pub mod Taken

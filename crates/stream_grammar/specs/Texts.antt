@@ -1,0 +1,76 @@
+-- What the words of a line say: git-fast-import(1), "mark", "get-mark" and "cat-blob".
+use Rattle.std.specs.Prelude.{ℕ, ◌+◌, ◌^◌, ◌==◌, ◌&&◌, nat_lt, nat_le, Bool, if◌then◌else◌, List, [], ◌∷◌, length, drop, Option, Some, None, Result, Ok, Err}
+use Rattle.std.specs.Char.{is_ascii_digit}
+use Rattle.std.specs.List.{list_all, position_from}
+use Rattle.std.specs.Str.Parse.{digits_value}
+use Rattle.hex.specs.declared.error.FromHexError.{FromHexError}
+use Rattle.hex.specs.Hex.{decode_sized}
+use Rattle.stream_grammar.specs.declared.fault.Fault.{Fault}
+use Rattle.stream_grammar.specs.declared.fault.Fault.TheVariants as fault
+use Rattle.stream_grammar.specs.declared.data_ref.DataRef.{DataRef}
+use Rattle.stream_grammar.specs.declared.data_ref.DataRef.TheVariants as data_ref
+
+-- A text is read from left to right, and the first part that fails decides the fault.
+abbrev pub read : {A B : Type 0} → Result A Fault → (A → Result B Fault) → Result B Fault
+read (Ok value) next = next value
+read (Err e) next = Err e
+
+-- The byte is a space.
+abbrev pub is_space : ℕ → Bool
+is_space byte = byte == 32
+
+-- What stands behind an index of a text; nothing behind none.
+abbrev pub behind_index : Option ℕ → List ℕ → List ℕ
+behind_index None text = []
+behind_index (Some index) text = drop (index + 1) text
+
+-- What stands behind the first space of a line; nothing where it has none.
+abbrev pub argument : List ℕ → List ℕ
+argument text = behind_index (position_from is_space 0 text) text
+
+-- What stands behind a colon, where a text begins with one.
+unfoldable pub behind_colon : List ℕ → Option (List ℕ)
+behind_colon [] = None
+behind_colon (byte ∷ bytes) = if byte == 58 then Some bytes else None
+
+-- The text is 1 to 20 decimal digits.
+abbrev pub is_numeral : List ℕ → Bool
+is_numeral text = nat_lt 0 (length text) && nat_le (length text) 20 && list_all is_ascii_digit text
+
+-- The number, where it is below 2^64.
+abbrev pub in_64_bits : ℕ → Option ℕ
+in_64_bits number = if nat_lt number (2 ^ 64) then Some number else None
+
+-- The number that 1 to 20 decimal digits write, where it is below 2^64. Zeros may lead.
+unfoldable pub number_of : List ℕ → Option ℕ
+number_of text = if is_numeral text then in_64_bits (digits_value 10 text) else None
+
+-- A mark's number is not 0.
+unfoldable pub numbered : Option ℕ → Result ℕ Fault
+numbered None = Err fault.BadMark
+numbered (Some number) = if number == 0 then Err fault.BadMark else Ok number
+
+-- <idnum>
+abbrev pub idnum_of : List ℕ → Result ℕ Fault
+idnum_of text = numbered (number_of text)
+
+abbrev pub marked : Option (List ℕ) → Result ℕ Fault
+marked None = Err fault.Malformed
+marked (Some digits) = idnum_of digits
+
+-- A mark is a colon and an idnum: ':' <idnum>
+abbrev pub mark_of : List ℕ → Result ℕ Fault
+mark_of text = marked (behind_colon text)
+
+-- What the digits of an object name write, or were no such digits.
+abbrev pub named : Result (List ℕ) FromHexError → Result DataRef Fault
+named (Ok id) = Ok (data_ref.Name id)
+named (Err e) = Err fault.Malformed
+
+abbrev pub referred : List ℕ → Option (List ℕ) → Result DataRef Fault
+referred text None = named (decode_sized text 20)  -- 40 hexadecimal digits of either case
+referred text (Some digits) = read (idnum_of digits) (λ mark. Ok (data_ref.Mark mark))
+
+-- A dataref is what begins with a colon, a mark then, or else an object name: <dataref>
+abbrev pub dataref_of : List ℕ → Result DataRef Fault
+dataref_of text = referred text (behind_colon text)

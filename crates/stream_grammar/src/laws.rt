@@ -1,0 +1,58 @@
+//! Laws of the definitions that the parser's contracts cite. Each function is empty: its contract
+//! is the law, and a call does nothing.
+
+ghost use Rattle.std.specs.Prelude.{◌≡◌, ◌<◌, ◌^◌, ◌++◌, ℕ, Bool, List, [], IfSome, codes, decimal, length, map};
+ghost use Rattle.hex.specs.Hex.{IsBytes, encode_lower};
+ghost use Rattle.stream_lex.specs.Items as items;
+ghost use Rattle.stream_grammar.specs.declared.fault.Fault.{Fault};
+ghost use Rattle.stream_grammar.specs.declared.part.Part.{Part};
+ghost use Rattle.stream_grammar.specs.Commands.{Commands, Parsing, behind_given, commands, end_of, top};
+ghost use Rattle.stream_grammar.specs.Grammar.{Slot, behind};
+ghost use Rattle.stream_grammar.specs.Parts.{part_of};
+ghost use Rattle.stream_grammar.specs.Texts.{dataref_of, mark_of};
+ghost use Rattle.stream_grammar.specs.Whole.{AreCommands, AreTaken, Fills};
+
+use crate::data_ref::DataRef;
+
+/// The commands of some items and then of more are those of all of them, so what a prefix of the
+/// items gives is a prefix of what all of them give.
+pub fn in_turn()
+    ensures { (parsing : Parsing) (front more : List items.Item)
+        → commands parsing (front ++ more)
+        ≡ behind_given (commands parsing front).given (commands (commands parsing front).rest more) }
+{}
+
+/// Behind a fault nothing is given, and the fault stays.
+pub fn faults_stay()
+    ensures { (fault : Fault) (later : List items.Item)
+        → commands (Err fault) later ≡ record { given = []; rest = Err fault } }
+{}
+
+/// The parts of a whole command are exactly those that fill the slots of its production.
+pub fn whole_commands()
+    ensures filled { (slots : List Slot) (parts : List Part)
+        → AreTaken parts slots → Fills slots parts }
+    ensures taken { (command : Part) → IfSome (behind command)
+        (λ slots. (parts : List Part) → Fills slots parts → AreTaken parts slots) }
+{}
+
+/// The items of a stream that ends well are the parts of whole commands, one behind the other.
+pub fn whole_streams()
+    ensures { (stream : List items.Item) (ends_commit : Bool)
+        → end_of (commands (Ok top) stream).rest ≡ Ok ends_commit
+        → AreCommands (map part_of stream) }
+{}
+
+/// A mark that is written in decimal digits is read as it was written.
+pub fn written_marks()
+    ensures mark { (number : ℕ) → 0 < number → number < 2 ^ 64
+        → mark_of (codes ":" ++ decimal number) ≡ Ok number }
+    ensures dataref { (number : ℕ) → 0 < number → number < 2 ^ 64
+        → dataref_of (codes ":" ++ decimal number) ≡ Ok (DataRef.Mark number) }
+{}
+
+/// An object name that is written in hexadecimal digits is read as it was written.
+pub fn written_names()
+    ensures { (id : List ℕ) → IsBytes id → length id ≡ 20
+        → dataref_of (encode_lower id) ≡ Ok (DataRef.Name id) }
+{}
