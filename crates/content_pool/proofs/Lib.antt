@@ -1,0 +1,6 @@
+pub mod IndexLemmas
+pub mod PoolLemmas
+pub mod CallerLemmas
+pub mod DistinctSums
+pub mod StoredLemmas
+pub mod PlainLemmas

@@ -1,0 +1,38 @@
+use Rattle.std.proofs.Common.{sym, ap, ◌∙◌, refl, subst}
+use Rattle.content_pool.specs.Pool.{Cells, cell, HoldsEachOnce}
+use Rattle.content_pool.proofs.PoolLemmas.{Writes-behind, IsPool-once, IsPool-stored, IsIndexed-stored, Puts-stored}
+use Rattle.content_pool.proofs.pool.Pool.store.Goals as goal
+
+pub returns-in_err-reserve-clause-once : goal.returns-in_err-reserve-clause-once
+returns-in_err-reserve-clause-once g c = subst (λ (p : Cells). HoldsEachOnce p) (sym (ap (λ s. s.slots) c.reserve.ensures.rest_kept)) (IsPool-once _ _ c.self.invariant.0)
+
+pub returns-in_err-note-clause-once : goal.returns-in_err-note-clause-once
+returns-in_err-note-clause-once g c = subst (λ (p : Cells). HoldsEachOnce p) (sym (ap (λ s. s.slots) c.reserve.ensures.rest_kept)) (IsPool-once _ _ c.self.invariant.0)
+
+pub invariant_of-self-2 : goal.invariant_of-self-2
+invariant_of-self-2 g c =
+    let same = ap (λ s. s.slots) c.reserve.ensures.rest_kept in
+    let told = c.insert_reserved.ensures.key ∙ sym c.vacant_key-key.ensures.value in
+    let w = Writes-behind c.self.inside.cells _ _ _ _ _ same told c.insert_reserved.ensures.updates in
+    let was = ap (λ p. cell p c.vacant_key-key.result) (sym same) ∙ c.vacant_key-key.ensures.vacant in
+    let absent = rw (← c.self.view_is) at c.requires.absent in (
+      IsPool-stored _ _ _ _ was w _ c.self.invariant.0 c.requires.named refl absent,
+      IsIndexed-stored _ _ _ _ was w _ _ c.self.invariant.1 c.in_ok-note.ensures.ok,
+    )
+
+pub returns-clause-puts : goal.returns-clause-puts
+returns-clause-puts g c =
+    let same = ap (λ s. s.slots) c.reserve.ensures.rest_kept in
+    let told = c.insert_reserved.ensures.key ∙ sym c.vacant_key-key.ensures.value in
+    let w = Writes-behind c.self.inside.cells _ _ _ _ _ same told c.insert_reserved.ensures.updates in
+    let was = ap (λ p. cell p c.vacant_key-key.result) (sym same) ∙ c.vacant_key-key.ensures.vacant in
+    rw (← c.self.view_is) (Puts-stored _ _ _ _ was w refl)
+
+pub returns-clause-once : goal.returns-clause-once
+returns-clause-once g c =
+    let same = ap (λ s. s.slots) c.reserve.ensures.rest_kept in
+    let told = c.insert_reserved.ensures.key ∙ sym c.vacant_key-key.ensures.value in
+    let w = Writes-behind c.self.inside.cells _ _ _ _ _ same told c.insert_reserved.ensures.updates in
+    let was = ap (λ p. cell p c.vacant_key-key.result) (sym same) ∙ c.vacant_key-key.ensures.vacant in
+    let absent = rw (← c.self.view_is) at c.requires.absent in
+    IsPool-once _ _ (IsPool-stored _ _ _ _ was w _ c.self.invariant.0 c.requires.named refl absent)

@@ -1,0 +1,70 @@
+-- How the pool finds a content: by its object name to a bucket of slots. No public clause cites
+-- this module.
+use Rattle.std.specs.Prelude.{◌≡◌, ℕ, length, slice_index, IsSome, ◌+◌, ◌<◌, ◌==◌, ◌&&◌, Bool}
+use Rattle.std.specs.Prelude.{false, if◌then◌else◌, List, []}
+use Rattle.std.specs.Prelude.{Some, count_by, unwrap_or}
+use Rattle.std.specs.Option.{option_map_or}
+use Rattle.std.specs.Str.{bytes_eq}
+use Rattle.std.specs.Map.{lookup}
+use Rattle.git_model.specs.Content.{Content, name_by}
+use Rattle.content_pool.specs.Pool.{Cells, cell, content_of}
+use Rattle.content_pool.specs.declared.stored.Stored.{Stored}
+
+-- Object names, each with the slots in its bucket.
+abbrev pub Buckets : Type 0
+Buckets = List (List ℕ × List ℕ)
+
+-- The bucket of an object name, empty where there is none.
+abbrev pub bucket : Buckets → List ℕ → List ℕ
+bucket m n = unwrap_or (lookup (bytes_eq n) m) []
+
+-- How often a slot stands in a bucket.
+abbrev pub times : List ℕ → ℕ → ℕ
+times slots s = count_by (λ t. t == s) slots
+
+-- Whether what is stored in this slot has this object name.
+abbrev pub is_named : Cells → ℕ → List ℕ → Bool
+is_named p s n = option_map_or (λ e. bytes_eq e.id n) (cell p s) false
+
+-- The slot stores this content.
+pub record Stores (p : Cells) (s : ℕ) (c : Content) : Type 0 where
+  pub stored : Stored
+  pub there : cell p s ≡ Some stored
+  pub same : content_of stored ≡ c
+
+-- Something is stored under each of these keys.
+abbrev pub AllStored : Cells → List ℕ → Type 0
+AllStored p keys = (k : ℕ) → k < length keys → IsSome (cell p (slice_index keys k))
+
+-- The content is stored under none of these keys.
+abbrev pub StoresNone : Cells → List ℕ → Content → Type 0
+StoresNone p keys c = (k : ℕ) → k < length keys → Stores p (slice_index keys k) c → ⊥
+
+-- What is stored is held, is kept beside its own object name, and no two slots store one content.
+pub record IsPool (digest : List ℕ → List ℕ) (p : Cells) : Type 0 where
+  pub counted : (s : ℕ) (e : Stored) → cell p s ≡ Some e → 0 < e.holds
+  pub named : (s : ℕ) (e : Stored) → cell p s ≡ Some e → e.id ≡ name_by digest (content_of e)
+  pub distinct : (s t : ℕ) (e f : Stored) → cell p s ≡ Some e → cell p t ≡ Some f
+      → content_of e ≡ content_of f → s ≡ t
+
+-- Each slot stands once in the bucket of its object name, and in no other.
+abbrev pub IsIndexed : Cells → Buckets → Type 0
+IsIndexed p m = (n : List ℕ) (s : ℕ) → times (bucket m n) s ≡ (if is_named p s n then 1 else 0)
+
+-- 1 for this slot in the bucket of this object name, and 0 elsewhere.
+abbrev pub one_at : List ℕ → ℕ → List ℕ → ℕ → ℕ
+one_at id slot n s = if bytes_eq id n && (slot == s) then 1 else 0
+
+-- The slot stands once more in the bucket of this object name.
+pub record Notes (old new : Buckets) (id : List ℕ) (slot : ℕ) : Type 0 where
+  pub added : (n : List ℕ) (s : ℕ)
+      → times (bucket new n) s ≡ times (bucket old n) s + one_at id slot n s
+
+-- The slot, which stood once in the bucket of this object name, stands there no more.
+pub record Forgets (old new : Buckets) (id : List ℕ) (slot : ℕ) : Type 0 where
+  pub taken : (n : List ℕ) (s : ℕ)
+      → times (bucket new n) s + one_at id slot n s ≡ times (bucket old n) s
+
+-- Every bucket has what it had.
+abbrev pub SameBuckets : Buckets → Buckets → Type 0
+SameBuckets old new = (n : List ℕ) → bucket new n ≡ bucket old n

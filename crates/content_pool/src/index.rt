@@ -1,0 +1,55 @@
+//! The index from object names to slots: a bucket of slots for each name that something is stored
+//! under.
+
+ghost use Rattle.std.specs.Prelude.{◌≡◌, ◌<◌, [], IsTrue, OnOk, OnErr};
+ghost use Rattle.content_pool.specs.Index.{bucket, times, Notes, Forgets, SameBuckets};
+
+use crate::bucket::Bucket;
+use git_objects::{Memory, Name};
+use std::alloc::Global;
+use std::collections::HashMap;
+
+/// Notes a slot in the bucket of this object name. After `Memory` (90) every bucket has what it
+/// had.
+pub fn note(
+    alloc: Global,
+    buckets: &mut HashMap<Name, Bucket>,
+    id: Name,
+    slot: usize,
+) -> Result<(), Memory>
+    ensures ok { OnOk result (Notes buckets.old.entries buckets.new.entries id slot) }
+    ensures err { OnErr result (SameBuckets buckets.old.entries buckets.new.entries) }
+{
+    if let Some(bucket) = buckets.get_mut(&id) {
+        bucket.add(slot)?;
+        return Ok(());
+    }
+    buckets.insert(id, Bucket::with_slot(alloc, slot))?;
+    Ok(())
+}
+
+/// Forgets a slot that stands in the bucket of this object name. A bucket without slots goes. Takes
+/// no memory.
+pub fn forget(buckets: &mut HashMap<Name, Bucket>, id: Name, slot: usize)
+    requires { 0 < times (bucket buckets.old.entries id) slot }
+    ensures { Forgets buckets.old.entries buckets.new.entries id slot }
+{
+    if take_out(buckets, id, slot) {
+        buckets.remove(&id);
+    }
+}
+
+// Takes a slot out of its bucket, and answers whether that bucket is left without slots.
+fn take_out(buckets: &mut HashMap<Name, Bucket>, id: Name, slot: usize) -> bool
+    requires { 0 < times (bucket buckets.old.entries id) slot }
+    ensures taken { Forgets buckets.old.entries buckets.new.entries id slot }
+    ensures empty { IsTrue result → bucket buckets.new.entries id ≡ [] }
+{
+    match buckets.get_mut(&id) {
+        Some(bucket) => {
+            bucket.remove(slot);
+            bucket.is_empty()
+        }
+        None => false,
+    }
+}

@@ -1,0 +1,248 @@
+//! The pool of contents that all tenants share, with a count of holds for each.
+//!
+//! A content lies in a slot from the first `put` of it on until the last hold is released, and
+//! nowhere twice. The digest names a bucket of slots, and kind and bytes decide inside it, so
+//! nothing is assumed of collisions. The pool does not know who holds a slot, nor whether the
+//! caller kept it.
+//!
+//! `put` of a blob `a` answers a slot; `put` of `a` again answers the same slot, then held twice.
+//! After two releases the slot is free, and the next new content goes there.
+
+ghost use Rattle.std.specs.Prelude.{◌≡◌, ℕ, ◌∷◌, ◌++◌, ◌-◌, ◌<◌, ◌^◌, [], List, length, min};
+ghost use Rattle.std.specs.Prelude.{sum_by, slice_index, IsSome, MatchOption, IfOk, OnErr};
+ghost use Rattle.slab.specs.Slab.{values};
+ghost use Rattle.git_model.specs.ObjectName.{object_name};
+ghost use Rattle.git_model.specs.Content.{content_from};
+ghost use Rattle.content_pool.specs.Pool.{cell, content_of, holds, content, IsLive, CanHold};
+ghost use Rattle.content_pool.specs.Pool.{HasRoom, IsVacant, IsAbsent, HoldsEachOnce, Puts};
+ghost use Rattle.content_pool.specs.Pool.{Releases};
+ghost use Rattle.content_pool.specs.Index.{AllStored, Stores, StoresNone};
+ghost use Rattle.content_pool.specs.LiveContents.{live_contents, stored_sizes, ListsLive};
+
+use crate::bucket::Bucket;
+use crate::bytes::Bytes;
+use crate::index::{forget, note};
+use crate::slot::Slot;
+use crate::stored::Stored;
+use git_model::Kind;
+use git_objects::{Memory, Name, Naming, name_of};
+use slab::Slab;
+use std::alloc::Global;
+use std::collections::HashMap;
+use std::marker::Model;
+
+// How often a slot is held before its last release.
+const LAST: u64 = 1;
+
+/// The contents that are held, each once. Contracts see, for each slot, what it holds and how
+/// often.
+#[derive(Drop)]
+pub struct Pool<N: Naming> {
+    alloc: Global,
+    naming: N,
+    cells: Slab<Stored>,
+    buckets: HashMap<Name, Bucket>,
+}
+
+impl<N: Naming> Model for Pool<N> {
+    ghost use Rattle.content_pool.specs.Pool.{Cells};
+    ghost use Rattle.content_pool.specs.Index.{IsPool, IsIndexed};
+
+    ghost Value = { Cells };
+
+    ghost view = { λ pool. pool.cells.slots };
+
+    ghost invariant = { λ pool. IsPool N.digest_of pool.cells.slots
+        × IsIndexed pool.cells.slots pool.buckets.entries };
+}
+
+// The first of these keys under which this content is stored. Something is stored under each.
+fn key_of(cells: &Slab<Stored>, keys: &[usize], kind: Kind, bytes: &[u8]) -> Option<usize>
+    requires { AllStored cells.now.slots keys.now }
+    ensures { let c = content_from kind bytes.now in
+        MatchOption result (StoresNone cells.now.slots keys.now c)
+        (λ key. Stores cells.now.slots key c) }
+{
+    for key in keys {
+        if cells[*key].is(kind, bytes) {
+            return Some(*key);
+        }
+    }
+    None
+}
+
+// The sum of the sizes of all that is stored, 2^64 - 1 where it is more.
+fn total_size(cells: &Slab<Stored>) -> u64
+    ensures { result ≡ min (sum_by (λ e. length e.bytes) (values cells.now)) (2 ^ 64 - 1) }
+{
+    let mut total: u64 = 0;
+    for (_, stored) in cells.iter() {
+        total = total.saturating_add(stored.bytes.as_slice().len() as u64);
+    }
+    total
+}
+
+impl<N: Naming> Pool<N> {
+    /// A pool that holds nothing. Takes no memory.
+    #[tactic(auto, unfolding(crate::specs::Pool::holds, crate::specs::Pool::content))]
+    pub fn new(alloc: Global, naming: N) -> Pool<N>
+        ensures { IsVacant result }
+    {
+        Pool {
+            alloc,
+            naming,
+            cells: Slab::new(alloc),
+            buckets: HashMap::new(alloc),
+        }
+    }
+
+    /// The naming that the pool was made with. Takes no memory.
+    pub fn naming(&self) -> &N {
+        &self.naming
+    }
+
+    /// The object name that the pool's naming gives to the content of this kind with these bytes.
+    ///
+    /// `Memory` (90) where the naming finds no room for its work. The content need not be in the
+    /// pool.
+    pub fn name_of(&self, kind: Kind, bytes: &[u8]) -> Result<Name, Memory>
+        ensures { IfOk result (λ id. id ≡ object_name N.digest_of kind bytes.now) }
+    {
+        name_of(self.alloc, self.naming(), kind, bytes)
+    }
+
+    /// Holds the content of this kind with these bytes once more, and answers its slot and its
+    /// object name.
+    ///
+    /// A content that is not stored yet is copied once, into an allocation of exactly its size. No
+    /// content may be held 2^64 - 1 times. Nothing has changed after `Memory` (90).
+    pub fn put(&mut self, kind: Kind, bytes: &[u8]) -> Result<(Slot, Name), Memory>
+        requires { HasRoom self.old }
+        ensures name { IfOk result (λ r. r.1 ≡ object_name N.digest_of kind bytes.now) }
+        ensures puts { IfOk result (λ r. Puts self.old self.new r.0 (content_from kind bytes.now)) }
+        ensures once { HoldsEachOnce self.new }
+        ensures err { OnErr result (self.new ≡ self.old) }
+    {
+        let id = name_of(self.alloc, &self.naming, kind, bytes)?;
+        let slot = self.put_named(id, kind, bytes)?;
+        Ok((slot, id))
+    }
+
+    /// `put` for a caller that has the object name of the content already, so that its bytes are
+    /// digested once.
+    pub fn put_named(&mut self, id: Name, kind: Kind, bytes: &[u8]) -> Result<Slot, Memory>
+        requires named { id ≡ object_name N.digest_of kind bytes.now }
+        requires room { HasRoom self.old }
+        ensures puts { IfOk result
+            (λ slot. Puts self.old self.new slot (content_from kind bytes.now)) }
+        ensures once { HoldsEachOnce self.new }
+        ensures err { OnErr result (self.new ≡ self.old) }
+    {
+        if let Some(slot) = self.find(id, kind, bytes) {
+            self.hold(slot);
+            return Ok(slot);
+        }
+        let bytes = Bytes::copied(self.alloc, bytes)?;
+        self.store(id, kind, bytes)
+    }
+
+    /// `put_named` of bytes that the caller has no more use for: they are stored without a copy.
+    ///
+    /// What the vector has beyond its length is given back. After `Memory` (90) nothing has
+    /// changed, and the vector is gone.
+    pub fn put_owned(&mut self, id: Name, kind: Kind, bytes: Vec<u8>) -> Result<Slot, Memory>
+        requires named { id ≡ object_name N.digest_of kind bytes.items }
+        requires room { HasRoom self.old }
+        ensures puts { IfOk result
+            (λ slot. Puts self.old self.new slot (content_from kind bytes.items)) }
+        ensures once { HoldsEachOnce self.new }
+        ensures err { OnErr result (self.new ≡ self.old) }
+    {
+        if let Some(slot) = self.find(id, kind, bytes.as_slice()) {
+            self.hold(slot);
+            return Ok(slot);
+        }
+        self.store(id, kind, Bytes::taken(bytes))
+    }
+
+    /// Holds a live slot once more. No content may be held 2^64 - 1 times. Takes no memory.
+    #[tactic(auto, unfolding(crate::specs::Pool::holds, crate::specs::Pool::content))]
+    pub fn hold(&mut self, slot: Slot)
+        requires live { IsLive self.old slot }
+        requires room { CanHold self.old slot }
+        ensures { Puts self.old self.new slot (content self.old slot) }
+    {
+        self.cells[slot.key].holds += 1;
+    }
+
+    /// Releases one hold of a live slot. With the last one the content is given up, and the slot
+    /// may be used again. Takes no memory.
+    #[tactic(auto, unfolding(crate::specs::Pool::holds, crate::specs::Pool::content))]
+    pub fn release(&mut self, slot: Slot)
+        requires { IsLive self.old slot }
+        ensures { Releases self.old self.new slot }
+    {
+        if self.cells[slot.key].holds > LAST {
+            self.cells[slot.key].holds -= 1;
+            return;
+        }
+        let given_up = self.cells.remove(slot.key);
+        forget(&mut self.buckets, given_up.id, slot.key);
+    }
+
+    /// The kind and the bytes that a live slot holds. Takes no memory.
+    #[tactic(auto, unfolding(crate::specs::Pool::holds, crate::specs::Pool::content))]
+    pub fn get(&self, slot: Slot) -> (Kind, &[u8])
+        requires { IsLive self.now slot }
+        ensures { content_from result.0 result.1.now ≡ content self.now slot }
+    {
+        let stored = &self.cells[slot.key];
+        (stored.kind, stored.bytes.as_slice())
+    }
+
+    /// How many distinct contents are held, and the sum of their sizes in bytes, 2^64 - 1 where the
+    /// sum is more. Walks over all slots. Takes no memory.
+    pub fn stored(&self) -> (u64, u64)
+        ensures live { result ≡ stored_sizes (live_contents self.now) }
+        ensures any_list { (cs : List _) → ListsLive self.now cs → result ≡ stored_sizes cs }
+    {
+        (self.cells.len() as u64, total_size(&self.cells))
+    }
+
+    // The slot of this content, if it is held.
+    #[tactic(auto, unfolding(crate::specs::Pool::holds, crate::specs::Pool::content))]
+    fn find(&self, id: Name, kind: Kind, bytes: &[u8]) -> Option<Slot>
+        requires { id ≡ object_name N.digest_of kind bytes.now }
+        ensures once { HoldsEachOnce self.now }
+        ensures found { let c = content_from kind bytes.now in
+            MatchOption result (IsAbsent self.now c)
+            (λ slot. IsLive self.now slot × (content self.now slot ≡ c)) }
+    {
+        let Some(bucket) = self.buckets.get(&id) else {
+            return None;
+        };
+        let key = key_of(&self.cells, bucket.slots(), kind, bytes)?;
+        Some(Slot { key })
+    }
+
+    // Stores a content that is not held yet, and holds it once.
+    #[tactic(auto, unfolding(crate::specs::Pool::holds, crate::specs::Pool::content))]
+    fn store(&mut self, id: Name, kind: Kind, bytes: Bytes) -> Result<Slot, Memory>
+        requires named { id ≡ object_name N.digest_of kind bytes }
+        requires absent { IsAbsent self.old (content_from kind bytes) }
+        ensures puts { IfOk result (λ slot. Puts self.old self.new slot (content_from kind bytes)) }
+        ensures once { HoldsEachOnce self.new }
+        ensures err { OnErr result (self.new ≡ self.old) }
+    {
+        self.cells.reserve(1)?;
+        let key = self.cells.vacant_key();
+        note(self.alloc, &mut self.buckets, id, key)?;
+        self.cells.insert_reserved(Stored {
+            id,
+            kind,
+            bytes,
+            holds: 1,
+        });
+        Ok(Slot { key })
+    }
+}
