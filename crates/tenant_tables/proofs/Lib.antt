@@ -1,0 +1,10 @@
+pub mod EntryLemmas
+pub mod HoldLemmas
+pub mod SummaryLemmas
+pub mod TableLemmas
+pub mod IndexLemmas
+pub mod TreeTexts
+pub mod AddLemmas
+pub mod Abbreviations
+pub mod FoundLemmas
+pub mod TwoTables

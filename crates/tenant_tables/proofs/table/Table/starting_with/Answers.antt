@@ -1,0 +1,31 @@
+use Rattle.std.proofs.Common.{◌≡◌, ℕ, List, ◌++◌, map, refl, sym, ap, ◌∙◌}
+use Rattle.std.specs.Map.Iter.{deref}
+use Rattle.std.proofs.lemmas.Map.Iter.{rest_so_far}
+use Rattle.tenant_tables.specs.View.{View}
+use Rattle.tenant_tables.proofs.FoundLemmas.{at_end, at_second, found_none}
+use Rattle.tenant_tables.proofs.table.Table.starting_with.Goals as goal
+
+pub returns-in_default : goal.returns-in_default
+returns-in_default c =
+    let indexed = rw (ap (λ (v : View). v.entries) c.self.view_is) at c.self.invariant.indexed in
+    found_none _ _ _ indexed.named c.in_default.ensures.none
+
+pub returns-in_default-found : goal.returns-in_default-found
+returns-in_default-found c =
+    let indexed = rw (ap (λ (v : View). v.entries) c.self.view_is) at c.self.invariant.indexed in
+    let range = c.range-id-items.ensures.between c.new.ensures.exhausted in
+    let bounds = rw (← c.new.ensures.start, ← c.new.ensures.end) at c.in-Some.ensures.some in
+    let so_far = rest_so_far deref _ _ _ c.loop-id.yielded_by in
+    at_second _ _ _ _ _ _ indexed c.range-id-items.ensures.ordered bounds _ range _ _ _
+    (sym c.into_iter-id-iterator.ensures.into_iter_gives ∙ so_far ∙ ap (λ (t : List (List ℕ)). map deref c.loop-id.yielded ++ t) c.in-Some-id.ensures.steps)
+    (sym c.if-sees.ensures) (λ none. c.in_default-found.not-None (c.loop-id.invariant ∙ none))
+
+pub returns : goal.returns
+returns c =
+    let indexed = rw (ap (λ (v : View). v.entries) c.self.view_is) at c.self.invariant.indexed in
+    let range = c.range-id-items.ensures.between c.new.ensures.exhausted in
+    let bounds = rw (← c.new.ensures.start, ← c.new.ensures.end) at c.in-Some.ensures.some in
+    let so_far = rest_so_far deref _ _ _ c.loop-id.yielded_by in
+    c.loop-id.invariant
+    ∙ at_end _ _ _ _ _ _ indexed c.range-id-items.ensures.ordered bounds _ range _
+    (sym c.into_iter-id-iterator.ensures.into_iter_gives ∙ so_far ∙ ap (λ (t : List (List ℕ)). map deref c.loop-id.yielded ++ t) c.in-None.ensures.steps.0)

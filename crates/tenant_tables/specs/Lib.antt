@@ -1,0 +1,9 @@
+-- In reading order.
+pub mod Fault
+pub mod View
+pub mod Objects
+pub mod StandsIn
+pub mod Adding
+pub mod Trees
+pub mod Abbreviation
+pub mod Index

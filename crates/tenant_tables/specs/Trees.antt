@@ -1,0 +1,69 @@
+-- What a table knows of a tree without reading it: the size of its file map.
+use Rattle.std.specs.Prelude.{◌≡◌, ◌≢◌, ℕ, ◌+◌, ◌==◌, ◌<◌, List, All, Option, None, Some, IsSome, length, map, max, sum_by, fold, take, slice_get, if◌then◌else◌}
+use Rattle.std.specs.Option.{unwrap_or}
+use Rattle.git_model.specs.declared.file_mode.FileMode.{FileMode}
+use Rattle.git_model.specs.declared.file_mode.FileMode.TheVariants as mode
+use Rattle.git_model.specs.declared.kind.Kind.TheVariants as kind
+use Rattle.git_model.specs.Tree.{TreeEntry, CanWriteTree, tree_contents}
+use Rattle.git_model.specs.Content.{Content}
+use Rattle.content_pool.specs.Pool.{Cells, content}
+use Rattle.tenant_tables.specs.declared.entry.Entry.{Entry}
+use Rattle.tenant_tables.specs.declared.summary.Summary.{Summary}
+use Rattle.tenant_tables.specs.View.{Entries, summary_of}
+
+-- No files.
+abbrev pub no_files : Summary
+no_files = record { files = 0; depth = 0; longest = 0 }
+
+-- The files of a directory, below the name of its entry. An empty directory adds none.
+abbrev pub below : List ℕ → Summary → Summary
+below name s = if s.files == 0 then no_files
+    else record { files = s.files; depth = 1 + s.depth; longest = length name + 1 + s.longest }
+
+-- One file, at the name of its entry.
+abbrev pub one_file : List ℕ → Summary
+one_file name = record { files = 1; depth = 1; longest = length name }
+
+-- What an entry adds: a directory the files of its tree, every other entry itself.
+abbrev pub by_mode : FileMode → Summary → Summary → Summary
+by_mode mode.Directory directory file = directory
+by_mode mode.Regular directory file = file
+by_mode mode.Executable directory file = file
+by_mode mode.Symlink directory file = file
+by_mode mode.Gitlink directory file = file
+
+abbrev pub entry_summary : Entries → TreeEntry → Summary
+entry_summary table e = by_mode e.mode (below e.name (unwrap_or (summary_of e.id table) no_files)) (one_file e.name)
+
+-- The files of both; the longer of the two paths, and the deeper.
+abbrev pub both : Summary → Summary → Summary
+both s t = record { files = s.files + t.files; depth = max s.depth t.depth; longest = max s.longest t.longest }
+
+-- The summary of a tree with these entries, whose directories have theirs in the table.
+abbrev pub tree_summary : Entries → List TreeEntry → Summary
+tree_summary table es = fold both no_files (map (entry_summary table) es)
+
+-- A directory stands in the table as a tree.
+abbrev pub DirectoryStands : Entries → TreeEntry → Type 0
+DirectoryStands table e = e.mode ≡ mode.Directory → IsSome (summary_of e.id table)
+
+-- The bytes are the contents of a tree whose directories stand in the table, and the summary is that of its files.
+pub record IsTreeOf (table : Entries) (bytes : List ℕ) (summary : Summary) (es : List TreeEntry) : Type 0 where
+  pub writable : CanWriteTree es
+  pub contents : bytes ≡ tree_contents es
+  pub directories : All (DirectoryStands table) es
+  pub sums : summary ≡ tree_summary table es
+
+-- The same, of some entries.
+abbrev pub FitsTree : Entries → List ℕ → Summary → Type 0
+FitsTree table bytes summary = (es : List TreeEntry) × IsTreeOf table bytes summary es
+
+-- What stands in an entry beside its slot: behind those of the table, a tree has its summary, and every other object none.
+abbrev pub SummedBehind : Entries → Content → Option Summary → Type 0
+SummedBehind table c None = c.kind ≢ kind.Tree
+SummedBehind table c (Some s) = (c.kind ≡ kind.Tree) × FitsTree table c.bytes s
+
+-- Each entry is summed behind those before it.
+unfoldable pub IsSummed : Cells → Entries → Type 0
+IsSummed pool entries = (i : ℕ) (id : List ℕ) (e : Entry) → slice_get entries i ≡ Some (id, e)
+    → SummedBehind (take i entries) (content pool e.slot) e.summary

@@ -1,0 +1,40 @@
+//! The object names that some digits begin lie between two names: that with zeros behind the digits, and that
+//! with `f`s.
+
+ghost use Rattle.std.specs.Prelude.{◌≡◌, ◌≢◌, ◌≤◌, ◌++◌, ◌-◌, ℕ, List, Ok, length, replicate, false, IfNone, IfSome};
+ghost use Rattle.hex.specs.Hex.{decode_sized};
+ghost use Rattle.git_model.specs.ObjectName.{IsObjectName};
+ghost use Rattle.tenant_tables.specs.Abbreviation.{begins, Bounds};
+
+use git_objects::Name;
+
+/// The name whose forty digits are these and then as many of `digit` as it takes.
+fn padded(digits: &[u8], digit: u8) -> Option<Name>
+    ensures none { IfNone result (length digits.now ≤ 40 → (id : List ℕ)
+        → decode_sized (digits.now ++ replicate (40 - length digits.now) digit) 20 ≢ Ok id) }
+    ensures some { IfSome result (λ id. (length digits.now ≤ 40)
+        × (decode_sized (digits.now ++ replicate (40 - length digits.now) digit) 20 ≡ Ok id)) }
+{
+    if digits.len() > 40 {
+        return None;
+    }
+    let mut text = [digit; 40];
+    for (place, given) in digits.iter().enumerate() {
+        text[place] = *given;
+    }
+    Name::from_hex(&text)
+}
+
+/// The least and the greatest object name that these hexadecimal digits begin; `None` where they begin none.
+pub(crate) fn bounds(digits: &[u8]) -> Option<(Name, Name)>
+    ensures none { IfNone result ((id : List ℕ) → IsObjectName id → begins digits.now id ≡ false) }
+    ensures some { IfSome result (λ r. Bounds digits.now r.0 r.1) }
+{
+    let Some(first) = padded(digits, b'0') else {
+        return None;
+    };
+    let Some(last) = padded(digits, b'f') else {
+        return None;
+    };
+    Some((first, last))
+}

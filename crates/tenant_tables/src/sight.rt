@@ -1,0 +1,10 @@
+//! How far into a table a search looks.
+
+/// Which objects of a table are in sight.
+#[derive(Clone, Copy, Debug, PartialEq, Eq)]
+pub enum Sight {
+    /// Those of the committed prefix, which queries see.
+    Committed,
+    /// Those of the open stream too.
+    All,
+}

@@ -1,0 +1,344 @@
+//! A tenant's object table.
+
+ghost use Rattle.std.specs.Prelude.{◌≡◌, ◌≢◌, ◌<◌, ◌≤◌, ◌-◌, [], length, take, Option, None, Some, position, slice_get, is_some, nat_le, OnOk, OnErr};
+ghost use Rattle.std.specs.List.{IsDistinct};
+ghost use Rattle.std.specs.Option.{option_map};
+ghost use Rattle.std.specs.Str.{bytes_eq};
+ghost use Rattle.git_model.specs.ObjectName.{object_name};
+ghost use Rattle.git_model.specs.Content.{content_from, name_by};
+ghost use Rattle.content_pool.specs.Pool.{HasRoom};
+ghost use Rattle.tenant_tables.specs.View.{names, entry_named, slot_of, summary_of, in_sight};
+ghost use Rattle.git_model.specs.Content.{same_content};
+ghost use Rattle.git_model.specs.Repository.{object_named};
+ghost use Rattle.tenant_tables.specs.Objects.{objects};
+ghost use Rattle.tenant_tables.specs.StandsIn.{StandsIn, LeavesOthers};
+ghost use Rattle.tenant_tables.specs.Adding.{Answers, store_fault, Adds, Pushes};
+ghost use Rattle.tenant_tables.specs.Trees.{FitsTree, SummedBehind};
+ghost use Rattle.tenant_tables.specs.Abbreviation.{found_among};
+
+use crate::abbreviation::bounds;
+use crate::entry::Entry;
+use crate::fault::Fault;
+use crate::found::Found;
+use crate::sight::Sight;
+use crate::sized::has_twenty_bytes;
+use crate::summary::Summary;
+use content_pool::{Pool, Slot};
+use git_objects::{Kind, Memory, Name, Naming};
+use indexmap::IndexMap;
+use std::alloc::Global;
+use std::collections::BTreeSet;
+use std::marker::Model;
+
+/// How many bytes the contents of one object may have.
+pub const CONTENTS_LIMIT: usize = 134_217_728;
+
+/// How many objects a table may have.
+pub const OBJECTS_LIMIT: usize = 4_194_304;
+
+/// The objects of one tenant, in the order in which they were added.
+#[derive(Drop)]
+pub struct Table {
+    objects: IndexMap<Name, Entry>,
+    names: BTreeSet<Name>,
+    committed: usize,
+}
+
+impl Model for Table {
+    ghost use Rattle.tenant_tables.specs.View.{View};
+    ghost use Rattle.tenant_tables.specs.Index.{IsTable};
+
+    ghost Value = { View };
+
+    ghost view = { λ t. record { entries = t.objects.entries; committed = t.committed } };
+
+    ghost invariant = { λ t. IsTable t.objects.entries t.names t.committed };
+}
+
+#[tactic(auto, unfolding(crate::specs::View::entry_named))]
+impl Table {
+    /// An empty table. Takes no memory; what it holds later comes from `alloc`.
+    pub fn new(alloc: Global) -> Table
+        ensures entries { result.entries ≡ [] }
+        ensures committed { result.committed ≡ 0 }
+    {
+        Table {
+            objects: IndexMap::new(alloc),
+            names: BTreeSet::new(alloc),
+            committed: 0,
+        }
+    }
+
+    /// Where the contents of the object of this name lie in the pool; `None` where the table has no such object.
+    pub fn find(&self, id: &Name) -> Option<Slot>
+        ensures { result ≡ slot_of id.now self.now.entries }
+    {
+        self.objects.get(id).map(|entry| entry.slot)
+    }
+
+    /// `find` among the committed objects alone.
+    pub fn find_committed(&self, id: &Name) -> Option<Slot>
+        ensures { result ≡ slot_of id.now (take self.now.committed self.now.entries) }
+    {
+        let objects = &self.objects;
+        let Some(place) = objects.get_index_of(id) else {
+            return None;
+        };
+        if place < self.committed {
+            Some(objects[place].slot)
+        } else {
+            None
+        }
+    }
+
+    /// The position of the object of this name, from 0 in the order in which objects were added.
+    pub fn place(&self, id: &Name) -> Option<usize>
+        ensures { result ≡ position (bytes_eq id.now) (names self.now.entries) }
+    {
+        self.objects.get_index_of(id)
+    }
+
+    /// The object name at this position, and where its contents lie in the pool.
+    pub fn at(&self, place: usize) -> Option<(Name, Slot)>
+        ensures { result ≡ option_map (λ e. (e.0, e.1.slot)) (slice_get self.now.entries place) }
+    {
+        let (id, entry) = self.objects.get_index(place)?;
+        Some((*id, entry.slot))
+    }
+
+    /// The summary of the tree of this name; `None` for every other name.
+    pub fn summary(&self, id: &Name) -> Option<Summary>
+        ensures { result ≡ summary_of id.now self.now.entries }
+    {
+        self.objects.get(id).and_then(|entry| entry.summary)
+    }
+
+    /// How many objects the table has, at most 4,194,304. Their names are distinct.
+    pub fn len(&self) -> usize
+        ensures value { result ≡ length self.now.entries }
+        ensures limited { length self.now.entries ≤ OBJECTS_LIMIT }
+        ensures distinct { IsDistinct bytes_eq (names self.now.entries) }
+    {
+        self.objects.len()
+    }
+
+    /// How many of them are committed.
+    pub fn committed_len(&self) -> usize
+        ensures value { result ≡ self.now.committed }
+        ensures within { self.now.committed ≤ length self.now.entries }
+    {
+        self.committed
+    }
+
+    /// The one object name in sight that begins with these hexadecimal digits of either case, if it is one.
+    ///
+    /// Digits of another kind, or more than forty, begin no name. Only this table's names count. The names that
+    /// begin so are found by the ordered index. Takes no memory.
+    pub fn starting_with(&self, digits: &[u8], sight: Sight) -> Found
+        ensures { result ≡ found_among digits.now (names (in_sight sight self.now)) }
+    {
+        let names = &self.names;
+        let Some((first, last)) = bounds(digits) else {
+            return Found::None;
+        };
+        let mut found = Found::None;
+        for id in names.range(first..=last) {
+            if self.sees(id, sight) {
+                match found {
+                    Found::None => found = Found::One(*id),
+                    _ => return Found::Many,
+                }
+            }
+        }
+        found
+    }
+
+    fn sees(&self, id: &Name, sight: Sight) -> bool
+        ensures { result ≡ is_some (entry_named id.now (in_sight sight self.now)) }
+    {
+        match sight {
+            Sight::All => self.find(id).is_some(),
+            Sight::Committed => self.find_committed(id).is_some(),
+        }
+    }
+
+    /// Adds the object of this kind, which is not a tree, with these contents, and answers its name. An object that
+    /// the table has already is found and not added again.
+    ///
+    /// `Fault::Limit` (25) where the contents are longer than 134,217,728 bytes; else the object is found, if the
+    /// table has it; else `Fault::Limit` where the table has 4,194,304 objects, and `Fault::NameCollision` (24) where
+    /// it has another object of this name, whatever other tables have. `Fault::Memory` (90) where a growth was
+    /// refused. Nothing has changed after any of them.
+    ///
+    /// The pool is the one that the table stands in, and no content of it is held 2^64 - 1 times.
+    pub fn add<N: Naming>(
+        &mut self,
+        pool: &mut Pool<N>,
+        kind: Kind,
+        bytes: &[u8],
+    ) -> Result<Name, Fault>
+        requires stands { StandsIn N.digest_of pool.old self.old.entries }
+        requires room { HasRoom pool.old }
+        requires no_tree { kind ≢ Kind.Tree }
+        ensures stands { StandsIn N.digest_of pool.new self.new.entries }
+        ensures others { LeavesOthers pool.old self.old.entries pool.new self.new.entries }
+        ensures answer { let c = content_from kind bytes.now in let id = name_by N.digest_of c in
+            Answers result id (store_fault id c (objects pool.old self.old.entries)) }
+        ensures ok { OnOk result (Adds N.digest_of (content_from kind bytes.now) None pool.old self.old pool.new self.new) }
+        ensures err { OnErr result ((self.new ≡ self.old) × (pool.new ≡ pool.old)) }
+    {
+        self.store(pool, kind, bytes, None)
+    }
+
+    /// Adds the tree with these contents and this summary, as `add` adds other objects, with the same refusals.
+    ///
+    /// The bytes are the contents of a tree whose directories stand in the table, and the summary is that of its
+    /// file map.
+    pub fn add_tree<N: Naming>(
+        &mut self,
+        pool: &mut Pool<N>,
+        bytes: &[u8],
+        summary: Summary,
+    ) -> Result<Name, Fault>
+        requires stands { StandsIn N.digest_of pool.old self.old.entries }
+        requires room { HasRoom pool.old }
+        requires tree { FitsTree self.old.entries bytes.now summary }
+        ensures stands { StandsIn N.digest_of pool.new self.new.entries }
+        ensures others { LeavesOthers pool.old self.old.entries pool.new self.new.entries }
+        ensures answer { let c = content_from Kind.Tree bytes.now in let id = name_by N.digest_of c in
+            Answers result id (store_fault id c (objects pool.old self.old.entries)) }
+        ensures ok { OnOk result (Adds N.digest_of (content_from Kind.Tree bytes.now) (Some summary) pool.old self.old pool.new self.new) }
+        ensures err { OnErr result ((self.new ≡ self.old) × (pool.new ≡ pool.old)) }
+    {
+        self.store(pool, Kind::Tree, bytes, Some(summary))
+    }
+
+    // Adds an object with its summary, which a tree has and no other object.
+    fn store<N: Naming>(
+        &mut self,
+        pool: &mut Pool<N>,
+        kind: Kind,
+        bytes: &[u8],
+        summary: Option<Summary>,
+    ) -> Result<Name, Fault>
+        requires stands { StandsIn N.digest_of pool.old self.old.entries }
+        requires room { HasRoom pool.old }
+        requires summed { SummedBehind self.old.entries (content_from kind bytes.now) summary }
+        ensures stands { StandsIn N.digest_of pool.new self.new.entries }
+        ensures others { LeavesOthers pool.old self.old.entries pool.new self.new.entries }
+        ensures answer { let c = content_from kind bytes.now in let id = name_by N.digest_of c in
+            Answers result id (store_fault id c (objects pool.old self.old.entries)) }
+        ensures ok { OnOk result (Adds N.digest_of (content_from kind bytes.now) summary pool.old self.old pool.new self.new) }
+        ensures err { OnErr result ((self.new ≡ self.old) × (pool.new ≡ pool.old)) }
+    {
+        if bytes.len() > CONTENTS_LIMIT {
+            return Err(Fault::Limit);
+        }
+        let id = pool.name_of(kind, bytes)?;
+        let there = self.has_content(pool, &id, kind, bytes);
+        if there.unwrap_or(false) {
+            return Ok(id);
+        }
+        if self.is_full() {
+            return Err(Fault::Limit);
+        }
+        if there.is_some() {
+            return Err(Fault::NameCollision);
+        }
+        self.push_new(pool, id, kind, bytes, summary)?;
+        Ok(id)
+    }
+
+    // Whether the object of this name has this content; `None` where there is no such object.
+    fn has_content<N: Naming>(
+        &self,
+        pool: &Pool<N>,
+        id: &Name,
+        kind: Kind,
+        bytes: &[u8],
+    ) -> Option<bool>
+        requires { StandsIn N.digest_of pool.now self.now.entries }
+        ensures { result ≡ option_map (same_content (content_from kind bytes.now))
+            (object_named id.now (objects pool.now self.now.entries)) }
+    {
+        let Some(slot) = self.find(id) else {
+            return None;
+        };
+        Some((kind, bytes) == pool.get(slot))
+    }
+
+    fn is_full(&self) -> bool
+        ensures { result ≡ nat_le OBJECTS_LIMIT (length self.now.entries) }
+    {
+        self.len() >= OBJECTS_LIMIT
+    }
+
+    // Puts an object behind all others. All that may fail comes before the first change that is not taken back.
+    fn push_new<N: Naming>(
+        &mut self,
+        pool: &mut Pool<N>,
+        id: Name,
+        kind: Kind,
+        bytes: &[u8],
+        summary: Option<Summary>,
+    ) -> Result<(), Memory>
+        requires named { id ≡ object_name N.digest_of kind bytes.now }
+        requires new { entry_named id self.old.entries ≡ None }
+        requires spare { length self.old.entries < OBJECTS_LIMIT }
+        requires room { HasRoom pool.old }
+        ensures ok { OnOk result (Pushes id (content_from kind bytes.now) summary pool.old self.old pool.new self.new) }
+        ensures err { OnErr result ((self.new ≡ self.old) × (pool.new ≡ pool.old)) }
+    {
+        has_twenty_bytes(&id);
+        self.objects.reserve(1)?;
+        self.names.insert(id)?;
+        match pool.put_named(id, kind, bytes) {
+            Ok(slot) => {
+                self.objects.insert(id, Entry { slot, summary }).unwrap();
+                Ok(())
+            }
+            Err(refused) => {
+                self.names.remove(&id);
+                Err(refused)
+            }
+        }
+    }
+
+    /// Makes all objects committed. Takes no memory.
+    pub fn commit(&mut self)
+        ensures { self.new ≡ record self.old { committed = length self.old.entries } }
+    {
+        self.committed = self.len();
+    }
+
+    /// Takes out the objects behind the committed prefix and releases their slots. Takes no memory.
+    ///
+    /// What another table holds stays in the pool. The pool is the one that the table stands in.
+    pub fn roll_back<N: Naming>(&mut self, pool: &mut Pool<N>)
+        requires stands { StandsIn N.digest_of pool.old self.old.entries }
+        ensures stands { StandsIn N.digest_of pool.new self.new.entries }
+        ensures others { LeavesOthers pool.old self.old.entries pool.new self.new.entries }
+        ensures entries { self.new ≡ record self.old { entries = take self.old.committed self.old.entries } }
+        ensures objects { objects pool.new self.new.entries ≡ take self.old.committed (objects pool.old self.old.entries) }
+    {
+        let committed = self.committed_len();
+        while self.len() > committed {
+            self.give_up_last(pool);
+        }
+    }
+
+    // Takes out the last object and releases its slot.
+    fn give_up_last<N: Naming>(&mut self, pool: &mut Pool<N>)
+        requires stands { StandsIn N.digest_of pool.old self.old.entries }
+        requires open { self.old.committed < length self.old.entries }
+        ensures stands { StandsIn N.digest_of pool.new self.new.entries }
+        ensures others { LeavesOthers pool.old self.old.entries pool.new self.new.entries }
+        ensures entries { self.new ≡ record self.old { entries = take (length self.old.entries - 1) self.old.entries } }
+        ensures objects { objects pool.new self.new.entries ≡ take (length self.old.entries - 1) (objects pool.old self.old.entries) }
+    {
+        if let Some((id, entry)) = self.objects.pop() {
+            self.names.remove(&id);
+            pool.release(entry.slot);
+        }
+    }
+}
