@@ -1,0 +1,5 @@
+pub mod Entries
+pub mod Searches
+pub mod Stores
+pub mod Names
+pub mod FullNames

@@ -1,0 +1,22 @@
+-- Where the refs of a tenant lie among those of all: gitnamespaces(7).
+use Rattle.std.specs.Prelude.{◌≡◌, ℕ, List, ◌++◌, codes}
+use Rattle.std.specs.List.{flat_map}
+use Rattle.git_model.specs.Bytes.{BeginsWith}
+use Rattle.tenant_refs.specs.TenantName.{parts_of}
+
+-- The namespace of one part of a tenant name.
+abbrev pub namespace_of : List ℕ → List ℕ
+namespace_of part = codes "refs/namespaces/" ++ part ++ codes "/"
+
+-- A tenant's ref among those of all: the namespaces of the tenant's parts in order, and then the
+-- ref.
+unfoldable pub full_name : List ℕ → List ℕ → List ℕ
+full_name tenant ref = flat_map namespace_of (parts_of tenant) ++ ref
+
+-- No other tenant's ref and no other ref of the tenant has this full name. Only what begins with
+-- `refs/namespaces/` is left out, which no ref of a tenant does.
+pub record IsFullNameOfNoOther (full tenant ref : List ℕ) : Type 0 where
+  pub tenant_is : (other_tenant other_ref : List ℕ)
+      → ¬ BeginsWith other_ref (codes "refs/namespaces/") → full_name other_tenant other_ref ≡ full → other_tenant ≡ tenant
+  pub ref_is : (other_tenant other_ref : List ℕ)
+      → ¬ BeginsWith other_ref (codes "refs/namespaces/") → full_name other_tenant other_ref ≡ full → other_ref ≡ ref

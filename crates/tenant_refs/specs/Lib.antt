@@ -1,0 +1,9 @@
+-- In reading order. What the definitions below speak of is passed on first.
+pub use Rattle.git_model.specs.Bytes
+pub use Rattle.git_model.specs.RefName
+pub use Rattle.git_model.specs.RefStore
+pub mod Faults
+pub mod StoredName
+pub mod TenantName
+pub mod FullName
+pub mod Place

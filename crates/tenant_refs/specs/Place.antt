@@ -1,0 +1,32 @@
+-- Where a ref stands in a list of refs in order of their bytes.
+use Rattle.std.specs.Prelude.{◌≡◌, ℕ, List, ◌∷◌, ◌++◌, length, IsTrue}
+use Rattle.std.specs.Ordering.{nat_cmp}
+use Rattle.std.specs.FinMap.{is_sorted}
+use Rattle.std.specs.List.{AllByRecursion}
+use Rattle.std.specs.Cmp.Lexicographic.{slice_cmp}
+use Rattle.std.specs.declared.cmp.Ordering.TheVariants.{Less, Greater}
+
+-- Refs with what each holds.
+abbrev pub Entries : Type 0
+Entries = List (List ℕ × List ℕ)
+
+-- No ref stands twice, and they stand in the order of their bytes.
+abbrev pub IsInOrder : Entries → Type 0
+IsInOrder entries = IsTrue (is_sorted (slice_cmp nat_cmp) entries)
+
+-- The ref stands at this position: some entries come before its own, and some after.
+pub record IsPlaceOf (entries : Entries) (ref : List ℕ) (position : ℕ) : Type 0 where
+  pub before : Entries
+  pub target : List ℕ
+  pub after : Entries
+  pub stands : entries ≡ before ++ (ref, target) ∷ after
+  pub position_is : length before ≡ position
+
+-- The ref would go to this position: the entries before it are below the ref, and the others above.
+pub record IsGapFor (entries : Entries) (ref : List ℕ) (position : ℕ) : Type 0 where
+  pub before : Entries
+  pub after : Entries
+  pub parts : entries ≡ before ++ after
+  pub position_is : length before ≡ position
+  pub below : AllByRecursion (λ entry. slice_cmp nat_cmp ref entry.0 ≡ Greater) before
+  pub above : AllByRecursion (λ entry. slice_cmp nat_cmp ref entry.0 ≡ Less) after

@@ -1,0 +1,249 @@
+//! The refs of one repository: which object name each holds, in the order of their bytes, and the
+//! ref that HEAD names.
+//!
+//! A ref `a` may stand beside a ref `a/b`. Whether there is an object of a name that a ref holds is
+//! not known here.
+
+ghost use Rattle.std.specs.Prelude.{◌≡◌, ◌≢◌, ◌↔◌, ◌≤◌, IfOk, IfSome, OnOk, OnErr, IsTrue, Some, None, option_map, slice_get, length, codes};
+ghost use Rattle.git_model.specs.RefStore.{no_refs, target_of, listed_refs, with_ref, without_ref, with_head, ChangesRef};
+ghost use Rattle.tenant_refs.specs.StoredName.{NamesRef};
+ghost use Rattle.git_model.specs.RefName.{IsRefName};
+
+use crate::place::place_of;
+use crate::ref_name::RefName;
+use git_objects::{Memory, Name};
+use std::alloc::Global;
+use std::marker::Model;
+
+/// The ref that HEAD names before anyone sets it.
+pub const FIRST_HEAD: &[u8] = b"refs/heads/main";
+
+/// Refs in the order of their bytes, with the object name that each holds, and HEAD.
+#[derive(Debug, Drop)]
+pub struct Refs {
+    alloc: Global,
+    entries: Vec<(RefName, Name)>,
+    // `None` stands for the first HEAD, so that no refs take no memory.
+    head: Option<RefName>,
+}
+
+impl Model for Refs {
+    ghost use Rattle.git_model.specs.RefStore.{RefStore, ref_store_code};
+
+    ghost Value = { RefStore };
+
+    ghost coded = { ref_store_code };
+
+    ghost use Rattle.std.specs.Prelude.{IsTrue, unwrap_or};
+    ghost use Rattle.std.specs.FinMap.{from_sorted};
+    ghost use Rattle.git_model.specs.RefName.{is_ref_name};
+    ghost use Rattle.git_model.specs.RefStore.{first_head};
+    ghost use Rattle.tenant_refs.specs.Place.{IsInOrder};
+
+    ghost view = { λ r. record {
+      refs = from_sorted r.entries.items;
+      head = unwrap_or r.head first_head;
+    } };
+
+    ghost invariant = { λ r.
+        IsInOrder r.entries.items × IsTrue (is_ref_name (unwrap_or r.head first_head)) };
+}
+
+impl Refs {
+    /// No refs, and HEAD names `refs/heads/main`. Takes no memory.
+    pub fn new(alloc: Global) -> Refs
+        ensures { result ≡ no_refs }
+    {
+        Refs {
+            alloc,
+            entries: Vec::new(alloc),
+            head: None,
+        }
+    }
+
+    /// How many refs there are.
+    pub fn len(&self) -> usize
+        ensures { result ≡ length (listed_refs self.now) }
+    {
+        self.entries.as_slice().len()
+    }
+
+    /// Whether there are none.
+    pub fn is_empty(&self) -> bool
+        ensures { IsTrue result ↔ (length (listed_refs self.now) ≡ 0) }
+    {
+        self.entries.as_slice().is_empty()
+    }
+
+    /// The object name that a ref holds; `None` where there is no such ref. Takes no memory.
+    pub fn get(&self, ref_name: &[u8]) -> Option<Name>
+        ensures { result ≡ target_of self.now ref_name.now }
+    {
+        match place_of(&self.entries, ref_name) {
+            Ok(position) => Some(self.entries[position].1),
+            Err(_) => None,
+        }
+    }
+
+    /// The ref at a position in the order of bytes, counted from 0, with the object name that it
+    /// holds; `None` from `len` on. Takes no memory.
+    pub fn at(&self, position: usize) -> Option<(&[u8], Name)>
+        ensures entry { option_map (λ entry. (entry.0.now, entry.1)) result
+            ≡ slice_get (listed_refs self.now) position }
+        ensures well_formed { IfSome result (λ entry. NamesRef entry.0.now) }
+        ensures short { IfSome result (λ entry. length entry.0.now ≤ 1024) }
+    {
+        let (ref_name, target) = self.entries.get(position)?;
+        Some((ref_name.as_bytes(), *target))
+    }
+
+    /// Sets a ref, whether it was there or not. Every other ref and HEAD stay.
+    ///
+    /// `Memory` (90) where a ref that was not there finds no room; nothing has changed then.
+    pub fn set(&mut self, ref_name: &RefName, target: Name) -> Result<(), Memory>
+        ensures set { OnOk result (self.new ≡ with_ref self.old ref_name.now target) }
+        ensures changes { OnOk result (ChangesRef self.old self.new ref_name.now (Some target)) }
+        ensures refused { OnErr result (self.new ≡ self.old) }
+        ensures refused_for_new { OnErr result (target_of self.old ref_name.now ≡ None) }
+    {
+        match place_of(&self.entries, ref_name.as_bytes()) {
+            Ok(position) => {
+                let entry = &mut self.entries[position];
+                entry.1 = target;
+            }
+            Err(position) => {
+                let ref_name = ref_name.try_clone(self.alloc)?;
+                self.entries.insert(position, (ref_name, target))?;
+            }
+        }
+        Ok(())
+    }
+
+    /// Takes a ref out, where it is there. Every other ref and HEAD stay. Takes no memory.
+    pub fn remove(&mut self, ref_name: &[u8])
+        ensures removed { self.new ≡ without_ref self.old ref_name.now }
+        ensures changes { ChangesRef self.old self.new ref_name.now None }
+    {
+        match place_of(&self.entries, ref_name) {
+            Ok(position) => {
+                self.entries.remove(position);
+            }
+            Err(_) => {}
+        }
+    }
+
+    /// The ref that HEAD names, which need not be there. Takes no memory.
+    pub fn head(&self) -> &[u8]
+        ensures head { result.now ≡ self.now.head }
+        ensures well_formed { IsRefName self.now.head }
+    {
+        match &self.head {
+            Some(ref_name) => ref_name.as_bytes(),
+            None => FIRST_HEAD,
+        }
+    }
+
+    /// Lets HEAD name another ref. Takes no memory.
+    pub fn set_head(&mut self, ref_name: RefName)
+        requires { ref_name ≢ codes "HEAD" }
+        ensures { self.new ≡ with_head self.old ref_name }
+    {
+        self.head = Some(ref_name);
+    }
+
+    /// A copy of all refs and HEAD. `Memory` (90) where there is no room for it.
+    pub fn copy(&self) -> Result<Refs, Memory>
+        ensures { IfOk result (λ copy. copy ≡ self.now) }
+    {
+        let entries = copied_entries(self.alloc, &self.entries)?;
+        let head = copied_head(self.alloc, &self.head)?;
+        Ok(Refs {
+            alloc: self.alloc,
+            entries,
+            head,
+        })
+    }
+}
+
+fn copied_entries(
+    alloc: Global,
+    entries: &[(RefName, Name)],
+) -> Result<Vec<(RefName, Name)>, Memory>
+    ensures { IfOk result (λ copy. copy.items ≡ entries.now) }
+{
+    let mut copy = Vec::with_capacity(alloc, entries.len())?;
+    for (ref_name, target) in entries {
+        copy.push((ref_name.try_clone(alloc)?, *target))?;
+    }
+    Ok(copy)
+}
+
+fn copied_head(alloc: Global, head: &Option<RefName>) -> Result<Option<RefName>, Memory>
+    ensures { IfOk result (λ copy. copy ≡ head.now) }
+{
+    match head {
+        Some(ref_name) => Ok(Some(ref_name.try_clone(alloc)?)),
+        None => Ok(None),
+    }
+}
+
+#[cfg(test)]
+mod tests {
+    use crate::{Name, RefName, Refs};
+    use std::test::Fail;
+
+    fn set(rt: &HostRuntime, refs: &mut Refs, text: &[u8], byte: u8) -> Result<(), Fail> {
+        let ref_name = RefName::read(rt.alloc(), text)?;
+        refs.set(&ref_name, Name::from_bytes([byte; 20]))?;
+        Ok(())
+    }
+
+    #[test]
+    fn lists_refs_by_their_bytes(rt: HostRuntime) -> Result<(), Fail> {
+        let mut refs = Refs::new(rt.alloc());
+        assert!(rt; refs.is_empty());
+        assert_eq!(rt; refs.head(), b"refs/heads/main".as_slice());
+        for (text, byte) in [
+            (b"refs/heads/a0".as_slice(), 1),
+            (b"refs/heads/a/b", 2),
+            (b"refs/heads/a-b", 3),
+            (b"refs/heads/a", 4),
+            (b"refs/heads/a0", 5),
+        ] {
+            set(&rt, &mut refs, text, byte)?;
+        }
+        assert_eq!(rt; refs.len(), 4);
+        let order = [
+            (b"refs/heads/a".as_slice(), 4),
+            (b"refs/heads/a-b", 3),
+            (b"refs/heads/a/b", 2),
+            (b"refs/heads/a0", 5),
+        ];
+        for (position, (text, byte)) in order.iter().enumerate() {
+            let target = Name::from_bytes([*byte; 20]);
+            assert!(rt; refs.at(position) == Some((*text, target)));
+            assert!(rt; refs.get(text) == Some(target));
+        }
+        assert!(rt; refs.at(4) == None);
+        assert!(rt; refs.get(b"refs/heads/b") == None);
+        Ok(())
+    }
+
+    #[test]
+    fn changes_a_copy_alone(rt: HostRuntime) -> Result<(), Fail> {
+        let mut refs = Refs::new(rt.alloc());
+        set(&rt, &mut refs, b"refs/heads/m", 1)?;
+        set(&rt, &mut refs, b"refs/tags/v", 2)?;
+        let mut copy = refs.copy()?;
+        copy.remove(b"refs/heads/m");
+        copy.remove(b"refs/heads/none");
+        copy.set_head(RefName::read(rt.alloc(), b"refs/heads/m")?);
+        assert_eq!(rt; copy.len(), 1);
+        assert!(rt; copy.at(0) == Some((b"refs/tags/v".as_slice(), Name::from_bytes([2; 20]))));
+        assert_eq!(rt; copy.head(), b"refs/heads/m".as_slice());
+        assert_eq!(rt; copy.copy()?.head(), b"refs/heads/m".as_slice());
+        assert_eq!(rt; refs.len(), 2);
+        assert_eq!(rt; refs.head(), b"refs/heads/main".as_slice());
+        Ok(())
+    }
+}
