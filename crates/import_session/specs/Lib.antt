@@ -1,0 +1,8 @@
+-- In reading order: the faults, what a stream keeps, what its commands do, and the stream from end
+-- to end.
+pub mod Faults
+pub mod Workspace
+pub mod Meaning
+pub mod Stream
+pub mod Session
+pub mod Printing

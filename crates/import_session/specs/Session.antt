@@ -1,0 +1,68 @@
+-- A session: the part of a running stream that lies neither in a table, nor in a pool, nor among
+-- refs.
+use Rattle.std.specs.Prelude.{◌≡◌, ◌≢◌, ℕ, List, [], ◌++◌, Result, Ok, Err, Bool, false}
+use Rattle.git_model.specs.RefStore.{RefStore}
+use Rattle.git_model.specs.Repository.{Repository}
+use Rattle.content_pool.specs.Pool.{Cells}
+use Rattle.tenant_tables.specs.Objects.{objects}
+use Rattle.tenant_tables.specs.View.{View}
+use Rattle.stream_grammar.specs.Commands.{Parsing, top}
+use Rattle.import_session.specs.declared.fault.Fault.{Fault}
+use Rattle.import_session.specs.declared.fault.Fault.TheVariants as fault
+use Rattle.import_session.specs.Workspace.{Workspace, Marks}
+use Rattle.import_session.specs.Meaning.{Effect}
+use Rattle.import_session.specs.Stream.{Running, Step}
+
+-- What a session keeps between items.
+pub record Kept : Type 0 where
+  pub parsing : Parsing
+  pub marks : Marks
+  pub is_done : Bool
+
+-- The workspace of a stream whose objects stand in a table over a pool.
+abbrev pub workspace_in : Marks → Cells → View → RefStore → Workspace
+workspace_in marks pool table refs = record {
+  objects = objects pool table.entries;
+  committed = table.committed;
+  refs = refs;
+  marks = marks;
+}
+
+-- The running stream that a session is part of.
+abbrev pub running_in : Kept → Cells → View → RefStore → Running
+running_in session pool table refs = record {
+  workspace = workspace_in session.marks pool table refs;
+  parsing = session.parsing;
+  is_done = session.is_done;
+}
+
+-- An act was carried out: it left this workspace, and its reply was printed; or what refuses it was
+-- answered. `Memory` may stand in place of either.
+abbrev pub CarriesOut : Result Effect Fault → Workspace → List ℕ → List ℕ → Result Unit Fault
+    → Type 0
+CarriesOut (Ok effect) new out out' (Ok u) = (effect.workspace ≡ new) × (out' ≡ out ++ effect.reply)
+CarriesOut (Ok effect) new out out' (Err e) = e ≡ fault.Memory
+CarriesOut (Err refusal) new out out' (Ok u) = ⊥
+CarriesOut (Err refusal) new out out' (Err e) = e ≢ fault.Memory → e ≡ refusal
+
+-- The same of an item, which leaves a running stream.
+abbrev pub Takes : Result Step Fault → Running → List ℕ → List ℕ → Result Unit Fault → Type 0
+Takes (Ok step) new out out' (Ok u) = (step.running ≡ new) × (out' ≡ out ++ step.reply)
+Takes (Ok step) new out out' (Err e) = e ≡ fault.Memory
+Takes (Err refusal) new out out' (Ok u) = ⊥
+Takes (Err refusal) new out out' (Err e) = e ≢ fault.Memory → e ≡ refusal
+
+-- Before a session's first item.
+abbrev pub new_session : Kept
+new_session = record { parsing = Ok top; marks = []; is_done = false }
+
+-- The end of a session: the workspace that it leaves, or what refuses it.
+abbrev pub Ends : Result Workspace Fault → Workspace → Result Unit Fault → Type 0
+Ends (Ok workspace) new (Ok u) = workspace ≡ new
+Ends (Ok workspace) new (Err e) = ⊥
+Ends (Err refusal) new (Ok u) = ⊥
+Ends (Err refusal) new (Err e) = e ≡ refusal
+
+-- The repository whose objects stand in a table over a pool, all of them.
+abbrev pub repository_in : Cells → View → RefStore → Repository
+repository_in pool table refs = record { objects = objects pool table.entries; refs = refs }

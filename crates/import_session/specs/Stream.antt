@@ -1,0 +1,132 @@
+-- A stream from its first byte to its end: git-fast-import(1).
+use Rattle.std.specs.Prelude.{ℕ, Bool, true, false, if◌then◌else◌, List, [], ◌∷◌, ◌++◌, take, Option, None, Some, Result, Ok, Err}
+use Rattle.git_model.specs.Repository.{Repository}
+use Rattle.stream_lex.specs.Items.{Item, Tail, Rest, Failed}
+use Rattle.stream_lex.specs.Faults.{code_of as item_code}
+use Rattle.stream_grammar.specs.Acts.{Act, Finish}
+use Rattle.stream_grammar.specs.Commands.{Parsing, top, done_by, after, end_of}
+use Rattle.import_session.specs.declared.fault.Fault.{Fault}
+use Rattle.import_session.specs.Faults.{code_of, text_first}
+use Rattle.import_session.specs.Workspace.{Workspace, checkpointed}
+use Rattle.import_session.specs.Meaning.{and_then, after_act}
+
+-- A running stream has its workspace, the command that is not whole yet, and whether `done` was
+-- read.
+pub record Running : Type 0 where
+  pub workspace : Workspace
+  pub parsing : Parsing
+  pub is_done : Bool
+
+-- Before its first item.
+abbrev pub begun : Workspace → Running
+begun workspace = record { workspace = workspace; parsing = Ok top; is_done = false }
+
+-- What an item leaves of a running stream, and what it prints.
+pub record Step : Type 0 where
+  pub running : Running
+  pub reply : List ℕ
+
+abbrev pub is_finish : Act → Bool
+is_finish Finish = true
+is_finish _ = false
+
+-- The text of an item is judged first, and then its meaning.
+abbrev pub taken : (List ℕ → List ℕ) → Running → Item → Result Step Fault
+taken digest now item =
+    and_then (text_first (done_by now.parsing item)) (λ done.
+    and_then (after_act digest done.act now.workspace) (λ effect.
+    Ok (record {
+      running = record {
+        workspace = effect.workspace;
+        parsing = after now.parsing item;
+        is_done = is_finish done.act;
+      };
+      reply = effect.reply;
+    })))
+
+-- Behind `done` an item is passed over.
+unfoldable pub step : (List ℕ → List ℕ) → Running → Item → Result Step Fault
+step digest now item =
+    if now.is_done then Ok (record { running = now; reply = [] }) else taken digest now item
+
+-- What stood at the last checkpoint.
+abbrev pub last_checkpoint : Workspace → Repository
+last_checkpoint workspace = record {
+  objects = take workspace.committed workspace.objects;
+  refs = workspace.refs;
+}
+
+-- How a stream stands: it runs, and behind its items stands a tail; or it was refused under a
+-- number, and then the repository at the last checkpoint is all that is left.
+pub data Standing : Type 0 where
+  Runs : Running → Tail → Standing
+  Refused : ℕ → Repository → Standing
+
+-- What a stream printed so far, and how it stands.
+pub record Outcome : Type 0 where
+  pub replies : List ℕ
+  pub standing : Standing
+
+abbrev pub after_reply : List ℕ → Outcome → Outcome
+after_reply reply later = record { replies = reply ++ later.replies; standing = later.standing }
+
+abbrev pub refused : ℕ → Workspace → Outcome
+refused code workspace =
+    record { replies = []; standing = Refused code (last_checkpoint workspace) }
+
+-- A fault of the bytes refuses the stream, but not behind `done`.
+abbrev pub at_tail : Running → Tail → Outcome
+at_tail now (Rest skips bytes) = record { replies = []; standing = Runs now (Rest skips bytes) }
+at_tail now (Failed fault) =
+    if now.is_done then record { replies = []; standing = Runs now (Failed fault) }
+    else refused (item_code fault) now.workspace
+
+abbrev pub going_on : Running → Result Step Fault → (Running → Outcome) → Outcome
+going_on now (Ok step) later = after_reply step.reply (later step.running)
+going_on now (Err fault) later = refused (code_of fault) now.workspace
+
+-- The items of a stream are carried out in turn, up to the first that is refused.
+unfoldable pub carried : (List ℕ → List ℕ) → Running → List Item → Tail → Outcome
+carried digest now [] tail = at_tail now tail
+carried digest now (item ∷ items) tail =
+    going_on now (step digest now item) (λ next. carried digest next items tail)
+
+-- How a stream ended: well, or refused under a number; and the repository then.
+pub record End : Type 0 where
+  pub fault : Option ℕ
+  pub repository : Repository
+
+abbrev pub ended_well : Workspace → End
+ended_well workspace = record { fault = None; repository = last_checkpoint workspace }
+
+abbrev pub ended_by : ℕ → Workspace → End
+ended_by code workspace = record { fault = Some code; repository = last_checkpoint workspace }
+
+-- The end of the commands: a part may be missing, else the end is a checkpoint. Behind `done`
+-- nothing is asked for.
+abbrev pub checkpoint_or : Workspace → Result Bool Fault → Result Workspace Fault
+checkpoint_or workspace (Ok ends_commit) = Ok (checkpointed workspace)
+checkpoint_or workspace (Err fault) = Err fault
+
+unfoldable pub session_end : Running → Result Workspace Fault
+session_end now =
+    if now.is_done then Ok now.workspace
+    else checkpoint_or now.workspace (text_first (end_of now.parsing))
+
+abbrev pub command_end : Workspace → Result Workspace Fault → End
+command_end workspace (Ok left) = ended_well left
+command_end workspace (Err fault) = ended_by (code_of fault) workspace
+
+-- The end of the bytes: none may be left over.
+abbrev pub bytes_end : Running → List ℕ → End
+bytes_end now [] = command_end now.workspace (session_end now)
+bytes_end now (byte ∷ bytes) = ended_by 6 now.workspace
+
+abbrev pub running_end : Running → Tail → End
+running_end now (Rest skips bytes) = bytes_end now bytes
+running_end now (Failed fault) = ended_by (item_code fault) now.workspace
+
+-- The end of a stream. Behind `done` no bytes are left over.
+abbrev pub finished : Standing → End
+finished (Refused code repository) = record { fault = Some code; repository = repository }
+finished (Runs now tail) = if now.is_done then ended_well now.workspace else running_end now tail

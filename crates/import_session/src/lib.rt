@@ -1,0 +1,18 @@
+//! One stream of git-fast-import(1), item by item, over the objects and refs of one tenant.
+//!
+//! The bytes are somebody else's (`stream_lex`), and so is the place where contents lie
+//! (`content_pool`): a session is lent the pool, the table and the refs at each call, and looks at
+//! its own table alone.
+#![tactic(auto)]
+
+mod acts;
+mod fault;
+mod marks;
+mod objects;
+mod print;
+mod session;
+#[cfg(test)]
+mod tests;
+
+pub use fault::Fault;
+pub use session::Session;

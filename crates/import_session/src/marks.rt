@@ -1,0 +1,57 @@
+//! The marks of a stream: git-fast-import(1), "mark".
+
+ghost use Rattle.std.specs.Prelude.{◌≡◌, ◌≢◌, ◌<◌, Result, Ok, Err, MatchResult, OnOk};
+ghost use Rattle.indexmap.specs.IndexMap.{spare};
+ghost use Rattle.import_session.specs.Meaning.{has_room, marked_name, room_for, with_mark};
+
+use crate::fault::Fault;
+use git_objects::Name;
+use indexmap::IndexMap;
+use stream_grammar::Mark;
+
+/// How many marks a stream may have.
+pub const MARKS_LIMIT: usize = 4_194_304;
+
+// Whether a mark may be set: it is there already, or there are fewer than there may be.
+#[tactic(auto, unfolding(crate::specs::Meaning::has_room))]
+fn has_room(marks: &IndexMap<Mark, Name>, mark: Mark) -> bool
+    ensures { result ≡ has_room marks.now.entries mark }
+{
+    marks.contains_key(&mark) || marks.len() < MARKS_LIMIT
+}
+
+// Makes room for one more mark, where one is to be set. The marks stay.
+pub fn make_room(marks: &mut IndexMap<Mark, Name>, mark: &Option<Mark>) -> Result<(), Fault>
+    ensures room { MatchResult result (λ _. room_for marks.old.entries mark.now ≡ Ok tt)
+        (λ fault. fault ≢ Fault.Memory → room_for marks.old.entries mark.now ≡ Err fault) }
+    ensures spare { OnOk result (0 < spare marks.new) }
+    ensures same { marks.new.entries ≡ marks.old.entries }
+{
+    match mark {
+        Some(mark) if !has_room(marks, *mark) => Err(Fault::Limit),
+        _ => {
+            marks.reserve(1)?;
+            Ok(())
+        }
+    }
+}
+
+// Sets a mark, perhaps again, where one is given.
+pub fn set(marks: &mut IndexMap<Mark, Name>, mark: Option<Mark>, id: Name)
+    requires { 0 < spare marks.old }
+    ensures { marks.new.entries ≡ with_mark marks.old.entries mark id }
+{
+    if let Some(mark) = mark {
+        marks.insert(mark, id).unwrap();
+    }
+}
+
+// The name of the object that a mark was set to last.
+pub fn find(marks: &IndexMap<Mark, Name>, mark: Mark) -> Result<Name, Fault>
+    ensures { result ≡ marked_name marks.now.entries mark }
+{
+    match marks.get(&mark) {
+        Some(id) => Ok(*id),
+        None => Err(Fault::MarkUnknown),
+    }
+}

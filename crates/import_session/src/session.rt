@@ -1,0 +1,156 @@
+//! A session: what a stream keeps between its items.
+//!
+//! The table, the refs and the pool are lent at each call; the objects behind the table's committed
+//! prefix are the stream's own, until a checkpoint.
+
+ghost use Rattle.std.specs.Prelude.{◌≡◌, [], OnErr};
+ghost use Rattle.content_pool.specs.Pool.{HasRoom};
+ghost use Rattle.tenant_tables.specs.StandsIn.{StandsIn, LeavesOthers};
+ghost use Rattle.stream_grammar.specs.Shown.{act_shown};
+ghost use Rattle.stream_lex.specs.Looking.{item_of};
+ghost use Rattle.import_session.specs.Stream.{step, is_finish, session_end, last_checkpoint};
+ghost use Rattle.import_session.specs.Session.{running_in, workspace_in, repository_in, new_session, Takes, Ends};
+
+use crate::acts::carry_out;
+use crate::fault::Fault;
+use content_pool::Pool;
+use git_objects::{Name, Naming};
+use indexmap::IndexMap;
+use std::alloc::Global;
+use std::marker::Model;
+use stream_grammar::{Act, Mark, Parser};
+use stream_lex::Item;
+use tenant_refs::Refs;
+use tenant_tables::Table;
+
+/// One stream of a tenant: the command that is not whole yet, the marks, and whether `done` was
+/// read.
+///
+/// Each call is lent the pool, the tenant's table and its refs, the same ones from the first to the
+/// last.
+#[derive(Drop)]
+pub struct Session {
+    parser: Parser,
+    marks: IndexMap<Mark, Name>,
+    is_done: bool,
+}
+
+impl Model for Session {
+    ghost use Rattle.import_session.specs.Session.{Kept};
+
+    ghost Value = { Kept };
+
+    ghost view = { λ s.
+        record { parsing = s.parser; marks = s.marks.entries; is_done = s.is_done } };
+}
+
+fn is_finish(act: &Act<'_>) -> bool
+    ensures { result ≡ is_finish (act_shown act.now) }
+{
+    matches!(act, Act::Finish)
+}
+
+impl Session {
+    /// A stream before its first item. Takes no memory; its marks come from `alloc`.
+    pub fn new(alloc: Global) -> Session
+        ensures { result ≡ new_session }
+    {
+        Session {
+            parser: Parser::new(),
+            marks: IndexMap::new(alloc),
+            is_done: false,
+        }
+    }
+
+    /// Whether `done` was read, so that nothing behind it is looked at. Takes no memory.
+    pub fn is_done(&self) -> bool
+        ensures { result ≡ self.now.is_done }
+    {
+        self.is_done
+    }
+
+    /// Takes the next item, and appends what it prints to `out`: git-fast-import(1), "Commands".
+    ///
+    /// The fault of the item's text (2, 3, 5, 12) comes before that of its meaning: `MarkUnknown`
+    /// (13), `WrongKind` (15), `Limit` (25) and `NameCollision` (24). `Memory` (90) may stand in
+    /// place of any answer. After a refusal `out` is unchanged, the committed objects and the refs
+    /// are those of the last checkpoint, and only `abandon` may follow. Behind `done` an item is
+    /// passed over.
+    #[tactic(auto, unfolding(crate::specs::Stream::step))]
+    pub fn take<N: Naming>(
+        &mut self,
+        pool: &mut Pool<N>,
+        table: &mut Table,
+        refs: &mut Refs,
+        item: Item<'_>,
+        out: &mut Vec<u8>,
+    ) -> Result<(), Fault>
+        requires stands { StandsIn N.digest_of pool.old table.old.entries }
+        requires room { HasRoom pool.old }
+        ensures stands { StandsIn N.digest_of pool.new table.new.entries }
+        ensures others { LeavesOthers pool.old table.old.entries pool.new table.new.entries }
+        ensures taken { Takes
+            (step N.digest_of (running_in self.old pool.old table.old refs.old)
+            (item_of item.entry))
+            (running_in self.new pool.new table.new refs.new) out.old.items out.new.items result }
+        ensures checkpoint { OnErr result
+            (last_checkpoint (running_in self.new pool.new table.new refs.new).workspace
+            ≡ last_checkpoint (running_in self.old pool.old table.old refs.old).workspace) }
+        ensures printed { OnErr result (out.new.items ≡ out.old.items) }
+        ensures refs { refs.new ≡ refs.old }
+    {
+        if self.is_done() {
+            return Ok(());
+        }
+        let act = match self.parser.take(item) {
+            Ok(done) => done.act,
+            Err(text) => return Err(Fault::Text(text)),
+        };
+        carry_out(pool, table, &mut self.marks, &act, out)?;
+        self.is_done = is_finish(&act);
+        Ok(())
+    }
+
+    /// The end of the stream, which is a checkpoint, unless `done` was read before. It prints
+    /// nothing and takes no memory.
+    ///
+    /// `Fault::Text` (5) where a part of a command is missing; nothing has changed then.
+    #[tactic(auto, unfolding(crate::specs::Stream::session_end))]
+    pub fn finish<N: Naming>(
+        &self,
+        pool: &mut Pool<N>,
+        table: &mut Table,
+        refs: &mut Refs,
+    ) -> Result<(), Fault>
+        requires stands { StandsIn N.digest_of pool.old table.old.entries }
+        ensures ended { Ends (session_end (running_in self.now pool.old table.old refs.old))
+            (running_in self.now pool.new table.new refs.new).workspace result }
+        ensures stands { StandsIn N.digest_of pool.new table.new.entries }
+        ensures others { LeavesOthers pool.old table.old.entries pool.new table.new.entries }
+        ensures refs { refs.new ≡ refs.old }
+    {
+        if self.is_done {
+            return Ok(());
+        }
+        match self.parser.end() {
+            Ok(_) => {
+                table.commit();
+                Ok(())
+            }
+            Err(text) => Err(Fault::Text(text)),
+        }
+    }
+
+    /// Gives the stream up: its table is rolled back to the last checkpoint. Takes no memory.
+    pub fn abandon<N: Naming>(self, pool: &mut Pool<N>, table: &mut Table, refs: &mut Refs)
+        requires { StandsIn N.digest_of pool.old table.old.entries }
+        ensures stands { StandsIn N.digest_of pool.new table.new.entries }
+        ensures others { LeavesOthers pool.old table.old.entries pool.new table.new.entries }
+        ensures left { repository_in pool.new table.new refs.new
+            ≡ last_checkpoint (workspace_in [] pool.old table.old refs.old) }
+        ensures committed { table.new.committed ≡ table.old.committed }
+        ensures refs { refs.new ≡ refs.old }
+    {
+        table.roll_back(pool);
+    }
+}
