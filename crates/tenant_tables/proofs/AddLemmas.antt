@@ -1,5 +1,5 @@
 -- What `add` answers and does, by what it finds.
-use Rattle.std.proofs.Common.{◌≡◌, ◌≢◌, ℕ, ◌<◌, ◌≤◌, Bool, true, false, cond, ◌&&◌, List, [], ◌∷◌, ◌++◌, length, slice_get, take, Option, None, Some, is_some, refl, sym, ap, subst, ◌∙◌, arith}
+use Rattle.std.proofs.Common.{◌≡◌, ℕ, ◌<◌, ◌≤◌, Bool, true, false, cond, List, [], ◌∷◌, ◌++◌, length, slice_get, take, Option, None, Some, is_some, refl, sym, ap, subst, ◌∙◌, arith}
 use Rattle.std.specs.Prelude.{nat_lt, nat_le, if◌then◌else◌}
 use Rattle.std.specs.Option.{option_map, option_map_or, option_and_then, unwrap_or}
 use Rattle.std.specs.Str.{bytes_eq}
@@ -7,7 +7,7 @@ use Rattle.std.proofs.lemmas.Bool.{and_parts}
 use Rattle.std.proofs.lemmas.Bool.Decides.{nat_tests}
 use Rattle.std.proofs.lemmas.Slice.Eq.{bytes_eq-Decides}
 use Rattle.git_model.specs.Content.{Content, name_by}
-use Rattle.content_pool.specs.Pool.{Cells, content, IsLive, Puts}
+use Rattle.content_pool.specs.Pool.{Cells, content, IsLive}
 use Rattle.git_model.specs.Kind.{kind_word}
 use Rattle.git_model.specs.declared.kind.Kind.{Kind}
 use Rattle.git_model.specs.declared.kind.Kind.TheVariants.{Commit, Tree, Blob, Tag}
@@ -21,7 +21,7 @@ use Rattle.tenant_tables.specs.declared.fault.Fault.TheVariants.{Limit, NameColl
 use Rattle.tenant_tables.specs.declared.entry.Entry.{Entry}
 use Rattle.tenant_tables.specs.declared.summary.Summary.{Summary}
 use Rattle.tenant_tables.specs.View.{View, Entries, entry_named, slot_of, summary_of, held}
-use Rattle.git_model.specs.Repository.{Object, object_named, has_object, with_object}
+use Rattle.git_model.specs.Repository.{Object, object_named}
 use Rattle.tenant_tables.specs.Objects.{objects}
 use Rattle.tenant_tables.specs.StandsIn.{StandsIn, LeavesOthers}
 use Rattle.tenant_tables.specs.Trees.{SummedBehind, IsSummed}

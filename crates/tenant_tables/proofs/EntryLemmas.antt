@@ -1,8 +1,7 @@
 -- Look-ups of names in entries, and in the first of them.
-use Rattle.std.proofs.Common.{◌≡◌, ℕ, zero, suc, ◌+◌, ◌<◌, ◌≤◌, Bool, true, false, not, cond, nat_lt, List, [], ◌∷◌, ◌++◌, length, take, Option, Some, None, is_some, position, refl, sym, ap, ◌∙◌, arith}
-use Rattle.std.specs.List.{position_or_len, list_any}
+use Rattle.std.proofs.Common.{◌≡◌, ℕ, zero, suc, ◌+◌, Bool, true, false, not, cond, nat_lt, List, [], ◌∷◌, length, take, Option, Some, None, is_some, position, refl, sym, ap, ◌∙◌, arith}
+use Rattle.std.specs.List.{position_or_len}
 use Rattle.std.specs.Map.{keys_of, lookup}
-use Rattle.std.proofs.lemmas.Bool.{cases_lt}
 use Rattle.std.proofs.lemmas.Bool.Decides.{nat_tests}
 
 none_either : {X : Type 0} (b : Bool) → ◌≡◌ {A = Option X} (cond b None None) None

@@ -1,8 +1,8 @@
 -- What an abbreviation finds by the index.
-use Rattle.std.proofs.Common.{◌≡◌, ◌≢◌, ℕ, zero, suc, Bool, true, false, not, cond, ◌&&◌, ◌||◌, List, [], ◌∷◌, ◌++◌, length, take, map, filter, is_some, Option, None, Some, refl, sym, ap, subst, ◌∙◌, true≢false, nat_lt, arith}
+use Rattle.std.proofs.Common.{◌≡◌, ◌≢◌, ℕ, zero, suc, Bool, true, false, cond, ◌&&◌, ◌||◌, List, [], ◌∷◌, ◌++◌, take, filter, is_some, None, Some, refl, sym, ap, subst, ◌∙◌, true≢false, nat_lt}
 use Rattle.std.specs.Prelude.{All}
 use Rattle.std.specs.BTreeMap.Range.{range_contains}
-use Rattle.std.specs.BTreeSet.{BTreeSet, contains}
+use Rattle.std.specs.BTreeSet.{BTreeSet}
 use Rattle.std.specs.Cmp.Lexicographic.{slice_cmp}
 use Rattle.std.specs.List.{AllByRecursion, IsDistinct, list_any, position_or_len}
 use Rattle.std.specs.List.Sorted.{IsStrictlySortedBy}
@@ -17,7 +17,6 @@ use Rattle.std.proofs.lemmas.Map.Text.{is_eq-slice_cmp}
 use Rattle.std.proofs.lemmas.Map.Views.{any-filter_same}
 use Rattle.std.proofs.lemmas.Slice.Eq.{bytes_eq-Decides}
 use Rattle.git_model.specs.ObjectName.{IsObjectName}
-use Rattle.tenant_tables.specs.declared.found.Found.{Found}
 use Rattle.tenant_tables.specs.declared.found.Found.TheVariants as found
 use Rattle.tenant_tables.specs.declared.entry.Entry.{Entry}
 use Rattle.tenant_tables.specs.declared.sight.Sight.{Sight}
@@ -47,7 +46,7 @@ IsDistinct-filter e p (x ∷ xs) h = by (p x) (IsDistinct-filter e p xs h.1)
     by true r = (each xs h.0, r)
     by false r = r
 
-IsDistinct-take : (e : List ℕ → List ℕ → Bool) (n : ℕ) (xs : List (List ℕ)) → IsDistinct e xs → IsDistinct e (take n xs)
+pub IsDistinct-take : (e : List ℕ → List ℕ → Bool) (n : ℕ) (xs : List (List ℕ)) → IsDistinct e xs → IsDistinct e (take n xs)
 unfolding IsDistinct
 IsDistinct-take e zero xs h = tt
 IsDistinct-take e (suc n) [] h = h
@@ -104,7 +103,7 @@ only_of-same (x ∷ w ∷ xs) (y ∷ z ∷ ys) d e h = refl
 abbrev pub is_seen : Sight → View → List ℕ → Bool
 is_seen sight table id = is_some (entry_named id (in_sight sight table))
 
-any-names : (q : List ℕ) (es : Entries) → list_any (bytes_eq q) (names es) ≡ is_some (entry_named q es)
+pub any-names : (q : List ℕ) (es : Entries) → list_any (bytes_eq q) (names es) ≡ is_some (entry_named q es)
 unfolding entry_named
 any-names q [] = refl
 any-names q (x ∷ es) = by (bytes_eq q x.0) (any-names q es)
@@ -117,10 +116,12 @@ any-names q (x ∷ es) = by (bytes_eq q x.0) (any-names q es)
 any-filter : (q : List ℕ) (p : List ℕ → Bool) (xs : List (List ℕ)) → list_any (bytes_eq q) (filter p xs) ≡ (p q && list_any (bytes_eq q) xs)
 any-filter q p xs = any-filter_same (bytes_eq q) p (p q) (λ k h. ap p (sym (same_name q k h))) xs
 
+pub named-take : (n : ℕ) (es : Entries) → All IsObjectName (names es) → All IsObjectName (names (take n es))
+named-take n es h = subst (All IsObjectName) (take-map (λ (e : List ℕ × Entry). e.0) n es) (All-take IsObjectName n (names es) h)
+
 named_in_sight : (sight : Sight) (table : View) → All IsObjectName (names table.entries) → All IsObjectName (names (in_sight sight table))
 named_in_sight Everything table h = h
-named_in_sight Committed table h =
-    subst (All IsObjectName) (take-map (λ (e : List ℕ × Entry). e.0) table.committed table.entries) (All-take IsObjectName table.committed (names table.entries) h)
+named_in_sight Committed table h = named-take table.committed table.entries h
 
 distinct_in_sight : (sight : Sight) (table : View) → IsDistinct bytes_eq (names table.entries) → IsDistinct bytes_eq (names (in_sight sight table))
 distinct_in_sight Everything table h = h
@@ -197,13 +198,15 @@ found_by_index ds first last sight table index indexed sorted bounds =
         left q ∙ ap (λ (t : Bool). t && (lies q && is_some (entry_named q table.entries))) refl ∙ by q (is_seen sight table q) refl ∙ sym (right q)
 
 -- digits that begin no name find none
+pub filter-none : (ds : List ℕ) (ids : List (List ℕ)) → All IsObjectName ids → ((id : List ℕ) → IsObjectName id → begins ds id ≡ false)
+    → filter (begins ds) ids ≡ []
+filter-none ds [] h none = refl
+filter-none ds (id ∷ ids) h none = rw (none id (All-head IsObjectName id ids h)) (filter-none ds ids (All-tail IsObjectName id ids h) none)
+
 pub found_none : (ds : List ℕ) (sight : Sight) (table : View) → All IsObjectName (names table.entries)
     → ((id : List ℕ) → IsObjectName id → begins ds id ≡ false) → found.None ≡ found_among ds (names (in_sight sight table))
-found_none ds sight table named none = ap only_of (sym (by (names (in_sight sight table)) (named_in_sight sight table named)))
-  where
-    by : (ids : List (List ℕ)) → All IsObjectName ids → filter (begins ds) ids ≡ []
-    by [] h = refl
-    by (id ∷ ids) h = rw (none id (All-head IsObjectName id ids h)) (by ids (All-tail IsObjectName id ids h))
+found_none ds sight table named none =
+    ap only_of (sym (filter-none ds (names (in_sight sight table)) (named_in_sight sight table named) none))
 
 -- one name more than one is many, whatever comes then
 pub found_many : (p : List ℕ → Bool) (ids rest : List (List ℕ)) (id : List ℕ) → p id ≡ true → only_of (filter p ids) ≢ found.None

@@ -1,5 +1,5 @@
 -- How often entries hold a slot, and what stays with the contents that they hold.
-use Rattle.std.proofs.Common.{◌≡◌, ◌≢◌, ℕ, zero, suc, ◌+◌, ◌<◌, ◌≤◌, ◌==◌, ◌⊎◌, inl, inr, Bool, true, false, cond, List, [], ◌∷◌, ◌++◌, length, Option, None, Some, is_some, map, slice_get, refl, sym, ap, subst, ◌∙◌, arith}
+use Rattle.std.proofs.Common.{◌≡◌, ℕ, zero, suc, ◌+◌, ◌<◌, ◌≤◌, ◌==◌, inl, inr, Bool, true, false, cond, List, [], ◌∷◌, ◌++◌, None, Some, slice_get, refl, sym, ap, subst, ◌∙◌, arith}
 use Rattle.std.specs.Prelude.{All}
 use Rattle.std.specs.Map.{lookup}
 use Rattle.std.specs.Str.{bytes_eq}
@@ -9,11 +9,11 @@ use Rattle.std.proofs.lemmas.Bool.Decides.{nat_tests}
 use Rattle.std.proofs.lemmas.List.Elements.{All-nil, All-cons, All-head, All-tail}
 use Rattle.std.proofs.lemmas.List.Sums.{sum_by-cons, sum_by_push}
 use Rattle.std.proofs.lemmas.Slice.Eq.{bytes_eq-Decides}
-use Rattle.git_model.specs.Content.{Content, name_by}
-use Rattle.content_pool.specs.Pool.{Cells, holds, content}
+use Rattle.git_model.specs.Content.{name_by}
+use Rattle.content_pool.specs.Pool.{Cells, content}
 use Rattle.tenant_tables.specs.declared.entry.Entry.{Entry}
 use Rattle.tenant_tables.specs.View.{Entries, entry_named, held}
-use Rattle.git_model.specs.Repository.{Object, object_named}
+use Rattle.git_model.specs.Repository.{object_named}
 use Rattle.tenant_tables.specs.Objects.{objects}
 
 -- one entry more holds its slot once more

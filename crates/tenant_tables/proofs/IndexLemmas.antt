@@ -1,9 +1,9 @@
 -- The ordered index of names, kept through each change.
-use Rattle.std.proofs.Common.{◌≡◌, ℕ, zero, suc, ◌+◌, ◌<◌, ◌≤◌, ◌||◌, Bool, true, false, cond, List, [], ◌∷◌, ◌++◌, length, map, Option, None, Some, is_some, refl, sym, ap, subst, ◌∙◌, arith}
+use Rattle.std.proofs.Common.{◌≡◌, ℕ, ◌<◌, Bool, true, false, cond, List, [], ◌∷◌, ◌++◌, length, Option, None, Some, is_some, refl, sym, ap, subst, ◌∙◌, arith}
 use Rattle.std.specs.Prelude.{All}
 use Rattle.std.specs.Cmp.Lexicographic.{slice_cmp}
 use Rattle.std.specs.List.{IsDistinct}
-use Rattle.std.specs.Map.{keys_of, lookup}
+use Rattle.std.specs.Map.{lookup}
 use Rattle.std.specs.Ordering.{nat_cmp, is_eq}
 use Rattle.std.specs.Str.{bytes_eq}
 use Rattle.std.specs.BTreeSet.{BTreeSet, contains, UpdatesBy}
@@ -15,7 +15,7 @@ use Rattle.std.proofs.lemmas.Slice.Eq.{bytes_eq-Decides}
 use Rattle.git_model.specs.ObjectName.{IsObjectName}
 use Rattle.tenant_tables.specs.declared.entry.Entry.{Entry}
 use Rattle.tenant_tables.specs.declared.table.TheConstants.{OBJECTS_LIMIT}
-use Rattle.tenant_tables.specs.Index.{IsIndexed, IsTable}
+use Rattle.tenant_tables.specs.Index.{IsTable}
 use Rattle.tenant_tables.specs.View.{Entries, names, entry_named}
 use Rattle.tenant_tables.proofs.TableLemmas.{All-front}
 

@@ -8,3 +8,4 @@ pub mod AddLemmas
 pub mod Abbreviations
 pub mod FoundLemmas
 pub mod TwoTables
+pub mod PlainLemmas

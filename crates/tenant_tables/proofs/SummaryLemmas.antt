@@ -1,5 +1,5 @@
 -- Summaries of trees, kept through each change.
-use Rattle.std.proofs.Common.{◌≡◌, ◌≢◌, ℕ, zero, suc, ◌+◌, ◌<◌, ◌≤◌, ◌⊎◌, inl, inr, Bool, true, false, cond, nat_lt, List, [], ◌∷◌, ◌++◌, length, take, map, Option, None, Some, slice_get, refl, sym, ap, subst, ◌∙◌, arith}
+use Rattle.std.proofs.Common.{◌≡◌, ℕ, zero, suc, ◌<◌, inl, inr, Bool, true, false, cond, nat_lt, List, [], ◌∷◌, ◌++◌, length, take, map, Option, None, Some, slice_get, refl, sym, ap, subst, ◌∙◌, arith}
 use Rattle.std.specs.Prelude.{All, IsSome, fold}
 use Rattle.std.specs.List.{position_or_len}
 use Rattle.std.specs.Map.{keys_of, lookup}
@@ -19,7 +19,7 @@ use Rattle.git_model.specs.Content.{Content}
 use Rattle.content_pool.specs.Pool.{Cells, content}
 use Rattle.tenant_tables.specs.declared.entry.Entry.{Entry}
 use Rattle.tenant_tables.specs.declared.summary.Summary.{Summary}
-use Rattle.tenant_tables.specs.View.{Entries, entry_named, held, summary_of}
+use Rattle.tenant_tables.specs.View.{Entries, entry_named, summary_of}
 use Rattle.tenant_tables.specs.Trees.{IsSummed, SummedBehind, FitsTree, DirectoryStands, by_mode, below, both, entry_summary, no_files, one_file, tree_summary}
 use Rattle.tenant_tables.proofs.HoldLemmas.{Keeps, held-at}
 

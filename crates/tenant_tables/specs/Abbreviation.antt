@@ -1,5 +1,5 @@
 -- Abbreviated object names: gitrevisions(7), "<sha1>".
-use Rattle.std.specs.Prelude.{ℕ, ◌≡◌, ◌/◌, ◌%◌, Bool, List, [], ◌∷◌, Option, Some, filter, map, nat_eq}
+use Rattle.std.specs.Prelude.{ℕ, ◌≡◌, ◌/◌, ◌%◌, Bool, List, [], ◌∷◌, Some, filter, map, nat_eq}
 use Rattle.std.specs.BTreeMap.Range.{IsLeBy, range_contains}
 use Rattle.std.specs.Cmp.Lexicographic.{slice_cmp}
 use Rattle.std.specs.declared.ops.Bound.TheVariants.{Included}

@@ -1,14 +1,13 @@
 -- What `add` answers.
-use Rattle.std.specs.Prelude.{◌≡◌, ℕ, List, [], ◌∷◌, ◌++◌, length, Bool, Option, None, Some, Result, Ok, Err, is_some, nat_le, nat_lt, if◌then◌else◌}
+use Rattle.std.specs.Prelude.{◌≡◌, ℕ, List, [], ◌∷◌, ◌++◌, length, Option, None, Some, Result, Ok, Err, is_some, nat_le, nat_lt, if◌then◌else◌}
 use Rattle.std.specs.Str.{bytes_eq}
 use Rattle.git_model.specs.Content.{Content, name_by}
 use Rattle.content_pool.specs.Pool.{Cells, Puts}
 use Rattle.tenant_tables.specs.declared.table.TheConstants.{CONTENTS_LIMIT, OBJECTS_LIMIT}
 use Rattle.tenant_tables.specs.declared.fault.Fault.{Fault}
 use Rattle.tenant_tables.specs.declared.fault.Fault.TheVariants as fault
-use Rattle.tenant_tables.specs.declared.entry.Entry.{Entry}
 use Rattle.tenant_tables.specs.declared.summary.Summary.{Summary}
-use Rattle.tenant_tables.specs.View.{View, Entries, summary_of}
+use Rattle.tenant_tables.specs.View.{View, summary_of}
 use Rattle.git_model.specs.Repository.{Object, has_object, object_named, with_object}
 use Rattle.tenant_tables.specs.Objects.{objects}
 

@@ -1,5 +1,5 @@
 -- What a contract sees of a table, without the pool.
-use Rattle.std.specs.Prelude.{ℕ, ◌+◌, ◌==◌, List, Option, take, count_by}
+use Rattle.std.specs.Prelude.{ℕ, ◌==◌, List, Option, take, count_by}
 use Rattle.std.specs.Map.{keys_of, lookup}
 use Rattle.std.specs.Option.{option_map, option_and_then}
 use Rattle.std.specs.Str.{bytes_eq}

@@ -9,6 +9,7 @@ mod abbreviation;
 mod entry;
 mod fault;
 mod found;
+mod plain;
 mod sight;
 mod sized;
 mod summary;
@@ -18,6 +19,7 @@ mod tests;
 
 pub use fault::Fault;
 pub use found::Found;
+pub use plain::PlainTable;
 pub use sight::Sight;
 pub use summary::Summary;
 pub use table::Table;

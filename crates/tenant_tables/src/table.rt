@@ -336,9 +336,10 @@ impl Table {
         ensures entries { self.new ≡ record self.old { entries = take (length self.old.entries - 1) self.old.entries } }
         ensures objects { objects pool.new self.new.entries ≡ take (length self.old.entries - 1) (objects pool.old self.old.entries) }
     {
-        if let Some((id, entry)) = self.objects.pop() {
-            self.names.remove(&id);
-            pool.release(entry.slot);
-        }
+        let Some((id, entry)) = self.objects.pop() else {
+            return;
+        };
+        self.names.remove(&id);
+        pool.release(entry.slot);
     }
 }

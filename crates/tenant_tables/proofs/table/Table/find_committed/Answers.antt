@@ -1,8 +1,6 @@
-use Rattle.std.proofs.Common.{◌≡◌, ℕ, ◌<◌, ◌≤◌, Bool, true, false, cond, nat_lt, Option, None, Some, length, sym, ap, ◌∙◌, subst, refl, arith}
-use Rattle.std.specs.Option.{option_map}
+use Rattle.std.proofs.Common.{◌≡◌, true, false, nat_lt, sym, ◌∙◌, refl, arith}
 use Rattle.std.specs.Str.{bytes_eq}
-use Rattle.tenant_tables.specs.View.{View, Entries, entry_named}
-use Rattle.tenant_tables.specs.declared.entry.Entry.{Entry}
+use Rattle.tenant_tables.specs.View.{entry_named}
 use Rattle.std.proofs.lemmas.Bool.Decides.{nat_tests}
 use Rattle.tenant_tables.proofs.EntryLemmas.{lookup-take-found, lookup-take-none, none-from_lookup}
 use Rattle.tenant_tables.proofs.table.Table.find_committed.Goals as goal

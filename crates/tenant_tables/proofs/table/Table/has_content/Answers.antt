@@ -1,7 +1,4 @@
-use Rattle.std.proofs.Common.{◌≡◌, Some, Bool, ◌&&◌, refl, sym, ap, ◌∙◌}
-use Rattle.std.specs.Str.{bytes_eq}
-use Rattle.git_model.specs.Content.{same_content}
-use Rattle.git_model.specs.Content.{content_from}
+use Rattle.std.proofs.Common.{refl}
 use Rattle.tenant_tables.proofs.AddLemmas.{found_none, found_some, found_live, same_kind}
 use Rattle.tenant_tables.proofs.table.Table.has_content.Goals as goal
 

@@ -1,4 +1,4 @@
-use Rattle.std.proofs.Common.{◌≡◌, ℕ, ◌<◌, ◌≤◌, length, sym, refl, ◌∙◌, arith}
+use Rattle.std.proofs.Common.{sym}
 use Rattle.tenant_tables.proofs.AddLemmas.{fault-long, fault-found, fault-full, fault-clash, fault-none, no_object, no_entry, found_adds, pushed}
 use Rattle.tenant_tables.proofs.TableLemmas.{length-objects}
 use Rattle.tenant_tables.proofs.table.Table.store.Goals as goal

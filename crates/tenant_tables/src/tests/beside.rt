@@ -1,0 +1,100 @@
+//! A table and a plain table, each over a pool of its own, that are taken through the same steps.
+
+use crate::{Fault, PlainTable, Sight, Table};
+use content_pool::Pool;
+use git_objects::{Kind, Name, Naming};
+use std::alloc::Global;
+use std::marker::Model;
+
+/// The two, which nobody else shares a pool with.
+#[derive(Drop)]
+pub struct Beside<N: Naming> {
+    pool: Pool<N>,
+    table: Table,
+    plain_pool: Pool<N>,
+    plain: PlainTable,
+}
+
+impl<N: Naming> Model for Beside<N> {
+    ghost use Rattle.std.specs.Prelude.{ℕ, []};
+    ghost use Rattle.tenant_tables.specs.StandsIn.{Share};
+
+    ghost Value = { ℕ };
+
+    ghost view = { λ two. 0 };
+
+    ghost invariant = { λ two. Share N.digest_of two.pool two.table.entries []
+        × Share N.digest_of two.plain_pool two.plain.entries [] };
+}
+
+impl<N: Naming> Beside<N> {
+    pub fn new(alloc: Global, naming: N, again: N) -> Beside<N> {
+        Beside {
+            pool: Pool::new(alloc, naming),
+            table: Table::new(alloc),
+            plain_pool: Pool::new(alloc, again),
+            plain: PlainTable::new(alloc),
+        }
+    }
+
+    pub fn add(&mut self, bytes: &[u8]) -> (Result<Name, Fault>, Result<Name, Fault>) {
+        let answer = self.table.add(&mut self.pool, Kind::Blob, bytes);
+        (
+            answer,
+            self.plain.add(&mut self.plain_pool, Kind::Blob, bytes),
+        )
+    }
+
+    pub fn commit(&mut self) {
+        self.table.commit();
+        self.plain.commit();
+    }
+
+    pub fn roll_back(&mut self) {
+        self.table.roll_back(&mut self.pool);
+        self.plain.roll_back(&mut self.plain_pool);
+    }
+
+    pub fn len(&self) -> usize {
+        self.table.len()
+    }
+
+    /// Whether both have the same objects at the same places, and their pools the same contents.
+    pub fn are_alike(&self) -> bool {
+        for place in 0..self.table.len() {
+            if !self.are_alike_at(place) {
+                return false;
+            }
+        }
+        self.table.len() == self.plain.len()
+            && self.table.committed_len() == self.plain.committed_len()
+            && self.pool.stored() == self.plain_pool.stored()
+    }
+
+    fn are_alike_at(&self, place: usize) -> bool {
+        let Some((id, slot)) = self.table.at(place) else {
+            return false;
+        };
+        let found = self.find_alike(&id);
+        found && self.plain.at(place) == Some((id, slot))
+    }
+
+    /// Whether both find the same under this name, and under each of its abbreviations in both
+    /// sights.
+    pub fn find_alike(&self, id: &Name) -> bool {
+        let digits = id.to_hex();
+        for end in 0..=40usize {
+            let few = &digits[..end];
+            if self.table.starting_with(few, Sight::All)
+                != self.plain.starting_with(few, Sight::All)
+                || self.table.starting_with(few, Sight::Committed)
+                    != self.plain.starting_with(few, Sight::Committed)
+            {
+                return false;
+            }
+        }
+        self.table.find(id) == self.plain.find(id)
+            && self.table.find_committed(id) == self.plain.find_committed(id)
+            && self.table.place(id) == self.plain.place(id)
+    }
+}
