@@ -1,9 +1,10 @@
 //! The components of a path that are still to come, lent from the path.
 
-ghost use Rattle.std.specs.Prelude.{◌≡◌, ◌≢◌, ◌<◌, ◌∷◌, ℕ, length, All, slice_index, IfSome, IfNone};
+ghost use Rattle.std.specs.Prelude.{◌≡◌, ◌≢◌, ◌<◌, [], ◌∷◌, ℕ, length, All, slice_index, IfSome, IfNone, MatchOption};
 ghost use Rattle.std.specs.Iterator.{YieldsFirstRef, item_count};
 ghost use Rattle.git_paths.specs.Paths.{IsPath, joined, components_of, is_slash};
 
+use crate::judging::count_components;
 use std::marker::Model;
 
 /// The components of a path that are still to come, from the root's side.
@@ -52,6 +53,24 @@ impl<'a> Components<'a> {
         ensures path { IsPath self.now }
     {
         self.bytes
+    }
+
+    /// How many components these are.
+    pub fn len(&self) -> usize
+        ensures { result ≡ length self.now }
+    {
+        count_components(self.bytes)
+    }
+
+    /// The first of these components and what is left behind it; `None` where none is left.
+    pub fn split_first(&self) -> Option<(&'a [u8], Components<'a>)>
+        ensures { MatchOption result (self.now ≡ []) (λ r. self.now ≡ r.0.now ∷ r.1) }
+    {
+        if self.bytes.is_empty() {
+            return None;
+        }
+        let (first, others) = first_of(self.bytes);
+        Some((first, Components::of(others)))
     }
 
     pub(crate) fn of(bytes: &'a [u8]) -> Components<'a>

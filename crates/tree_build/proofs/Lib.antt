@@ -1,0 +1,16 @@
+pub mod Lists
+pub mod Apart
+pub mod Puts
+pub mod Maps
+pub mod Empty
+pub mod Edited
+pub mod Groups
+pub mod Nested
+pub mod Rising
+pub mod Fits
+pub mod Written
+pub mod Sums
+pub mod Kept
+pub mod Stored
+pub mod Turns
+pub mod Cutting

@@ -1,0 +1,25 @@
+use Rattle.std.proofs.Common.{◌≡◌, ◌+◌, ◌-◌, ◌*◌, map, take, None}
+use Rattle.std.specs.List.{AllByRecursion, flat_map}
+use Rattle.git_model.specs.ObjectName.{IsObjectName}
+use Rattle.git_objects.specs.Parts.{entries_of}
+use Rattle.tenant_tables.specs.Objects.{objects}
+use Rattle.tree_build.specs.Below.{groups_of, group_trees}
+use Rattle.tree_build.specs.Storable.{IsKnownGroup}
+use Rattle.tree_build.specs.Storing.{AddsTrees, trees_fault}
+use Rattle.tree_build.proofs.Nested.{direct_of}
+use Rattle.tree_build.proofs.storing.+storing.Given as goal
+
+abbrev pub decreases-store_group : goal.decreases-store_group
+decreases-store_group g l = 2 * l.deep + 1
+
+abbrev pub decreases-store_trees : goal.decreases-store_trees
+decreases-store_trees g l = 2 * l.deep
+
+abbrev pub invariant-store_trees-loop-group : goal.invariant-store_trees-loop-group
+invariant-store_trees-loop-group g l = record {
+  entries : entries_of l.entries.items ≡ map (direct_of g.N.Naming.digest_of (l.deep - 1)) (groups_of (take l.group-index l.group-items));
+  ids : AllByRecursion (λ e. IsObjectName e.id) (entries_of l.entries.items);
+  adds : AddsTrees g.N.Naming.digest_of l.fn.pool l.fn.table l.pool l.table (flat_map (group_trees g.N.Naming.digest_of (l.deep - 1)) (groups_of (take l.group-index l.group-items)));
+  unrefused : trees_fault g.N.Naming.digest_of (flat_map (group_trees g.N.Naming.digest_of (l.deep - 1)) (groups_of (take l.group-index l.group-items))) (objects l.fn.pool l.fn.table.entries) ≡ None;
+  known : AllByRecursion (IsKnownGroup g.N.Naming.digest_of (l.deep - 1) l.table.entries) (groups_of (take l.group-index l.group-items));
+}

@@ -1,0 +1,6 @@
+use Rattle.tree_build.proofs.Turns.{room-none, stands-none}
+use Rattle.tree_build.proofs.tests.branch.Branch.new.Goals as goal
+
+pub invariant_of-result : goal.invariant_of-result
+invariant_of-result g c =
+    (stands-none g.N.Naming.digest_of _ _ c.new-3.ensures.entries, room-none _ _ c.new-2.ensures)

@@ -1,0 +1,10 @@
+-- In reading order.
+pub mod Faults
+pub mod FileMap
+pub mod Edits
+pub mod Kept
+pub mod Calls
+pub mod Trees
+pub mod Below
+pub mod Storing
+pub mod Storable

@@ -1,0 +1,253 @@
+//! The files of a branch: a file map under edits.
+//!
+//! A value has at most 1,048,576 files, each below the root, and no file's path is a prefix of
+//! another's; so a directory is there exactly where a file is below it. Entries name objects by their
+//! object names and never by where they lie: no later object of a table changes a value.
+//!
+//! After `put` at `a/b` and at `a`, the one file is `a`.
+
+ghost use Rattle.std.specs.Prelude.{◌≡◌, ◌≢◌, List, [], ◌∷◌, None, Some, IfOk};
+ghost use Rattle.std.specs.FinMap as map;
+ghost use Rattle.git_model.specs.declared.file_mode.FileMode.TheVariants as mode;
+ghost use Rattle.std.specs.List.{AllByRecursion};
+ghost use Rattle.std.specs.Option.{option_copied};
+ghost use Rattle.tree_build.specs.FileMap.{ArePairwiseApart};
+ghost use Rattle.tree_build.specs.Edits.{files_at, moved, with_files, put_at, copied, renamed, without, put_fault, move_fault};
+ghost use Rattle.tree_build.specs.Kept.{stays, IsBelow};
+ghost use Rattle.tree_build.specs.Calls.{Edits};
+ghost use Rattle.tree_build.specs.Trees.{entry_at, nested_trees, tree_id};
+ghost use Rattle.tree_build.specs.Storing.{StoresTrees, HasRoomBeside};
+ghost use Rattle.tenant_tables.specs.StandsIn.{StandsIn, LeavesOthers};
+
+use crate::below::{depth_of, file_of, files_at, is_nowhere};
+use crate::check::{are_none, has_components, has_twenty_bytes, refusal_beside};
+use crate::entry::Entry;
+use crate::fault::Fault;
+use crate::map::{Entries, count_staying, drop_below, insert_all, moved, one_file, retain_staying};
+use crate::naming::tree_id;
+use crate::storing::store_trees;
+use content_pool::Pool;
+use git_objects::{FileMode, Memory, Name, Naming};
+use git_paths::Path;
+use std::alloc::Global;
+use std::collections::BTreeMap;
+use std::marker::Model;
+use std::mem;
+use tenant_tables::Table;
+
+/// The files of a branch under their paths.
+#[derive(Drop)]
+pub struct Files {
+    alloc: Global,
+    files: Entries,
+}
+
+impl Model for Files {
+    ghost use Rattle.std.specs.FinMap.{from_sorted};
+    ghost use Rattle.tree_build.specs.FileMap.{FileMap, file_map_code, AreFiles};
+
+    ghost Value = { FileMap };
+
+    ghost coded = { file_map_code };
+
+    ghost view = { λ f. from_sorted f.files.entries };
+
+    ghost invariant = { λ f. AreFiles f.files.entries };
+}
+
+impl Files {
+    /// No files. Takes no memory; what they hold later comes from `alloc`.
+    pub fn new(alloc: Global) -> Files
+        ensures { result ≡ map.empty }
+    {
+        Files {
+            alloc,
+            files: BTreeMap::new(alloc),
+        }
+    }
+
+    /// Takes out all files. Takes no memory.
+    pub fn clear(&mut self)
+        ensures { self.new ≡ map.empty }
+    {
+        self.files.clear();
+    }
+
+    /// Takes out the files at or below a path; at the root, all. Where there is none, nothing changes:
+    /// git-fast-import(1), "filedelete".
+    ///
+    /// Answers want of memory, 90, alone; the value may then only be cleared or dropped.
+    pub fn drop_path<N: Naming>(
+        &mut self,
+        _pool: &Pool<N>,
+        _table: &Table,
+        path: &Path,
+    ) -> Result<(), Fault>
+        ensures { Edits result self.old self.new None (without self.old path.now) }
+    {
+        drop_below(&mut self.files, path);
+        Ok(())
+    }
+
+    /// Puts a file at a path, in place of what stands there, below it, or on a prefix of it:
+    /// git-fast-import(1), "filemodify".
+    ///
+    /// The entry is no directory. `Fault::RootNotDirectory` (20) at the root; else `Fault::Limit` (25) where
+    /// the path has more than 16,383 bytes or 256 components, or there would be more than 1,048,576
+    /// files. Nothing has changed after these. Takes memory for the path; after `Fault::Memory` (90)
+    /// the value may only be cleared or dropped.
+    pub fn put<N: Naming>(
+        &mut self,
+        _pool: &Pool<N>,
+        _table: &Table,
+        path: &Path,
+        entry: Entry,
+    ) -> Result<(), Fault>
+        requires file { entry.mode ≢ mode.Directory }
+        ensures { let after = put_at self.old path.now entry in
+            Edits result self.old self.new
+            (put_fault (moved path.now (([], entry) ∷ [])) after) after }
+    {
+        has_twenty_bytes(&entry.name);
+        has_components(path);
+        let files = one_file(self.alloc, path, entry)?;
+        self.replace(None, path, files)
+    }
+
+    /// Puts the files at or below one path at another, in place of what stands there, below it, or on
+    /// a prefix of it: git-fast-import(1), "filecopy".
+    ///
+    /// The source is read first. `Fault::SourceMissing` (18) where it has no file;
+    /// `Fault::RootNotDirectory` (20) where a file would stand at the root; else `Fault::Limit` (25)
+    /// where a path would be too long, or there would be too many files, as in `put`. Nothing has
+    /// changed after these. Takes memory for the new paths; after `Fault::Memory` (90) the value may only
+    /// be cleared or dropped.
+    pub fn copy<N: Naming>(
+        &mut self,
+        _pool: &Pool<N>,
+        _table: &Table,
+        from: &Path,
+        to: &Path,
+    ) -> Result<(), Fault>
+        ensures { let after = copied self.old from.now to.now in
+            Edits result self.old self.new
+            (move_fault (moved to.now (files_at self.old from.now)) after) after }
+    {
+        has_components(to);
+        let files = moved(self.alloc, &self.files, from, to)?;
+        if are_none(&files) {
+            return Err(Fault::SourceMissing);
+        }
+        self.replace(None, to, files)
+    }
+
+    /// As `copy`, and the files no longer stand at the source: git-fast-import(1), "filerename".
+    pub fn rename<N: Naming>(
+        &mut self,
+        _pool: &Pool<N>,
+        _table: &Table,
+        from: &Path,
+        to: &Path,
+    ) -> Result<(), Fault>
+        ensures { let after = renamed self.old from.now to.now in
+            Edits result self.old self.new
+            (move_fault (moved to.now (files_at self.old from.now)) after) after }
+    {
+        has_components(to);
+        let files = moved(self.alloc, &self.files, from, to)?;
+        if are_none(&files) {
+            return Err(Fault::SourceMissing);
+        }
+        self.replace(Some(from), to, files)
+    }
+
+    /// What stands at a path: a file, a directory with the name of its tree, or nothing. The root is
+    /// always a directory.
+    ///
+    /// The trees are named and not stored. Takes memory for their contents; `Memory` (90) is the only
+    /// refusal.
+    pub fn entry<N: Naming>(
+        &self,
+        pool: &Pool<N>,
+        _table: &Table,
+        path: &Path,
+    ) -> Result<Option<Entry>, Memory>
+        ensures { IfOk result (λ o. o ≡ entry_at N.digest_of self.now path.now) }
+    {
+        let files = files_at(self.alloc, &self.files, path)?;
+        match file_of(&files) {
+            Some(file) => Ok(Some(file)),
+            None => {
+                if is_nowhere(path, &files) {
+                    return Ok(None);
+                }
+                let name = tree_id(self.alloc, pool, depth_of(&files), &files)?;
+                let mode = FileMode::Directory;
+                Ok(Some(Entry { mode, name }))
+            }
+        }
+    }
+
+    /// Stores the trees of the files at or below a path, children first and in the order of their
+    /// entries, the tree at the path itself last, and answers its name: git-write-tree(1).
+    ///
+    /// Where no file is below the path, or one stands at it, that is the empty tree. A tree that the table
+    /// has is found and not added again.
+    /// `Fault::Limit` (25) where a tree's contents are too long or the table is full, else
+    /// `Fault::NameCollision` (24) where the table has another object of a tree's name, in the order of
+    /// storing; `Fault::Memory` (90) where a growth was refused. The trees before the refused one then
+    /// stand behind the committed prefix, and nothing else has changed. The files are unchanged in any
+    /// case.
+    ///
+    /// The pool is the one that the table stands in, and nobody else holds a content 2^64 - 2 times.
+    pub fn store<N: Naming>(
+        &mut self,
+        pool: &mut Pool<N>,
+        table: &mut Table,
+        at: &Path,
+    ) -> Result<Name, Fault>
+        requires stands { StandsIn N.digest_of pool.old table.old.entries }
+        requires room { HasRoomBeside pool.old table.old.entries }
+        ensures stores { StoresTrees result N.digest_of pool.old table.old pool.new table.new
+            (nested_trees N.digest_of (files_at self.old at.now))
+            (tree_id N.digest_of (files_at self.old at.now)) }
+        ensures stands { StandsIn N.digest_of pool.new table.new.entries }
+        ensures room { HasRoomBeside pool.new table.new.entries }
+        ensures others { LeavesOthers pool.old table.old.entries pool.new table.new.entries }
+        ensures files { self.new ≡ self.old }
+    {
+        let files = match files_at(self.alloc, &self.files, at) {
+            Ok(files) => files,
+            Err(_) => return Err(Fault::Memory),
+        };
+        match file_of(&files) {
+            Some(_) => store_trees(self.alloc, pool, table, 0, &[]),
+            None => store_trees(self.alloc, pool, table, depth_of(&files), &files),
+        }
+    }
+
+    // Puts files at or below a path in place of what does not stay. All that is refused is refused
+    // before the first change.
+    fn replace(
+        &mut self,
+        from: Option<&Path>,
+        to: &Path,
+        files: Vec<(Path, Entry)>,
+    ) -> Result<(), Fault>
+        requires below { AllByRecursion (IsBelow to.now) files.items }
+        requires apart { ArePairwiseApart files.items }
+        ensures { let after = with_files (map.retain_keys self.old (stays (option_copied from.entry) to.now)) files.items in
+            Edits result self.old self.new (put_fault files.items after) after }
+    {
+        let staying = count_staying(&self.files, from, to);
+        match refusal_beside(staying, &files) {
+            Some(refusal) => return Err(refusal),
+            None => {}
+        }
+        let mut map = mem::replace(&mut self.files, BTreeMap::new(self.alloc));
+        retain_staying(&mut map, from, to);
+        insert_all(&mut map, files)?;
+        self.files = map;
+        Ok(())
+    }
+}

@@ -1,0 +1,20 @@
+//! The files of a branch: which file stands at each path, and the trees that they make.
+#![tactic(auto)]
+
+mod below;
+mod check;
+mod entry;
+mod fault;
+mod files;
+mod map;
+mod naming;
+mod storing;
+
+pub use entry::Entry;
+pub use fault::Fault;
+pub use files::Files;
+
+#[cfg(test)]
+mod made_by_git;
+#[cfg(test)]
+mod tests;

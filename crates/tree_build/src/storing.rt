@@ -1,0 +1,143 @@
+//! Storing the trees that files make, children first.
+
+ghost use Rattle.std.specs.Prelude.{◌≡◌, ◌≤◌, [], ◌∷◌, Some, OnOk};
+ghost use Rattle.git_objects.specs.Parts.{entries_of};
+ghost use Rattle.git_model.specs.ObjectName.{IsObjectName};
+ghost use Rattle.git_model.specs.Tree.{tree_contents};
+ghost use Rattle.tenant_tables.specs.StandsIn.{StandsIn};
+ghost use Rattle.tenant_tables.specs.Trees.{FitsTree};
+ghost use Rattle.tenant_tables.specs.View.{summary_of};
+ghost use Rattle.tree_build.specs.Trees.{entries_within, trees_within, tree_name, depth_of, file_of};
+ghost use Rattle.tree_build.specs.Below.{files_below, group_of, id_of, group_trees};
+ghost use Rattle.tree_build.specs.Storing.{StoresTrees, HasRoomBeside, as_fault};
+ghost use Rattle.tree_build.specs.Storable.{files_summary, longest_of, AreStorable, IsStorableGroup, IsKnownGroup};
+
+use crate::below::{Below, Group, file_of, grouped};
+use crate::check::has_twenty_bytes;
+use crate::fault::Fault;
+use crate::naming::{contents_of, entry_by};
+use content_pool::Pool;
+use git_objects::{Name, Naming, TreeEntry};
+use std::alloc::Global;
+use tenant_tables::{Fault as TableFault, Summary, Table};
+
+fn as_fault(refusal: TableFault) -> Fault
+    ensures { result ≡ as_fault refusal }
+{
+    match refusal {
+        TableFault::Limit => Fault::Limit,
+        TableFault::NameCollision => Fault::NameCollision,
+        TableFault::Memory => Fault::Memory,
+    }
+}
+
+// The most components of a path, and the most bytes.
+fn extent_of(files: &[Below<'_>]) -> (usize, usize)
+    ensures depth { result.0 ≡ depth_of (files_below files.now) }
+    ensures longest { result.1 ≡ longest_of (files_below files.now) }
+{
+    let mut depth = 0;
+    let mut longest = 0;
+    for file in files {
+        depth = depth.max(file.path.len());
+        longest = longest.max(file.path.as_bytes().len());
+    }
+    (depth, longest)
+}
+
+/// The summary of the tree of these files.
+fn summary_of(files: &[Below<'_>]) -> Summary
+    requires { AreStorable (files_below files.now) }
+    ensures { result ≡ files_summary (files_below files.now) }
+{
+    let (depth, longest) = extent_of(files);
+    Summary {
+        files: files.len() as u32,
+        depth: depth as u32,
+        longest: longest as u32,
+    }
+}
+
+// Adds the tree with these entries.
+fn add_entries<N: Naming>(
+    alloc: Global,
+    pool: &mut Pool<N>,
+    table: &mut Table,
+    entries: &[TreeEntry<'_>],
+    summary: Summary,
+) -> Result<Name, Fault>
+    requires stands { StandsIn N.digest_of pool.old table.old.entries }
+    requires room { HasRoomBeside pool.old table.old.entries }
+    requires fits { FitsTree table.old.entries (tree_contents (entries_of entries.now)) summary }
+    ensures stores { StoresTrees result N.digest_of pool.old table.old pool.new table.new
+        (entries_of entries.now ∷ []) (tree_name N.digest_of (entries_of entries.now)) }
+    ensures known { OnOk result (summary_of (tree_name N.digest_of (entries_of entries.now)) table.new.entries
+        ≡ Some summary) }
+{
+    let contents = contents_of(alloc, entries)?;
+    match table.add_tree(pool, &contents, summary) {
+        Ok(id) => Ok(id),
+        Err(refusal) => Err(as_fault(refusal)),
+    }
+}
+
+/// Stores the trees of files whose paths have at most `deep` components, and answers the name of the
+/// last one, which is the tree of all.
+#[cycle(storing)]
+pub(crate) fn store_trees<N: Naming>(
+    alloc: Global,
+    pool: &mut Pool<N>,
+    table: &mut Table,
+    deep: usize,
+    files: &[Below<'_>],
+) -> Result<Name, Fault>
+    requires deep { depth_of (files_below files.now) ≤ deep }
+    requires files { AreStorable (files_below files.now) }
+    requires stands { StandsIn N.digest_of pool.old table.old.entries }
+    requires room { HasRoomBeside pool.old table.old.entries }
+    ensures stores { StoresTrees result N.digest_of pool.old table.old pool.new table.new
+        (trees_within N.digest_of deep (files_below files.now))
+        (tree_name N.digest_of (entries_within N.digest_of deep (files_below files.now))) }
+    ensures known { OnOk result (summary_of
+        (tree_name N.digest_of (entries_within N.digest_of deep (files_below files.now))) table.new.entries
+        ≡ Some (files_summary (files_below files.now))) }
+{
+    let groups = match grouped(alloc, files) {
+        Ok(groups) => groups,
+        Err(_) => return Err(Fault::Memory),
+    };
+    let mut entries = Vec::new(alloc);
+    for group in &groups {
+        let id = match store_group(alloc, pool, table, deep - 1, group) {
+            Ok(id) => id,
+            Err(refusal) => return Err(refusal),
+        };
+        has_twenty_bytes(&id);
+        if entries.push(entry_by(group, id)).is_err() {
+            return Err(Fault::Memory);
+        }
+    }
+    add_entries(alloc, pool, table, &entries, summary_of(files))
+}
+
+// Stores the trees of a group, and answers the name of its object.
+#[cycle(storing)]
+fn store_group<N: Naming>(
+    alloc: Global,
+    pool: &mut Pool<N>,
+    table: &mut Table,
+    deep: usize,
+    group: &Group<'_>,
+) -> Result<Name, Fault>
+    requires group { IsStorableGroup deep (group_of group.now) }
+    requires stands { StandsIn N.digest_of pool.old table.old.entries }
+    requires room { HasRoomBeside pool.old table.old.entries }
+    ensures stores { StoresTrees result N.digest_of pool.old table.old pool.new table.new
+        (group_trees N.digest_of deep (group_of group.now)) (id_of N.digest_of deep (group_of group.now)) }
+    ensures known { OnOk result (IsKnownGroup N.digest_of deep table.new.entries (group_of group.now)) }
+{
+    match file_of(&group.below) {
+        Some(file) => Ok(file.name),
+        None => store_trees(alloc, pool, table, deep, &group.below),
+    }
+}

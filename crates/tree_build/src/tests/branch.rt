@@ -1,0 +1,145 @@
+//! A branch over a pool and a table, for tests.
+
+ghost use Rattle.std.specs.Prelude.{◌≢◌};
+ghost use Rattle.git_model.specs.declared.file_mode.FileMode.TheVariants as mode;
+
+use crate::{Entry, Fault, Files};
+use content_pool::Pool;
+use git_objects::{FileMode, Name, Naming};
+use git_paths::{Path, Place};
+use std::alloc::Global;
+use std::marker::Model;
+use std::test::Fail;
+use tenant_tables::Table;
+
+/// The files of a branch, and where their trees would lie.
+#[derive(Drop)]
+pub struct Branch<N: Naming> {
+    alloc: Global,
+    files: Files,
+    pool: Pool<N>,
+    table: Table,
+}
+
+fn code_of(answer: Result<(), Fault>) -> u16 {
+    match answer {
+        Ok(()) => 0,
+        Err(fault) => fault.code(),
+    }
+}
+
+fn mode_of(digits: &[u8]) -> FileMode
+    ensures { result ≢ mode.Directory }
+{
+    match digits {
+        b"100755" => FileMode::Executable,
+        _ => FileMode::Regular,
+    }
+}
+
+impl<N: Naming> Model for Branch<N> {
+    ghost use Rattle.std.specs.Prelude.{ℕ};
+    ghost use Rattle.tenant_tables.specs.StandsIn.{StandsIn};
+    ghost use Rattle.tree_build.specs.Storing.{HasRoomBeside};
+
+    ghost Value = { ℕ };
+
+    ghost view = { λ branch. 0 };
+
+    ghost invariant = { λ branch. StandsIn N.digest_of branch.pool branch.table.entries
+        × HasRoomBeside branch.pool branch.table.entries };
+}
+
+impl<N: Naming> Branch<N> {
+    pub fn new(alloc: Global, naming: N) -> Branch<N> {
+        Branch {
+            alloc,
+            files: Files::new(alloc),
+            pool: Pool::new(alloc, naming),
+            table: Table::new(alloc),
+        }
+    }
+
+    fn path(&self, text: &[u8]) -> Result<Path, Fail> {
+        let (path, _) = Path::read(self.alloc, text, Place::Last)?;
+        Ok(path)
+    }
+
+    pub fn put(&mut self, path: &[u8], digits: &[u8; 40]) -> Result<u16, Fail> {
+        let path = self.path(path)?;
+        let name = Name::from_hex(digits).ok_or("no name")?;
+        let mode = FileMode::Regular;
+        let entry = Entry { mode, name };
+        Ok(code_of(self.files.put(&self.pool, &self.table, &path, entry)))
+    }
+
+    pub fn put_long(&mut self, bytes: &[u8], digits: &[u8; 40]) -> Result<u16, Fail> {
+        let path = Path::from_canonical(self.alloc, bytes)?.ok_or("no path")?;
+        let name = Name::from_hex(digits).ok_or("no name")?;
+        let mode = FileMode::Regular;
+        let entry = Entry { mode, name };
+        Ok(code_of(self.files.put(&self.pool, &self.table, &path, entry)))
+    }
+
+    pub fn put_line(&mut self, line: &[u8]) -> Result<(), Fail> {
+        let (digits, rest) = line.split_at_checked(6).ok_or("no mode")?;
+        let (name, path) = rest.split_at_checked(42).ok_or("no blob")?;
+        let name = Name::from_hex(&name[1..41]).ok_or("no name")?;
+        let path = self.path(path)?;
+        let mode = mode_of(digits);
+        let entry = Entry { mode, name };
+        self.files.put(&self.pool, &self.table, &path, entry)?;
+        Ok(())
+    }
+
+    pub fn drop_path(&mut self, path: &[u8]) -> Result<(), Fail> {
+        let path = self.path(path)?;
+        self.files.drop_path(&self.pool, &self.table, &path)?;
+        Ok(())
+    }
+
+    pub fn copy(&mut self, from: &[u8], to: &[u8]) -> Result<u16, Fail> {
+        let from = self.path(from)?;
+        let to = self.path(to)?;
+        Ok(code_of(self.files.copy(&self.pool, &self.table, &from, &to)))
+    }
+
+    pub fn rename(&mut self, from: &[u8], to: &[u8]) -> Result<u16, Fail> {
+        let from = self.path(from)?;
+        let to = self.path(to)?;
+        Ok(code_of(self.files.rename(&self.pool, &self.table, &from, &to)))
+    }
+
+    pub fn clear(&mut self) {
+        self.files.clear();
+    }
+
+    pub fn mode_at(&self, path: &[u8]) -> Result<Option<FileMode>, Fail> {
+        let path = self.path(path)?;
+        let entry = self.files.entry(&self.pool, &self.table, &path)?;
+        Ok(entry.map(|entry| entry.mode))
+    }
+
+    pub fn tree_at(&self, path: &[u8]) -> Result<[u8; 40], Fail> {
+        let path = self.path(path)?;
+        let entry = self.files.entry(&self.pool, &self.table, &path)?;
+        Ok(entry.ok_or("nothing there")?.name.to_hex())
+    }
+
+    pub fn printed(&self, path: &[u8]) -> Result<Vec<u8>, Fail> {
+        let path = self.path(path)?;
+        let mut out = Vec::new(self.alloc);
+        path.quote_into(&mut out)?;
+        Ok(out)
+    }
+
+    pub fn store(&mut self) -> Result<[u8; 40], Fail> {
+        let root = Path::root(self.alloc);
+        let name = self.files.store(&mut self.pool, &mut self.table, &root)?;
+        Ok(name.to_hex())
+    }
+
+    pub fn stored(&self) -> usize {
+        self.table.len()
+    }
+}
