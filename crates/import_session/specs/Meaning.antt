@@ -12,6 +12,7 @@ use Rattle.tenant_tables.specs.declared.fault.Fault.TheVariants as table_fault
 use Rattle.tenant_tables.specs.Adding.{store_fault}
 use Rattle.stream_grammar.specs.declared.data_ref.DataRef.{DataRef}
 use Rattle.stream_grammar.specs.declared.data_ref.DataRef.TheVariants as data_ref
+use Rattle.stream_grammar.specs.declared.fault.Fault.TheVariants as text_fault
 use Rattle.stream_grammar.specs.Acts.{Act, Wait, StoreBlob, ShowMark, ShowObject, Progress, Finish}
 use Rattle.import_session.specs.declared.fault.Fault.{Fault}
 use Rattle.import_session.specs.declared.fault.Fault.TheVariants as fault
@@ -120,3 +121,5 @@ after_act digest (ShowObject object) workspace =
     and_then (referred_name workspace.marks object) (λ id. blob_shown workspace id)
 after_act digest (Progress line) workspace = prints workspace line
 after_act digest Finish workspace = Ok (record { workspace = checkpointed workspace; reply = [] })
+-- Every other act has no meaning here yet: its command is refused as unknown.
+after_act digest _ workspace = Err (fault.Text text_fault.UnknownCommand)

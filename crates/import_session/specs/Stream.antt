@@ -74,12 +74,17 @@ abbrev pub refused : ℕ → Workspace → Outcome
 refused code workspace =
     record { replies = []; standing = Refused code (last_checkpoint workspace) }
 
--- A fault of the bytes refuses the stream, but not behind `done`.
-abbrev pub at_tail : Running → Tail → Outcome
-at_tail now (Rest skips bytes) = record { replies = []; standing = Runs now (Rest skips bytes) }
-at_tail now (Failed fault) =
-    if now.is_done then record { replies = []; standing = Runs now (Failed fault) }
-    else refused (item_code fault) now.workspace
+-- A fault of the bytes refuses the stream.
+abbrev pub tail_outcome : Running → Tail → Outcome
+tail_outcome now (Rest skips bytes) =
+    record { replies = []; standing = Runs now (Rest skips bytes) }
+tail_outcome now (Failed fault) = refused (item_code fault) now.workspace
+
+-- Behind `done` no bytes are looked at, and none are kept.
+unfoldable pub at_tail : Running → Tail → Outcome
+at_tail now tail =
+    if now.is_done then record { replies = []; standing = Runs now (Rest false []) }
+    else tail_outcome now tail
 
 abbrev pub going_on : Running → Result Step Fault → (Running → Outcome) → Outcome
 going_on now (Ok step) later = after_reply step.reply (later step.running)

@@ -114,5 +114,8 @@ pub fn carry_out<N: Naming>(
             table.commit();
             Ok(())
         }
+        // Commits, tags, resets, aliases, checkpoints, features, options and `ls` have no meaning
+        // here yet: their commands are refused as unknown.
+        _ => Err(Fault::Text(stream_grammar::Fault::UnknownCommand)),
     }
 }

@@ -3,7 +3,8 @@
 //! The table, the refs and the pool are lent at each call; the objects behind the table's committed
 //! prefix are the stream's own, until a checkpoint.
 
-ghost use Rattle.std.specs.Prelude.{◌≡◌, [], OnErr};
+ghost use Rattle.std.specs.Prelude.{◌≡◌, ◌≢◌, [], OnErr};
+ghost use Rattle.stream_grammar.specs.declared.fault.Fault.TheVariants as text_fault;
 ghost use Rattle.content_pool.specs.Pool.{HasRoom};
 ghost use Rattle.tenant_tables.specs.StandsIn.{StandsIn, LeavesOthers};
 ghost use Rattle.stream_grammar.specs.Shown.{act_shown};
@@ -50,13 +51,24 @@ fn is_finish(act: &Act<'_>) -> bool
     matches!(act, Act::Finish)
 }
 
+// The fault of an item's text; out of memory is out of memory here too.
+fn fault_of(fault: stream_grammar::Fault) -> Fault
+    ensures text { result ≢ Fault.Memory → result ≡ Fault.Text fault }
+    ensures memory { fault ≡ text_fault.Memory → result ≡ Fault.Memory }
+{
+    match fault {
+        stream_grammar::Fault::Memory => Fault::Memory,
+        text => Fault::Text(text),
+    }
+}
+
 impl Session {
-    /// A stream before its first item. Takes no memory; its marks come from `alloc`.
+    /// A stream before its first item. Takes no memory; what it keeps comes from `alloc`.
     pub fn new(alloc: Global) -> Session
         ensures { result ≡ new_session }
     {
         Session {
-            parser: Parser::new(),
+            parser: Parser::new(alloc),
             marks: IndexMap::new(alloc),
             is_done: false,
         }
@@ -71,11 +83,11 @@ impl Session {
 
     /// Takes the next item, and appends what it prints to `out`: git-fast-import(1), "Commands".
     ///
-    /// The fault of the item's text (2, 3, 5, 12) comes before that of its meaning: `MarkUnknown`
-    /// (13), `WrongKind` (15), `Limit` (25) and `NameCollision` (24). `Memory` (90) may stand in
-    /// place of any answer. After a refusal `out` is unchanged, the committed objects and the refs
-    /// are those of the last checkpoint, and only `abandon` may follow. Behind `done` an item is
-    /// passed over.
+    /// The fault of the item's text (2, 3, 5, 8 to 12, 21 to 23, 25) comes before that of its
+    /// meaning: `MarkUnknown` (13), `WrongKind` (15), `Limit` (25) and `NameCollision` (24). A
+    /// command without a meaning here yet is unknown (2). `Memory` (90) may stand in place of any
+    /// answer. After a refusal `out` is unchanged, the committed objects and the refs are those of
+    /// the last checkpoint, and only `abandon` may follow. Behind `done` an item is passed over.
     #[tactic(auto, unfolding(crate::specs::Stream::step))]
     pub fn take<N: Naming>(
         &mut self,
@@ -104,7 +116,7 @@ impl Session {
         }
         let act = match self.parser.take(item) {
             Ok(done) => done.act,
-            Err(text) => return Err(Fault::Text(text)),
+            Err(fault) => return Err(fault_of(fault)),
         };
         carry_out(pool, table, &mut self.marks, &act, out)?;
         self.is_done = is_finish(&act);
@@ -125,6 +137,9 @@ impl Session {
         requires stands { StandsIn N.digest_of pool.old table.old.entries }
         ensures ended { Ends (session_end (running_in self.now pool.old table.old refs.old))
             (running_in self.now pool.new table.new refs.new).workspace result }
+        ensures checkpoint { OnErr result
+            (last_checkpoint (running_in self.now pool.new table.new refs.new).workspace
+            ≡ last_checkpoint (running_in self.now pool.old table.old refs.old).workspace) }
         ensures stands { StandsIn N.digest_of pool.new table.new.entries }
         ensures others { LeavesOthers pool.old table.old.entries pool.new table.new.entries }
         ensures refs { refs.new ≡ refs.old }

@@ -1,7 +1,7 @@
 -- Parts that are taken one by one fill the slots of their command.
 use Rattle.std.proofs.Common.{◌≡◌, refl, Bool, true, false, List, [], ◌∷◌, Some, None}
 use Rattle.stream_grammar.specs.declared.part.Part.{Part}
-use Rattle.stream_grammar.specs.Grammar.{Slot, accepts, is_free, used, fit, may_end}
+use Rattle.stream_grammar.specs.Grammar.{Slot, accepts, is_free, left_after, fit, may_end}
 use Rattle.stream_grammar.specs.Whole.{Fills, nothing_left, stays_empty, is_filled, left_by, left_behind}
 
 -- A test is true or false.
@@ -26,7 +26,7 @@ Fills-first part parts left later [] taken = let absent : None ≡ Some left = t
 Fills-first part parts left later (slot ∷ slots) taken =
     by_test (accepts slot part)
     (λ stands. is_filled slot slots part parts stands
-    (later (used slot.often slot slots) (rw stands at taken)))
+    (later (left_after part slot slots) (rw stands at taken)))
     (λ passes. let here = rw passes at taken in
     by_test (is_free slot.often)
     (λ free. stays_empty slot slots (part ∷ parts) free

@@ -1,6 +1,10 @@
 pub mod Filled
 pub mod InTurn
 pub mod Numbers
+pub mod Placed
 pub mod Printed
+pub mod Refs
+pub mod Refused
 pub mod Streams
 pub mod Taken
+pub mod Words

@@ -6,20 +6,21 @@ use Rattle.stream_grammar.specs.declared.fault.Fault.{Fault}
 use Rattle.stream_grammar.specs.declared.fault.Fault.TheVariants as fault
 use Rattle.stream_grammar.specs.declared.part.Part.{Part}
 use Rattle.stream_grammar.specs.Parts.{part_of}
-use Rattle.stream_grammar.specs.Grammar.{Slot, Fit, Stands, Ends, Misses, behind, accepts, is_free, used, fit, may_end}
-use Rattle.stream_grammar.specs.Acts.{Brought, taken, started}
+use Rattle.stream_grammar.specs.Grammar.{Slot, Fit, Stands, Ends, Misses, behind, accepts, is_free, left_after, fit, may_end}
+use Rattle.stream_grammar.specs.Acts.{Brought}
+use Rattle.stream_grammar.specs.Lines.{taken, started}
 use Rattle.stream_grammar.specs.Commands.{Open, Step, commands, step, placed, begins, gives}
 use Rattle.stream_grammar.specs.Commands.{then_given, done_of, next_of, ended, end_of, top}
 use Rattle.stream_grammar.specs.Whole.{Fills, nothing_left, stays_empty, is_filled, AreCommands, none_left, one_first}
 use Rattle.stream_grammar.proofs.Filled.{by_test, Fills-may_end}
 
 -- Some parts fill the slots that are left, and whole commands stand behind them.
-record Continues (left : List Slot) (parts : List Part) : Type 0 where
-  first : List Part
-  later : List Part
-  both : parts ≡ first ++ later
-  fills : Fills left first
-  whole : AreCommands later
+pub record Continues (left : List Slot) (parts : List Part) : Type 0 where
+  pub first : List Part
+  pub later : List Part
+  pub both : parts ≡ first ++ later
+  pub fills : Fills left first
+  pub whole : AreCommands later
 
 -- A part that stands in the slots, and parts that fill what is left of them, fill them.
 Fills-Stands : (part : Part) (slots left : List Slot) (parts : List Part)
@@ -28,8 +29,8 @@ Fills-Stands part [] left parts stands fills = let absent : Ends ≡ Stands left
 Fills-Stands part (slot ∷ slots) left parts stands fills =
     by_test (accepts slot part)
     (λ here.
-    let is : Stands (used slot.often slot slots) ≡ Stands left = rw here at stands in
-    let same : used slot.often slot slots ≡ left = cc in
+    let is : Stands (left_after part slot slots) ≡ Stands left = rw here at stands in
+    let same : left_after part slot slots ≡ left = cc in
     is_filled slot slots part parts here (rw same fills))
     (λ passes. let later = rw passes at stands in
     by_test (is_free slot.often)
@@ -42,7 +43,7 @@ may_end-Ends : (part : Part) (slots : List Slot) → fit part slots ≡ Ends →
 may_end-Ends part [] ends = refl
 may_end-Ends part (slot ∷ slots) ends =
     by_test (accepts slot part)
-    (λ here. let absent : Stands (used slot.often slot slots) ≡ Ends = rw here at ends in cc)
+    (λ here. let absent : Stands (left_after part slot slots) ≡ Ends = rw here at ends in cc)
     (λ passes. let later = rw passes at ends in
     by_test (is_free slot.often)
     (λ free. rw free (may_end-Ends part slots (rw free at later)))
@@ -53,19 +54,22 @@ abbrev left_of : Result Step Fault → List Slot → List Slot
 left_of (Ok step) left = step.next.left
 left_of (Err e) left = left
 
-left-gives : (left : List Slot) (brought : Result Brought Fault) (next : Step)
-    → gives left brought ≡ Ok next → left ≡ next.next.left
-left-gives left (Ok brought) next is = ap (λ (given : Result Step Fault). left_of given left) is
-left-gives left (Err e) next is = let absent : Err e ≡ Ok next = is in cc
+left-gives : (late ends : Bool) (left : List Slot) (brought : Result Brought Fault) (next : Step)
+    → gives late ends left brought ≡ Ok next → left ≡ next.next.left
+left-gives late ends left (Ok brought) next is =
+    ap (λ (given : Result Step Fault). left_of given left) is
+left-gives late ends left (Err e) next is = let absent : Err e ≡ Ok next = is in cc
 
 -- A step goes on with the open command, or ends it and begins the next one.
-begun : (command : Option (List Slot)) (part : Part) (item : Item) (next : Step) (parts : List Part)
-    → behind part ≡ command → begins command part item ≡ Ok next
+begun : (now : Open) (command : Option (List Slot)) (part : Part) (item : Item) (next : Step)
+    (parts : List Part)
+    → behind part ≡ command → begins now command part item ≡ Ok next
     → Continues next.next.left parts → AreCommands (part ∷ parts)
-begun None part item next parts is begins_so continues =
+begun now None part item next parts is begins_so continues =
     let absent : Err fault.UnknownCommand ≡ Ok next = begins_so in cc
-begun (Some slots) part item next parts is begins_so continues =
-    let same : slots ≡ next.next.left = left-gives slots (started part item) next begins_so in
+begun now (Some slots) part item next parts is begins_so continues =
+    let same : slots ≡ next.next.left =
+    left-gives _ _ slots (started now.late part item) next begins_so in
     rw continues.both
     (one_first part slots continues.first continues.later is (rw same continues.fills) continues.whole)
 
@@ -73,7 +77,8 @@ went : (now : Open) (part : Part) (item : Item) (place : Fit) (next : Step) (par
     → fit part now.left ≡ place → placed now part item place ≡ Ok next
     → Continues next.next.left parts → Continues now.left (part ∷ parts)
 went now part item (Stands left) next parts is placed_so continues =
-    let same : left ≡ next.next.left = left-gives left (taken now.header part item) next placed_so in
+    let same : left ≡ next.next.left =
+    left-gives _ _ left (taken now.header part item) next placed_so in
     record {
       first = part ∷ continues.first;
       later = continues.later;
@@ -87,7 +92,7 @@ went now part item Ends next parts is placed_so continues =
       later = part ∷ parts;
       both = refl;
       fills = Fills-may_end now.left (may_end-Ends part now.left is);
-      whole = begun (behind part) part item next parts refl placed_so continues;
+      whole = begun now (behind part) part item next parts refl placed_so continues;
     }
 went now part item Misses next parts is placed_so continues =
     let absent : Err fault.MissingPart ≡ Ok next = placed_so in cc
@@ -126,7 +131,7 @@ Continues-commands (item ∷ items) now ends is =
     (λ next later. Continues-commands items next ends later)
 
 -- No part fills no slots.
-Fills-nil : (parts : List Part) → Fills [] parts → parts ≡ []
+pub Fills-nil : (parts : List Part) → Fills [] parts → parts ≡ []
 Fills-nil _ nothing_left = refl
 
 pub AreCommands-stream : (items : List Item) (ends : Bool)

@@ -1,23 +1,61 @@
 -- Acts: what one item of a stream asks for, git-fast-import(1), "Commands".
-use Rattle.std.specs.Prelude.{ℕ, List, Option, Some, None, Result, Ok}
-use Rattle.stream_lex.specs.Items.{Item, Line, Data, Blank}
+use Rattle.std.specs.Prelude.{ℕ, List, Option, None, Result, Ok}
+use Rattle.git_model.specs.declared.file_mode.FileMode.{FileMode}
 use Rattle.stream_grammar.specs.declared.fault.Fault.{Fault}
 use Rattle.stream_grammar.specs.declared.data_ref.DataRef.{DataRef}
-use Rattle.stream_grammar.specs.declared.part.Part.{Part}
-use Rattle.stream_grammar.specs.declared.part.Part.TheVariants as part
+use Rattle.stream_grammar.specs.declared.feature.Feature.{Feature}
 use Rattle.stream_grammar.specs.declared.command.Opened.{Opened}
-use Rattle.stream_grammar.specs.declared.command.Opened.TheVariants as opened
-use Rattle.stream_grammar.specs.Texts.{read, argument, mark_of, dataref_of}
+use Rattle.stream_grammar.specs.Names.{CommitIsh}
+use Rattle.stream_grammar.specs.Changes.{Path}
 
--- What is asked for: nothing yet; to store a blob, perhaps under a mark; to print the name of a
--- marked object; to print a blob; to print this line; to end the stream.
+-- What is asked for.
 pub data Act : Type 0 where
+  -- nothing: the command is not whole yet, or has no effect
   Wait : Act
+  -- a blob is whole, perhaps under a mark
   StoreBlob : Option ℕ → List ℕ → Act
+  -- a commit of this branch begins; who wrote and who made it; how its message is encoded; and it
+  -- is open, with its message
+  BeginCommit : List ℕ → Act
+  Author : List ℕ → Act
+  Committer : List ℕ → Act
+  Encoding : List ℕ → Act
+  OpenCommit : Option ℕ → List ℕ → Act
+  -- what the open commit starts from, and what it merges
+  StartFrom : CommitIsh → Act
+  Merge : CommitIsh → Act
+  -- the files of the open commit change: one is put, by an object or by the data behind; one is
+  -- dropped, copied, renamed; all are dropped
+  Modify : FileMode → DataRef → Path → Act
+  ModifyInline : FileMode → Path → Act
+  PutContents : List ℕ → Act
+  Delete : Path → Act
+  Copy : Path → Path → Act
+  Rename : Path → Path → Act
+  DeleteAll : Act
+  -- an entry of the open commit is printed
+  ShowBranchEntry : Path → Act
+  -- a tag of this ref begins; what it tags, its tagger; and it is whole, with its message
+  BeginTag : List ℕ → Act
+  TagTarget : CommitIsh → Act
+  Tagger : List ℕ → Act
+  StoreTag : Option ℕ → List ℕ → Act
+  -- a branch is unborn, and then perhaps set
+  Reset : List ℕ → Act
+  ResetTo : CommitIsh → Act
+  -- an alias is whole
+  SetMark : ℕ → CommitIsh → Act
+  -- commands of one line: save; print this line, a marked object's name, a blob, an entry of a
+  -- tree; end the stream
+  Checkpoint : Act
+  Progress : List ℕ → Act
   ShowMark : ℕ → Act
   ShowObject : DataRef → Act
-  Progress : List ℕ → Act
+  ShowEntry : DataRef → Path → Act
   Finish : Act
+  -- a feature is asked for; HEAD is to name this ref
+  Require : Feature → Act
+  SetHead : List ℕ → Act
 
 -- What the open command has said: which one it is, and its mark.
 pub record Header : Type 0 where
@@ -39,37 +77,3 @@ brings header act = Ok (record { header = header; act = act })
 -- This command is open then, or none.
 abbrev pub opens : Opened → Act → Result Brought Fault
 opens opened act = brings (header_of opened) act
-
--- A line inside the open command. An original-oid has no effect.
-abbrev pub inside : Header → Part → List ℕ → Result Brought Fault
-inside header part.Mark text =
-    read (mark_of (argument text)) (λ mark. brings (record header { mark = Some mark }) Wait)
-inside header _ text = brings header Wait
-
--- Data, by the command that it stands in.
-abbrev pub given : Header → Opened → List ℕ → Result Brought Fault
-given header opened.Blob contents = opens opened.Nothing (StoreBlob header.mark contents)
-given header opened.Nothing contents = brings header Wait
-
--- An item inside the open command.
-abbrev pub taken : Header → Part → Item → Result Brought Fault
-taken header part (Line text) = inside header part text
-taken header part (Data contents) = given header header.opened contents
-taken header part Blank = brings header Wait
-
--- A line that begins a command.
-abbrev pub begun : Part → List ℕ → Result Brought Fault
-begun part.Blob text = opens opened.Blob Wait
-begun part.GetMark text =
-    read (mark_of (argument text)) (λ mark. opens opened.Nothing (ShowMark mark))
-begun part.CatBlob text =
-    read (dataref_of (argument text)) (λ object. opens opened.Nothing (ShowObject object))
-begun part.Progress text = opens opened.Nothing (Progress text)
-begun part.Done text = opens opened.Nothing Finish
-begun _ text = opens opened.Nothing Wait
-
--- An item that begins a command.
-abbrev pub started : Part → Item → Result Brought Fault
-started part (Line text) = begun part text
-started part (Data contents) = opens opened.Nothing Wait
-started part Blank = opens opened.Nothing Wait

@@ -1,9 +1,13 @@
--- In reading order. Parts, productions, a line's words, what an item asks for, and all items in
--- turn:
+-- In reading order. The words of a line, parts, productions, what words say, what an item asks for,
+-- and all items in turn:
+pub mod Texts
 pub mod Parts
 pub mod Grammar
-pub mod Texts
+pub mod Names
+pub mod Changes
+pub mod Features
 pub mod Acts
+pub mod Lines
 pub mod Commands
 pub mod Faults
 -- What the productions say, in another way:

@@ -1,7 +1,8 @@
 -- What the words of a line say: git-fast-import(1), "mark", "get-mark" and "cat-blob".
-use Rattle.std.specs.Prelude.{ℕ, ◌+◌, ◌^◌, ◌==◌, ◌&&◌, nat_lt, nat_le, Bool, if◌then◌else◌, List, [], ◌∷◌, length, drop, Option, Some, None, Result, Ok, Err}
+use Rattle.std.specs.Prelude.{ℕ, ◌+◌, ◌^◌, ◌==◌, ◌&&◌, nat_lt, nat_le, Bool, if◌then◌else◌, List, [], ◌∷◌, length, take, drop, Option, Some, None, Result, Ok, Err}
 use Rattle.std.specs.Char.{is_ascii_digit}
 use Rattle.std.specs.List.{list_all, position_from}
+use Rattle.std.specs.Option.{option_map}
 use Rattle.std.specs.Str.Parse.{digits_value}
 use Rattle.hex.specs.declared.error.FromHexError.{FromHexError}
 use Rattle.hex.specs.Hex.{decode_sized}
@@ -27,6 +28,23 @@ behind_index (Some index) text = drop (index + 1) text
 -- What stands behind the first space of a line; nothing where it has none.
 abbrev pub argument : List ℕ → List ℕ
 argument text = behind_index (position_from is_space 0 text) text
+
+-- A line's first word: what stands before its first space, or all of it.
+abbrev pub up_to_index : Option ℕ → List ℕ → List ℕ
+up_to_index None text = text
+up_to_index (Some index) text = take index text
+
+abbrev pub first_word : List ℕ → List ℕ
+first_word text = up_to_index (position_from is_space 0 text) text
+
+-- What stands behind the first space of a line, where it has one.
+abbrev pub behind_space : List ℕ → Option (List ℕ)
+behind_space text = option_map (λ index. drop (index + 1) text) (position_from is_space 0 text)
+
+-- A line without what must stand in it is malformed.
+abbrev pub required : {A : Type 0} → Option A → Result A Fault
+required None = Err fault.Malformed
+required (Some value) = Ok value
 
 -- What stands behind a colon, where a text begins with one.
 unfoldable pub behind_colon : List ℕ → Option (List ℕ)

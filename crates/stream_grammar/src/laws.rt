@@ -10,7 +10,7 @@ ghost use Rattle.stream_grammar.specs.Commands.{Commands, Parsing, behind_given,
 ghost use Rattle.stream_grammar.specs.Grammar.{Slot, behind};
 ghost use Rattle.stream_grammar.specs.Parts.{part_of};
 ghost use Rattle.stream_grammar.specs.Texts.{dataref_of, mark_of};
-ghost use Rattle.stream_grammar.specs.Whole.{AreCommands, AreTaken, Fills};
+ghost use Rattle.stream_grammar.specs.Whole.{AreCommands, ArePlaced, AreTaken, Fills, FindsPlace};
 
 use crate::data_ref::DataRef;
 
@@ -36,9 +36,14 @@ pub fn whole_commands()
         (λ slots. (parts : List Part) → Fills slots parts → AreTaken parts slots) }
 {}
 
-/// The items of a stream that ends well are the parts of whole commands, one behind the other.
+/// The items of a stream that ends well are the parts of whole commands, one behind the other. Such
+/// parts find their places, whatever open command each comes upon: so a stream of them is refused,
+/// if at all, by what its words say, and never as an unknown command (2) or a missing part (5).
 pub fn whole_streams()
-    ensures { (stream : List items.Item) (ends_commit : Bool)
+    ensures placed { (parts : List Part) → AreCommands parts → ArePlaced parts [] }
+    ensures found { (stream : List items.Item) → AreCommands (map part_of stream)
+        → FindsPlace (end_of (commands (Ok top) stream).rest) }
+    ensures filled { (stream : List items.Item) (ends_commit : Bool)
         → end_of (commands (Ok top) stream).rest ≡ Ok ends_commit
         → AreCommands (map part_of stream) }
 {}

@@ -4,22 +4,27 @@
 //! and the words of a line, and nothing of a repository: no mark or object is looked up here. A
 //! parser is the open command, with the parts that may still come, or the fault that it answered.
 //!
-//! The commands are `blob`, `get-mark`, `cat-blob`, `progress`, `done` and blank lines.
-//!
 //! ```text
-//! blob          a command opens: Act::Wait
-//! mark :1       Act::Wait
-//! data 6        Act::StoreBlob { mark: Some(1), contents: "hello\n" }
-//! get-mark :1   Act::ShowMark(1)
+//! commit refs/heads/m           Act::BeginCommit(refs/heads/m)
+//! mark :3                       Act::Wait
+//! committer A <a@b> 0 +0000     Act::Committer(A <a@b> 0 +0000)
+//! data 2                        Act::OpenCommit { mark: Some(3), message: "x\n" }
+//! M 644 :1 a/b                  Act::Modify { mode: Regular, object: Mark(1), path: a/b }
+//! get-mark :1                   the commit ends, and Act::ShowMark(1)
 //! ```
 #![tactic(auto)]
 
 mod act;
+mod changes;
 mod command;
+mod commit_ish;
 mod data_ref;
 mod fault;
+mod feature;
 pub mod laws;
+mod lines;
 mod mark;
+mod names;
 mod parser;
 mod part;
 mod stage;
@@ -28,7 +33,13 @@ mod tests;
 mod text;
 
 pub use act::{Act, Done};
+pub use commit_ish::CommitIsh;
 pub use data_ref::DataRef;
 pub use fault::Fault;
+pub use feature::Feature;
+pub use git_model::FileMode;
+pub use git_objects::{Ident, Name};
+pub use git_paths::Path;
 pub use mark::Mark;
 pub use parser::Parser;
+pub use tenant_refs::RefName;

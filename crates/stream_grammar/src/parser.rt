@@ -3,21 +3,23 @@
 //! A parser is the command that is open, or the fault that it answered; it keeps nothing of what
 //! it has given.
 
-ghost use Rattle.std.specs.Prelude.{◌≡◌};
+ghost use Rattle.std.specs.Prelude.{◌≡◌, ◌≢◌, Err};
 ghost use Rattle.stream_lex.specs.Looking.{item_of};
 ghost use Rattle.stream_grammar.specs.Commands.{top, done_by, after, end_of};
 ghost use Rattle.stream_grammar.specs.Shown.{Answers};
 
 use crate::act::Done;
-use crate::command::{self, Command, Opened, header_of};
+use crate::command::{self, Command, Opened, header_of, is_commit};
 use crate::fault::Fault;
 use crate::stage::{Stage, may_end_at};
+use std::alloc::Global;
 use std::marker::Model;
 use stream_lex::Item;
 
 /// Reads the items of one stream, in order.
-#[derive(Debug, Drop)]
+#[derive(Drop)]
 pub struct Parser {
+    alloc: Global,
     fault: Option<Fault>,
     command: Command,
 }
@@ -32,13 +34,16 @@ impl Model for Parser {
 }
 
 impl Parser {
-    /// A parser at the beginning of a stream. Takes no memory.
-    pub fn new() -> Parser
+    /// A parser at the beginning of a stream. Takes no memory; what its acts keep comes from
+    /// `alloc`.
+    pub fn new(alloc: Global) -> Parser
         ensures { result ≡ Ok top }
     {
         Parser {
+            alloc,
             fault: None,
             command: Command {
+                late: false,
                 header: header_of(Opened::Nothing),
                 stage: Stage::Top,
             },
@@ -46,22 +51,30 @@ impl Parser {
     }
 
     /// Takes the next item, and says what it asks for. The bytes of the answer are those of the
-    /// item. Takes no memory.
+    /// item, or copies of them.
     ///
     /// `Fault::UnknownCommand` (2) for an item that begins no command where none is open, and
     /// `Fault::MissingPart` (5) for one in the place of a part of the open command, whatever its
-    /// line says behind the first word; else, from left to right in its line, `Fault::Malformed`
-    /// (3) or `Fault::BadMark` (12). A parser that answered a fault answers it from then on,
-    /// whatever comes.
+    /// line says behind the first word. Else the first part of the line that fails decides, from
+    /// left to right: `Malformed` (3), `FeatureTooLate` (9) before `FeatureNotSupported` (8),
+    /// `BadPath` (10) and `BadRefName` (11) before `Limit` (25), `BadMark` (12), `BadIdentity` (21)
+    /// before `BadDate` (22), `BadMode` (23). A parser that answered one of these answers it from
+    /// then on, whatever comes.
+    ///
+    /// Takes memory for refs, idents and paths; `Fault::Memory` (90) may stand in place of any
+    /// other answer, and leaves the parser unchanged.
     pub fn take<'a>(&mut self, item: Item<'a>) -> Result<Done<'a>, Fault>
         ensures answers { Answers result (done_by self.old (item_of item.entry)) }
-        ensures leaves { self.new ≡ after self.old (item_of item.entry) }
+        ensures leaves { result ≢ Err Fault.Memory
+            → self.new ≡ after self.old (item_of item.entry) }
+        ensures unchanged { result ≡ Err Fault.Memory → self.new ≡ self.old }
     {
         if let Some(fault) = self.fault {
             return Err(fault);
         }
-        match command::take(&mut self.command, item) {
+        match command::take(self.alloc, &mut self.command, item) {
             Ok(done) => Ok(done),
+            Err(Fault::Memory) => Err(Fault::Memory),
             Err(fault) => {
                 self.fault = Some(fault);
                 Err(fault)
@@ -80,7 +93,7 @@ impl Parser {
             return Err(fault);
         }
         if may_end_at(self.command.stage) {
-            Ok(false)
+            Ok(is_commit(self.command.header.opened))
         } else {
             Err(Fault::MissingPart)
         }

@@ -1,141 +1,308 @@
-//! Streams of git-fast-import(1), as items, with what they ask for.
+//! Streams of git-fast-import(1), item by item, with what each item asks for.
+//!
+//! A row is an item, ` => `, and what it asks for, both derived by hand from the manual. `LF` is a
+//! blank line, `data x` are data, `END` is the end of the stream, and `COMMIT` stands for the three
+//! items of the shortest commit. A number is that of a fault; behind it, and behind `END`, the next
+//! row begins a stream of its own. In an act `-` is no mark, `[a/b]` a path and `<x>` an
+//! expression; of an object name its first 8 digits stand there.
 
-use crate::{Act, DataRef, Fault, Mark, Parser};
-use git_objects::Name;
+mod changes;
+mod commits;
+mod lines;
+mod tags;
+mod texts;
+
+use crate::{Act, CommitIsh, DataRef, Fault, Feature, FileMode, Mark, Parser, Path};
+use std::alloc::{AllocError, Global};
 use std::test::Fail;
 use stream_lex::Item;
 
-// What the end of a stream answers behind these items, or the first refusal.
-fn outcome(items: &[Item<'_>]) -> Result<bool, Fault> {
-    let mut parser = Parser::new();
-    for item in items {
-        if let Err(fault) = parser.take(*item) {
-            return Err(fault);
-        }
-    }
-    parser.end()
+// What a row says that an act is, as bytes.
+#[derive(Drop)]
+struct Text {
+    alloc: Global,
+    bytes: Vec<u8>,
 }
 
-#[test]
-fn takes_blobs_in_their_shortest_and_longest_form(rt: HostRuntime) {
-    let greatest = Mark::from_number(18446744073709551615);
-    let stream: &[(Item<'_>, Act<'_>)] = &[
-        (Item::Line(b"blob"), Act::Wait),
-        (
-            Item::Data(b"hello\n"),
-            Act::StoreBlob {
-                mark: None,
-                contents: b"hello\n",
-            },
-        ),
-        (Item::Line(b"blob"), Act::Wait),
-        (Item::Line(b"mark :18446744073709551615"), Act::Wait),
-        (Item::Line(b"original-oid any words"), Act::Wait),
-        (
-            Item::Data(b""),
-            Act::StoreBlob {
-                mark: greatest,
-                contents: b"",
-            },
-        ),
-    ];
-    let mut parser = Parser::new();
-    for (item, act) in stream {
-        match parser.take(*item) {
-            Ok(done) => assert_eq!(rt; (done.ends_commit, &done.act), (false, act)),
-            Err(fault) => assert_eq!(rt; fault.code(), 0, "at {item:?}"),
+impl Text {
+    fn put(&mut self, part: &[u8]) -> Result<(), AllocError> {
+        self.bytes.extend_from_slice(part)
+    }
+
+    fn put_mark(&mut self, mark: Mark) -> Result<(), AllocError> {
+        let number = mark.number();
+        let text = format!(in self.alloc; ":{number}")?;
+        self.put(text.as_bytes())
+    }
+
+    fn put_contents(&mut self, mark: Option<Mark>, contents: &[u8]) -> Result<(), AllocError> {
+        match mark {
+            Some(mark) => self.put_mark(mark)?,
+            None => self.put(b"-")?,
+        }
+        self.put(b" ")?;
+        self.put(contents)
+    }
+
+    fn put_object(&mut self, object: DataRef) -> Result<(), AllocError> {
+        match object {
+            DataRef::Mark(mark) => self.put_mark(mark),
+            DataRef::Name(id) => self.put(id.to_hex().as_slice().split_at(8).0),
         }
     }
-    assert_eq!(rt; parser.end(), Ok(false));
-}
 
-#[test]
-fn takes_commands_of_one_line(rt: HostRuntime) -> Result<(), Fail> {
-    let one = Mark::from_number(1).ok_or("zero")?;
-    let hello = Name::from_hex(b"ce013625030ba8dba906f756967f9e9ca394464a").ok_or("digits")?;
-    let stream: &[(&[u8], Act<'_>)] = &[
-        (b"get-mark :00000000000000000001", Act::ShowMark(one)),
-        (b"cat-blob :1", Act::ShowObject(DataRef::Mark(one))),
-        (
-            b"cat-blob CE013625030BA8DBA906F756967F9E9CA394464A",
-            Act::ShowObject(DataRef::Name(hello)),
-        ),
-        (b"progress  half way", Act::Progress(b"progress  half way")),
-        (b"progress ", Act::Progress(b"progress ")),
-        (b"done", Act::Finish),
-    ];
-    let mut parser = Parser::new();
-    for (line, act) in stream {
-        match parser.take(Item::Line(line)) {
-            Ok(done) => assert_eq!(rt; (done.ends_commit, &done.act), (false, act)),
-            Err(fault) => assert_eq!(rt; fault.code(), 0, "at {line:?}"),
+    fn put_commit(&mut self, commit: &CommitIsh<'_>) -> Result<(), AllocError> {
+        match commit {
+            CommitIsh::Mark(mark) => self.put_mark(*mark),
+            CommitIsh::Expression(words) => {
+                self.put(b"<")?;
+                self.put(words)?;
+                self.put(b">")
+            }
         }
     }
-    assert_eq!(rt; one.number(), 1);
-    Ok(())
-}
 
-#[test]
-fn refuses_each_wrong_item_by_its_number(rt: HostRuntime) {
-    let blob = Item::Line(b"blob");
-    let mark = Item::Line(b"mark :1");
-    let oid = Item::Line(b"original-oid x");
-    let data = Item::Data(b"x");
-    let refused: [(&[Item<'_>], u16); 31] = [
-        (&[mark], 2),
-        (&[oid], 2),
-        (&[data], 2),
-        (&[blob, data, data], 2),
-        (&[Item::Line(b"blob ")], 2),
-        (&[Item::Line(b"done ")], 2),
-        (&[Item::Line(b"progress")], 2),
-        (&[Item::Line(b"get-mark")], 2),
-        (&[Item::Line(b" blob")], 2),
-        (&[Item::Line(b"commit refs/heads/m")], 2),
-        (&[Item::Line(b"get-mark 5")], 3),
-        (&[Item::Line(b"get-mark ")], 3),
-        (
-            &[Item::Line(b"cat-blob ce013625030ba8dba906f756967f9e9ca394464")],
-            3,
-        ),
-        (
-            &[Item::Line(b"cat-blob ce013625030ba8dba906f756967f9e9ca394464g")],
-            3,
-        ),
-        (&[blob, Item::Line(b"mark 5")], 3),
-        (&[blob, Item::Line(b"mark ")], 3),
-        (&[blob], 5),
-        (&[blob, mark], 5),
-        (&[blob, mark, mark], 5),
-        (&[blob, oid, mark], 5),
-        (&[blob, oid, oid], 5),
-        (&[blob, Item::Blank], 5),
-        (&[blob, Item::Line(b"done")], 5),
-        (&[blob, Item::Line(b"mark")], 5),
-        (&[blob, oid, Item::Line(b"mark 5")], 5),
-        (&[Item::Line(b"get-mark :x")], 12),
-        (&[Item::Line(b"cat-blob :")], 12),
-        (&[blob, Item::Line(b"mark :0")], 12),
-        (&[blob, Item::Line(b"mark :1 ")], 12),
-        (&[blob, Item::Line(b"mark :18446744073709551616")], 12),
-        (&[blob, Item::Line(b"mark :000000000000000000001")], 12),
-    ];
-    for (items, number) in refused {
-        match outcome(items) {
-            Ok(_) => assert_eq!(rt; 0, number, "in {items:?}"),
-            Err(fault) => assert_eq!(rt; fault.code(), number, "in {items:?}"),
+    fn put_path(&mut self, path: &Path) -> Result<(), AllocError> {
+        self.put(b" [")?;
+        self.put(path.as_bytes())?;
+        self.put(b"]")
+    }
+
+    // An act that a line alone asks for.
+    fn put_line_act(&mut self, act: &Act<'_>) -> Result<(), AllocError> {
+        match act {
+            Act::Checkpoint => self.put(b"checkpoint"),
+            Act::Progress(line) => {
+                self.put(b"progress ")?;
+                self.put(line)
+            }
+            Act::ShowMark(mark) => {
+                self.put(b"name ")?;
+                self.put_mark(*mark)
+            }
+            Act::ShowObject(object) => {
+                self.put(b"show ")?;
+                self.put_object(*object)
+            }
+            Act::ShowEntry { root, path } => {
+                self.put(b"entry ")?;
+                self.put_object(*root)?;
+                self.put_path(path)
+            }
+            Act::Finish => self.put(b"finish"),
+            Act::Require(feature) => self.put(feature_text(*feature)),
+            Act::SetHead(name) => {
+                self.put(b"head ")?;
+                self.put(name.as_bytes())
+            }
+            _ => self.put(b"wait"),
+        }
+    }
+
+    // An act of a blob, a tag, a reset or an alias.
+    fn put_act(&mut self, act: &Act<'_>) -> Result<(), AllocError> {
+        match act {
+            Act::StoreBlob { mark, contents } => {
+                self.put(b"blob ")?;
+                self.put_contents(*mark, contents)
+            }
+            Act::BeginTag(name) => {
+                self.put(b"tag ")?;
+                self.put(name.as_bytes())
+            }
+            Act::TagTarget(commit) => {
+                self.put(b"target ")?;
+                self.put_commit(commit)
+            }
+            Act::Tagger(ident) => {
+                self.put(b"tagger ")?;
+                self.put(ident.as_bytes())
+            }
+            Act::StoreTag { mark, message } => {
+                self.put(b"store-tag ")?;
+                self.put_contents(*mark, message)
+            }
+            Act::Reset(name) => {
+                self.put(b"reset ")?;
+                self.put(name.as_bytes())
+            }
+            Act::ResetTo(commit) => {
+                self.put(b"reset-to ")?;
+                self.put_commit(commit)
+            }
+            Act::SetMark { mark, commit } => {
+                self.put(b"set ")?;
+                self.put_mark(*mark)?;
+                self.put(b" ")?;
+                self.put_commit(commit)
+            }
+            _ => self.put_commit_act(act),
+        }
+    }
+
+    // An act of a commit, up to its merges.
+    fn put_commit_act(&mut self, act: &Act<'_>) -> Result<(), AllocError> {
+        match act {
+            Act::BeginCommit(name) => {
+                self.put(b"commit ")?;
+                self.put(name.as_bytes())
+            }
+            Act::Author(ident) => {
+                self.put(b"author ")?;
+                self.put(ident.as_bytes())
+            }
+            Act::Committer(ident) => {
+                self.put(b"committer ")?;
+                self.put(ident.as_bytes())
+            }
+            Act::Encoding(encoding) => {
+                self.put(b"encoding ")?;
+                self.put(encoding)
+            }
+            Act::OpenCommit { mark, message } => {
+                self.put(b"open ")?;
+                self.put_contents(*mark, message)
+            }
+            Act::StartFrom(commit) => {
+                self.put(b"from ")?;
+                self.put_commit(commit)
+            }
+            Act::Merge(commit) => {
+                self.put(b"merge ")?;
+                self.put_commit(commit)
+            }
+            _ => self.put_change(act),
+        }
+    }
+
+    // An act that changes the files of a commit.
+    fn put_change(&mut self, act: &Act<'_>) -> Result<(), AllocError> {
+        match act {
+            Act::Modify { mode, object, path } => {
+                self.put(b"modify ")?;
+                self.put(mode_text(*mode))?;
+                self.put_object(*object)?;
+                self.put_path(path)
+            }
+            Act::ModifyInline { mode, path } => {
+                self.put(b"inline ")?;
+                self.put(mode_text(*mode))?;
+                self.put_path(path)
+            }
+            Act::PutContents(contents) => {
+                self.put(b"contents ")?;
+                self.put(contents)
+            }
+            Act::Delete(path) => {
+                self.put(b"delete")?;
+                self.put_path(path)
+            }
+            Act::Copy { source, path } => {
+                self.put(b"copy")?;
+                self.put_path(source)?;
+                self.put_path(path)
+            }
+            Act::Rename { source, path } => {
+                self.put(b"rename")?;
+                self.put_path(source)?;
+                self.put_path(path)
+            }
+            Act::DeleteAll => self.put(b"deleteall"),
+            Act::ShowBranchEntry(path) => {
+                self.put(b"branch entry")?;
+                self.put_path(path)
+            }
+            _ => self.put_line_act(act),
         }
     }
 }
 
-#[test]
-fn answers_its_fault_from_then_on(rt: HostRuntime) {
-    let mut parser = Parser::new();
-    assert_eq!(rt;
-        parser.take(Item::Line(b"get-mark 5")),
-        Err(Fault::Malformed)
-    );
-    assert_eq!(rt; parser.take(Item::Line(b"unknown")), Err(Fault::Malformed));
-    assert_eq!(rt; parser.take(Item::Line(b"done")), Err(Fault::Malformed));
-    assert_eq!(rt; parser.end(), Err(Fault::Malformed));
+fn mode_text(mode: FileMode) -> &'static [u8] {
+    match mode {
+        FileMode::Regular => b"100644 ",
+        FileMode::Executable => b"100755 ",
+        FileMode::Symlink => b"120000 ",
+        FileMode::Gitlink => b"160000 ",
+        FileMode::Directory => b"040000 ",
+    }
+}
+
+fn feature_text(feature: Feature) -> &'static [u8] {
+    match feature {
+        Feature::Done => b"require done",
+        Feature::Force => b"require force",
+        Feature::GetMark => b"require get-mark",
+        Feature::CatBlob => b"require cat-blob",
+        Feature::Ls => b"require ls",
+        Feature::RawDates => b"require raw dates",
+    }
+}
+
+// Takes an item, and writes what it asks for, or the number of its fault.
+fn answer(parser: &mut Parser, item: Item<'_>, text: &mut Text) -> Result<(), AllocError> {
+    match parser.take(item) {
+        Ok(done) => {
+            if done.ends_commit {
+                text.put(b"ends commit, ")?;
+            }
+            text.put_act(&done.act)
+        }
+        Err(fault) => put_fault(fault, text),
+    }
+}
+
+fn put_fault(fault: Fault, text: &mut Text) -> Result<(), AllocError> {
+    let number = fault.code();
+    let number = format!(in text.alloc; "{number}")?;
+    text.put(number.as_bytes())
+}
+
+fn answer_end(parser: &Parser, text: &mut Text) -> Result<(), AllocError> {
+    match parser.end() {
+        Ok(true) => text.put(b"ends commit"),
+        Ok(false) => text.put(b"ok"),
+        Err(fault) => put_fault(fault, text),
+    }
+}
+
+// What the item of a row asks for.
+fn answer_row(parser: &mut Parser, item: &str, text: &mut Text) -> Result<(), AllocError> {
+    if item == "END" {
+        return answer_end(parser, text);
+    }
+    if item == "LF" {
+        return answer(parser, Item::Blank, text);
+    }
+    if item == "COMMIT" {
+        let _begun = parser.take(Item::Line(b"commit refs/heads/m"));
+        let _made = parser.take(Item::Line(b"committer A <a@b> 0 +0000"));
+        return answer(parser, Item::Data(b"m"), text);
+    }
+    match item.strip_prefix("data ") {
+        Some(contents) => answer(parser, Item::Data(contents.as_bytes()), text),
+        None => answer(parser, Item::Line(item.as_bytes()), text),
+    }
+}
+
+// Whether a stream ends with such an answer: it is the number of a fault.
+fn is_number(text: &[u8]) -> bool {
+    text.iter().all(|byte| byte.is_ascii_digit())
+}
+
+// Goes through the rows, and gives the first one that is answered otherwise, or none.
+fn first_wrong<'a>(alloc: Global, rows: &[&'a str]) -> Result<&'a str, Fail> {
+    let mut parser = Parser::new(alloc);
+    for row in rows {
+        let (item, wanted) = row.split_once(" => ").ok_or("a row without an answer")?;
+        let bytes = Vec::new(alloc);
+        let mut text = Text { alloc, bytes };
+        answer_row(&mut parser, item, &mut text)?;
+        if text.bytes.as_slice() != wanted.as_bytes() {
+            return Ok(row);
+        }
+        if item == "END" || is_number(&text.bytes) {
+            parser = Parser::new(alloc);
+        }
+    }
+    Ok("")
 }

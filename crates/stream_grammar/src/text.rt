@@ -30,9 +30,29 @@ pub fn argument(line: &[u8]) -> &[u8]
     }
 }
 
-// What stands behind a colon, where the text begins with one.
+/// The first word of a line: what stands before its first space, or all of it.
+pub fn first_word(line: &[u8]) -> &[u8]
+    ensures { result.now ≡ texts.first_word line.now }
+{
+    match space_in(line) {
+        Some(index) => line.split_at(index).0,
+        None => line,
+    }
+}
+
+/// What stands behind the first space of a line, where it has one.
+pub fn behind_space(line: &[u8]) -> Option<&[u8]>
+    ensures { option_copied result ≡ texts.behind_space line.now }
+{
+    match space_in(line) {
+        Some(index) => Some(line.split_at(index + 1).1),
+        None => None,
+    }
+}
+
+/// What stands behind a colon, where the text begins with one.
 #[tactic(auto, unfolding(crate::specs::Texts::behind_colon))]
-fn behind_colon(text: &[u8]) -> Option<&[u8]>
+pub fn behind_colon(text: &[u8]) -> Option<&[u8]>
     ensures { option_copied result ≡ texts.behind_colon text.now }
 {
     match text {
@@ -68,9 +88,9 @@ fn number_of(text: &[u8]) -> Option<u64>
     }
 }
 
-// The number of a mark, which is not 0.
+/// The number of a mark, which is not 0: else `Fault::BadMark` (12).
 #[tactic(auto, unfolding(crate::specs::Texts::numbered))]
-fn idnum_of(text: &[u8]) -> Result<Mark, Fault>
+pub fn idnum_of(text: &[u8]) -> Result<Mark, Fault>
     ensures { result ≡ texts.idnum_of text.now }
 {
     match number_of(text) {

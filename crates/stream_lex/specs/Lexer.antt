@@ -1,5 +1,5 @@
 -- A lexer: what it holds, and what its calls give.
-use Rattle.std.specs.Prelude.{◌≡◌, ℕ, ◌≤◌, false, List, [], ◌∷◌, ◌++◌, Option, None, Some, Result, Ok, Err}
+use Rattle.std.specs.Prelude.{◌≡◌, ℕ, ◌≤◌, false, List, [], ◌∷◌, ◌++◌, length, Option, None, Some, Result, Ok, Err}
 use Rattle.stream_lex.specs.declared.fault.Fault.{Fault}
 use Rattle.stream_lex.specs.declared.fault.Fault.TheVariants.{CutOff}
 use Rattle.stream_lex.specs.declared.item.Item.{Item as Lent}
@@ -18,6 +18,11 @@ pub record LexerState : Type 0 where
 -- A lexer that was fed nothing.
 abbrev pub new_lexer : LexerState
 new_lexer = record { tail = Rest false []; searched = 0; fed = 0 }
+
+-- How many bytes are held of which no item was given yet.
+abbrev pub held_bytes : Tail → ℕ
+held_bytes (Rest skips bytes) = length bytes
+held_bytes (Failed fault) = 0
 
 -- The items that an answer of `next` gives: one or none.
 abbrev pub items_of : Result (Option Lent) Fault → List Item

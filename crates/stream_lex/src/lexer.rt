@@ -3,7 +3,7 @@
 ghost use Rattle.std.specs.Prelude.{◌≡◌, ◌+◌, ◌≤◌, ℕ, List, ◌++◌, length, Ok, Err, OnOk, OnErr, IfErr, ◌⊎◌};
 ghost use Rattle.std.specs.Borrow.{sem};
 ghost use Rattle.stream_lex.specs.Items.{Item as ItemRead, Failed};
-ghost use Rattle.stream_lex.specs.Lexer.{ended, new_lexer};
+ghost use Rattle.stream_lex.specs.Lexer.{ended, held_bytes, new_lexer};
 ghost use Rattle.stream_lex.specs.Running.{Leads, extended};
 ghost use Rattle.stream_lex.specs.Search.{counted_on};
 
@@ -103,6 +103,16 @@ impl Lexer {
             Place::Failed(fault) => Err(fault),
             _ if self.cursor.taken == self.buffer.len() => Ok(()),
             _ => Err(Fault::CutOff),
+        }
+    }
+
+    /// How many bytes are held of which no item was given yet; 0 after a fault. Takes no memory.
+    pub fn held(&self) -> usize
+        ensures { result ≡ held_bytes self.now.tail }
+    {
+        match self.cursor.place {
+            Place::Failed(_) => 0,
+            _ => self.buffer.len() - self.cursor.taken,
         }
     }
 

@@ -1,0 +1,91 @@
+-- What a change says: modes, datarefs and paths; git-fast-import(1), "filemodify" and what follows.
+use Rattle.std.specs.Prelude.{ℕ, Bool, false, ◌||◌, ◌==◌, nat_lt, if◌then◌else◌, List, [], ◌∷◌, length, Result, Ok, Err, codes}
+use Rattle.std.specs.Str.{bytes_eq}
+use Rattle.git_model.specs.declared.file_mode.FileMode.{FileMode}
+use Rattle.git_model.specs.declared.file_mode.FileMode.TheVariants as mode
+use Rattle.git_paths.specs.declared.fault.Fault.{Fault as PathFault}
+use Rattle.git_paths.specs.declared.fault.Fault.TheVariants as path_fault
+use Rattle.git_paths.specs.declared.place.Place.TheVariants.{Source, Last}
+use Rattle.git_paths.specs.Reading.{path_at}
+use Rattle.stream_grammar.specs.declared.fault.Fault.{Fault}
+use Rattle.stream_grammar.specs.declared.fault.Fault.TheVariants as fault
+use Rattle.stream_grammar.specs.declared.data_ref.DataRef.{DataRef}
+use Rattle.stream_grammar.specs.Texts.{read, first_word, behind_space, required, dataref_of}
+
+-- The modes of the manual; Git's short forms of the first two are known too: <mode>
+unfoldable pub mode_of : List ℕ → Result FileMode Fault
+mode_of word =
+    if bytes_eq word (codes "100644") || bytes_eq word (codes "644") then Ok mode.Regular
+    else if bytes_eq word (codes "100755") || bytes_eq word (codes "755") then Ok mode.Executable
+    else if bytes_eq word (codes "120000") then Ok mode.Symlink
+    else if bytes_eq word (codes "160000") then Ok mode.Gitlink
+    else if bytes_eq word (codes "040000") then Ok mode.Directory
+    else Err fault.BadMode
+
+-- Contents that stand inline are those of a file.
+abbrev pub mode_inline : FileMode → Result FileMode Fault
+mode_inline mode.Regular = Ok mode.Regular
+mode_inline mode.Executable = Ok mode.Executable
+mode_inline mode.Symlink = Ok mode.Symlink
+mode_inline mode.Gitlink = Err fault.Malformed
+mode_inline mode.Directory = Err fault.Malformed
+
+-- A path is the list of its components.
+abbrev pub Path : Type 0
+Path = List (List ℕ)
+
+abbrev pub fault_of_path : PathFault → Fault
+fault_of_path path_fault.BadPath = fault.BadPath
+fault_of_path path_fault.Limit = fault.Limit
+fault_of_path path_fault.Memory = fault.Memory
+
+abbrev pub path_read : {A : Type 0} → Result A PathFault → Result A Fault
+path_read (Ok found) = Ok found
+path_read (Err e) = Err (fault_of_path e)
+
+-- The path that is the rest of a line: <path>
+abbrev pub path_of : List ℕ → Result Path Fault
+path_of text = read (path_read (path_at Last text)) (λ found. Ok found.0)
+
+-- A source with a space behind it, and the path that is the rest of the line: <path> SP <path>
+abbrev pub paths_of : List ℕ → Result (Path × Path) Fault
+paths_of text =
+    read (path_read (path_at Source text)) (λ source.
+    read (path_of source.1) (λ path. Ok (source.0, path)))
+
+-- <dataref> SP <path>
+abbrev pub object_and_path : List ℕ → Result (DataRef × Path) Fault
+object_and_path text =
+    read (dataref_of (first_word text)) (λ object.
+    read (required (behind_space text)) (λ rest.
+    read (path_of rest) (λ path. Ok (object, path))))
+
+-- <mode> SP <dataref> SP <path>
+abbrev pub modified : List ℕ → Result (FileMode × DataRef × Path) Fault
+modified text =
+    read (mode_of (first_word text)) (λ mode.
+    read (required (behind_space text)) (λ rest.
+    read (object_and_path rest) (λ file. Ok (mode, file.0, file.1))))
+
+-- <mode> SP 'inline' SP <path>, where the rest of the line begins with 'inline'
+abbrev pub inline_path : List ℕ → Result Path Fault
+inline_path rest = read (required (behind_space rest)) (λ text. path_of text)
+
+abbrev pub modified_inline : List ℕ → Result (FileMode × Path) Fault
+modified_inline text =
+    read (mode_of (first_word text)) (λ mode.
+    read (required (behind_space text)) (λ rest.
+    read (mode_inline mode) (λ file_mode.
+    read (inline_path rest) (λ path. Ok (file_mode, path)))))
+
+-- The text begins with a quote.
+abbrev pub is_quoted : List ℕ → Bool
+is_quoted [] = false
+is_quoted (byte ∷ bytes) = byte == 34
+
+-- An encoding is at least one byte.
+abbrev pub is_encoding : List ℕ → Bool
+is_encoding text = nat_lt 0 (length text)
+
+abbrev pub encoding_of : List ℕ → Result (List ℕ) Fault
+encoding_of text = if is_encoding text then Ok text else Err fault.Malformed

@@ -1,0 +1,134 @@
+//! What a change says: modes, datarefs and paths.
+
+ghost use Rattle.std.specs.Prelude.{◌≡◌};
+ghost use Rattle.stream_grammar.specs.Faults.{Gives};
+ghost use Rattle.stream_grammar.specs.Changes as changes;
+
+use crate::data_ref::DataRef;
+use crate::fault::Fault;
+use crate::text::{behind_space, dataref_of, first_word};
+use git_model::FileMode;
+use git_paths::{Path, Place};
+use std::alloc::Global;
+
+/// Reads a mode: `Fault::BadMode` (23) for every word but `100644`, `644`, `100755`, `755`,
+/// `120000`, `160000` and `040000`.
+#[tactic(auto, unfolding(crate::specs::Changes::mode_of))]
+fn mode_of(word: &[u8]) -> Result<FileMode, Fault>
+    ensures { result ≡ changes.mode_of word.now }
+{
+    if word == b"100644".as_slice() || word == b"644".as_slice() {
+        Ok(FileMode::Regular)
+    } else if word == b"100755".as_slice() || word == b"755".as_slice() {
+        Ok(FileMode::Executable)
+    } else if word == b"120000".as_slice() {
+        Ok(FileMode::Symlink)
+    } else if word == b"160000".as_slice() {
+        Ok(FileMode::Gitlink)
+    } else if word == b"040000".as_slice() {
+        Ok(FileMode::Directory)
+    } else {
+        Err(Fault::BadMode)
+    }
+}
+
+// The mode of contents that stand inline: that of a file.
+fn mode_inline(mode: FileMode) -> Result<FileMode, Fault>
+    ensures { result ≡ changes.mode_inline mode }
+{
+    match mode {
+        FileMode::Regular => Ok(FileMode::Regular),
+        FileMode::Executable => Ok(FileMode::Executable),
+        FileMode::Symlink => Ok(FileMode::Symlink),
+        FileMode::Gitlink | FileMode::Directory => Err(Fault::Malformed),
+    }
+}
+
+/// Reads the path that is the rest of a line: `Fault::BadPath` (10), else `Fault::Limit` (25).
+pub fn path_of(alloc: Global, text: &[u8]) -> Result<Path, Fault>
+    ensures { Gives (λ path. path) result (changes.path_of text.now) }
+{
+    match Path::read(alloc, text, Place::Last) {
+        Ok((path, _)) => Ok(path),
+        Err(git_paths::Fault::BadPath) => Err(Fault::BadPath),
+        Err(git_paths::Fault::Limit) => Err(Fault::Limit),
+        Err(git_paths::Fault::Memory) => Err(Fault::Memory),
+    }
+}
+
+/// Reads a source and a path, each as `path_of` does, the source whole before the path.
+pub fn paths_of(alloc: Global, text: &[u8]) -> Result<(Path, Path), Fault>
+    ensures { Gives (λ paths. paths) result (changes.paths_of text.now) }
+{
+    match Path::read(alloc, text, Place::Source) {
+        Ok((source, rest)) => {
+            let path = path_of(alloc, rest)?;
+            Ok((source, path))
+        }
+        Err(git_paths::Fault::BadPath) => Err(Fault::BadPath),
+        Err(git_paths::Fault::Limit) => Err(Fault::Limit),
+        Err(git_paths::Fault::Memory) => Err(Fault::Memory),
+    }
+}
+
+/// Reads a dataref, a space and a path: 3 and 12 for the dataref, 3 without the space, then as
+/// `path_of`.
+pub fn object_and_path(alloc: Global, text: &[u8]) -> Result<(DataRef, Path), Fault>
+    ensures { Gives (λ file. file) result (changes.object_and_path text.now) }
+{
+    let object = dataref_of(first_word(text))?;
+    match behind_space(text) {
+        Some(rest) => {
+            let path = path_of(alloc, rest)?;
+            Ok((object, path))
+        }
+        None => Err(Fault::Malformed),
+    }
+}
+
+/// Reads a mode, a space, and then as `object_and_path`: 23 for the mode, 3 without the space.
+pub fn modified(alloc: Global, text: &[u8]) -> Result<(FileMode, DataRef, Path), Fault>
+    ensures { Gives (λ file. file) result (changes.modified text.now) }
+{
+    let mode = mode_of(first_word(text))?;
+    match behind_space(text) {
+        Some(rest) => {
+            let (object, path) = object_and_path(alloc, rest)?;
+            Ok((mode, object, path))
+        }
+        None => Err(Fault::Malformed),
+    }
+}
+
+// The path behind `inline` and its space.
+fn inline_path(alloc: Global, rest: &[u8]) -> Result<Path, Fault>
+    ensures { Gives (λ path. path) result (changes.inline_path rest.now) }
+{
+    match behind_space(rest) {
+        Some(text) => path_of(alloc, text),
+        None => Err(Fault::Malformed),
+    }
+}
+
+/// Reads a mode, `inline` and a path: 23 for the mode, 3 without a space or where the mode is not
+/// that of a file, then as `path_of`.
+pub fn modified_inline(alloc: Global, text: &[u8]) -> Result<(FileMode, Path), Fault>
+    ensures { Gives (λ file. file) result (changes.modified_inline text.now) }
+{
+    let mode = mode_of(first_word(text))?;
+    match behind_space(text) {
+        Some(rest) => {
+            let mode = mode_inline(mode)?;
+            let path = inline_path(alloc, rest)?;
+            Ok((mode, path))
+        }
+        None => Err(Fault::Malformed),
+    }
+}
+
+/// Whether a text begins with a quote.
+pub fn is_quoted(text: &[u8]) -> bool
+    ensures { result ≡ changes.is_quoted text.now }
+{
+    matches!(text, [b'"', ..])
+}

@@ -1,0 +1,94 @@
+//! Features and options: git-fast-import(1), "feature" and "option".
+
+ghost use Rattle.std.specs.Prelude.{◌≡◌};
+ghost use Rattle.stream_grammar.specs.Features as features;
+
+use crate::fault::Fault;
+
+/// What a stream asks for before its other commands.
+#[derive(Clone, Copy, Debug, PartialEq, Eq)]
+pub enum Feature {
+    /// The stream ends with `done`.
+    Done,
+    /// Refs are updated that are no fast-forward.
+    Force,
+    /// The command `get-mark` is used.
+    GetMark,
+    /// The command `cat-blob` is used.
+    CatBlob,
+    /// The command `ls` is used.
+    Ls,
+    /// Dates are raw, as they always are here.
+    RawDates,
+}
+
+/// Whose option a line sets.
+#[derive(Clone, Copy)]
+pub enum Setting {
+    /// Git's.
+    Git,
+    /// This service's: the ref that HEAD names.
+    Head,
+    /// Another system's, which is ignored.
+    Other,
+}
+
+/// A feature stands before other commands: `Fault::FeatureTooLate` (9).
+#[tactic(auto, unfolding(crate::specs::Features::in_time))]
+pub fn in_time(late: bool) -> Result<(), Fault>
+    ensures { result ≡ features.in_time late }
+{
+    if late {
+        Err(Fault::FeatureTooLate)
+    } else {
+        Ok(())
+    }
+}
+
+/// Reads a feature: `Fault::FeatureNotSupported` (8) for every other word.
+#[tactic(auto, unfolding(crate::specs::Features::feature_of))]
+pub fn feature_of(word: &[u8]) -> Result<Feature, Fault>
+    ensures { result ≡ features.feature_of word.now }
+{
+    if word == b"done".as_slice() {
+        Ok(Feature::Done)
+    } else if word == b"force".as_slice() {
+        Ok(Feature::Force)
+    } else if word == b"get-mark".as_slice() {
+        Ok(Feature::GetMark)
+    } else if word == b"cat-blob".as_slice() {
+        Ok(Feature::CatBlob)
+    } else if word == b"ls".as_slice() {
+        Ok(Feature::Ls)
+    } else if word == b"date-format=raw".as_slice() {
+        Ok(Feature::RawDates)
+    } else {
+        Err(Fault::FeatureNotSupported)
+    }
+}
+
+/// Whose option these words are.
+#[tactic(auto, unfolding(crate::specs::Features::setting_of))]
+pub fn setting_of(words: &[u8]) -> Setting
+    ensures { result ≡ features.setting_of words.now }
+{
+    if words == b"git".as_slice() || words.starts_with(b"git ") {
+        Setting::Git
+    } else if words.starts_with(b"gitpool head ") {
+        Setting::Head
+    } else {
+        Setting::Other
+    }
+}
+
+/// Reads an option of Git's: `Fault::FeatureNotSupported` (8) for every other one than `quiet`.
+#[tactic(auto, unfolding(crate::specs::Features::quiet_of))]
+pub fn quiet_of(words: &[u8]) -> Result<(), Fault>
+    ensures { result ≡ features.quiet_of words.now }
+{
+    if words == b"git quiet".as_slice() {
+        Ok(())
+    } else {
+        Err(Fault::FeatureNotSupported)
+    }
+}

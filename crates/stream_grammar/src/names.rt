@@ -1,0 +1,71 @@
+//! What a line names: refs, idents and commit-ishes.
+
+ghost use Rattle.std.specs.Prelude.{◌≡◌};
+ghost use Rattle.stream_grammar.specs.Faults.{Gives};
+ghost use Rattle.stream_grammar.specs.Names as names;
+ghost use Rattle.stream_grammar.specs.Features.{head_of};
+ghost use Rattle.stream_grammar.specs.Shown.{commit_shown};
+
+use crate::commit_ish::CommitIsh;
+use crate::fault::Fault;
+use crate::text::{behind_colon, idnum_of};
+use git_objects::Ident;
+use std::alloc::Global;
+use tenant_refs::{RefName, RefNameFault};
+
+/// Reads a ref: `Fault::BadRefName` (11) for what is neither a ref name nor `HEAD`, else
+/// `Fault::Limit` (25) above 1,024 bytes. Takes memory for the copy.
+pub fn ref_of(alloc: Global, text: &[u8]) -> Result<RefName, Fault>
+    ensures { Gives (λ name. name) result (names.ref_of text.now) }
+{
+    match RefName::read(alloc, text) {
+        Ok(name) => Ok(name),
+        Err(RefNameFault::BadRefName) => Err(Fault::BadRefName),
+        Err(RefNameFault::Limit) => Err(Fault::Limit),
+        Err(RefNameFault::Memory) => Err(Fault::Memory),
+    }
+}
+
+/// Reads the name of a tag, and answers its ref, as `ref_of` does. Takes memory for the ref.
+pub fn tag_ref_of(alloc: Global, name: &[u8]) -> Result<RefName, Fault>
+    ensures { Gives (λ name. name) result (names.tag_ref_of name.now) }
+{
+    let mut text = Vec::from_slice(alloc, b"refs/tags/")?;
+    text.extend_from_slice(name)?;
+    ref_of(alloc, &text)
+}
+
+/// Reads the ref that HEAD is to name, as `ref_of` does; `HEAD` itself is `Fault::BadRefName` (11).
+#[tactic(auto, unfolding(crate::specs::Features::head_of))]
+pub fn head_of(alloc: Global, text: &[u8]) -> Result<RefName, Fault>
+    ensures { Gives (λ name. name) result (head_of text.now) }
+{
+    if text == b"HEAD".as_slice() {
+        Err(Fault::BadRefName)
+    } else {
+        ref_of(alloc, text)
+    }
+}
+
+/// Reads an ident: `Fault::BadIdentity` (21), else `Fault::BadDate` (22). Takes memory for the
+/// copy.
+pub fn ident_of(alloc: Global, text: &[u8]) -> Result<Ident, Fault>
+    ensures { Gives (λ ident. ident) result (names.ident_of text.now) }
+{
+    match Ident::read(alloc, text) {
+        Ok(ident) => Ok(ident),
+        Err(git_objects::Fault::BadIdentity) => Err(Fault::BadIdentity),
+        Err(git_objects::Fault::BadDate) => Err(Fault::BadDate),
+        Err(git_objects::Fault::Memory) => Err(Fault::Memory),
+    }
+}
+
+/// Reads a commit-ish: `Fault::BadMark` (12) for a colon with no mark's number behind it.
+pub fn commit_ish_of(text: &[u8]) -> Result<CommitIsh<'_>, Fault>
+    ensures { Gives commit_shown result (names.commit_ish_of text.now) }
+{
+    match behind_colon(text) {
+        Some(digits) => Ok(CommitIsh::Mark(idnum_of(digits)?)),
+        None => Ok(CommitIsh::Expression(text)),
+    }
+}
