@@ -1,0 +1,483 @@
+-- What an import has done so far.
+use Rattle.std.proofs.Common.{◌≡◌, ◌≢◌, ℕ, ◌+◌, ◌-◌, ◌*◌, ◌^◌, ◌<◌, ◌≤◌, ◌⊎◌, inl, inr, min, Bool, true, false, List, [], ◌∷◌, ◌++◌, length, take, Option, None, Some, Result, Ok, Err, refl, sym, ap, subst, ◌∙◌, append_assoc, append-nil, arith}
+use Rattle.std.specs.Io.KnownBytes.{Appends, Consumes, Keeps, IsAtEnd, ReadConsumes}
+use Rattle.git_model.specs.RefStore.{RefStore, no_refs}
+use Rattle.git_model.specs.Repository.{Object, Repository}
+use Rattle.content_pool.specs.Pool.{Cells}
+use Rattle.tenant_tables.specs.View.{View}
+use Rattle.tenant_tables.specs.Objects.{objects}
+use Rattle.tenant_tables.specs.StandsIn.{StandsIn, LeavesOthers}
+use Rattle.stream_grammar.specs.Commands.{top}
+use Rattle.import_session.specs.Workspace.{opened}
+use Rattle.import_session.specs.Session.{new_session, running_in}
+use Rattle.git_objects.specs.Device.{counted_on, HasFault, AppendsFront, faults_after_read, passed_after}
+use Rattle.git_objects.proofs.KnownBytes.{Appends-nil, Appends-trans, Consumes-nil, Consumes-trans, Consumes-kept}
+use Rattle.stream_lex.specs.Items.{Item, Tail, Rest, Failed, behind_items}
+use Rattle.stream_lex.specs.Reading.{reading, walk}
+use Rattle.stream_lex.specs.Running.{extended, more_of, HasNoItem}
+use Rattle.import_session.specs.Stream.{Running, Outcome, Standing, End, begun, Runs, Refused, after_reply, carried, going_on, step, at_tail, tail_outcome, refused, finished, last_checkpoint}
+use Rattle.std.proofs.lemmas.List.{length-append}
+use Rattle.std.proofs.Math.Nat.{pos_of_ne-zero}
+use Rattle.gitpool.specs.declared.stop.Stop.{Stop}
+use Rattle.gitpool.specs.declared.stop.Stop.TheVariants as stop
+use Rattle.gitpool.specs.declared.import_fault.ImportFault.{ImportFault}
+use Rattle.gitpool.specs.declared.import_fault.ImportFault.TheVariants as fault
+use Rattle.gitpool.specs.Carrying.{Between, Carries, Advances, Goes, Ends, EndsAs, Fails, Feeds, HasAmpleRoom, Stops, IsDrained, new_stream, outcome_behind, stream_in}
+use Rattle.gitpool.specs.ImportFaults.{as_import}
+use Rattle.gitpool.specs.Import.{Device, HasRead, IsImported, IsGivenUp, IsStopped, IsDevice, IsSettled, Imports, outcome_of, end_fault}
+use Rattle.gitpool.specs.Alone.{stream_of}
+use Rattle.gitpool.specs.Holding.{empty_repository}
+use Rattle.gitpool.specs.Importing.{Importing, running_of, IsNewImport, IsReady, Passes, IsRefusedWith, IsWrittenFront, PassesOn, EndsImport}
+
+-- behind `done` nothing comes
+passed_over : (digest : List ℕ → List ℕ) (now : Running) (item : Item) → now.is_done ≡ true
+    → step digest now item ≡ Ok (record { running = now; reply = [] })
+unfolding step
+passed_over digest now item done = rw done refl
+
+carried_done : (digest : List ℕ → List ℕ) (now : Running) (items : List Item) (tail : Tail) → now.is_done ≡ true
+    → carried digest now items tail ≡ record { replies = []; standing = Runs now (Rest false []) }
+unfolding carried at_tail
+carried_done digest now [] tail done = rw done refl
+carried_done digest now (item ∷ items) tail done =
+    ap (λ r. going_on now r (λ next. carried digest next items tail)) (passed_over digest now item done)
+    ∙ ap (after_reply []) (carried_done digest now items tail done)
+
+-- where nothing whole is held, nothing more is printed yet
+has_no_item : (tail : Tail) → HasNoItem tail → more_of tail [] ≡ record { items = []; tail = tail }
+has_no_item (Rest skips bytes) none = ap (reading skips) (append-nil bytes) ∙ none
+has_no_item (Failed fault) none = absurd none
+
+waiting : (digest : List ℕ → List ℕ) (now : Running) (tail : Tail) → now.is_done ≡ false → HasNoItem tail
+    → carried digest now [] tail ≡ record { replies = []; standing = Runs now tail }
+unfolding carried at_tail
+waiting digest now (Rest skips bytes) running none = rw running refl
+waiting digest now (Failed fault) running none = absurd none
+
+drained_outcome : (digest : List ℕ → List ℕ) (now : Running) (tail : Tail) → now.is_done ≡ false → HasNoItem tail
+    → outcome_behind digest now tail [] ≡ record { replies = []; standing = Runs now tail }
+drained_outcome digest now tail running none =
+    ap (λ r. carried digest now r.items r.tail) (has_no_item tail none) ∙ waiting digest now tail running none
+
+-- what comes behind the items that were carried out
+pub goes_on : (digest : List ℕ → List ℕ) (now : Running) (old : Tail) (items : List Item) (replies : List ℕ) (next : Running) (new : Tail)
+    → Advances digest now old items replies next new → (more : List ℕ)
+    → outcome_behind digest now old more ≡ after_reply replies (outcome_behind digest next new more)
+goes_on digest now old items replies next new adv more =
+    ap (λ r. carried digest now r.items r.tail) (adv.reads more)
+    ∙ adv.carries (more_of new more).items (more_of new more).tail
+
+-- a refusal, whatever bytes come
+pub fails_as : (digest : List ℕ → List ℕ) (now : Running) (old : Tail) (out : List ℕ) (code : ℕ) (left : Running) (out' : List ℕ)
+    (f : Fails digest now old out code left out') (more : List ℕ)
+    → outcome_behind digest now old more ≡ record { replies = f.ends.replies; standing = Refused code (last_checkpoint f.last.workspace) }
+fails_as digest now old out code left out' f more =
+    goes_on digest now old f.items f.ends.replies f.last f.rest f.ends.advances more
+    ∙ ap (after_reply f.ends.replies) (f.refused more)
+    ∙ ap (λ l. record { replies = l; standing = Refused code (last_checkpoint f.last.workspace) }) (append-nil f.ends.replies)
+
+-- what was printed is a prefix of all replies
+pub record IsFront (whole out : List ℕ) : Type 0 where
+  pub rest : List ℕ
+  pub parts : whole ≡ out ++ rest
+
+front_by : (digest : List ℕ → List ℕ) (now : Running) (old : Tail) (items : List Item) (replies : List ℕ) (next : Running) (new : Tail)
+    (out' : List ℕ) → Advances digest now old items replies next new → out' ≡ [] ++ replies
+    → IsFront (outcome_behind digest now old []).replies out'
+front_by digest now old items replies next new out' adv printed = record {
+  rest = (outcome_behind digest next new []).replies;
+  parts = ap (λ (o : Outcome). o.replies) (goes_on digest now old items replies next new adv [])
+      ∙ ap (λ l. l ++ (outcome_behind digest next new []).replies) (sym printed);
+}
+
+pub printed_front : (digest : List ℕ → List ℕ) (now : Running) (old : Tail) (result : Result Unit Stop) (next : Running) (new : Tail)
+    (out' : List ℕ) → Carries digest now old [] result next new out' → IsFront (outcome_behind digest now old []).replies out'
+printed_front digest now old (Ok u) next new out' c =
+    front_by digest now old c.items c.replies next new out' c.advances c.printed
+printed_front digest now old (Err (stop.Fault code)) next new out' c =
+    front_by digest now old c.items c.ends.replies c.last c.rest out' c.ends.advances c.ends.printed
+printed_front digest now old (Err (stop.Memory count)) next new out' c =
+    front_by digest now old c.items c.ends.replies c.last c.rest out' c.ends.advances c.ends.printed
+
+pub front_of_front : (a b : Option (List ℕ)) (out whole : List ℕ) → AppendsFront a b out → IsFront whole out → AppendsFront a b whole
+front_of_front a b out whole f w = record {
+  front = f.front;
+  rest = f.rest ++ w.rest;
+  parts = w.parts ∙ ap (λ l. l ++ w.rest) f.parts ∙ append_assoc f.front f.rest w.rest;
+  appends = f.appends;
+}
+
+pub whole_front : (a b : Option (List ℕ)) (out whole : List ℕ) → Appends a b out → IsFront whole out → AppendsFront a b whole
+whole_front a b out whole appends w = record { front = out; rest = w.rest; parts = w.parts; appends = appends }
+
+-- bytes come in pieces
+more_of-extended : (tail : Tail) (piece more : List ℕ) → more_of tail (piece ++ more) ≡ more_of (extended tail piece) more
+more_of-extended (Rest skips bytes) piece more = ap (reading skips) (sym (append_assoc bytes piece more))
+more_of-extended (Failed fault) piece more = refl
+
+pub outcome-extended : (digest : List ℕ → List ℕ) (now : Running) (tail : Tail) (piece more : List ℕ)
+    → outcome_behind digest now tail (piece ++ more) ≡ outcome_behind digest now (extended tail piece) more
+outcome-extended digest now tail piece more = ap (λ r. carried digest now r.items r.tail) (more_of-extended tail piece more)
+
+after_replies : (a b : List ℕ) (o : Outcome) → after_reply a (after_reply b o) ≡ after_reply (a ++ b) o
+after_replies a b o = ap (λ r. record { replies = r; standing = o.standing }) (sym (append_assoc a b o.replies))
+
+-- what an import has done so far, by so many reads
+pub record SoFar (digest : List ℕ → List ℕ) (r0 r w0 w : Device) (i : Importing) (count : ℕ) : Type 0 where
+  pub bytes : List ℕ
+  pub read : HasRead r0 r bytes
+  pub enough : count ≤ length bytes
+  pub replies : List ℕ
+  pub goes : (more : List ℕ) → outcome_of digest (bytes ++ more)
+      ≡ after_reply replies (outcome_behind digest (running_of i) i.between.tail more)
+  pub drained : HasNoItem i.between.tail
+  pub running : i.between.session.is_done ≡ false
+  pub written : Appends w0.known w.known replies
+  pub faults : r.faults ≡ r0.faults
+  pub well : w.faults ≡ w0.faults
+  pub ready : IsReady digest i
+
+-- a piece was read
+pub record ReadsPiece (old new : Device) (piece : List ℕ) : Type 0 where
+  pub consumed : Consumes old.known new.known piece
+  pub passed : new.passed ≡ counted_on old.passed (length piece)
+  pub faults : new.faults ≡ old.faults
+
+pub reads_piece : (old new : Device) (n : ℕ) (buf piece : List ℕ) → piece ≡ take n buf → n ≡ length (take n buf)
+    → Consumes old.known new.known (take n buf) → new.passed ≡ counted_on old.passed n → new.faults ≡ old.faults → ReadsPiece old new piece
+reads_piece old new n buf piece is size consumed passed faults = record {
+  consumed = subst (λ (l : List ℕ). Consumes old.known new.known l) (sym is) consumed;
+  passed = passed ∙ ap (counted_on old.passed) (size ∙ ap length (sym is));
+  faults = faults;
+}
+
+pub piece_some : (n : ℕ) (buf piece : List ℕ) → piece ≡ take n buf → n ≡ length (take n buf) → n ≢ 0 → 0 < length piece
+piece_some n buf piece is size some =
+    let e : length piece ≡ n = ap length is ∙ sym size in
+    let f : 0 < n = pos_of_ne-zero some in omega (arith, e, f)
+
+read_more : (r0 r r' : Device) (bytes piece : List ℕ) → HasRead r0 r bytes → ReadsPiece r r' piece → HasRead r0 r' (bytes ++ piece)
+read_more r0 r r' bytes piece had reads = record {
+  consumed = Consumes-trans r0.known r.known r'.known bytes piece had.consumed reads.consumed;
+  passed = counts_on;
+}
+  where
+    counts_on : r'.passed ≡ counted_on r0.passed (length (bytes ++ piece))
+    counts_on = let p = reads.passed in let q = had.passed in let n = length-append bytes piece in omega (arith, p, q, n)
+
+read_none : (r0 r r' : Device) (bytes : List ℕ) → HasRead r0 r bytes → Keeps r.known r'.known → r'.passed ≡ r.passed → HasRead r0 r' bytes
+read_none r0 r r' bytes had keeps passed = record {
+  consumed = Consumes-kept r0.known r.known r'.known bytes had.consumed keeps;
+  passed = passed ∙ had.passed;
+}
+
+-- all bytes so far, and what comes behind a piece
+goes_behind : (digest : List ℕ → List ℕ) (r0 r w0 w : Device) (i : Importing) (count : ℕ) (s : SoFar digest r0 r w0 w i count)
+    (piece more : List ℕ)
+    → outcome_of digest ((s.bytes ++ piece) ++ more)
+    ≡ after_reply s.replies (outcome_behind digest (running_of i) (extended i.between.tail piece) more)
+goes_behind digest r0 r w0 w i count s piece more =
+    ap (outcome_of digest) (append_assoc s.bytes piece more) ∙ s.goes (piece ++ more)
+    ∙ ap (after_reply s.replies) (outcome-extended digest (running_of i) i.between.tail piece more)
+
+-- of all bytes, the replies so far and those of the piece
+whole_behind : (digest : List ℕ → List ℕ) (r0 r w0 w : Device) (i : Importing) (count : ℕ) (s : SoFar digest r0 r w0 w i count)
+    (piece : List ℕ)
+    → outcome_of digest (s.bytes ++ piece)
+    ≡ after_reply s.replies (outcome_behind digest (running_of i) (extended i.between.tail piece) [])
+whole_behind digest r0 r w0 w i count s piece =
+    ap (outcome_of digest) (sym (append-nil (s.bytes ++ piece))) ∙ goes_behind digest r0 r w0 w i count s piece []
+
+-- of the bytes so far alone
+whole_so_far : (digest : List ℕ → List ℕ) (r0 r w0 w : Device) (i : Importing) (count : ℕ) (s : SoFar digest r0 r w0 w i count)
+    → outcome_of digest s.bytes ≡ record { replies = s.replies; standing = Runs (running_of i) i.between.tail }
+whole_so_far digest r0 r w0 w i count s =
+    ap (outcome_of digest) (sym (append-nil s.bytes)) ∙ s.goes []
+    ∙ ap (after_reply s.replies) (drained_outcome digest (running_of i) i.between.tail s.running s.drained)
+    ∙ ap (λ l. record { replies = l; standing = Runs (running_of i) i.between.tail }) (append-nil s.replies)
+
+-- one piece more
+pub so_far_more : (digest : List ℕ → List ℕ) (r0 r w0 w : Device) (i : Importing) (count : ℕ) (r' w' : Device) (i' : Importing) (piece : List ℕ)
+    → SoFar digest r0 r w0 w i count → ReadsPiece r r' piece → 0 < length piece → Passes digest i piece w i' w'
+    → i'.between.session.is_done ≡ false → SoFar digest r0 r' w0 w' i' (count + 1)
+so_far_more digest r0 r w0 w i count r' w' i' piece s reads some p running = record {
+  bytes = s.bytes ++ piece;
+  read = read_more r0 r r' s.bytes piece s.read reads;
+  enough = let n = length-append s.bytes piece in let m = s.enough in omega (arith, n, m, some);
+  replies = s.replies ++ p.replies;
+  goes = λ more. goes_behind digest r0 r w0 w i count s piece more
+      ∙ ap (after_reply s.replies) (p.goes more)
+      ∙ after_replies s.replies p.replies (outcome_behind digest (running_of i') i'.between.tail more);
+  drained = subst (λ (b : Bool). IsDrained b i'.between.tail) running p.drained;
+  running = running;
+  written = Appends-trans w0.known w.known w'.known s.replies p.replies s.written p.written;
+  faults = reads.faults ∙ s.faults;
+  well = p.well ∙ s.well;
+  ready = p.ready;
+}
+
+-- `done` was read
+pub imported_done : (digest : List ℕ → List ℕ) (r0 r w0 w : Device) (i : Importing) (count : ℕ) (r' w' : Device) (i' : Importing) (piece : List ℕ)
+    → SoFar digest r0 r w0 w i count → ReadsPiece r r' piece → Passes digest i piece w i' w'
+    → i'.between.session.is_done ≡ true → IsImported digest r0 r' w0 w' None
+imported_done digest r0 r w0 w i count r' w' i' piece s reads p done = record {
+  bytes = s.bytes ++ piece;
+  read = read_more r0 r r' s.bytes piece s.read reads;
+  written = subst (λ (l : List ℕ). Appends w0.known w'.known l) (sym (ap (λ (o : Outcome). o.replies) whole))
+      (Appends-trans w0.known w.known w'.known s.replies p.replies s.written p.written);
+  ended = ap (λ (o : Outcome). (finished o.standing).fault) whole ∙ rw done refl;
+  last = inr (λ more. settled more ∙ sym whole);
+}
+  where
+    settled : (more : List ℕ) → outcome_of digest ((s.bytes ++ piece) ++ more)
+        ≡ record { replies = s.replies ++ p.replies; standing = Runs (running_of i') (Rest false []) }
+    settled more =
+        goes_behind digest r0 r w0 w i count s piece more
+        ∙ ap (after_reply s.replies) (p.goes more)
+        ∙ after_replies s.replies p.replies (outcome_behind digest (running_of i') i'.between.tail more)
+        ∙ ap (after_reply (s.replies ++ p.replies))
+        (carried_done digest (running_of i') (more_of i'.between.tail more).items (more_of i'.between.tail more).tail done)
+        ∙ ap (λ l. record { replies = l; standing = Runs (running_of i') (Rest false []) }) (append-nil (s.replies ++ p.replies))
+
+    whole : outcome_of digest (s.bytes ++ piece)
+        ≡ record { replies = s.replies ++ p.replies; standing = Runs (running_of i') (Rest false []) }
+    whole = ap (outcome_of digest) (sym (append-nil (s.bytes ++ piece))) ∙ settled []
+
+-- the stream was refused
+pub imported_refused : (digest : List ℕ → List ℕ) (r0 r w0 w : Device) (i : Importing) (count : ℕ) (r' w' : Device) (piece : List ℕ) (code : ℕ)
+    → SoFar digest r0 r w0 w i count → ReadsPiece r r' piece → IsRefusedWith digest i piece code w w'
+    → IsImported digest r0 r' w0 w' (Some code)
+imported_refused digest r0 r w0 w i count r' w' piece code s reads p = record {
+  bytes = s.bytes ++ piece;
+  read = read_more r0 r r' s.bytes piece s.read reads;
+  written = subst (λ (l : List ℕ). Appends w0.known w'.known l) (sym (ap (λ (o : Outcome). o.replies) whole))
+      (Appends-trans w0.known w.known w'.known s.replies p.replies s.written p.written);
+  ended = ap (λ (o : Outcome). (finished o.standing).fault) whole;
+  last = inr (λ more. settled more ∙ sym whole);
+}
+  where
+    settled : (more : List ℕ) → outcome_of digest ((s.bytes ++ piece) ++ more)
+        ≡ record { replies = s.replies ++ p.replies; standing = Refused code p.repository }
+    settled more = goes_behind digest r0 r w0 w i count s piece more ∙ ap (after_reply s.replies) (p.refused more)
+
+    whole : outcome_of digest (s.bytes ++ piece)
+        ≡ record { replies = s.replies ++ p.replies; standing = Refused code p.repository }
+    whole = ap (outcome_of digest) (sym (append-nil (s.bytes ++ piece))) ∙ settled []
+
+-- a prefix of the replies to the piece stands behind all replies before it
+front_behind : (digest : List ℕ → List ℕ) (r0 r w0 w : Device) (i : Importing) (count : ℕ) (w' : Device) (piece : List ℕ)
+    (s : SoFar digest r0 r w0 w i count) → IsWrittenFront digest i piece w w'
+    → AppendsFront w0.known w'.known (outcome_of digest (s.bytes ++ piece)).replies
+front_behind digest r0 r w0 w i count w' piece s f = record {
+  front = s.replies ++ f.front;
+  rest = f.rest;
+  parts = ap (λ (o : Outcome). o.replies) (whole_behind digest r0 r w0 w i count s piece)
+      ∙ ap (λ l. s.replies ++ l) f.parts ∙ sym (append_assoc s.replies f.front f.rest);
+  appends = Appends-trans w0.known w.known w'.known s.replies f.front s.written f.appends;
+}
+
+pub stopped : (digest : List ℕ → List ℕ) (r0 r w0 w : Device) (i : Importing) (count : ℕ) (r' w' : Device) (piece : List ℕ)
+    → SoFar digest r0 r w0 w i count → ReadsPiece r r' piece → IsWrittenFront digest i piece w w' → IsStopped digest r0 r' w0 w'
+stopped digest r0 r w0 w i count r' w' piece s reads f = record {
+  bytes = s.bytes ++ piece;
+  read = read_more r0 r r' s.bytes piece s.read reads;
+  written = front_behind digest r0 r w0 w i count w' piece s f;
+}
+
+-- a write failed
+pub unwritten : (digest : List ℕ → List ℕ) (r0 r w0 w : Device) (i : Importing) (count : ℕ) (r' w' : Device) (piece : List ℕ)
+    → SoFar digest r0 r w0 w i count → ReadsPiece r r' piece
+    → IsWrittenFront digest i piece w w' × HasFault w.faults w'.faults
+    → IsGivenUp digest r0 r' w0 w' × IsDevice r0 r' w0 w'
+unwritten digest r0 r w0 w i count r' w' piece s reads f =
+    let blamed : HasFault w0.faults w'.faults = subst (λ (n : ℕ). HasFault n w'.faults) s.well f.1 in (
+      record {
+        bytes = s.bytes ++ piece;
+        read = read_more r0 r r' s.bytes piece s.read reads;
+        written = front_behind digest r0 r w0 w i count w' piece s f.0;
+        whole = inl blamed;
+      },
+      inr (inl blamed),
+    )
+
+-- all replies to what was read stand written
+all_written : (digest : List ℕ → List ℕ) (r0 r w0 w : Device) (i : Importing) (count : ℕ) (r' : Device)
+    (s : SoFar digest r0 r w0 w i count) → HasRead r0 r' s.bytes → IsGivenUp digest r0 r' w0 w
+all_written digest r0 r w0 w i count r' s had =
+    let replies = ap (λ (o : Outcome). o.replies) (whole_so_far digest r0 r w0 w i count s) in
+    record {
+      bytes = s.bytes;
+      read = had;
+      written = record { front = s.replies; rest = []; parts = replies ∙ sym (append-nil s.replies); appends = s.written };
+      whole = inr (subst (λ (l : List ℕ). Appends w0.known w.known l) (sym replies) s.written);
+    }
+
+-- a read failed
+pub unread : (digest : List ℕ → List ℕ) (r0 r w0 w : Device) (i : Importing) (count : ℕ) (r' : Device)
+    → SoFar digest r0 r w0 w i count → Keeps r.known r'.known → r'.passed ≡ r.passed → r'.faults ≡ counted_on r.faults 1
+    → IsGivenUp digest r0 r' w0 w × IsDevice r0 r' w0 w
+unread digest r0 r w0 w i count r' s keeps passed failed =
+    (all_written digest r0 r w0 w i count r' s (read_none r0 r r' s.bytes s.read keeps passed), inl blamed)
+  where
+    blamed : HasFault r0.faults r'.faults
+    blamed below = let same = s.faults in omega (arith, below, same, failed)
+
+-- the reader never ends
+pub endless : (digest : List ℕ → List ℕ) (r0 r w0 w : Device) (i : Importing) (count : ℕ)
+    → SoFar digest r0 r w0 w i count → 2 ^ 32 ≤ count → IsGivenUp digest r0 r w0 w × IsDevice r0 r w0 w
+endless digest r0 r w0 w i count s all =
+    (all_written digest r0 r w0 w i count r s s.read, inr (inr bound))
+  where
+    bound : min (r0.passed + 2 ^ 32) (2 ^ 64 - 1) ≤ r.passed
+    bound = let p = s.read.passed in let n = s.enough in omega (arith, p, n, all)
+
+-- the end of the input
+ends_as : (digest : List ℕ → List ℕ) (r0 r w0 w : Device) (i : Importing) (count : ℕ) (r' : Device) (end : Option ℕ)
+    → SoFar digest r0 r w0 w i count → Consumes r.known r'.known [] → IsAtEnd r'.known → r'.passed ≡ counted_on r.passed 0
+    → (finished (Runs (running_of i) i.between.tail)).fault ≡ end → IsImported digest r0 r' w0 w end
+ends_as digest r0 r w0 w i count r' end s consumed at_end passed ended =
+    let whole = whole_so_far digest r0 r w0 w i count s in
+    record {
+      bytes = s.bytes;
+      read = record {
+        consumed = subst (λ (l : List ℕ). Consumes r0.known r'.known l) (append-nil s.bytes)
+            (Consumes-trans r0.known r.known r'.known s.bytes [] s.read.consumed consumed);
+        passed = counts;
+      };
+      written = subst (λ (l : List ℕ). Appends w0.known w.known l) (sym (ap (λ (o : Outcome). o.replies) whole)) s.written;
+      ended = ap (λ (o : Outcome). (finished o.standing).fault) whole ∙ ended;
+      last = inl at_end;
+    }
+  where
+    counts : r'.passed ≡ counted_on r0.passed (length s.bytes)
+    counts = let p = s.read.passed in omega (arith, p, passed)
+
+pub imported_end : (digest : List ℕ → List ℕ) (r0 r w0 w : Device) (i : Importing) (count : ℕ) (r' : Device) (result : Result Unit ImportFault)
+    → SoFar digest r0 r w0 w i count → Consumes r.known r'.known [] → IsAtEnd r'.known → r'.passed ≡ counted_on r.passed 0
+    → EndsImport i result → Imports digest r0 r' w0 w result
+imported_end digest r0 r w0 w i count r' (Ok u) s consumed at_end passed ended =
+    ends_as digest r0 r w0 w i count r' None s consumed at_end passed ended
+imported_end digest r0 r w0 w i count r' (Err (fault.Stream code)) s consumed at_end passed ended =
+    ends_as digest r0 r w0 w i count r' (Some code) s consumed at_end passed ended
+imported_end digest r0 r w0 w i count r' (Err fault.Device) s consumed at_end passed ended = absurd ended
+imported_end digest r0 r w0 w i count r' (Err fault.Memory) s consumed at_end passed ended = absurd ended
+
+-- what came of a piece that did not pass
+pub imported_piece : (digest : List ℕ → List ℕ) (r0 r w0 w : Device) (i : Importing) (count : ℕ) (r' w' : Device) (i' : Importing) (piece : List ℕ)
+    (e : ImportFault)
+    → SoFar digest r0 r w0 w i count → ReadsPiece r r' piece → PassesOn digest i piece w (Err e) i' w'
+    → Imports digest r0 r' w0 w' (Err e)
+imported_piece digest r0 r w0 w i count r' w' i' piece (fault.Stream code) s reads p =
+    imported_refused digest r0 r w0 w i count r' w' piece code s reads p
+imported_piece digest r0 r w0 w i count r' w' i' piece fault.Device s reads p =
+    unwritten digest r0 r w0 w i count r' w' piece s reads p
+imported_piece digest r0 r w0 w i count r' w' i' piece fault.Memory s reads p =
+    stopped digest r0 r w0 w i count r' w' piece s reads p
+
+-- before the first byte
+pub objects_none : (pool : Cells) → objects pool [] ≡ []
+unfolding objects
+objects_none pool = refl
+
+first_item : HasNoItem (Rest false [])
+unfolding walk
+first_item = refl
+
+first_running : (i : Importing) (pool : Cells)
+    → running_in new_session pool (record { entries = []; committed = 0 }) no_refs ≡ begun (opened empty_repository)
+first_running i pool =
+    ap (λ (os : List Object). record { workspace = record { objects = os; committed = 0; refs = no_refs; marks = [] }; parsing = Ok top; is_done = false })
+    (objects_none pool)
+
+new_running : (i : Importing) → i.between ≡ new_stream → i.table ≡ record { entries = []; committed = 0 } → i.refs ≡ no_refs
+    → running_of i ≡ begun (opened empty_repository)
+new_running i between table refs =
+    ap (λ (b : Between). stream_in b i.pool i.table i.refs) between
+    ∙ ap (λ (t : View). running_in new_session i.pool t i.refs) table
+    ∙ ap (λ (r : RefStore). running_in new_session i.pool (record { entries = []; committed = 0 }) r) refs
+    ∙ first_running i i.pool
+
+-- all bytes, from the first
+stream_begun : (digest : List ℕ → List ℕ) (bytes : List ℕ)
+    → outcome_behind digest (begun (opened empty_repository)) (Rest false []) bytes ≡ outcome_of digest bytes
+unfolding stream_of
+stream_begun digest bytes = refl
+
+pub so_far_new : (digest : List ℕ → List ℕ) (r w : Device) (i : Importing) → IsNewImport digest i → r.passed ≤ 2 ^ 64 - 1
+    → SoFar digest r r w w i 0
+so_far_new digest r w i new fits = record {
+  bytes = [];
+  read = record { consumed = Consumes-nil r.known; passed = omega (arith, fits) };
+  enough = omega arith;
+  replies = [];
+  goes = λ more. sym (ap (λ (b : Between). outcome_behind digest (running_of i) b.tail more) new.between
+      ∙ ap (λ (now : Running). outcome_behind digest now (Rest false []) more) (new_running i new.between new.table new.refs)
+      ∙ stream_begun digest more);
+  drained = subst (λ (b : Between). HasNoItem b.tail) (sym new.between) first_item;
+  running = ap (λ (b : Between). b.session.is_done) new.between;
+  written = Appends-nil w.known;
+  faults = refl;
+  well = refl;
+  ready = new.ready;
+}
+
+-- a table that is alone in its pool
+pub has_ample_room : (digest : List ℕ → List ℕ) (i : Importing) → IsReady digest i → HasAmpleRoom i.pool
+has_ample_room digest i ready s = let a = ready.alone s in let o = ready.stands.once s in omega (arith, a, o)
+
+still_ready : (digest : List ℕ → List ℕ) (old new : Importing) → IsReady digest old → StandsIn digest new.pool new.table.entries
+    → LeavesOthers old.pool old.table.entries new.pool new.table.entries → new.out ≡ [] → IsReady digest new
+still_ready digest old new ready stands others written = record {
+  stands = stands;
+  alone = λ s. let a = ready.alone s in let r = others.rest s in omega (arith, a, r);
+  written = written;
+}
+
+-- what a piece did, once its replies were written
+feeds_now : (digest : List ℕ → List ℕ) (b : Bool) (now : Running) (old : Tail) (piece out : List ℕ) (result : Result Unit Stop)
+    (next : Running) (new : Tail) (out' : List ℕ) → b ≡ false
+    → Feeds digest b now old piece out result next new out' → Carries digest now (extended old piece) out result next new out'
+feeds_now digest b now old piece out result next new out' running feeds =
+    subst (λ (x : Bool). Feeds digest x now old piece out result next new out') running feeds
+
+pub fed_of : (digest : List ℕ → List ℕ) (old : Importing) (piece : List ℕ) (result : Result Unit Stop) (next : Running) (new : Tail) (out' : List ℕ)
+    → IsReady digest old → old.between.session.is_done ≡ false
+    → Feeds digest old.between.session.is_done (running_of old) old.between.tail piece old.out result next new out'
+    → Carries digest (running_of old) (extended old.between.tail piece) [] result next new out'
+fed_of digest old piece result next new out' ready running feeds =
+    subst (λ (l : List ℕ). Carries digest (running_of old) (extended old.between.tail piece) l result next new out') ready.written
+    (feeds_now digest old.between.session.is_done (running_of old) old.between.tail piece old.out result next new out' running feeds)
+
+pub passes_on : (digest : List ℕ → List ℕ) (old : Importing) (piece : List ℕ) (w w' : Device) (result : Result Unit Stop) (new : Importing)
+    (out' : List ℕ)
+    → Carries digest (running_of old) (extended old.between.tail piece) [] result (running_of new) new.between.tail out'
+    → IsReady digest new → Appends w.known w'.known out' → w'.faults ≡ w.faults
+    → PassesOn digest old piece w (as_import result) new w'
+passes_on digest old piece w w' (Ok u) new out' c ready written well = record {
+  replies = c.replies;
+  goes = goes_on digest (running_of old) (extended old.between.tail piece) c.items c.replies (running_of new) new.between.tail c.advances;
+  drained = c.drained;
+  written = subst (λ (l : List ℕ). Appends w.known w'.known l) c.printed written;
+  well = well;
+  ready = ready;
+}
+passes_on digest old piece w w' (Err (stop.Fault code)) new out' c ready written well = record {
+  replies = c.ends.replies;
+  repository = last_checkpoint c.last.workspace;
+  refused = fails_as digest (running_of old) (extended old.between.tail piece) [] code (running_of new) out' c;
+  written = subst (λ (l : List ℕ). Appends w.known w'.known l) c.ends.printed written;
+}
+passes_on digest old piece w w' (Err (stop.Memory count)) new out' c ready written well =
+    whole_front w.known w'.known out' _ written
+    (printed_front digest (running_of old) (extended old.between.tail piece) (Err (stop.Memory count)) (running_of new) new.between.tail out' c)
+
+pub ready_then : (digest : List ℕ → List ℕ) (old new : Importing) → IsReady digest old → StandsIn digest new.pool new.table.entries
+    → LeavesOthers old.pool old.table.entries new.pool new.table.entries → new.out ≡ [] → IsReady digest new
+ready_then = still_ready
+
+-- the end, by its answer
+pub ends_import : (i : Importing) (result : Result Unit Stop) (left : Repository)
+    → EndsAs (finished (Runs (running_of i) i.between.tail)) result left → EndsImport i (as_import result)
+ends_import i (Ok u) left e = ap (λ (end : End). end.fault) e
+ends_import i (Err (stop.Fault code)) left e = ap (λ (end : End). end.fault) e
+ends_import i (Err (stop.Memory count)) left e = e

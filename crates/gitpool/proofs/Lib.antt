@@ -1,0 +1,11 @@
+mod CarryLemmas
+mod CountLemmas
+mod RoomLemmas
+mod StreamLemmas
+mod TenantLemmas
+mod OwnLemmas
+mod AccountLemmas
+mod RunLemmas
+mod RestartLemmas
+mod StoredLemmas
+pub mod ImportLemmas

@@ -1,0 +1,15 @@
+use Rattle.std.proofs.Common.{◌∷◌, [], subst}
+use Rattle.gitpool.specs.Headline.{IsItsOwn, told_in}
+use Rattle.gitpool.specs.Holding.{Holdings, held_of}
+use Rattle.gitpool.specs.Tenants.{holdings}
+use Rattle.gitpool.proofs.RunLemmas.{own-step}
+use Rattle.gitpool.proofs.service.Service.step.Goals as goal
+
+pub returns-clause-own : goal.returns-clause-own
+returns-clause-own g c = λ tenant.
+    subst (λ (before : Holdings). IsItsOwn g.N.Naming.digest_of tenant (held_of tenant before)
+    ((c.args.step, told_in c.take_step.result c.args.out.now.items c.take_step.new.out.items) ∷ [])
+    (held_of tenant (holdings c.take_step.new.pool c.take_step.new.tenants.entries)))
+    c.self.view_is
+    (own-step g.N.Naming.digest_of c.args.step c.self.inside.pool c.take_step.new.pool c.self.inside.tenants.entries c.take_step.new.tenants.entries
+    c.take_step.result c.args.out.now.items c.take_step.new.out.items c.take_step.ensures tenant)

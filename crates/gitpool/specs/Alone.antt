@@ -1,0 +1,160 @@
+-- A repository of its own: what a tenant is told and what it has, as if nobody else were there.
+use Rattle.std.specs.Prelude.{ℕ, zero, ◌+◌, false, nat_le, if◌then◌else◌, List, [], ◌++◌, length, take, drop, Option, None, Some}
+use Rattle.git_model.specs.Repository.{Repository}
+use Rattle.stream_lex.specs.Items.{Item, Rest}
+use Rattle.stream_lex.specs.Reading.{reading}
+use Rattle.import_session.specs.Workspace.{opened}
+use Rattle.import_session.specs.Stream.{Running, Standing, Runs, Refused, Outcome, begun, carried, last_checkpoint, finished}
+use Rattle.gitpool.specs.declared.answer.Answer.{Answer}
+use Rattle.gitpool.specs.declared.answer.Answer.TheVariants as answer
+
+-- What a tenant may ask: git-fast-import(1) for Open, Feed and End, gitrevisions(7) for Ask.
+pub data Call : Type 0 where
+  Open : Call
+  Feed : List ℕ → Call
+  End : Call
+  Ask : List ℕ → Call
+  Restart : Call
+
+-- A tenant has a repository and no stream; or a stream, with the repository at its Open and all
+-- bytes since; or a stream that is dead under a number, and the repository at its last checkpoint.
+pub data State : Type 0 where
+  Closed : Repository → State
+  Streaming : Repository → List ℕ → State
+  Dead : ℕ → Repository → State
+
+-- What a call is answered, the bytes of its reply, and what it leaves.
+pub record Turn (S : Type 0) : Type 0 where
+  pub answer : Answer
+  pub reply : List ℕ
+  pub state : S
+
+abbrev pub turn : {S : Type 0} → Answer → List ℕ → S → Turn S
+turn answer reply state = record { answer = answer; reply = reply; state = state }
+
+-- A call that is refused leaves all as it was.
+abbrev pub refused_under : {S : Type 0} → ℕ → S → Turn S
+refused_under code state = turn (answer.Fault code) [] state
+
+-- A call that takes memory may run out of it, and then leaves this. Every other call may not.
+abbrev pub unless_out_of_memory : {S : Type 0} → Option ℕ → S → Turn S → Turn S
+unless_out_of_memory (Some zero) left well = turn (answer.Memory 0) [] left
+unless_out_of_memory _ left well = well
+
+-- The stream of all bytes since Open.
+unfoldable pub stream_of : (List ℕ → List ℕ) → Repository → List ℕ → Outcome
+stream_of digest repository bytes =
+    let all = reading false bytes in
+    carried digest (begun (opened repository)) all.items all.tail
+
+-- The repository at the last checkpoint.
+abbrev pub last_of : Standing → Repository
+last_of (Runs now tail) = last_checkpoint now.workspace
+last_of (Refused code repository) = repository
+
+-- What the longer replies add to the replies before.
+abbrev pub added : List ℕ → List ℕ → List ℕ
+added before all = drop (length before) all
+
+-- A stop for want of memory: the replies until then, and the repository at the last checkpoint.
+pub record Stopped : Type 0 where
+  pub replies : List ℕ
+  pub repository : Repository
+
+abbrev pub stop_at : List ℕ → Standing → Option Stopped
+stop_at replies (Runs now tail) =
+    if now.is_done then None
+    else Some (record { replies = replies; repository = last_checkpoint now.workspace })
+stop_at replies (Refused code repository) = None
+
+-- The stop behind the first so many items: what they print, and the last checkpoint then. There is
+-- none behind more items than there are, behind a fault, or behind `done`.
+unfoldable pub stop_behind : (List ℕ → List ℕ) → Running → List Item → ℕ → Option Stopped
+stop_behind digest now items count =
+    if nat_le count (length items) then
+    (let first = carried digest now (take count items) (Rest false []) in
+    stop_at first.replies first.standing)
+    else None
+
+-- Open: there is a stream then, of no bytes yet.
+abbrev pub open_alone : Option ℕ → State → Turn State
+open_alone stop (Closed repository) =
+    unless_out_of_memory stop (Closed repository) (turn answer.Ok [] (Streaming repository []))
+open_alone stop (Streaming repository bytes) = refused_under 31 (Streaming repository bytes)
+open_alone stop (Dead code repository) = refused_under 31 (Dead code repository)
+
+-- Feed: what the longer bytes print beyond what was printed; a fault of theirs makes the stream
+-- dead under its number.
+abbrev pub fed_by : Repository → List ℕ → List ℕ → Standing → Turn State
+fed_by repository bytes reply (Runs now tail) = turn answer.Ok reply (Streaming repository bytes)
+fed_by repository bytes reply (Refused code left) = turn (answer.Fault code) reply (Dead code left)
+
+abbrev pub fed_well : (List ℕ → List ℕ) → Repository → List ℕ → List ℕ → Turn State
+fed_well digest repository bytes piece =
+    let before = stream_of digest repository bytes in
+    let all = stream_of digest repository (bytes ++ piece) in
+    fed_by repository (bytes ++ piece) (added before.replies all.replies) all.standing
+
+-- The stop of a Feed behind so many of the items that it completes.
+abbrev pub feed_stop : (List ℕ → List ℕ) → Repository → List ℕ → List ℕ → ℕ → Option Stopped
+feed_stop digest repository bytes piece count =
+    let before = (reading false bytes).items in
+    let all = (reading false (bytes ++ piece)).items in
+    stop_behind digest (begun (opened repository)) all (length before + count)
+
+-- A stop that there is makes the stream dead under 90.
+abbrev pub fed_until : List ℕ → ℕ → Option Stopped → Turn State → Turn State
+fed_until before count (Some stopped) well =
+    turn (answer.Memory count) (added before stopped.replies) (Dead 90 stopped.repository)
+fed_until before count None well = well
+
+abbrev pub fed : (List ℕ → List ℕ) → Option ℕ → Repository → List ℕ → List ℕ → Turn State
+fed digest None repository bytes piece = fed_well digest repository bytes piece
+fed digest (Some count) repository bytes piece =
+    fed_until (stream_of digest repository bytes).replies count
+    (feed_stop digest repository bytes piece count) (fed_well digest repository bytes piece)
+
+abbrev pub feed_alone : (List ℕ → List ℕ) → List ℕ → Option ℕ → State → Turn State
+feed_alone digest piece stop (Closed repository) = refused_under 30 (Closed repository)
+feed_alone digest piece stop (Streaming repository bytes) = fed digest stop repository bytes piece
+feed_alone digest piece stop (Dead code repository) = refused_under code (Dead code repository)
+
+-- End: there is no stream then. Its fault is answered, and nothing is printed.
+abbrev pub end_answer : Option ℕ → Answer
+end_answer None = answer.Ok
+end_answer (Some code) = answer.Fault code
+
+abbrev pub ended_well : Standing → Turn Repository
+ended_well standing =
+    let end = finished standing in turn (end_answer end.fault) [] end.repository
+
+abbrev pub ended : Option ℕ → Standing → Turn Repository
+ended stop (Refused code repository) = ended_well (Refused code repository)
+ended stop (Runs now tail) =
+    if now.is_done then ended_well (Runs now tail)
+    else unless_out_of_memory stop (last_checkpoint now.workspace) (ended_well (Runs now tail))
+
+abbrev pub closed : {S : Type 0} → (Repository → S) → Turn Repository → Turn S
+closed close t = turn t.answer t.reply (close t.state)
+
+abbrev pub end_alone : (List ℕ → List ℕ) → Option ℕ → State → Turn State
+end_alone digest stop (Closed repository) = refused_under 30 (Closed repository)
+end_alone digest stop (Streaming repository bytes) =
+    closed Closed (ended stop (stream_of digest repository bytes).standing)
+end_alone digest stop (Dead code repository) =
+    closed Closed (ended stop (Refused code repository))
+
+-- Restart: there is no stream then, and the repository is that at the last checkpoint.
+abbrev pub last_alone : (List ℕ → List ℕ) → State → Repository
+last_alone digest (Closed repository) = repository
+last_alone digest (Streaming repository bytes) = last_of (stream_of digest repository bytes).standing
+last_alone digest (Dead code repository) = repository
+
+-- What a call is answered and what it leaves, in a repository of its own, given whether the call
+-- ran out of memory, and behind how many items. No query is known yet, so each Ask is refused.
+abbrev pub run_alone : (List ℕ → List ℕ) → Call → Option ℕ → State → Turn State
+run_alone digest Open stop state = open_alone stop state
+run_alone digest (Feed piece) stop state = feed_alone digest piece stop state
+run_alone digest End stop state = end_alone digest stop state
+run_alone digest (Ask query) stop state = refused_under 40 state
+run_alone digest Restart stop state = turn answer.Ok [] (Closed (last_alone digest state))

@@ -1,0 +1,81 @@
+-- One stream over an empty repository, from a reader to a writer: git-fast-import(1).
+use Rattle.std.specs.Prelude.{◌≡◌, ◌≤◌, ◌<◌, ◌+◌, ◌-◌, ◌^◌, min, ℕ, List, ◌++◌, length, Option, None, Some, Result, Ok, Err, ◌⊎◌}
+use Rattle.std.specs.Io.KnownBytes.{Consumes, Appends, IsAtEnd}
+use Rattle.git_objects.specs.declared.counted.Counted.{Counted}
+use Rattle.git_objects.specs.Device.{faults_of, passed_of, counted_on, HasFault, AppendsFront}
+use Rattle.import_session.specs.Stream.{Outcome, finished}
+use Rattle.gitpool.specs.declared.import_fault.ImportFault.{ImportFault}
+use Rattle.gitpool.specs.declared.import_fault.ImportFault.TheVariants as fault
+use Rattle.gitpool.specs.Alone.{stream_of}
+use Rattle.gitpool.specs.Holding.{empty_repository}
+
+-- What all bytes of a stream over an empty repository printed, and how it stands.
+abbrev pub outcome_of : (List ℕ → List ℕ) → List ℕ → Outcome
+outcome_of digest bytes = stream_of digest empty_repository bytes
+
+-- The number that refuses a stream which ends behind these bytes; none where it ends well.
+abbrev pub end_fault : (List ℕ → List ℕ) → List ℕ → Option ℕ
+end_fault digest bytes = (finished (outcome_of digest bytes).standing).fault
+
+-- No byte behind these changes what is printed, nor how the stream ends.
+abbrev pub IsSettled : (List ℕ → List ℕ) → List ℕ → Type 0
+IsSettled digest bytes = (more : List ℕ) → outcome_of digest (bytes ++ more) ≡ outcome_of digest bytes
+
+-- What is known of a device: the bytes that it still has, or that it took; its failed calls and the
+-- bytes that went through it so far.
+pub record Device : Type 0 where
+  pub known : Option (List ℕ)
+  pub faults : ℕ
+  pub passed : ℕ
+
+abbrev pub seen : {T : Type 0} → Option (List ℕ) → Counted T → Device
+seen known counted =
+    record { known = known; faults = faults_of counted; passed = passed_of counted }
+
+-- These bytes, the first ones that the reader had, were read.
+pub record HasRead (old new : Device) (bytes : List ℕ) : Type 0 where
+  pub consumed : Consumes old.known new.known bytes
+  pub passed : new.passed ≡ counted_on old.passed (length bytes)
+
+-- The whole stream was read and carried out, or as much of it as counts; it ended so, and exactly
+-- its replies were written.
+pub record IsImported (digest : List ℕ → List ℕ) (reader reader' writer writer' : Device)
+    (end : Option ℕ) : Type 0 where
+  pub bytes : List ℕ
+  pub read : HasRead reader reader' bytes
+  pub written : Appends writer.known writer'.known (outcome_of digest bytes).replies
+  pub ended : end_fault digest bytes ≡ end
+  pub last : IsAtEnd reader'.known ⊎ IsSettled digest bytes
+
+-- It was given up behind these bytes: a prefix of their replies was written, and all of them where
+-- no write failed.
+pub record IsGivenUp (digest : List ℕ → List ℕ) (reader reader' writer writer' : Device) : Type 0 where
+  pub bytes : List ℕ
+  pub read : HasRead reader reader' bytes
+  pub written : AppendsFront writer.known writer'.known (outcome_of digest bytes).replies
+  pub whole : HasFault writer.faults writer'.faults
+      ⊎ Appends writer.known writer'.known (outcome_of digest bytes).replies
+
+-- A prefix of the replies was written, and then memory ran out.
+pub record IsStopped (digest : List ℕ → List ℕ) (reader reader' writer writer' : Device) : Type 0 where
+  pub bytes : List ℕ
+  pub read : HasRead reader reader' bytes
+  pub written : AppendsFront writer.known writer'.known (outcome_of digest bytes).replies
+
+-- A device is to blame: a call failed, or so many reads gave bytes as one import may make.
+abbrev pub IsDevice : Device → Device → Device → Device → Type 0
+IsDevice reader reader' writer writer' =
+    HasFault reader.faults reader'.faults ⊎ (HasFault writer.faults writer'.faults
+    ⊎ (min (reader.passed + 2 ^ 32) (2 ^ 64 - 1) ≤ reader'.passed))
+
+-- What an import did, by its answer.
+abbrev pub Imports : (List ℕ → List ℕ) → Device → Device → Device → Device
+    → Result Unit ImportFault → Type 0
+Imports digest reader reader' writer writer' (Ok u) =
+    IsImported digest reader reader' writer writer' None
+Imports digest reader reader' writer writer' (Err (fault.Stream code)) =
+    IsImported digest reader reader' writer writer' (Some code)
+Imports digest reader reader' writer writer' (Err fault.Device) =
+    IsGivenUp digest reader reader' writer writer' × IsDevice reader reader' writer writer'
+Imports digest reader reader' writer writer' (Err fault.Memory) =
+    IsStopped digest reader reader' writer writer'

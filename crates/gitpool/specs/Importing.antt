@@ -1,0 +1,86 @@
+-- An import between two pieces, and what one more does to it.
+use Rattle.std.specs.Prelude.{◌≡◌, ℕ, false, List, [], Option, None, Some, Result, Ok, Err}
+use Rattle.std.specs.Io.KnownBytes.{Appends}
+use Rattle.git_model.specs.RefStore.{RefStore, no_refs}
+use Rattle.git_model.specs.Repository.{Repository}
+use Rattle.git_objects.specs.Device.{HasFault, AppendsFront}
+use Rattle.content_pool.specs.Pool.{Cells, holds}
+use Rattle.tenant_tables.specs.View.{View, held}
+use Rattle.tenant_tables.specs.StandsIn.{StandsIn}
+use Rattle.stream_lex.specs.Running.{extended}
+use Rattle.import_session.specs.Stream.{Running, Runs, Refused, after_reply, finished}
+use Rattle.gitpool.specs.declared.import_fault.ImportFault.{ImportFault}
+use Rattle.gitpool.specs.declared.import_fault.ImportFault.TheVariants as fault
+use Rattle.gitpool.specs.Carrying.{Between, IsDrained, outcome_behind, new_stream, stream_in}
+use Rattle.gitpool.specs.Import.{Device}
+
+-- The one stream, its repository, and the replies that were not written yet.
+pub record Importing : Type 0 where
+  pub pool : Cells
+  pub table : View
+  pub refs : RefStore
+  pub between : Between
+  pub out : List ℕ
+
+-- The running stream.
+abbrev pub running_of : Importing → Running
+running_of i = stream_in i.between i.pool i.table i.refs
+
+-- No content but the table's is held, and every reply was written.
+pub record IsReady (digest : List ℕ → List ℕ) (i : Importing) : Type 0 where
+  pub stands : StandsIn digest i.pool i.table.entries
+  pub alone : (s : ℕ) → holds i.pool s ≡ held i.table.entries s
+  pub written : i.out ≡ []
+
+-- Before the first byte.
+pub record IsNewImport (digest : List ℕ → List ℕ) (i : Importing) : Type 0 where
+  pub ready : IsReady digest i
+  pub between : i.between ≡ new_stream
+  pub table : i.table ≡ record { entries = []; committed = 0 }
+  pub refs : i.refs ≡ no_refs
+
+-- A piece was carried out, and its replies were written.
+pub record Passes (digest : List ℕ → List ℕ) (old : Importing) (piece : List ℕ) (writer : Device)
+    (new : Importing) (writer' : Device) : Type 0 where
+  pub replies : List ℕ
+  pub goes : (more : List ℕ)
+      → outcome_behind digest (running_of old) (extended old.between.tail piece) more
+      ≡ after_reply replies (outcome_behind digest (running_of new) new.between.tail more)
+  pub drained : IsDrained new.between.session.is_done new.between.tail
+  pub written : Appends writer.known writer'.known replies
+  pub well : writer'.faults ≡ writer.faults
+  pub ready : IsReady digest new
+
+-- It refused the stream, and the replies before that were written.
+pub record IsRefusedWith (digest : List ℕ → List ℕ) (old : Importing) (piece : List ℕ) (code : ℕ)
+    (writer writer' : Device) : Type 0 where
+  pub replies : List ℕ
+  pub repository : Repository
+  pub refused : (more : List ℕ)
+      → outcome_behind digest (running_of old) (extended old.between.tail piece) more
+      ≡ record { replies = replies; standing = Refused code repository }
+  pub written : Appends writer.known writer'.known replies
+
+-- A prefix of its replies was written.
+abbrev pub IsWrittenFront : (List ℕ → List ℕ) → Importing → List ℕ → Device → Device → Type 0
+IsWrittenFront digest old piece writer writer' = AppendsFront writer.known writer'.known
+    (outcome_behind digest (running_of old) (extended old.between.tail piece) []).replies
+
+-- What came of a piece, by the answer.
+abbrev pub PassesOn : (List ℕ → List ℕ) → Importing → List ℕ → Device → Result Unit ImportFault
+    → Importing → Device → Type 0
+PassesOn digest old piece writer (Ok u) new writer' = Passes digest old piece writer new writer'
+PassesOn digest old piece writer (Err (fault.Stream code)) new writer' =
+    IsRefusedWith digest old piece code writer writer'
+PassesOn digest old piece writer (Err fault.Device) new writer' =
+    IsWrittenFront digest old piece writer writer' × HasFault writer.faults writer'.faults
+PassesOn digest old piece writer (Err fault.Memory) new writer' =
+    IsWrittenFront digest old piece writer writer'
+
+-- How the stream ended, by the answer.
+abbrev pub EndsImport : Importing → Result Unit ImportFault → Type 0
+EndsImport i (Ok u) = (finished (Runs (running_of i) i.between.tail)).fault ≡ None
+EndsImport i (Err (fault.Stream code)) =
+    (finished (Runs (running_of i) i.between.tail)).fault ≡ Some code
+EndsImport i (Err fault.Device) = ⊥
+EndsImport i (Err fault.Memory) = ⊥

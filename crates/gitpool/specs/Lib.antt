@@ -1,0 +1,12 @@
+-- In reading order: a repository of its own, runs of many tenants, and what the service holds; why
+-- a stream stops, and a stream between two pieces; where a tenant's parts lie; and one stream from a
+-- reader to a writer.
+pub mod Alone
+pub mod Headline
+pub mod Holding
+pub mod Stopping
+pub mod Carrying
+pub mod Tenants
+pub mod ImportFaults
+pub mod Import
+pub mod Importing

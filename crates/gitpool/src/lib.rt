@@ -1,0 +1,27 @@
+//! The service: many tenants' repositories over one pool of contents.
+//!
+//! A tenant is told what it would be told if nobody else were there: `Service::run` says so, for
+//! every list of steps of any tenants, however interleaved. `import_one` carries one stream from a
+//! reader to a writer, over the same stream.
+#![tactic(auto)]
+
+mod answer;
+mod import;
+mod import_fault;
+mod key;
+mod reply;
+mod service;
+mod step;
+mod stop;
+mod stream;
+mod tenant;
+mod tenants;
+
+pub use answer::Answer;
+pub use import::import_one;
+pub use import_fault::ImportFault;
+pub use reply::Reply;
+pub use service::Service;
+pub use step::Step;
+pub use stop::Stop;
+pub use stream::Stream;
