@@ -1,0 +1,84 @@
+//! Streams over devices that fail at a chosen call.
+
+use crate::one_byte::OneByte;
+use git_objects::{Counted, FailingReader, FailingWriter, Sha1Naming};
+use gitpool::{ImportFault, import_one};
+use std::alloc::Global;
+use std::test::Fail;
+
+// The line of `get-mark` ends with its 38th byte, and that of `progress` with its 49th.
+pub const STREAM: &[u8] = b"blob\nmark :1\ndata 6\nhello\nget-mark :1\nprogress x\n";
+
+const REPLIES: &[u8] = b"ce013625030ba8dba906f756967f9e9ca394464a\nprogress x\n";
+
+// How many bytes the replies to the first bytes of the stream have.
+pub fn replied(given: usize) -> usize {
+    match given {
+        0..=37 => 0,
+        38..=48 => 41,
+        _ => 52,
+    }
+}
+
+// What an import answered, and what it wrote.
+fn with_failing_reader(
+    alloc: Global,
+    nth: u64,
+    out: &mut Vec<u8>,
+) -> (Result<(), ImportFault>, u64) {
+    let mut reader = Counted::new(FailingReader::new(OneByte::new(STREAM), nth));
+    let mut writer = Counted::new(Vec::new(alloc));
+    let ended = import_one(alloc, Sha1Naming, &mut reader, &mut writer);
+    *out = writer.into_inner();
+    (ended, reader.faults())
+}
+
+fn with_failing_writer(
+    alloc: Global,
+    nth: u64,
+    out: &mut Vec<u8>,
+) -> (Result<(), ImportFault>, u64) {
+    let mut reader = Counted::new(STREAM);
+    let mut writer = Counted::new(FailingWriter::new(Vec::new(alloc), nth));
+    let ended = import_one(alloc, Sha1Naming, &mut reader, &mut writer);
+    let faults = writer.faults();
+    *out = writer.into_inner().into_inner();
+    (ended, faults)
+}
+
+// The stream has 49 bytes, and the call behind them finds its end.
+#[test]
+fn tells_each_read_that_fails(rt: HostRuntime) -> Result<(), Fail> {
+    for nth in 0..=49_u64 {
+        let mut out = Vec::new(rt.alloc());
+        let ended = with_failing_reader(rt.alloc(), nth, &mut out);
+        let wanted = REPLIES.get(..replied(nth as usize));
+        assert_eq!(rt; ended, (Err(ImportFault::Device), 1), "at {nth}");
+        assert_eq!(rt; Some(out.as_slice()), wanted, "at {nth}");
+    }
+    let mut out = Vec::new(rt.alloc());
+    let ended = with_failing_reader(rt.alloc(), 50, &mut out);
+    assert_eq!(rt; ended, (Ok(()), 0));
+    assert_eq!(rt; out.as_slice(), REPLIES);
+    Ok(())
+}
+
+// The replies have 52 bytes, each of which is a call.
+#[test]
+fn tells_each_write_that_fails(rt: HostRuntime) -> Result<(), Fail> {
+    for nth in 0..52_u64 {
+        let mut out = Vec::new(rt.alloc());
+        let ended = with_failing_writer(rt.alloc(), nth, &mut out);
+        assert_eq!(rt; ended, (Err(ImportFault::Device), 1), "at {nth}");
+        assert_eq!(rt;
+            Some(out.as_slice()),
+            REPLIES.get(..nth as usize),
+            "at {nth}"
+        );
+    }
+    let mut out = Vec::new(rt.alloc());
+    let ended = with_failing_writer(rt.alloc(), 52, &mut out);
+    assert_eq!(rt; ended, (Ok(()), 0));
+    assert_eq!(rt; out.as_slice(), REPLIES);
+    Ok(())
+}

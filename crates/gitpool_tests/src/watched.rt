@@ -1,0 +1,72 @@
+//! A reader and a writer for tests that share a count, to see that replies go out before more is
+//! read.
+
+ghost use Rattle.std.specs.Prelude.{None};
+
+use crate::devices::{STREAM, replied};
+use crate::one_byte::OneByte;
+use git_objects::{Counted, Sha1Naming};
+use gitpool::import_one;
+use std::cell::Cell;
+use std::io;
+use std::io::{Read, Write};
+
+// Gives one byte a call, and notes where fewer bytes were written than the replies to the bytes
+// given before have.
+#[derive(Drop)]
+struct WatchingReader<'a> {
+    reader: OneByte<'a>,
+    given: usize,
+    written: &'a Cell<u64>,
+    late: &'a Cell<u64>,
+}
+
+impl<'a> Read for WatchingReader<'a> {
+    ghost remaining = { λ r. None };
+
+    fn read(&mut self, buf: &mut [u8]) -> io::Result<usize> {
+        if self.written.get() != replied(self.given) as u64 {
+            self.late.set(self.late.get().saturating_add(1));
+        }
+        self.given = self.given.saturating_add(1);
+        self.reader.read(buf)
+    }
+}
+
+// Takes everything, and counts it.
+#[derive(Drop)]
+struct WatchedWriter<'a> {
+    written: &'a Cell<u64>,
+}
+
+impl<'a> Write for WatchedWriter<'a> {
+    ghost contents = { λ w. None };
+
+    fn write(&mut self, buf: &[u8]) -> io::Result<usize> {
+        self.written
+            .set(self.written.get().saturating_add(buf.len() as u64));
+        Ok(buf.len())
+    }
+
+    fn flush(&mut self) -> io::Result<()> {
+        Ok(())
+    }
+}
+
+#[test]
+fn writes_each_reply_before_it_reads_on(rt: HostRuntime) {
+    let written = Cell::new(0);
+    let late = Cell::new(0);
+    let mut reader = Counted::new(WatchingReader {
+        reader: OneByte::new(STREAM),
+        given: 0,
+        written: &written,
+        late: &late,
+    });
+    let mut writer = Counted::new(WatchedWriter { written: &written });
+    let ended = import_one(rt.alloc(), Sha1Naming, &mut reader, &mut writer);
+    assert!(rt; ended.is_ok());
+    assert_eq!(rt; reader.passed(), 49);
+    assert_eq!(rt; written.get(), 52);
+    assert_eq!(rt; late.get(), 0);
+}
