@@ -1,8 +1,9 @@
--- In reading order: the faults, what a stream keeps, what its commands do, and the stream from end
--- to end.
+-- In reading order: the faults, what a stream keeps, what its commands do, which are known,
+-- and the stream from end to end.
 pub mod Faults
 pub mod Workspace
 pub mod Meaning
+pub mod Known
 pub mod Stream
 pub mod Session
 pub mod Printing

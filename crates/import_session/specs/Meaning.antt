@@ -121,5 +121,5 @@ after_act digest (ShowObject object) workspace =
     and_then (referred_name workspace.marks object) (λ id. blob_shown workspace id)
 after_act digest (Progress line) workspace = prints workspace line
 after_act digest Finish workspace = Ok (record { workspace = checkpointed workspace; reply = [] })
--- Every other act has no meaning here yet: its command is refused as unknown.
+-- No other act has a meaning here yet: none comes, for its command is unknown where it would begin.
 after_act digest _ workspace = Err (fault.Text text_fault.UnknownCommand)

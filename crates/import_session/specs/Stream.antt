@@ -5,10 +5,12 @@ use Rattle.stream_lex.specs.Items.{Item, Tail, Rest, Failed}
 use Rattle.stream_lex.specs.Faults.{code_of as item_code}
 use Rattle.stream_grammar.specs.Acts.{Act, Finish}
 use Rattle.stream_grammar.specs.Commands.{Parsing, top, done_by, after, end_of}
+use Rattle.stream_grammar.specs.Parts.{part_of}
 use Rattle.import_session.specs.declared.fault.Fault.{Fault}
 use Rattle.import_session.specs.Faults.{code_of, text_first}
 use Rattle.import_session.specs.Workspace.{Workspace, checkpointed}
 use Rattle.import_session.specs.Meaning.{and_then, after_act}
+use Rattle.import_session.specs.Known.{known, has_no_meaning}
 
 -- A running stream has its workspace, the command that is not whole yet, and whether `done` was
 -- read.
@@ -30,10 +32,10 @@ abbrev pub is_finish : Act → Bool
 is_finish Finish = true
 is_finish _ = false
 
--- The text of an item is judged first, and then its meaning.
+-- The text of an item is judged first, and then its meaning. A command without a meaning is unknown.
 abbrev pub taken : (List ℕ → List ℕ) → Running → Item → Result Step Fault
 taken digest now item =
-    and_then (text_first (done_by now.parsing item)) (λ done.
+    and_then (text_first (known (has_no_meaning (part_of item)) (done_by now.parsing item))) (λ done.
     and_then (after_act digest done.act now.workspace) (λ effect.
     Ok (record {
       running = record {

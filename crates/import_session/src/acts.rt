@@ -114,8 +114,7 @@ pub fn carry_out<N: Naming>(
             table.commit();
             Ok(())
         }
-        // Commits, tags, resets, aliases, checkpoints, features, options and `ls` have no meaning
-        // here yet: their commands are refused as unknown.
+        // No other act comes: its command is refused where it would begin.
         _ => Err(Fault::Text(stream_grammar::Fault::UnknownCommand)),
     }
 }

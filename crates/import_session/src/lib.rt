@@ -7,6 +7,7 @@
 
 mod acts;
 mod fault;
+mod known;
 mod marks;
 mod objects;
 mod print;

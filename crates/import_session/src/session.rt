@@ -3,8 +3,7 @@
 //! The table, the refs and the pool are lent at each call; the objects behind the table's committed
 //! prefix are the stream's own, until a checkpoint.
 
-ghost use Rattle.std.specs.Prelude.{◌≡◌, ◌≢◌, [], OnErr};
-ghost use Rattle.stream_grammar.specs.declared.fault.Fault.TheVariants as text_fault;
+ghost use Rattle.std.specs.Prelude.{◌≡◌, [], OnErr};
 ghost use Rattle.content_pool.specs.Pool.{HasRoom};
 ghost use Rattle.tenant_tables.specs.StandsIn.{StandsIn, LeavesOthers};
 ghost use Rattle.stream_grammar.specs.Shown.{act_shown};
@@ -14,12 +13,13 @@ ghost use Rattle.import_session.specs.Session.{running_in, workspace_in, reposit
 
 use crate::acts::carry_out;
 use crate::fault::Fault;
+use crate::known::act_of;
 use content_pool::Pool;
 use git_objects::{Name, Naming};
 use indexmap::IndexMap;
 use std::alloc::Global;
 use std::marker::Model;
-use stream_grammar::{Act, Mark, Parser};
+use stream_grammar::{Act, Mark, Parser, part_of};
 use stream_lex::Item;
 use tenant_refs::Refs;
 use tenant_tables::Table;
@@ -51,17 +51,6 @@ fn is_finish(act: &Act<'_>) -> bool
     matches!(act, Act::Finish)
 }
 
-// The fault of an item's text; out of memory is out of memory here too.
-fn fault_of(fault: stream_grammar::Fault) -> Fault
-    ensures text { result ≢ Fault.Memory → result ≡ Fault.Text fault }
-    ensures memory { fault ≡ text_fault.Memory → result ≡ Fault.Memory }
-{
-    match fault {
-        stream_grammar::Fault::Memory => Fault::Memory,
-        text => Fault::Text(text),
-    }
-}
-
 impl Session {
     /// A stream before its first item. Takes no memory; what it keeps comes from `alloc`.
     pub fn new(alloc: Global) -> Session
@@ -83,11 +72,11 @@ impl Session {
 
     /// Takes the next item, and appends what it prints to `out`: git-fast-import(1), "Commands".
     ///
-    /// The fault of the item's text (2, 3, 5, 8 to 12, 21 to 23, 25) comes before that of its
-    /// meaning: `MarkUnknown` (13), `WrongKind` (15), `Limit` (25) and `NameCollision` (24). A
-    /// command without a meaning here yet is unknown (2). `Memory` (90) may stand in place of any
-    /// answer. After a refusal `out` is unchanged, the committed objects and the refs are those of
-    /// the last checkpoint, and only `abandon` may follow. Behind `done` an item is passed over.
+    /// The fault of the item's text (2, 3, 5, 12) comes before that of its meaning: `MarkUnknown`
+    /// (13), `WrongKind` (15), `Limit` (25) and `NameCollision` (24). A command without a meaning
+    /// here yet is unknown (2). `Memory` (90) may stand in place of any answer. After a refusal
+    /// `out` is unchanged, the committed objects and the refs are those of the last checkpoint, and
+    /// only `abandon` may follow. Behind `done` an item is passed over.
     #[tactic(auto, unfolding(crate::specs::Stream::step))]
     pub fn take<N: Naming>(
         &mut self,
@@ -114,9 +103,9 @@ impl Session {
         if self.is_done() {
             return Ok(());
         }
-        let act = match self.parser.take(item) {
-            Ok(done) => done.act,
-            Err(fault) => return Err(fault_of(fault)),
+        let act = match act_of(self.parser.take(item), part_of(item)) {
+            Ok(act) => act,
+            Err(fault) => return Err(fault),
         };
         carry_out(pool, table, &mut self.marks, &act, out)?;
         self.is_done = is_finish(&act);

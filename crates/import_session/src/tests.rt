@@ -126,12 +126,14 @@ fn prints_what_git_prints(rt: HostRuntime) -> Result<(), Fail> {
 fn refuses_by_number_and_prints_nothing(rt: HostRuntime) -> Result<(), Fail> {
     let ab = Step::Take(Item::Data(b"ab"));
     let ba = Step::Take(Item::Data(b"ba"));
-    let streams: [(&[Step<'_>], u16); 10] = [
+    let streams: [(&[Step<'_>], u16); 12] = [
         (&[line(b"commit refs/heads/m")], 2),
         (&[line(b"reset refs/heads/m")], 2),
         (&[line(b"checkpoint")], 2),
         (&[line(b"feature done")], 2),
-        (&[line(b"tag .v")], 11),
+        (&[line(b"tag .v")], 2),
+        (&[line(b"option git quiet")], 2),
+        (&[BLOB, line(b"feature done")], 5),
         (&[line(b"get-mark :1")], 13),
         (&[line(b"cat-blob :1")], 13),
         (&[BLOB, ab, BLOB, ba], 24),

@@ -42,4 +42,5 @@ pub use git_objects::{Ident, Name};
 pub use git_paths::Path;
 pub use mark::Mark;
 pub use parser::Parser;
+pub use part::{Part, part_of};
 pub use tenant_refs::RefName;

@@ -9,7 +9,7 @@ use stream_lex::Item;
 
 /// What an item is by its first word, whatever the rest of it says. Behind `M` its third word says
 /// whether data follow.
-#[derive(Clone, Copy)]
+#[derive(Clone, Copy, Debug, PartialEq, Eq)]
 pub enum Part {
     Blob,
     Commit,
@@ -143,7 +143,7 @@ pub fn part_of_line(line: &[u8]) -> Part
     }
 }
 
-/// The part that an item is.
+/// The part that an item is, by its first word. Takes no memory.
 pub fn part_of(item: Item<'_>) -> Part
     ensures { result ≡ parts.part_of (item_of item.entry) }
 {
