@@ -1,6 +1,6 @@
 -- Counts of what a reader or a writer did.
-use Rattle.std.specs.Prelude.{◌≡◌, ℕ, zero, suc, ◌+◌, ◌-◌, ◌^◌, ◌<◌, min, List, [], ◌∷◌, ◌++◌, Option, Result, Ok, Err}
-use Rattle.std.specs.Io.KnownBytes.{Appends}
+use Rattle.std.specs.Prelude.{◌≡◌, ℕ, zero, suc, ◌+◌, ◌-◌, ◌^◌, ◌<◌, min, List, [], ◌∷◌, ◌++◌, length, Option, Result, Ok, Err}
+use Rattle.std.specs.Io.KnownBytes.{Appends, Consumes}
 use Rattle.git_objects.specs.declared.counted.Counted.{Counted}
 
 -- The reader or writer inside, its calls that failed so far, and the bytes that went through it so
@@ -45,3 +45,19 @@ pub record AppendsFront (old new : Option (List ℕ)) (bytes : List ℕ) : Type 
   pub rest : List ℕ
   pub parts : bytes ≡ front ++ rest
   pub appends : Appends old new front
+
+-- What is known of a device: the bytes that it still has, or that it took; its failed calls and the
+-- bytes that went through it so far.
+pub record Device : Type 0 where
+  pub known : Option (List ℕ)
+  pub faults : ℕ
+  pub passed : ℕ
+
+abbrev pub seen : {T : Type 0} → Option (List ℕ) → Counted T → Device
+seen known counted =
+    record { known = known; faults = faults_of counted; passed = passed_of counted }
+
+-- These bytes, the first ones that the reader had, were read.
+pub record HasRead (old new : Device) (bytes : List ℕ) : Type 0 where
+  pub consumed : Consumes old.known new.known bytes
+  pub passed : new.passed ≡ counted_on old.passed (length bytes)

@@ -10,7 +10,7 @@ use Rattle.tenant_tables.specs.StandsIn.{StandsIn, LeavesOthers}
 use Rattle.stream_grammar.specs.Commands.{top}
 use Rattle.import_session.specs.Workspace.{opened}
 use Rattle.import_session.specs.Session.{new_session, running_in}
-use Rattle.git_objects.specs.Device.{counted_on, HasFault, AppendsFront, faults_after_read, passed_after}
+use Rattle.git_objects.specs.Device.{Device, HasRead, counted_on, HasFault, AppendsFront, faults_after_read, passed_after}
 use Rattle.git_objects.proofs.KnownBytes.{Appends-nil, Appends-trans, Consumes-nil, Consumes-trans, Consumes-kept}
 use Rattle.stream_lex.specs.Items.{Item, Tail, Rest, Failed, behind_items}
 use Rattle.stream_lex.specs.Reading.{reading, walk}
@@ -24,7 +24,7 @@ use Rattle.gitpool.specs.declared.import_fault.ImportFault.{ImportFault}
 use Rattle.gitpool.specs.declared.import_fault.ImportFault.TheVariants as fault
 use Rattle.gitpool.specs.Carrying.{Between, Carries, Advances, Goes, Ends, EndsAs, Fails, Feeds, HasAmpleRoom, Stops, IsDrained, new_stream, outcome_behind, stream_in}
 use Rattle.gitpool.specs.ImportFaults.{as_import}
-use Rattle.gitpool.specs.Import.{Device, HasRead, IsImported, IsGivenUp, IsStopped, IsDevice, IsSettled, Imports, outcome_of, end_fault}
+use Rattle.gitpool.specs.Import.{IsImported, IsGivenUp, IsStopped, IsDevice, IsSettled, Imports, outcome_of, end_fault}
 use Rattle.gitpool.specs.Alone.{stream_of}
 use Rattle.gitpool.specs.Holding.{empty_repository}
 use Rattle.gitpool.specs.Importing.{Importing, running_of, IsNewImport, IsReady, Passes, IsRefusedWith, IsWrittenFront, PassesOn, EndsImport}

@@ -8,4 +8,5 @@ mod AccountLemmas
 mod RunLemmas
 mod RestartLemmas
 mod StoredLemmas
+mod ServeLemmas
 pub mod ImportLemmas

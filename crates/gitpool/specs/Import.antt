@@ -1,8 +1,7 @@
 -- One stream over an empty repository, from a reader to a writer: git-fast-import(1).
-use Rattle.std.specs.Prelude.{◌≡◌, ◌≤◌, ◌<◌, ◌+◌, ◌-◌, ◌^◌, min, ℕ, List, ◌++◌, length, Option, None, Some, Result, Ok, Err, ◌⊎◌}
-use Rattle.std.specs.Io.KnownBytes.{Consumes, Appends, IsAtEnd}
-use Rattle.git_objects.specs.declared.counted.Counted.{Counted}
-use Rattle.git_objects.specs.Device.{faults_of, passed_of, counted_on, HasFault, AppendsFront}
+use Rattle.std.specs.Prelude.{◌≡◌, ◌≤◌, ◌+◌, ◌-◌, ◌^◌, min, ℕ, List, ◌++◌, Option, None, Some, Result, Ok, Err, ◌⊎◌}
+use Rattle.std.specs.Io.KnownBytes.{Appends, IsAtEnd}
+use Rattle.git_objects.specs.Device.{Device, HasRead, HasFault, AppendsFront}
 use Rattle.import_session.specs.Stream.{Outcome, finished}
 use Rattle.gitpool.specs.declared.import_fault.ImportFault.{ImportFault}
 use Rattle.gitpool.specs.declared.import_fault.ImportFault.TheVariants as fault
@@ -20,22 +19,6 @@ end_fault digest bytes = (finished (outcome_of digest bytes).standing).fault
 -- No byte behind these changes what is printed, nor how the stream ends.
 abbrev pub IsSettled : (List ℕ → List ℕ) → List ℕ → Type 0
 IsSettled digest bytes = (more : List ℕ) → outcome_of digest (bytes ++ more) ≡ outcome_of digest bytes
-
--- What is known of a device: the bytes that it still has, or that it took; its failed calls and the
--- bytes that went through it so far.
-pub record Device : Type 0 where
-  pub known : Option (List ℕ)
-  pub faults : ℕ
-  pub passed : ℕ
-
-abbrev pub seen : {T : Type 0} → Option (List ℕ) → Counted T → Device
-seen known counted =
-    record { known = known; faults = faults_of counted; passed = passed_of counted }
-
--- These bytes, the first ones that the reader had, were read.
-pub record HasRead (old new : Device) (bytes : List ℕ) : Type 0 where
-  pub consumed : Consumes old.known new.known bytes
-  pub passed : new.passed ≡ counted_on old.passed (length bytes)
 
 -- The whole stream was read and carried out, or as much of it as counts; it ended so, and exactly
 -- its replies were written.

@@ -3,7 +3,7 @@ use Rattle.std.specs.Prelude.{◌≡◌, ℕ, false, List, [], Option, None, Som
 use Rattle.std.specs.Io.KnownBytes.{Appends}
 use Rattle.git_model.specs.RefStore.{RefStore, no_refs}
 use Rattle.git_model.specs.Repository.{Repository}
-use Rattle.git_objects.specs.Device.{HasFault, AppendsFront}
+use Rattle.git_objects.specs.Device.{Device, HasFault, AppendsFront}
 use Rattle.content_pool.specs.Pool.{Cells, holds}
 use Rattle.tenant_tables.specs.View.{View, held}
 use Rattle.tenant_tables.specs.StandsIn.{StandsIn}
@@ -12,7 +12,6 @@ use Rattle.import_session.specs.Stream.{Running, Runs, Refused, after_reply, fin
 use Rattle.gitpool.specs.declared.import_fault.ImportFault.{ImportFault}
 use Rattle.gitpool.specs.declared.import_fault.ImportFault.TheVariants as fault
 use Rattle.gitpool.specs.Carrying.{Between, IsDrained, outcome_behind, new_stream, stream_in}
-use Rattle.gitpool.specs.Import.{Device}
 
 -- The one stream, its repository, and the replies that were not written yet.
 pub record Importing : Type 0 where

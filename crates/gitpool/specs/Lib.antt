@@ -1,6 +1,6 @@
 -- In reading order: a repository of its own, runs of many tenants, and what the service holds; why
--- a stream stops, and a stream between two pieces; where a tenant's parts lie; and one stream from a
--- reader to a writer.
+-- a stream stops, and a stream between two pieces; where a tenant's parts lie; one stream from a
+-- reader to a writer, and frames of steps.
 pub mod Alone
 pub mod Headline
 pub mod Holding
@@ -10,3 +10,4 @@ pub mod Tenants
 pub mod ImportFaults
 pub mod Import
 pub mod Importing
+pub mod Serving

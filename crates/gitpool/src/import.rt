@@ -4,9 +4,9 @@
 
 ghost use Rattle.std.specs.Prelude.{◌≡◌, [], false, OnOk, OnErr};
 ghost use Rattle.std.specs.Io.KnownBytes.{Appends};
-ghost use Rattle.git_objects.specs.Device.{device_of, faults_of, AppendsFront, HasFault};
+ghost use Rattle.git_objects.specs.Device.{device_of, faults_of, AppendsFront, HasFault, seen};
 ghost use Rattle.gitpool.specs.ImportFaults.{as_import};
-ghost use Rattle.gitpool.specs.Import.{seen, Imports};
+ghost use Rattle.gitpool.specs.Import.{Imports};
 ghost use Rattle.gitpool.specs.Importing.{IsReady, IsNewImport, PassesOn, EndsImport};
 
 use crate::import_fault::ImportFault;

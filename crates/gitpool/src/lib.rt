@@ -5,23 +5,22 @@
 //! reader to a writer, over the same stream.
 #![tactic(auto)]
 
-mod answer;
 mod import;
 mod import_fault;
 mod key;
 mod reply;
 mod service;
-mod step;
+mod serving;
 mod stop;
 mod stream;
 mod tenant;
 mod tenants;
 
-pub use answer::Answer;
 pub use import::import_one;
 pub use import_fault::ImportFault;
 pub use reply::Reply;
 pub use service::Service;
-pub use step::Step;
+pub use serving::serve;
+pub use step_frames::{Answer, FrameFault, Step};
 pub use stop::Stop;
 pub use stream::Stream;

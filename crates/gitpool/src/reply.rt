@@ -1,6 +1,6 @@
 //! Replies of a run.
 
-use crate::answer::Answer;
+use step_frames::Answer;
 
 /// What one step of a run was told.
 #[derive(Debug, Drop)]

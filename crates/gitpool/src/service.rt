@@ -11,10 +11,8 @@ ghost use Rattle.gitpool.specs.Headline.{IsItsOwn, IsRefused, told_in, told_sinc
 ghost use Rattle.gitpool.specs.Holding.{Idle, empty_repository, held_of, held_contents, has_commit};
 ghost use Rattle.gitpool.specs.Tenants.{Shows};
 
-use crate::answer::Answer;
 use crate::key::Key;
 use crate::reply::Reply;
-use crate::step::Step;
 use crate::tenant::Tenant;
 use crate::tenants::{count_committed, key_of, take_step};
 use content_pool::Pool;
@@ -22,6 +20,7 @@ use git_objects::{Memory, Naming};
 use indexmap::IndexMap;
 use std::alloc::Global;
 use std::marker::Model;
+use step_frames::{Answer, Step};
 use tenant_refs::Refs;
 use tenant_tables::Table;
 

@@ -12,13 +12,13 @@ ghost use Rattle.gitpool.specs.Headline.{stop_told};
 ghost use Rattle.gitpool.specs.Holding.{Idle, step_held, empty_repository, last_held};
 ghost use Rattle.gitpool.specs.Tenants.{held_in, holding_in, kept_tail, Stands, IsSettled, Takes, Fed};
 
-use crate::answer::Answer;
 use crate::stop::Stop;
 use crate::stream::Stream;
 use content_pool::Pool;
 use git_objects::Naming;
 use std::alloc::Global;
 use std::mem;
+use step_frames::Answer;
 use tenant_refs::Refs;
 use tenant_tables::Table;
 

@@ -11,14 +11,13 @@ ghost use Rattle.gitpool.specs.Alone.{Open, Feed, End};
 ghost use Rattle.gitpool.specs.Carrying.{HasAmpleRoom};
 ghost use Rattle.gitpool.specs.Tenants.{Accounts, Serves, Steps, holdings, restarted, restarted_at, has_committed};
 
-use crate::answer::Answer;
 use crate::key::Key;
-use crate::step::Step;
 use crate::tenant::{Tenant, end, feed, new_tenant, open, restart};
 use content_pool::Pool;
 use git_objects::Naming;
 use indexmap::IndexMap;
 use std::alloc::Global;
+use step_frames::{Answer, Step};
 use tenant_refs::is_tenant_name;
 
 /// Feeds the stream of the tenant of this name; 30 where there is none.

@@ -4,6 +4,8 @@
 #[cfg(test)]
 mod devices;
 #[cfg(test)]
+mod frames;
+#[cfg(test)]
 mod one_byte;
 #[cfg(test)]
 mod services;

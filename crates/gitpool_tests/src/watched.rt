@@ -4,18 +4,37 @@
 ghost use Rattle.std.specs.Prelude.{None};
 
 use crate::devices::{STREAM, replied};
+use crate::frames::{FRAMES, answered};
 use crate::one_byte::OneByte;
 use git_objects::{Counted, Sha1Naming};
-use gitpool::import_one;
+use gitpool::{Service, import_one, serve};
 use std::cell::Cell;
 use std::io;
 use std::io::{Read, Write};
 
-// Gives one byte a call, and notes where fewer bytes were written than the replies to the bytes
-// given before have.
+// What is to be written.
+#[derive(Clone, Copy)]
+enum Due {
+    Replies,
+    Answers,
+}
+
+impl Due {
+    // How many bytes of it, for the first bytes that were read.
+    fn size(self, given: usize) -> usize {
+        match self {
+            Due::Replies => replied(given),
+            Due::Answers => answered(given),
+        }
+    }
+}
+
+// Gives one byte a call, and notes where other bytes were written than are due for the bytes given
+// before.
 #[derive(Drop)]
 struct WatchingReader<'a> {
     reader: OneByte<'a>,
+    due: Due,
     given: usize,
     written: &'a Cell<u64>,
     late: &'a Cell<u64>,
@@ -25,7 +44,7 @@ impl<'a> Read for WatchingReader<'a> {
     ghost remaining = { λ r. None };
 
     fn read(&mut self, buf: &mut [u8]) -> io::Result<usize> {
-        if self.written.get() != replied(self.given) as u64 {
+        if self.written.get() != self.due.size(self.given) as u64 {
             self.late.set(self.late.get().saturating_add(1));
         }
         self.given = self.given.saturating_add(1);
@@ -59,6 +78,7 @@ fn writes_each_reply_before_it_reads_on(rt: HostRuntime) {
     let late = Cell::new(0);
     let mut reader = Counted::new(WatchingReader {
         reader: OneByte::new(STREAM),
+        due: Due::Replies,
         given: 0,
         written: &written,
         late: &late,
@@ -68,5 +88,25 @@ fn writes_each_reply_before_it_reads_on(rt: HostRuntime) {
     assert!(rt; ended.is_ok());
     assert_eq!(rt; reader.passed(), 49);
     assert_eq!(rt; written.get(), 52);
+    assert_eq!(rt; late.get(), 0);
+}
+
+#[test]
+fn writes_each_answer_before_it_reads_on(rt: HostRuntime) {
+    let written = Cell::new(0);
+    let late = Cell::new(0);
+    let mut service = Service::new(rt.alloc(), Sha1Naming);
+    let mut reader = Counted::new(WatchingReader {
+        reader: OneByte::new(FRAMES),
+        due: Due::Answers,
+        given: 0,
+        written: &written,
+        late: &late,
+    });
+    let mut writer = Counted::new(WatchedWriter { written: &written });
+    let ended = serve(rt.alloc(), &mut service, &mut reader, &mut writer);
+    assert!(rt; ended.is_ok());
+    assert_eq!(rt; reader.passed(), 47);
+    assert_eq!(rt; written.get(), 79);
     assert_eq!(rt; late.get(), 0);
 }

@@ -2,8 +2,7 @@ use Rattle.std.proofs.Common.{◌≡◌, ◌≤◌, ◌<◌, ◌-◌, ◌^◌, �
 use Rattle.std.proofs.lemmas.Bool.Decides.{nat_tests}
 use Rattle.std.proofs.lemmas.Result.{err_from_is_err_and}
 use Rattle.std.specs.Io.KnownBytes.{Consumes}
-use Rattle.git_objects.specs.Device.{device_of, passed_of, counted_on}
-use Rattle.gitpool.specs.Import.{seen}
+use Rattle.git_objects.specs.Device.{device_of, passed_of, counted_on, seen}
 use Rattle.gitpool.proofs.ImportLemmas.{reads_piece, piece_some, so_far_new, so_far_more, imported_done, imported_piece, imported_end, unread, endless}
 use Rattle.gitpool.proofs.import.import_one.Goals as goal
 

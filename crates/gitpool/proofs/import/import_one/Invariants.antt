@@ -1,6 +1,5 @@
 use Rattle.std.proofs.Common.{◌≡◌, length}
-use Rattle.git_objects.specs.Device.{device_of}
-use Rattle.gitpool.specs.Import.{seen}
+use Rattle.git_objects.specs.Device.{device_of, seen}
 use Rattle.gitpool.proofs.ImportLemmas.{SoFar}
 use Rattle.gitpool.proofs.import.import_one.Given as goal
 

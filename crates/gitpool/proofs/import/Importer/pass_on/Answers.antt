@@ -1,7 +1,6 @@
 use Rattle.std.proofs.Common.{◌≡◌, ℕ, List, false, sym, ap, subst, refl, ◌∙◌}
 use Rattle.std.specs.Io.KnownBytes.{Appends}
-use Rattle.git_objects.specs.Device.{device_of}
-use Rattle.gitpool.specs.Import.{seen}
+use Rattle.git_objects.specs.Device.{device_of, seen}
 use Rattle.gitpool.specs.ImportFaults.{as_import}
 use Rattle.gitpool.specs.Importing.{Importing, IsReady, PassesOn}
 use Rattle.gitpool.proofs.ImportLemmas.{fed_of, passes_on, ready_then, printed_front, front_of_front, has_ample_room}

@@ -1,0 +1,60 @@
+-- Steps of any tenants that come as frames from a reader, and their answers to a writer.
+use Rattle.std.specs.Prelude.{◌≡◌, ℕ, ◌^◌, List, [], ◌++◌, length, Result, Ok, Err, ◌⊎◌}
+use Rattle.std.specs.List.{AllByRecursion, flat_map}
+use Rattle.std.specs.Io.KnownBytes.{Appends, IsAtEnd}
+use Rattle.git_objects.specs.Device.{Device, HasRead, HasFault, AppendsFront}
+use Rattle.step_frames.specs.declared.fault.FrameFault.{FrameFault}
+use Rattle.step_frames.specs.declared.fault.FrameFault.TheVariants as fault
+use Rattle.step_frames.specs.Frames.{frame_of, step_text, answer_text, IsGood, IsUnfinished, IsCutOff, IsBad}
+use Rattle.gitpool.specs.Headline.{Run, IsItsOwn, IsRefused}
+use Rattle.gitpool.specs.Holding.{Holdings, held_of}
+
+-- The frames of the steps of a run, and those of what they were told.
+abbrev pub steps_text : Run → List ℕ
+steps_text run = flat_map (λ taken. step_text taken.0) run
+
+abbrev pub answers_text : Run → List ℕ
+answers_text run = flat_map (λ taken. answer_text taken.1.answer taken.1.reply) run
+
+-- Good frames were read, and some bytes behind them, and the steps were taken in turn: to every
+-- tenant they were told what they are told in a repository of its own.
+pub record Served (digest : List ℕ → List ℕ) (before after : Holdings) (reader reader' : Device)
+    : Type 0 where
+  pub run : Run
+  pub rest : List ℕ
+  pub own : (tenant : List ℕ)
+      → IsItsOwn digest tenant (held_of tenant before) run (held_of tenant after)
+  pub bad_names : AllByRecursion IsRefused run
+  pub good : AllByRecursion (λ taken. IsGood (frame_of taken.0)) run
+  pub read : HasRead reader reader' (steps_text run ++ rest)
+
+-- A device is to blame: a call failed, or so many frames came as one serving takes.
+abbrev pub IsToBlame : Device → Device → Device → Device → Run → Type 0
+IsToBlame reader reader' writer writer' run =
+    HasFault reader.faults reader'.faults ⊎ (HasFault writer.faults writer'.faults
+    ⊎ (length run ≡ 2 ^ 32))
+
+-- A prefix of the answers was written, and all of them where no write failed.
+pub record AppendsAsFar (writer writer' : Device) (bytes : List ℕ) : Type 0 where
+  pub front : AppendsFront writer.known writer'.known bytes
+  pub whole : HasFault writer.faults writer'.faults ⊎ Appends writer.known writer'.known bytes
+
+-- What serving did, by its answer.
+abbrev pub Serves : (List ℕ → List ℕ) → Holdings → Holdings → Device → Device → Device → Device
+    → Result Unit FrameFault → Type 0
+Serves digest before after reader reader' writer writer' (Ok u) =
+    (s : Served digest before after reader reader') × (s.rest ≡ []) × IsAtEnd reader'.known
+    × Appends writer.known writer'.known (answers_text s.run)
+Serves digest before after reader reader' writer writer' (Err fault.BadFrame) =
+    (s : Served digest before after reader reader') × IsBad s.rest
+    × Appends writer.known writer'.known (answers_text s.run)
+Serves digest before after reader reader' writer writer' (Err fault.CutOff) =
+    (s : Served digest before after reader reader') × IsCutOff s.rest × IsAtEnd reader'.known
+    × Appends writer.known writer'.known (answers_text s.run)
+Serves digest before after reader reader' writer writer' (Err fault.Device) =
+    (s : Served digest before after reader reader') × IsUnfinished s.rest
+    × AppendsAsFar writer writer' (answers_text s.run)
+    × IsToBlame reader reader' writer writer' s.run
+Serves digest before after reader reader' writer writer' (Err fault.Memory) =
+    (s : Served digest before after reader reader') × IsUnfinished s.rest
+    × Appends writer.known writer'.known (answers_text s.run)

@@ -1,0 +1,142 @@
+//! Frames of steps over a whole service, beside bytes derived by hand.
+
+use crate::one_byte::OneByte;
+use git_objects::{Counted, FailingReader, FailingWriter, Naming, Sha1Naming, TailNaming};
+use gitpool::{FrameFault, Service, serve};
+use std::alloc::Global;
+use std::test::Fail;
+
+/// Open of `t`, a Feed of `progress x` and its line end, an Ask and the End: 8, 19, 12 and 8 bytes.
+pub const FRAMES: &[u8] =
+    b"\x01\0\x01t\0\0\0\0\x02\0\x01t\0\0\0\x0bprogress x\n\x04\0\x01t\0\0\0\x04refs\x03\0\x01t\0\0\0\0";
+
+/// The answers to these: three of 17 bytes, and one of 17 and 11.
+pub const ANSWERS: &[u8] =
+    b"\0\0\0\0\0\0\0\0\0\0\0\0\0\0\0\0\0\0\0\0\0\0\0\0\0\0\0\0\0\0\0\0\0\x0bprogress x\n\x01\0\0\0\0\0\0\0\x28\0\0\0\0\0\0\0\0\0\0\0\0\0\0\0\0\0\0\0\0\0\0\0\0\0";
+
+/// How many bytes the answers to the first bytes of the frames have.
+pub fn answered(given: usize) -> usize {
+    match given {
+        0..=7 => 0,
+        8..=26 => 17,
+        27..=38 => 45,
+        39..=46 => 62,
+        _ => 79,
+    }
+}
+
+// Serves frames over an empty service: how it ended, and what was written.
+fn served<N: Naming>(
+    alloc: Global,
+    naming: N,
+    bytes: &[u8],
+    out: &mut Vec<u8>,
+) -> Result<(), FrameFault> {
+    let mut service = Service::new(alloc, naming);
+    let mut reader = Counted::new(bytes);
+    let mut writer = Counted::new(Vec::new(alloc));
+    let ended = serve(alloc, &mut service, &mut reader, &mut writer);
+    *out = writer.into_inner();
+    ended
+}
+
+#[test]
+fn answers_each_frame(rt: HostRuntime) {
+    let mut out = Vec::new(rt.alloc());
+    let ended = served(rt.alloc(), Sha1Naming, FRAMES, &mut out);
+    assert_eq!(rt; ended, Ok(()));
+    assert!(rt; out.as_slice() == ANSWERS);
+    let mut out = Vec::new(rt.alloc());
+    assert_eq!(rt; served(rt.alloc(), TailNaming, b"", &mut out), Ok(()));
+    assert!(rt; out.is_empty());
+}
+
+#[test]
+fn ends_at_a_bad_frame_behind_the_answers(rt: HostRuntime) -> Result<(), Fail> {
+    let ends = [
+        (b"\x06".as_slice(), FrameFault::BadFrame),
+        (b"\x01\0\x01t\0\0\0\x01", FrameFault::BadFrame),
+        (b"\x01\0", FrameFault::CutOff),
+        (b"\x02\0\x01t\0\0\0\x02x", FrameFault::CutOff),
+    ];
+    for (bytes, fault) in ends {
+        let mut out = Vec::new(rt.alloc());
+        assert_eq!(rt; served(rt.alloc(), Sha1Naming, bytes, &mut out), Err(fault));
+        assert!(rt; out.is_empty());
+        let mut both = Vec::from_slice(rt.alloc(), FRAMES)?;
+        both.extend_from_slice(bytes)?;
+        assert_eq!(rt; served(rt.alloc(), Sha1Naming, &both, &mut out), Err(fault));
+        assert!(rt; out.as_slice() == ANSWERS);
+    }
+    Ok(())
+}
+
+#[test]
+fn answers_a_frame_without_a_name(rt: HostRuntime) {
+    let mut out = Vec::new(rt.alloc());
+    let ended = served(rt.alloc(), Sha1Naming, b"\x02\0\0\0\0\0\0", &mut out);
+    assert_eq!(rt; ended, Ok(()));
+    let answer = b"\x01\0\0\0\0\0\0\0\x20\0\0\0\0\0\0\0\0";
+    assert!(rt; out.as_slice() == answer.as_slice());
+}
+
+// Every front of the frames is answered up to its last whole one.
+#[test]
+fn tells_frames_that_are_cut_off(rt: HostRuntime) {
+    for size in 0..FRAMES.len() + 1 {
+        let mut out = Vec::new(rt.alloc());
+        let ended = served(rt.alloc(), Sha1Naming, FRAMES.split_at(size).0, &mut out);
+        let wanted = match size {
+            0 | 8 | 27 | 39 | 47 => Ok(()),
+            _ => Err(FrameFault::CutOff),
+        };
+        assert_eq!(rt; ended, wanted, "at {size}");
+        assert_eq!(rt;
+            Some(out.as_slice()),
+            ANSWERS.get(..answered(size)),
+            "at {size}"
+        );
+    }
+}
+
+// The frames have 47 bytes, and the call behind them finds their end.
+#[test]
+fn tells_each_read_that_fails(rt: HostRuntime) {
+    for nth in 0..=47_u64 {
+        let mut service = Service::new(rt.alloc(), Sha1Naming);
+        let mut reader = Counted::new(FailingReader::new(OneByte::new(FRAMES), nth));
+        let mut writer = Counted::new(Vec::new(rt.alloc()));
+        let ended = serve(rt.alloc(), &mut service, &mut reader, &mut writer);
+        assert_eq!(rt; ended, Err(FrameFault::Device), "at {nth}");
+        assert_eq!(rt; reader.faults(), 1);
+        let out = writer.into_inner();
+        assert_eq!(rt;
+            Some(out.as_slice()),
+            ANSWERS.get(..answered(nth as usize)),
+            "at {nth}"
+        );
+    }
+}
+
+// The answers have 79 bytes, each of which is a call.
+#[test]
+fn tells_each_write_that_fails(rt: HostRuntime) {
+    for nth in 0..=79_u64 {
+        let mut service = Service::new(rt.alloc(), Sha1Naming);
+        let mut reader = Counted::new(FRAMES);
+        let mut writer = Counted::new(FailingWriter::new(Vec::new(rt.alloc()), nth));
+        let ended = serve(rt.alloc(), &mut service, &mut reader, &mut writer);
+        let wanted = if nth == 79 {
+            Ok(())
+        } else {
+            Err(FrameFault::Device)
+        };
+        assert_eq!(rt; ended, wanted, "at {nth}");
+        let out = writer.into_inner().into_inner();
+        assert_eq!(rt;
+            Some(out.as_slice()),
+            ANSWERS.get(..nth as usize),
+            "at {nth}"
+        );
+    }
+}

@@ -1,0 +1,4 @@
+pub mod ReadLemmas
+pub mod SizedLemmas
+pub mod FrameLemmas
+pub mod WriteLemmas

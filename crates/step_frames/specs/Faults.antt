@@ -1,0 +1,10 @@
+-- The numbers of the faults of frames.
+use Rattle.std.specs.Prelude.{ℕ}
+use Rattle.step_frames.specs.declared.fault.FrameFault.{FrameFault}
+use Rattle.step_frames.specs.declared.fault.FrameFault.TheVariants as fault
+
+abbrev pub code_of : FrameFault → ℕ
+code_of fault.BadFrame = 50
+code_of fault.CutOff = 51
+code_of fault.Device = 68
+code_of fault.Memory = 90
