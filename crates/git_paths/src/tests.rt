@@ -137,6 +137,32 @@ fn a_path_comes_apart_and_together(rt: HostRuntime) -> Result<(), Fail> {
 }
 
 #[test]
+fn components_are_counted_and_split(rt: HostRuntime) -> Result<(), Fail> {
+    let path = read_last(rt.alloc(), b"a/bc/d")?;
+    let components = path.components();
+    assert_eq!(rt; components.len(), 3);
+    let (first, rest) = components.split_first().ok_or("a component")?;
+    assert_eq!(rt; first, b"a".as_slice());
+    assert_eq!(rt; rest.len(), 2);
+    assert_eq!(rt; rest.as_bytes(), b"bc/d".as_slice());
+    let root = Path::root(rt.alloc());
+    assert_eq!(rt; root.components().len(), 0);
+    assert!(rt; root.components().split_first().is_none());
+    Ok(())
+}
+
+#[test]
+fn a_path_past_the_limits_is_known(rt: HostRuntime) -> Result<(), Fail> {
+    for (components, within) in [(256, true), (257, false)] {
+        let bytes = deep(rt.alloc(), components)?;
+        let path = Path::from_canonical(rt.alloc(), &bytes)?.ok_or("a path")?;
+        assert_eq!(rt; path.is_within_limits(), within);
+        assert_eq!(rt; path.component_count(), components);
+    }
+    Ok(())
+}
+
+#[test]
 fn paths_are_ordered_by_their_bytes(rt: HostRuntime) -> Result<(), Fail> {
     let file = read_last(rt.alloc(), b"a.txt")?;
     let below = read_last(rt.alloc(), b"a/x")?;

@@ -1,5 +1,6 @@
 -- What groups are: files, or directories whose files are storable; and the tree that they make.
-use Rattle.std.proofs.Common.{◌≡◌, ◌≢◌, ℕ, suc, ◌<◌, ◌≤◌, true, [], ◌∷◌, ◌++◌, length, refl, sym, ap, ◌∙◌, subst, arith}
+use Rattle.std.proofs.Common.{◌≡◌, ◌≢◌, ℕ, suc, ◌<◌, ◌≤◌, true, [], ◌∷◌, ◌++◌, length, refl, sym}
+use Rattle.std.proofs.Common.{ap, ◌∙◌, subst, arith}
 use Rattle.std.specs.List.{AllByRecursion}
 use Rattle.std.specs.Ordering.{nat_cmp, ordering_then}
 use Rattle.std.specs.Cmp.{nat_cmp_total}
@@ -31,18 +32,21 @@ File = Path × Entry
 abbrev Members : (File → Type 0) → Bytes × Listed → Type 0
 Members P g = AllByRecursion (λ f. P (g.0 ∷ f.0, f.1)) g.1
 
-add_members : (P : File → Type 0) (c : Bytes) (f : File) (groups : Groups) → P (c ∷ f.0, f.1) → AllByRecursion (Members P) groups → AllByRecursion (Members P) (add_file c f groups)
+add_members : (P : File → Type 0) (c : Bytes) (f : File) (groups : Groups) → P (c ∷ f.0, f.1)
+    → AllByRecursion (Members P) groups → AllByRecursion (Members P) (add_file c f groups)
 add_members P c f [] h rest = ((h, tt), tt)
 add_members P c f (g ∷ groups) h rest =
     by_cases (bytes_eq c g.0)
     (λ yea. rw yea ((h, subst (λ (x : Bytes). AllByRecursion (λ k. P (x ∷ k.0, k.1)) g.1) (sym ((bytes_eq-Decides c g.0).0 yea)) rest.0), rest.1))
     (λ nay. rw nay ((h, tt), rest))
 
-path_members : (P : File → Type 0) (p : Path) (e : Entry) (groups : Groups) → P (p, e) → AllByRecursion (Members P) groups → AllByRecursion (Members P) (add_path p e groups)
+path_members : (P : File → Type 0) (p : Path) (e : Entry) (groups : Groups) → P (p, e)
+    → AllByRecursion (Members P) groups → AllByRecursion (Members P) (add_path p e groups)
 path_members P [] e groups h rest = rest
 path_members P (c ∷ q) e groups h rest = add_members P c (q, e) groups h rest
 
-pub grouped-all : (P : File → Type 0) (fs : Listed) → AllByRecursion P fs → AllByRecursion (Members P) (grouped fs)
+pub grouped-all : (P : File → Type 0) (fs : Listed) → AllByRecursion P fs
+    → AllByRecursion (Members P) (grouped fs)
 grouped-all P [] h = tt
 grouped-all P (f ∷ fs) h = path_members P f.0 f.1 (grouped fs) h.0 (grouped-all P fs h.1)
 
@@ -54,7 +58,9 @@ Pairs R (f ∷ fs) = AllByRecursion (R f) fs × Pairs R fs
 abbrev PairsIn : (File → File → Type 0) → Bytes × Listed → Type 0
 PairsIn R g = Pairs (λ a b. R (g.0 ∷ a.0, a.1) (g.0 ∷ b.0, b.1)) g.1
 
-add_pairs : (R : File → File → Type 0) (c : Bytes) (f : File) (groups : Groups) → AllByRecursion (Members (R (c ∷ f.0, f.1))) groups → AllByRecursion (PairsIn R) groups → AllByRecursion (PairsIn R) (add_file c f groups)
+add_pairs : (R : File → File → Type 0) (c : Bytes) (f : File) (groups : Groups)
+    → AllByRecursion (Members (R (c ∷ f.0, f.1))) groups → AllByRecursion (PairsIn R) groups
+    → AllByRecursion (PairsIn R) (add_file c f groups)
 add_pairs R c f [] h rest = ((tt, tt), tt)
 add_pairs R c f (g ∷ groups) h rest =
     by_cases (bytes_eq c g.0)
@@ -68,36 +74,46 @@ add_pairs R c f (g ∷ groups) h rest =
     )))
     (λ nay. rw nay ((tt, tt), rest))
 
-path_pairs : (R : File → File → Type 0) (p : Path) (e : Entry) (groups : Groups) → AllByRecursion (Members (R (p, e))) groups → AllByRecursion (PairsIn R) groups → AllByRecursion (PairsIn R) (add_path p e groups)
+path_pairs : (R : File → File → Type 0) (p : Path) (e : Entry) (groups : Groups)
+    → AllByRecursion (Members (R (p, e))) groups → AllByRecursion (PairsIn R) groups
+    → AllByRecursion (PairsIn R) (add_path p e groups)
 path_pairs R [] e groups h rest = rest
 path_pairs R (c ∷ q) e groups h rest = add_pairs R c (q, e) groups h rest
 
-pub grouped-pairs : (R : File → File → Type 0) (fs : Listed) → Pairs R fs → AllByRecursion (PairsIn R) (grouped fs)
+pub grouped-pairs : (R : File → File → Type 0) (fs : Listed) → Pairs R fs
+    → AllByRecursion (PairsIn R) (grouped fs)
 grouped-pairs R [] h = tt
-grouped-pairs R (f ∷ fs) h = path_pairs R f.0 f.1 (grouped fs) (grouped-all (R f) fs h.0) (grouped-pairs R fs h.1)
+grouped-pairs R (f ∷ fs) h =
+    path_pairs R f.0 f.1 (grouped fs) (grouped-all (R f) fs h.0) (grouped-pairs R fs h.1)
 
 -- ---- how long groups are
 
-add_few : (n : ℕ) (c : Bytes) (f : File) (groups : Groups) → AllByRecursion (λ g. length g.1 ≤ n) groups → AllByRecursion (λ g. length g.1 ≤ suc n) (add_file c f groups)
+add_few : (n : ℕ) (c : Bytes) (f : File) (groups : Groups)
+    → AllByRecursion (λ g. length g.1 ≤ n) groups
+    → AllByRecursion (λ g. length g.1 ≤ suc n) (add_file c f groups)
 add_few n c f [] h = (omega arith, tt)
 add_few n c f (g ∷ groups) h =
     let rest = all-weaker (λ (k : Bytes × Listed). length k.1 ≤ n) (λ (k : Bytes × Listed). length k.1 ≤ suc n) (λ k le. omega arith) groups h.1 in
     let one = h.0 in
     by_cases (bytes_eq c g.0) (λ yea. rw yea (omega arith, rest)) (λ nay. rw nay (omega arith, (omega arith, rest)))
 
-path_few : (n : ℕ) (p : Path) (e : Entry) (groups : Groups) → AllByRecursion (λ g. length g.1 ≤ n) groups → AllByRecursion (λ g. length g.1 ≤ suc n) (add_path p e groups)
-path_few n [] e groups h = all-weaker (λ (k : Bytes × Listed). length k.1 ≤ n) (λ (k : Bytes × Listed). length k.1 ≤ suc n) (λ k le. omega arith) groups h
+path_few : (n : ℕ) (p : Path) (e : Entry) (groups : Groups)
+    → AllByRecursion (λ g. length g.1 ≤ n) groups
+    → AllByRecursion (λ g. length g.1 ≤ suc n) (add_path p e groups)
+path_few n [] e groups h =
+    all-weaker (λ (k : Bytes × Listed). length k.1 ≤ n) (λ (k : Bytes × Listed). length k.1 ≤ suc n) (λ k le. omega arith) groups h
 path_few n (c ∷ q) e groups h = add_few n c (q, e) groups h
 
 pub grouped-few : (fs : Listed) → AllByRecursion (λ g. length g.1 ≤ length fs) (grouped fs)
 grouped-few [] = tt
 grouped-few (f ∷ fs) = path_few (length fs) f.0 f.1 (grouped fs) (grouped-few fs)
 
-depth_each : (fs : Listed) (n : ℕ) → depth_of fs ≤ n → AllByRecursion (λ f. length f.0 ≤ n) fs
+pub depth_each : (fs : Listed) (n : ℕ) → depth_of fs ≤ n → AllByRecursion (λ f. length f.0 ≤ n) fs
 depth_each [] n h = tt
 depth_each (f ∷ fs) n h = (omega arith, depth_each fs n (omega arith))
 
-depth_from : (fs : Listed) (n : ℕ) → AllByRecursion (λ f. suc (length f.0) ≤ n) fs → 0 < n → suc (depth_of fs) ≤ n
+depth_from : (fs : Listed) (n : ℕ) → AllByRecursion (λ f. suc (length f.0) ≤ n) fs → 0 < n
+    → suc (depth_of fs) ≤ n
 depth_from [] n h some = omega arith
 depth_from (f ∷ fs) n h some = let rest = depth_from fs n h.1 some in let one = h.0 in omega arith
 
@@ -109,9 +125,12 @@ InTurn f g = below (joined f.0) (joined g.0) × (is_apart f.0 g.0 ≡ true)
 
 same_front : (c a b : Bytes) → slice_cmp nat_cmp (c ++ a) (c ++ b) ≡ slice_cmp nat_cmp a b
 same_front [] a b = refl
-same_front (x ∷ c) a b = ap (λ (r : Ordering). ordering_then r (slice_cmp nat_cmp (c ++ a) (c ++ b))) (tied_itself nat_cmp_total x) ∙ same_front c a b
+same_front (x ∷ c) a b =
+    ap (λ (r : Ordering). ordering_then r (slice_cmp nat_cmp (c ++ a) (c ++ b))) (tied_itself nat_cmp_total x)
+    ∙ same_front c a b
 
-pub tails_below : (c : Bytes) (q r : Path) → is_apart q r ≡ true → below (joined (c ∷ q)) (joined (c ∷ r)) → below (joined q) (joined r)
+pub tails_below : (c : Bytes) (q r : Path) → is_apart q r ≡ true
+    → below (joined (c ∷ q)) (joined (c ∷ r)) → below (joined q) (joined r)
 tails_below c [] r a h = absurd (false≢true a)
 tails_below c (x ∷ q) [] a h = absurd (false≢true a)
 tails_below c (x ∷ q) (y ∷ r) a h =
@@ -123,7 +142,8 @@ tails_turn c f g h =
     let a = sym (is_apart-below (c ∷ []) f.0 g.0) ∙ h.1 in
     (tails_below c f.0 g.0 a h.0, a)
 
-pub pairs-weaker : (R S : File → File → Type 0) → ((f g : File) → R f g → S f g) → (fs : Listed) → Pairs R fs → Pairs S fs
+pub pairs-weaker : (R S : File → File → Type 0) → ((f g : File) → R f g → S f g) → (fs : Listed)
+    → Pairs R fs → Pairs S fs
 pairs-weaker R S w [] h = tt
 pairs-weaker R S w (f ∷ fs) h = (all-weaker (R f) (S f) (w f) fs h.0, pairs-weaker R S w fs h.1)
 
@@ -131,17 +151,20 @@ in_turn : (fs : Listed) → AreInOrder fs → ArePairwiseApart fs → Pairs InTu
 in_turn [] o a = tt
 in_turn (f ∷ fs) o a = (both fs o.0 a.0, in_turn fs o.1 a.1)
   where
-    both : (gs : Listed) → AllByRecursion (λ g. below (joined f.0) (joined g.0)) gs → AllByRecursion (λ g. is_apart f.0 g.0 ≡ true) gs → AllByRecursion (InTurn f) gs
+    both : (gs : Listed) → AllByRecursion (λ g. below (joined f.0) (joined g.0)) gs
+        → AllByRecursion (λ g. is_apart f.0 g.0 ≡ true) gs → AllByRecursion (InTurn f) gs
     both [] b c = tt
     both (g ∷ gs) b c = ((b.0, c.0), both gs b.1 c.1)
 
 pub order-of : (fs : Listed) → Pairs InTurn fs → AreInOrder fs
 order-of [] h = tt
-order-of (f ∷ fs) h = (all-weaker (InTurn f) (λ g. below (joined f.0) (joined g.0)) (λ g i. i.0) fs h.0, order-of fs h.1)
+order-of (f ∷ fs) h =
+    (all-weaker (InTurn f) (λ g. below (joined f.0) (joined g.0)) (λ g i. i.0) fs h.0, order-of fs h.1)
 
 pub apart-of : (fs : Listed) → Pairs InTurn fs → ArePairwiseApart fs
 apart-of [] h = tt
-apart-of (f ∷ fs) h = (all-weaker (InTurn f) (λ g. is_apart f.0 g.0 ≡ true) (λ g i. i.1) fs h.0, apart-of fs h.1)
+apart-of (f ∷ fs) h =
+    (all-weaker (InTurn f) (λ g. is_apart f.0 g.0 ≡ true) (λ g i. i.1) fs h.0, apart-of fs h.1)
 
 shorter : (c : Bytes) (d : Bytes) (q : Path) → length (joined (d ∷ q)) ≤ length (joined (c ∷ d ∷ q))
 shorter c d q = let n = length-append c (47 ∷ joined (d ∷ q)) in omega arith
@@ -164,7 +187,8 @@ goes_on [] r h e = false≢true h
 goes_on (c ∷ q) [] h e = false≢true h
 goes_on (c ∷ q) (d ∷ r) h e = cc e
 
-tail_files : (c : Bytes) (fs : Listed) → AllByRecursion (λ f. f.0 ≢ []) fs → AllByRecursion (λ f. IsFile (c ∷ f.0, f.1)) fs → AllByRecursion IsFile fs
+tail_files : (c : Bytes) (fs : Listed) → AllByRecursion (λ f. f.0 ≢ []) fs
+    → AllByRecursion (λ f. IsFile (c ∷ f.0, f.1)) fs → AllByRecursion IsFile fs
 tail_files c [] ne h = tt
 tail_files c (f ∷ fs) ne h = (tail_file c f.0 f.1 h.0 ne.0, tail_files c fs ne.1 h.1)
 
@@ -192,7 +216,9 @@ none_behind e (f ∷ fs) h = absurd (false≢true h.0.1)
 first_component : (c : Bytes) (q : Path) → IsPath (c ∷ q) → IsComponent c
 first_component c q h = All-head IsComponent c q h
 
-a_group : (deep n : ℕ) (c : Bytes) (fs : Listed) → n ≤ FILES_LIMIT → 0 < length fs → Members IsFile (c, fs) → PairsIn InTurn (c, fs) → Members (λ f. length f.0 ≤ deep) (c, fs) → length fs ≤ n → IsGroup deep (c, fs)
+a_group : (deep n : ℕ) (c : Bytes) (fs : Listed) → n ≤ FILES_LIMIT → 0 < length fs
+    → Members IsFile (c, fs) → PairsIn InTurn (c, fs) → Members (λ f. length f.0 ≤ deep) (c, fs)
+    → length fs ≤ n → IsGroup deep (c, fs)
 a_group deep n c [] few some files turns depth size = absurd (omega arith)
 a_group deep n c (([], e) ∷ fs) few some files turns depth size =
     let pairs = pairs-weaker (λ a b. InTurn (c ∷ a.0, a.1) (c ∷ b.0, b.1)) InTurn (tails_turn c) (([], e) ∷ fs) turns in record {
@@ -222,12 +248,17 @@ trivial : (fs : Listed) → AllByRecursion (λ f. Unit {0}) fs
 trivial [] = tt
 trivial (f ∷ fs) = (tt, trivial fs)
 
-pub groups-are : (fs : Listed) → AreStorable fs → AllByRecursion (IsGroup (depth_of fs)) (grouped fs)
+pub groups-are : (fs : Listed) → AreStorable fs
+    → AllByRecursion (IsGroup (depth_of fs)) (grouped fs)
 groups-are fs h =
     each (grouped fs) (grouped-first (λ p. Unit {0}) fs (trivial fs)) (grouped-all IsFile fs h.each) (grouped-pairs InTurn fs (in_turn fs h.in_order h.apart))
     (grouped-all (λ f. length f.0 ≤ depth_of fs) fs (depth_each fs (depth_of fs) (omega arith))) (grouped-few fs)
   where
-    each : (gs : Groups) → AllByRecursion (OfFirst (λ p. Unit {0})) gs → AllByRecursion (Members IsFile) gs → AllByRecursion (PairsIn InTurn) gs → AllByRecursion (Members (λ f. length f.0 ≤ depth_of fs)) gs
-        → AllByRecursion (λ g. length g.1 ≤ length fs) gs → AllByRecursion (IsGroup (depth_of fs)) gs
+    each : (gs : Groups) → AllByRecursion (OfFirst (λ p. Unit {0})) gs
+        → AllByRecursion (Members IsFile) gs → AllByRecursion (PairsIn InTurn) gs
+        → AllByRecursion (Members (λ f. length f.0 ≤ depth_of fs)) gs
+        → AllByRecursion (λ g. length g.1 ≤ length fs) gs
+        → AllByRecursion (IsGroup (depth_of fs)) gs
     each [] a b c d e = tt
-    each (g ∷ gs) a b c d e = (a_group (depth_of fs) (length fs) g.0 g.1 h.few (some_first g a.0) b.0 c.0 d.0 e.0, each gs a.1 b.1 c.1 d.1 e.1)
+    each (g ∷ gs) a b c d e =
+        (a_group (depth_of fs) (length fs) g.0 g.1 h.few (some_first g a.0) b.0 c.0 d.0 e.0, each gs a.1 b.1 c.1 d.1 e.1)

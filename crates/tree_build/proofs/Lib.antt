@@ -14,3 +14,9 @@ pub mod Kept
 pub mod Stored
 pub mod Turns
 pub mod Cutting
+pub mod ByComponent
+pub mod TreeOf
+pub mod Listing
+pub mod Standing
+pub mod Gathering
+pub mod Grafting

@@ -22,22 +22,28 @@ by Equal x y z w e = refl
 by Greater x y z w e = e
 
 -- a map's insertion is that of finite maps
-pub insert_entry-put : (p : Path) (e : Entry) (es : Listed) → insert_entry path_cmp es p e ≡ put path_cmp p e es
+pub insert_entry-put : (p : Path) (e : Entry) (es : Listed)
+    → insert_entry path_cmp es p e ≡ put path_cmp p e es
 insert_entry-put p e [] = refl
-insert_entry-put p e (f ∷ es) = by (path_cmp p f.0) _ _ _ _ (ap (λ (r : Listed). f ∷ r) (insert_entry-put p e es))
+insert_entry-put p e (f ∷ es) =
+    by (path_cmp p f.0) _ _ _ _ (ap (λ (r : Listed). f ∷ r) (insert_entry-put p e es))
 
 -- the last of some files is put first
-pub put_all-last : (held : Listed) (files : Listed) (p : Path) (e : Entry) → put_all held (files ++ (p, e) ∷ []) ≡ put_all (insert_entry path_cmp held p e) files
+pub put_all-last : (held : Listed) (files : Listed) (p : Path) (e : Entry)
+    → put_all held (files ++ (p, e) ∷ []) ≡ put_all (insert_entry path_cmp held p e) files
 put_all-last held [] p e = sym (insert_entry-put p e held)
 put_all-last held (f ∷ files) p e = ap (put path_cmp f.0 f.1) (put_all-last held files p e)
 
-cut_one-append : (o : Option Path) (e : Entry) (xs ys : Listed) → cut_one o e (xs ++ ys) ≡ cut_one o e xs ++ ys
+cut_one-append : (o : Option Path) (e : Entry) (xs ys : Listed)
+    → cut_one o e (xs ++ ys) ≡ cut_one o e xs ++ ys
 cut_one-append (Some r) e xs ys = refl
 cut_one-append None e xs ys = refl
 
 pub cut-append : (top : Path) (xs ys : Listed) → cut top (xs ++ ys) ≡ cut top xs ++ cut top ys
 cut-append top [] ys = refl
-cut-append top (f ∷ xs) ys = ap (cut_one (behind top f.0) f.1) (cut-append top xs ys) ∙ cut_one-append (behind top f.0) f.1 (cut top xs) (cut top ys)
+cut-append top (f ∷ xs) ys =
+    ap (cut_one (behind top f.0) f.1) (cut-append top xs ys)
+    ∙ cut_one-append (behind top f.0) f.1 (cut top xs) (cut top ys)
 
 -- what is moved of some files and one more
 moved_more : (to from : Path) (xs : List (Bor Path × Bor Entry)) (p : Bor Path) (e : Bor Entry)
@@ -47,28 +53,35 @@ moved_more to from xs p e =
     ∙ ap (moved to) (cut-append from (map deref_pair xs) ((p.now, e.now) ∷ []))
     ∙ map-append (λ (f : Path × Entry). (to ++ f.0, f.1)) (cut from (map deref_pair xs)) (cut_one (behind from p.now) e.now [])
 
-pub moved_some : (to from : Path) (xs : List (Bor Path × Bor Entry)) (p : Bor Path) (e : Bor Entry) (rest : Path) → Some rest ≡ behind from p.now
+pub moved_some : (to from : Path) (xs : List (Bor Path × Bor Entry)) (p : Bor Path) (e : Bor Entry) (rest : Path)
+    → Some rest ≡ behind from p.now
     → moved to (cut from (map deref_pair (xs ++ (p, e) ∷ []))) ≡ moved to (cut from (map deref_pair xs)) ++ (to ++ rest, e.now) ∷ []
 moved_some to from xs p e rest h =
-    moved_more to from xs p e ∙ ap (λ (o : Option Path). moved to (cut from (map deref_pair xs)) ++ moved to (cut_one o e.now [])) (sym h)
+    moved_more to from xs p e
+    ∙ ap (λ (o : Option Path). moved to (cut from (map deref_pair xs)) ++ moved to (cut_one o e.now [])) (sym h)
 
-pub moved_none : (to from : Path) (xs : List (Bor Path × Bor Entry)) (p : Bor Path) (e : Bor Entry) → None ≡ behind from p.now
+pub moved_none : (to from : Path) (xs : List (Bor Path × Bor Entry)) (p : Bor Path) (e : Bor Entry)
+    → None ≡ behind from p.now
     → moved to (cut from (map deref_pair (xs ++ (p, e) ∷ []))) ≡ moved to (cut from (map deref_pair xs))
 moved_none to from xs p e h =
-    moved_more to from xs p e ∙ ap (λ (o : Option Path). moved to (cut from (map deref_pair xs)) ++ moved to (cut_one o e.now [])) (sym h)
+    moved_more to from xs p e
+    ∙ ap (λ (o : Option Path). moved to (cut from (map deref_pair xs)) ++ moved to (cut_one o e.now [])) (sym h)
     ∙ append-nil (moved to (cut from (map deref_pair xs)))
 
 -- ---- one turn of a loop
 
-pub put_turn : (end held new files left : Listed) (o : Option (Path × Entry)) (p : Path) (e : Entry) → put_all held files ≡ end
-    → files ≡ left ++ option_to_list o → o ≡ Some (p, e) → new ≡ insert_entry path_cmp held p e → put_all new left ≡ end
+pub put_turn : (end held new files left : Listed) (o : Option (Path × Entry)) (p : Path) (e : Entry)
+    → put_all held files ≡ end
+    → files ≡ left ++ option_to_list o → o ≡ Some (p, e) → new ≡ insert_entry path_cmp held p e
+    → put_all new left ≡ end
 put_turn end held new files left o p e sofar popped is put =
     ap (λ (h : Listed). put_all h left) put ∙ sym (put_all-last held left p e)
     ∙ ap (λ (x : Option (Path × Entry)). put_all held (left ++ option_to_list x)) (sym is)
     ∙ ap (put_all held) (sym popped) ∙ sofar
 
 pub moved_turn : (to from : Path) (xs : List (Bor Path × Bor Entry)) (p : Bor Path) (e : Bor Entry) (files new : Listed) (o : Option Path) (rest joined : Path)
-    → files ≡ moved to (cut from (map deref_pair xs)) → o ≡ Some rest → o ≡ behind from p.now → joined ≡ to ++ rest → new ≡ files ++ (joined, e.now) ∷ []
+    → files ≡ moved to (cut from (map deref_pair xs)) → o ≡ Some rest → o ≡ behind from p.now
+    → joined ≡ to ++ rest → new ≡ files ++ (joined, e.now) ∷ []
     → new ≡ moved to (cut from (map deref_pair (xs ++ (p, e) ∷ [])))
 moved_turn to from xs p e files new o rest joined sofar is found joins pushed =
     pushed ∙ ap (λ (l : Listed). l ++ (joined, e.now) ∷ []) sofar

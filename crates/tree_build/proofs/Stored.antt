@@ -1,5 +1,7 @@
 -- Trees that are added one after another.
-use Rattle.std.proofs.Common.{◌≡◌, ◌≢◌, ℕ, zero, suc, ◌+◌, ◌-◌, ◌<◌, ◌≤◌, List, [], ◌∷◌, ◌++◌, length, map, take, drop, get_or, Option, None, Some, Err, refl, sym, ap, ◌∙◌, subst, append_assoc, arith}
+use Rattle.std.proofs.Common.{◌≡◌, ◌≢◌, ℕ, zero, suc, ◌+◌, ◌-◌, ◌<◌, ◌≤◌, List, [], ◌∷◌, ◌++◌}
+use Rattle.std.proofs.Common.{length, map, take, drop, get_or, Option, None, Some, Err, refl, sym}
+use Rattle.std.proofs.Common.{ap, ◌∙◌, subst, append_assoc, arith}
 use Rattle.std.specs.List.{AllByRecursion, flat_map}
 use Rattle.std.proofs.lemmas.List.{append-nil, map-append, take-append-drop, take_more}
 use Rattle.std.proofs.lemmas.Grind.{flat_map-append}
@@ -21,41 +23,50 @@ use Rattle.tree_build.specs.declared.below.Group.{Group}
 use Rattle.tree_build.specs.declared.fault.Fault.{Fault}
 use Rattle.tree_build.specs.declared.fault.Fault.TheVariants as fault
 use Rattle.tree_build.specs.FileMap.{Listed, IsFile}
-use Rattle.tree_build.specs.Trees.{grouped, tree_content, tree_name, entries_within, trees_within, depth_of}
+use Rattle.tree_build.specs.Trees.{grouped, tree_content, tree_name, entries_within, trees_within}
+use Rattle.tree_build.specs.Trees.{depth_of}
 use Rattle.tree_build.specs.Below.{groups_of, group_of, group_trees}
-use Rattle.tree_build.specs.Storing.{with_trees, trees_fault, or_later, as_fault, AddsTrees, AddsSome, HasRoomBeside}
+use Rattle.tree_build.specs.Storing.{with_trees, trees_fault, or_later, as_fault, AddsTrees}
+use Rattle.tree_build.specs.Storing.{AddsSome, HasRoomBeside}
 use Rattle.tree_build.proofs.Nested.{direct_of, entries-step, entries-nil}
 use Rattle.tree_build.specs.Storable.{longest_of}
 use Rattle.tree_build.proofs.Kept.{summaries-kept}
 
 module _ (digest : List ℕ → List ℕ) where
-  with_trees-append : (a b : List (List TreeEntry)) (os : List Object) → with_trees digest (a ++ b) os ≡ with_trees digest b (with_trees digest a os)
+  with_trees-append : (a b : List (List TreeEntry)) (os : List Object)
+      → with_trees digest (a ++ b) os ≡ with_trees digest b (with_trees digest a os)
   with_trees-append [] b os = refl
-  with_trees-append (es ∷ a) b os = with_trees-append a b (with_object (tree_name digest es) (tree_content es) os)
+  with_trees-append (es ∷ a) b os =
+      with_trees-append a b (with_object (tree_name digest es) (tree_content es) os)
 
-  no_fault : (f : Option TableFault) (later : Option Fault) → or_later f later ≡ None → (f ≡ None) × (later ≡ None)
+  no_fault : (f : Option TableFault) (later : Option Fault) → or_later f later ≡ None
+      → (f ≡ None) × (later ≡ None)
   no_fault (Some e) later h = cc h
   no_fault None later h = (refl, h)
 
-  fault-append : (a b : List (List TreeEntry)) (os : List Object) → trees_fault digest a os ≡ None → trees_fault digest (a ++ b) os ≡ trees_fault digest b (with_trees digest a os)
+  fault-append : (a b : List (List TreeEntry)) (os : List Object) → trees_fault digest a os ≡ None
+      → trees_fault digest (a ++ b) os ≡ trees_fault digest b (with_trees digest a os)
   fault-append [] b os h = refl
   fault-append (es ∷ a) b os h =
       let parts = no_fault (store_fault (tree_name digest es) (tree_content es) os) (trees_fault digest a (with_object (tree_name digest es) (tree_content es) os)) h in
       ap (λ (f : Option TableFault). or_later f (trees_fault digest (a ++ b) (with_object (tree_name digest es) (tree_content es) os))) parts.0
       ∙ fault-append a b (with_object (tree_name digest es) (tree_content es) os) parts.1
 
-  later_fault : (f : Option TableFault) (x y : Option Fault) (e : Fault) → (x ≡ Some e → y ≡ Some e) → or_later f x ≡ Some e → or_later f y ≡ Some e
+  later_fault : (f : Option TableFault) (x y : Option Fault) (e : Fault) → (x ≡ Some e → y ≡ Some e)
+      → or_later f x ≡ Some e → or_later f y ≡ Some e
   later_fault (Some k) x y e w h = h
   later_fault None x y e w h = w h
 
-  fault-front : (a b : List (List TreeEntry)) (os : List Object) (e : Fault) → trees_fault digest a os ≡ Some e → trees_fault digest (a ++ b) os ≡ Some e
+  fault-front : (a b : List (List TreeEntry)) (os : List Object) (e : Fault)
+      → trees_fault digest a os ≡ Some e → trees_fault digest (a ++ b) os ≡ Some e
   fault-front [] b os e h = cc h
   fault-front (es ∷ a) b os e h =
       later_fault (store_fault (tree_name digest es) (tree_content es) os) _ _ e (fault-front a b (with_object (tree_name digest es) (tree_content es) os) e) h
 
   -- ---- calls one after another
 
-  pub adds-none : (p : Cells) (v : View) → StandsIn digest p v.entries → HasRoomBeside p v.entries → AddsTrees digest p v p v []
+  pub adds-none : (p : Cells) (v : View) → StandsIn digest p v.entries → HasRoomBeside p v.entries
+      → AddsTrees digest p v p v []
   adds-none p v stands room = record {
     stands = stands;
     room = room;
@@ -65,33 +76,44 @@ module _ (digest : List ℕ → List ℕ) where
     kept = λ id s h. h;
   }
 
-  pub adds-then : (p q r : Cells) (u v w : View) (a b : List (List TreeEntry)) → AddsTrees digest p u q v a → AddsTrees digest q v r w b → AddsTrees digest p u r w (a ++ b)
+  pub adds-then : (p q r : Cells) (u v w : View) (a b : List (List TreeEntry))
+      → AddsTrees digest p u q v a → AddsTrees digest q v r w b → AddsTrees digest p u r w (a ++ b)
   adds-then p q r u v w a b first second = record {
     stands = second.stands;
     room = second.room;
     others = LeavesOthers-then p q r u.entries v.entries w.entries first.others second.others;
-    objects = second.objects ∙ ap (with_trees digest b) first.objects ∙ sym (with_trees-append a b (objects p u.entries));
+    objects =
+        second.objects ∙ ap (with_trees digest b) first.objects
+        ∙ sym (with_trees-append a b (objects p u.entries));
     committed = second.committed ∙ first.committed;
     kept = λ id s h. second.kept id s (first.kept id s h);
   }
 
-  pub unrefused-then : (p q : Cells) (u v : View) (a b : List (List TreeEntry)) → AddsTrees digest p u q v a → trees_fault digest a (objects p u.entries) ≡ None
-      → trees_fault digest b (objects q v.entries) ≡ None → trees_fault digest (a ++ b) (objects p u.entries) ≡ None
+  pub unrefused-then : (p q : Cells) (u v : View) (a b : List (List TreeEntry))
+      → AddsTrees digest p u q v a → trees_fault digest a (objects p u.entries) ≡ None
+      → trees_fault digest b (objects q v.entries) ≡ None
+      → trees_fault digest (a ++ b) (objects p u.entries) ≡ None
   unrefused-then p q u v a b first none more =
-      fault-append a b (objects p u.entries) none ∙ ap (trees_fault digest b) (sym first.objects) ∙ more
+      fault-append a b (objects p u.entries) none ∙ ap (trees_fault digest b) (sym first.objects)
+      ∙ more
 
   -- no memory, behind some trees
-  pub stopped : (p q : Cells) (u v : View) (all done rest : List (List TreeEntry)) → AddsTrees digest p u q v done → all ≡ done ++ rest → AddsSome digest p u q v all fault.Memory
-  stopped p q u v all done rest adds is = record { done = done; rest = rest; parts = is; adds = adds; refusal = λ ne. absurd (ne refl) }
+  pub stopped : (p q : Cells) (u v : View) (all done rest : List (List TreeEntry))
+      → AddsTrees digest p u q v done → all ≡ done ++ rest
+      → AddsSome digest p u q v all fault.Memory
+  stopped p q u v all done rest adds is =
+      record { done = done; rest = rest; parts = is; adds = adds; refusal = λ ne. absurd (ne refl) }
 
   -- a refusal among later trees
-  pub some-then : (p q r : Cells) (u v w : View) (all a b more : List (List TreeEntry)) (e : Fault) → AddsTrees digest p u q v a → trees_fault digest a (objects p u.entries) ≡ None
+  pub some-then : (p q r : Cells) (u v w : View) (all a b more : List (List TreeEntry)) (e : Fault)
+      → AddsTrees digest p u q v a → trees_fault digest a (objects p u.entries) ≡ None
       → AddsSome digest q v r w b e → all ≡ a ++ (b ++ more) → AddsSome digest p u r w all e
   some-then p q r u v w all a b more e first none second is = record {
     done = a ++ second.done;
     rest = second.rest ++ more;
     parts =
-        is ∙ ap (λ (t : List (List TreeEntry)). a ++ (t ++ more)) second.parts ∙ ap (λ (t : List (List TreeEntry)). a ++ t) (append_assoc second.done second.rest more)
+        is ∙ ap (λ (t : List (List TreeEntry)). a ++ (t ++ more)) second.parts
+        ∙ ap (λ (t : List (List TreeEntry)). a ++ t) (append_assoc second.done second.rest more)
         ∙ sym (append_assoc a second.done (second.rest ++ more));
     adds = adds-then p q r u v w a second.done first second.adds;
     refusal = λ ne.
@@ -102,36 +124,49 @@ module _ (digest : List ℕ → List ℕ) where
 
   -- ---- one tree
 
-  pub has_room : (p : Cells) (v : View) → StandsIn digest p v.entries → HasRoomBeside p v.entries → HasRoom p
+  pub has_room : (p : Cells) (v : View) → StandsIn digest p v.entries → HasRoomBeside p v.entries
+      → HasRoom p
   has_room p v stands room s = let a = room s in let b = stands.once s in omega arith
 
-  room-after : (p q : Cells) (u v : View) → LeavesOthers p u.entries q v.entries → HasRoomBeside p u.entries → HasRoomBeside q v.entries
+  room-after : (p q : Cells) (u v : View) → LeavesOthers p u.entries q v.entries
+      → HasRoomBeside p u.entries → HasRoomBeside q v.entries
   room-after p q u v others room s = let a = room s in let b = others.rest s in omega arith
 
-  pub adds-one : (p q : Cells) (u v : View) (es : List TreeEntry) (bytes : List ℕ) (s : Summary) → bytes ≡ tree_contents es
-      → StandsIn digest p u.entries → HasRoomBeside p u.entries → FitsTree u.entries bytes s → StandsIn digest q v.entries → LeavesOthers p u.entries q v.entries
+  pub adds-one : (p q : Cells) (u v : View) (es : List TreeEntry) (bytes : List ℕ) (s : Summary)
+      → bytes ≡ tree_contents es
+      → StandsIn digest p u.entries → HasRoomBeside p u.entries → FitsTree u.entries bytes s
+      → StandsIn digest q v.entries → LeavesOthers p u.entries q v.entries
       → store_fault (name_by digest (content_from kind.Tree bytes)) (content_from kind.Tree bytes) (objects p u.entries) ≡ None
-      → Adds digest (content_from kind.Tree bytes) (Some s) p u q v → AddsTrees digest p u q v (es ∷ [])
+      → Adds digest (content_from kind.Tree bytes) (Some s) p u q v
+      → AddsTrees digest p u q v (es ∷ [])
   adds-one p q u v es bytes s is stands room fits after others none adds = record {
     stands = after;
     room = room-after p q u v others room;
     others = others;
-    objects = adds.objects ∙ ap (λ (b : List ℕ). with_object (name_by digest (content_from kind.Tree b)) (content_from kind.Tree b) (objects p u.entries)) is;
+    objects =
+        adds.objects
+        ∙ ap (λ (b : List ℕ). with_object (name_by digest (content_from kind.Tree b)) (content_from kind.Tree b) (objects p u.entries)) is;
     committed = adds.committed;
-    kept = summaries-kept digest p q u v (content_from kind.Tree bytes) s stands refl fits none adds;
+    kept =
+        summaries-kept digest p q u v (content_from kind.Tree bytes) s stands refl fits none adds;
   }
 
-  pub unrefused-one : (es : List TreeEntry) (bytes : List ℕ) (os : List Object) → bytes ≡ tree_contents es
-      → store_fault (name_by digest (content_from kind.Tree bytes)) (content_from kind.Tree bytes) os ≡ None → trees_fault digest (es ∷ []) os ≡ None
+  pub unrefused-one : (es : List TreeEntry) (bytes : List ℕ) (os : List Object)
+      → bytes ≡ tree_contents es
+      → store_fault (name_by digest (content_from kind.Tree bytes)) (content_from kind.Tree bytes) os ≡ None
+      → trees_fault digest (es ∷ []) os ≡ None
   unrefused-one es bytes os is none =
       ap (λ (f : Option TableFault). or_later f None) (ap (λ (b : List ℕ). store_fault (name_by digest (content_from kind.Tree b)) (content_from kind.Tree b) os) (sym is) ∙ none)
 
-  refused_by : (e : TableFault) (f : Option TableFault) (id : List ℕ) → Answers {name = List ℕ} (Err e) id f → as_fault e ≢ fault.Memory → or_later f None ≡ Some (as_fault e)
+  refused_by : (e : TableFault) (f : Option TableFault) (id : List ℕ)
+      → Answers {name = List ℕ} (Err e) id f → as_fault e ≢ fault.Memory
+      → or_later f None ≡ Some (as_fault e)
   refused_by table.Limit f id h ne = ap (λ (x : Option TableFault). or_later x None) h
   refused_by table.NameCollision f id h ne = ap (λ (x : Option TableFault). or_later x None) h
   refused_by table.Memory f id h ne = absurd (ne refl)
 
-  pub refused-one : (p q : Cells) (u v : View) (es : List TreeEntry) (bytes : List ℕ) (e : TableFault) (id : List ℕ) → bytes ≡ tree_contents es
+  pub refused-one : (p q : Cells) (u v : View) (es : List TreeEntry) (bytes : List ℕ) (e : TableFault) (id : List ℕ)
+      → bytes ≡ tree_contents es
       → StandsIn digest p u.entries → HasRoomBeside p u.entries
       → Answers {name = List ℕ} (Err e) id (store_fault (name_by digest (content_from kind.Tree bytes)) (content_from kind.Tree bytes) (objects p u.entries))
       → (v ≡ u) × (q ≡ p) → (f : Fault) → f ≡ as_fault e → AddsSome digest p u q v (es ∷ []) f
@@ -139,7 +174,8 @@ module _ (digest : List ℕ → List ℕ) where
     done = [];
     rest = es ∷ [];
     parts = refl;
-    adds = subst (λ (x : View). AddsTrees digest p u q x []) (sym same.0) (subst (λ (y : Cells). AddsTrees digest p u y u []) (sym same.1) (adds-none p u stands room));
+    adds =
+        subst (λ (x : View). AddsTrees digest p u q x []) (sym same.0) (subst (λ (y : Cells). AddsTrees digest p u y u []) (sym same.1) (adds-none p u stands room));
     refusal = λ ne.
         ap (λ (b : List ℕ). or_later (store_fault (name_by digest (content_from kind.Tree b)) (content_from kind.Tree b) (objects p u.entries)) None) (sym is)
         ∙ refused_by e _ id answer (λ m. ne (named ∙ m)) ∙ ap Some (sym named);
@@ -150,14 +186,17 @@ module _ (digest : List ℕ → List ℕ) where
   abbrev pub trees_of : ℕ → List Group → List (List TreeEntry)
   trees_of deep gs = flat_map (group_trees digest deep) (groups_of gs)
 
-  pub one_more : (deep : ℕ) (gs : List Group) (i : ℕ) (x : Group) → i < length gs → x ≡ get_or gs i x → trees_of deep (take (i + 1) gs) ≡ trees_of deep (take i gs) ++ group_trees digest deep (group_of x)
+  pub one_more : (deep : ℕ) (gs : List Group) (i : ℕ) (x : Group) → i < length gs
+      → x ≡ get_or gs i x
+      → trees_of deep (take (i + 1) gs) ≡ trees_of deep (take i gs) ++ group_trees digest deep (group_of x)
   one_more deep gs i x lt at =
       ap (trees_of deep) (take_more gs i x lt ∙ ap (λ (y : Group). take i gs ++ y ∷ []) (sym at))
       ∙ ap (flat_map (group_trees digest deep)) (map-append group_of (take i gs) (x ∷ []))
       ∙ flat_map-append (group_trees digest deep) (groups_of (take i gs)) (group_of x ∷ [])
       ∙ ap (λ (t : List (List TreeEntry)). trees_of deep (take i gs) ++ t) (append-nil (group_trees digest deep (group_of x)))
 
-  pub parted : (deep : ℕ) (gs : List Group) (i : ℕ) → trees_of deep gs ≡ trees_of deep (take i gs) ++ trees_of deep (drop i gs)
+  pub parted : (deep : ℕ) (gs : List Group) (i : ℕ)
+      → trees_of deep gs ≡ trees_of deep (take i gs) ++ trees_of deep (drop i gs)
   parted deep gs i =
       ap (trees_of deep) (sym (take-append-drop i gs))
       ∙ ap (flat_map (group_trees digest deep)) (map-append group_of (take i gs) (drop i gs))
@@ -168,14 +207,18 @@ module _ (digest : List ℕ → List ℕ) where
   nowhere (([], e) ∷ fs) each h = absurd (each.0.below_the_root refl)
   nowhere (((c ∷ q), e) ∷ fs) each h = absurd (omega arith)
 
-  pub entries-any : (deep : ℕ) (fs : Listed) → AllByRecursion IsFile fs → depth_of fs ≤ deep → entries_within digest deep fs ≡ map (direct_of digest (deep - 1)) (grouped fs)
-  entries-any zero fs each h = entries-nil digest 0 fs refl ∙ ap (λ (l : Listed). map (direct_of digest (0 - 1)) (grouped l)) (sym (nowhere fs each h))
+  pub entries-any : (deep : ℕ) (fs : Listed) → AllByRecursion IsFile fs → depth_of fs ≤ deep
+      → entries_within digest deep fs ≡ map (direct_of digest (deep - 1)) (grouped fs)
+  entries-any zero fs each h =
+      entries-nil digest 0 fs refl
+      ∙ ap (λ (l : Listed). map (direct_of digest (0 - 1)) (grouped l)) (sym (nowhere fs each h))
   entries-any (suc n) fs each h = entries-step digest (suc n) fs (omega arith)
 
   one_less : (n : ℕ) → suc n - 1 ≡ n
   one_less n = omega arith
 
-  pub trees-any : (deep : ℕ) (fs : Listed) (gs : List Group) → AllByRecursion IsFile fs → depth_of fs ≤ deep → groups_of gs ≡ grouped fs
+  pub trees-any : (deep : ℕ) (fs : Listed) (gs : List Group) → AllByRecursion IsFile fs
+      → depth_of fs ≤ deep → groups_of gs ≡ grouped fs
       → trees_within digest deep fs ≡ trees_of (deep - 1) gs ++ entries_within digest deep fs ∷ []
   unfolding trees_within
   trees-any zero fs gs each h are =
@@ -188,14 +231,17 @@ module _ (digest : List ℕ → List ℕ) where
 
 pub depth-bound : (fs : Listed) → AllByRecursion IsFile fs → depth_of fs ≤ 256
 depth-bound [] h = omega arith
-depth-bound (f ∷ fs) h = let one = h.0.limits.components in let rest = depth-bound fs h.1 in omega arith
+depth-bound (f ∷ fs) h =
+    let one = h.0.limits.components in let rest = depth-bound fs h.1 in omega arith
 
 pub longest-bound : (fs : Listed) → AllByRecursion IsFile fs → longest_of fs ≤ 16383
 longest-bound [] h = omega arith
-longest-bound (f ∷ fs) h = let one = h.0.limits.bytes in let rest = longest-bound fs h.1 in omega arith
+longest-bound (f ∷ fs) h =
+    let one = h.0.limits.bytes in let rest = longest-bound fs h.1 in omega arith
 
 -- where there is a group there is a component
-pub deep_some : (fs : Listed) (n deep : ℕ) → AllByRecursion IsFile fs → depth_of fs ≤ deep → n < length (grouped fs) → 0 < deep
+pub deep_some : (fs : Listed) (n deep : ℕ) → AllByRecursion IsFile fs → depth_of fs ≤ deep
+    → n < length (grouped fs) → 0 < deep
 deep_some [] n deep each h some = absurd (omega arith)
 deep_some (([], e) ∷ fs) n deep each h some = absurd (each.0.below_the_root refl)
 deep_some (((c ∷ q), e) ∷ fs) n deep each h some = omega arith

@@ -1,5 +1,6 @@
 -- Files below a directory as the code holds them, and how a group is found among them.
-use Rattle.std.specs.Prelude.{◌≡◌, ℕ, ◌<◌, ◌≤◌, Bool, true, List, [], ◌∷◌, length, drop, map, Option, Some, None}
+use Rattle.std.specs.Prelude.{◌≡◌, ℕ, ◌<◌, ◌≤◌, Bool, true, List, [], ◌∷◌, length, drop, map}
+use Rattle.std.specs.Prelude.{Option, Some, None}
 use Rattle.std.specs.Str.{bytes_eq}
 use Rattle.tree_build.specs.declared.below.Below.{Below}
 use Rattle.tree_build.specs.declared.below.Group.{Group}
@@ -7,7 +8,8 @@ use Rattle.tree_build.specs.declared.entry.Entry.{Entry}
 use Rattle.tree_build.specs.FileMap.{Path, Listed}
 use Rattle.git_model.specs.declared.file_mode.FileMode.TheVariants as mode
 use Rattle.git_model.specs.Tree.{TreeEntry}
-use Rattle.tree_build.specs.Trees.{Groups, grouped, file_of, entries_within, trees_within, unless_file, tree_name}
+use Rattle.tree_build.specs.Trees.{Groups, grouped, file_of, entries_within, trees_within}
+use Rattle.tree_build.specs.Trees.{unless_file, tree_name}
 
 abbrev pub file_below : Below → Path × Entry
 file_below b = (b.path, b.entry)
@@ -44,7 +46,8 @@ goes_with c [] = true
 goes_with c (d ∷ rest) = bytes_eq c d
 
 -- The first group of some files goes over so many of them, at least one.
-pub record IsNextGroup (files : List Below) (group : List ℕ × Listed) (length_of_run : ℕ) : Type 0 where
+pub record IsNextGroup (files : List Below) (group : List ℕ × Listed) (length_of_run : ℕ)
+    : Type 0 where
   pub some : 0 < length_of_run
   pub within : length_of_run ≤ length files
   pub first : grouped (files_below files) ≡ group ∷ grouped (files_below (drop length_of_run files))

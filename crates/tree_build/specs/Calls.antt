@@ -4,8 +4,9 @@ use Rattle.tree_build.specs.declared.fault.Fault.{Fault}
 use Rattle.tree_build.specs.declared.fault.Fault.TheVariants as fault
 use Rattle.tree_build.specs.FileMap.{FileMap}
 
--- An edit that is not refused leaves this map; one that is refused answers why, and changes nothing. `Memory` may
--- stand in place of either, and what the map is then is not said.
-abbrev pub Edits : {A : Type 0} → Result A Fault → FileMap → FileMap → Option Fault → FileMap → Type 0
+-- An edit that is not refused leaves this map; one that is refused answers why, and changes
+-- nothing. `Memory` may stand in place of either, and what the map is then is not said.
+abbrev pub Edits : {A : Type 0} → Result A Fault → FileMap → FileMap → Option Fault → FileMap
+    → Type 0
 Edits (Ok _) old new refusal after = (refusal ≡ None) × (new ≡ after)
 Edits (Err e) old new refusal after = e ≢ fault.Memory → (refusal ≡ Some e) × (new ≡ old)

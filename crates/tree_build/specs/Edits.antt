@@ -1,5 +1,6 @@
 -- Edits of a file map: git-fast-import(1), "filemodify", "filedelete", "filecopy" and "filerename".
-use Rattle.std.specs.Prelude.{Bool, ◌&&◌, not, true, false, is_some, nat_le, [], ◌∷◌, ◌++◌, map, Option, Some, None, if◌then◌else◌}
+use Rattle.std.specs.Prelude.{Bool, ◌&&◌, not, true, false, is_some, nat_le, [], ◌∷◌, ◌++◌, map}
+use Rattle.std.specs.Prelude.{Option, Some, None, if◌then◌else◌}
 use Rattle.std.specs.FinMap as finmap
 use Rattle.std.specs.List.{list_any, list_all}
 use Rattle.git_paths.specs.Paths.{behind, is_within_limits}
@@ -14,7 +15,8 @@ abbrev pub cut_one : Option Path → Entry → Listed → Listed
 cut_one (Some rest) e files = (rest, e) ∷ files
 cut_one None e files = files
 
--- The files at or below a path, with the path cut off. A file at the path itself then stands at the root.
+-- The files at or below a path, with the path cut off. A file at the path itself then stands at the
+-- root.
 abbrev pub cut : Path → Listed → Listed
 cut top [] = []
 cut top (f ∷ files) = cut_one (behind top f.0) f.1 (cut top files)
@@ -31,7 +33,8 @@ abbrev pub with_files : FileMap → Listed → FileMap
 with_files m [] = m
 with_files m (f ∷ files) = finmap.insert (with_files m files) f.0 f.1
 
--- The map without what stands at a path, below it, or on a prefix of it, and with these files below the path.
+-- The map without what stands at a path, below it, or on a prefix of it, and with these files below
+-- the path.
 abbrev pub put_tree_at : FileMap → Path → Listed → FileMap
 put_tree_at m top files = with_files (finmap.retain_keys m (is_apart top)) (moved top files)
 
@@ -65,11 +68,14 @@ abbrev pub is_empty : Listed → Bool
 is_empty [] = true
 is_empty (f ∷ files) = false
 
--- Files whose paths are within the limits fit a map, where it has at most 1,048,576 files with them.
+-- Files whose paths are within the limits fit a map, where it has at most 1,048,576 files with
+-- them.
 abbrev pub fits : Listed → FileMap → Bool
-fits files after = list_all (λ f. is_within_limits f.0) files && nat_le (finmap.len after) FILES_LIMIT
+fits files after =
+    list_all (λ f. is_within_limits f.0) files && nat_le (finmap.len after) FILES_LIMIT
 
--- Why files cannot be put, which would leave a map with them: one would stand at the root, or a limit is passed.
+-- Why files cannot be put, which would leave a map with them: one would stand at the root, or a
+-- limit is passed.
 unfoldable pub put_fault : Listed → FileMap → Option Fault
 put_fault files after =
     if list_any (λ f. is_root f.0) files then Some fault.RootNotDirectory

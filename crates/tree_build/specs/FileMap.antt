@@ -1,5 +1,6 @@
 -- File maps: which file stands at each path of a tree, as git-ls-tree(1) lists them with -r.
-use Rattle.std.specs.Prelude.{◌≡◌, ◌≢◌, ℕ, zero, suc, ◌≤◌, Bool, ◌&&◌, not, is_some, List, [], ◌∷◌, length, true, IsTrue, refl}
+use Rattle.std.specs.Prelude.{◌≡◌, ◌≢◌, ℕ, zero, suc, ◌≤◌, Bool, ◌&&◌, not, is_some, List, [], ◌∷◌}
+use Rattle.std.specs.Prelude.{length, true, IsTrue, refl}
 use Rattle.std.specs.Coded.{Coded, code_by, coded×, coded_list, coded_ℕ}
 use Rattle.std.specs.FinMap as map
 use Rattle.std.specs.FinMap.{is_sorted}
@@ -45,7 +46,8 @@ pub record IsFile (f : Path × Entry) : Type 0 where
 -- Each two of these files stand apart.
 abbrev pub ArePairwiseApart : Listed → Type 0
 ArePairwiseApart [] = Unit {0}
-ArePairwiseApart (f ∷ files) = AllByRecursion (λ g. is_apart f.0 g.0 ≡ true) files × ArePairwiseApart files
+ArePairwiseApart (f ∷ files) =
+    AllByRecursion (λ g. is_apart f.0 g.0 ≡ true) files × ArePairwiseApart files
 
 pub record AreFiles (files : Listed) : Type 0 where
   pub in_order : IsTrue (is_sorted path_cmp files)

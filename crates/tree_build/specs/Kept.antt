@@ -1,5 +1,6 @@
 -- What stays of a map while files are moved within it, and what is put into it.
-use Rattle.std.specs.Prelude.{◌≡◌, ◌≢◌, ℕ, ◌+◌, Bool, ◌&&◌, nat_le, [], ◌∷◌, ◌++◌, length, Option, Some, None, if◌then◌else◌}
+use Rattle.std.specs.Prelude.{◌≡◌, ◌≢◌, ℕ, ◌+◌, Bool, ◌&&◌, nat_le, [], ◌∷◌, ◌++◌, length, Option}
+use Rattle.std.specs.Prelude.{Some, None, if◌then◌else◌}
 use Rattle.std.specs.List.{list_any, list_all}
 use Rattle.std.specs.FinMap.Entries.{put}
 use Rattle.git_paths.specs.Order.{path_cmp}
@@ -35,5 +36,6 @@ pub record IsBelow (to : Path) (f : Path × Entry) : Type 0 where
 abbrev pub refusal_beside : ℕ → Listed → Option Fault
 refusal_beside staying files =
     if list_any (λ f. is_root f.0) files then Some fault.RootNotDirectory
-    else if list_all (λ f. is_within_limits f.0) files && nat_le (staying + length files) FILES_LIMIT
+    else if list_all (λ f. is_within_limits f.0) files
+    && nat_le (staying + length files) FILES_LIMIT
     then None else Some fault.Limit

@@ -5,6 +5,10 @@ pub mod Edits
 pub mod Kept
 pub mod Calls
 pub mod Trees
+pub mod ByComponent
+pub mod StoredTree
+pub mod Grafts
 pub mod Below
 pub mod Storing
 pub mod Storable
+pub mod Gathers

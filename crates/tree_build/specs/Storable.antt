@@ -14,7 +14,9 @@ use Rattle.tree_build.specs.Trees.{depth_of, file_of, tree_name, entries_within}
 -- Each file comes before all later ones, in the order of the paths' bytes.
 abbrev pub AreInOrder : Listed → Type 0
 AreInOrder [] = Unit {0}
-AreInOrder (f ∷ files) = AllByRecursion (λ g. slice_cmp nat_cmp (joined f.0) (joined g.0) ≡ Less) files × AreInOrder files
+AreInOrder (f ∷ files) =
+    AllByRecursion (λ g. slice_cmp nat_cmp (joined f.0) (joined g.0) ≡ Less) files
+    × AreInOrder files
 
 pub record AreStorable (files : Listed) : Type 0 where
   pub in_order : AreInOrder files
@@ -29,13 +31,16 @@ longest_of (f ∷ files) = max (length (joined f.0)) (longest_of files)
 
 -- What a table keeps beside the tree of these files.
 abbrev pub files_summary : Listed → Summary
-files_summary files = record { files = length files; depth = depth_of files; longest = longest_of files }
+files_summary files =
+    record { files = length files; depth = depth_of files; longest = longest_of files }
 
--- A group is storable where it is a file, or a directory of storable files with at most so many components.
+-- A group is storable where it is a file, or a directory of storable files with at most so many
+-- components.
 abbrev pub IsStorableGroup : ℕ → List ℕ × Listed → Type 0
 IsStorableGroup deep g = file_of g.1 ≡ None → AreStorable g.1 × (depth_of g.1 ≤ deep)
 
 -- The tree of a group that is a directory stands in a table, with the summary of its files.
 abbrev pub IsKnownGroup : (List ℕ → List ℕ) → ℕ → Entries → List ℕ × Listed → Type 0
 IsKnownGroup digest deep table g =
-    file_of g.1 ≡ None → summary_of (tree_name digest (entries_within digest deep g.1)) table ≡ Some (files_summary g.1)
+    file_of g.1 ≡ None
+    → summary_of (tree_name digest (entries_within digest deep g.1)) table ≡ Some (files_summary g.1)

@@ -1,5 +1,6 @@
 -- Storing trees one after another: git-write-tree(1).
-use Rattle.std.specs.Prelude.{◌≡◌, ◌≢◌, ℕ, ◌+◌, ◌-◌, ◌^◌, ◌<◌, List, [], ◌∷◌, ◌++◌, Option, None, Some, Result, Ok, Err}
+use Rattle.std.specs.Prelude.{◌≡◌, ◌≢◌, ℕ, ◌+◌, ◌-◌, ◌^◌, ◌<◌, List, [], ◌∷◌, ◌++◌, Option, None}
+use Rattle.std.specs.Prelude.{Some, Result, Ok, Err}
 use Rattle.git_model.specs.Repository.{Object, with_object}
 use Rattle.git_model.specs.Tree.{TreeEntry}
 use Rattle.content_pool.specs.Pool.{Cells, holds}
@@ -17,7 +18,8 @@ use Rattle.tree_build.specs.Trees.{tree_content, tree_name}
 -- Objects with trees added behind them, in their order. A tree that is there is not added again.
 abbrev pub with_trees : (List ℕ → List ℕ) → List (List TreeEntry) → List Object → List Object
 with_trees digest [] os = os
-with_trees digest (es ∷ trees) os = with_trees digest trees (with_object (tree_name digest es) (tree_content es) os)
+with_trees digest (es ∷ trees) os =
+    with_trees digest trees (with_object (tree_name digest es) (tree_content es) os)
 
 -- The refusal of a table, as that of a branch.
 abbrev pub as_fault : TableFault → Fault
@@ -40,17 +42,21 @@ trees_fault digest (es ∷ trees) os =
 abbrev pub HasRoomBeside : Cells → Entries → Type 0
 HasRoomBeside pool entries = (s : ℕ) → holds pool s < held entries s + (2 ^ 64 - 2)
 
--- Trees were added, and nothing else has changed: the committed prefix, other tables and the summaries that were there.
-pub record AddsTrees (digest : List ℕ → List ℕ) (before : Cells) (old : View) (after : Cells) (new : View) (trees : List (List TreeEntry)) : Type 0 where
+-- Trees were added, and nothing else has changed: the committed prefix, other tables and the
+-- summaries that were there.
+pub record AddsTrees (digest : List ℕ → List ℕ) (before : Cells) (old : View) (after : Cells)
+    (new : View) (trees : List (List TreeEntry)) : Type 0 where
   pub stands : StandsIn digest after new.entries
   pub room : HasRoomBeside after new.entries
   pub others : LeavesOthers before old.entries after new.entries
   pub objects : objects after new.entries ≡ with_trees digest trees (objects before old.entries)
   pub committed : new.committed ≡ old.committed
-  pub kept : (id : List ℕ) (s : Summary) → summary_of id old.entries ≡ Some s → summary_of id new.entries ≡ Some s
+  pub kept : (id : List ℕ) (s : Summary) → summary_of id old.entries ≡ Some s
+      → summary_of id new.entries ≡ Some s
 
 -- The first of some trees were added, and then one was refused, or there was no memory.
-pub record AddsSome (digest : List ℕ → List ℕ) (before : Cells) (old : View) (after : Cells) (new : View) (trees : List (List TreeEntry)) (e : Fault) : Type 0 where
+pub record AddsSome (digest : List ℕ → List ℕ) (before : Cells) (old : View) (after : Cells)
+    (new : View) (trees : List (List TreeEntry)) (e : Fault) : Type 0 where
   pub done : List (List TreeEntry)
   pub rest : List (List TreeEntry)
   pub parts : trees ≡ done ++ rest
@@ -58,7 +64,10 @@ pub record AddsSome (digest : List ℕ → List ℕ) (before : Cells) (old : Vie
   pub refusal : e ≢ fault.Memory → trees_fault digest trees (objects before old.entries) ≡ Some e
 
 -- What storing trees answers: the name of the last one, or a refusal.
-abbrev pub StoresTrees : {name : Type 0} → Result name Fault → (List ℕ → List ℕ) → Cells → View → Cells → View → List (List TreeEntry) → name → Type 0
+abbrev pub StoresTrees : {name : Type 0} → Result name Fault → (List ℕ → List ℕ) → Cells → View
+    → Cells → View → List (List TreeEntry) → name → Type 0
 StoresTrees (Ok answer) digest before old after new trees id =
-    (answer ≡ id) × (trees_fault digest trees (objects before old.entries) ≡ None) × AddsTrees digest before old after new trees
-StoresTrees (Err e) digest before old after new trees id = AddsSome digest before old after new trees e
+    (answer ≡ id) × (trees_fault digest trees (objects before old.entries) ≡ None)
+    × AddsTrees digest before old after new trees
+StoresTrees (Err e) digest before old after new trees id =
+    AddsSome digest before old after new trees e

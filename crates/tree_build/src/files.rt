@@ -11,18 +11,21 @@ ghost use Rattle.std.specs.FinMap as map;
 ghost use Rattle.git_model.specs.declared.file_mode.FileMode.TheVariants as mode;
 ghost use Rattle.std.specs.List.{AllByRecursion};
 ghost use Rattle.std.specs.Option.{option_copied};
-ghost use Rattle.tree_build.specs.FileMap.{ArePairwiseApart};
+ghost use Rattle.tree_build.specs.FileMap.{ArePairwiseApart, AreFiles, listed};
 ghost use Rattle.tree_build.specs.Edits.{files_at, moved, with_files, put_at, copied, renamed, without, put_fault, move_fault};
 ghost use Rattle.tree_build.specs.Kept.{stays, IsBelow};
 ghost use Rattle.tree_build.specs.Calls.{Edits};
+ghost use Rattle.tree_build.specs.Grafts.{Grafts};
 ghost use Rattle.tree_build.specs.Trees.{entry_at, nested_trees, tree_id};
 ghost use Rattle.tree_build.specs.Storing.{StoresTrees, HasRoomBeside};
+ghost use Rattle.tenant_tables.specs.Objects.{objects};
 ghost use Rattle.tenant_tables.specs.StandsIn.{StandsIn, LeavesOthers};
 
 use crate::below::{depth_of, file_of, files_at, is_nowhere};
 use crate::check::{are_none, has_components, has_twenty_bytes, refusal_beside};
 use crate::entry::Entry;
 use crate::fault::Fault;
+use crate::grafted::{gather, is_small, tree_summary};
 use crate::map::{Entries, count_staying, drop_below, insert_all, moved, one_file, retain_staying};
 use crate::naming::tree_id;
 use crate::storing::store_trees;
@@ -71,6 +74,13 @@ impl Files {
         ensures { self.new ≡ map.empty }
     {
         self.files.clear();
+    }
+
+    /// What holds of the files of every value: a fact for proofs. A call does nothing.
+    pub fn are_files(&self)
+        ensures { AreFiles (listed self.now) }
+    {
+        let _files = &self.files;
     }
 
     /// Takes out the files at or below a path; at the root, all. Where there is none, nothing changes:
@@ -134,11 +144,11 @@ impl Files {
             (move_fault (moved to.now (files_at self.old from.now)) after) after }
     {
         has_components(to);
-        let files = moved(self.alloc, &self.files, from, to)?;
-        if are_none(&files) {
+        let copies = moved(self.alloc, &self.files, from, to)?;
+        if are_none(&copies) {
             return Err(Fault::SourceMissing);
         }
-        self.replace(None, to, files)
+        self.replace(None, to, copies)
     }
 
     /// As `copy`, and the files no longer stand at the source: git-fast-import(1), "filerename".
@@ -159,6 +169,36 @@ impl Files {
             return Err(Fault::SourceMissing);
         }
         self.replace(Some(from), to, files)
+    }
+
+    /// Puts the files of a stored tree at a path, in place of what stands there, below it, or on a
+    /// prefix of it; not Git's grafts: git-fast-import(1), "filemodify" with mode 040000.
+    ///
+    /// The empty tree has no files, so that putting it only removes, and at the root any tree takes the
+    /// place of all. `Fault::ObjectUnknown` (14) where the table has no object of this name, else
+    /// `Fault::WrongKind` (15) where it is no tree; else `Fault::Limit` (25) where a path would be too
+    /// long, or there would be too many files, as in `put`. Nothing has changed after these. Takes memory
+    /// for the new paths and for the entries of the trees that it reads; after `Fault::Memory` (90) the
+    /// value may only be cleared or dropped.
+    ///
+    /// The pool is the one that the table stands in.
+    pub fn graft<N: Naming>(
+        &mut self,
+        pool: &Pool<N>,
+        table: &Table,
+        path: &Path,
+        name: &Name,
+    ) -> Result<(), Fault>
+        requires stands { StandsIn N.digest_of pool.now table.now.entries }
+        ensures { Grafts result (objects pool.now table.now.entries) name.now path.now self.old self.new }
+    {
+        let alloc = self.alloc;
+        if !is_small(tree_summary(pool, table, name)?) {
+            return Err(Fault::Limit);
+        }
+        let mut files = Vec::new(alloc);
+        gather(alloc, pool, table, path, name, &mut files)?;
+        self.replace(None, path, files)
     }
 
     /// What stands at a path: a file, a directory with the name of its tree, or nothing. The root is

@@ -6,6 +6,8 @@ mod check;
 mod entry;
 mod fault;
 mod files;
+mod grafted;
+pub mod laws;
 mod map;
 mod naming;
 mod storing;

@@ -1,6 +1,7 @@
 //! What no clause says: that calls succeed, and names that Git gave.
 
 mod branch;
+mod grafts;
 
 use crate::made_by_git::TREES;
 use branch::Branch;

@@ -21,10 +21,12 @@ pub struct Branch<N: Naming> {
     table: Table,
 }
 
-fn code_of(answer: Result<(), Fault>) -> u16 {
+// The number of a refusal, 0 where there is none. Want of memory ends a test.
+fn code_of(answer: Result<(), Fault>) -> Result<u16, Fail> {
     match answer {
-        Ok(()) => 0,
-        Err(fault) => fault.code(),
+        Ok(()) => Ok(0),
+        Err(Fault::Memory) => Err(Fail::from(Fault::Memory)),
+        Err(fault) => Ok(fault.code()),
     }
 }
 
@@ -70,7 +72,7 @@ impl<N: Naming> Branch<N> {
         let name = Name::from_hex(digits).ok_or("no name")?;
         let mode = FileMode::Regular;
         let entry = Entry { mode, name };
-        Ok(code_of(self.files.put(&self.pool, &self.table, &path, entry)))
+        code_of(self.files.put(&self.pool, &self.table, &path, entry))
     }
 
     pub fn put_long(&mut self, bytes: &[u8], digits: &[u8; 40]) -> Result<u16, Fail> {
@@ -78,7 +80,7 @@ impl<N: Naming> Branch<N> {
         let name = Name::from_hex(digits).ok_or("no name")?;
         let mode = FileMode::Regular;
         let entry = Entry { mode, name };
-        Ok(code_of(self.files.put(&self.pool, &self.table, &path, entry)))
+        code_of(self.files.put(&self.pool, &self.table, &path, entry))
     }
 
     pub fn put_line(&mut self, line: &[u8]) -> Result<(), Fail> {
@@ -101,13 +103,29 @@ impl<N: Naming> Branch<N> {
     pub fn copy(&mut self, from: &[u8], to: &[u8]) -> Result<u16, Fail> {
         let from = self.path(from)?;
         let to = self.path(to)?;
-        Ok(code_of(self.files.copy(&self.pool, &self.table, &from, &to)))
+        code_of(self.files.copy(&self.pool, &self.table, &from, &to))
     }
 
     pub fn rename(&mut self, from: &[u8], to: &[u8]) -> Result<u16, Fail> {
         let from = self.path(from)?;
         let to = self.path(to)?;
-        Ok(code_of(self.files.rename(&self.pool, &self.table, &from, &to)))
+        code_of(self.files.rename(&self.pool, &self.table, &from, &to))
+    }
+
+    /// Puts a stored tree at a path, and answers the number of the fault, or 0.
+    pub fn graft(&mut self, path: &[u8], digits: &[u8]) -> Result<u16, Fail> {
+        let path = self.path(path)?;
+        self.graft_at(&path, digits)
+    }
+
+    pub fn graft_long(&mut self, bytes: &[u8], digits: &[u8]) -> Result<u16, Fail> {
+        let path = Path::from_canonical(self.alloc, bytes)?.ok_or("no path")?;
+        self.graft_at(&path, digits)
+    }
+
+    fn graft_at(&mut self, path: &Path, digits: &[u8]) -> Result<u16, Fail> {
+        let name = Name::from_hex(digits).ok_or("no name")?;
+        code_of(self.files.graft(&self.pool, &self.table, path, &name))
     }
 
     pub fn clear(&mut self) {

@@ -7,7 +7,8 @@ use Rattle.tree_build.proofs.below.cut_run.Goals as goal
 use Rattle.tree_build.proofs.below.cut_run.Goals.{in-Some+in_ok-push-in-Some, in-None}
 
 -- what was cut off is pushed, where there is something
-pushed : (c : goal.Joined-cut_off) → c.match-cut_off.below.items ≡ c.loop-file.below.items ++ option_to_list c.cut_off.result
+pushed : (c : goal.Joined-cut_off)
+    → c.match-cut_off.below.items ≡ c.loop-file.below.items ++ option_to_list c.cut_off.result
 pushed c =
     elim c.match-cut_off.branch [
       | in-Some+in_ok-push-in-Some w ↦

@@ -3,7 +3,8 @@ use Rattle.tree_build.specs.Kept.{put_all}
 use Rattle.tree_build.proofs.map.insert_all.Given as goal
 
 abbrev pub invariant-loop-path : goal.invariant-loop-path
-invariant-loop-path l = put_all l.map.entries l.files.items ≡ put_all l.fn.map.entries l.fn.files.items
+invariant-loop-path l =
+    put_all l.map.entries l.files.items ≡ put_all l.fn.map.entries l.fn.files.items
 
 abbrev pub decreases-loop-path : goal.decreases-loop-path
 decreases-loop-path l = length l.files.items

@@ -1,4 +1,5 @@
-use Rattle.std.proofs.Common.{◌≡◌, ℕ, ◌-◌, ◌<◌, ◌≤◌, List, [], ◌∷◌, ◌++◌, length, take, map, OnOk, Some, refl, sym, ap, ◌∙◌, subst, rules, arith}
+use Rattle.std.proofs.Common.{◌≡◌, ℕ, ◌-◌, ◌<◌, ◌≤◌, List, [], ◌∷◌, ◌++◌, length, take, map, OnOk}
+use Rattle.std.proofs.Common.{Some, refl, sym, ap, ◌∙◌, subst, rules, arith}
 use Rattle.std.specs.List.{AllByRecursion}
 use Rattle.git_model.specs.ObjectName.{IsObjectName}
 use Rattle.git_model.specs.Tree.{TreeEntry, tree_contents}
@@ -15,8 +16,10 @@ use Rattle.tree_build.specs.Storing.{StoresTrees}
 use Rattle.tree_build.specs.Storable.{IsKnownGroup}
 use Rattle.tree_build.proofs.Nested.{entries_turn, entries_end, pushed, direct_of}
 use Rattle.tree_build.proofs.Sums.{fits-tree}
-use Rattle.tree_build.proofs.Stored.{adds-none, stopped, trees_of, trees-any, entries-any, deep_some}
-use Rattle.tree_build.proofs.Turns.{each-storable, ids_turn, known_turn, adds_turn, unrefused_turn, stopped_here, refused_here, stores-last, all_trees}
+use Rattle.tree_build.proofs.Stored.{adds-none, stopped, trees_of, trees-any, entries-any}
+use Rattle.tree_build.proofs.Stored.{deep_some}
+use Rattle.tree_build.proofs.Turns.{each-storable, ids_turn, known_turn, adds_turn, unrefused_turn}
+use Rattle.tree_build.proofs.Turns.{stopped_here, refused_here, stores-last, all_trees}
 use Rattle.std.proofs.lemmas.List.{take_all, length-map}
 use Rattle.tree_build.proofs.storing.+storing.Goals as goal
 
@@ -65,7 +68,8 @@ store_trees-loop-group-preserved g t c =
       entries =
           entries_turn g.N.Naming.digest_of (c.args.deep - 1) c.deref-group-items.result.now c.loop-group.group-index c.group-item.result c.in-Ok-store_group.id c.entry_by.result _ _
           c.loop-group-test.true c.group-item.is c.in-Ok-store_group.ensures.stores.0 c.entry_by.ensures c.loop-group.invariant.entries one;
-      ids = ids_turn (group_of c.group-item.result) c.in-Ok-store_group.id c.entry_by.result _ _ c.has_twenty_bytes.ensures c.entry_by.ensures c.loop-group.invariant.ids one;
+      ids =
+          ids_turn (group_of c.group-item.result) c.in-Ok-store_group.id c.entry_by.result _ _ c.has_twenty_bytes.ensures c.entry_by.ensures c.loop-group.invariant.ids one;
       adds =
           adds_turn g.N.Naming.digest_of (c.args.deep - 1) _ _ _ _ _ _ c.deref-group-items.result.now c.loop-group.group-index c.group-item.result c.loop-group-test.true c.group-item.is
           c.loop-group.invariant.adds c.in-Ok-store_group.ensures.stores.2;
@@ -79,8 +83,12 @@ store_trees-loop-group-preserved g t c =
 
 -- the entries at the end of the loop
 module _ (digest : List ℕ → List ℕ) (deep : ℕ) (fs : Listed) (gs : List Group) (i : ℕ) (seen es : List declared.TreeEntry) where
-  the_entries : length gs ≤ i → entries_of es ≡ map (direct_of digest (deep - 1)) (groups_of (take i gs)) → groups_of gs ≡ grouped fs → seen ≡ es → entries_of seen ≡ map (direct_of digest (deep - 1)) (grouped fs)
-  the_entries done sofar are same = ap entries_of same ∙ entries_end digest (deep - 1) gs i es fs done sofar are
+  the_entries : length gs ≤ i
+      → entries_of es ≡ map (direct_of digest (deep - 1)) (groups_of (take i gs))
+      → groups_of gs ≡ grouped fs → seen ≡ es
+      → entries_of seen ≡ map (direct_of digest (deep - 1)) (grouped fs)
+  the_entries done sofar are same =
+      ap entries_of same ∙ entries_end digest (deep - 1) gs i es fs done sofar are
 
 pub store_trees-add_entries-requires-clause-fits : goal.store_trees-add_entries-requires-clause-fits
 store_trees-add_entries-requires-clause-fits g t c =

@@ -17,7 +17,8 @@ pub returns-in-Some : goal.returns-in-Some
 returns-in-Some c = λ _. (
   ap (λ (m : FileMap). put_fault c.args.files.items (with_files (map.retain_keys m (stays (option_copied c.args.from) c.args.to.now)) c.args.files.items)) (sym c.self.view_is)
       ∙ sym (refusal-is (option_copied c.args.from) c.args.to.now c.self.inside.files.entries c.args.files.items c.count_staying-staying.result c.self.invariant c.requires.below c.requires.apart c.count_staying-staying.ensures)
-      ∙ ap (refusal_beside c.count_staying-staying.result) (sym c.deref.ensures.value) ∙ sym c.refusal_beside.ensures ∙ c.in-Some.is,
+      ∙ ap (refusal_beside c.count_staying-staying.result) (sym c.deref.ensures.value)
+      ∙ sym c.refusal_beside.ensures ∙ c.in-Some.is,
   refl,
 )
 
@@ -35,7 +36,9 @@ module _ (c : goal.After-drop-self-inside) where
   held = c.self.inside.files.entries
 
   not_refused : refusal_beside c.count_staying-staying.result files ≡ None
-  not_refused = ap (refusal_beside c.count_staying-staying.result) (sym c.deref.ensures.value) ∙ sym c.refusal_beside.ensures ∙ c.in-None.is
+  not_refused =
+      ap (refusal_beside c.count_staying-staying.result) (sym c.deref.ensures.value)
+      ∙ sym c.refusal_beside.ensures ∙ c.in-None.is
 
   left : c.insert_all.new.map.entries ≡ put_all (kept from to held) files
   left =
@@ -52,6 +55,7 @@ returns c = (
   ap (λ (m : FileMap). put_fault (files c) (with_files (map.retain_keys m (stays (from c) (to c))) (files c))) (sym c.self.view_is)
       ∙ sym (refusal-is (from c) (to c) (held c) (files c) c.count_staying-staying.result c.self.invariant c.requires.below c.requires.apart c.count_staying-staying.ensures)
       ∙ not_refused c,
-  ap (λ (l : Listed). from_sorted {R = path_cmp} l) (left c) ∙ sym (edited-is (from c) (to c) (held c) (files c) c.self.invariant)
+  ap (λ (l : Listed). from_sorted {R = path_cmp} l) (left c)
+      ∙ sym (edited-is (from c) (to c) (held c) (files c) c.self.invariant)
       ∙ ap (λ (m : FileMap). with_files (map.retain_keys m (stays (from c) (to c))) (files c)) c.self.view_is,
 )

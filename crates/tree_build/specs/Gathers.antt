@@ -1,0 +1,24 @@
+-- How the files of a stored tree are gathered, for private contracts.
+use Rattle.std.specs.Prelude.{◌≡◌, ℕ, Bool, ◌&&◌, ◌==◌, nat_le, List, ◌++◌, Option}
+use Rattle.std.specs.Option.{unwrap_or}
+use Rattle.git_model.specs.Repository.{Object}
+use Rattle.tenant_tables.specs.declared.summary.Summary.{Summary}
+use Rattle.tenant_tables.specs.Trees.{no_files}
+use Rattle.tree_build.specs.declared.check.TheConstants.{FILES_LIMIT}
+use Rattle.tree_build.specs.FileMap.{Path, Listed}
+use Rattle.tree_build.specs.Edits.{moved}
+use Rattle.tree_build.specs.StoredTree.{ListsTree}
+
+-- A tree is small where its files could stand at the root of a branch.
+abbrev pub is_small : Summary → Bool
+is_small s = nat_le s.files FILES_LIMIT && nat_le s.depth 256 && nat_le s.longest 16383
+
+-- Whether a tree has no files.
+abbrev pub has_none : Option Summary → Bool
+has_none s = (unwrap_or s no_files).files == 0
+
+-- Files were put behind others: those of the tree of a name, with a path put before each of theirs.
+pub record Gathers (os : List Object) (top : Path) (id : List ℕ) (old new : Listed) : Type 0 where
+  pub files : Listed
+  pub listed : ListsTree os id files
+  pub behind : new ≡ old ++ moved top files
