@@ -1,12 +1,13 @@
--- Commit objects: "commit object" in gitglossary(7), and the header lines that git-cat-file(1) shows of one.
+-- Commit objects: "commit object" in gitglossary(7), and the header lines that git-cat-file(1)
+-- shows of one.
 use Rattle.std.specs.Prelude.{◌≢◌, ℕ, List, [], ◌∷◌, ◌++◌, All, Option, None, Some, IfSome, codes}
 use Rattle.std.specs.List.{flat_map}
 use Rattle.hex.specs.Hex.{encode_lower}
 use Rattle.git_model.specs.ObjectName.{IsObjectName}
 use Rattle.git_model.specs.Ident.{IsWrittenIdent}
 
--- A commit: the names of its tree and of its parents, who wrote it and who committed it, perhaps the encoding
--- of its message, and its message.
+-- A commit: the names of its tree and of its parents, who wrote it and who committed it, perhaps
+-- the encoding of its message, and its message.
 pub record Commit : Type 0 where
   pub tree : List ℕ
   pub parents : List (List ℕ)

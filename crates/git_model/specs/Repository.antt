@@ -26,4 +26,5 @@ has_object id c os = option_map_or (same_content c) (object_named id os) false
 
 -- The objects with one more behind them, unless the name is there.
 abbrev pub with_object : List ℕ → Content → List Object → List Object
-with_object id c os = if is_some (object_named id os) then os else os ++ record { id = id; content = c } ∷ []
+with_object id c os =
+    if is_some (object_named id os) then os else os ++ record { id = id; content = c } ∷ []

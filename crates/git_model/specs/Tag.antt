@@ -25,7 +25,8 @@ tag_contents t =
     ++ optional_line (codes "tagger ") t.tagger
     ++ 10 ∷ t.message
 
--- The tags that can be written: of a commit, a blob or a tag, and with a name under which there may be a ref.
+-- The tags that can be written: of a commit, a blob or a tag, and with a name under which there may
+-- be a ref.
 pub record CanWriteTag (t : Tag) : Type 0 where
   pub target : IsObjectName t.target
   pub kind : t.kind ≢ kind.Tree

@@ -41,13 +41,14 @@ slash_of mode.Directory = codes "/"
 abbrev pub order_key : TreeEntry → List ℕ
 order_key e = e.name ++ slash_of e.mode
 
--- Git's order: entries compare by the bytes of their names, a directory as if its name ended in a slash.
+-- Git's order: entries compare by the bytes of their names, a directory as if its name ended in a
+-- slash.
 abbrev pub tree_cmp : TreeEntry → TreeEntry → Ordering
 tree_cmp = on order_key (slice_cmp nat_cmp)
 
--- An entry's name is one component of a path: emptyName, fullPathname, hasDot and hasDotdot of git-fsck(1),
--- and no NUL, which ends the name.
-pub record IsComponent (name : List ℕ) : Type 0 where
+-- An entry's name is one component of a path: emptyName, fullPathname, hasDot and hasDotdot of
+-- git-fsck(1), and no NUL, which ends the name.
+pub record IsEntryName (name : List ℕ) : Type 0 where
   pub not_empty : name ≢ []
   pub no_nul : All (λ byte. byte ≢ 0) name
   pub no_slash : All (λ byte. byte ≢ 47) name
@@ -55,7 +56,7 @@ pub record IsComponent (name : List ℕ) : Type 0 where
   pub not_dot_dot : name ≢ codes ".."
 
 pub record CanWriteEntry (e : TreeEntry) : Type 0 where
-  pub name : IsComponent e.name
+  pub name : IsEntryName e.name
   pub id : IsObjectName e.id
 
 -- Entries make a tree where each can be written, their names are distinct, whatever their kinds

@@ -1,5 +1,6 @@
-//! What Git's objects are, as definitions and their laws. The definitions stand in `specs/`; the only Rust
-//! here is the plain enums that they speak of, so that code and definitions share one word for one thing.
+//! What Git's objects are, as definitions and their laws. The definitions stand in `specs/`; the
+//! only Rust here is the plain enums that they speak of, so that code and definitions share one
+//! word for one thing.
 #![tactic(auto)]
 
 mod file_mode;

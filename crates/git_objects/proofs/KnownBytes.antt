@@ -1,6 +1,8 @@
 -- What calls of readers and writers, one after the other, do to known bytes.
-use Rattle.std.proofs.Common.{ℕ, List, [], ◌++◌, Option, None, Some, refl, sym, ap, ◌∙◌, append_assoc, append-nil}
+use Rattle.std.proofs.Common.{◌≡◌, ℕ, List, [], ◌++◌, Option, None, Some, refl, sym, ap, ◌∙◌, append_assoc, append-nil, arith}
+use Rattle.std.proofs.lemmas.List.{length-append}
 use Rattle.std.specs.Io.KnownBytes.{Keeps, Appends, Consumes}
+use Rattle.git_objects.specs.Device.{Device, HasRead}
 
 pub Keeps-refl : (a : Option (List ℕ)) → Keeps a a
 Keeps-refl None = tt
@@ -43,3 +45,18 @@ Appends-kept None b c bs p q = tt
 Appends-kept (Some x) None c bs p q = absurd p
 Appends-kept (Some x) (Some y) None bs p q = absurd q
 Appends-kept (Some x) (Some y) (Some z) bs p q = q ∙ p
+
+-- ---- bytes that a device gave, one call after another
+
+pub HasRead-trans : (a b c : Device) (xs ys : List ℕ) → HasRead a b xs → HasRead b c ys → HasRead a c (xs ++ ys)
+HasRead-trans a b c xs ys first later = record {
+  consumed = Consumes-trans a.known b.known c.known xs ys first.consumed later.consumed;
+  passed = let p = later.passed in let q = first.passed in let n = length-append xs ys in omega (arith, p, q, n);
+}
+
+-- a call that gave nothing
+pub HasRead-kept : (a b c : Device) (xs : List ℕ) → HasRead a b xs → Keeps b.known c.known → c.passed ≡ b.passed → HasRead a c xs
+HasRead-kept a b c xs had keeps passed = record {
+  consumed = Consumes-kept a.known b.known c.known xs had.consumed keeps;
+  passed = passed ∙ had.passed;
+}

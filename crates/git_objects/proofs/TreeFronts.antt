@@ -6,7 +6,7 @@ use Rattle.std.proofs.lemmas.List.{append_assoc, take-append-drop, take_at, drop
 use Rattle.std.proofs.lemmas.List.Elements.{All-from_get_or}
 use Rattle.git_model.specs.declared.file_mode.FileMode.{FileMode}
 use Rattle.git_model.specs.ObjectName.{IsObjectName}
-use Rattle.git_model.specs.Tree.{TreeEntry, IsComponent, CanWriteEntry, entry_text}
+use Rattle.git_model.specs.Tree.{TreeEntry, IsEntryName, CanWriteEntry, entry_text}
 use Rattle.git_objects.specs.Fronts.{IsFront}
 use Rattle.git_objects.specs.TreeParts.{mode_text, name_text}
 use Rattle.git_objects.proofs.Fronts.{no_front, Both, both, first_missing, second_missing, both_there, renamed}
@@ -37,10 +37,10 @@ pub behind_fits : (xs ys zs : List ℕ) → xs ≡ ys ++ zs → ((i : ℕ) → F
 behind_fits xs ys zs e fits i = subst (λ b. Fits w8 b) (ap (λ l. get_or l (length ys + i) 0) e ∙ get_or-append-add ys zs i 0) (fits (length ys + i))
 
 abbrev Name_is : (List ℕ × List ℕ) → Type 0
-Name_is = Both IsComponent IsObjectName name_text (λ id. id)
+Name_is = Both IsEntryName IsObjectName name_text (λ id. id)
 
 abbrev name_and_id : (List ℕ × List ℕ) → List ℕ
-name_and_id = both IsComponent IsObjectName name_text (λ id. id)
+name_and_id = both IsEntryName IsObjectName name_text (λ id. id)
 
 abbrev entry_from : FileMode × (List ℕ × List ℕ) → TreeEntry
 entry_from p = record { mode = p.0; name = p.1.0; id = p.1.1 }
@@ -59,12 +59,12 @@ entry_front bytes read h = renamed entry_from parts_of bytes read (λ e. refl) (
 pub mode_missing : (bytes : List ℕ) → IsFront (λ _. ⊤) mode_text bytes None → IsFront CanWriteEntry entry_text bytes None
 mode_missing bytes m = entry_front bytes None (first_missing (λ _. ⊤) Name_is mode_text name_and_id bytes m)
 
-pub name_missing : (bytes : List ℕ) (mode : FileMode) (r : List ℕ) → IsFront (λ _. ⊤) mode_text bytes (Some (mode, r)) → IsFront IsComponent name_text r None → IsFront CanWriteEntry entry_text bytes None
-name_missing bytes mode r m n = entry_front bytes None (second_missing (λ _. ⊤) Name_is mode_text name_and_id bytes mode r m (first_missing IsComponent IsObjectName name_text (λ id. id) r n))
+pub name_missing : (bytes : List ℕ) (mode : FileMode) (r : List ℕ) → IsFront (λ _. ⊤) mode_text bytes (Some (mode, r)) → IsFront IsEntryName name_text r None → IsFront CanWriteEntry entry_text bytes None
+name_missing bytes mode r m n = entry_front bytes None (second_missing (λ _. ⊤) Name_is mode_text name_and_id bytes mode r m (first_missing IsEntryName IsObjectName name_text (λ id. id) r n))
 
-pub short_of_id : (bytes : List ℕ) (mode : FileMode) (r name s : List ℕ) → IsFront (λ _. ⊤) mode_text bytes (Some (mode, r)) → IsFront IsComponent name_text r (Some (name, s)) → length s < 20 → IsFront CanWriteEntry entry_text bytes None
-short_of_id bytes mode r name s m n short = entry_front bytes None (second_missing (λ _. ⊤) Name_is mode_text name_and_id bytes mode r m (second_missing IsComponent IsObjectName name_text (λ id. id) r name s n (id_missing s short)))
+pub short_of_id : (bytes : List ℕ) (mode : FileMode) (r name s : List ℕ) → IsFront (λ _. ⊤) mode_text bytes (Some (mode, r)) → IsFront IsEntryName name_text r (Some (name, s)) → length s < 20 → IsFront CanWriteEntry entry_text bytes None
+short_of_id bytes mode r name s m n short = entry_front bytes None (second_missing (λ _. ⊤) Name_is mode_text name_and_id bytes mode r m (second_missing IsEntryName IsObjectName name_text (λ id. id) r name s n (id_missing s short)))
 
-pub entry_there : (bytes : List ℕ) (mode : FileMode) (r name s : List ℕ) → ((i : ℕ) → Fits w8 (get_or s i 0)) → IsFront (λ _. ⊤) mode_text bytes (Some (mode, r)) → IsFront IsComponent name_text r (Some (name, s)) → 20 ≤ length s
+pub entry_there : (bytes : List ℕ) (mode : FileMode) (r name s : List ℕ) → ((i : ℕ) → Fits w8 (get_or s i 0)) → IsFront (λ _. ⊤) mode_text bytes (Some (mode, r)) → IsFront IsEntryName name_text r (Some (name, s)) → 20 ≤ length s
     → IsFront CanWriteEntry entry_text bytes (Some (record { mode = mode; name = name; id = take 20 s }, drop 20 s))
-entry_there bytes mode r name s fits m n long = entry_front bytes (Some ((mode, (name, take 20 s)), drop 20 s)) (both_there (λ _. ⊤) Name_is mode_text name_and_id bytes mode r (name, take 20 s) (drop 20 s) m (both_there IsComponent IsObjectName name_text (λ id. id) r name s (take 20 s) (drop 20 s) n (id_there s fits long)))
+entry_there bytes mode r name s fits m n long = entry_front bytes (Some ((mode, (name, take 20 s)), drop 20 s)) (both_there (λ _. ⊤) Name_is mode_text name_and_id bytes mode r (name, take 20 s) (drop 20 s) m (both_there IsEntryName IsObjectName name_text (λ id. id) r name s (take 20 s) (drop 20 s) n (id_there s fits long)))

@@ -13,7 +13,7 @@ use Rattle.std.proofs.lemmas.List.{append-nil, append_cancel_right, get_or_push,
 use Rattle.std.proofs.lemmas.List.Sorted.{searchable_from_sorted}
 use Rattle.git_model.specs.declared.file_mode.FileMode.{FileMode}
 use Rattle.git_model.specs.declared.file_mode.FileMode.TheVariants as mode
-use Rattle.git_model.specs.Tree.{TreeEntry, IsComponent, CanWriteEntry, CanWriteTree, slash_of, order_key, tree_cmp}
+use Rattle.git_model.specs.Tree.{TreeEntry, IsEntryName, CanWriteEntry, CanWriteTree, slash_of, order_key, tree_cmp}
 use Rattle.git_objects.specs.TreeParts.{AreInOrder, HasTwin}
 
 tree_total : IsTotalOrder tree_cmp
@@ -33,7 +33,7 @@ no_slash_behind name front none e =
     none (length front) 0 within (ap (λ l. get_or l (length front) 0) e ∙ get_or_push front 47 0 (length front) refl)
 
 -- entries that compare alike have one name
-same_names : (a b : TreeEntry) → IsComponent a.name → IsComponent b.name → order_key a ≡ order_key b → a.name ≡ b.name
+same_names : (a b : TreeEntry) → IsEntryName a.name → IsEntryName b.name → order_key a ≡ order_key b → a.name ≡ b.name
 same_names a b p q e = elim (slash_cases a.mode) [
   | inl s ↦ elim (slash_cases b.mode) [
     | inl t ↦ append_cancel_right a.name b.name (codes "/") (ap (λ l. a.name ++ l) (sym s.1) ∙ e ∙ ap (λ l. b.name ++ l) t.1)
@@ -94,7 +94,7 @@ tree_from es entries h alone = record {
   in_order = λ k d low within. ap is_lt (tree_total.antisymm (get_or es (k + 1) d) (get_or es k d)) ∙ not_less (tree_cmp (get_or es k d) (get_or es (k + 1) d)) (h k d within);
 }
 
-component_at : (es : List TreeEntry) → All CanWriteEntry es → (k : ℕ) (d : TreeEntry) → k < length es → IsComponent (get_or es k d).name
+component_at : (es : List TreeEntry) → All CanWriteEntry es → (k : ℕ) (d : TreeEntry) → k < length es → IsEntryName (get_or es k d).name
 component_at es entries k d within = (entries k d within).name
 
 less_unless : (o : Ordering) → (o ≡ Equal → ⊥) → is_lt (ordering_reverse o) ≡ false → o ≡ Less

@@ -9,7 +9,8 @@ use Rattle.git_model.specs.Commit.{line, name_line, IsEncoding}
 pub record AreParents (bytes : List ℕ) (parents : List (List ℕ)) (rest : List ℕ) : Type 0 where
   pub names : All IsObjectName parents
   pub lines : bytes ≡ flat_map (name_line (codes "parent ")) parents ++ rest
-  pub no_more : (id : List ℕ) (more : List ℕ) → IsObjectName id → rest ≢ name_line (codes "parent ") id ++ more
+  pub no_more : (id : List ℕ) (more : List ℕ) → IsObjectName id
+      → rest ≢ name_line (codes "parent ") id ++ more
 
 -- The author's and the committer's lines.
 abbrev pub IsIdents : List ℕ × List ℕ → Type 0

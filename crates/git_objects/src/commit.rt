@@ -34,7 +34,8 @@ pub struct CommitParts<'a> {
 }
 
 fn append_parents(ancestors: &[Name], contents: &mut Vec<u8>) -> Result<(), Memory>
-    ensures written { OnOk result (contents.new.items ≡ contents.old.items ++ flat_map (name_line (codes "parent ")) ancestors.now) }
+    ensures written { OnOk result (contents.new.items
+        ≡ contents.old.items ++ flat_map (name_line (codes "parent ")) ancestors.now) }
     ensures kept { take (length contents.old.items) contents.new.items ≡ contents.old.items }
 {
     for parent in ancestors {
@@ -44,7 +45,8 @@ fn append_parents(ancestors: &[Name], contents: &mut Vec<u8>) -> Result<(), Memo
 }
 
 fn append_commit(parts: &CommitParts<'_>, contents: &mut Vec<u8>) -> Result<(), Memory>
-    ensures written { OnOk result (contents.new.items ≡ contents.old.items ++ commit_contents (commit_of parts.now)) }
+    ensures written { OnOk result (contents.new.items
+        ≡ contents.old.items ++ commit_contents (commit_of parts.now)) }
     ensures kept { take (length contents.old.items) contents.new.items ≡ contents.old.items }
 {
     append_name_line(b"tree ", &parts.tree, contents)?;
@@ -56,11 +58,12 @@ fn append_commit(parts: &CommitParts<'_>, contents: &mut Vec<u8>) -> Result<(), 
 
 /// Appends the contents of a commit.
 ///
-/// `Memory` (90) where there is no room for all of it; `contents` is then unchanged. Any parts have a text; it is a
-/// commit's, which `read_commit` reads, where author and committer are idents that do not begin with `<` and the
-/// encoding, if there is one, is a line of text that is not empty.
+/// `Memory` (90) where there is no room for all of it; `contents` is then unchanged. Any parts have
+/// a text; it is a commit's, which `read_commit` reads, where author and committer are idents that
+/// do not begin with `<` and the encoding, if there is one, is a line of text that is not empty.
 pub fn write_commit(parts: &CommitParts<'_>, contents: &mut Vec<u8>) -> Result<(), Memory>
-    ensures written { OnOk result (contents.new.items ≡ contents.old.items ++ commit_contents (commit_of parts.now)) }
+    ensures written { OnOk result (contents.new.items
+        ≡ contents.old.items ++ commit_contents (commit_of parts.now)) }
     ensures same { OnErr result (contents.new.items ≡ contents.old.items) }
 {
     let start = contents.len();
@@ -84,7 +87,8 @@ fn take_parents(alloc: Global, bytes: &[u8]) -> Result<(Vec<Name>, &[u8]), Memor
 }
 
 fn take_idents(bytes: &[u8]) -> Option<((&[u8], &[u8]), &[u8])>
-    ensures { IsFront IsIdents idents_text bytes.now (option_map (λ x. ((x.0.0.now, x.0.1.now), x.1.now)) result) }
+    ensures { IsFront IsIdents idents_text bytes.now
+        (option_map (λ x. ((x.0.0.now, x.0.1.now), x.1.now)) result) }
 {
     let (author, rest) = take_ident_line(b"author ", bytes)?;
     let (committer, rest) = take_ident_line(b"committer ", rest)?;
@@ -92,7 +96,8 @@ fn take_idents(bytes: &[u8]) -> Option<((&[u8], &[u8]), &[u8])>
 }
 
 fn take_encoding(bytes: &[u8]) -> Option<(Option<&[u8]>, &[u8])>
-    ensures { IsFront IsEncoded (end_lines (codes "encoding ")) bytes.now (option_map (λ x. (option_copied x.0, x.1.now)) result) }
+    ensures { IsFront IsEncoded (end_lines (codes "encoding ")) bytes.now
+        (option_map (λ x. (option_copied x.0, x.1.now)) result) }
 {
     match take_end(b"encoding ", bytes)? {
         (Some(b""), _) => None,
@@ -102,14 +107,18 @@ fn take_encoding(bytes: &[u8]) -> Option<(Option<&[u8]>, &[u8])>
 
 /// Reads the contents of a commit; its texts are borrowed from the contents.
 ///
-/// `None` where the contents are no commit's that `write_commit` makes of parts that are right: a header line that
-/// is missing, repeated or out of its place, a name that is not 40 hexadecimal digits of lower case, an author or
-/// committer that is no ident or begins with `<`, an encoding that is empty. `Memory` (90) where there is no room
-/// for the names of the parents.
+/// `None` where the contents are no commit's that `write_commit` makes of parts that are right: a
+/// header line that is missing, repeated or out of its place, a name that is not 40 hexadecimal
+/// digits of lower case, an author or committer that is no ident or begins with `<`, an encoding
+/// that is empty. `Memory` (90) where there is no room for the names of the parents.
 pub fn read_commit(alloc: Global, contents: &[u8]) -> Result<Option<CommitParts<'_>>, Memory>
-    ensures found { IfOk result (λ r. IfSome r (λ parts. CanWriteCommit (commit_of parts) × (contents.now ≡ commit_contents (commit_of parts)))) }
-    ensures only { (c : Commit) → CanWriteCommit c → contents.now ≡ commit_contents c → IfOk result (λ r. IsSomeAnd r (λ parts. commit_of parts ≡ c)) }
-    ensures exact { IfOk result (λ r. IsNone r → (c : Commit) → CanWriteCommit c → contents.now ≢ commit_contents c) }
+    ensures found { IfOk result (λ r. IfSome r
+        (λ parts. CanWriteCommit (commit_of parts)
+        × (contents.now ≡ commit_contents (commit_of parts)))) }
+    ensures only { (c : Commit) → CanWriteCommit c → contents.now ≡ commit_contents c
+        → IfOk result (λ r. IsSomeAnd r (λ parts. commit_of parts ≡ c)) }
+    ensures exact { IfOk result (λ r. IsNone r → (c : Commit) → CanWriteCommit c
+        → contents.now ≢ commit_contents c) }
 {
     let Some(first) = take_name_line(b"tree ", contents) else {
         return Ok(None);

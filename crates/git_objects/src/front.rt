@@ -1,4 +1,5 @@
-//! Parts that stand at the front of a text, for the readers of object contents. Nothing here takes memory.
+//! Parts that stand at the front of a text, for the readers of object contents. Nothing here takes
+//! memory.
 
 ghost use Rattle.std.specs.Prelude.{◌≡◌, ◌≢◌, ◌==◌, [], ◌∷◌, ◌++◌, All, position};
 ghost use Rattle.std.specs.Option.{option_map};
@@ -12,7 +13,8 @@ fn index_of(bytes: &[u8], sought: u8) -> Option<usize>
 
 /// Parts a text at the first byte that is `end`: what stands before it and what stands behind it.
 pub fn split_at_byte(bytes: &[u8], end: u8) -> Option<(&[u8], &[u8])>
-    ensures { IsFront (All (λ byte. byte ≢ end)) (λ part. part ++ end ∷ []) bytes.now (option_map (λ x. (x.0.now, x.1.now)) result) }
+    ensures { IsFront (All (λ byte. byte ≢ end)) (λ part. part ++ end ∷ []) bytes.now
+        (option_map (λ x. (x.0.now, x.1.now)) result) }
 {
     let at = index_of(bytes, end)?;
     Some((bytes.split_at(at).0, bytes.split_at(at + 1).1))

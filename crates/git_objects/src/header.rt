@@ -25,7 +25,8 @@ pub fn append_line(word: &[u8], text: &[u8], contents: &mut Vec<u8>) -> Result<(
     Ok(())
 }
 
-/// Appends the line of an object name, in 40 hexadecimal digits; as `append_line` after `Memory` (90).
+/// Appends the line of an object name, in 40 hexadecimal digits; as `append_line` after `Memory`
+/// (90).
 pub fn append_name_line(word: &[u8], id: &Name, contents: &mut Vec<u8>) -> Result<(), Memory>
     ensures written { OnOk result (contents.new.items ≡ contents.old.items ++ name_line word.now id.now) }
     ensures kept { take (length contents.old.items) contents.new.items ≡ contents.old.items }
@@ -33,14 +34,17 @@ pub fn append_name_line(word: &[u8], id: &Name, contents: &mut Vec<u8>) -> Resul
     append_line(word, &id.to_hex(), contents)
 }
 
-/// Appends a line that may be missing, the empty line and a message; as `append_line` after `Memory` (90).
+/// Appends a line that may be missing, the empty line and a message; as `append_line` after
+/// `Memory` (90).
 pub fn append_end(
     word: &[u8],
     text: Option<&[u8]>,
     message: &[u8],
     contents: &mut Vec<u8>,
 ) -> Result<(), Memory>
-    ensures written { OnOk result (contents.new.items ≡ contents.old.items ++ optional_line word.now (option_copied text.entry) ++ 10 ∷ message.now) }
+    ensures written { OnOk result (contents.new.items
+        ≡ contents.old.items ++ optional_line word.now (option_copied text.entry) ++ 10
+        ∷ message.now) }
     ensures kept { take (length contents.old.items) contents.new.items ≡ contents.old.items }
 {
     if let Some(text) = text {
@@ -51,9 +55,11 @@ pub fn append_end(
     Ok(())
 }
 
-/// Takes a line with this word from the front of a text: what stands behind the word, and what follows the line.
+/// Takes a line with this word from the front of a text: what stands behind the word, and what
+/// follows the line.
 pub fn take_line<'a>(word: &[u8], bytes: &'a [u8]) -> Option<(&'a [u8], &'a [u8])>
-    ensures { IsFront (All (λ byte. byte ≢ 10)) (line word.now) bytes.now (option_map (λ x. (x.0.now, x.1.now)) result) }
+    ensures { IsFront (All (λ byte. byte ≢ 10)) (line word.now) bytes.now
+        (option_map (λ x. (x.0.now, x.1.now)) result) }
 {
     let behind = bytes.strip_prefix(word)?;
     split_at_byte(behind, b'\n')
@@ -61,7 +67,8 @@ pub fn take_line<'a>(word: &[u8], bytes: &'a [u8]) -> Option<(&'a [u8], &'a [u8]
 
 // Reads a name from the digits that `Name::to_hex` writes, which are of lower case.
 fn read_name(digits: &[u8]) -> Option<Name>
-    ensures { MatchOption result ((id : List ℕ) → IsObjectName id → digits.now ≢ encode_lower id) (λ id. IsObjectName id × (digits.now ≡ encode_lower id)) }
+    ensures { MatchOption result ((id : List ℕ) → IsObjectName id → digits.now ≢ encode_lower id)
+        (λ id. IsObjectName id × (digits.now ≡ encode_lower id)) }
 {
     let id = Name::from_hex(digits)?;
     if id.to_hex().as_slice() == digits {
@@ -73,7 +80,8 @@ fn read_name(digits: &[u8]) -> Option<Name>
 
 /// Takes the line of an object name from the front of a text.
 pub fn take_name_line<'a>(word: &[u8], bytes: &'a [u8]) -> Option<(Name, &'a [u8])>
-    ensures { IsFront IsObjectName (name_line word.now) bytes.now (option_map (λ x. (x.0, x.1.now)) result) }
+    ensures { IsFront IsObjectName (name_line word.now) bytes.now
+        (option_map (λ x. (x.0, x.1.now)) result) }
 {
     let (digits, rest) = take_line(word, bytes)?;
     match read_name(digits) {
@@ -84,7 +92,8 @@ pub fn take_name_line<'a>(word: &[u8], bytes: &'a [u8]) -> Option<(Name, &'a [u8
 
 /// Takes the line of an ident from the front of a text.
 pub fn take_ident_line<'a>(word: &[u8], bytes: &'a [u8]) -> Option<(&'a [u8], &'a [u8])>
-    ensures { IsFront IsWrittenIdent (line word.now) bytes.now (option_map (λ x. (x.0.now, x.1.now)) result) }
+    ensures { IsFront IsWrittenIdent (line word.now) bytes.now
+        (option_map (λ x. (x.0.now, x.1.now)) result) }
 {
     let (text, rest) = take_line(word, bytes)?;
     if is_written_ident(text) {
@@ -94,11 +103,12 @@ pub fn take_ident_line<'a>(word: &[u8], bytes: &'a [u8]) -> Option<(&'a [u8], &'
     }
 }
 
-/// Takes a line that may be missing and the empty line from the front of a text: what stands behind the word, if
-/// the line is there, and what follows the empty line.
+/// Takes a line that may be missing and the empty line from the front of a text: what stands behind
+/// the word, if the line is there, and what follows the empty line.
 pub fn take_end<'a>(word: &[u8], bytes: &'a [u8]) -> Option<(Option<&'a [u8]>, &'a [u8])>
     requires { (text rest : List ℕ) → word.now ++ text ≢ 10 ∷ rest }
-    ensures { IsFront (λ text. IfSome text (All (λ byte. byte ≢ 10))) (end_lines word.now) bytes.now (option_map (λ x. (option_copied x.0, x.1.now)) result) }
+    ensures { IsFront (λ text. IfSome text (All (λ byte. byte ≢ 10))) (end_lines word.now) bytes.now
+        (option_map (λ x. (option_copied x.0, x.1.now)) result) }
 {
     if let Some(message) = bytes.strip_prefix(b"\n") {
         return Some((None, message));

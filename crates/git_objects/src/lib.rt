@@ -1,7 +1,8 @@
-//! Git's objects as bytes: object names under any digest, and the writers and readers of object contents.
+//! Git's objects as bytes: object names under any digest, and the writers and readers of object
+//! contents.
 //!
-//! Nothing here knows a repository, a pool or a tenant, and nothing is assumed of the digest but that it is one
-//! function of the bytes.
+//! Nothing here knows a repository, a pool or a tenant, and nothing is assumed of the digest but
+//! that it is one function of the bytes.
 #![tactic(auto)]
 
 mod commit;
@@ -47,5 +48,5 @@ pub use sha1_naming::Sha1Naming;
 pub use tag::{TagParts, read_tag, write_tag};
 pub use tail_naming::TailNaming;
 pub use tree::{read_tree, write_tree};
-pub use tree_entry::{TreeEntry, is_component};
+pub use tree_entry::{TreeEntry, is_entry_name};
 pub use whole_text::write_all;

@@ -19,10 +19,11 @@ pub fn mode_digits(mode: FileMode) -> &'static [u8]
     }
 }
 
-/// Reads a mode from its octal digits; `None` for every other text, one with a leading zero included. Takes no
-/// memory.
+/// Reads a mode from its octal digits; `None` for every other text, one with a leading zero
+/// included. Takes no memory.
 pub fn read_mode(digits: &[u8]) -> Option<FileMode>
-    ensures { MatchOption result ((mode : FileMode) → digits.now ≢ mode_digits mode) (λ mode. digits.now ≡ mode_digits mode) }
+    ensures { MatchOption result ((mode : FileMode) → digits.now ≢ mode_digits mode)
+        (λ mode. digits.now ≡ mode_digits mode) }
 {
     match digits {
         b"100644" => Some(FileMode::Regular),

@@ -61,8 +61,8 @@ impl Name {
         digits
     }
 
-    /// Reads a name from exactly 40 hexadecimal digits of either case; `None` for every other text. Takes no
-    /// memory.
+    /// Reads a name from exactly 40 hexadecimal digits of either case; `None` for every other text.
+    /// Takes no memory.
     pub fn from_hex(digits: &[u8]) -> Option<Name>
         ensures { MatchOption result ((bytes : List ℕ) → decode_sized digits.now 20 ≢ Ok bytes)
             (λ id. decode_sized digits.now 20 ≡ Ok id) }

@@ -18,8 +18,8 @@ pub trait Naming: Drop {
 
     /// The digest of a message that lies apart in two pieces, a header and the contents behind it.
     ///
-    /// This body copies both together, and answers `Memory` (90) where there is no room for that. A naming that
-    /// digests piece by piece has a body of its own that takes no memory.
+    /// This body copies both together, and answers `Memory` (90) where there is no room for that. A
+    /// naming that digests piece by piece has a body of its own that takes no memory.
     fn digest_parts(
         &self,
         alloc: Global,

@@ -35,8 +35,8 @@ fn header_of(alloc: Global, kind: Kind, size: usize) -> Result<Vec<u8>, Memory>
     Ok(header)
 }
 
-/// The name of the object of this kind with these contents, under this naming: the digest of its header and its
-/// contents. The contents are not copied under a naming that digests in pieces.
+/// The name of the object of this kind with these contents, under this naming: the digest of its
+/// header and its contents. The contents are not copied under a naming that digests in pieces.
 ///
 /// `Memory` (90) where the header, or a copy that the naming makes, finds no room.
 #[tactic(auto, unfolding(git_model::specs::ObjectName::object_name))]

@@ -8,7 +8,8 @@ use crate::naming::Naming;
 use sha1::Sha1;
 use std::alloc::Global;
 
-/// Names objects by SHA-1, as Git does. Neither call takes memory: the pieces of a message are digested in turn.
+/// Names objects by SHA-1, as Git does. Neither call takes memory: the pieces of a message are
+/// digested in turn.
 #[derive(Clone, Copy, Debug, Drop)]
 pub struct Sha1Naming;
 

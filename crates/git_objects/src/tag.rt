@@ -50,9 +50,10 @@ fn append_tag(parts: &TagParts<'_>, contents: &mut Vec<u8>) -> Result<(), Memory
 
 /// Appends the contents of a tag.
 ///
-/// `Memory` (90) where there is no room for all of it; `contents` is then unchanged. Any parts have a text; it is a
-/// tag's, which `read_tag` reads, where the kind is not that of a tree, `refs/tags/` and the name are a ref name,
-/// and the tagger, if there is one, is an ident that does not begin with `<`.
+/// `Memory` (90) where there is no room for all of it; `contents` is then unchanged. Any parts have
+/// a text; it is a tag's, which `read_tag` reads, where the kind is not that of a tree,
+/// `refs/tags/` and the name are a ref name, and the tagger, if there is one, is an ident that does
+/// not begin with `<`.
 pub fn write_tag(parts: &TagParts<'_>, contents: &mut Vec<u8>) -> Result<(), Memory>
     ensures written { OnOk result (contents.new.items ≡ contents.old.items ++ tag_contents (tag_of parts.now)) }
     ensures same { OnErr result (contents.new.items ≡ contents.old.items) }
@@ -66,7 +67,8 @@ pub fn write_tag(parts: &TagParts<'_>, contents: &mut Vec<u8>) -> Result<(), Mem
 }
 
 fn read_kind(word: &[u8]) -> Option<Kind>
-    ensures { MatchOption result ((kind : Kinds) → word.now ≢ word_of kind) (λ kind. word.now ≡ word_of kind) }
+    ensures { MatchOption result ((kind : Kinds) → word.now ≢ word_of kind)
+        (λ kind. word.now ≡ word_of kind) }
 {
     match word {
         b"commit" => Some(Kind::Commit),
@@ -107,7 +109,8 @@ fn is_tagger(tagger: Option<&[u8]>) -> bool
 }
 
 fn take_tagger(bytes: &[u8]) -> Option<(Option<&[u8]>, &[u8])>
-    ensures { IsFront IsTagger (end_lines (codes "tagger ")) bytes.now (option_map (λ x. (option_copied x.0, x.1.now)) result) }
+    ensures { IsFront IsTagger (end_lines (codes "tagger ")) bytes.now
+        (option_map (λ x. (option_copied x.0, x.1.now)) result) }
 {
     let (tagger, message) = take_end(b"tagger ", bytes)?;
     if is_tagger(tagger) {
@@ -119,13 +122,15 @@ fn take_tagger(bytes: &[u8]) -> Option<(Option<&[u8]>, &[u8])>
 
 /// Reads the contents of a tag; its texts are borrowed from the contents.
 ///
-/// `None` where the contents are no tag's that `write_tag` makes of parts that are right: a header line that is
-/// missing, repeated or out of its place, a name that is not 40 hexadecimal digits of lower case, `type tree`, a
-/// tag's name that makes no ref name behind `refs/tags/`, a tagger that is no ident or begins with `<`. `Memory`
-/// (90) where there is no room to judge that ref name.
+/// `None` where the contents are no tag's that `write_tag` makes of parts that are right: a header
+/// line that is missing, repeated or out of its place, a name that is not 40 hexadecimal digits of
+/// lower case, `type tree`, a tag's name that makes no ref name behind `refs/tags/`, a tagger that
+/// is no ident or begins with `<`. `Memory` (90) where there is no room to judge that ref name.
 pub fn read_tag(alloc: Global, contents: &[u8]) -> Result<Option<TagParts<'_>>, Memory>
-    ensures found { IfOk result (λ r. IfSome r (λ parts. CanWriteTag (tag_of parts) × (contents.now ≡ tag_contents (tag_of parts)))) }
-    ensures only { (t : Tag) → CanWriteTag t → contents.now ≡ tag_contents t → IfOk result (λ r. IsSomeAnd r (λ parts. tag_of parts ≡ t)) }
+    ensures found { IfOk result (λ r. IfSome r
+        (λ parts. CanWriteTag (tag_of parts) × (contents.now ≡ tag_contents (tag_of parts)))) }
+    ensures only { (t : Tag) → CanWriteTag t → contents.now ≡ tag_contents t
+        → IfOk result (λ r. IsSomeAnd r (λ parts. tag_of parts ≡ t)) }
     ensures exact { IfOk result (λ r. IsNone r → (t : Tag) → CanWriteTag t → contents.now ≢ tag_contents t) }
 {
     let Some(first) = take_name_line(b"object ", contents) else {

@@ -5,8 +5,8 @@ ghost use Rattle.git_objects.specs.Naming.{tail_digest};
 
 use crate::naming::Naming;
 
-/// Names an object by nineteen bytes 0xab and then the sum of all bytes of the message modulo 256, so that `ab`
-/// and `ba` have one name.
+/// Names an object by nineteen bytes 0xab and then the sum of all bytes of the message modulo 256,
+/// so that `ab` and `ba` have one name.
 #[derive(Clone, Copy, Debug, Drop)]
 pub struct TailNaming;
 

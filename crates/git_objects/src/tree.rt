@@ -2,7 +2,7 @@
 
 ghost use Rattle.std.specs.Prelude.{◌≡◌, ◌≢◌, ◌↔◌, List, ◌++◌, length, take, All, IfSome, IfOk, IsNone, IsSomeAnd, OnOk, OnErr, IsTrue, ⊤};
 ghost use Rattle.std.specs.Option.{option_map};
-ghost use Rattle.git_model.specs.Tree.{TreeEntry as Entry, IsComponent, CanWriteEntry, CanWriteTree, entry_text, tree_contents};
+ghost use Rattle.git_model.specs.Tree.{TreeEntry as Entry, IsEntryName, CanWriteEntry, CanWriteTree, entry_text, tree_contents};
 ghost use Rattle.git_objects.specs.Parts.{entry_of, entries_of};
 ghost use Rattle.git_objects.specs.Fronts.{IsFront};
 ghost use Rattle.git_objects.specs.TreeParts.{mode_text, name_text, AreInOrder, HasTwin};
@@ -11,7 +11,7 @@ use crate::front::split_at_byte;
 use crate::memory::Memory;
 use crate::mode::{mode_digits, read_mode};
 use crate::name::Name;
-use crate::tree_entry::{TreeEntry, is_component};
+use crate::tree_entry::{TreeEntry, is_entry_name};
 use git_model::FileMode;
 use std::alloc::Global;
 
@@ -28,7 +28,8 @@ fn append_entry(entry: &TreeEntry<'_>, contents: &mut Vec<u8>) -> Result<(), Mem
 }
 
 fn append_entries(entries: &[TreeEntry<'_>], contents: &mut Vec<u8>) -> Result<(), Memory>
-    ensures written { OnOk result (contents.new.items ≡ contents.old.items ++ tree_contents (entries_of entries.now)) }
+    ensures written { OnOk result (contents.new.items
+        ≡ contents.old.items ++ tree_contents (entries_of entries.now)) }
     ensures kept { take (length contents.old.items) contents.new.items ≡ contents.old.items }
 {
     for entry in entries {
@@ -39,11 +40,12 @@ fn append_entries(entries: &[TreeEntry<'_>], contents: &mut Vec<u8>) -> Result<(
 
 /// Appends the contents of the tree with these entries, in this order.
 ///
-/// `Memory` (90) where there is no room for all of it; `contents` is then unchanged. Any entries have a text; it is
-/// a tree's, which `read_tree` reads, where each name is a component, no two are the same, and the entries stand
-/// in the order of `TreeEntry::order`.
+/// `Memory` (90) where there is no room for all of it; `contents` is then unchanged. Any entries
+/// have a text; it is a tree's, which `read_tree` reads, where each name is a component, no two are
+/// the same, and the entries stand in the order of `TreeEntry::order`.
 pub fn write_tree(entries: &[TreeEntry<'_>], contents: &mut Vec<u8>) -> Result<(), Memory>
-    ensures written { OnOk result (contents.new.items ≡ contents.old.items ++ tree_contents (entries_of entries.now)) }
+    ensures written { OnOk result (contents.new.items
+        ≡ contents.old.items ++ tree_contents (entries_of entries.now)) }
     ensures same { OnErr result (contents.new.items ≡ contents.old.items) }
 {
     let start = contents.len();
@@ -63,10 +65,10 @@ fn take_mode(contents: &[u8]) -> Option<(FileMode, &[u8])>
 }
 
 fn take_name(contents: &[u8]) -> Option<(&[u8], &[u8])>
-    ensures { IsFront IsComponent name_text contents.now (option_map (λ x. (x.0.now, x.1.now)) result) }
+    ensures { IsFront IsEntryName name_text contents.now (option_map (λ x. (x.0.now, x.1.now)) result) }
 {
     let (name, rest) = split_at_byte(contents, 0)?;
-    if is_component(name) {
+    if is_entry_name(name) {
         Some((name, rest))
     } else {
         None
@@ -74,7 +76,8 @@ fn take_name(contents: &[u8]) -> Option<(&[u8], &[u8])>
 }
 
 fn take_entry(contents: &[u8]) -> Option<(TreeEntry<'_>, &[u8])>
-    ensures { IsFront CanWriteEntry entry_text contents.now (option_map (λ x. (entry_of x.0, x.1.now)) result) }
+    ensures { IsFront CanWriteEntry entry_text contents.now
+        (option_map (λ x. (entry_of x.0, x.1.now)) result) }
 {
     let Some((mode, rest)) = take_mode(contents) else {
         return None;
@@ -89,10 +92,11 @@ fn take_entry(contents: &[u8]) -> Option<(TreeEntry<'_>, &[u8])>
     Some((TreeEntry { mode, name, id }, rest))
 }
 
-// A file of the directory's name stands elsewhere among the entries, since only a directory's name is compared with
-// a slash behind it. The entries are in order, so one search finds it.
+// A file of the directory's name stands elsewhere among the entries, since only a directory's name
+// is compared with a slash behind it. The entries are in order, so one search finds it.
 fn has_twin(entries: &[TreeEntry<'_>], entry: &TreeEntry<'_>) -> bool
-    ensures { AreInOrder (entries_of entries.now) → (IsTrue result ↔ HasTwin (entries_of entries.now) (entry_of entry.now)) }
+    ensures { AreInOrder (entries_of entries.now)
+        → (IsTrue result ↔ HasTwin (entries_of entries.now) (entry_of entry.now)) }
 {
     let TreeEntry { mode, name, id } = *entry;
     let file = TreeEntry {
@@ -113,7 +117,8 @@ fn are_in_order(entries: &[TreeEntry<'_>]) -> bool
 }
 
 fn is_tree(entries: &[TreeEntry<'_>]) -> bool
-    ensures { All CanWriteEntry (entries_of entries.now) → (IsTrue result ↔ CanWriteTree (entries_of entries.now)) }
+    ensures { All CanWriteEntry (entries_of entries.now)
+        → (IsTrue result ↔ CanWriteTree (entries_of entries.now)) }
 {
     if !are_in_order(entries) {
         return false;
@@ -127,8 +132,11 @@ fn is_tree(entries: &[TreeEntry<'_>]) -> bool
 }
 
 fn take_entries(alloc: Global, contents: &[u8]) -> Result<Option<Vec<TreeEntry<'_>>>, Memory>
-    ensures found { IfOk result (λ r. IfSome r (λ es. All CanWriteEntry (entries_of es.items) × (contents.now ≡ tree_contents (entries_of es.items)))) }
-    ensures only { (es : List Entry) → All CanWriteEntry es → contents.now ≡ tree_contents es → IfOk result (λ r. IsSomeAnd r (λ v. entries_of v.items ≡ es)) }
+    ensures found { IfOk result (λ r. IfSome r
+        (λ es. All CanWriteEntry (entries_of es.items)
+        × (contents.now ≡ tree_contents (entries_of es.items)))) }
+    ensures only { (es : List Entry) → All CanWriteEntry es → contents.now ≡ tree_contents es
+        → IfOk result (λ r. IsSomeAnd r (λ v. entries_of v.items ≡ es)) }
 {
     let mut entries = Vec::new(alloc);
     let mut rest = contents;
@@ -146,13 +154,18 @@ fn take_entries(alloc: Global, contents: &[u8]) -> Result<Option<Vec<TreeEntry<'
 
 /// Reads the contents of a tree: its entries in order, with their names borrowed from the contents.
 ///
-/// `None` where the contents are no tree's that `write_tree` makes: a mode that is none of the five or has a
-/// leading zero, a name that is no component, two entries of one name, whatever their kinds, or entries that are
-/// not in the order of `TreeEntry::order`. `Memory` (90) where there is no room for the entries.
+/// `None` where the contents are no tree's that `write_tree` makes: a mode that is none of the five
+/// or has a leading zero, a name that is no component, two entries of one name, whatever their
+/// kinds, or entries that are not in the order of `TreeEntry::order`. `Memory` (90) where there is
+/// no room for the entries.
 pub fn read_tree(alloc: Global, contents: &[u8]) -> Result<Option<Vec<TreeEntry<'_>>>, Memory>
-    ensures found { IfOk result (λ r. IfSome r (λ es. CanWriteTree (entries_of es.items) × (contents.now ≡ tree_contents (entries_of es.items)))) }
-    ensures only { (es : List Entry) → CanWriteTree es → contents.now ≡ tree_contents es → IfOk result (λ r. IsSomeAnd r (λ v. entries_of v.items ≡ es)) }
-    ensures exact { IfOk result (λ r. IsNone r → (es : List Entry) → CanWriteTree es → contents.now ≢ tree_contents es) }
+    ensures found { IfOk result (λ r. IfSome r
+        (λ es. CanWriteTree (entries_of es.items)
+        × (contents.now ≡ tree_contents (entries_of es.items)))) }
+    ensures only { (es : List Entry) → CanWriteTree es → contents.now ≡ tree_contents es
+        → IfOk result (λ r. IsSomeAnd r (λ v. entries_of v.items ≡ es)) }
+    ensures exact { IfOk result (λ r. IsNone r → (es : List Entry) → CanWriteTree es
+        → contents.now ≢ tree_contents es) }
 {
     let Some(entries) = take_entries(alloc, contents)? else {
         return Ok(None);
@@ -166,7 +179,7 @@ pub fn read_tree(alloc: Global, contents: &[u8]) -> Result<Option<Vec<TreeEntry<
 
 #[cfg(test)]
 mod tests {
-    use crate::{FileMode, Memory, is_component, mode_digits, read_mode, read_tree};
+    use crate::{FileMode, Memory, is_entry_name, mode_digits, read_mode, read_tree};
     use std::alloc::Global;
     use std::cmp::Ordering;
     use std::test::Fail;
@@ -204,7 +217,7 @@ mod tests {
         let entries = read_tree(rt.alloc(), &three[29..])?.ok_or("no tree")?;
         assert_eq!(rt; entries.len(), 2);
         assert!(rt; entries[0].order(&entries[1]) == Ordering::Less);
-        assert!(rt; is_component(entries[0].name) && !is_component(b"a/b"));
+        assert!(rt; is_entry_name(entries[0].name) && !is_entry_name(b"a/b"));
         Ok(())
     }
 }

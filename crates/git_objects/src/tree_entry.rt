@@ -1,7 +1,7 @@
 //! A direct entry of a tree, and the order in which Git lists entries.
 
 ghost use Rattle.std.specs.Prelude.{◌≡◌, ◌↔◌, IsTrue};
-ghost use Rattle.git_model.specs.Tree.{IsComponent, slash_of, tree_cmp};
+ghost use Rattle.git_model.specs.Tree.{IsEntryName, slash_of, tree_cmp};
 ghost use Rattle.git_objects.specs.Parts.{entry_of};
 
 use crate::name::Name;
@@ -19,10 +19,10 @@ pub struct TreeEntry<'a> {
     pub id: Name,
 }
 
-/// Whether a tree entry may have this name: it is not empty, `.` or `..`, and holds no NUL and no slash.
-/// Takes no memory.
-pub fn is_component(name: &[u8]) -> bool
-    ensures { IsTrue result ↔ IsComponent name.now }
+/// Whether a tree entry may have this name: it is not empty, `.` or `..`, and holds no NUL and no
+/// slash. Takes no memory.
+pub fn is_entry_name(name: &[u8]) -> bool
+    ensures { IsTrue result ↔ IsEntryName name.now }
 {
     match name {
         [] | b"." | b".." => false,
@@ -40,8 +40,8 @@ fn slash_of(mode: FileMode) -> &'static [u8]
 }
 
 impl TreeEntry<'_> {
-    /// Git's order of tree entries: by the bytes of their names, a directory compared as if its name ended in a
-    /// slash. Takes no memory.
+    /// Git's order of tree entries: by the bytes of their names, a directory compared as if its
+    /// name ended in a slash. Takes no memory.
     pub fn order(&self, other: &TreeEntry<'_>) -> Ordering
         ensures { result ≡ tree_cmp (entry_of self.now) (entry_of other.now) }
     {

@@ -36,19 +36,21 @@ IsComponent-from_test name bytes h =
     let c = first_so _ (not (bytes_eq name (codes ".."))) b in
     record {
       of_bytes = bytes;
-      without_nul = All-weaker _ (λ b. b ≢ 0) (λ x t. eqb-false x 0 t) name (none_pass (λ b. eqb b 0) name (not-true _ (second_so _ _ a)));
-      without_slash = All-weaker _ (λ b. b ≢ 47) (λ x t. eqb-false x 47 t) name (none_pass is_slash name (not-true _ (second_so _ _ h)));
-      not_empty = differs name [] (not-true _ (first_so _ _ c));
-      not_dot = differs name (codes ".") (not-true _ (second_so _ _ c));
-      not_dot_dot = differs name (codes "..") (not-true _ (second_so _ _ b));
+      entry_name = record {
+        no_nul = All-weaker _ (λ b. b ≢ 0) (λ x t. eqb-false x 0 t) name (none_pass (λ b. eqb b 0) name (not-true _ (second_so _ _ a)));
+        no_slash = All-weaker _ (λ b. b ≢ 47) (λ x t. eqb-false x 47 t) name (none_pass is_slash name (not-true _ (second_so _ _ h)));
+        not_empty = differs name [] (not-true _ (first_so _ _ c));
+        not_dot = differs name (codes ".") (not-true _ (second_so _ _ c));
+        not_dot_dot = differs name (codes "..") (not-true _ (second_so _ _ b));
+      };
     }
 
 pub test-from_IsComponent : (name : List ℕ) → IsComponent name → is_component name ≡ true
 unfolding is_component
 test-from_IsComponent name h =
-    let nul : list_any (λ b. eqb b 0) name ≡ false = list_any_none _ name (All-weaker (λ b. b ≢ 0) _ (λ x t. ne_eqb x 0 t) name h.without_nul) in
-    let slash : list_any is_slash name ≡ false = list_any_none _ name (All-weaker (λ b. b ≢ 47) _ (λ x t. ne_eqb x 47 t) name h.without_slash) in
-    rw (same_not name [] h.not_empty, same_not name (codes ".") h.not_dot, same_not name (codes "..") h.not_dot_dot, nul, slash) refl
+    let nul : list_any (λ b. eqb b 0) name ≡ false = list_any_none _ name (All-weaker (λ b. b ≢ 0) _ (λ x t. ne_eqb x 0 t) name h.entry_name.no_nul) in
+    let slash : list_any is_slash name ≡ false = list_any_none _ name (All-weaker (λ b. b ≢ 47) _ (λ x t. ne_eqb x 47 t) name h.entry_name.no_slash) in
+    rw (same_not name [] h.entry_name.not_empty, same_not name (codes ".") h.entry_name.not_dot, same_not name (codes "..") h.entry_name.not_dot_dot, nul, slash) refl
 
 -- ---- the parts of bytes are bytes
 

@@ -21,7 +21,7 @@ one_component (b ∷ bytes) some none = slice_split_none is_slash (b ∷ bytes) 
 
 -- what stands behind a slash of a path has its components by cutting
 behind_slash : (name rest : List ℕ) → IsPath (name ∷ slice_split is_slash rest) → slice_split is_slash rest ≡ components_of rest
-behind_slash name [] h = absurd ((All-head IsComponent [] [] (All-tail IsComponent name ([] ∷ []) h)).not_empty refl)
+behind_slash name [] h = absurd ((All-head IsComponent [] [] (All-tail IsComponent name ([] ∷ []) h)).entry_name.not_empty refl)
 behind_slash name (b ∷ rest) h = refl
 
 cut_bytes : (name rest : List ℕ) → All (λ b. b ≢ 47) name → IsPath (slice_split is_slash (name ++ 47 ∷ rest)) → slice_split is_slash (name ++ 47 ∷ rest) ≡ name ∷ components_of rest
@@ -49,8 +49,8 @@ first_component bytes at within slash first is =
 
 -- a component is a path of its own
 pub name_alone : (name : List ℕ) → IsComponent name → components_of name ≡ name ∷ []
-name_alone [] h = absurd (h.not_empty refl)
-name_alone (b ∷ name) h = one_component (b ∷ name) (omega arith) h.without_slash
+name_alone [] h = absurd (h.entry_name.not_empty refl)
+name_alone (b ∷ name) h = one_component (b ∷ name) (omega arith) h.entry_name.no_slash
 
 pub IsPath-name : (name : List ℕ) → IsComponent name → IsPath (components_of name)
 IsPath-name name h = subst IsPath (sym (name_alone name h)) (All-cons IsComponent name [] h (All-nil IsComponent))

@@ -22,7 +22,7 @@ is_path-components_of [] some = absurd cc
 is_path-components_of (b ∷ bytes) some = refl
 
 no_slash : (name : List ℕ) → IsComponent name → All (λ b. is_slash b ≡ false) name
-no_slash name h = All-weaker (λ b. b ≢ 47) (λ b. is_slash b ≡ false) (λ b ne. ne_eqb b 47 ne) name h.without_slash
+no_slash name h = All-weaker (λ b. b ≢ 47) (λ b. is_slash b ≡ false) (λ b ne. ne_eqb b 47 ne) name h.entry_name.no_slash
 
 split-joined : (name : List ℕ) (path : List (List ℕ)) → IsPath (name ∷ path) → slice_split is_slash (joined (name ∷ path)) ≡ name ∷ path
 split-joined name [] h = slice_split_none is_slash name (no_slash name (All-head IsComponent name [] h))
@@ -44,4 +44,4 @@ some_joined (b ∷ name) (next ∷ path) some e = cc
 pub components_of-joined : (path : List (List ℕ)) → IsPath path → components_of (joined path) ≡ path
 components_of-joined [] h = refl
 components_of-joined (name ∷ path) h =
-    cut (joined (name ∷ path)) (some_joined name path (All-head IsComponent name path h).not_empty) ∙ split-joined name path h
+    cut (joined (name ∷ path)) (some_joined name path (All-head IsComponent name path h).entry_name.not_empty) ∙ split-joined name path h

@@ -3,15 +3,13 @@
 use Rattle.std.specs.Prelude.{◌≢◌, ℕ, ◌<◌, ◌≤◌, Bool, ◌&&◌, not, ◌==◌, nat_le, if◌then◌else◌, List, [], ◌∷◌, ◌++◌, length, All, Option, Some, None, codes}
 use Rattle.std.specs.List.{join_with_byte, slice_split, list_any, list_all}
 use Rattle.std.specs.Str.{bytes_eq}
+use Rattle.git_model.specs.Tree.{IsEntryName}
 
--- A component is bytes with no NUL and no `/` among them, and is not empty, `.` or `..`.
+-- A component is bytes, and a tree entry may have it as its name: it has no NUL and no `/`, and is
+-- not empty, `.` or `..`.
 pub record IsComponent (name : List ℕ) : Type 0 where
   pub of_bytes : All (λ b. b < 256) name
-  pub without_nul : All (λ b. b ≢ 0) name
-  pub without_slash : All (λ b. b ≢ 47) name
-  pub not_empty : name ≢ []
-  pub not_dot : name ≢ codes "."
-  pub not_dot_dot : name ≢ codes ".."
+  pub entry_name : IsEntryName name
 
 -- Each component of a path is one.
 abbrev pub IsPath : List (List ℕ) → Type 0

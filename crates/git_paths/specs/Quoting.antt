@@ -6,7 +6,8 @@ use Rattle.std.specs.Option.{option_map}
 -- the letters behind a backslash, and the bytes that they mean
 abbrev pub letters : List (ℕ × ℕ)
 letters =
-    (97, 7) ∷ (98, 8) ∷ (116, 9) ∷ (110, 10) ∷ (118, 11) ∷ (102, 12) ∷ (114, 13) ∷ (34, 34) ∷ (92, 92) ∷ []
+    (97, 7) ∷ (98, 8) ∷ (116, 9) ∷ (110, 10) ∷ (118, 11) ∷ (102, 12) ∷ (114, 13) ∷ (34, 34)
+    ∷ (92, 92) ∷ []
 
 -- the byte that a letter means
 unfoldable pub byte_of_letter : ℕ → Option ℕ

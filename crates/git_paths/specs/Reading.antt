@@ -38,7 +38,8 @@ unfoldable mutual
   pub unquoted : List ℕ → Parts
   unquoted [] = None
   unquoted (b ∷ text) =
-      if b == 34 then Some ([], text) else if b == 92 then escaped text else before b (unquoted text)
+      if b == 34 then Some ([], text) else if b == 92 then escaped text
+      else before b (unquoted text)
 
   -- the same behind a backslash
   pub escaped : List ℕ → Parts
@@ -49,7 +50,8 @@ unfoldable mutual
   pub octals : ℕ → List ℕ → Parts
   octals x [] = None
   octals x (y ∷ []) = None
-  octals x (y ∷ z ∷ text) = if are_octal x y z then before (octal_value x y z) (unquoted text) else None
+  octals x (y ∷ z ∷ text) = if are_octal x y z then before (octal_value x y z) (unquoted text)
+      else None
 
 -- A byte and a rest that were taken from a text: the byte stands before what is read of the rest.
 abbrev pub TakesByte : Option (ℕ × Bor (List ℕ)) → Parts → Type 0
@@ -75,7 +77,8 @@ quoted_end place (Some (bytes, behind)) = with_rest bytes (after_quote place beh
 
 -- the bytes of an unquoted path
 abbrev pub unquoted_at : Place → List ℕ → Parts
-unquoted_at Source text = option_map (λ at. (take at text, drop (at + 1) text)) (position (λ b. b == 32) text)
+unquoted_at Source text = option_map (λ at. (take at text, drop (at + 1) text))
+    (position (λ b. b == 32) text)
 unquoted_at Last text = Some (text, [])
 
 -- the bytes of the path that a text begins with
@@ -93,7 +96,8 @@ path_of bytes =
     then (if is_within_limits (components_of bytes) then Ok (components_of bytes) else Err Limit)
     else Err BadPath
 
-abbrev pub path_and_rest : Result (List (List ℕ)) Fault → List ℕ → Result (List (List ℕ) × List ℕ) Fault
+abbrev pub path_and_rest : Result (List (List ℕ)) Fault → List ℕ
+    → Result (List (List ℕ) × List ℕ) Fault
 path_and_rest (Ok path) rest = Ok (path, rest)
 path_and_rest (Err e) rest = Err e
 

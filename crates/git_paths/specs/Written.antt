@@ -15,7 +15,8 @@ IsUnquoted (b ∷ text) = b ≢ 34
 -- The bytes of a path, in a text that begins with them at this place, and the rest behind the path.
 -- A source has a space behind it; a last path has nothing behind it.
 pub data Writes : Place → List ℕ → List ℕ → List ℕ → Type 0 where
-  unquoted_source : (bytes rest : List ℕ) → IsUnquoted (bytes ++ 32 ∷ rest) → All (λ b. b ≢ 32) bytes
+  unquoted_source : (bytes rest : List ℕ) → IsUnquoted (bytes ++ 32 ∷ rest)
+      → All (λ b. b ≢ 32) bytes
       → Writes Source (bytes ++ 32 ∷ rest) bytes rest
   quoted_source : (inside bytes rest : List ℕ) → Quotes inside bytes
       → Writes Source (34 ∷ inside ++ 34 ∷ 32 ∷ rest) bytes rest
@@ -25,7 +26,8 @@ pub data Writes : Place → List ℕ → List ℕ → List ℕ → Type 0 where
       → Writes Last (34 ∷ inside ++ 34 ∷ []) bytes []
 
 -- A text begins with a path within the limits at this place, and has the rest behind it.
-pub record BeginsWith (place : Place) (text : List ℕ) (path : List (List ℕ)) (rest : List ℕ) : Type 0 where
+pub record BeginsWith (place : Place) (text : List ℕ) (path : List (List ℕ))
+    (rest : List ℕ) : Type 0 where
   pub is_path : IsPath path
   pub limits : IsWithinLimits path
   pub written : Writes place text (joined path) rest

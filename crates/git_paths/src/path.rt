@@ -60,12 +60,12 @@ impl Path {
     /// `D`, `C` and `R`.
     ///
     /// A path that begins with a quote is quoted and ends at the next quote without a backslash.
-    /// Any other ends at the first space, if it is a source, and else with the text. Behind a source
-    /// stands a space, which is not part of the rest; behind a last path stands nothing.
-    /// `Fault::BadPath` (10) where that is broken, an escape is unknown or above 255, or a component
-    /// is empty, `.` or `..` or holds NUL; else `Fault::Limit` (25) above 16,383 bytes or 256
-    /// components. Takes memory for the bytes; `Fault::Memory` (90) may stand in place of any other
-    /// answer.
+    /// Any other ends at the first space, if it is a source, and else with the text. Behind a
+    /// source stands a space, which is not part of the rest; behind a last path stands nothing.
+    /// `Fault::BadPath` (10) where that is broken, an escape is unknown or above 255, or a
+    /// component is empty, `.` or `..` or holds NUL; else `Fault::Limit` (25) above 16,383 bytes or
+    /// 256 components. Takes memory for the bytes; `Fault::Memory` (90) may stand in place of any
+    /// other answer.
     pub fn read(alloc: Global, text: &[u8], place: Place) -> Result<(Path, &[u8]), Fault>
         // What is read is written there.
         ensures found { IfOk result (λ r. BeginsWith place text.now r.0 r.1.now) }
@@ -127,9 +127,9 @@ impl Path {
         quote_into(self.as_bytes(), out)
     }
 
-    /// The path that bytes are as they stand, never quoted, or `None` where a component is empty, `.`
-    /// or `..` or holds NUL: gitrevisions(7), `<rev>:<path>`. No bytes are the root. It knows no
-    /// limits.
+    /// The path that bytes are as they stand, never quoted, or `None` where a component is empty,
+    /// `.` or `..` or holds NUL: gitrevisions(7), `<rev>:<path>`. No bytes are the root. It knows
+    /// no limits.
     ///
     /// Takes memory for the bytes.
     pub fn from_canonical(alloc: Global, bytes: &[u8]) -> Result<Option<Path>, AllocError>

@@ -11,13 +11,16 @@ use Rattle.stream_grammar.specs.Commands.{top}
 use Rattle.import_session.specs.Workspace.{opened}
 use Rattle.import_session.specs.Session.{new_session, running_in}
 use Rattle.git_objects.specs.Device.{Device, HasRead, counted_on, HasFault, AppendsFront, faults_after_read, passed_after}
-use Rattle.git_objects.proofs.KnownBytes.{Appends-nil, Appends-trans, Consumes-nil, Consumes-trans, Consumes-kept}
+use Rattle.git_objects.proofs.KnownBytes.{Appends-nil, Appends-trans, Consumes-nil, HasRead-trans, HasRead-kept}
 use Rattle.stream_lex.specs.Items.{Item, Tail, Rest, Failed, behind_items}
 use Rattle.stream_lex.specs.Reading.{reading, walk}
 use Rattle.stream_lex.specs.Running.{extended, more_of, HasNoItem}
 use Rattle.import_session.specs.Stream.{Running, Outcome, Standing, End, begun, Runs, Refused, after_reply, carried, going_on, step, at_tail, tail_outcome, refused, finished, last_checkpoint}
 use Rattle.std.proofs.lemmas.List.{length-append}
 use Rattle.std.proofs.Math.Nat.{pos_of_ne-zero}
+use Rattle.step_frames.specs.Reading.{HasReadWell}
+use Rattle.step_frames.proofs.ReadLemmas.{one_well}
+use Rattle.gitpool.proofs.StreamLemmas.{carried-done}
 use Rattle.gitpool.specs.declared.stop.Stop.{Stop}
 use Rattle.gitpool.specs.declared.stop.Stop.TheVariants as stop
 use Rattle.gitpool.specs.declared.import_fault.ImportFault.{ImportFault}
@@ -28,20 +31,6 @@ use Rattle.gitpool.specs.Import.{IsImported, IsGivenUp, IsStopped, IsDevice, IsS
 use Rattle.gitpool.specs.Alone.{stream_of}
 use Rattle.gitpool.specs.Holding.{empty_repository}
 use Rattle.gitpool.specs.Importing.{Importing, running_of, IsNewImport, IsReady, Passes, IsRefusedWith, IsWrittenFront, PassesOn, EndsImport}
-
--- behind `done` nothing comes
-passed_over : (digest : List ℕ → List ℕ) (now : Running) (item : Item) → now.is_done ≡ true
-    → step digest now item ≡ Ok (record { running = now; reply = [] })
-unfolding step
-passed_over digest now item done = rw done refl
-
-carried_done : (digest : List ℕ → List ℕ) (now : Running) (items : List Item) (tail : Tail) → now.is_done ≡ true
-    → carried digest now items tail ≡ record { replies = []; standing = Runs now (Rest false []) }
-unfolding carried at_tail
-carried_done digest now [] tail done = rw done refl
-carried_done digest now (item ∷ items) tail done =
-    ap (λ r. going_on now r (λ next. carried digest next items tail)) (passed_over digest now item done)
-    ∙ ap (after_reply []) (carried_done digest now items tail done)
 
 -- where nothing whole is held, nothing more is printed yet
 has_no_item : (tail : Tail) → HasNoItem tail → more_of tail [] ≡ record { items = []; tail = tail }
@@ -137,39 +126,15 @@ pub record SoFar (digest : List ℕ → List ℕ) (r0 r w0 w : Device) (i : Impo
   pub well : w.faults ≡ w0.faults
   pub ready : IsReady digest i
 
--- a piece was read
-pub record ReadsPiece (old new : Device) (piece : List ℕ) : Type 0 where
-  pub consumed : Consumes old.known new.known piece
-  pub passed : new.passed ≡ counted_on old.passed (length piece)
-  pub faults : new.faults ≡ old.faults
-
 pub reads_piece : (old new : Device) (n : ℕ) (buf piece : List ℕ) → piece ≡ take n buf → n ≡ length (take n buf)
-    → Consumes old.known new.known (take n buf) → new.passed ≡ counted_on old.passed n → new.faults ≡ old.faults → ReadsPiece old new piece
-reads_piece old new n buf piece is size consumed passed faults = record {
-  consumed = subst (λ (l : List ℕ). Consumes old.known new.known l) (sym is) consumed;
-  passed = passed ∙ ap (counted_on old.passed) (size ∙ ap length (sym is));
-  faults = faults;
-}
+    → Consumes old.known new.known (take n buf) → new.passed ≡ counted_on old.passed n → new.faults ≡ old.faults → HasReadWell old new piece
+reads_piece old new n buf piece is size consumed passed faults =
+    subst (HasReadWell old new) (sym is) (one_well old new n buf size consumed passed faults)
 
 pub piece_some : (n : ℕ) (buf piece : List ℕ) → piece ≡ take n buf → n ≡ length (take n buf) → n ≢ 0 → 0 < length piece
 piece_some n buf piece is size some =
     let e : length piece ≡ n = ap length is ∙ sym size in
     let f : 0 < n = pos_of_ne-zero some in omega (arith, e, f)
-
-read_more : (r0 r r' : Device) (bytes piece : List ℕ) → HasRead r0 r bytes → ReadsPiece r r' piece → HasRead r0 r' (bytes ++ piece)
-read_more r0 r r' bytes piece had reads = record {
-  consumed = Consumes-trans r0.known r.known r'.known bytes piece had.consumed reads.consumed;
-  passed = counts_on;
-}
-  where
-    counts_on : r'.passed ≡ counted_on r0.passed (length (bytes ++ piece))
-    counts_on = let p = reads.passed in let q = had.passed in let n = length-append bytes piece in omega (arith, p, q, n)
-
-read_none : (r0 r r' : Device) (bytes : List ℕ) → HasRead r0 r bytes → Keeps r.known r'.known → r'.passed ≡ r.passed → HasRead r0 r' bytes
-read_none r0 r r' bytes had keeps passed = record {
-  consumed = Consumes-kept r0.known r.known r'.known bytes had.consumed keeps;
-  passed = passed ∙ had.passed;
-}
 
 -- all bytes so far, and what comes behind a piece
 goes_behind : (digest : List ℕ → List ℕ) (r0 r w0 w : Device) (i : Importing) (count : ℕ) (s : SoFar digest r0 r w0 w i count)
@@ -198,11 +163,11 @@ whole_so_far digest r0 r w0 w i count s =
 
 -- one piece more
 pub so_far_more : (digest : List ℕ → List ℕ) (r0 r w0 w : Device) (i : Importing) (count : ℕ) (r' w' : Device) (i' : Importing) (piece : List ℕ)
-    → SoFar digest r0 r w0 w i count → ReadsPiece r r' piece → 0 < length piece → Passes digest i piece w i' w'
+    → SoFar digest r0 r w0 w i count → HasReadWell r r' piece → 0 < length piece → Passes digest i piece w i' w'
     → i'.between.session.is_done ≡ false → SoFar digest r0 r' w0 w' i' (count + 1)
 so_far_more digest r0 r w0 w i count r' w' i' piece s reads some p running = record {
   bytes = s.bytes ++ piece;
-  read = read_more r0 r r' s.bytes piece s.read reads;
+  read = HasRead-trans r0 r r' s.bytes piece s.read reads.read;
   enough = let n = length-append s.bytes piece in let m = s.enough in omega (arith, n, m, some);
   replies = s.replies ++ p.replies;
   goes = λ more. goes_behind digest r0 r w0 w i count s piece more
@@ -211,18 +176,18 @@ so_far_more digest r0 r w0 w i count r' w' i' piece s reads some p running = rec
   drained = subst (λ (b : Bool). IsDrained b i'.between.tail) running p.drained;
   running = running;
   written = Appends-trans w0.known w.known w'.known s.replies p.replies s.written p.written;
-  faults = reads.faults ∙ s.faults;
+  faults = reads.well ∙ s.faults;
   well = p.well ∙ s.well;
   ready = p.ready;
 }
 
 -- `done` was read
 pub imported_done : (digest : List ℕ → List ℕ) (r0 r w0 w : Device) (i : Importing) (count : ℕ) (r' w' : Device) (i' : Importing) (piece : List ℕ)
-    → SoFar digest r0 r w0 w i count → ReadsPiece r r' piece → Passes digest i piece w i' w'
+    → SoFar digest r0 r w0 w i count → HasReadWell r r' piece → Passes digest i piece w i' w'
     → i'.between.session.is_done ≡ true → IsImported digest r0 r' w0 w' None
 imported_done digest r0 r w0 w i count r' w' i' piece s reads p done = record {
   bytes = s.bytes ++ piece;
-  read = read_more r0 r r' s.bytes piece s.read reads;
+  read = HasRead-trans r0 r r' s.bytes piece s.read reads.read;
   written = subst (λ (l : List ℕ). Appends w0.known w'.known l) (sym (ap (λ (o : Outcome). o.replies) whole))
       (Appends-trans w0.known w.known w'.known s.replies p.replies s.written p.written);
   ended = ap (λ (o : Outcome). (finished o.standing).fault) whole ∙ rw done refl;
@@ -236,7 +201,7 @@ imported_done digest r0 r w0 w i count r' w' i' piece s reads p done = record {
         ∙ ap (after_reply s.replies) (p.goes more)
         ∙ after_replies s.replies p.replies (outcome_behind digest (running_of i') i'.between.tail more)
         ∙ ap (after_reply (s.replies ++ p.replies))
-        (carried_done digest (running_of i') (more_of i'.between.tail more).items (more_of i'.between.tail more).tail done)
+        (carried-done digest (running_of i') (more_of i'.between.tail more).items (more_of i'.between.tail more).tail done)
         ∙ ap (λ l. record { replies = l; standing = Runs (running_of i') (Rest false []) }) (append-nil (s.replies ++ p.replies))
 
     whole : outcome_of digest (s.bytes ++ piece)
@@ -245,11 +210,11 @@ imported_done digest r0 r w0 w i count r' w' i' piece s reads p done = record {
 
 -- the stream was refused
 pub imported_refused : (digest : List ℕ → List ℕ) (r0 r w0 w : Device) (i : Importing) (count : ℕ) (r' w' : Device) (piece : List ℕ) (code : ℕ)
-    → SoFar digest r0 r w0 w i count → ReadsPiece r r' piece → IsRefusedWith digest i piece code w w'
+    → SoFar digest r0 r w0 w i count → HasReadWell r r' piece → IsRefusedWith digest i piece code w w'
     → IsImported digest r0 r' w0 w' (Some code)
 imported_refused digest r0 r w0 w i count r' w' piece code s reads p = record {
   bytes = s.bytes ++ piece;
-  read = read_more r0 r r' s.bytes piece s.read reads;
+  read = HasRead-trans r0 r r' s.bytes piece s.read reads.read;
   written = subst (λ (l : List ℕ). Appends w0.known w'.known l) (sym (ap (λ (o : Outcome). o.replies) whole))
       (Appends-trans w0.known w.known w'.known s.replies p.replies s.written p.written);
   ended = ap (λ (o : Outcome). (finished o.standing).fault) whole;
@@ -277,23 +242,23 @@ front_behind digest r0 r w0 w i count w' piece s f = record {
 }
 
 pub stopped : (digest : List ℕ → List ℕ) (r0 r w0 w : Device) (i : Importing) (count : ℕ) (r' w' : Device) (piece : List ℕ)
-    → SoFar digest r0 r w0 w i count → ReadsPiece r r' piece → IsWrittenFront digest i piece w w' → IsStopped digest r0 r' w0 w'
+    → SoFar digest r0 r w0 w i count → HasReadWell r r' piece → IsWrittenFront digest i piece w w' → IsStopped digest r0 r' w0 w'
 stopped digest r0 r w0 w i count r' w' piece s reads f = record {
   bytes = s.bytes ++ piece;
-  read = read_more r0 r r' s.bytes piece s.read reads;
+  read = HasRead-trans r0 r r' s.bytes piece s.read reads.read;
   written = front_behind digest r0 r w0 w i count w' piece s f;
 }
 
 -- a write failed
 pub unwritten : (digest : List ℕ → List ℕ) (r0 r w0 w : Device) (i : Importing) (count : ℕ) (r' w' : Device) (piece : List ℕ)
-    → SoFar digest r0 r w0 w i count → ReadsPiece r r' piece
+    → SoFar digest r0 r w0 w i count → HasReadWell r r' piece
     → IsWrittenFront digest i piece w w' × HasFault w.faults w'.faults
     → IsGivenUp digest r0 r' w0 w' × IsDevice r0 r' w0 w'
 unwritten digest r0 r w0 w i count r' w' piece s reads f =
     let blamed : HasFault w0.faults w'.faults = subst (λ (n : ℕ). HasFault n w'.faults) s.well f.1 in (
       record {
         bytes = s.bytes ++ piece;
-        read = read_more r0 r r' s.bytes piece s.read reads;
+        read = HasRead-trans r0 r r' s.bytes piece s.read reads.read;
         written = front_behind digest r0 r w0 w i count w' piece s f.0;
         whole = inl blamed;
       },
@@ -317,7 +282,7 @@ pub unread : (digest : List ℕ → List ℕ) (r0 r w0 w : Device) (i : Importin
     → SoFar digest r0 r w0 w i count → Keeps r.known r'.known → r'.passed ≡ r.passed → r'.faults ≡ counted_on r.faults 1
     → IsGivenUp digest r0 r' w0 w × IsDevice r0 r' w0 w
 unread digest r0 r w0 w i count r' s keeps passed failed =
-    (all_written digest r0 r w0 w i count r' s (read_none r0 r r' s.bytes s.read keeps passed), inl blamed)
+    (all_written digest r0 r w0 w i count r' s (HasRead-kept r0 r r' s.bytes s.read keeps passed), inl blamed)
   where
     blamed : HasFault r0.faults r'.faults
     blamed below = let same = s.faults in omega (arith, below, same, failed)
@@ -339,18 +304,12 @@ ends_as digest r0 r w0 w i count r' end s consumed at_end passed ended =
     let whole = whole_so_far digest r0 r w0 w i count s in
     record {
       bytes = s.bytes;
-      read = record {
-        consumed = subst (λ (l : List ℕ). Consumes r0.known r'.known l) (append-nil s.bytes)
-            (Consumes-trans r0.known r.known r'.known s.bytes [] s.read.consumed consumed);
-        passed = counts;
-      };
+      read = subst (HasRead r0 r') (append-nil s.bytes)
+          (HasRead-trans r0 r r' s.bytes [] s.read (record { consumed = consumed; passed = passed }));
       written = subst (λ (l : List ℕ). Appends w0.known w.known l) (sym (ap (λ (o : Outcome). o.replies) whole)) s.written;
       ended = ap (λ (o : Outcome). (finished o.standing).fault) whole ∙ ended;
       last = inl at_end;
     }
-  where
-    counts : r'.passed ≡ counted_on r0.passed (length s.bytes)
-    counts = let p = s.read.passed in omega (arith, p, passed)
 
 pub imported_end : (digest : List ℕ → List ℕ) (r0 r w0 w : Device) (i : Importing) (count : ℕ) (r' : Device) (result : Result Unit ImportFault)
     → SoFar digest r0 r w0 w i count → Consumes r.known r'.known [] → IsAtEnd r'.known → r'.passed ≡ counted_on r.passed 0
@@ -365,7 +324,7 @@ imported_end digest r0 r w0 w i count r' (Err fault.Memory) s consumed at_end pa
 -- what came of a piece that did not pass
 pub imported_piece : (digest : List ℕ → List ℕ) (r0 r w0 w : Device) (i : Importing) (count : ℕ) (r' w' : Device) (i' : Importing) (piece : List ℕ)
     (e : ImportFault)
-    → SoFar digest r0 r w0 w i count → ReadsPiece r r' piece → PassesOn digest i piece w (Err e) i' w'
+    → SoFar digest r0 r w0 w i count → HasReadWell r r' piece → PassesOn digest i piece w (Err e) i' w'
     → Imports digest r0 r' w0 w' (Err e)
 imported_piece digest r0 r w0 w i count r' w' i' piece (fault.Stream code) s reads p =
     imported_refused digest r0 r w0 w i count r' w' piece code s reads p

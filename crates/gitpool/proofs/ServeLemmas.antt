@@ -5,14 +5,14 @@ use Rattle.std.specs.Io.KnownBytes.{Appends, IsAtEnd}
 use Rattle.std.proofs.lemmas.Grind.{flat_map-append}
 use Rattle.std.proofs.lemmas.List.{length-append}
 use Rattle.git_objects.specs.Device.{Device, HasRead, HasFault, AppendsFront}
-use Rattle.git_objects.proofs.KnownBytes.{Appends-nil, Appends-trans}
+use Rattle.git_objects.proofs.KnownBytes.{Appends-nil, Appends-trans, HasRead-trans}
 use Rattle.step_frames.specs.declared.answer.Answer.{Answer}
 use Rattle.step_frames.specs.declared.fault.FrameFault.{FrameFault}
 use Rattle.step_frames.specs.declared.fault.FrameFault.TheVariants as fault
 use Rattle.step_frames.specs.declared.step.Step.{Step}
 use Rattle.step_frames.specs.Frames.{frame_of, step_text, answer_text, IsGood, IsUnfinished}
 use Rattle.step_frames.specs.Reading.{HasReadWell, ReadsStep}
-use Rattle.step_frames.proofs.ReadLemmas.{well_none, well_more, read_more}
+use Rattle.step_frames.proofs.ReadLemmas.{well_none, well_more}
 use Rattle.step_frames.proofs.FrameLemmas.{none_read}
 use Rattle.step_frames.proofs.WriteLemmas.{front_of_later}
 use Rattle.gitpool.specs.Headline.{Told, told_in, Run, IsItsOwn, IsRefused}
@@ -53,7 +53,7 @@ served_behind digest before after r0 r w0 w count s r' rest read = record {
   own = s.own;
   bad_names = s.bad_names;
   good = s.good;
-  read = read_more r0 r r' (steps_text s.run) rest s.read.read read;
+  read = HasRead-trans r0 r r' (steps_text s.run) rest s.read.read read;
 }
 
 whole_front : (a b : Option (List ℕ)) (bytes : List ℕ) → Appends a b bytes → AppendsFront a b bytes

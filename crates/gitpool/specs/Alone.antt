@@ -147,7 +147,8 @@ end_alone digest stop (Dead code repository) =
 -- Restart: there is no stream then, and the repository is that at the last checkpoint.
 abbrev pub last_alone : (List ℕ → List ℕ) → State → Repository
 last_alone digest (Closed repository) = repository
-last_alone digest (Streaming repository bytes) = last_of (stream_of digest repository bytes).standing
+last_alone digest (Streaming repository bytes) =
+    last_of (stream_of digest repository bytes).standing
 last_alone digest (Dead code repository) = repository
 
 -- What a call is answered and what it leaves, in a repository of its own, given whether the call

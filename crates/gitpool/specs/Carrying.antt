@@ -37,7 +37,8 @@ ReadsOn old items new = (more : List ℕ) → more_of old more ≡ behind_items 
 -- Items were carried out: these replies stand first, whatever comes behind the items.
 abbrev pub CarriesOn : (List ℕ → List ℕ) → Running → List Item → List ℕ → Running → Type 0
 CarriesOn digest now items replies next = (later : List Item) (tail : Tail)
-    → carried digest now (items ++ later) tail ≡ after_reply replies (carried digest next later tail)
+    → carried digest now (items ++ later) tail
+    ≡ after_reply replies (carried digest next later tail)
 
 -- A stream has gone on by these items, and printed these replies.
 pub record Advances (digest : List ℕ → List ℕ) (now : Running) (old : Tail) (items : List Item)
@@ -67,7 +68,8 @@ pub record Goes (digest : List ℕ → List ℕ) (now : Running) (old : Tail) (o
 -- A stream has gone on by some items, and no further: what it printed stands behind `out`, and what
 -- is left has the same last checkpoint.
 pub record Ends (digest : List ℕ → List ℕ) (now : Running) (old : Tail) (out : List ℕ)
-    (items : List Item) (last : Running) (rest : Tail) (left : Running) (out' : List ℕ) : Type 0 where
+    (items : List Item) (last : Running) (rest : Tail) (left : Running)
+    (out' : List ℕ) : Type 0 where
   pub replies : List ℕ
   pub advances : Advances digest now old items replies last rest
   pub printed : out' ≡ out ++ replies

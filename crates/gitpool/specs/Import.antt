@@ -18,7 +18,8 @@ end_fault digest bytes = (finished (outcome_of digest bytes).standing).fault
 
 -- No byte behind these changes what is printed, nor how the stream ends.
 abbrev pub IsSettled : (List ℕ → List ℕ) → List ℕ → Type 0
-IsSettled digest bytes = (more : List ℕ) → outcome_of digest (bytes ++ more) ≡ outcome_of digest bytes
+IsSettled digest bytes = (more : List ℕ)
+    → outcome_of digest (bytes ++ more) ≡ outcome_of digest bytes
 
 -- The whole stream was read and carried out, or as much of it as counts; it ended so, and exactly
 -- its replies were written.
@@ -32,7 +33,8 @@ pub record IsImported (digest : List ℕ → List ℕ) (reader reader' writer wr
 
 -- It was given up behind these bytes: a prefix of their replies was written, and all of them where
 -- no write failed.
-pub record IsGivenUp (digest : List ℕ → List ℕ) (reader reader' writer writer' : Device) : Type 0 where
+pub record IsGivenUp (digest : List ℕ → List ℕ)
+    (reader reader' writer writer' : Device) : Type 0 where
   pub bytes : List ℕ
   pub read : HasRead reader reader' bytes
   pub written : AppendsFront writer.known writer'.known (outcome_of digest bytes).replies
@@ -40,7 +42,8 @@ pub record IsGivenUp (digest : List ℕ → List ℕ) (reader reader' writer wri
       ⊎ Appends writer.known writer'.known (outcome_of digest bytes).replies
 
 -- A prefix of the replies was written, and then memory ran out.
-pub record IsStopped (digest : List ℕ → List ℕ) (reader reader' writer writer' : Device) : Type 0 where
+pub record IsStopped (digest : List ℕ → List ℕ)
+    (reader reader' writer writer' : Device) : Type 0 where
   pub bytes : List ℕ
   pub read : HasRead reader reader' bytes
   pub written : AppendsFront writer.known writer'.known (outcome_of digest bytes).replies

@@ -76,8 +76,8 @@ impl<N: Naming> Service<N> {
         count_committed(&self.tenants) as u64
     }
 
-    /// The pool of all tenants, and the table and refs of one, for the operator; `None` for a tenant
-    /// that is as if never seen. Takes no memory.
+    /// The pool of all tenants, and the table and refs of one, for the operator; `None` for a
+    /// tenant that is as if never seen. Takes no memory.
     ///
     /// Behind the table's committed prefix are the objects of the running stream.
     pub fn view(&self, tenant: &[u8]) -> Option<(&Pool<N>, &Table, &Refs)>
@@ -104,9 +104,9 @@ impl<N: Naming> Service<N> {
     /// of a Feed, or of an End, is answered under its number, and leaves the last checkpoint; each
     /// later Feed answers the number again, and so does the End, which always closes the stream.
     ///
-    /// `Memory` tells that a growth was refused: in an Open, where nothing has changed then, or in a
-    /// Feed behind so many whole items of the call. `out` then has the replies of those, the tenant
-    /// stands at its last checkpoint, and its stream is dead under 90.
+    /// `Memory` tells that a growth was refused: in an Open, where nothing has changed then, or in
+    /// a Feed behind so many whole items of the call. `out` then has the replies of those, the
+    /// tenant stands at its last checkpoint, and its stream is dead under 90.
     pub fn step(&mut self, step: Step<'_>, out: &mut Vec<u8>) -> Answer
         ensures own { (tenant : List ℕ) → IsItsOwn N.digest_of tenant (held_of tenant self.old)
             ((step.entry, told_in result out.old.items out.new.items) ∷ [])

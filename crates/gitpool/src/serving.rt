@@ -14,15 +14,15 @@ use step_frames::{FrameFault, Frames, write_answer};
 // How many frames are taken before their sender counts as one that never ends.
 const FRAMES_LIMIT: u64 = 1 << 32;
 
-/// Takes the steps that `reader` gives as frames, and writes each answer to `writer` before it reads
-/// on. It ends well where the input ends between frames.
+/// Takes the steps that `reader` gives as frames, and writes each answer to `writer` before it
+/// reads on. It ends well where the input ends between frames.
 ///
-/// `BadFrame` (50) as soon as a part of a frame is there that is wrong, `CutOff` (51) where the input
-/// ends inside a frame; the answers to all frames before it then stand written. `Device` (68) where
-/// a call of the reader or the writer failed, or 2^32 frames were taken; the answers then stand
-/// written up to the failure, and all of them where no write failed. `Memory` (90) where there was no
-/// room for a frame, behind the answers to all before it. In each case the service has taken the
-/// steps of all whole frames that were read.
+/// `BadFrame` (50) as soon as a part of a frame is there that is wrong, `CutOff` (51) where the
+/// input ends inside a frame; the answers to all frames before it then stand written. `Device` (68)
+/// where a call of the reader or the writer failed, or 2^32 frames were taken; the answers then
+/// stand written up to the failure, and all of them where no write failed. `Memory` (90) where
+/// there was no room for a frame, behind the answers to all before it. In each case the service has
+/// taken the steps of all whole frames that were read.
 pub fn serve<N: Naming, R: Read, W: Write>(
     alloc: Global,
     service: &mut Service<N>,

@@ -1,8 +1,8 @@
 //! A stream of git-fast-import(1), piece by piece, over the objects and refs of one tenant.
 //!
-//! The table, the refs and the pool are lent at each call, the same ones from the first to the last.
-//! Bytes may be cut anywhere; what is kept between two pieces is neither the repository nor the
-//! bytes that went before.
+//! The table, the refs and the pool are lent at each call, the same ones from the first to the
+//! last. Bytes may be cut anywhere; what is kept between two pieces is neither the repository nor
+//! the bytes that went before.
 
 ghost use Rattle.std.specs.Prelude.{◌≡◌, [], false};
 ghost use Rattle.tenant_tables.specs.StandsIn.{StandsIn, LeavesOthers};
@@ -133,10 +133,10 @@ impl Stream {
     /// Takes the next piece, carries out the items that it makes whole, and appends what they print
     /// to `out`: git-fast-import(1), "Input Format".
     ///
-    /// `Stop::Fault` where the bytes, the text of an item or its meaning are refused; `Stop::Memory`
-    /// (90) with the number of items of this call that took effect. `out` has the replies of the
-    /// items before it, the objects and refs of the last checkpoint are unchanged, and only
-    /// `abandon` may follow. Behind `done` nothing is read, and no memory is taken.
+    /// `Stop::Fault` where the bytes, the text of an item or its meaning are refused;
+    /// `Stop::Memory` (90) with the number of items of this call that took effect. `out` has the
+    /// replies of the items before it, the objects and refs of the last checkpoint are unchanged,
+    /// and only `abandon` may follow. Behind `done` nothing is read, and no memory is taken.
     pub fn feed<N: Naming>(
         &mut self,
         pool: &mut Pool<N>,

@@ -1,5 +1,5 @@
-//! The program `gitpool`: without words, one stream of git-fast-import(1) from standard input over an
-//! empty repository, and its replies to standard output.
+//! The program `gitpool`: without words, one stream of git-fast-import(1) from standard input over
+//! an empty repository, and its replies to standard output.
 #![tactic(auto)]
 
 use git_objects::{Counted, Sha1Naming};

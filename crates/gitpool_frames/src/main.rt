@@ -1,6 +1,6 @@
-//! The program `gitpool_frames`, for tests and measurements: frames of steps from standard input over
-//! an empty service, and their answers to standard output. Its one word chooses how objects are
-//! named: `sha1`, or `tail` for tests.
+//! The program `gitpool_frames`, for tests and measurements: frames of steps from standard input
+//! over an empty service, and their answers to standard output. Its one word chooses how objects
+//! are named: `sha1`, or `tail` for tests.
 #![tactic(auto)]
 
 use git_objects::{Counted, Naming, Sha1Naming, TailNaming};

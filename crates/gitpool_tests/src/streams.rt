@@ -1,4 +1,5 @@
-//! The worked streams of the folder `streams/`, each with what it prints and the fault that it gets.
+//! The worked streams of the folder `streams/`, each with what it prints and the fault that it
+//! gets.
 
 use git_objects::{Counted, Sha1Naming, TailNaming};
 use gitpool::{ImportFault, import_one};

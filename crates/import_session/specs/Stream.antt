@@ -32,7 +32,8 @@ abbrev pub is_finish : Act → Bool
 is_finish Finish = true
 is_finish _ = false
 
--- The text of an item is judged first, and then its meaning. A command without a meaning is unknown.
+-- The text of an item is judged first, and then its meaning. A command without a meaning is
+-- unknown.
 abbrev pub taken : (List ℕ → List ℕ) → Running → Item → Result Step Fault
 taken digest now item =
     and_then (text_first (known (has_no_meaning (part_of item)) (done_by now.parsing item))) (λ done.

@@ -1,9 +1,8 @@
 -- Bytes that were read, one call after another.
 use Rattle.std.proofs.Common.{◌≡◌, ℕ, zero, suc, ◌+◌, ◌^◌, ◌<◌, List, [], ◌∷◌, ◌++◌, length, take, get_or, refl, sym, ap, subst, ◌∙◌, append-nil, arith}
 use Rattle.std.specs.Io.KnownBytes.{Consumes, Keeps, IsAtEnd}
-use Rattle.std.proofs.lemmas.List.{length-append}
 use Rattle.git_objects.specs.Device.{Device, HasRead, HasFault, counted_on}
-use Rattle.git_objects.proofs.KnownBytes.{Consumes-nil, Consumes-trans, Consumes-kept}
+use Rattle.git_objects.proofs.KnownBytes.{Consumes-nil, HasRead-trans, HasRead-kept}
 use Rattle.step_frames.specs.Reading.{HasReadWell, HasReadAll, HasFailed}
 
 pub well_none : (old : Device) → old.passed < 2 ^ 64 → HasReadWell old old []
@@ -12,15 +11,9 @@ well_none old fits = record {
   well = refl;
 }
 
-pub read_more : (a b c : Device) (xs ys : List ℕ) → HasRead a b xs → HasRead b c ys → HasRead a c (xs ++ ys)
-read_more a b c xs ys first later = record {
-  consumed = Consumes-trans a.known b.known c.known xs ys first.consumed later.consumed;
-  passed = let p = later.passed in let q = first.passed in let n = length-append xs ys in omega (arith, p, q, n);
-}
-
 pub well_more : (a b c : Device) (xs ys : List ℕ) → HasReadWell a b xs → HasReadWell b c ys → HasReadWell a c (xs ++ ys)
 well_more a b c xs ys first later = record {
-  read = read_more a b c xs ys first.read later.read;
+  read = HasRead-trans a b c xs ys first.read later.read;
   well = later.well ∙ first.well;
 }
 
@@ -29,7 +22,7 @@ all_more a b c xs ys first later = record { read = well_more a b c xs ys first l
 
 pub failed_more : (a b c : Device) (xs ys : List ℕ) → HasReadWell a b xs → HasFailed b c ys → HasFailed a c (xs ++ ys)
 failed_more a b c xs ys first later = record {
-  read = read_more a b c xs ys first.read later.read;
+  read = HasRead-trans a b c xs ys first.read later.read;
   fault = subst (λ (n : ℕ). HasFault n c.faults) first.well later.fault;
 }
 
@@ -46,10 +39,7 @@ one_well old new n buf size consumed passed faults = record {
 pub one_failed : (a b c : Device) (xs : List ℕ) → HasReadWell a b xs → Keeps b.known c.known → c.passed ≡ b.passed
     → c.faults ≡ counted_on b.faults 1 → HasFailed a c xs
 one_failed a b c xs had keeps passed faults = record {
-  read = record {
-    consumed = Consumes-kept a.known b.known c.known xs had.read.consumed keeps;
-    passed = passed ∙ had.read.passed;
-  };
+  read = HasRead-kept a b c xs had.read keeps passed;
   fault = λ below. let w = had.well in omega (arith, faults, w, below);
 }
 

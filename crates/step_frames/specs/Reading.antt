@@ -30,8 +30,10 @@ ReadsStep old (Ok (Some s)) new = IsGood (frame_of s) × HasReadWell old new (st
 ReadsStep old (Ok None) new = HasReadAll old new []
 ReadsStep old (Err fault.BadFrame) new = (bytes : List ℕ) × IsBad bytes × HasReadWell old new bytes
 ReadsStep old (Err fault.CutOff) new = (bytes : List ℕ) × IsCutOff bytes × HasReadAll old new bytes
-ReadsStep old (Err fault.Device) new = (bytes : List ℕ) × IsUnfinished bytes × HasFailed old new bytes
-ReadsStep old (Err fault.Memory) new = (bytes : List ℕ) × IsUnfinished bytes × HasReadWell old new bytes
+ReadsStep old (Err fault.Device) new = (bytes : List ℕ) × IsUnfinished bytes
+    × HasFailed old new bytes
+ReadsStep old (Err fault.Memory) new = (bytes : List ℕ) × IsUnfinished bytes
+    × HasReadWell old new bytes
 
 -- ---- parts
 
@@ -47,8 +49,10 @@ pub record IsShort (room : ℕ) (bytes : List ℕ) : Type 0 where
 -- A room was filled.
 abbrev pub Fills : Device → Result Unit FrameFault → Device → List ℕ → Type 0
 Fills old (Ok u) new room = HasReadWell old new room
-Fills old (Err fault.CutOff) new room = (bytes : List ℕ) × IsShort (length room) bytes × HasReadAll old new bytes
-Fills old (Err fault.Device) new room = (bytes : List ℕ) × IsShort (length room) bytes × HasFailed old new bytes
+Fills old (Err fault.CutOff) new room = (bytes : List ℕ) × IsShort (length room) bytes
+    × HasReadAll old new bytes
+Fills old (Err fault.Device) new room = (bytes : List ℕ) × IsShort (length room) bytes
+    × HasFailed old new bytes
 Fills old (Err fault.BadFrame) new room = ⊥
 Fills old (Err fault.Memory) new room = ⊥
 

@@ -54,7 +54,8 @@ impl Frames {
     /// `BadFrame` (50) as soon as a part is there that is wrong: a kind that is none, a name in a
     /// restart, a body that the kind has not or that has more than 16,777,216 bytes. `CutOff` (51)
     /// where the input ends inside a frame. `Device` (68) where a call of the reader failed.
-    /// `Memory` (90) where there is no room for a name or a body. No frame can be read behind these.
+    /// `Memory` (90) where there is no room for a name or a body. No frame can be read behind
+    /// these.
     pub fn next<R: Read>(&mut self, reader: &mut Counted<R>) -> Result<Option<Step<'_>>, FrameFault>
         ensures { ReadsStep (seen (R.remaining (device_of reader.old)) reader.old) result
             (seen (R.remaining (device_of reader.new)) reader.new) }

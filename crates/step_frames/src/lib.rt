@@ -1,7 +1,7 @@
 //! Steps of a service and what they are answered, as bytes: one frame for each.
 //!
-//! A step comes as a kind, the name of a tenant and a body; an answer goes as a status, a number and
-//! the bytes of the reply. Nothing here knows what a step does.
+//! A step comes as a kind, the name of a tenant and a body; an answer goes as a status, a number
+//! and the bytes of the reply. Nothing here knows what a step does.
 #![tactic(auto)]
 
 mod answer;

@@ -17,6 +17,8 @@ full_name tenant ref = flat_map namespace_of (parts_of tenant) ++ ref
 -- `refs/namespaces/` is left out, which no ref of a tenant does.
 pub record IsFullNameOfNoOther (full tenant ref : List ℕ) : Type 0 where
   pub tenant_is : (other_tenant other_ref : List ℕ)
-      → ¬ BeginsWith other_ref (codes "refs/namespaces/") → full_name other_tenant other_ref ≡ full → other_tenant ≡ tenant
+      → ¬ BeginsWith other_ref (codes "refs/namespaces/") → full_name other_tenant other_ref ≡ full
+      → other_tenant ≡ tenant
   pub ref_is : (other_tenant other_ref : List ℕ)
-      → ¬ BeginsWith other_ref (codes "refs/namespaces/") → full_name other_tenant other_ref ≡ full → other_ref ≡ ref
+      → ¬ BeginsWith other_ref (codes "refs/namespaces/") → full_name other_tenant other_ref ≡ full
+      → other_ref ≡ ref

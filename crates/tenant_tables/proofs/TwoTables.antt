@@ -4,7 +4,7 @@ use Rattle.std.proofs.Common.{◌≡◌, ℕ, true, cond, List, [], ◌∷◌, O
 use Rattle.std.proofs.Common.{OnOk, IfOk, ap, ◌∙◌, arith}
 use Rattle.std.proofs.lemmas.List.Elements.{All-nil, All-cons}
 use Rattle.git_model.specs.ObjectName.{IsObjectName}
-use Rattle.git_model.specs.Tree.{TreeEntry, IsComponent, CanWriteEntry, CanWriteTree}
+use Rattle.git_model.specs.Tree.{TreeEntry, IsEntryName, CanWriteEntry, CanWriteTree}
 use Rattle.std.specs.Str.{bytes_eq}
 use Rattle.std.proofs.lemmas.Slice.Eq.{bytes_eq-Decides}
 use Rattle.git_model.specs.Content.{Content, name_by}
@@ -52,7 +52,7 @@ Share-second digest p q es fs gs h stands others = record {
 }
 
 -- one entry makes a tree
-pub one_entry : (e : TreeEntry) → IsComponent e.name → IsObjectName e.id → CanWriteTree (e ∷ [])
+pub one_entry : (e : TreeEntry) → IsEntryName e.name → IsObjectName e.id → CanWriteTree (e ∷ [])
 one_entry e name id = record {
   entries = All-cons CanWriteEntry e [] (record { name = name; id = id }) (All-nil CanWriteEntry);
   names_are_distinct = λ i j d before within. absurd (omega arith);

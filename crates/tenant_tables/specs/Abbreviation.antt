@@ -18,7 +18,8 @@ half_bytes (byte ∷ bytes) = byte / 16 ∷ byte % 16 ∷ half_bytes bytes
 
 -- A name is abbreviated by digits of either case whose values begin its half bytes.
 unfoldable pub begins : List ℕ → List ℕ → Bool
-begins digits id = starts_with (option_eq nat_eq) (map Some (half_bytes id)) (map hex_digit_value digits)
+begins digits id = starts_with (option_eq nat_eq) (map Some (half_bytes id))
+    (map hex_digit_value digits)
 
 -- None, the only one, or many.
 abbrev pub only_of : List (List ℕ) → Found

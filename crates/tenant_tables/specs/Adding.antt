@@ -11,8 +11,9 @@ use Rattle.tenant_tables.specs.View.{View, summary_of}
 use Rattle.git_model.specs.Repository.{Object, has_object, object_named, with_object}
 use Rattle.tenant_tables.specs.Objects.{objects}
 
--- Why an object cannot be added to others, if it cannot. Contents may be too long; an object that is there is found;
--- else the table may be full; else the name may be that of another content. Nobody else's objects matter.
+-- Why an object cannot be added to others, if it cannot. Contents may be too long; an object that
+-- is there is found; else the table may be full; else the name may be that of another content.
+-- Nobody else's objects matter.
 unfoldable pub store_fault : List ℕ → Content → List Object → Option Fault
 store_fault id c os =
     if nat_lt CONTENTS_LIMIT (length c.bytes) then Some fault.Limit
@@ -21,8 +22,8 @@ store_fault id c os =
     else if is_some (object_named id os) then Some fault.NameCollision
     else None
 
--- A call that stores an object answers its name where there is no fault, and else the fault. `Memory` may stand in
--- place of either.
+-- A call that stores an object answers its name where there is no fault, and else the fault.
+-- `Memory` may stand in place of either.
 abbrev pub Answers : {name : Type 0} → Result name Fault → name → Option Fault → Type 0
 Answers (Ok answer) id fault = (answer ≡ id) × (fault ≡ None)
 Answers (Err fault.Limit) id refusal = refusal ≡ Some fault.Limit
@@ -30,17 +31,25 @@ Answers (Err fault.NameCollision) id refusal = refusal ≡ Some fault.NameCollis
 Answers (Err fault.Memory) id refusal = Unit {0}
 
 -- One entry behind those that were there, in a slot that the pool holds once more.
-pub record PushesAt (id : List ℕ) (c : Content) (summary : Option Summary) (before : Cells) (old : View) (after : Cells) (new : View) (slot : ℕ) : Type 0 where
+pub record PushesAt (id : List ℕ) (c : Content) (summary : Option Summary) (before : Cells)
+    (old : View) (after : Cells) (new : View) (slot : ℕ) : Type 0 where
   pub puts : Puts before after slot c
-  pub entries : new ≡ record old { entries = old.entries ++ (id, record { slot = slot; summary = summary }) ∷ [] }
+  pub entries : new ≡ record old {
+    entries = old.entries
+        ++ (id, record { slot = slot; summary = summary }) ∷ [];
+  }
 
 -- The same, of some slot.
 abbrev pub Pushes : List ℕ → Content → Option Summary → Cells → View → Cells → View → Type 0
-Pushes id c summary before old after new = (slot : ℕ) × PushesAt id c summary before old after new slot
+Pushes id c summary before old after new = (slot : ℕ)
+    × PushesAt id c summary before old after new slot
 
--- The object is there afterwards, behind those that were there unless it was one of them, and nothing else has changed.
--- A name that was there keeps its summary.
-pub record Adds (digest : List ℕ → List ℕ) (c : Content) (summary : Option Summary) (before : Cells) (old : View) (after : Cells) (new : View) : Type 0 where
-  pub objects : objects after new.entries ≡ with_object (name_by digest c) c (objects before old.entries)
+-- The object is there afterwards, behind those that were there unless it was one of them, and
+-- nothing else has changed. A name that was there keeps its summary.
+pub record Adds (digest : List ℕ → List ℕ) (c : Content) (summary : Option Summary) (before : Cells)
+    (old : View) (after : Cells) (new : View) : Type 0 where
+  pub objects : objects after new.entries
+      ≡ with_object (name_by digest c) c (objects before old.entries)
   pub committed : new.committed ≡ old.committed
-  pub summaries : (id : List ℕ) → summary_of id new.entries ≡ (if bytes_eq id (name_by digest c) then summary else summary_of id old.entries)
+  pub summaries : (id : List ℕ) → summary_of id new.entries
+      ≡ (if bytes_eq id (name_by digest c) then summary else summary_of id old.entries)

@@ -13,7 +13,8 @@ use Rattle.tenant_tables.specs.View.{Entries, names, entry_named}
 pub record IsIndexed (entries : Entries) (index : BTreeSet (List ℕ)) : Type 0 where
   pub named : All IsObjectName (names entries)
   pub distinct : IsDistinct bytes_eq (names entries)
-  pub same : (id : List ℕ) → contains (slice_cmp nat_cmp) index id ≡ is_some (entry_named id entries)
+  pub same : (id : List ℕ)
+      → contains (slice_cmp nat_cmp) index id ≡ is_some (entry_named id entries)
 
 -- The committed prefix is a part of the entries, which are no more than a table may have.
 pub record IsTable (entries : Entries) (index : BTreeSet (List ℕ)) (committed : ℕ) : Type 0 where

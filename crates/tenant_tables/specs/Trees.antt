@@ -33,7 +33,8 @@ by_mode mode.Symlink directory file = file
 by_mode mode.Gitlink directory file = file
 
 abbrev pub entry_summary : Entries → TreeEntry → Summary
-entry_summary table e = by_mode e.mode (below e.name (unwrap_or (summary_of e.id table) no_files)) (one_file e.name)
+entry_summary table e = by_mode e.mode (below e.name (unwrap_or (summary_of e.id table) no_files))
+    (one_file e.name)
 
 -- The files of both; the longer of the two paths, and the deeper.
 abbrev pub both : Summary → Summary → Summary
@@ -47,8 +48,10 @@ tree_summary table es = fold both no_files (map (entry_summary table) es)
 abbrev pub DirectoryStands : Entries → TreeEntry → Type 0
 DirectoryStands table e = e.mode ≡ mode.Directory → IsSome (summary_of e.id table)
 
--- The bytes are the contents of a tree whose directories stand in the table, and the summary is that of its files.
-pub record IsTreeOf (table : Entries) (bytes : List ℕ) (summary : Summary) (es : List TreeEntry) : Type 0 where
+-- The bytes are the contents of a tree whose directories stand in the table, and the summary is
+-- that of its files.
+pub record IsTreeOf (table : Entries) (bytes : List ℕ) (summary : Summary)
+    (es : List TreeEntry) : Type 0 where
   pub writable : CanWriteTree es
   pub contents : bytes ≡ tree_contents es
   pub directories : All (DirectoryStands table) es
@@ -58,7 +61,8 @@ pub record IsTreeOf (table : Entries) (bytes : List ℕ) (summary : Summary) (es
 abbrev pub FitsTree : Entries → List ℕ → Summary → Type 0
 FitsTree table bytes summary = (es : List TreeEntry) × IsTreeOf table bytes summary es
 
--- What stands in an entry beside its slot: behind those of the table, a tree has its summary, and every other object none.
+-- What stands in an entry beside its slot: behind those of the table, a tree has its summary, and
+-- every other object none.
 abbrev pub SummedBehind : Entries → Content → Option Summary → Type 0
 SummedBehind table c None = c.kind ≢ kind.Tree
 SummedBehind table c (Some s) = (c.kind ≡ kind.Tree) × FitsTree table c.bytes s

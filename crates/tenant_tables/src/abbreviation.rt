@@ -1,5 +1,5 @@
-//! The object names that some digits begin lie between two names: that with zeros behind the digits, and that
-//! with `f`s.
+//! The object names that some digits begin lie between two names: that with zeros behind the
+//! digits, and that with `f`s.
 
 ghost use Rattle.std.specs.Prelude.{◌≡◌, ◌≢◌, ◌≤◌, ◌++◌, ◌-◌, ℕ, List, Ok, length, replicate, false, IfNone, IfSome};
 ghost use Rattle.hex.specs.Hex.{decode_sized};
@@ -25,7 +25,8 @@ fn padded(digits: &[u8], digit: u8) -> Option<Name>
     Name::from_hex(&text)
 }
 
-/// The least and the greatest object name that these hexadecimal digits begin; `None` where they begin none.
+/// The least and the greatest object name that these hexadecimal digits begin; `None` where they
+/// begin none.
 pub(crate) fn bounds(digits: &[u8]) -> Option<(Name, Name)>
     ensures none { IfNone result ((id : List ℕ) → IsObjectName id → begins digits.now id ≡ false) }
     ensures some { IfSome result (λ r. Bounds digits.now r.0 r.1) }

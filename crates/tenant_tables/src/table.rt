@@ -69,7 +69,8 @@ impl Table {
         }
     }
 
-    /// Where the contents of the object of this name lie in the pool; `None` where the table has no such object.
+    /// Where the contents of the object of this name lie in the pool; `None` where the table has no
+    /// such object.
     pub fn find(&self, id: &Name) -> Option<Slot>
         ensures { result ≡ slot_of id.now self.now.entries }
     {
@@ -130,10 +131,11 @@ impl Table {
         self.committed
     }
 
-    /// The one object name in sight that begins with these hexadecimal digits of either case, if it is one.
+    /// The one object name in sight that begins with these hexadecimal digits of either case, if it
+    /// is one.
     ///
-    /// Digits of another kind, or more than forty, begin no name. Only this table's names count. The names that
-    /// begin so are found by the ordered index. Takes no memory.
+    /// Digits of another kind, or more than forty, begin no name. Only this table's names count.
+    /// The names that begin so are found by the ordered index. Takes no memory.
     pub fn starting_with(&self, digits: &[u8], sight: Sight) -> Found
         ensures { result ≡ found_among digits.now (names (in_sight sight self.now)) }
     {
@@ -162,13 +164,14 @@ impl Table {
         }
     }
 
-    /// Adds the object of this kind, which is not a tree, with these contents, and answers its name. An object that
-    /// the table has already is found and not added again.
+    /// Adds the object of this kind, which is not a tree, with these contents, and answers its
+    /// name. An object that the table has already is found and not added again.
     ///
-    /// `Fault::Limit` (25) where the contents are longer than 134,217,728 bytes; else the object is found, if the
-    /// table has it; else `Fault::Limit` where the table has 4,194,304 objects, and `Fault::NameCollision` (24) where
-    /// it has another object of this name, whatever other tables have. `Fault::Memory` (90) where a growth was
-    /// refused. Nothing has changed after any of them.
+    /// `Fault::Limit` (25) where the contents are longer than 134,217,728 bytes; else the object is
+    /// found, if the table has it; else `Fault::Limit` where the table has 4,194,304 objects, and
+    /// `Fault::NameCollision` (24) where it has another object of this name, whatever other tables
+    /// have. `Fault::Memory` (90) where a growth was refused. Nothing has changed after any of
+    /// them.
     ///
     /// The pool is the one that the table stands in, and no content of it is held 2^64 - 1 times.
     pub fn add<N: Naming>(
@@ -184,16 +187,18 @@ impl Table {
         ensures others { LeavesOthers pool.old self.old.entries pool.new self.new.entries }
         ensures answer { let c = content_from kind bytes.now in let id = name_by N.digest_of c in
             Answers result id (store_fault id c (objects pool.old self.old.entries)) }
-        ensures ok { OnOk result (Adds N.digest_of (content_from kind bytes.now) None pool.old self.old pool.new self.new) }
+        ensures ok { OnOk result (Adds N.digest_of
+            (content_from kind bytes.now) None pool.old self.old pool.new self.new) }
         ensures err { OnErr result ((self.new ≡ self.old) × (pool.new ≡ pool.old)) }
     {
         self.store(pool, kind, bytes, None)
     }
 
-    /// Adds the tree with these contents and this summary, as `add` adds other objects, with the same refusals.
+    /// Adds the tree with these contents and this summary, as `add` adds other objects, with the
+    /// same refusals.
     ///
-    /// The bytes are the contents of a tree whose directories stand in the table, and the summary is that of its
-    /// file map.
+    /// The bytes are the contents of a tree whose directories stand in the table, and the summary
+    /// is that of its file map.
     pub fn add_tree<N: Naming>(
         &mut self,
         pool: &mut Pool<N>,
@@ -207,7 +212,8 @@ impl Table {
         ensures others { LeavesOthers pool.old self.old.entries pool.new self.new.entries }
         ensures answer { let c = content_from Kind.Tree bytes.now in let id = name_by N.digest_of c in
             Answers result id (store_fault id c (objects pool.old self.old.entries)) }
-        ensures ok { OnOk result (Adds N.digest_of (content_from Kind.Tree bytes.now) (Some summary) pool.old self.old pool.new self.new) }
+        ensures ok { OnOk result (Adds N.digest_of (content_from Kind.Tree bytes.now)
+            (Some summary) pool.old self.old pool.new self.new) }
         ensures err { OnErr result ((self.new ≡ self.old) × (pool.new ≡ pool.old)) }
     {
         self.store(pool, Kind::Tree, bytes, Some(summary))
@@ -228,7 +234,8 @@ impl Table {
         ensures others { LeavesOthers pool.old self.old.entries pool.new self.new.entries }
         ensures answer { let c = content_from kind bytes.now in let id = name_by N.digest_of c in
             Answers result id (store_fault id c (objects pool.old self.old.entries)) }
-        ensures ok { OnOk result (Adds N.digest_of (content_from kind bytes.now) summary pool.old self.old pool.new self.new) }
+        ensures ok { OnOk result (Adds N.digest_of
+            (content_from kind bytes.now) summary pool.old self.old pool.new self.new) }
         ensures err { OnErr result ((self.new ≡ self.old) × (pool.new ≡ pool.old)) }
     {
         if bytes.len() > CONTENTS_LIMIT {
@@ -273,7 +280,8 @@ impl Table {
         self.len() >= OBJECTS_LIMIT
     }
 
-    // Puts an object behind all others. All that may fail comes before the first change that is not taken back.
+    // Puts an object behind all others. All that may fail comes before the first change that is not
+    // taken back.
     fn push_new<N: Naming>(
         &mut self,
         pool: &mut Pool<N>,
@@ -286,7 +294,8 @@ impl Table {
         requires new { entry_named id self.old.entries ≡ None }
         requires spare { length self.old.entries < OBJECTS_LIMIT }
         requires room { HasRoom pool.old }
-        ensures ok { OnOk result (Pushes id (content_from kind bytes.now) summary pool.old self.old pool.new self.new) }
+        ensures ok { OnOk result (Pushes id
+            (content_from kind bytes.now) summary pool.old self.old pool.new self.new) }
         ensures err { OnErr result ((self.new ≡ self.old) × (pool.new ≡ pool.old)) }
     {
         has_twenty_bytes(&id);
@@ -319,7 +328,8 @@ impl Table {
         ensures stands { StandsIn N.digest_of pool.new self.new.entries }
         ensures others { LeavesOthers pool.old self.old.entries pool.new self.new.entries }
         ensures entries { self.new ≡ record self.old { entries = take self.old.committed self.old.entries } }
-        ensures objects { objects pool.new self.new.entries ≡ take self.old.committed (objects pool.old self.old.entries) }
+        ensures objects { objects pool.new self.new.entries
+            ≡ take self.old.committed (objects pool.old self.old.entries) }
     {
         let committed = self.committed_len();
         while self.len() > committed {
@@ -333,8 +343,12 @@ impl Table {
         requires open { self.old.committed < length self.old.entries }
         ensures stands { StandsIn N.digest_of pool.new self.new.entries }
         ensures others { LeavesOthers pool.old self.old.entries pool.new self.new.entries }
-        ensures entries { self.new ≡ record self.old { entries = take (length self.old.entries - 1) self.old.entries } }
-        ensures objects { objects pool.new self.new.entries ≡ take (length self.old.entries - 1) (objects pool.old self.old.entries) }
+        ensures entries { self.new ≡ record self.old {
+          entries = take
+              (length self.old.entries - 1) self.old.entries;
+        } }
+        ensures objects { objects pool.new self.new.entries
+            ≡ take (length self.old.entries - 1) (objects pool.old self.old.entries) }
     {
         let Some((id, entry)) = self.objects.pop() else {
             return;

@@ -9,7 +9,7 @@ use crate::sized::has_twenty_bytes;
 use crate::{Fault, Found, Sight, Summary};
 use beside::Beside;
 use forest::Forest;
-use git_objects::{FileMode, Memory, Name, Sha1Naming, TailNaming, TreeEntry, is_component};
+use git_objects::{FileMode, Memory, Name, Sha1Naming, TailNaming, TreeEntry, is_entry_name};
 use std::test::Fail;
 use two::Two;
 
@@ -129,10 +129,10 @@ fn adds_trees_with_the_sizes_of_their_file_maps(rt: HostRuntime) -> Result<(), F
     let mut forest = Forest::new(rt.alloc(), Sha1Naming);
     let hello = forest.add_blob(b"hello\n")?;
     has_twenty_bytes(&hello);
-    if !is_component(b"hello") {
+    if !is_entry_name(b"hello") {
         panic!(rt; "`hello` is no component");
     }
-    if !is_component(b"dir") {
+    if !is_entry_name(b"dir") {
         panic!(rt; "`dir` is no component");
     }
     let file = TreeEntry {

@@ -9,7 +9,7 @@ use Rattle.git_objects.specs.declared.tree_entry.TreeEntry as declared
 use Rattle.git_objects.specs.Parts.{entry_of, entries_of}
 use Rattle.git_model.specs.declared.file_mode.FileMode.TheVariants as mode
 use Rattle.git_model.specs.Repository.{Object}
-use Rattle.git_model.specs.Tree.{TreeEntry, IsComponent, CanWriteEntry}
+use Rattle.git_model.specs.Tree.{TreeEntry, IsEntryName, CanWriteEntry}
 use Rattle.content_pool.specs.Pool.{Cells}
 use Rattle.tenant_tables.specs.declared.summary.Summary.{Summary}
 use Rattle.tenant_tables.specs.View.{Entries, summary_of}
@@ -96,7 +96,7 @@ entry_at P (y ∷ ys) zero x h lt at = subst (λ (z : declared.TreeEntry). P (en
 entry_at P (y ∷ ys) (suc i) x h lt at = entry_at P ys i x h.1 (omega arith) at
 
 -- the entry that is read has a name of a path
-pub component_at : (os : List Object) (id : List ℕ) (xs : List declared.TreeEntry) (i : ℕ) (x : declared.TreeEntry) → HasTree os id (entries_of xs) → i < length xs → x ≡ get_or xs i x → IsComponent (entry_of x).name
+pub component_at : (os : List Object) (id : List ℕ) (xs : List declared.TreeEntry) (i : ℕ) (x : declared.TreeEntry) → HasTree os id (entries_of xs) → i < length xs → x ≡ get_or xs i x → IsEntryName (entry_of x).name
 component_at os id xs i x h lt at = (entry_at CanWriteEntry xs i x (recursion_from_All CanWriteEntry (entries_of xs) h.entries.entries) lt at).name
 
 no_file : (top : Path) (old fs : Listed) → length fs ≡ 0 → old ≡ old ++ moved top fs

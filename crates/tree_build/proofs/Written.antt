@@ -11,8 +11,7 @@ use Rattle.git_model.specs.declared.file_mode.FileMode.{FileMode}
 use Rattle.git_model.specs.declared.file_mode.FileMode.TheVariants as mode
 use Rattle.git_model.specs.ObjectName.{IsObjectName}
 use Rattle.git_model.specs.Tree.{TreeEntry, CanWriteEntry, CanWriteTree, order_key, slash_of}
-use Rattle.git_model.specs.Tree.{tree_cmp}
-use Rattle.git_model.specs.Tree as git
+use Rattle.git_model.specs.Tree.{IsEntryName, tree_cmp}
 use Rattle.git_paths.specs.Paths.{IsComponent}
 use Rattle.tree_build.specs.FileMap.{Listed}
 use Rattle.tree_build.specs.Trees.{Groups}
@@ -26,15 +25,6 @@ slash_none mode.Executable ne = refl
 slash_none mode.Symlink ne = refl
 slash_none mode.Gitlink ne = refl
 slash_none mode.Directory ne = absurd (ne refl)
-
-as_entry_name : (c : Bytes) → IsComponent c → git.IsComponent c
-as_entry_name c h = record {
-  not_empty = h.not_empty;
-  no_nul = h.without_nul;
-  no_slash = h.without_slash;
-  not_dot = h.not_dot;
-  not_dot_dot = h.not_dot_dot;
-}
 
 pub no_pairs : {X : Type 0} (R : X → X → Type 0) → AllPairs R []
 no_pairs R i j d lt within = absurd (omega arith)
@@ -61,7 +51,7 @@ module _ (digest : List ℕ → List ℕ) (deep bound : ℕ) where
       → AllByRecursion CanWriteEntry (map (direct_of digest deep) gs)
   can_write [] h n = tt
   can_write (g ∷ gs) h n =
-      (record { name = subst git.IsComponent (sym (name_is g h.0)) (as_entry_name g.0 (component_is g h.0)); id = n.0 }, can_write gs h.1 n.1)
+      (record { name = subst IsEntryName (sym (name_is g h.0)) (component_is g h.0).entry_name; id = n.0 }, can_write gs h.1 n.1)
 
   -- what holds of each two groups holds of their entries
   abbrev KeysRise : TreeEntry → TreeEntry → Type 0

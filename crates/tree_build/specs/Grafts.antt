@@ -1,4 +1,5 @@
--- Putting a stored tree at a path: git-fast-import(1), "filemodify" with mode 040000. These are not Git's grafts.
+-- Putting a stored tree at a path: git-fast-import(1), "filemodify" with mode 040000. These are not
+-- Git's grafts.
 use Rattle.std.specs.Prelude.{◌≡◌, ℕ, List, Option, None, Some, Result}
 use Rattle.git_model.specs.declared.kind.Kind.{Kind}
 use Rattle.git_model.specs.declared.kind.Kind.TheVariants as kind
@@ -30,12 +31,15 @@ abbrev pub or_else : Option Fault → Option Fault → Option Fault
 or_else (Some e) later = Some e
 or_else None later = later
 
--- Why a stored tree cannot be put: it is none; else its files cannot be put, which would leave a map with them.
+-- Why a stored tree cannot be put: it is none; else its files cannot be put, which would leave a
+-- map with them.
 abbrev pub graft_fault : List Object → List ℕ → Listed → FileMap → Option Fault
 graft_fault os id files after = or_else (tree_fault os id) (put_fault files after)
 
 -- A call put the tree of a name at a path. Where the name is a tree's, these are its files.
-pub record Grafts {A : Type 0} (result : Result A Fault) (os : List Object) (id : List ℕ) (path : Path) (old new : FileMap) : Type 0 where
+pub record Grafts {A : Type 0} (result : Result A Fault) (os : List Object) (id : List ℕ)
+    (path : Path) (old new : FileMap) : Type 0 where
   pub files : Listed
   pub listed : tree_fault os id ≡ None → AreFilesOf os id files
-  pub edits : Edits result old new (graft_fault os id (moved path files) (put_tree_at old path files)) (put_tree_at old path files)
+  pub edits : Edits result old new
+      (graft_fault os id (moved path files) (put_tree_at old path files)) (put_tree_at old path files)

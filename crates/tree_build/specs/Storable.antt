@@ -43,4 +43,5 @@ IsStorableGroup deep g = file_of g.1 ≡ None → AreStorable g.1 × (depth_of g
 abbrev pub IsKnownGroup : (List ℕ → List ℕ) → ℕ → Entries → List ℕ × Listed → Type 0
 IsKnownGroup digest deep table g =
     file_of g.1 ≡ None
-    → summary_of (tree_name digest (entries_within digest deep g.1)) table ≡ Some (files_summary g.1)
+    → summary_of (tree_name digest (entries_within digest deep g.1)) table
+    ≡ Some (files_summary g.1)

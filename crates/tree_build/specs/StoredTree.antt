@@ -8,8 +8,8 @@ use Rattle.tree_build.specs.FileMap.{Path, Listed}
 use Rattle.tree_build.specs.Edits.{moved}
 use Rattle.tree_build.specs.Trees.{tree_content}
 
--- Among these objects the one of this name is the tree with these direct entries. What the name is the digest of does
--- not matter: the tree is what the objects have under it.
+-- Among these objects the one of this name is the tree with these direct entries. What the name is
+-- the digest of does not matter: the tree is what the objects have under it.
 pub record HasTree (os : List Object) (id : List ℕ) (es : List TreeEntry) : Type 0 where
   pub content : object_named id os ≡ Some (tree_content es)
   pub entries : CanWriteTree es
@@ -18,13 +18,15 @@ pub record HasTree (os : List Object) (id : List ℕ) (es : List TreeEntry) : Ty
 abbrev pub file_from : TreeEntry → Path × Entry
 file_from e = (e.name ∷ [], record { mode = e.mode; name = e.id })
 
--- What direct entries list, in their order: each that is no directory its file, and a directory what its tree lists,
--- below its name.
+-- What direct entries list, in their order: each that is no directory its file, and a directory
+-- what its tree lists, below its name.
 pub data Lists (os : List Object) : List TreeEntry → Listed → Type 0 where
   nothing : Lists os [] []
-  first_file : (e : TreeEntry) (es : List TreeEntry) (files : Listed) → e.mode ≢ mode.Directory → Lists os es files
+  first_file : (e : TreeEntry) (es : List TreeEntry) (files : Listed) → e.mode ≢ mode.Directory
+      → Lists os es files
       → Lists os (e ∷ es) (file_from e ∷ files)
-  first_directory : (e : TreeEntry) (es inside : List TreeEntry) (below files : Listed) → e.mode ≡ mode.Directory
+  first_directory : (e : TreeEntry) (es inside : List TreeEntry) (below files : Listed)
+      → e.mode ≡ mode.Directory
       → HasTree os e.id inside → Lists os inside below → Lists os es files
       → Lists os (e ∷ es) (moved (e.name ∷ []) below ++ files)
 

@@ -1,8 +1,8 @@
 //! The files of a branch: a file map under edits.
 //!
 //! A value has at most 1,048,576 files, each below the root, and no file's path is a prefix of
-//! another's; so a directory is there exactly where a file is below it. Entries name objects by their
-//! object names and never by where they lie: no later object of a table changes a value.
+//! another's; so a directory is there exactly where a file is below it. Entries name objects by
+//! their object names and never by where they lie: no later object of a table changes a value.
 //!
 //! After `put` at `a/b` and at `a`, the one file is `a`.
 
@@ -83,8 +83,8 @@ impl Files {
         let _files = &self.files;
     }
 
-    /// Takes out the files at or below a path; at the root, all. Where there is none, nothing changes:
-    /// git-fast-import(1), "filedelete".
+    /// Takes out the files at or below a path; at the root, all. Where there is none, nothing
+    /// changes: git-fast-import(1), "filedelete".
     ///
     /// Answers want of memory, 90, alone; the value may then only be cleared or dropped.
     pub fn drop_path<N: Naming>(
@@ -102,10 +102,10 @@ impl Files {
     /// Puts a file at a path, in place of what stands there, below it, or on a prefix of it:
     /// git-fast-import(1), "filemodify".
     ///
-    /// The entry is no directory. `Fault::RootNotDirectory` (20) at the root; else `Fault::Limit` (25) where
-    /// the path has more than 16,383 bytes or 256 components, or there would be more than 1,048,576
-    /// files. Nothing has changed after these. Takes memory for the path; after `Fault::Memory` (90)
-    /// the value may only be cleared or dropped.
+    /// The entry is no directory. `Fault::RootNotDirectory` (20) at the root; else `Fault::Limit`
+    /// (25) where the path has more than 16,383 bytes or 256 components, or there would be more
+    /// than 1,048,576 files. Nothing has changed after these. Takes memory for the path; after
+    /// `Fault::Memory` (90) the value may only be cleared or dropped.
     pub fn put<N: Naming>(
         &mut self,
         _pool: &Pool<N>,
@@ -124,14 +124,14 @@ impl Files {
         self.replace(None, path, files)
     }
 
-    /// Puts the files at or below one path at another, in place of what stands there, below it, or on
-    /// a prefix of it: git-fast-import(1), "filecopy".
+    /// Puts the files at or below one path at another, in place of what stands there, below it, or
+    /// on a prefix of it: git-fast-import(1), "filecopy".
     ///
     /// The source is read first. `Fault::SourceMissing` (18) where it has no file;
-    /// `Fault::RootNotDirectory` (20) where a file would stand at the root; else `Fault::Limit` (25)
-    /// where a path would be too long, or there would be too many files, as in `put`. Nothing has
-    /// changed after these. Takes memory for the new paths; after `Fault::Memory` (90) the value may only
-    /// be cleared or dropped.
+    /// `Fault::RootNotDirectory` (20) where a file would stand at the root; else `Fault::Limit`
+    /// (25) where a path would be too long, or there would be too many files, as in `put`. Nothing
+    /// has changed after these. Takes memory for the new paths; after `Fault::Memory` (90) the
+    /// value may only be cleared or dropped.
     pub fn copy<N: Naming>(
         &mut self,
         _pool: &Pool<N>,
@@ -174,12 +174,12 @@ impl Files {
     /// Puts the files of a stored tree at a path, in place of what stands there, below it, or on a
     /// prefix of it; not Git's grafts: git-fast-import(1), "filemodify" with mode 040000.
     ///
-    /// The empty tree has no files, so that putting it only removes, and at the root any tree takes the
-    /// place of all. `Fault::ObjectUnknown` (14) where the table has no object of this name, else
-    /// `Fault::WrongKind` (15) where it is no tree; else `Fault::Limit` (25) where a path would be too
-    /// long, or there would be too many files, as in `put`. Nothing has changed after these. Takes memory
-    /// for the new paths and for the entries of the trees that it reads; after `Fault::Memory` (90) the
-    /// value may only be cleared or dropped.
+    /// The empty tree has no files, so that putting it only removes, and at the root any tree takes
+    /// the place of all. `Fault::ObjectUnknown` (14) where the table has no object of this name,
+    /// else `Fault::WrongKind` (15) where it is no tree; else `Fault::Limit` (25) where a path
+    /// would be too long, or there would be too many files, as in `put`. Nothing has changed after
+    /// these. Takes memory for the new paths and for the entries of the trees that it reads; after
+    /// `Fault::Memory` (90) the value may only be cleared or dropped.
     ///
     /// The pool is the one that the table stands in.
     pub fn graft<N: Naming>(
@@ -201,11 +201,11 @@ impl Files {
         self.replace(None, path, files)
     }
 
-    /// What stands at a path: a file, a directory with the name of its tree, or nothing. The root is
-    /// always a directory.
+    /// What stands at a path: a file, a directory with the name of its tree, or nothing. The root
+    /// is always a directory.
     ///
-    /// The trees are named and not stored. Takes memory for their contents; `Memory` (90) is the only
-    /// refusal.
+    /// The trees are named and not stored. Takes memory for their contents; `Memory` (90) is the
+    /// only refusal.
     pub fn entry<N: Naming>(
         &self,
         pool: &Pool<N>,
@@ -231,15 +231,15 @@ impl Files {
     /// Stores the trees of the files at or below a path, children first and in the order of their
     /// entries, the tree at the path itself last, and answers its name: git-write-tree(1).
     ///
-    /// Where no file is below the path, or one stands at it, that is the empty tree. A tree that the table
-    /// has is found and not added again.
-    /// `Fault::Limit` (25) where a tree's contents are too long or the table is full, else
-    /// `Fault::NameCollision` (24) where the table has another object of a tree's name, in the order of
-    /// storing; `Fault::Memory` (90) where a growth was refused. The trees before the refused one then
-    /// stand behind the committed prefix, and nothing else has changed. The files are unchanged in any
-    /// case.
+    /// Where no file is below the path, or one stands at it, that is the empty tree. A tree that
+    /// the table has is found and not added again. `Fault::Limit` (25) where a tree's contents are
+    /// too long or the table is full, else `Fault::NameCollision` (24) where the table has another
+    /// object of a tree's name, in the order of storing; `Fault::Memory` (90) where a growth was
+    /// refused. The trees before the refused one then stand behind the committed prefix, and
+    /// nothing else has changed. The files are unchanged in any case.
     ///
-    /// The pool is the one that the table stands in, and nobody else holds a content 2^64 - 2 times.
+    /// The pool is the one that the table stands in, and nobody else holds a content 2^64 - 2
+    /// times.
     pub fn store<N: Naming>(
         &mut self,
         pool: &mut Pool<N>,

@@ -5,7 +5,7 @@
 
 ghost use Rattle.std.specs.Prelude.{◌≡◌, [], ◌∷◌, ◌++◌, Some, IsSome, IfOk, IfErr, OnOk};
 ghost use Rattle.std.specs.List.{AllByRecursion};
-ghost use Rattle.git_model.specs.Tree.{IsComponent};
+ghost use Rattle.git_model.specs.Tree.{IsEntryName};
 ghost use Rattle.git_objects.specs.Parts.{entries_of};
 ghost use Rattle.git_paths.specs.Paths.{IsPath};
 ghost use Rattle.tenant_tables.specs.Objects.{objects};
@@ -78,7 +78,7 @@ fn read_entries<'a, N: Naming>(
 }
 
 fn child(alloc: Global, top: &Path, name: &[u8]) -> Result<Path, Memory>
-    requires { IsComponent name.now }
+    requires { IsEntryName name.now }
     ensures { IfOk result (λ path. path ≡ top.now ++ name.now ∷ []) }
 {
     Ok(top.child(alloc, name)?)

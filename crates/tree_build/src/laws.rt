@@ -6,9 +6,9 @@ ghost use Rattle.tree_build.specs.Edits.{files_at};
 ghost use Rattle.tree_build.specs.Trees.{grouped, tree_entries};
 ghost use Rattle.tree_build.specs.ByComponent.{IsByFirstComponent, IsTreeOf};
 
-/// The files below any path, taken by neighbours with one first component, are the files at or below
-/// each component that comes next: in the order of whole paths all files of one directory stand side
-/// by side.
+/// The files below any path, taken by neighbours with one first component, are the files at or
+/// below each component that comes next: in the order of whole paths all files of one directory
+/// stand side by side.
 pub fn files_by_component()
     ensures { (m : FileMap) (top : Path) → AreFiles (listed m)
         → IsByFirstComponent m top (grouped (files_at m top)) }

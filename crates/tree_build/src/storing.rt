@@ -81,8 +81,8 @@ fn add_entries<N: Naming>(
     }
 }
 
-/// Stores the trees of files whose paths have at most `deep` components, and answers the name of the
-/// last one, which is the tree of all.
+/// Stores the trees of files whose paths have at most `deep` components, and answers the name of
+/// the last one, which is the tree of all.
 #[cycle(storing)]
 pub(crate) fn store_trees<N: Naming>(
     alloc: Global,

@@ -5,12 +5,46 @@ ghost use Rattle.git_model.specs.declared.file_mode.FileMode.TheVariants as mode
 
 use crate::{Entry, Fault, Files};
 use content_pool::Pool;
-use git_objects::{FileMode, Name, Naming};
+use git_objects::{FileMode, Name, Naming, Sha1Naming};
 use git_paths::{Path, Place};
 use std::alloc::Global;
 use std::marker::Model;
 use std::test::Fail;
 use tenant_tables::Table;
+
+/// What is done to a branch or looked up in it, and what it then answers: a refusal by its number,
+/// 0 where there is none; the mode or the tree at a path.
+#[derive(Clone, Copy)]
+pub enum Step<'a> {
+    Put(&'a [u8], &'a [u8; 40], u16),
+    PutLine(&'a [u8]),
+    DropPath(&'a [u8]),
+    Copy(&'a [u8], &'a [u8], u16),
+    Rename(&'a [u8], &'a [u8], u16),
+    Graft(&'a [u8], &'a [u8; 40], u16),
+    Clear,
+    Store(&'a [u8; 40]),
+    Stored(usize),
+    Mode(&'a [u8], Option<FileMode>),
+    Tree(&'a [u8], &'a [u8; 40]),
+}
+
+/// What a branch does, in words and as steps from an empty one.
+pub struct Case {
+    pub does: &'static str,
+    pub steps: &'static [Step<'static>],
+}
+
+/// The first of these steps, by its place, that a new branch answers otherwise.
+pub fn first_wrong(alloc: Global, steps: &[Step<'_>]) -> Result<Option<usize>, Fail> {
+    let mut branch = Branch::new(alloc, Sha1Naming);
+    for (place, step) in steps.iter().enumerate() {
+        if !branch.takes(step)? {
+            return Ok(Some(place));
+        }
+    }
+    Ok(None)
+}
 
 /// The files of a branch, and where their trees would lie.
 #[derive(Drop)]
@@ -19,6 +53,25 @@ pub struct Branch<N: Naming> {
     files: Files,
     pool: Pool<N>,
     table: Table,
+}
+
+/// The bytes of a path of so many components, each of so many bytes.
+pub fn long_path(alloc: Global, components: usize, length: usize) -> Result<Vec<u8>, Fail> {
+    let mut path = Vec::new(alloc);
+    for place in 0..components {
+        if place > 0 {
+            path.push(b'/')?;
+        }
+        push_letters(&mut path, length)?;
+    }
+    Ok(path)
+}
+
+fn push_letters(path: &mut Vec<u8>, count: usize) -> Result<(), Fail> {
+    for _ in 0..count {
+        path.push(b'a')?;
+    }
+    Ok(())
 }
 
 // The number of a refusal, 0 where there is none. Want of memory ends a test.
@@ -59,6 +112,37 @@ impl<N: Naming> Branch<N> {
             files: Files::new(alloc),
             pool: Pool::new(alloc, naming),
             table: Table::new(alloc),
+        }
+    }
+
+    // Whether a step goes as it says. Each function knows some of them, so that its proof is short.
+    fn takes(&mut self, step: &Step<'_>) -> Result<bool, Fail> {
+        match step {
+            Step::Put(path, name, code) => Ok(self.put(path, name)? == *code),
+            Step::Copy(from, to, code) => Ok(self.copy(from, to)? == *code),
+            Step::Rename(from, to, code) => Ok(self.rename(from, to)? == *code),
+            Step::Graft(path, name, code) => Ok(self.graft(path, *name)? == *code),
+            other => self.goes(other),
+        }
+    }
+
+    fn goes(&mut self, step: &Step<'_>) -> Result<bool, Fail> {
+        match step {
+            Step::PutLine(line) => self.put_line(line)?,
+            Step::DropPath(path) => self.drop_path(path)?,
+            Step::Clear => self.clear(),
+            Step::Store(name) => return Ok(self.store()?.as_slice() == name.as_slice()),
+            other => return self.shows(other),
+        }
+        Ok(true)
+    }
+
+    fn shows(&self, step: &Step<'_>) -> Result<bool, Fail> {
+        match step {
+            Step::Stored(count) => Ok(self.stored() == *count),
+            Step::Mode(path, mode) => Ok(self.mode_at(path)? == *mode),
+            Step::Tree(path, name) => Ok(self.tree_at(path)?.as_slice() == name.as_slice()),
+            _ => Ok(false),
         }
     }
 
