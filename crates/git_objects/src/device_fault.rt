@@ -2,11 +2,11 @@
 
 ghost use Rattle.std.specs.Prelude.{◌≡◌};
 
-use std::error::Error;
-use std::fmt;
+use thiserror::Error;
 
 /// A reader or a writer answered an error, or took nothing of what it was given.
-#[derive(Clone, Copy, Debug, PartialEq, Eq)]
+#[derive(Clone, Copy, Debug, PartialEq, Eq, Error)]
+#[error("a reader or a writer failed")]
 pub struct DeviceFault;
 
 const DEVICE: u16 = 68;
@@ -19,11 +19,3 @@ impl DeviceFault {
         DEVICE
     }
 }
-
-impl fmt::Display for DeviceFault {
-    fn fmt<W: fmt::Write>(&self, f: &mut fmt::Formatter<W>) -> fmt::Result {
-        write!(f, "a reader or a writer failed")
-    }
-}
-
-impl Error for DeviceFault {}

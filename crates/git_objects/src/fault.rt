@@ -5,17 +5,19 @@ ghost use Rattle.git_objects.specs.declared.fault.Fault.TheVariants.{Memory as O
 
 use crate::memory;
 use std::alloc::AllocError;
-use std::error::Error;
-use std::fmt;
+use thiserror::Error;
 
 /// What is wrong with a text that is no ident, or that memory ran out.
-#[derive(Clone, Copy, Debug, PartialEq, Eq)]
+#[derive(Clone, Copy, Debug, PartialEq, Eq, Error)]
 pub enum Fault {
     /// The name, the email or the space behind it.
+    #[error("bad identity")]
     BadIdentity,
     /// The seconds, or the offset behind them.
+    #[error("bad date")]
     BadDate,
     /// A growth was refused.
+    #[error("out of memory")]
     Memory,
 }
 
@@ -33,18 +35,6 @@ impl Fault {
         }
     }
 }
-
-impl fmt::Display for Fault {
-    fn fmt<W: fmt::Write>(&self, f: &mut fmt::Formatter<W>) -> fmt::Result {
-        match self {
-            Fault::BadIdentity => write!(f, "bad identity"),
-            Fault::BadDate => write!(f, "bad date"),
-            Fault::Memory => write!(f, "out of memory"),
-        }
-    }
-}
-
-impl Error for Fault {}
 
 impl From<memory::Memory> for Fault {
     ghost from_gives = { λ _ e. e ≡ OutOfMemory };

@@ -3,13 +3,13 @@
 ghost use Rattle.std.specs.Prelude.{◌≡◌};
 
 use std::alloc::{AllocError, AllocFailed};
-use std::error::Error;
-use std::fmt;
+use thiserror::Error;
 
 const OUT_OF_MEMORY: u16 = 90;
 
 /// A growth was refused. It is answered only where that really happened.
-#[derive(Clone, Copy, Debug, PartialEq, Eq)]
+#[derive(Clone, Copy, Debug, PartialEq, Eq, Error)]
+#[error("out of memory")]
 pub struct Memory;
 
 impl Memory {
@@ -20,14 +20,6 @@ impl Memory {
         OUT_OF_MEMORY
     }
 }
-
-impl fmt::Display for Memory {
-    fn fmt<W: fmt::Write>(&self, f: &mut fmt::Formatter<W>) -> fmt::Result {
-        write!(f, "out of memory")
-    }
-}
-
-impl Error for Memory {}
 
 impl From<AllocError> for Memory {
     ghost from_gives = { λ _ _. Unit {0} };

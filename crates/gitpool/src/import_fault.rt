@@ -4,17 +4,19 @@ ghost use Rattle.std.specs.Prelude.{◌≡◌};
 ghost use Rattle.gitpool.specs.ImportFaults.{code_of};
 
 use git_objects::DeviceFault;
-use std::error::Error;
-use std::fmt;
+use thiserror::Error;
 
 /// Why an import did not end well.
-#[derive(Clone, Copy, Debug, PartialEq, Eq)]
+#[derive(Clone, Copy, Debug, PartialEq, Eq, Error)]
 pub enum ImportFault {
     /// The stream was refused, under this number.
+    #[error("fault {0}")]
     Stream(u16),
     /// A call of the reader or the writer failed, or the reader never ends, 68.
+    #[error("fault 68")]
     Device,
     /// Memory ran out, 90.
+    #[error("fault 90")]
     Memory,
 }
 
@@ -30,14 +32,6 @@ impl ImportFault {
         }
     }
 }
-
-impl fmt::Display for ImportFault {
-    fn fmt<W: fmt::Write>(&self, f: &mut fmt::Formatter<W>) -> fmt::Result {
-        write!(f, "fault {}", self.code())
-    }
-}
-
-impl Error for ImportFault {}
 
 impl From<DeviceFault> for ImportFault {
     ghost use Rattle.gitpool.specs.declared.import_fault.ImportFault.TheVariants.{Device};

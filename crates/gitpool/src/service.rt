@@ -3,7 +3,7 @@
 //! Each tenant has its own table, refs and stream; what they share is the pool, and no tenant is
 //! told anything of it. Steps come one at a time, and may cut a stream at any byte.
 
-ghost use Rattle.std.specs.Prelude.{◌≡◌, ◌+◌, ◌++◌, ℕ, List, [], ◌∷◌, length, drop, count_by, IsNone, IfSome, OnOk};
+ghost use Rattle.std.specs.Prelude.{◌≡◌, ◌+◌, ◌++◌, ℕ, List, [], ◌∷◌, length, drop, count_by, IsNone, IfSome, OnErr, OnOk, ◌<◌};
 ghost use Rattle.content_pool.specs.LiveContents.{live_contents, stored_sizes};
 ghost use Rattle.std.specs.List.{AllByRecursion};
 ghost use Rattle.gitpool.specs.Alone.{added};
@@ -131,6 +131,8 @@ impl<N: Naming> Service<N> {
             ≡ replies.old.items ++ drop (length replies.old.items) replies.new.items }
         ensures all { OnOk result
             (length replies.new.items ≡ length replies.old.items + length steps.now) }
+        ensures short { OnErr result
+            (length replies.new.items < length replies.old.items + length steps.now) }
         ensures bad_names { AllByRecursion IsRefused
             (run_of steps.now (told_since replies.old.items replies.new.items)) }
     {

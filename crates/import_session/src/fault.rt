@@ -5,23 +5,28 @@ ghost use Rattle.import_session.specs.Faults.{code_of};
 
 use git_objects::Memory;
 use std::alloc::{AllocError, AllocFailed};
-use std::error::Error;
-use std::fmt;
+use thiserror::Error;
 
 /// Why an item, or the end of a stream, was refused.
-#[derive(Clone, Copy, Debug, PartialEq, Eq)]
+#[derive(Clone, Copy, Debug, PartialEq, Eq, Error)]
 pub enum Fault {
     /// The text of the item, or its place: a fault of the grammar, under its number.
+    #[error("{0}")]
     Text(stream_grammar::Fault),
     /// No object has this mark, 13.
+    #[error("no object has this mark")]
     MarkUnknown,
     /// The object is of another kind than the command asks for, 15.
+    #[error("the object is of another kind")]
     WrongKind,
     /// Another content of this repository has the name of the new one, 24.
+    #[error("another content has this object name")]
     NameCollision,
     /// A limit is passed, 25.
+    #[error("a limit is passed")]
     Limit,
     /// A growth was refused, 90.
+    #[error("out of memory")]
     Memory,
 }
 
@@ -40,21 +45,6 @@ impl Fault {
         }
     }
 }
-
-impl fmt::Display for Fault {
-    fn fmt<W: fmt::Write>(&self, f: &mut fmt::Formatter<W>) -> fmt::Result {
-        match self {
-            Fault::Text(text) => write!(f, "{text}"),
-            Fault::MarkUnknown => write!(f, "no object has this mark"),
-            Fault::WrongKind => write!(f, "the object is of another kind"),
-            Fault::NameCollision => write!(f, "another content has this object name"),
-            Fault::Limit => write!(f, "a limit is passed"),
-            Fault::Memory => write!(f, "out of memory"),
-        }
-    }
-}
-
-impl Error for Fault {}
 
 impl From<AllocError> for Fault {
     ghost use Rattle.import_session.specs.declared.fault.Fault.TheVariants.{Memory};
