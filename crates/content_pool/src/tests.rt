@@ -1,87 +1,103 @@
 //! What no clause says: names from git, that calls succeed, and which slot is used again.
 
-ghost use Rattle.std.specs.Prelude.{◌≡◌, ℕ, ◌<◌};
-ghost use Rattle.content_pool.specs.Pool.{IsVacant};
+ghost use Rattle.std.specs.Prelude.{◌≡◌, ℕ, ◌<◌, IfOk};
+ghost use Rattle.content_pool.specs.Pool.{IsVacant, holds};
 
-use crate::{PlainPool, Pool};
+use crate::{PlainPool, Pool, Slot};
 use git_model::Kind;
 use git_objects::{Memory, Naming, Sha1Naming, TailNaming};
+use std::alloc::Global;
 use std::test::Fail;
 
-#[test]
-fn stores_a_blob_under_the_name_that_git_gives_it(rt: HostRuntime) -> Result<(), Fail> {
-    let mut pool = Pool::new(rt.alloc(), Sha1Naming);
+// The number of contents in a pool, and the sum of their sizes.
+type Sizes = (u64, u64);
+
+// The digits of the name of `hello` and a line feed as a blob, whether it is given back so, and
+// what is then stored.
+fn of_hello(alloc: Global) -> Result<([u8; 40], bool, Sizes), Fail> {
+    let mut pool = Pool::new(alloc, Sha1Naming);
     let (slot, id) = pool.put(Kind::Blob, b"hello\n")?;
-    let digits = id.to_hex();
-    assert_eq!(rt;
-        digits.as_slice(),
-        b"ce013625030ba8dba906f756967f9e9ca394464a".as_slice()
-    );
     let (kind, bytes) = pool.get(slot);
-    assert_eq!(rt; kind, Kind::Blob);
-    assert_eq!(rt; bytes, b"hello\n".as_slice());
-    assert_eq!(rt; pool.stored(), (1, 6));
-    Ok(())
+    let is_same = kind == Kind::Blob && bytes == b"hello\n".as_slice();
+    Ok((id.to_hex(), is_same, pool.stored()))
 }
 
-#[test]
-fn keeps_a_content_until_its_last_release(rt: HostRuntime) -> Result<(), Fail> {
-    let mut pool = Pool::new(rt.alloc(), Sha1Naming);
+// Holds one content four times, each time otherwise, and answers its one slot.
+fn held_in_four_ways(alloc: Global, pool: &mut Pool<Sha1Naming>) -> Result<Slot, Fail>
+    requires { IsVacant pool.old }
+    ensures { IfOk result (λ slot. holds pool.new slot ≡ 4) }
+{
     let (slot, id) = pool.put(Kind::Blob, b"a")?;
     let (again, _) = pool.put(Kind::Blob, b"a")?;
-    assert_eq!(rt; again, slot);
-    let owned = Vec::from_slice(rt.alloc(), b"a")?;
+    let owned = Vec::from_slice(alloc, b"a")?;
     let taken = pool.put_owned(id, Kind::Blob, owned)?;
-    assert_eq!(rt; taken, slot);
-    pool.hold(slot);
-    for _ in 0..3u32 {
-        pool.release(slot);
-        assert_eq!(rt; pool.stored(), (1, 1));
+    if again != slot || taken != slot {
+        return Err(Fail::from("two slots for one content"));
     }
-    pool.release(slot);
-    assert_eq!(rt; pool.stored(), (0, 0));
-    Ok(())
+    pool.hold(slot);
+    Ok(slot)
 }
 
-#[test]
-fn uses_a_slot_again_after_its_last_release(rt: HostRuntime) -> Result<(), Fail> {
-    let mut pool = Pool::new(rt.alloc(), Sha1Naming);
+// Whether a content that is held four times stays until its last release.
+fn keeps_a_content_until_its_last_release(alloc: Global) -> Result<bool, Fail> {
+    let mut pool = Pool::new(alloc, Sha1Naming);
+    let slot = held_in_four_ways(alloc, &mut pool)?;
+    for _ in 0..3u32 {
+        pool.release(slot);
+        if pool.stored() != (1, 1) {
+            return Ok(false);
+        }
+    }
+    pool.release(slot);
+    Ok(pool.stored() == (0, 0))
+}
+
+// Whether the slot of a released content is that of the next one, and what it then holds.
+fn uses_a_slot_again_after_its_last_release(alloc: Global) -> Result<bool, Fail> {
+    let mut pool = Pool::new(alloc, Sha1Naming);
     let (first, _) = pool.put(Kind::Blob, b"a")?;
     pool.release(first);
     let (second, _) = pool.put(Kind::Blob, b"b")?;
-    assert_eq!(rt; second, first);
     let (_, bytes) = pool.get(second);
-    assert_eq!(rt; bytes, b"b".as_slice());
-    Ok(())
+    Ok(second == first && bytes == b"b".as_slice())
 }
 
-#[test]
-fn tells_two_contents_of_one_name_apart(rt: HostRuntime) -> Result<(), Fail> {
-    let mut pool = Pool::new(rt.alloc(), TailNaming);
+// Whether two contents of one name lie apart, and each is given up alone.
+fn tells_two_contents_of_one_name_apart(alloc: Global) -> Result<bool, Fail> {
+    let mut pool = Pool::new(alloc, TailNaming);
     let (ab, first) = pool.put(Kind::Blob, b"ab")?;
     let (ba, second) = pool.put(Kind::Blob, b"ba")?;
-    assert_eq!(rt; first, second);
-    assert_ne!(rt; ab, ba);
-    assert_eq!(rt; pool.stored(), (2, 4));
+    if first != second || ab == ba || pool.stored() != (2, 4) {
+        return Ok(false);
+    }
     pool.release(ab);
     let (_, bytes) = pool.get(ba);
-    assert_eq!(rt; bytes, b"ba".as_slice());
-    assert_eq!(rt; pool.stored(), (1, 2));
-    Ok(())
+    Ok(bytes == b"ba".as_slice() && pool.stored() == (1, 2))
 }
 
-#[test]
-fn is_as_it_was_after_ten_thousand_contents(rt: HostRuntime) -> Result<(), Fail> {
-    let mut pool = Pool::new(rt.alloc(), Sha1Naming);
+// Whether the pool is as it was after so many contents, each in the slot of the first.
+fn is_as_it_was_after_ten_thousand_contents(alloc: Global) -> Result<bool, Fail> {
+    let mut pool = Pool::new(alloc, Sha1Naming);
     let (first, _) = pool.put(Kind::Blob, b"first")?;
     pool.release(first);
     for number in 0..10_000u32 {
         let (slot, _) = pool.put(Kind::Blob, &number.to_be_bytes())?;
-        assert_eq!(rt; slot, first);
-        assert_eq!(rt; pool.stored(), (1, 4));
+        if slot != first || pool.stored() != (1, 4) {
+            return Ok(false);
+        }
         pool.release(slot);
     }
-    assert_eq!(rt; pool.stored(), (0, 0));
+    Ok(pool.stored() == (0, 0))
+}
+
+#[test]
+fn stores_each_content_once(rt: HostRuntime) -> Result<(), Fail> {
+    let name_by_git = *b"ce013625030ba8dba906f756967f9e9ca394464a";
+    assert_eq!(rt; of_hello(rt.alloc())?, (name_by_git, true, (1, 6)));
+    assert!(rt; keeps_a_content_until_its_last_release(rt.alloc())?);
+    assert!(rt; uses_a_slot_again_after_its_last_release(rt.alloc())?);
+    assert!(rt; tells_two_contents_of_one_name_apart(rt.alloc())?);
+    assert!(rt; is_as_it_was_after_ten_thousand_contents(rt.alloc())?);
     Ok(())
 }
 
@@ -92,10 +108,9 @@ fn answers_as_the_plain_pool_does(rt: HostRuntime) -> Result<(), Fail> {
     for bytes in [b"ab", b"ba", b"cd", b"ab", b"dc", b"ba"] {
         let (slot, id) = pool.put(Kind::Blob, bytes)?;
         let (plain_slot, plain_id) = plain.put(Kind::Blob, bytes)?;
-        assert_eq!(rt; slot, plain_slot);
-        assert_eq!(rt; id, plain_id);
-        assert_eq!(rt; pool.get(slot), plain.get(plain_slot));
-        assert_eq!(rt; pool.stored(), plain.stored());
+        let answer = (slot, id, pool.get(slot), pool.stored());
+        let plain_answer = (plain_slot, plain_id, plain.get(plain_slot), plain.stored());
+        assert_eq!(rt; answer, plain_answer);
     }
     assert_eq!(rt; pool.stored(), (4, 8));
     Ok(())
