@@ -17,6 +17,12 @@ use std::alloc::{AllocError, Global};
 use std::test::Fail;
 use stream_lex::Item;
 
+/// What a parser does, in words and as rows.
+pub struct Case {
+    pub does: &'static str,
+    pub rows: &'static [&'static str],
+}
+
 // What a row says that an act is, as bytes.
 #[derive(Drop)]
 struct Text {
@@ -305,4 +311,27 @@ fn first_wrong<'a>(alloc: Global, rows: &[&'a str]) -> Result<&'a str, Fail> {
         }
     }
     Ok("")
+}
+
+/// What the first case does that goes otherwise, and the row at which it does, or nothing.
+pub fn first_wrong_case(
+    alloc: Global,
+    cases: &[Case],
+) -> Result<(&'static str, &'static str), Fail> {
+    for case in cases {
+        let row = first_wrong(alloc, case.rows)?;
+        if row != "" {
+            return Ok((case.does, row));
+        }
+    }
+    Ok(("", ""))
+}
+
+#[test]
+fn asks_for_what_the_rows_say(rt: HostRuntime) -> Result<(), Fail> {
+    assert_eq!(rt; lines::first_wrong(rt.alloc())?, ("", ""));
+    assert_eq!(rt; commits::first_wrong(rt.alloc())?, ("", ""));
+    assert_eq!(rt; changes::first_wrong(rt.alloc())?, ("", ""));
+    assert_eq!(rt; tags::first_wrong(rt.alloc())?, ("", ""));
+    Ok(())
 }

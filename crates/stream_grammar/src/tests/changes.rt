@@ -1,6 +1,7 @@
 //! The changes of a commit.
 
-use super::first_wrong;
+use super::{Case, first_wrong_case};
+use std::alloc::Global;
 use std::test::Fail;
 
 const MODIFIED: &[&str] = &[
@@ -216,20 +217,22 @@ const OTHER_CHANGES: &[&str] = &[
     "deleteall x => 2",
 ];
 
-#[test]
-fn reads_modified_files(rt: HostRuntime) -> Result<(), Fail> {
-    assert_eq!(rt; first_wrong(rt.alloc(), MODIFIED)?, "");
-    Ok(())
-}
+const CASES: &[Case] = &[
+    Case {
+        does: "reads modified files",
+        rows: MODIFIED,
+    },
+    Case {
+        does: "reads files whose data follow",
+        rows: INLINE,
+    },
+    Case {
+        does: "reads other changes",
+        rows: OTHER_CHANGES,
+    },
+];
 
-#[test]
-fn reads_files_whose_data_follow(rt: HostRuntime) -> Result<(), Fail> {
-    assert_eq!(rt; first_wrong(rt.alloc(), INLINE)?, "");
-    Ok(())
-}
-
-#[test]
-fn reads_other_changes(rt: HostRuntime) -> Result<(), Fail> {
-    assert_eq!(rt; first_wrong(rt.alloc(), OTHER_CHANGES)?, "");
-    Ok(())
+/// What the first case does that goes otherwise, and the row at which it does, or nothing.
+pub fn first_wrong(alloc: Global) -> Result<(&'static str, &'static str), Fail> {
+    first_wrong_case(alloc, CASES)
 }

@@ -1,6 +1,7 @@
 //! Commits up to their changes, and what ends one.
 
-use super::first_wrong;
+use super::{Case, first_wrong_case};
+use std::alloc::Global;
 use std::test::Fail;
 
 const HEADERS: &[&str] = &[
@@ -265,32 +266,30 @@ const ENDS: &[&str] = &[
     "merge : => 12",
 ];
 
-#[test]
-fn reads_headers_of_commits(rt: HostRuntime) -> Result<(), Fail> {
-    assert_eq!(rt; first_wrong(rt.alloc(), HEADERS)?, "");
-    Ok(())
-}
+const CASES: &[Case] = &[
+    Case {
+        does: "reads headers of commits",
+        rows: HEADERS,
+    },
+    Case {
+        does: "misses the committer whatever stands in its place",
+        rows: BEFORE_THE_COMMITTER,
+    },
+    Case {
+        does: "misses a part where another stands in its place",
+        rows: WRONG_ORDER,
+    },
+    Case {
+        does: "tells a bad identity from a bad date",
+        rows: IDENTS,
+    },
+    Case {
+        does: "ends a commit where nothing of it stands",
+        rows: ENDS,
+    },
+];
 
-#[test]
-fn misses_the_committer_whatever_stands_in_its_place(rt: HostRuntime) -> Result<(), Fail> {
-    assert_eq!(rt; first_wrong(rt.alloc(), BEFORE_THE_COMMITTER)?, "");
-    Ok(())
-}
-
-#[test]
-fn misses_a_part_where_another_stands_in_its_place(rt: HostRuntime) -> Result<(), Fail> {
-    assert_eq!(rt; first_wrong(rt.alloc(), WRONG_ORDER)?, "");
-    Ok(())
-}
-
-#[test]
-fn tells_a_bad_identity_from_a_bad_date(rt: HostRuntime) -> Result<(), Fail> {
-    assert_eq!(rt; first_wrong(rt.alloc(), IDENTS)?, "");
-    Ok(())
-}
-
-#[test]
-fn ends_a_commit_where_nothing_of_it_stands(rt: HostRuntime) -> Result<(), Fail> {
-    assert_eq!(rt; first_wrong(rt.alloc(), ENDS)?, "");
-    Ok(())
+/// What the first case does that goes otherwise, and the row at which it does, or nothing.
+pub fn first_wrong(alloc: Global) -> Result<(&'static str, &'static str), Fail> {
+    first_wrong_case(alloc, CASES)
 }

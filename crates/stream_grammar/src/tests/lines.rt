@@ -1,6 +1,7 @@
 //! Blobs and commands of one line.
 
-use super::first_wrong;
+use super::{Case, first_wrong_case};
+use std::alloc::Global;
 use std::test::Fail;
 
 const BLOBS: &[&str] = &[
@@ -232,26 +233,26 @@ const FEATURES: &[&str] = &[
     "option gitpool head refs/heads/m  => 11",
 ];
 
-#[test]
-fn reads_blobs(rt: HostRuntime) -> Result<(), Fail> {
-    assert_eq!(rt; first_wrong(rt.alloc(), BLOBS)?, "");
-    Ok(())
-}
+const CASES: &[Case] = &[
+    Case {
+        does: "reads blobs",
+        rows: BLOBS,
+    },
+    Case {
+        does: "reads commands of one line",
+        rows: ONE_LINE,
+    },
+    Case {
+        does: "knows no other line where no command is open",
+        rows: UNKNOWN,
+    },
+    Case {
+        does: "reads features and options before other commands",
+        rows: FEATURES,
+    },
+];
 
-#[test]
-fn reads_commands_of_one_line(rt: HostRuntime) -> Result<(), Fail> {
-    assert_eq!(rt; first_wrong(rt.alloc(), ONE_LINE)?, "");
-    Ok(())
-}
-
-#[test]
-fn knows_no_other_line_where_no_command_is_open(rt: HostRuntime) -> Result<(), Fail> {
-    assert_eq!(rt; first_wrong(rt.alloc(), UNKNOWN)?, "");
-    Ok(())
-}
-
-#[test]
-fn reads_features_and_options_before_other_commands(rt: HostRuntime) -> Result<(), Fail> {
-    assert_eq!(rt; first_wrong(rt.alloc(), FEATURES)?, "");
-    Ok(())
+/// What the first case does that goes otherwise, and the row at which it does, or nothing.
+pub fn first_wrong(alloc: Global) -> Result<(&'static str, &'static str), Fail> {
+    first_wrong_case(alloc, CASES)
 }

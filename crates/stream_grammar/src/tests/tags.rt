@@ -1,6 +1,7 @@
 //! Tags, resets and aliases.
 
-use super::first_wrong;
+use super::{Case, first_wrong_case};
+use std::alloc::Global;
 use std::test::Fail;
 
 const TAGS: &[&str] = &[
@@ -185,20 +186,22 @@ const ALIASES: &[&str] = &[
     "END => 5",
 ];
 
-#[test]
-fn reads_tags(rt: HostRuntime) -> Result<(), Fail> {
-    assert_eq!(rt; first_wrong(rt.alloc(), TAGS)?, "");
-    Ok(())
-}
+const CASES: &[Case] = &[
+    Case {
+        does: "reads tags",
+        rows: TAGS,
+    },
+    Case {
+        does: "reads resets",
+        rows: RESETS,
+    },
+    Case {
+        does: "reads aliases",
+        rows: ALIASES,
+    },
+];
 
-#[test]
-fn reads_resets(rt: HostRuntime) -> Result<(), Fail> {
-    assert_eq!(rt; first_wrong(rt.alloc(), RESETS)?, "");
-    Ok(())
-}
-
-#[test]
-fn reads_aliases(rt: HostRuntime) -> Result<(), Fail> {
-    assert_eq!(rt; first_wrong(rt.alloc(), ALIASES)?, "");
-    Ok(())
+/// What the first case does that goes otherwise, and the row at which it does, or nothing.
+pub fn first_wrong(alloc: Global) -> Result<(&'static str, &'static str), Fail> {
+    first_wrong_case(alloc, CASES)
 }
