@@ -15,7 +15,7 @@ use tenant_refs::Refs;
 use tenant_tables::Table;
 
 // What a test does next with its stream.
-#[derive(Clone, Copy, Debug)]
+#[derive(Clone, Copy)]
 enum Step<'a> {
     Take(Item<'a>),
     Finish,
@@ -31,17 +31,215 @@ struct Left {
     given_up: (u64, u64),
 }
 
+// What a stream of steps does, in words, what is printed for it, and how it ends.
+struct Case {
+    does: &'static str,
+    steps: &'static [Step<'static>],
+    printed: &'static [u8],
+    left: Left,
+}
+
+// What is refused, in words and as steps, and the number of the last answer.
+struct Refusal {
+    refuses: &'static str,
+    steps: &'static [Step<'static>],
+    number: u16,
+}
+
 const BLOB: Step<'static> = Step::Take(Item::Line(b"blob"));
 
 const MARK: Step<'static> = Step::Take(Item::Line(b"mark :1"));
 
 const HELLO: Step<'static> = Step::Take(Item::Data(b"hello\n"));
 
+const OTHER: Step<'static> = Step::Take(Item::Data(b"other"));
+
 const DONE: Step<'static> = Step::Take(Item::Line(b"done"));
 
-fn line(text: &[u8]) -> Step<'_> {
-    Step::Take(Item::Line(text))
-}
+// How a stream ends that asks for nothing to be kept.
+const NOTHING: Left = Left {
+    number: 0,
+    is_done: false,
+    stored: (0, 0),
+    given_up: (0, 0),
+};
+
+// How a stream ends whose one blob, `hello` and a line feed, was not checkpointed.
+const HELLO_GIVEN_UP: Left = Left {
+    number: 0,
+    is_done: false,
+    stored: (1, 6),
+    given_up: (0, 0),
+};
+
+// How a stream ends at `Step::Finish` with that blob.
+const HELLO_KEPT: Left = Left {
+    number: 0,
+    is_done: false,
+    stored: (1, 6),
+    given_up: (1, 6),
+};
+
+const CASES: &[Case] = &[
+    Case {
+        does: "prints the name that a mark stands for as git does",
+        steps: &[BLOB, MARK, HELLO, Step::Take(Item::Line(b"get-mark :1"))],
+        printed: b"ce013625030ba8dba906f756967f9e9ca394464a\n",
+        left: HELLO_GIVEN_UP,
+    },
+    Case {
+        does: "prints the blob that a mark stands for as git does",
+        steps: &[BLOB, MARK, HELLO, Step::Take(Item::Line(b"cat-blob :1"))],
+        printed: b"ce013625030ba8dba906f756967f9e9ca394464a blob 6\nhello\n\n",
+        left: HELLO_GIVEN_UP,
+    },
+    Case {
+        does: "prints the empty blob as git does",
+        steps: &[
+            BLOB,
+            Step::Take(Item::Data(b"")),
+            Step::Take(Item::Line(b"cat-blob e69de29bb2d1d6434b8b29ae775ad8c2e48c5391")),
+        ],
+        printed: b"e69de29bb2d1d6434b8b29ae775ad8c2e48c5391 blob 0\n\n",
+        left: Left {
+            number: 0,
+            is_done: false,
+            stored: (1, 0),
+            given_up: (0, 0),
+        },
+    },
+    Case {
+        does: "prints that a blob is missing as git does",
+        steps: &[Step::Take(Item::Line(b"cat-blob ce013625030ba8dba906f756967f9e9ca394464a"))],
+        printed: b"ce013625030ba8dba906f756967f9e9ca394464a missing\n",
+        left: NOTHING,
+    },
+    Case {
+        does: "prints progress as git does",
+        steps: &[Step::Take(Item::Line(b"progress half way"))],
+        printed: b"progress half way\n",
+        left: NOTHING,
+    },
+    Case {
+        does: "passes items over behind done",
+        steps: &[
+            DONE,
+            BLOB,
+            HELLO,
+            Step::Take(Item::Line(b"no command")),
+            Step::Finish,
+        ],
+        printed: b"",
+        left: Left {
+            number: 0,
+            is_done: true,
+            stored: (0, 0),
+            given_up: (0, 0),
+        },
+    },
+    Case {
+        does: "gives up what was not checkpointed",
+        steps: &[BLOB, HELLO],
+        printed: b"",
+        left: HELLO_GIVEN_UP,
+    },
+    Case {
+        does: "keeps what was checkpointed at the end",
+        steps: &[BLOB, HELLO, Step::Finish],
+        printed: b"",
+        left: HELLO_KEPT,
+    },
+    Case {
+        does: "keeps what was checkpointed at done",
+        steps: &[BLOB, HELLO, DONE],
+        printed: b"",
+        left: Left {
+            number: 0,
+            is_done: true,
+            stored: (1, 6),
+            given_up: (1, 6),
+        },
+    },
+    Case {
+        does: "keeps what was checkpointed alone",
+        steps: &[BLOB, HELLO, Step::Finish, BLOB, OTHER],
+        printed: b"",
+        left: Left {
+            number: 0,
+            is_done: false,
+            stored: (2, 11),
+            given_up: (1, 6),
+        },
+    },
+];
+
+const REFUSALS: &[Refusal] = &[
+    Refusal {
+        refuses: "a commit",
+        steps: &[Step::Take(Item::Line(b"commit refs/heads/m"))],
+        number: 2,
+    },
+    Refusal {
+        refuses: "a reset",
+        steps: &[Step::Take(Item::Line(b"reset refs/heads/m"))],
+        number: 2,
+    },
+    Refusal {
+        refuses: "a checkpoint",
+        steps: &[Step::Take(Item::Line(b"checkpoint"))],
+        number: 2,
+    },
+    Refusal {
+        refuses: "a feature",
+        steps: &[Step::Take(Item::Line(b"feature done"))],
+        number: 2,
+    },
+    Refusal {
+        refuses: "a tag",
+        steps: &[Step::Take(Item::Line(b"tag .v"))],
+        number: 2,
+    },
+    Refusal {
+        refuses: "an option",
+        steps: &[Step::Take(Item::Line(b"option git quiet"))],
+        number: 2,
+    },
+    Refusal {
+        refuses: "a feature in the place of data",
+        steps: &[BLOB, Step::Take(Item::Line(b"feature done"))],
+        number: 5,
+    },
+    Refusal {
+        refuses: "the name of a mark that is not there",
+        steps: &[Step::Take(Item::Line(b"get-mark :1"))],
+        number: 13,
+    },
+    Refusal {
+        refuses: "the blob of a mark that is not there",
+        steps: &[Step::Take(Item::Line(b"cat-blob :1"))],
+        number: 13,
+    },
+    Refusal {
+        refuses: "another content of one name",
+        steps: &[
+            BLOB,
+            Step::Take(Item::Data(b"ab")),
+            BLOB,
+            Step::Take(Item::Data(b"ba")),
+        ],
+        number: 24,
+    },
+    Refusal {
+        refuses: "an unknown line",
+        steps: &[Step::Take(Item::Line(b"blobs"))],
+        number: 2,
+    },
+    Refusal {
+        refuses: "an end in the place of data",
+        steps: &[BLOB, Step::Finish],
+        number: 5,
+    },
+];
 
 // One step of the only stream over this pool.
 fn walk<N: Naming>(
@@ -89,101 +287,24 @@ fn run<N: Naming>(alloc: Global, naming: N, steps: &[Step<'_>], out: &mut Vec<u8
 }
 
 #[test]
-fn prints_what_git_prints(rt: HostRuntime) -> Result<(), Fail> {
-    let streams: [(&[Step<'_>], &[u8]); 5] = [
-        (
-            &[BLOB, MARK, HELLO, line(b"get-mark :1")],
-            b"ce013625030ba8dba906f756967f9e9ca394464a\n",
-        ),
-        (
-            &[BLOB, MARK, HELLO, line(b"cat-blob :1")],
-            b"ce013625030ba8dba906f756967f9e9ca394464a blob 6\nhello\n\n",
-        ),
-        (
-            &[
-                BLOB,
-                Step::Take(Item::Data(b"")),
-                line(b"cat-blob e69de29bb2d1d6434b8b29ae775ad8c2e48c5391"),
-            ],
-            b"e69de29bb2d1d6434b8b29ae775ad8c2e48c5391 blob 0\n\n",
-        ),
-        (
-            &[line(b"cat-blob ce013625030ba8dba906f756967f9e9ca394464a")],
-            b"ce013625030ba8dba906f756967f9e9ca394464a missing\n",
-        ),
-        (&[line(b"progress half way")], b"progress half way\n"),
-    ];
-    for (steps, printed) in streams {
+fn prints_and_keeps_what_git_does(rt: HostRuntime) -> Result<(), Fail> {
+    for case in CASES {
         let mut out = Vec::new(rt.alloc());
-        let left = run(rt.alloc(), Sha1Naming, steps, &mut out);
-        assert_eq!(rt; left.number, 0, "in {steps:?}");
-        assert_eq!(rt; out.as_slice(), printed, "in {steps:?}");
+        let left = run(rt.alloc(), Sha1Naming, case.steps, &mut out);
+        assert_eq!(rt; left, case.left, "{}", case.does);
+        assert_eq!(rt; out.as_slice(), case.printed, "{}", case.does);
     }
     Ok(())
 }
 
 #[test]
 fn refuses_by_number_and_prints_nothing(rt: HostRuntime) -> Result<(), Fail> {
-    let ab = Step::Take(Item::Data(b"ab"));
-    let ba = Step::Take(Item::Data(b"ba"));
-    let streams: [(&[Step<'_>], u16); 12] = [
-        (&[line(b"commit refs/heads/m")], 2),
-        (&[line(b"reset refs/heads/m")], 2),
-        (&[line(b"checkpoint")], 2),
-        (&[line(b"feature done")], 2),
-        (&[line(b"tag .v")], 2),
-        (&[line(b"option git quiet")], 2),
-        (&[BLOB, line(b"feature done")], 5),
-        (&[line(b"get-mark :1")], 13),
-        (&[line(b"cat-blob :1")], 13),
-        (&[BLOB, ab, BLOB, ba], 24),
-        (&[line(b"blobs")], 2),
-        (&[BLOB, Step::Finish], 5),
-    ];
-    for (steps, number) in streams {
+    for refusal in REFUSALS {
         let mut out = Vec::new(rt.alloc());
-        let left = run(rt.alloc(), TailNaming, steps, &mut out);
-        assert_eq!(rt; left.number, number, "in {steps:?}");
-        assert_eq!(rt; out.as_slice(), b"".as_slice(), "in {steps:?}");
-        assert_eq!(rt; left.given_up, (0, 0), "in {steps:?}");
-    }
-    Ok(())
-}
-
-#[test]
-fn passes_items_over_behind_done(rt: HostRuntime) -> Result<(), Fail> {
-    let mut out = Vec::new(rt.alloc());
-    let steps = [DONE, BLOB, HELLO, line(b"no command"), Step::Finish];
-    let left = run(rt.alloc(), Sha1Naming, &steps, &mut out);
-    let passed_over = Left {
-        number: 0,
-        is_done: true,
-        stored: (0, 0),
-        given_up: (0, 0),
-    };
-    assert_eq!(rt; left, passed_over);
-    assert_eq!(rt; out.as_slice(), b"".as_slice());
-    Ok(())
-}
-
-#[test]
-fn keeps_what_was_checkpointed(rt: HostRuntime) -> Result<(), Fail> {
-    let other = Step::Take(Item::Data(b"other"));
-    let streams: [(&[Step<'_>], (u64, u64), (u64, u64)); 4] = [
-        (&[BLOB, HELLO], (1, 6), (0, 0)),
-        (&[BLOB, HELLO, Step::Finish], (1, 6), (1, 6)),
-        (&[BLOB, HELLO, DONE], (1, 6), (1, 6)),
-        (&[BLOB, HELLO, Step::Finish, BLOB, other], (2, 11), (1, 6)),
-    ];
-    for (steps, stored, given_up) in streams {
-        let mut out = Vec::new(rt.alloc());
-        let left = run(rt.alloc(), Sha1Naming, steps, &mut out);
-        assert_eq!(rt; left.number, 0, "in {steps:?}");
-        assert_eq!(rt;
-            (left.stored, left.given_up),
-            (stored, given_up),
-            "in {steps:?}"
-        );
+        let left = run(rt.alloc(), TailNaming, refusal.steps, &mut out);
+        let ended = (left.number, left.given_up);
+        assert_eq!(rt; ended, (refusal.number, (0, 0)), "{}", refusal.refuses);
+        assert_eq!(rt; out.as_slice(), b"".as_slice(), "{}", refusal.refuses);
     }
     Ok(())
 }
