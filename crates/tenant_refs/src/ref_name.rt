@@ -87,50 +87,72 @@ impl RefName {
 #[cfg(test)]
 mod tests {
     use crate::{RefName, RefNameFault};
+    use std::alloc::Global;
     use std::test::Fail;
 
-    #[test]
-    fn reads_a_ref_name_or_head(rt: HostRuntime) -> Result<(), Fail> {
-        let main = RefName::read(rt.alloc(), b"refs/heads/main")?;
-        assert_eq!(rt; main.as_bytes(), b"refs/heads/main".as_slice());
-        assert!(rt; main.try_clone(rt.alloc())? == main);
-        assert!(rt; !main.is_head());
-        assert!(rt; RefName::read(rt.alloc(), b"HEAD")?.is_head());
-        assert!(rt; RefName::read(rt.alloc(), b"refs/heads/mailn")? < main);
-        Ok(())
+    // The front of a name, how often `x` stands behind it, its end, and the number of the answer.
+    const NAMES: &[(&[u8], usize, &[u8], u16)] = &[
+        (b"refs/heads/main", 0, b"", 0),
+        (b"HEAD", 0, b"", 0),
+        (b"refs/heads/", 1013, b"", 0),
+        (b"refs/heads/", 1014, b"", 25),
+        (b"refs/heads/", 1014, b"~", 11),
+        (b"refs/namespaces/a/refs/heads/m", 0, b"", 11),
+        (b"head", 0, b"", 11),
+        (b"main", 0, b"", 11),
+    ];
+
+    fn text_of(alloc: Global, front: &[u8], count: usize, end: &[u8]) -> Result<Vec<u8>, Fail> {
+        let mut text = Vec::from_slice(alloc, front)?;
+        for _ in 0..count {
+            text.push(b'x')?;
+        }
+        text.extend_from_slice(end)?;
+        Ok(text)
+    }
+
+    // The number of the answer to this text, 0 where it is read.
+    fn code_of(alloc: Global, text: &[u8]) -> u16 {
+        match RefName::read(alloc, text) {
+            Ok(_) => 0,
+            Err(fault) => fault.code(),
+        }
+    }
+
+    // Whether a name is read with its bytes, is as its copy, and is HEAD or no HEAD.
+    fn reads(alloc: Global, text: &[u8], is_head: bool) -> Result<bool, Fail> {
+        let name = RefName::read(alloc, text)?;
+        let copy = name.try_clone(alloc)?;
+        Ok(name.as_bytes() == text && copy == name && name.is_head() == is_head)
+    }
+
+    fn is_before(alloc: Global, first: &[u8], second: &[u8]) -> Result<bool, Fail> {
+        let first = RefName::read(alloc, first)?;
+        let second = RefName::read(alloc, second)?;
+        Ok(first < second)
     }
 
     #[test]
     fn refuses_what_is_no_ref_name_before_what_is_too_long(rt: HostRuntime) -> Result<(), Fail> {
-        let mut text = Vec::from_slice(rt.alloc(), b"refs/heads/")?;
-        for _ in 0..1013 {
-            text.push(b'x')?;
-        }
-        assert!(rt; RefName::read(rt.alloc(), &text).is_ok());
-        text.push(b'x')?;
-        assert!(rt; matches!(RefName::read(rt.alloc(), &text), Err(RefNameFault::Limit)));
-        text.push(b'~')?;
-        assert!(rt;
-            matches!(
-                RefName::read(rt.alloc(), &text),
-                Err(RefNameFault::BadRefName)
-            )
-        );
-        for bad in [
-            b"refs/namespaces/a/refs/heads/m".as_slice(),
-            b"head",
-            b"main",
-        ] {
-            assert!(rt;
-                matches!(
-                    RefName::read(rt.alloc(), bad),
-                    Err(RefNameFault::BadRefName)
-                )
+        for (front, count, end, code) in NAMES {
+            let text = text_of(rt.alloc(), front, *count, end)?;
+            assert_eq!(rt;
+                code_of(rt.alloc(), &text),
+                *code,
+                "{front:?} {count} {end:?}"
             );
         }
-        assert_eq!(rt; RefNameFault::BadRefName.code(), 11);
-        assert_eq!(rt; RefNameFault::Limit.code(), 25);
-        assert_eq!(rt; RefNameFault::Memory.code(), 90);
+        let bad = RefNameFault::BadRefName.code();
+        let long = RefNameFault::Limit.code();
+        assert_eq!(rt; (bad, long, RefNameFault::Memory.code()), (11, 25, 90));
+        Ok(())
+    }
+
+    #[test]
+    fn reads_a_ref_name_or_head(rt: HostRuntime) -> Result<(), Fail> {
+        assert!(rt; reads(rt.alloc(), b"refs/heads/main", false)?);
+        assert!(rt; reads(rt.alloc(), b"HEAD", true)?);
+        assert!(rt; is_before(rt.alloc(), b"refs/heads/mailn", b"refs/heads/main")?);
         Ok(())
     }
 }

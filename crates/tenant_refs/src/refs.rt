@@ -190,60 +190,86 @@ fn copied_head(alloc: Global, head: &Option<RefName>) -> Result<Option<RefName>,
 #[cfg(test)]
 mod tests {
     use crate::{Name, RefName, Refs};
+    use std::alloc::Global;
     use std::test::Fail;
 
-    fn set(rt: &HostRuntime, refs: &mut Refs, text: &[u8], byte: u8) -> Result<(), Fail> {
-        let ref_name = RefName::read(rt.alloc(), text)?;
-        refs.set(&ref_name, Name::from_bytes([byte; 20]))?;
-        Ok(())
+    // Refs in the order in which they are set, each with the byte that its target is made of.
+    const SET: &[(&[u8], u8)] = &[
+        (b"refs/heads/a0", 1),
+        (b"refs/heads/a/b", 2),
+        (b"refs/heads/a-b", 3),
+        (b"refs/heads/a", 4),
+        (b"refs/heads/a0", 5),
+    ];
+
+    // The same refs in the order in which they are listed.
+    const LISTED: &[(&[u8], u8)] = &[
+        (b"refs/heads/a", 4),
+        (b"refs/heads/a-b", 3),
+        (b"refs/heads/a/b", 2),
+        (b"refs/heads/a0", 5),
+    ];
+
+    const MAIN_AND_TAG: &[(&[u8], u8)] = &[(b"refs/heads/m", 1), (b"refs/tags/v", 2)];
+
+    fn refs_of(alloc: Global, rows: &[(&[u8], u8)]) -> Result<Refs, Fail> {
+        let mut refs = Refs::new(alloc);
+        for (text, byte) in rows {
+            let ref_name = RefName::read(alloc, text)?;
+            refs.set(&ref_name, Name::from_bytes([*byte; 20]))?;
+        }
+        Ok(refs)
+    }
+
+    // Whether the ref that is listed there has this name and this target.
+    fn lists(refs: &Refs, position: usize, text: &[u8], byte: u8) -> bool {
+        let target = Name::from_bytes([byte; 20]);
+        refs.at(position) == Some((text, target)) && refs.get(text) == Some(target)
+    }
+
+    // A copy without the branch `m`, which its HEAD then names.
+    fn changed_copy(alloc: Global, refs: &Refs) -> Result<Refs, Fail> {
+        let mut changed = refs.copy()?;
+        changed.remove(b"refs/heads/m");
+        changed.remove(b"refs/heads/none");
+        changed.set_head(RefName::read(alloc, b"refs/heads/m")?);
+        Ok(changed)
+    }
+
+    // Whether these refs are listed first, in this order.
+    fn lists_all(refs: &Refs, rows: &[(&[u8], u8)]) -> bool {
+        for (position, (text, byte)) in rows.iter().enumerate() {
+            if !lists(refs, position, text, *byte) {
+                return false;
+            }
+        }
+        true
     }
 
     #[test]
     fn lists_refs_by_their_bytes(rt: HostRuntime) -> Result<(), Fail> {
-        let mut refs = Refs::new(rt.alloc());
-        assert!(rt; refs.is_empty());
-        assert_eq!(rt; refs.head(), b"refs/heads/main".as_slice());
-        for (text, byte) in [
-            (b"refs/heads/a0".as_slice(), 1),
-            (b"refs/heads/a/b", 2),
-            (b"refs/heads/a-b", 3),
-            (b"refs/heads/a", 4),
-            (b"refs/heads/a0", 5),
-        ] {
-            set(&rt, &mut refs, text, byte)?;
-        }
+        let none = Refs::new(rt.alloc());
+        assert!(rt; none.is_empty() && none.head() == b"refs/heads/main".as_slice());
+        let refs = refs_of(rt.alloc(), SET)?;
+        assert!(rt; lists_all(&refs, LISTED));
         assert_eq!(rt; refs.len(), 4);
-        let order = [
-            (b"refs/heads/a".as_slice(), 4),
-            (b"refs/heads/a-b", 3),
-            (b"refs/heads/a/b", 2),
-            (b"refs/heads/a0", 5),
-        ];
-        for (position, (text, byte)) in order.iter().enumerate() {
-            let target = Name::from_bytes([*byte; 20]);
-            assert!(rt; refs.at(position) == Some((*text, target)));
-            assert!(rt; refs.get(text) == Some(target));
-        }
-        assert!(rt; refs.at(4) == None);
-        assert!(rt; refs.get(b"refs/heads/b") == None);
+        assert!(rt; refs.at(4) == None && refs.get(b"refs/heads/b") == None);
         Ok(())
     }
 
     #[test]
     fn changes_a_copy_alone(rt: HostRuntime) -> Result<(), Fail> {
-        let mut refs = Refs::new(rt.alloc());
-        set(&rt, &mut refs, b"refs/heads/m", 1)?;
-        set(&rt, &mut refs, b"refs/tags/v", 2)?;
-        let mut copy = refs.copy()?;
-        copy.remove(b"refs/heads/m");
-        copy.remove(b"refs/heads/none");
-        copy.set_head(RefName::read(rt.alloc(), b"refs/heads/m")?);
-        assert_eq!(rt; copy.len(), 1);
-        assert!(rt; copy.at(0) == Some((b"refs/tags/v".as_slice(), Name::from_bytes([2; 20]))));
-        assert_eq!(rt; copy.head(), b"refs/heads/m".as_slice());
-        assert_eq!(rt; copy.copy()?.head(), b"refs/heads/m".as_slice());
-        assert_eq!(rt; refs.len(), 2);
-        assert_eq!(rt; refs.head(), b"refs/heads/main".as_slice());
+        let refs = refs_of(rt.alloc(), MAIN_AND_TAG)?;
+        let copy = changed_copy(rt.alloc(), &refs)?;
+        assert!(rt; lists(&copy, 0, b"refs/tags/v", 2));
+        let copied = copy.copy()?;
+        let seen = (copy.len(), copy.head(), copied.head());
+        let head = b"refs/heads/m".as_slice();
+        assert_eq!(rt; seen, (1, head, head));
+        assert_eq!(rt;
+            (refs.len(), refs.head()),
+            (2, b"refs/heads/main".as_slice())
+        );
         Ok(())
     }
 }

@@ -112,51 +112,64 @@ impl TenantName {
 #[cfg(test)]
 mod tests {
     use crate::{TenantName, TenantNameFault, is_tenant_name};
+    use std::alloc::Global;
     use std::test::Fail;
+
+    const JUDGED: &[(&[u8], bool)] = &[
+        (b"a", true),
+        (b"a/b", true),
+        (b"A-z_09", true),
+        (b"_", true),
+        (b"0/1/2", true),
+        (b"", false),
+        (b"a/", false),
+        (b"/a", false),
+        (b"a//b", false),
+        (b"-a", false),
+        (b"a/-b", false),
+        (b"a.b", false),
+        (b"a b", false),
+        (b"caf\xc3\xa9", false),
+        (b"a\n", false),
+    ];
+
+    // Whether `a/b` with so many `x` behind it is a tenant name.
+    fn takes_so_many_more(alloc: Global, count: usize) -> Result<bool, Fail> {
+        let mut text = Vec::from_slice(alloc, b"a/b")?;
+        for _ in 0..count {
+            text.push(b'x')?;
+        }
+        Ok(is_tenant_name(&text))
+    }
+
+    // Whether a name is read with its bytes, is as its copy, and comes behind another name.
+    fn reads_behind(alloc: Global, text: &[u8], earlier: &[u8]) -> Result<bool, Fail> {
+        let name = TenantName::read(alloc, text)?;
+        let copy = name.try_clone(alloc)?;
+        let earlier = TenantName::read(alloc, earlier)?;
+        Ok(name.as_bytes() == text && copy == name && earlier < name)
+    }
+
+    fn code_of(alloc: Global, text: &[u8]) -> u16 {
+        match TenantName::read(alloc, text) {
+            Ok(_) => 0,
+            Err(fault) => fault.code(),
+        }
+    }
 
     #[test]
     fn judges_tenant_names_by_their_parts(rt: HostRuntime) {
-        let well: [&[u8]; 5] = [b"a", b"a/b", b"A-z_09", b"_", b"0/1/2"];
-        for text in well {
-            assert!(rt; is_tenant_name(text));
-        }
-        let bad: [&[u8]; 10] = [
-            b"",
-            b"a/",
-            b"/a",
-            b"a//b",
-            b"-a",
-            b"a/-b",
-            b"a.b",
-            b"a b",
-            b"caf\xc3\xa9",
-            b"a\n",
-        ];
-        for text in bad {
-            assert!(rt; !is_tenant_name(text));
+        for (text, is_well) in JUDGED {
+            assert_eq!(rt; is_tenant_name(text), *is_well, "{text:?}");
         }
     }
 
     #[test]
-    fn takes_64_bytes_in_all(rt: HostRuntime) -> Result<(), Fail> {
-        let mut text = Vec::from_slice(rt.alloc(), b"a/b")?;
-        for _ in 0..61 {
-            text.push(b'x')?;
-        }
-        assert!(rt; is_tenant_name(&text));
-        text.push(b'x')?;
-        assert!(rt; !is_tenant_name(&text));
-        Ok(())
-    }
-
-    #[test]
-    fn reads_a_tenant_name(rt: HostRuntime) -> Result<(), Fail> {
-        let name = TenantName::read(rt.alloc(), b"team/a")?;
-        assert_eq!(rt; name.as_bytes(), b"team/a".as_slice());
-        assert!(rt; name.try_clone(rt.alloc())? == name);
-        assert!(rt; TenantName::read(rt.alloc(), b"team")? < name);
-        let refused = TenantName::read(rt.alloc(), b"a//b");
-        assert!(rt; matches!(&refused, Err(TenantNameFault::BadTenantName)));
+    fn reads_a_tenant_name_of_64_bytes_in_all(rt: HostRuntime) -> Result<(), Fail> {
+        assert!(rt; takes_so_many_more(rt.alloc(), 61)?);
+        assert!(rt; !takes_so_many_more(rt.alloc(), 62)?);
+        assert!(rt; reads_behind(rt.alloc(), b"team/a", b"team")?);
+        assert_eq!(rt; code_of(rt.alloc(), b"a//b"), 32);
         assert_eq!(rt; TenantNameFault::BadTenantName.code(), 32);
         assert_eq!(rt; TenantNameFault::Memory.code(), 90);
         Ok(())
