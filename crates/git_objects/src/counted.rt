@@ -115,39 +115,64 @@ impl<W: Write> Counted<W> {
 #[cfg(test)]
 mod tests {
     use crate::{Counted, FailingReader, FailingWriter};
+    use std::io;
+    use std::io::{Read, Write};
+
+    // What is written in turn, and how many bytes of it are taken, none where the call fails.
+    type Writes<'a> = &'a [(&'a [u8], Option<usize>)];
+
+    const TO_A_FAILING_WRITER: Writes<'static> = &[
+        (b"hello", Some(1)),
+        (b"ello", Some(1)),
+        (b"llo", None),
+    ];
+
+    // A slice takes what it has room for, and then nothing.
+    const TO_TWO_BYTES: Writes<'static> = &[(b"abc", Some(2)), (b"c", Some(0)), (b"", Some(0))];
+
+    fn count_of(answer: io::Result<usize>) -> Option<usize> {
+        match answer {
+            Ok(count) => Some(count),
+            Err(_) => None,
+        }
+    }
+
+    // Whether reads of three bytes each give so many.
+    fn gives<R: Read>(reader: &mut Counted<R>, counts: &[Option<usize>]) -> bool {
+        for count in counts {
+            let mut buf = [0; 3];
+            if count_of(reader.read(&mut buf)) != *count {
+                return false;
+            }
+        }
+        true
+    }
+
+    fn takes<W: Write>(writer: &mut Counted<W>, writes: Writes<'_>) -> bool {
+        for (bytes, count) in writes {
+            if count_of(writer.write(bytes)) != *count {
+                return false;
+            }
+        }
+        true
+    }
 
     #[test]
     fn counts_the_reads_that_fail_and_the_bytes(rt: HostRuntime) {
         let mut reader = Counted::new(FailingReader::new(&b"hello"[..], 2));
-        let mut buf = [0; 3];
-        assert!(rt; matches!(reader.read(&mut buf), Ok(3)));
-        assert!(rt; matches!(reader.read(&mut buf), Ok(2)));
-        assert!(rt; reader.read(&mut buf).is_err());
-        assert!(rt; reader.read(&mut buf).is_err());
-        assert!(rt; reader.faults() == 2);
-        assert!(rt; reader.passed() == 5);
+        assert!(rt; gives(&mut reader, &[Some(3), Some(2), None, None]));
+        assert!(rt; reader.faults() == 2 && reader.passed() == 5);
     }
 
     #[test]
-    fn counts_the_writes_that_fail_and_the_bytes(rt: HostRuntime) {
+    fn counts_the_writes_that_fail_or_take_nothing_and_the_bytes(rt: HostRuntime) {
         let mut writer = Counted::new(FailingWriter::new(Vec::new(rt.alloc()), 2));
-        assert!(rt; matches!(writer.write(b"hello"), Ok(1)));
-        assert!(rt; matches!(writer.write(b"ello"), Ok(1)));
-        assert!(rt; writer.write(b"llo").is_err());
-        assert!(rt; writer.faults() == 1);
-        assert!(rt; writer.passed() == 2);
+        assert!(rt; takes(&mut writer, TO_A_FAILING_WRITER));
+        assert!(rt; writer.faults() == 1 && writer.passed() == 2);
         assert!(rt; writer.into_inner().into_inner().as_slice() == b"he".as_slice());
-    }
-
-    // A slice takes what it has room for, and then nothing.
-    #[test]
-    fn counts_a_write_that_takes_nothing(rt: HostRuntime) {
         let mut room = [0; 2];
         let mut writer = Counted::new(&mut room[..]);
-        assert!(rt; matches!(writer.write(b"abc"), Ok(2)));
-        assert!(rt; matches!(writer.write(b"c"), Ok(0)));
-        assert!(rt; matches!(writer.write(b""), Ok(0)));
-        assert!(rt; writer.faults() == 1);
-        assert!(rt; writer.passed() == 2);
+        assert!(rt; takes(&mut writer, TO_TWO_BYTES));
+        assert!(rt; writer.faults() == 1 && writer.passed() == 2);
     }
 }

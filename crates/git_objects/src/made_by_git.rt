@@ -243,25 +243,15 @@ fn is_same_tag(alloc: Global, made: &Made) -> Result<bool, Memory> {
 }
 
 #[test]
-fn reads_and_writes_the_commits_of_git(rt: HostRuntime) -> Result<(), Fail> {
+fn reads_and_writes_what_git_made(rt: HostRuntime) -> Result<(), Fail> {
     for made in &COMMITS {
         assert!(rt; is_same_commit(rt.alloc(), made)?);
         assert!(rt; is_named_so(rt.alloc(), Kind::Commit, made)?);
     }
-    Ok(())
-}
-
-#[test]
-fn reads_and_writes_the_trees_of_git(rt: HostRuntime) -> Result<(), Fail> {
     for made in &TREES {
         assert!(rt; is_same_tree(rt.alloc(), made)?);
         assert!(rt; is_named_so(rt.alloc(), Kind::Tree, made)?);
     }
-    Ok(())
-}
-
-#[test]
-fn reads_and_writes_the_tags_of_git(rt: HostRuntime) -> Result<(), Fail> {
     for made in &TAGS {
         assert!(rt; is_same_tag(rt.alloc(), made)?);
         assert!(rt; is_named_so(rt.alloc(), Kind::Tag, made)?);
