@@ -44,7 +44,7 @@ const BAD: &[(&[u8], u64)] = &[
     (b"\x04\0\0\xff\xff\xff\xffx", 7),
 ];
 
-// An answer to the state `x` and a line feed, and its bytes.
+// An answer whose reply is `x` and a line feed, and its bytes.
 const TOLD: &[(Answer, &[u8])] = &[
     (Answer::Ok, b"\0\0\0\0\0\0\0\0\0\0\0\0\0\0\0\0\x02x\n"),
     (

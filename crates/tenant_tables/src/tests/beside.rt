@@ -1,10 +1,27 @@
 //! A table and a plain table, each over a pool of its own, that are taken through the same steps.
 
+use super::told;
 use crate::{Fault, PlainTable, Sight, Table};
 use content_pool::Pool;
-use git_objects::{Kind, Name, Naming};
+use git_objects::{Kind, Memory, Name, Naming, TailNaming};
 use std::alloc::Global;
 use std::marker::Model;
+
+/// What is done to both, or how many objects they then have.
+#[derive(Clone, Copy)]
+pub enum Step<'a> {
+    Add(&'a [u8]),
+    Commit,
+    RollBack,
+    Length(usize),
+}
+
+/// The first of these steps, by its place, that goes otherwise, or that the two answer otherwise
+/// or are not alike after.
+pub fn first_unlike(alloc: Global, steps: &[Step<'_>]) -> Result<Option<usize>, Memory> {
+    let mut beside = Beside::new(alloc, TailNaming, TailNaming);
+    beside.first_unlike(steps)
+}
 
 /// The two, which nobody else shares a pool with.
 #[derive(Drop)]
@@ -35,6 +52,38 @@ impl<N: Naming> Beside<N> {
             plain_pool: Pool::new(alloc, again),
             plain: PlainTable::new(alloc),
         }
+    }
+
+    // Apart from the function that owns the two: each way out of an owner makes its proof longer.
+    fn first_unlike(&mut self, steps: &[Step<'_>]) -> Result<Option<usize>, Memory> {
+        for (place, step) in steps.iter().enumerate() {
+            if !self.stays_alike(step)? {
+                return Ok(Some(place));
+            }
+        }
+        Ok(None)
+    }
+
+    // Whether a step goes as it says, and leaves both alike.
+    fn stays_alike(&mut self, step: &Step<'_>) -> Result<bool, Memory> {
+        let goes = self.takes(step)?;
+        Ok(goes && self.are_alike())
+    }
+
+    fn takes(&mut self, step: &Step<'_>) -> Result<bool, Memory> {
+        match step {
+            Step::Add(bytes) => return self.answers_alike(bytes),
+            Step::Commit => self.commit(),
+            Step::RollBack => self.roll_back(),
+            Step::Length(count) => return Ok(self.len() == *count),
+        }
+        Ok(true)
+    }
+
+    // Whether both answer the same when these bytes are added.
+    fn answers_alike(&mut self, bytes: &[u8]) -> Result<bool, Memory> {
+        let (answer, plain) = self.add(bytes);
+        Ok(told(answer)? == told(plain)?)
     }
 
     pub fn add(&mut self, bytes: &[u8]) -> (Result<Name, Fault>, Result<Name, Fault>) {

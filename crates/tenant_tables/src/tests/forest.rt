@@ -41,10 +41,6 @@ impl<N: Naming> Forest<N> {
         }
     }
 
-    pub fn table(&self) -> &Table {
-        &self.table
-    }
-
     pub fn add_blob(&mut self, bytes: &[u8]) -> Result<Name, Fault> {
         self.table.add(&mut self.pool, Kind::Blob, bytes)
     }
@@ -64,5 +60,22 @@ impl<N: Naming> Forest<N> {
         write_tree(entries, &mut contents)?;
         self.table
             .add_tree(&mut self.pool, contents.as_slice(), summary)
+    }
+
+    /// Whether the table has these objects and no other, in this order: digits and summaries.
+    pub fn holds(&self, objects: &[(&[u8; 40], Option<Summary>)]) -> bool {
+        for (place, (digits, summary)) in objects.iter().enumerate() {
+            if !self.has_at(place, *digits, *summary) {
+                return false;
+            }
+        }
+        self.table.len() == objects.len()
+    }
+
+    fn has_at(&self, place: usize, digits: &[u8; 40], summary: Option<Summary>) -> bool {
+        let Some((id, _)) = self.table.at(place) else {
+            return false;
+        };
+        id.to_hex() == *digits && self.table.summary(&id) == summary
     }
 }
