@@ -27,7 +27,7 @@ use Rattle.gitpool.specs.declared.import_fault.ImportFault.{ImportFault}
 use Rattle.gitpool.specs.declared.import_fault.ImportFault.TheVariants as fault
 use Rattle.gitpool.specs.Carrying.{Between, Carries, Advances, Goes, Ends, EndsAs, Fails, Feeds, HasAmpleRoom, Stops, IsDrained, new_stream, outcome_behind, stream_in}
 use Rattle.gitpool.specs.ImportFaults.{as_import}
-use Rattle.gitpool.specs.Import.{IsImported, IsGivenUp, IsStopped, IsDevice, IsSettled, Imports, outcome_of, end_fault}
+use Rattle.gitpool.specs.Import.{IsImported, IsGivenUp, IsStopped, IsDevice, IsSettled, AsksForMore, Imports, outcome_of, end_fault}
 use Rattle.gitpool.specs.Alone.{stream_of}
 use Rattle.gitpool.specs.Holding.{empty_repository}
 use Rattle.gitpool.specs.Importing.{Importing, running_of, IsNewImport, IsReady, Passes, IsRefusedWith, IsWrittenFront, PassesOn, EndsImport}
@@ -192,6 +192,7 @@ imported_done digest r0 r w0 w i count r' w' i' piece s reads p done = record {
       (Appends-trans w0.known w.known w'.known s.replies p.replies s.written p.written);
   ended = ap (λ (o : Outcome). (finished o.standing).fault) whole ∙ rw done refl;
   last = inr (λ more. settled more ∙ sym whole);
+  well = reads.well ∙ s.faults;
 }
   where
     settled : (more : List ℕ) → outcome_of digest ((s.bytes ++ piece) ++ more)
@@ -219,6 +220,7 @@ imported_refused digest r0 r w0 w i count r' w' piece code s reads p = record {
       (Appends-trans w0.known w.known w'.known s.replies p.replies s.written p.written);
   ended = ap (λ (o : Outcome). (finished o.standing).fault) whole;
   last = inr (λ more. settled more ∙ sym whole);
+  well = reads.well ∙ s.faults;
 }
   where
     settled : (more : List ℕ) → outcome_of digest ((s.bytes ++ piece) ++ more)
@@ -253,54 +255,55 @@ stopped digest r0 r w0 w i count r' w' piece s reads f = record {
 pub unwritten : (digest : List ℕ → List ℕ) (r0 r w0 w : Device) (i : Importing) (count : ℕ) (r' w' : Device) (piece : List ℕ)
     → SoFar digest r0 r w0 w i count → HasReadWell r r' piece
     → IsWrittenFront digest i piece w w' × HasFault w.faults w'.faults
-    → IsGivenUp digest r0 r' w0 w' × IsDevice r0 r' w0 w'
+    → IsGivenUp digest r0 r' w0 w'
 unwritten digest r0 r w0 w i count r' w' piece s reads f =
-    let blamed : HasFault w0.faults w'.faults = subst (λ (n : ℕ). HasFault n w'.faults) s.well f.1 in (
-      record {
-        bytes = s.bytes ++ piece;
-        read = HasRead-trans r0 r r' s.bytes piece s.read reads.read;
-        written = front_behind digest r0 r w0 w i count w' piece s f.0;
-        whole = inl blamed;
-      },
-      inr (inl blamed),
-    )
+    let blamed : HasFault w0.faults w'.faults = subst (λ (n : ℕ). HasFault n w'.faults) s.well f.1 in
+    record {
+      bytes = s.bytes ++ piece;
+      read = HasRead-trans r0 r r' s.bytes piece s.read reads.read;
+      written = front_behind digest r0 r w0 w i count w' piece s f.0;
+      whole = inl blamed;
+      blamed = inr (inl blamed);
+    }
 
 -- all replies to what was read stand written
 all_written : (digest : List ℕ → List ℕ) (r0 r w0 w : Device) (i : Importing) (count : ℕ) (r' : Device)
-    (s : SoFar digest r0 r w0 w i count) → HasRead r0 r' s.bytes → IsGivenUp digest r0 r' w0 w
-all_written digest r0 r w0 w i count r' s had =
+    (s : SoFar digest r0 r w0 w i count) → HasRead r0 r' s.bytes → IsDevice digest s.bytes r0 r' w0 w
+    → IsGivenUp digest r0 r' w0 w
+all_written digest r0 r w0 w i count r' s had blamed =
     let replies = ap (λ (o : Outcome). o.replies) (whole_so_far digest r0 r w0 w i count s) in
     record {
       bytes = s.bytes;
       read = had;
       written = record { front = s.replies; rest = []; parts = replies ∙ sym (append-nil s.replies); appends = s.written };
       whole = inr (subst (λ (l : List ℕ). Appends w0.known w.known l) (sym replies) s.written);
+      blamed = blamed;
     }
 
 -- a read failed
 pub unread : (digest : List ℕ → List ℕ) (r0 r w0 w : Device) (i : Importing) (count : ℕ) (r' : Device)
     → SoFar digest r0 r w0 w i count → Keeps r.known r'.known → r'.passed ≡ r.passed → r'.faults ≡ counted_on r.faults 1
-    → IsGivenUp digest r0 r' w0 w × IsDevice r0 r' w0 w
+    → IsGivenUp digest r0 r' w0 w
 unread digest r0 r w0 w i count r' s keeps passed failed =
-    (all_written digest r0 r w0 w i count r' s (HasRead-kept r0 r r' s.bytes s.read keeps passed), inl blamed)
+    all_written digest r0 r w0 w i count r' s (HasRead-kept r0 r r' s.bytes s.read keeps passed)
+    (inl (blamed, subst (λ (o : Outcome). AsksForMore o.standing) (sym (whole_so_far digest r0 r w0 w i count s)) s.running))
   where
     blamed : HasFault r0.faults r'.faults
     blamed below = let same = s.faults in omega (arith, below, same, failed)
 
 -- the reader never ends
 pub endless : (digest : List ℕ → List ℕ) (r0 r w0 w : Device) (i : Importing) (count : ℕ)
-    → SoFar digest r0 r w0 w i count → 2 ^ 32 ≤ count → IsGivenUp digest r0 r w0 w × IsDevice r0 r w0 w
-endless digest r0 r w0 w i count s all =
-    (all_written digest r0 r w0 w i count r s s.read, inr (inr bound))
+    → SoFar digest r0 r w0 w i count → 2 ^ 32 ≤ count → IsGivenUp digest r0 r w0 w
+endless digest r0 r w0 w i count s all = all_written digest r0 r w0 w i count r s s.read (inr (inr bound))
   where
     bound : min (r0.passed + 2 ^ 32) (2 ^ 64 - 1) ≤ r.passed
     bound = let p = s.read.passed in let n = s.enough in omega (arith, p, n, all)
 
 -- the end of the input
 ends_as : (digest : List ℕ → List ℕ) (r0 r w0 w : Device) (i : Importing) (count : ℕ) (r' : Device) (end : Option ℕ)
-    → SoFar digest r0 r w0 w i count → Consumes r.known r'.known [] → IsAtEnd r'.known → r'.passed ≡ counted_on r.passed 0
+    → SoFar digest r0 r w0 w i count → Consumes r.known r'.known [] → IsAtEnd r'.known → r'.passed ≡ counted_on r.passed 0 → r'.faults ≡ r.faults
     → (finished (Runs (running_of i) i.between.tail)).fault ≡ end → IsImported digest r0 r' w0 w end
-ends_as digest r0 r w0 w i count r' end s consumed at_end passed ended =
+ends_as digest r0 r w0 w i count r' end s consumed at_end passed well ended =
     let whole = whole_so_far digest r0 r w0 w i count s in
     record {
       bytes = s.bytes;
@@ -309,17 +312,18 @@ ends_as digest r0 r w0 w i count r' end s consumed at_end passed ended =
       written = subst (λ (l : List ℕ). Appends w0.known w.known l) (sym (ap (λ (o : Outcome). o.replies) whole)) s.written;
       ended = ap (λ (o : Outcome). (finished o.standing).fault) whole ∙ ended;
       last = inl at_end;
+      well = well ∙ s.faults;
     }
 
 pub imported_end : (digest : List ℕ → List ℕ) (r0 r w0 w : Device) (i : Importing) (count : ℕ) (r' : Device) (result : Result Unit ImportFault)
-    → SoFar digest r0 r w0 w i count → Consumes r.known r'.known [] → IsAtEnd r'.known → r'.passed ≡ counted_on r.passed 0
+    → SoFar digest r0 r w0 w i count → Consumes r.known r'.known [] → IsAtEnd r'.known → r'.passed ≡ counted_on r.passed 0 → r'.faults ≡ r.faults
     → EndsImport i result → Imports digest r0 r' w0 w result
-imported_end digest r0 r w0 w i count r' (Ok u) s consumed at_end passed ended =
-    ends_as digest r0 r w0 w i count r' None s consumed at_end passed ended
-imported_end digest r0 r w0 w i count r' (Err (fault.Stream code)) s consumed at_end passed ended =
-    ends_as digest r0 r w0 w i count r' (Some code) s consumed at_end passed ended
-imported_end digest r0 r w0 w i count r' (Err fault.Device) s consumed at_end passed ended = absurd ended
-imported_end digest r0 r w0 w i count r' (Err fault.Memory) s consumed at_end passed ended = absurd ended
+imported_end digest r0 r w0 w i count r' (Ok u) s consumed at_end passed well ended =
+    ends_as digest r0 r w0 w i count r' None s consumed at_end passed well ended
+imported_end digest r0 r w0 w i count r' (Err (fault.Stream code)) s consumed at_end passed well ended =
+    ends_as digest r0 r w0 w i count r' (Some code) s consumed at_end passed well ended
+imported_end digest r0 r w0 w i count r' (Err fault.Device) s consumed at_end passed well ended = absurd ended
+imported_end digest r0 r w0 w i count r' (Err fault.Memory) s consumed at_end passed well ended = absurd ended
 
 -- what came of a piece that did not pass
 pub imported_piece : (digest : List ℕ → List ℕ) (r0 r w0 w : Device) (i : Importing) (count : ℕ) (r' w' : Device) (i' : Importing) (piece : List ℕ)

@@ -14,10 +14,10 @@ use Rattle.step_frames.specs.declared.answer.Answer.{Answer}
 use Rattle.gitpool.specs.declared.reply.Reply.{Reply}
 use Rattle.step_frames.specs.declared.step.Step.{Step}
 use Rattle.step_frames.specs.declared.step.Step.TheVariants as step
-use Rattle.gitpool.specs.Alone.{Call, State, Turn, added, run_alone}
+use Rattle.gitpool.specs.Alone.{Call, State, Closed, Turn, added, run_alone}
 use Rattle.gitpool.specs.Headline.{Told, told_by, told_in, Run, concerns, call_of, stop_told, part_of, steps_of, told_to, told_alone, left_alone, IsItsOwn, IsRefused, told_by_reply, told_since, run_of}
 use Rattle.gitpool.specs.Holding.{Holding, Holdings, Idle, LeadsTo, empty_repository, held_of, last_held, step_held}
-use Rattle.gitpool.specs.Tenants.{Tenants, holdings, Takes, Calls, Steps, restarted}
+use Rattle.gitpool.specs.Tenants.{Tenants, Accounts, AreLed, holdings, Takes, Calls, Steps, restarted}
 use Rattle.gitpool.proofs.OwnLemmas.{meets}
 use Rattle.gitpool.proofs.AccountLemmas.{all_whole}
 
@@ -234,3 +234,27 @@ bad-goes_on steps old all new r told i d count within is says h k =
 
 pub bad-none : (steps : List Step) (old : List Reply) → AllByRecursion IsRefused (run_of steps (told_since old old))
 bad-none steps old = subst (λ (run : Run). AllByRecursion IsRefused run) (sym (run-none steps old)) tt
+
+-- ---- what is always true of a service
+
+called : (digest : List ℕ → List ℕ) (b : Bool) (name : List ℕ) (call : Call) (p : Cells) (es : Tenants) (answer : Answer) (out out' : List ℕ) (q : Cells) (new : Tenants)
+    → Calls digest b name call p es answer out out' q new → Accounts digest q new
+called digest true name call p es answer out out' q new c = c.accounts
+called digest false name call p es answer out out' q new c = c.accounts
+
+pub stepped : (digest : List ℕ → List ℕ) (s : Step) (p : Cells) (es : Tenants) (answer : Answer) (out out' : List ℕ) (q : Cells) (new : Tenants)
+    → Steps digest s p es answer out out' q new → Accounts digest q new
+stepped digest (step.Open given) p es answer out out' q new c = called digest _ _ _ p es answer out out' q new c
+stepped digest (step.Feed given bytes) p es answer out out' q new c = called digest _ _ _ p es answer out out' q new c
+stepped digest (step.End given) p es answer out out' q new c = called digest _ _ _ p es answer out out' q new c
+stepped digest (step.Ask given query) p es answer out out' q new c = called digest _ _ _ p es answer out out' q new c
+stepped digest step.Restart p es answer out out' q new c = c.accounts
+
+pub led-nil : (digest : List ℕ → List ℕ) → AreLed digest []
+led-nil digest tenant = (Closed empty_repository, refl)
+
+pub led-on : (digest : List ℕ → List ℕ) (before after : Holdings) (run : Run)
+    → ((tenant : List ℕ) → IsItsOwn digest tenant (held_of tenant before) run (held_of tenant after))
+    → AreLed digest before → AreLed digest after
+led-on digest before after run own led tenant =
+    let l = led tenant in (left_alone digest l.0 (steps_of tenant run), (own tenant).left l.0 l.1)

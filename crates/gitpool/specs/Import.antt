@@ -1,8 +1,8 @@
 -- One stream over an empty repository, from a reader to a writer: git-fast-import(1).
-use Rattle.std.specs.Prelude.{◌≡◌, ◌≤◌, ◌+◌, ◌-◌, ◌^◌, min, ℕ, List, ◌++◌, Option, None, Some, Result, Ok, Err, ◌⊎◌}
+use Rattle.std.specs.Prelude.{◌≡◌, ◌≤◌, ◌+◌, ◌-◌, ◌^◌, min, ℕ, false, List, ◌++◌, Option, None, Some, Result, Ok, Err, ◌⊎◌}
 use Rattle.std.specs.Io.KnownBytes.{Appends, IsAtEnd}
 use Rattle.git_objects.specs.Device.{Device, HasRead, HasFault, AppendsFront}
-use Rattle.import_session.specs.Stream.{Outcome, finished}
+use Rattle.import_session.specs.Stream.{Outcome, Standing, Runs, Refused, finished}
 use Rattle.gitpool.specs.declared.import_fault.ImportFault.{ImportFault}
 use Rattle.gitpool.specs.declared.import_fault.ImportFault.TheVariants as fault
 use Rattle.gitpool.specs.Alone.{stream_of}
@@ -21,6 +21,11 @@ abbrev pub IsSettled : (List ℕ → List ℕ) → List ℕ → Type 0
 IsSettled digest bytes = (more : List ℕ)
     → outcome_of digest (bytes ++ more) ≡ outcome_of digest bytes
 
+-- A stream asks for more bytes: it was not refused, and did not read `done`.
+abbrev pub AsksForMore : Standing → Type 0
+AsksForMore (Runs now tail) = now.is_done ≡ false
+AsksForMore (Refused code repository) = ⊥
+
 -- The whole stream was read and carried out, or as much of it as counts; it ended so, and exactly
 -- its replies were written.
 pub record IsImported (digest : List ℕ → List ℕ) (reader reader' writer writer' : Device)
@@ -30,6 +35,15 @@ pub record IsImported (digest : List ℕ → List ℕ) (reader reader' writer wr
   pub written : Appends writer.known writer'.known (outcome_of digest bytes).replies
   pub ended : end_fault digest bytes ≡ end
   pub last : IsAtEnd reader'.known ⊎ IsSettled digest bytes
+  pub well : reader'.faults ≡ reader.faults
+
+-- A device is to blame: a read failed of a stream that asked for more, or a write failed, or so many
+-- reads gave bytes as one import may make.
+abbrev pub IsDevice : (List ℕ → List ℕ) → List ℕ → Device → Device → Device → Device → Type 0
+IsDevice digest bytes reader reader' writer writer' =
+    (HasFault reader.faults reader'.faults × AsksForMore (outcome_of digest bytes).standing)
+    ⊎ (HasFault writer.faults writer'.faults
+    ⊎ (min (reader.passed + 2 ^ 32) (2 ^ 64 - 1) ≤ reader'.passed))
 
 -- It was given up behind these bytes: a prefix of their replies was written, and all of them where
 -- no write failed.
@@ -40,6 +54,7 @@ pub record IsGivenUp (digest : List ℕ → List ℕ)
   pub written : AppendsFront writer.known writer'.known (outcome_of digest bytes).replies
   pub whole : HasFault writer.faults writer'.faults
       ⊎ Appends writer.known writer'.known (outcome_of digest bytes).replies
+  pub blamed : IsDevice digest bytes reader reader' writer writer'
 
 -- A prefix of the replies was written, and then memory ran out.
 pub record IsStopped (digest : List ℕ → List ℕ)
@@ -47,12 +62,6 @@ pub record IsStopped (digest : List ℕ → List ℕ)
   pub bytes : List ℕ
   pub read : HasRead reader reader' bytes
   pub written : AppendsFront writer.known writer'.known (outcome_of digest bytes).replies
-
--- A device is to blame: a call failed, or so many reads gave bytes as one import may make.
-abbrev pub IsDevice : Device → Device → Device → Device → Type 0
-IsDevice reader reader' writer writer' =
-    HasFault reader.faults reader'.faults ⊎ (HasFault writer.faults writer'.faults
-    ⊎ (min (reader.passed + 2 ^ 32) (2 ^ 64 - 1) ≤ reader'.passed))
 
 -- What an import did, by its answer.
 abbrev pub Imports : (List ℕ → List ℕ) → Device → Device → Device → Device
@@ -62,6 +71,6 @@ Imports digest reader reader' writer writer' (Ok u) =
 Imports digest reader reader' writer writer' (Err (fault.Stream code)) =
     IsImported digest reader reader' writer writer' (Some code)
 Imports digest reader reader' writer writer' (Err fault.Device) =
-    IsGivenUp digest reader reader' writer writer' × IsDevice reader reader' writer writer'
+    IsGivenUp digest reader reader' writer writer'
 Imports digest reader reader' writer writer' (Err fault.Memory) =
     IsStopped digest reader reader' writer writer'

@@ -22,10 +22,10 @@ use Rattle.gitpool.specs.declared.stop.Stop.TheVariants as stop
 use Rattle.gitpool.specs.declared.tenant.Phase.{Phase}
 use Rattle.gitpool.specs.declared.tenant.Phase.TheVariants as phase
 use Rattle.gitpool.specs.declared.tenant.Tenant.{Tenant}
-use Rattle.gitpool.specs.Alone.{Call, Open, Feed, End, Ask, Turn, stop_behind}
+use Rattle.gitpool.specs.Alone.{Call, Open, Feed, End, Ask, State, Turn, stop_behind}
 use Rattle.gitpool.specs.Carrying.{outcome_behind, Between, stream_in}
 use Rattle.gitpool.specs.Headline.{stop_told}
-use Rattle.gitpool.specs.Holding.{Holding, Idle, Busy, Holdings, held_of, held_objects, last_held, step_held}
+use Rattle.gitpool.specs.Holding.{Holding, Idle, Busy, Holdings, LeadsTo, held_of, held_objects, last_held, step_held}
 
 -- Behind `done` no bytes are kept.
 unfoldable pub kept_tail : Between → Tail
@@ -180,3 +180,12 @@ pub record Shows (held : Holding) (pool : Cells) (table : View) (refs : RefStore
   pub all : objects pool table.entries ≡ held_objects held
   pub committed : take table.committed (objects pool table.entries) ≡ (last_held held).objects
   pub saved : refs ≡ (last_held held).refs
+
+-- To what is held of any tenant some repository and stream of its own lead.
+abbrev pub AreLed : (List ℕ → List ℕ) → Holdings → Type 0
+AreLed digest all = (tenant : List ℕ) → (state : State) × LeadsTo digest state (held_of tenant all)
+
+-- What is always true of a service.
+pub record IsService (digest : List ℕ → List ℕ) (pool : Cells) (tenants : Tenants) : Type 0 where
+  pub accounts : Accounts digest pool tenants
+  pub led : AreLed digest (holdings pool tenants)

@@ -6,10 +6,11 @@
 ghost use Rattle.std.specs.Prelude.{◌≡◌, ◌+◌, ◌++◌, ℕ, List, [], ◌∷◌, length, drop, count_by, IsNone, IfSome, OnErr, OnOk, ◌<◌};
 ghost use Rattle.content_pool.specs.LiveContents.{live_contents, stored_sizes};
 ghost use Rattle.std.specs.List.{AllByRecursion};
-ghost use Rattle.gitpool.specs.Alone.{added};
+ghost use Rattle.gitpool.specs.Alone.{added, State};
 ghost use Rattle.gitpool.specs.Headline.{IsItsOwn, IsRefused, told_in, told_since, run_of};
-ghost use Rattle.gitpool.specs.Holding.{Idle, empty_repository, held_of, held_contents, has_commit};
+ghost use Rattle.gitpool.specs.Holding.{LeadsTo, Idle, empty_repository, held_of, held_contents, has_commit};
 ghost use Rattle.gitpool.specs.Tenants.{Shows};
+ghost use Rattle.tenant_tables.specs.StandsIn.{StandsIn};
 
 use crate::key::Key;
 use crate::reply::Reply;
@@ -36,7 +37,7 @@ impl<N: Naming> Model for Service<N> {
     ghost use Rattle.gitpool.specs.Holding.{Holdings};
     ghost use Rattle.std.specs.Coded.{codes};
     ghost use Rattle.gitpool.specs.Holding.{ref_map_code};
-    ghost use Rattle.gitpool.specs.Tenants.{Accounts, holdings};
+    ghost use Rattle.gitpool.specs.Tenants.{IsService, holdings};
 
     ghost Value = { Holdings };
 
@@ -45,7 +46,7 @@ impl<N: Naming> Model for Service<N> {
     ghost view = { λ service. holdings service.pool service.tenants.entries };
 
     ghost invariant = { λ service.
-        Accounts N.digest_of service.pool service.tenants.entries };
+        IsService N.digest_of service.pool service.tenants.entries };
 }
 
 impl<N: Naming> Service<N> {
@@ -58,6 +59,14 @@ impl<N: Naming> Service<N> {
             pool: Pool::new(alloc, naming),
             tenants: IndexMap::new(alloc),
         }
+    }
+
+    /// What holds of every service: a fact for proofs. A call does nothing.
+    pub fn is_led(&self)
+        ensures { (tenant : List ℕ) → (state : State)
+            × LeadsTo N.digest_of state (held_of tenant self.now) }
+    {
+        let _pool = &self.pool;
     }
 
     /// How many distinct contents all tenants hold together, those of running streams included, and
@@ -84,6 +93,8 @@ impl<N: Naming> Service<N> {
         ensures unseen { IsNone result → held_of tenant.now self.now ≡ Idle empty_repository }
         ensures shown { IfSome result (λ lent.
             Shows (held_of tenant.now self.now) lent.0.now lent.1.now lent.2.now) }
+        ensures stands { IfSome result (λ lent.
+            StandsIn N.digest_of lent.0.now lent.1.now.entries) }
         ensures pool { IfSome result (λ lent.
             stored_sizes (live_contents lent.0.now) ≡ stored_sizes (held_contents self.now)) }
     {

@@ -179,9 +179,9 @@ pub record Pushed (digest : List ℕ → List ℕ) (c : Content) (summary : Opti
 
 pub pushed : (digest : List ℕ → List ℕ) (id : List ℕ) (c : Content) (summary : Option Summary) (p : Cells) (old : View) (q : Cells) (new : View) (slot : ℕ)
     → PushesAt id c summary p old q new slot → id ≡ name_by digest c → entry_named id old.entries ≡ None → StandsIn digest p old.entries
-    → SummedBehind old.entries c summary → Pushed digest c summary p old q new
-pushed digest id c summary p old q new slot h named none stands summed = record {
-  stands = rw is (StandsIn-put digest p q old.entries id added c stands h.puts named none summed);
+    → SummedBehind old.entries c summary → length c.bytes ≤ CONTENTS_LIMIT → Pushed digest c summary p old q new
+pushed digest id c summary p old q new slot h named none stands summed within = record {
+  stands = rw is (StandsIn-put digest p q old.entries id added c stands h.puts named none summed within);
   others = rw is (LeavesOthers-put p q old.entries id added c h.puts);
   adds = record {
     objects =

@@ -1,5 +1,5 @@
 -- How often entries hold a slot, and what stays with the contents that they hold.
-use Rattle.std.proofs.Common.{◌≡◌, ℕ, zero, suc, ◌+◌, ◌<◌, ◌≤◌, ◌==◌, inl, inr, Bool, true, false, cond, List, [], ◌∷◌, ◌++◌, None, Some, slice_get, refl, sym, ap, subst, ◌∙◌, arith}
+use Rattle.std.proofs.Common.{◌≡◌, ℕ, zero, suc, ◌+◌, ◌<◌, ◌≤◌, ◌==◌, inl, inr, Bool, true, false, cond, List, [], ◌∷◌, ◌++◌, length, None, Some, slice_get, refl, sym, ap, subst, ◌∙◌, arith}
 use Rattle.std.specs.Prelude.{All}
 use Rattle.std.specs.Map.{lookup}
 use Rattle.std.specs.Str.{bytes_eq}
@@ -9,9 +9,10 @@ use Rattle.std.proofs.lemmas.Bool.Decides.{nat_tests}
 use Rattle.std.proofs.lemmas.List.Elements.{All-nil, All-cons, All-head, All-tail}
 use Rattle.std.proofs.lemmas.List.Sums.{sum_by-cons, sum_by_push}
 use Rattle.std.proofs.lemmas.Slice.Eq.{bytes_eq-Decides}
-use Rattle.git_model.specs.Content.{name_by}
+use Rattle.git_model.specs.Content.{Content, name_by}
 use Rattle.content_pool.specs.Pool.{Cells, content}
 use Rattle.tenant_tables.specs.declared.entry.Entry.{Entry}
+use Rattle.tenant_tables.specs.declared.table.TheConstants.{CONTENTS_LIMIT}
 use Rattle.tenant_tables.specs.View.{Entries, entry_named, held}
 use Rattle.git_model.specs.Repository.{object_named}
 use Rattle.tenant_tables.specs.Objects.{objects}
@@ -71,6 +72,17 @@ named-kept digest p q (x ∷ es) k h =
     All-cons (IsNamed digest q) x es
     (All-head (IsNamed digest p) x es h ∙ ap (name_by digest) (sym (k.contents x.1.slot (held-head x es))))
     (named-kept digest p q es (Keeps-tail p q x es k) (All-tail (IsNamed digest p) x es h))
+
+-- and are no longer
+abbrev pub IsShort : Cells → List ℕ × Entry → Type 0
+IsShort p e = length (content p e.1.slot).bytes ≤ CONTENTS_LIMIT
+
+pub short-kept : (p q : Cells) (es : Entries) → Keeps p q es → All (IsShort p) es → All (IsShort q) es
+short-kept p q [] k h = All-nil (IsShort q)
+short-kept p q (x ∷ es) k h =
+    All-cons (IsShort q) x es
+    (subst (λ (c : Content). length c.bytes ≤ CONTENTS_LIMIT) (sym (k.contents x.1.slot (held-head x es))) (All-head (IsShort p) x es h))
+    (short-kept p q es (Keeps-tail p q x es k) (All-tail (IsShort p) x es h))
 
 -- the look-up of a name goes by the first entry, and then by the others
 named_first : (id : List ℕ) (x : List ℕ × Entry) (es : Entries) → id ≡ x.0 → entry_named id (x ∷ es) ≡ Some x.1

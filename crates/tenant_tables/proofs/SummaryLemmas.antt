@@ -1,6 +1,6 @@
 -- Summaries of trees, kept through each change.
-use Rattle.std.proofs.Common.{◌≡◌, ℕ, zero, suc, ◌<◌, inl, inr, Bool, true, false, cond, nat_lt, List, [], ◌∷◌, ◌++◌, length, take, map, Option, None, Some, slice_get, refl, sym, ap, subst, ◌∙◌, arith}
-use Rattle.std.specs.Prelude.{All, IsSome, fold}
+use Rattle.std.proofs.Common.{◌≡◌, ◌≢◌, ℕ, zero, suc, ◌<◌, inl, inr, Bool, true, false, cond, nat_lt, List, [], ◌∷◌, ◌++◌, length, take, map, Option, None, Some, slice_get, refl, sym, ap, subst, ◌∙◌, arith}
+use Rattle.std.specs.Prelude.{All, IsSome, IsSomeAnd, fold}
 use Rattle.std.specs.List.{position_or_len}
 use Rattle.std.specs.Map.{keys_of, lookup}
 use Rattle.std.specs.Option.{option_and_then, unwrap_or}
@@ -97,6 +97,11 @@ summary_of-take n es id some = by (nat_lt (position_or_len (bytes_eq id) (keys_o
     by true e = ap (option_and_then (λ (x : Entry). x.summary)) e
     by false e = let none : false ≡ true = rw e at some in cc none
 
+-- what is there, and more
+pub some_of : {A : Type 0} (o : Option A) (P : A → Type 0) → IsSomeAnd o P → IsSome o
+some_of None P h = absurd h
+some_of (Some x) P h = refl
+
 summaries-take : (n : ℕ) (es : Entries) (rows : List TreeEntry) → All (DirectoryStands (take n es)) rows
     → map (entry_summary (take n es)) rows ≡ map (entry_summary es) rows
 summaries-take n es [] h = refl
@@ -105,7 +110,7 @@ summaries-take n es (r ∷ rows) h =
     let here =
     entry_summary-same r.mode (below r.name (unwrap_or (summary_of r.id (take n es)) no_files)) (below r.name (unwrap_or (summary_of r.id es) no_files))
     (one_file r.name)
-    (λ is. ap (λ (o : Option Summary). below r.name (unwrap_or o no_files)) (summary_of-take n es r.id (stands is))) in
+    (λ is. ap (λ (o : Option Summary). below r.name (unwrap_or o no_files)) (summary_of-take n es r.id (some_of (summary_of r.id (take n es)) (λ s. s.files ≢ 0) (stands is)))) in
     let rest = summaries-take n es rows (All-tail (DirectoryStands (take n es)) r rows h) in
     λ i. here i ∷ rest i
 

@@ -10,11 +10,12 @@ use Rattle.std.proofs.lemmas.List.Elements.{All-nil, All-push}
 use Rattle.git_model.specs.Content.{Content, name_by}
 use Rattle.content_pool.specs.Pool.{Cells, holds, content, IsLive, Puts, Releases}
 use Rattle.tenant_tables.specs.declared.entry.Entry.{Entry}
+use Rattle.tenant_tables.specs.declared.table.TheConstants.{CONTENTS_LIMIT}
 use Rattle.tenant_tables.specs.View.{Entries, entry_named, held}
 use Rattle.tenant_tables.specs.Objects.{objects}
 use Rattle.tenant_tables.specs.StandsIn.{StandsIn, LeavesOthers, AreCounted}
 use Rattle.tenant_tables.specs.Trees.{SummedBehind}
-use Rattle.tenant_tables.proofs.HoldLemmas.{Keeps, IsNamed, held-push, held-nil, held-absent, objects-kept, named-kept}
+use Rattle.tenant_tables.proofs.HoldLemmas.{Keeps, IsNamed, IsShort, short-kept, held-push, held-nil, held-absent, objects-kept, named-kept}
 use Rattle.tenant_tables.proofs.SummaryLemmas.{IsSummed-nil, IsSummed-kept, IsSummed-prefix, IsSummed-push}
 
 pub All-front : {X : Type 0} (P : X → Type 0) (xs : List X) (x : X) → All P (xs ++ x ∷ []) → All P xs
@@ -26,6 +27,7 @@ All-front P xs x h k d within =
 pub StandsIn-nil : (digest : List ℕ → List ℕ) (p : Cells) → StandsIn digest p []
 StandsIn-nil digest p = record {
   named = All-nil (IsNamed digest p);
+  short = All-nil (IsShort p);
   once = λ s. rw (held-nil s) (omega arith);
   counted = λ s. rw (held-nil s) (omega arith);
   summed = IsSummed-nil p;
@@ -38,6 +40,7 @@ pub StandsIn-kept : (digest : List ℕ → List ℕ) (p q : Cells) (es : Entries
     → ((s : ℕ) → held es s ≤ holds q s) → StandsIn digest q es
 StandsIn-kept digest p q es h k counted = record {
   named = named-kept digest p q es k h.named;
+  short = short-kept p q es k h.short;
   once = h.once;
   counted = counted;
   summed = IsSummed-kept p q es k h.summed;
@@ -67,13 +70,16 @@ Keeps-release p q slot es h counted =
 -- ---- one entry more
 
 pub StandsIn-put : (digest : List ℕ → List ℕ) (p q : Cells) (es : Entries) (id : List ℕ) (e : Entry) (c : Content)
-    → StandsIn digest p es → Puts p q e.slot c → id ≡ name_by digest c → entry_named id es ≡ None → SummedBehind es c e.summary
+    → StandsIn digest p es → Puts p q e.slot c → id ≡ name_by digest c → entry_named id es ≡ None → SummedBehind es c e.summary → length c.bytes ≤ CONTENTS_LIMIT
     → StandsIn digest q (es ++ (id, e) ∷ [])
-StandsIn-put digest p q es id e c h puts named none summed =
+StandsIn-put digest p q es id e c h puts named none summed within =
     let k = Keeps-put p q e.slot c es puts h.counted in record {
       named =
           All-push (IsNamed digest q) es (id, e) (named-kept digest p q es k h.named)
           (named ∙ ap (name_by digest) (sym puts.has));
+      short =
+          All-push (IsShort q) es (id, e) (short-kept p q es k h.short)
+          (subst (λ (d : Content). length d.bytes ≤ CONTENTS_LIMIT) (sym puts.has) within);
       once = once;
       counted = counted;
       summed =
@@ -131,6 +137,7 @@ pub StandsIn-release : (digest : List ℕ → List ℕ) (p q : Cells) (es : Entr
 StandsIn-release digest p q es id e h releases =
     let k = Keeps-release p q e.slot es releases counted in record {
       named = named-kept digest p q es k (All-front (IsNamed digest p) es (id, e) h.named);
+      short = short-kept p q es k (All-front (IsShort p) es (id, e) h.short);
       once = λ s. let n = h.once s in omega (arith, held-push es id e s);
       counted = counted;
       summed = IsSummed-kept p q es k (IsSummed-prefix p es ((id, e) ∷ []) h.summed);

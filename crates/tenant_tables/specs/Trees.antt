@@ -1,5 +1,5 @@
 -- What a table knows of a tree without reading it: the size of its file map.
-use Rattle.std.specs.Prelude.{◌≡◌, ◌≢◌, ℕ, ◌+◌, ◌==◌, List, All, Option, None, Some, IsSome, length, map, max, fold, take, slice_get, if◌then◌else◌}
+use Rattle.std.specs.Prelude.{◌≡◌, ◌≢◌, ℕ, ◌+◌, ◌==◌, List, All, Option, None, Some, IsSomeAnd, length, map, max, fold, take, slice_get, if◌then◌else◌}
 use Rattle.std.specs.Option.{unwrap_or}
 use Rattle.git_model.specs.declared.file_mode.FileMode.{FileMode}
 use Rattle.git_model.specs.declared.file_mode.FileMode.TheVariants as mode
@@ -44,9 +44,10 @@ both s t = record { files = s.files + t.files; depth = max s.depth t.depth; long
 abbrev pub tree_summary : Entries → List TreeEntry → Summary
 tree_summary table es = fold both no_files (map (entry_summary table) es)
 
--- A directory stands in the table as a tree.
+-- A directory stands in the table as a tree with files.
 abbrev pub DirectoryStands : Entries → TreeEntry → Type 0
-DirectoryStands table e = e.mode ≡ mode.Directory → IsSome (summary_of e.id table)
+DirectoryStands table e = e.mode ≡ mode.Directory
+    → IsSomeAnd (summary_of e.id table) (λ s. s.files ≢ 0)
 
 -- The bytes are the contents of a tree whose directories stand in the table, and the summary is
 -- that of its files.

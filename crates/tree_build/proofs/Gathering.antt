@@ -16,6 +16,7 @@ use Rattle.tenant_tables.specs.View.{Entries, summary_of}
 use Rattle.tenant_tables.specs.Objects.{objects}
 use Rattle.tenant_tables.specs.StandsIn.{StandsIn}
 use Rattle.tenant_tables.specs.Trees.{DirectoryStands}
+use Rattle.tenant_tables.proofs.SummaryLemmas.{some_of}
 use Rattle.tree_build.specs.declared.entry.Entry.{Entry}
 use Rattle.tree_build.specs.FileMap.{Path, Listed}
 use Rattle.tree_build.specs.Edits.{moved}
@@ -109,7 +110,7 @@ module _ (digest : List ℕ → List ℕ) (pool : Cells) (entries : Entries) (st
       → (entry_of x).mode ≡ mode.Directory → (position_of (entry_of x).id entries < position_of id entries) × IsSome (summary_of (entry_of x).id entries)
   inside_before id xs i x h lt at dir =
       let p = tree-placed digest pool entries stands id (entries_of xs) h in
-      let some = entry_at (DirectoryStands (take (position_of id entries) entries)) xs i x p.1.directories lt at dir in (
+      let some = some_of (summary_of (entry_of x).id (take (position_of id entries) entries)) (λ s. s.files ≢ 0) (entry_at (DirectoryStands (take (position_of id entries) entries)) xs i x p.1.directories lt at dir) in (
         stands-before (entry_of x).id (position_of id entries) entries some,
         subst (λ (o : Option Summary). IsSome o) (summary-all (entry_of x).id (position_of id entries) entries some) some,
       )

@@ -20,3 +20,12 @@ pub mod Listing
 pub mod Standing
 pub mod Gathering
 pub mod Grafting
+pub mod Regrouped
+pub mod StoredAgain
+pub mod StandingGood
+pub mod ListedOrder
+pub mod StoredFiles
+pub mod TreeReading
+pub mod StoredTable
+pub mod StoringHeld
+pub mod ListedLater

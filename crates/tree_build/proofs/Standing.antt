@@ -27,6 +27,7 @@ use Rattle.tenant_tables.specs.Trees.{IsSummed, SummedBehind, IsTreeOf, Director
 use Rattle.tenant_tables.proofs.AddLemmas.{found_some}
 use Rattle.tenant_tables.proofs.TreeTexts.{tree_contents-injective}
 use Rattle.tenant_tables.proofs.EntryLemmas.{lookup-take}
+use Rattle.tenant_tables.proofs.SummaryLemmas.{some_of}
 use Rattle.tenant_tables.proofs.HoldLemmas.{object_named-objects}
 use Rattle.tree_build.specs.declared.fault.Fault.TheVariants as fault
 use Rattle.tree_build.specs.FileMap.{Listed}
@@ -201,7 +202,7 @@ module _ (digest : List ℕ → List ℕ) (pool : Cells) (entries : Entries) (st
       list_all_of (objects pool entries) es
       (all-weaker (DirectoryStands (take (position_of id entries) entries)) (λ (e : TreeEntry). e.mode ≡ mode.Directory → (below : Listed) × ListsTree (objects pool entries) e.id below)
       (λ e d is.
-      let some = d is in
+      let some = some_of (summary_of e.id (take (position_of id entries) entries)) (λ s. s.files ≢ 0) (d is) in
       let before = stands-before e.id (position_of id entries) entries some in
       let s = the_summary (summary_of e.id (take (position_of id entries) entries)) some in
       let q = placed e.id s.0 (sym (summary-all e.id (position_of id entries) entries some) ∙ s.1) in
@@ -230,7 +231,7 @@ module _ (digest : List ℕ → List ℕ) (pool : Cells) (entries : Entries) (st
       p.1.sums ∙ fold-sums table.no_files (map (table.entry_summary (take (position_of e.id entries) entries)) inside)
       ∙ none-both (sums (map (table.entry_summary (take (position_of e.id entries) entries)) inside))
       ∙ lists-sum sub (position_of e.id entries) p.1.directories in
-      let known : summary_of e.id (take n entries) ≡ Some (files_summary below) = summary-all e.id n entries (h.0 is) ∙ p.1.summary ∙ ap (λ (s : Summary). Some s) within in
+      let known : summary_of e.id (take n entries) ≡ Some (files_summary below) = summary-all e.id n entries (some_of (summary_of e.id (take n entries)) (λ s. s.files ≢ 0) (h.0 is)) ∙ p.1.summary ∙ ap (λ (s : Summary). Some s) within in
       let here : table.entry_summary (take n entries) e ≡ files_summary (moved (e.name ∷ []) below) =
       ap (λ (m : FileMode). table.by_mode m (table.below e.name (unwrap_or (summary_of e.id (take n entries)) table.no_files)) (table.one_file e.name)) is
       ∙ ap (λ (o : Option Summary). table.below e.name (unwrap_or o table.no_files)) known

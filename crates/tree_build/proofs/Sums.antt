@@ -13,7 +13,7 @@ use Rattle.git_paths.proofs.Cases.{by_cases}
 use Rattle.git_paths.specs.Paths.{IsPath}
 use Rattle.git_model.specs.ObjectName.{IsObjectName}
 use Rattle.git_model.specs.Tree.{tree_contents}
-use Rattle.std.specs.Option.{unwrap_or, IsSome}
+use Rattle.std.specs.Option.{unwrap_or, IsSomeAnd}
 use Rattle.std.proofs.lemmas.List.Elements.{All-from_recursion}
 use Rattle.tree_build.proofs.Apart.{all-weaker, is_apart-below, is_apart-symmetric}
 use Rattle.tree_build.proofs.Written.{can_write_tree}
@@ -181,7 +181,7 @@ module _ (digest : List ℕ → List ℕ) (deep : ℕ) where
         one (c, []) a b = absurd a
         one (c, (([], e) ∷ fs)) a b = λ is. absurd (a.mode is)
         one (c, (((d ∷ q), e) ∷ fs)) a b =
-            λ is. subst (λ (o : Option Summary). IsSome o) (sym (b refl)) refl
+            λ is. subst (λ (o : Option Summary). IsSomeAnd o (λ s. s.files ≢ 0)) (sym (b refl)) (λ none. cc none)
 
     -- the contents fit the table
     pub fits-tree : (fs : Listed) (bytes : List ℕ) → bound ≡ depth_of fs → AreStorable fs

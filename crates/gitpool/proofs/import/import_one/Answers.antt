@@ -27,7 +27,7 @@ returns-then-n-eq0 g c =
     (subst (λ (n : ℕ). Consumes (g.R.Read.remaining (device_of c.loop.reader)) (g.R.Read.remaining (device_of c.read.new.self)) (take n c.read.new.buf))
     none c.in-Ok.ensures.bytes.0)
     (c.in-Ok.ensures.bytes.1 none (let a = c.read.auto.buf in let b = c.loop.invariant.0 in omega (arith, a, b)))
-    (c.in-Ok.ensures.passed ∙ ap (counted_on (passed_of c.loop.reader)) none) c.end.ensures
+    (c.in-Ok.ensures.passed ∙ ap (counted_on (passed_of c.loop.reader)) none) c.in-Ok.ensures.faults c.end.ensures
 
 pub pass_on-requires-clause-ready : goal.pass_on-requires-clause-ready
 pass_on-requires-clause-ready g c = c.loop.invariant.1.ready

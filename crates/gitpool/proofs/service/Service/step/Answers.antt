@@ -2,7 +2,7 @@ use Rattle.std.proofs.Common.{◌∷◌, [], subst}
 use Rattle.gitpool.specs.Headline.{IsItsOwn, told_in}
 use Rattle.gitpool.specs.Holding.{Holdings, held_of}
 use Rattle.gitpool.specs.Tenants.{holdings}
-use Rattle.gitpool.proofs.RunLemmas.{own-step}
+use Rattle.gitpool.proofs.RunLemmas.{own-step, stepped, led-on}
 use Rattle.gitpool.proofs.service.Service.step.Goals as goal
 
 pub returns-clause-own : goal.returns-clause-own
@@ -13,3 +13,13 @@ returns-clause-own g c = λ tenant.
     c.self.view_is
     (own-step g.N.Naming.digest_of c.args.step c.self.inside.pool c.take_step.new.pool c.self.inside.tenants.entries c.take_step.new.tenants.entries
     c.take_step.result c.args.out.now.items c.take_step.new.out.items c.take_step.ensures tenant)
+
+pub invariant_of-self : goal.invariant_of-self
+invariant_of-self g c = record {
+  accounts = stepped g.N.Naming.digest_of c.args.step c.self.inside.pool c.self.inside.tenants.entries c.take_step.result c.args.out.now.items
+      c.take_step.new.out.items c.take_step.new.pool c.take_step.new.tenants.entries c.take_step.ensures;
+  led = led-on g.N.Naming.digest_of (holdings c.self.inside.pool c.self.inside.tenants.entries)
+      (holdings c.take_step.new.pool c.take_step.new.tenants.entries) _
+      (λ tenant. own-step g.N.Naming.digest_of c.args.step c.self.inside.pool c.take_step.new.pool c.self.inside.tenants.entries c.take_step.new.tenants.entries
+      c.take_step.result c.args.out.now.items c.take_step.new.out.items c.take_step.ensures tenant) c.self.invariant.led;
+}

@@ -8,5 +8,5 @@ use Rattle.gitpool.proofs.service.Service.stored.Goals as goal
 pub returns : goal.returns
 returns g c =
     c.stored.ensures.any_list (held_contents (holdings c.self.inside.pool c.self.inside.tenants.entries))
-    (lists-live g.N.Naming.digest_of c.self.inside.pool c.self.inside.tenants.entries c.self.invariant)
+    (lists-live g.N.Naming.digest_of c.self.inside.pool c.self.inside.tenants.entries c.self.invariant.accounts)
     ∙ ap (λ (all : Holdings). stored_sizes (held_contents all)) c.self.view_is

@@ -7,5 +7,5 @@ use Rattle.gitpool.proofs.service.Service.tenants.Goals as goal
 pub returns : goal.returns
 returns g c =
     c.count_committed.ensures
-    ∙ count-commits g.N.Naming.digest_of c.self.inside.pool c.self.inside.tenants.entries c.self.invariant.stands
+    ∙ count-commits g.N.Naming.digest_of c.self.inside.pool c.self.inside.tenants.entries c.self.invariant.accounts.stands
     ∙ ap (λ (all : Holdings). count_by (λ e. has_commit e.1) all) c.self.view_is

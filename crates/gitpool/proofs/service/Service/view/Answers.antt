@@ -3,14 +3,14 @@ use Rattle.content_pool.specs.LiveContents.{stored_sizes}
 use Rattle.content_pool.proofs.StoredLemmas.{stored_sizes-ListsLive}
 use Rattle.gitpool.specs.Holding.{Holdings, held_contents}
 use Rattle.gitpool.specs.Tenants.{holdings}
-use Rattle.gitpool.proofs.AccountLemmas.{bad-missing}
+use Rattle.gitpool.proofs.AccountLemmas.{bad-missing, stands-found}
 use Rattle.gitpool.proofs.StoredLemmas.{lists-live, shows-found, unseen-missing}
 use Rattle.gitpool.proofs.service.Service.view.Goals as goal
 
 pub returns-in_default-clause-unseen : goal.returns-in_default-clause-unseen
 returns-in_default-clause-unseen g c = λ _.
     unseen-missing c.self.inside.pool c.args.tenant.now c.self.inside.tenants.entries c.args.self.now
-    (bad-missing c.args.tenant.now c.self.inside.tenants.entries c.self.invariant.names c.in_default.ensures) c.self.view_is
+    (bad-missing c.args.tenant.now c.self.inside.tenants.entries c.self.invariant.accounts.names c.in_default.ensures) c.self.view_is
 
 pub returns-in_default-get-clause-unseen : goal.returns-in_default-get-clause-unseen
 returns-in_default-get-clause-unseen g c = λ _.
@@ -20,10 +20,15 @@ returns-in_default-get-clause-unseen g c = λ _.
 pub returns-clause-shown : goal.returns-clause-shown
 returns-clause-shown g c =
     shows-found g.N.Naming.digest_of c.self.inside.pool c.args.tenant.now c.self.inside.tenants.entries c.in-Some-get.tenant.now c.args.self.now
-    c.self.invariant (rw c.in-Some.ensures.1 at (sym c.in-Some-get.ensures.value)) c.self.view_is
+    c.self.invariant.accounts (rw c.in-Some.ensures.1 at (sym c.in-Some-get.ensures.value)) c.self.view_is
 
 pub returns-clause-pool : goal.returns-clause-pool
 returns-clause-pool g c =
     stored_sizes-ListsLive c.self.inside.pool (held_contents (holdings c.self.inside.pool c.self.inside.tenants.entries))
-    (lists-live g.N.Naming.digest_of c.self.inside.pool c.self.inside.tenants.entries c.self.invariant)
+    (lists-live g.N.Naming.digest_of c.self.inside.pool c.self.inside.tenants.entries c.self.invariant.accounts)
     ∙ ap (λ (all : Holdings). stored_sizes (held_contents all)) c.self.view_is
+
+pub returns-clause-stands : goal.returns-clause-stands
+returns-clause-stands g c =
+    (stands-found g.N.Naming.digest_of c.self.inside.pool c.args.tenant.now c.self.inside.tenants.entries c.in-Some-get.tenant.now
+    c.self.invariant.accounts (rw c.in-Some.ensures.1 at (sym c.in-Some-get.ensures.value))).entries

@@ -32,12 +32,12 @@ push_new-requires-clause-new g c = no_entry _ _ _ (no_object _ _ _ _ c.has_conte
 pub returns-clause-stands : goal.returns-clause-stands
 returns-clause-stands g c =
     let there = c.in_ok-push_new.ensures.ok in
-    (pushed _ _ _ _ _ _ _ _ _ there.1 c.in_ok-id.ensures (no_entry _ _ _ (no_object _ _ _ _ c.has_content-there.ensures (sym c.if-is_some.ensures))) c.requires.stands c.requires.summed).stands
+    (pushed _ _ _ _ _ _ _ _ _ there.1 c.in_ok-id.ensures (no_entry _ _ _ (no_object _ _ _ _ c.has_content-there.ensures (sym c.if-is_some.ensures))) c.requires.stands c.requires.summed c.if-bytes-gt-CONTENTS_LIMIT.false).stands
 
 pub returns-clause-others : goal.returns-clause-others
 returns-clause-others g c =
     let there = c.in_ok-push_new.ensures.ok in
-    (pushed _ _ _ _ _ _ _ _ _ there.1 c.in_ok-id.ensures (no_entry _ _ _ (no_object _ _ _ _ c.has_content-there.ensures (sym c.if-is_some.ensures))) c.requires.stands c.requires.summed).others
+    (pushed _ _ _ _ _ _ _ _ _ there.1 c.in_ok-id.ensures (no_entry _ _ _ (no_object _ _ _ _ c.has_content-there.ensures (sym c.if-is_some.ensures))) c.requires.stands c.requires.summed c.if-bytes-gt-CONTENTS_LIMIT.false).others
 
 pub returns-clause-answer : goal.returns-clause-answer
 returns-clause-answer g c = (
@@ -49,4 +49,4 @@ returns-clause-answer g c = (
 pub returns-clause-ok : goal.returns-clause-ok
 returns-clause-ok g c =
     let there = c.in_ok-push_new.ensures.ok in
-    (pushed _ _ _ _ _ _ _ _ _ there.1 c.in_ok-id.ensures (no_entry _ _ _ (no_object _ _ _ _ c.has_content-there.ensures (sym c.if-is_some.ensures))) c.requires.stands c.requires.summed).adds
+    (pushed _ _ _ _ _ _ _ _ _ there.1 c.in_ok-id.ensures (no_entry _ _ _ (no_object _ _ _ _ c.has_content-there.ensures (sym c.if-is_some.ensures))) c.requires.stands c.requires.summed c.if-bytes-gt-CONTENTS_LIMIT.false).adds
