@@ -2,29 +2,29 @@
 use Rattle.std.proofs.Common.{◌≡◌, refl, List, [], ◌∷◌, ◌++◌, Result, Ok, Err}
 use Rattle.stream_lex.specs.Items.{Item}
 use Rattle.stream_grammar.specs.declared.fault.Fault.{Fault}
-use Rattle.stream_grammar.specs.Commands.{Parsing, Done, commands, behind_given, then_given, done_by, after}
+use Rattle.stream_grammar.specs.Commands.{Parsing, Done, commands, given_before, then_given, done_by, after}
 
--- Behind a fault nothing is given.
+-- After a fault nothing is given.
 pub commands-Err : (e : Fault) (items : List Item)
     → commands (Err e) items ≡ record { given = []; rest = Err e }
 unfolding commands
 commands-Err e [] = refl
 commands-Err e (item ∷ items) = refl
 
-then_given-behind : (done : Result Done Fault) (front more : List Item) (parsing : Parsing)
+then_given-append : (done : Result Done Fault) (front more : List Item) (parsing : Parsing)
     → commands parsing (front ++ more)
-    ≡ behind_given (commands parsing front).given (commands (commands parsing front).rest more)
+    ≡ given_before (commands parsing front).given (commands (commands parsing front).rest more)
     → then_given done (commands parsing (front ++ more))
-    ≡ behind_given (then_given done (commands parsing front)).given
+    ≡ given_before (then_given done (commands parsing front)).given
     (commands (then_given done (commands parsing front)).rest more)
-then_given-behind (Ok done) front more parsing same = rw same refl
-then_given-behind (Err e) front more parsing same = rw (commands-Err e more) refl
+then_given-append (Ok done) front more parsing same = rw same refl
+then_given-append (Err e) front more parsing same = rw (commands-Err e more) refl
 
 pub commands-append : (parsing : Parsing) (front more : List Item)
     → commands parsing (front ++ more)
-    ≡ behind_given (commands parsing front).given (commands (commands parsing front).rest more)
+    ≡ given_before (commands parsing front).given (commands (commands parsing front).rest more)
 unfolding commands
 commands-append parsing [] more = refl
 commands-append parsing (item ∷ front) more =
-    then_given-behind (done_by parsing item) front more (after parsing item)
+    then_given-append (done_by parsing item) front more (after parsing item)
     (commands-append (after parsing item) front more)

@@ -1,6 +1,5 @@
 pub mod Filled
 pub mod InTurn
-pub mod Numbers
 pub mod Placed
 pub mod Printed
 pub mod Refs

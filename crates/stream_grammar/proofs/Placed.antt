@@ -1,10 +1,10 @@
--- Whole commands, one behind the other, find their places, if no part may stand in two slots and no
+-- Whole commands, one after the other, find their places, if no part may stand in two terms and no
 -- command of several lines may stand in another one.
 use Rattle.std.proofs.Common.{◌≡◌, refl, sym, ◌∙◌, ap, rules, true, false, IfSome, List, [], ◌∷◌, ◌++◌, Option, Some, None}
 use Rattle.stream_grammar.specs.declared.part.Part.{Part}
 use Rattle.stream_grammar.specs.declared.part.Part.TheVariants as part
 use Rattle.stream_grammar.specs.Parts.{same}
-use Rattle.stream_grammar.specs.Grammar.{Slot, Fit, Stands, Ends, Misses, behind, accepts, is_free, left_after, used, fit, may_end}
+use Rattle.stream_grammar.specs.Grammar.{Term, Fit, Stands, Ends, Misses, production_of, accepts, is_free, left_after, used, fit, may_end}
 use Rattle.stream_grammar.specs.Grammar.{Often, Once, Perhaps, AnyNumber, once}
 use Rattle.stream_grammar.specs.Whole.{Fills, nothing_left, stays_empty, is_filled, AreCommands, none_left, one_first}
 use Rattle.stream_grammar.specs.Whole.{left_by, ArePlaced}
@@ -12,40 +12,40 @@ use Rattle.stream_grammar.proofs.Filled.{by_test, Fills-may_end}
 use Rattle.stream_grammar.proofs.Taken.{NoneAccepts, NoneAccepts-used, NoneAccepts-listed, left_by-NoneAccepts, HaveOwnParts, HaveOwnParts-after}
 use Rattle.stream_grammar.proofs.Streams.{Continues, Fills-nil}
 
--- A command of several lines stands in none of the slots.
-abbrev NoneBegins : List Slot → Type 0
-NoneBegins slots =
-    NoneAccepts slots part.Blob × NoneAccepts slots part.Commit × NoneAccepts slots part.Tag
-    × NoneAccepts slots part.Reset × NoneAccepts slots part.Alias
+-- A command of several lines stands in none of the terms.
+abbrev NoneBegins : List Term → Type 0
+NoneBegins terms =
+    NoneAccepts terms part.Blob × NoneAccepts terms part.Commit × NoneAccepts terms part.Tag
+    × NoneAccepts terms part.Reset × NoneAccepts terms part.Alias
 
-record Orderly (slots : List Slot) : Type 0 where
-  own : HaveOwnParts slots
-  alone : NoneBegins slots
+record Orderly (terms : List Term) : Type 0 where
+  own : HaveOwnParts terms
+  alone : NoneBegins terms
 
-NoneAccepts-after : (taken other : Part) (slot : Slot) (slots : List Slot)
-    → accepts (once part.Data) other ≡ false → NoneAccepts (slot ∷ slots) other
-    → NoneAccepts (left_after taken slot slots) other
-NoneAccepts-after taken other slot slots apart none =
+NoneAccepts-after : (taken other : Part) (term : Term) (terms : List Term)
+    → accepts (once part.Data) other ≡ false → NoneAccepts (term ∷ terms) other
+    → NoneAccepts (left_after taken term terms) other
+NoneAccepts-after taken other term terms apart none =
     by_test (same taken part.ModifyInline)
-    (λ is. rw is (apart, NoneAccepts-used slot.often slot slots other none))
-    (λ differs. rw differs (NoneAccepts-used slot.often slot slots other none))
+    (λ is. rw is (apart, NoneAccepts-used term.often term terms other none))
+    (λ differs. rw differs (NoneAccepts-used term.often term terms other none))
 
-Orderly-after : (taken : Part) (slot : Slot) (slots : List Slot) → accepts slot taken ≡ true
-    → Orderly (slot ∷ slots) → Orderly (left_after taken slot slots)
-Orderly-after taken slot slots stands orderly =
+Orderly-after : (taken : Part) (term : Term) (terms : List Term) → accepts term taken ≡ true
+    → Orderly (term ∷ terms) → Orderly (left_after taken term terms)
+Orderly-after taken term terms stands orderly =
     record {
-      own = HaveOwnParts-after slot slots taken stands orderly.own;
+      own = HaveOwnParts-after term terms taken stands orderly.own;
       alone = (
-        NoneAccepts-after taken part.Blob slot slots refl orderly.alone.0,
-        NoneAccepts-after taken part.Commit slot slots refl orderly.alone.1,
-        NoneAccepts-after taken part.Tag slot slots refl orderly.alone.2,
-        NoneAccepts-after taken part.Reset slot slots refl orderly.alone.3,
-        NoneAccepts-after taken part.Alias slot slots refl orderly.alone.4,
+        NoneAccepts-after taken part.Blob term terms refl orderly.alone.0,
+        NoneAccepts-after taken part.Commit term terms refl orderly.alone.1,
+        NoneAccepts-after taken part.Tag term terms refl orderly.alone.2,
+        NoneAccepts-after taken part.Reset term terms refl orderly.alone.3,
+        NoneAccepts-after taken part.Alias term terms refl orderly.alone.4,
       );
     }
 
-Orderly-behind : (slot : Slot) (slots : List Slot) → Orderly (slot ∷ slots) → Orderly slots
-Orderly-behind slot slots orderly =
+Orderly-rest : (term : Term) (terms : List Term) → Orderly (term ∷ terms) → Orderly terms
+Orderly-rest term terms orderly =
     record {
       own = orderly.own.2;
       alone = (
@@ -57,97 +57,97 @@ Orderly-behind slot slots orderly =
       );
     }
 
--- The slots that are left behind a part are as orderly as those before it.
-Orderly-Stands : (taken : Part) (slots left : List Slot) → fit taken slots ≡ Stands left
-    → Orderly slots → Orderly left
+-- The terms that are left after a part are as orderly as those before it.
+Orderly-Stands : (taken : Part) (terms left : List Term) → fit taken terms ≡ Stands left
+    → Orderly terms → Orderly left
 Orderly-Stands taken [] left stands orderly = let absent : Ends ≡ Stands left = stands in cc
-Orderly-Stands taken (slot ∷ slots) left stands orderly =
-    by_test (accepts slot taken)
+Orderly-Stands taken (term ∷ terms) left stands orderly =
+    by_test (accepts term taken)
     (λ here.
-    let is : Stands (left_after taken slot slots) ≡ Stands left = rw here at stands in
-    let same_left : left_after taken slot slots ≡ left = cc in
-    rw (sym same_left) (Orderly-after taken slot slots here orderly))
+    let is : Stands (left_after taken term terms) ≡ Stands left = rw here at stands in
+    let same_left : left_after taken term terms ≡ left = cc in
+    rw (sym same_left) (Orderly-after taken term terms here orderly))
     (λ passes. let later = rw passes at stands in
-    by_test (is_free slot.often)
-    (λ free. Orderly-Stands taken slots left (rw free at later) (Orderly-behind slot slots orderly))
+    by_test (is_free term.often)
+    (λ free. Orderly-Stands taken terms left (rw free at later) (Orderly-rest term terms orderly))
     (λ bound. let absent : Misses ≡ Stands left = rw bound at later in cc))
 
--- A part stands nowhere where no slot accepts it.
-nowhere : (taken : Part) (slots left : List Slot) → NoneAccepts slots taken
-    → fit taken slots ≡ Stands left → ⊥
-nowhere taken slots left none stands =
-    let next : List Slot → Option (List Slot) = λ rest. Some rest in
-    let gone : left_by (fit taken slots) next ≡ None = left_by-NoneAccepts taken next slots none in
-    let here : left_by (fit taken slots) next ≡ Some left =
+-- A part stands nowhere where no term accepts it.
+nowhere : (taken : Part) (terms left : List Term) → NoneAccepts terms taken
+    → fit taken terms ≡ Stands left → ⊥
+nowhere taken terms left none stands =
+    let next : List Term → Option (List Term) = λ rest. Some rest in
+    let gone : left_by (fit taken terms) next ≡ None = left_by-NoneAccepts taken next terms none in
+    let here : left_by (fit taken terms) next ≡ Some left =
     ap (λ (place : Fit). left_by place next) stands in
     let absent : None ≡ Some left = sym gone ∙ here in cc
 
--- Parts that fill slots: the first stands in them, and the others fill what is left.
-record Standing (slots : List Slot) (taken : Part) (parts : List Part) : Type 0 where
-  left : List Slot
-  is : fit taken slots ≡ Stands left
+-- Parts that fill terms: the first stands in them, and the others fill what is left.
+record Standing (terms : List Term) (taken : Part) (parts : List Part) : Type 0 where
+  left : List Term
+  is : fit taken terms ≡ Stands left
   fills : Fills left parts
 
-abbrev FirstStands : List Slot → List Part → Type 0
-FirstStands slots [] = may_end slots ≡ true
-FirstStands slots (taken ∷ parts) = Standing slots taken parts
+abbrev FirstStands : List Term → List Part → Type 0
+FirstStands terms [] = may_end terms ≡ true
+FirstStands terms (taken ∷ parts) = Standing terms taken parts
 
-FirstStands-empty : (slot : Slot) (slots : List Slot) (parts : List Part)
-    → HaveOwnParts (slot ∷ slots) → is_free slot.often ≡ true → FirstStands slots parts
-    → FirstStands (slot ∷ slots) parts
-FirstStands-empty slot slots [] own free end = rw free end
-FirstStands-empty slot slots (taken ∷ parts) own free standing =
-    by_test (accepts slot taken)
-    (λ here. absurd (nowhere taken slots standing.left
-    (NoneAccepts-listed slot.parts slots taken own.0 here) standing.is))
+FirstStands-empty : (term : Term) (terms : List Term) (parts : List Part)
+    → HaveOwnParts (term ∷ terms) → is_free term.often ≡ true → FirstStands terms parts
+    → FirstStands (term ∷ terms) parts
+FirstStands-empty term terms [] own free end = rw free end
+FirstStands-empty term terms (taken ∷ parts) own free standing =
+    by_test (accepts term taken)
+    (λ here. absurd (nowhere taken terms standing.left
+    (NoneAccepts-listed term.parts terms taken own.0 here) standing.is))
     (λ passes. record {
       left = standing.left;
       is = rw (passes, free) standing.is;
       fills = standing.fills;
     })
 
-FirstStands-Fills : (slots : List Slot) (parts : List Part) → HaveOwnParts slots
-    → Fills slots parts → FirstStands slots parts
+FirstStands-Fills : (terms : List Term) (parts : List Part) → HaveOwnParts terms
+    → Fills terms parts → FirstStands terms parts
 FirstStands-Fills _ _ own nothing_left = refl
-FirstStands-Fills _ _ own (stays_empty slot slots parts free fills) =
-    FirstStands-empty slot slots parts own free (FirstStands-Fills slots parts own.2 fills)
-FirstStands-Fills _ _ own (is_filled slot slots taken parts here fills) =
-    record { left = left_after taken slot slots; is = rw here refl; fills = fills }
+FirstStands-Fills _ _ own (stays_empty term terms parts free fills) =
+    FirstStands-empty term terms parts own free (FirstStands-Fills terms parts own.2 fills)
+FirstStands-Fills _ _ own (is_filled term terms taken parts here fills) =
+    record { left = left_after taken term terms; is = rw here refl; fills = fills }
 
--- Where a command may end, no part is missing, and it may end behind a part without data too.
-may_end-Misses : (taken : Part) (slots : List Slot) → may_end slots ≡ true
-    → fit taken slots ≡ Misses → ⊥
+-- Where a command may end, no part is missing, and it may end after a part without data too.
+may_end-Misses : (taken : Part) (terms : List Term) → may_end terms ≡ true
+    → fit taken terms ≡ Misses → ⊥
 may_end-Misses taken [] end misses = let absent : Ends ≡ Misses = misses in cc
-may_end-Misses taken (slot ∷ slots) end misses =
-    by_test (accepts slot taken)
-    (λ here. let absent : Stands (left_after taken slot slots) ≡ Misses = rw here at misses in cc)
+may_end-Misses taken (term ∷ terms) end misses =
+    by_test (accepts term taken)
+    (λ here. let absent : Stands (left_after taken term terms) ≡ Misses = rw here at misses in cc)
     (λ passes. let later = rw passes at misses in
-    by_test (is_free slot.often)
-    (λ free. may_end-Misses taken slots (rw free at end) (rw free at later))
+    by_test (is_free term.often)
+    (λ free. may_end-Misses taken terms (rw free at end) (rw free at later))
     (λ bound. let absent : false ≡ true = rw bound at end in cc))
 
-may_end-used : (often : Often) (slot : Slot) (slots : List Slot) → is_free slot.often ≡ true
-    → may_end slots ≡ true → may_end (used often slot slots) ≡ true
-may_end-used Once slot slots free end = end
-may_end-used Perhaps slot slots free end = end
-may_end-used AnyNumber slot slots free end = rw free end
+may_end-used : (often : Often) (term : Term) (terms : List Term) → is_free term.often ≡ true
+    → may_end terms ≡ true → may_end (used often term terms) ≡ true
+may_end-used Once term terms free end = end
+may_end-used Perhaps term terms free end = end
+may_end-used AnyNumber term terms free end = rw free end
 
-may_end-Stands : (taken : Part) (slots left : List Slot) → same taken part.ModifyInline ≡ false
-    → may_end slots ≡ true → fit taken slots ≡ Stands left → may_end left ≡ true
+may_end-Stands : (taken : Part) (terms left : List Term) → same taken part.ModifyInline ≡ false
+    → may_end terms ≡ true → fit taken terms ≡ Stands left → may_end left ≡ true
 may_end-Stands taken [] left plain end stands = let absent : Ends ≡ Stands left = stands in cc
-may_end-Stands taken (slot ∷ slots) left plain end stands =
-    by_test (is_free slot.often)
+may_end-Stands taken (term ∷ terms) left plain end stands =
+    by_test (is_free term.often)
     (λ free. let rest = rw free at end in
-    by_test (accepts slot taken)
+    by_test (accepts term taken)
     (λ here.
-    let is : Stands (left_after taken slot slots) ≡ Stands left = rw here at stands in
-    let same_left : left_after taken slot slots ≡ left = cc in
-    rw (sym same_left, plain) (may_end-used slot.often slot slots free rest))
-    (λ passes. may_end-Stands taken slots left plain rest (rw (passes, free) at stands)))
+    let is : Stands (left_after taken term terms) ≡ Stands left = rw here at stands in
+    let same_left : left_after taken term terms ≡ left = cc in
+    rw (sym same_left, plain) (may_end-used term.often term terms free rest))
+    (λ passes. may_end-Stands taken terms left plain rest (rw (passes, free) at stands)))
     (λ bound. let absent : false ≡ true = rw bound at end in cc)
 
--- The slots of each production are orderly.
-Orderly-command : (command : Part) → IfSome (behind command) Orderly
+-- The terms of each production are orderly.
+Orderly-command : (command : Part) → IfSome (production_of command) Orderly
 Orderly-command part.Blob = record { own = search rules; alone = search rules }
 Orderly-command part.Commit = record { own = search rules; alone = search rules }
 Orderly-command part.Tag = record { own = search rules; alone = search rules }
@@ -180,111 +180,111 @@ Orderly-command part.Data = tt
 Orderly-command part.Blank = record { own = tt; alone = (tt, tt, tt, tt, tt) }
 Orderly-command part.Unknown = tt
 
--- A command that may stand in another one has one line, and no data behind it.
-IsAlone : Part → List Slot → Type 0
-IsAlone command slots = (slots ≡ []) × (same command part.ModifyInline ≡ false)
+-- A command that may stand in another one has one line, and no data after it.
+IsAlone : Part → List Term → Type 0
+IsAlone command terms = (terms ≡ []) × (same command part.ModifyInline ≡ false)
 
-no_slots : (slots : List Slot) → Some [] ≡ Some slots → slots ≡ []
-no_slots slots is = let whole : [] ≡ slots = cc in sym whole
+no_terms : (terms : List Term) → Some [] ≡ Some terms → terms ≡ []
+no_terms terms is = let whole : [] ≡ terms = cc in sym whole
 
-no_command : (slots : List Slot) → None ≡ Some slots → ⊥
-no_command slots is = cc
+no_command : (terms : List Term) → None ≡ Some terms → ⊥
+no_command terms is = cc
 
-alone : (command : Part) (slots before left : List Slot) → behind command ≡ Some slots
-    → NoneBegins before → fit command before ≡ Stands left → IsAlone command slots
+alone : (command : Part) (terms before left : List Term) → production_of command ≡ Some terms
+    → NoneBegins before → fit command before ≡ Stands left → IsAlone command terms
 unfolding IsAlone
-alone part.Blob slots before left is none stands =
+alone part.Blob terms before left is none stands =
     absurd (nowhere part.Blob before left none.0 stands)
-alone part.Commit slots before left is none stands =
+alone part.Commit terms before left is none stands =
     absurd (nowhere part.Commit before left none.1 stands)
-alone part.Tag slots before left is none stands =
+alone part.Tag terms before left is none stands =
     absurd (nowhere part.Tag before left none.2 stands)
-alone part.Reset slots before left is none stands =
+alone part.Reset terms before left is none stands =
     absurd (nowhere part.Reset before left none.3 stands)
-alone part.Alias slots before left is none stands =
+alone part.Alias terms before left is none stands =
     absurd (nowhere part.Alias before left none.4 stands)
-alone part.Checkpoint slots before left is none stands = (no_slots slots is, refl)
-alone part.Progress slots before left is none stands = (no_slots slots is, refl)
-alone part.GetMark slots before left is none stands = (no_slots slots is, refl)
-alone part.CatBlob slots before left is none stands = (no_slots slots is, refl)
-alone part.Ls slots before left is none stands = (no_slots slots is, refl)
-alone part.Done slots before left is none stands = (no_slots slots is, refl)
-alone part.Feature slots before left is none stands = (no_slots slots is, refl)
-alone part.Setting slots before left is none stands = (no_slots slots is, refl)
-alone part.Mark slots before left is none stands = absurd (no_command slots is)
-alone part.OriginalOid slots before left is none stands = absurd (no_command slots is)
-alone part.Author slots before left is none stands = absurd (no_command slots is)
-alone part.Committer slots before left is none stands = absurd (no_command slots is)
-alone part.Encoding slots before left is none stands = absurd (no_command slots is)
-alone part.From slots before left is none stands = absurd (no_command slots is)
-alone part.Merge slots before left is none stands = absurd (no_command slots is)
-alone part.Tagger slots before left is none stands = absurd (no_command slots is)
-alone part.To slots before left is none stands = absurd (no_command slots is)
-alone part.Modify slots before left is none stands = absurd (no_command slots is)
-alone part.ModifyInline slots before left is none stands = absurd (no_command slots is)
-alone part.Delete slots before left is none stands = absurd (no_command slots is)
-alone part.Copy slots before left is none stands = absurd (no_command slots is)
-alone part.Rename slots before left is none stands = absurd (no_command slots is)
-alone part.DeleteAll slots before left is none stands = absurd (no_command slots is)
-alone part.Data slots before left is none stands = absurd (no_command slots is)
-alone part.Blank slots before left is none stands = (no_slots slots is, refl)
-alone part.Unknown slots before left is none stands = absurd (no_command slots is)
+alone part.Checkpoint terms before left is none stands = (no_terms terms is, refl)
+alone part.Progress terms before left is none stands = (no_terms terms is, refl)
+alone part.GetMark terms before left is none stands = (no_terms terms is, refl)
+alone part.CatBlob terms before left is none stands = (no_terms terms is, refl)
+alone part.Ls terms before left is none stands = (no_terms terms is, refl)
+alone part.Done terms before left is none stands = (no_terms terms is, refl)
+alone part.Feature terms before left is none stands = (no_terms terms is, refl)
+alone part.Setting terms before left is none stands = (no_terms terms is, refl)
+alone part.Mark terms before left is none stands = absurd (no_command terms is)
+alone part.OriginalOid terms before left is none stands = absurd (no_command terms is)
+alone part.Author terms before left is none stands = absurd (no_command terms is)
+alone part.Committer terms before left is none stands = absurd (no_command terms is)
+alone part.Encoding terms before left is none stands = absurd (no_command terms is)
+alone part.From terms before left is none stands = absurd (no_command terms is)
+alone part.Merge terms before left is none stands = absurd (no_command terms is)
+alone part.Tagger terms before left is none stands = absurd (no_command terms is)
+alone part.To terms before left is none stands = absurd (no_command terms is)
+alone part.Modify terms before left is none stands = absurd (no_command terms is)
+alone part.ModifyInline terms before left is none stands = absurd (no_command terms is)
+alone part.Delete terms before left is none stands = absurd (no_command terms is)
+alone part.Copy terms before left is none stands = absurd (no_command terms is)
+alone part.Rename terms before left is none stands = absurd (no_command terms is)
+alone part.DeleteAll terms before left is none stands = absurd (no_command terms is)
+alone part.Data terms before left is none stands = absurd (no_command terms is)
+alone part.Blank terms before left is none stands = (no_terms terms is, refl)
+alone part.Unknown terms before left is none stands = absurd (no_command terms is)
 
--- What is to be shown of the parts behind one.
+-- What is to be shown of the parts after one.
 abbrev AreLaterPlaced : List Part → Type 0
 AreLaterPlaced parts =
-    (slots : List Slot) → Orderly slots → Continues slots parts → ArePlaced parts slots
+    (terms : List Term) → Orderly terms → Continues terms parts → ArePlaced parts terms
 
 -- A part that begins a command: it is placed where the open command may end.
-placed_command : (command : Part) (slots next : List Slot) (parts : List Part) (place : Fit)
-    → fit command slots ≡ place → behind command ≡ Some next → Orderly slots
-    → may_end slots ≡ true → Continues next parts → AreLaterPlaced parts
-    → ArePlaced (command ∷ parts) slots
+placed_command : (command : Part) (terms next : List Term) (parts : List Part) (place : Fit)
+    → fit command terms ≡ place → production_of command ≡ Some next → Orderly terms
+    → may_end terms ≡ true → Continues next parts → AreLaterPlaced parts
+    → ArePlaced (command ∷ parts) terms
 unfolding IsAlone
-placed_command command slots next parts (Stands left) is begins orderly end continues later =
-    let one = alone command next slots left begins orderly.alone is in
+placed_command command terms next parts (Stands left) is begins orderly end continues later =
+    let one = alone command next terms left begins orderly.alone is in
     let none : continues.first ≡ [] = Fills-nil continues.first (rw one.0 at continues.fills) in
-    let placed = later left (Orderly-Stands command slots left is orderly) (record {
+    let placed = later left (Orderly-Stands command terms left is orderly) (record {
       first = [];
       later = continues.later;
       both = rw none at continues.both;
-      fills = Fills-may_end left (may_end-Stands command slots left one.1 end is);
+      fills = Fills-may_end left (may_end-Stands command terms left one.1 end is);
       whole = continues.whole;
     }) in
-    record { left = placed.left; behind_parts = rw is placed.behind_parts; end = placed.end }
-placed_command command slots next parts Ends is begins orderly end continues later =
+    record { left = placed.left; after_parts = rw is placed.after_parts; end = placed.end }
+placed_command command terms next parts Ends is begins orderly end continues later =
     let placed = later next (rw begins at (Orderly-command command)) continues in
     record {
       left = placed.left;
-      behind_parts = rw (is, begins) placed.behind_parts;
+      after_parts = rw (is, begins) placed.after_parts;
       end = placed.end;
     }
-placed_command command slots next parts Misses is begins orderly end continues later =
-    absurd (may_end-Misses command slots end is)
+placed_command command terms next parts Misses is begins orderly end continues later =
+    absurd (may_end-Misses command terms end is)
 
-placed_later : (taken : Part) (parts later : List Part) (slots : List Slot)
-    → taken ∷ parts ≡ later → Orderly slots → may_end slots ≡ true → AreCommands later
-    → AreLaterPlaced parts → ArePlaced (taken ∷ parts) slots
-placed_later taken parts _ slots both orderly end none_left rest =
+placed_later : (taken : Part) (parts later : List Part) (terms : List Term)
+    → taken ∷ parts ≡ later → Orderly terms → may_end terms ≡ true → AreCommands later
+    → AreLaterPlaced parts → ArePlaced (taken ∷ parts) terms
+placed_later taken parts _ terms both orderly end none_left rest =
     let absent : taken ∷ parts ≡ [] = both in cc
-placed_later taken parts _ slots both orderly end (one_first c next first later is fills whole) rest =
+placed_later taken parts _ terms both orderly end (one_first c next first later is fills whole) rest =
     let same_part : taken ≡ c = cc in
     let same_parts : parts ≡ first ++ later = cc in
     rw same_part
-    (placed_command c slots next parts (fit c slots) refl is orderly end
+    (placed_command c terms next parts (fit c terms) refl is orderly end
     (record { first = first; later = later; both = same_parts; fills = fills; whole = whole }) rest)
 
-placed_first : (taken : Part) (parts first later : List Part) (slots : List Slot)
-    → taken ∷ parts ≡ first ++ later → Orderly slots → Fills slots first → AreCommands later
-    → AreLaterPlaced parts → ArePlaced (taken ∷ parts) slots
-placed_first taken parts [] later slots both orderly fills whole rest =
-    placed_later taken parts later slots both orderly
-    (FirstStands-Fills slots [] orderly.own fills) whole rest
-placed_first taken parts (part ∷ first) later slots both orderly fills whole rest =
-    let standing = FirstStands-Fills slots (part ∷ first) orderly.own fills in
+placed_first : (taken : Part) (parts first later : List Part) (terms : List Term)
+    → taken ∷ parts ≡ first ++ later → Orderly terms → Fills terms first → AreCommands later
+    → AreLaterPlaced parts → ArePlaced (taken ∷ parts) terms
+placed_first taken parts [] later terms both orderly fills whole rest =
+    placed_later taken parts later terms both orderly
+    (FirstStands-Fills terms [] orderly.own fills) whole rest
+placed_first taken parts (part ∷ first) later terms both orderly fills whole rest =
+    let standing = FirstStands-Fills terms (part ∷ first) orderly.own fills in
     let same_part : taken ≡ part = cc in
     let same_parts : parts ≡ first ++ later = cc in
-    let placed = rest standing.left (Orderly-Stands part slots standing.left standing.is orderly)
+    let placed = rest standing.left (Orderly-Stands part terms standing.left standing.is orderly)
     (record {
       first = first;
       later = later;
@@ -294,28 +294,28 @@ placed_first taken parts (part ∷ first) later slots both orderly fills whole r
     }) in
     record {
       left = placed.left;
-      behind_parts = rw (same_part, standing.is) placed.behind_parts;
+      after_parts = rw (same_part, standing.is) placed.after_parts;
       end = placed.end;
     }
 
 -- No part is left, and the open command may end.
-may_end-nil : (first later : List Part) (slots : List Slot) → [] ≡ first ++ later
-    → HaveOwnParts slots → Fills slots first → may_end slots ≡ true
-may_end-nil [] later slots both own fills = FirstStands-Fills slots [] own fills
-may_end-nil (part ∷ first) later slots both own fills =
+may_end-nil : (first later : List Part) (terms : List Term) → [] ≡ first ++ later
+    → HaveOwnParts terms → Fills terms first → may_end terms ≡ true
+may_end-nil [] later terms both own fills = FirstStands-Fills terms [] own fills
+may_end-nil (part ∷ first) later terms both own fills =
     let absent : [] ≡ part ∷ (first ++ later) = both in cc
 
 ArePlaced-Continues : (parts : List Part) → AreLaterPlaced parts
-ArePlaced-Continues [] slots orderly continues =
+ArePlaced-Continues [] terms orderly continues =
     record {
-      left = slots;
-      behind_parts = refl;
+      left = terms;
+      after_parts = refl;
       end =
-          may_end-nil continues.first continues.later slots continues.both orderly.own
+          may_end-nil continues.first continues.later terms continues.both orderly.own
           continues.fills;
     }
-ArePlaced-Continues (part ∷ parts) slots orderly continues =
-    placed_first part parts continues.first continues.later slots continues.both orderly
+ArePlaced-Continues (part ∷ parts) terms orderly continues =
+    placed_first part parts continues.first continues.later terms continues.both orderly
     continues.fills continues.whole (ArePlaced-Continues parts)
 
 pub ArePlaced-commands : (parts : List Part) → AreCommands parts → ArePlaced parts []

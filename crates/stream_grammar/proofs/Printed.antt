@@ -1,28 +1,14 @@
 -- A mark in decimal digits, and an object name in hexadecimal ones, are read as they were written.
-use Rattle.std.proofs.Common.{arith, sym, ◌∙◌, ap, ◌≡◌, ◌<◌, ◌^◌, ◌/◌, ◌==◌, ◌++◌, lit<, refl}
+use Rattle.std.proofs.Common.{arith, sym, ◌∙◌, ap, ◌≡◌, ◌<◌, ◌^◌, ◌/◌, ◌==◌, ◌++◌, refl}
 use Rattle.std.proofs.Common.{length, ℕ, true, false, List, [], ◌∷◌, Some, None, Ok, codes}
-use Rattle.std.proofs.lemmas.Bool.{lt-ltb, le-leb, ne_eqb}
-use Rattle.std.proofs.lemmas.Fmt.{decimal_nonempty, digits_decimal, digits_value-decimal, length-decimal-le}
+use Rattle.std.proofs.lemmas.Bool.{ne_eqb}
 use Rattle.std.specs.Fmt.{decimal}
 use Rattle.std.specs.Prelude.{slice_index}
 use Rattle.hex.proofs.HexLemmas.{IsDigits-lower_digits, decode_pairs-encode_with, length-encode_with}
 use Rattle.hex.specs.Hex.{IsBytes, decode_sized, encode_lower, encode_with, hex_digit_value, lower_digits}
 use Rattle.stream_grammar.specs.declared.data_ref.DataRef.TheVariants as data_ref
-use Rattle.stream_grammar.specs.Texts.{is_numeral, number_of, numbered, behind_colon, mark_of, dataref_of}
-use Rattle.stream_grammar.proofs.Numbers.{decimals, in_64_bits-yes}
-
-is_numeral-decimal : (n : ℕ) → n < 2 ^ 64 → is_numeral (decimal n) ≡ true
-is_numeral-decimal n fits =
-    let below : n < 10 ^ 20 = omega arith in
-    let some = lt-ltb 0 (length (decimal n)) (decimal_nonempty n fits) in
-    let short = le-leb (length (decimal n)) 20 (length-decimal-le 20 n (lit< tt) below fits) in
-    let digits = digits_decimal decimals n fits in
-    rw (some, short, digits) refl
-
-number_of-decimal : (n : ℕ) → n < 2 ^ 64 → number_of (decimal n) ≡ Some n
-unfolding number_of
-number_of-decimal n fits =
-    rw (is_numeral-decimal n fits, digits_value-decimal decimals n fits) (in_64_bits-yes n fits)
+use Rattle.stream_grammar.specs.Texts.{numbered, after_colon, mark_of, dataref_of}
+use Rattle.numerals.proofs.Numerals.{number_of-decimal}
 
 numbered-some : (n : ℕ) → 0 < n → numbered (Some n) ≡ Ok n
 unfolding numbered
@@ -30,12 +16,12 @@ numbered-some n some =
     let other : (n == 0) ≡ false = ne_eqb n 0 (λ none. omega arith) in rw other refl
 
 pub mark_of-decimal : (n : ℕ) → 0 < n → n < 2 ^ 64 → mark_of (codes ":" ++ decimal n) ≡ Ok n
-unfolding behind_colon
+unfolding after_colon
 mark_of-decimal n some fits = rw (number_of-decimal n fits) (numbered-some n some)
 
 pub dataref_of-decimal : (n : ℕ) → 0 < n → n < 2 ^ 64
     → dataref_of (codes ":" ++ decimal n) ≡ Ok (data_ref.Mark n)
-unfolding behind_colon
+unfolding after_colon
 dataref_of-decimal n some fits = rw (number_of-decimal n fits, numbered-some n some) refl
 
 -- No hexadecimal digit is a colon.
@@ -44,10 +30,10 @@ digit-colon d below is =
     let digit = IsDigits-lower_digits d below in
     let colon : None ≡ Some d = ap hex_digit_value (sym is) ∙ digit in cc
 
-behind_colon-encode_lower : (id : List ℕ) → IsBytes id → behind_colon (encode_lower id) ≡ None
-unfolding behind_colon encode_with
-behind_colon-encode_lower [] bytes = refl
-behind_colon-encode_lower (byte ∷ rest) bytes =
+after_colon-encode_lower : (id : List ℕ) → IsBytes id → after_colon (encode_lower id) ≡ None
+unfolding after_colon encode_with
+after_colon-encode_lower [] bytes = refl
+after_colon-encode_lower (byte ∷ rest) bytes =
     let fits : byte < 256 = bytes 0 in
     let below : byte / 16 < 16 = omega arith in
     let digit : ℕ = slice_index lower_digits (byte / 16) in
@@ -63,4 +49,4 @@ decode_sized-encode_lower id bytes sized =
 pub dataref_of-encode_lower : (id : List ℕ) → IsBytes id → length id ≡ 20
     → dataref_of (encode_lower id) ≡ Ok (data_ref.Name id)
 dataref_of-encode_lower id bytes sized =
-    rw (behind_colon-encode_lower id bytes, decode_sized-encode_lower id bytes sized) refl
+    rw (after_colon-encode_lower id bytes, decode_sized-encode_lower id bytes sized) refl

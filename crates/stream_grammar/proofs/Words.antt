@@ -11,20 +11,21 @@ use Rattle.git_paths.specs.declared.fault.Fault.{Fault as PathFault}
 use Rattle.git_paths.specs.declared.fault.Fault.TheVariants as path_fault
 use Rattle.git_paths.specs.declared.place.Place.TheVariants.{Source, Last}
 use Rattle.git_paths.specs.Reading.{path_at}
+use Rattle.numerals.specs.Numbers.{number_of}
 use Rattle.stream_lex.specs.Items.{Item, Line, Data, Blank}
 use Rattle.stream_grammar.specs.declared.fault.Fault.{Fault}
 use Rattle.stream_grammar.specs.declared.feature.Setting.{Setting}
 use Rattle.stream_grammar.specs.declared.feature.Setting.TheVariants as setting
 use Rattle.stream_grammar.specs.declared.part.Part.{Part}
 use Rattle.stream_grammar.specs.declared.part.Part.TheVariants as part
-use Rattle.stream_grammar.specs.declared.command.Opened.{Opened}
-use Rattle.stream_grammar.specs.declared.command.Opened.TheVariants as opened
-use Rattle.stream_grammar.specs.Texts.{read, argument, behind_space, behind_colon, first_word, required, number_of, numbered, marked, mark_of, named, referred, dataref_of}
+use Rattle.stream_grammar.specs.declared.stage.Opened.{Opened}
+use Rattle.stream_grammar.specs.Texts.{read, argument, after_space, after_colon, first_word, required, numbered, marked, mark_of, named, referred, dataref_of}
 use Rattle.stream_grammar.specs.Names.{ref_of, ident_judged, ident_of, commit_at, commit_ish_of}
 use Rattle.stream_grammar.specs.Changes.{mode_of, mode_inline, path_read, path_of, paths_of, object_and_path, modified, inline_path, modified_inline, is_encoding, encoding_of, is_quoted}
 use Rattle.stream_grammar.specs.Features.{feature_of, in_time, quiet_of, head_of, setting_of}
-use Rattle.stream_grammar.specs.Acts.{Act, Brought, Header, header_of}
-use Rattle.stream_grammar.specs.Lines.{entry_shown, shown_inside, change, changed, inside, given, taken, option_set, begun_alone, begun, started}
+use Rattle.stream_grammar.specs.Acts.{Act, Effect}
+use Rattle.stream_grammar.specs.Lines.{entry_act, branch_entry_act, change_act, line_effect, inner_effect}
+use Rattle.stream_grammar.specs.Lines.{option_act, single_act, first_line_act, first_act}
 use Rattle.stream_grammar.specs.Whole.{FindsPlace}
 use Rattle.stream_grammar.proofs.Filled.{by_test}
 
@@ -52,7 +53,7 @@ found-marked None = ((λ same. cc), (λ same. cc))
 found-marked (Some digits) = found-numbered (number_of digits)
 
 found-mark_of : (text : List ℕ) → FindsPlace (mark_of text)
-found-mark_of text = found-marked (behind_colon text)
+found-mark_of text = found-marked (after_colon text)
 
 found-named : (id : Result (List ℕ) FromHexError) → FindsPlace (named id)
 found-named (Ok id) = tt
@@ -63,14 +64,14 @@ found-referred text None = found-named (decode_sized text 20)
 found-referred text (Some digits) = found-then _ _ (found-numbered (number_of digits))
 
 found-dataref_of : (text : List ℕ) → FindsPlace (dataref_of text)
-found-dataref_of text = found-referred text (behind_colon text)
+found-dataref_of text = found-referred text (after_colon text)
 
 found-commit_at : (text : List ℕ) (digits : Option (List ℕ)) → FindsPlace (commit_at text digits)
 found-commit_at text None = tt
 found-commit_at text (Some digits) = found-then _ _ (found-numbered (number_of digits))
 
 found-commit_ish_of : (text : List ℕ) → FindsPlace (commit_ish_of text)
-found-commit_ish_of text = found-commit_at text (behind_colon text)
+found-commit_ish_of text = found-commit_at text (after_colon text)
 
 found-required : {A : Type 0} (value : Option A) → FindsPlace (required value)
 found-required None = ((λ same. cc), (λ same. cc))
@@ -117,7 +118,7 @@ found-paths_of text =
 found-object_and_path : (text : List ℕ) → FindsPlace (object_and_path text)
 found-object_and_path text =
     found-read _ _ (found-dataref_of (first_word text)) (λ object.
-    found-read _ _ (found-required (behind_space text)) (λ rest.
+    found-read _ _ (found-required (after_space text)) (λ rest.
     found-then _ _ (found-path_of rest)))
 
 found-mode_of : (word : List ℕ) → FindsPlace (mode_of word)
@@ -142,17 +143,17 @@ found-mode_inline mode.Directory = ((λ same. cc), (λ same. cc))
 found-modified : (text : List ℕ) → FindsPlace (modified text)
 found-modified text =
     found-read _ _ (found-mode_of (first_word text)) (λ file_mode.
-    found-read _ _ (found-required (behind_space text)) (λ rest.
+    found-read _ _ (found-required (after_space text)) (λ rest.
     found-then _ _ (found-object_and_path rest)))
 
 found-inline_path : (text : List ℕ) → FindsPlace (inline_path text)
 found-inline_path text =
-    found-read _ _ (found-required (behind_space text)) (λ rest. found-path_of rest)
+    found-read _ _ (found-required (after_space text)) (λ rest. found-path_of rest)
 
 found-modified_inline : (text : List ℕ) → FindsPlace (modified_inline text)
 found-modified_inline text =
     found-read _ _ (found-mode_of (first_word text)) (λ file_mode.
-    found-read _ _ (found-required (behind_space text)) (λ rest.
+    found-read _ _ (found-required (after_space text)) (λ rest.
     found-read _ _ (found-mode_inline file_mode) (λ kept.
     found-then _ _ (found-inline_path rest))))
 
@@ -182,88 +183,79 @@ found-feature_of word =
     by_test (bytes_eq word (codes "date-format=raw")) (λ is. rw is tt)
     (λ other. rw other ((λ same. cc), (λ same. cc)))))))))))))
 
-found-entry_shown : (text : List ℕ) → FindsPlace (entry_shown text)
-found-entry_shown text = found-then _ _ (found-object_and_path text)
+found-entry_act : (text : List ℕ) → FindsPlace (entry_act text)
+found-entry_act text = found-then _ _ (found-object_and_path text)
 
-found-shown_inside : (quoted : Bool) (text : List ℕ) → FindsPlace (shown_inside quoted text)
-found-shown_inside true text = found-then _ _ (found-path_of text)
-found-shown_inside false text = found-entry_shown text
+found-branch_entry_act : (quoted : Bool) (text : List ℕ)
+    → FindsPlace (branch_entry_act quoted text)
+found-branch_entry_act true text = found-then _ _ (found-path_of text)
+found-branch_entry_act false text = found-entry_act text
 
-found-change : (taken : Part) (text : List ℕ) → FindsPlace (change taken text)
-found-change part.Modify text = found-then _ _ (found-modified (argument text))
-found-change part.ModifyInline text = found-then _ _ (found-modified_inline (argument text))
-found-change part.Delete text = found-then _ _ (found-path_of (argument text))
-found-change part.Copy text = found-then _ _ (found-paths_of (argument text))
-found-change part.Rename text = found-then _ _ (found-paths_of (argument text))
-found-change part.DeleteAll text = tt
-found-change part.CatBlob text = found-then _ _ (found-dataref_of (argument text))
-found-change part.Ls text = found-shown_inside (is_quoted (argument text)) (argument text)
-found-change _ text = tt
+found-change_act : (taken : Part) (text : List ℕ) → FindsPlace (change_act taken text)
+found-change_act part.Modify text = found-then _ _ (found-modified (argument text))
+found-change_act part.ModifyInline text = found-then _ _ (found-modified_inline (argument text))
+found-change_act part.Delete text = found-then _ _ (found-path_of (argument text))
+found-change_act part.Copy text = found-then _ _ (found-paths_of (argument text))
+found-change_act part.Rename text = found-then _ _ (found-paths_of (argument text))
+found-change_act part.DeleteAll text = tt
+found-change_act part.CatBlob text = found-then _ _ (found-dataref_of (argument text))
+found-change_act part.Ls text =
+    found-branch_entry_act (is_quoted (argument text)) (argument text)
+found-change_act _ text = tt
 
-found-changed : (header : Header) (taken : Part) (text : List ℕ)
-    → FindsPlace (changed header taken text)
-found-changed header taken text = found-then _ _ (found-change taken text)
+found-line_effect : (now : Opened) (mark : Option ℕ) (taken : Part) (text : List ℕ)
+    → FindsPlace (line_effect now mark taken text)
+found-line_effect now mark part.Mark text = found-then _ _ (found-mark_of (argument text))
+found-line_effect now mark part.Author text = found-then _ _ (found-ident_of (argument text))
+found-line_effect now mark part.Committer text = found-then _ _ (found-ident_of (argument text))
+found-line_effect now mark part.Encoding text = found-then _ _ (found-encoding_of (argument text))
+found-line_effect now mark part.From text = found-then _ _ (found-commit_ish_of (argument text))
+found-line_effect now mark part.Merge text = found-then _ _ (found-commit_ish_of (argument text))
+found-line_effect now mark part.Tagger text = found-then _ _ (found-ident_of (argument text))
+found-line_effect now mark part.To text = found-then _ _ (found-commit_ish_of (argument text))
+found-line_effect now mark taken text =
+    let with_mark : Act → Effect = λ act. record { mark = mark; act = act } in
+    found-then {A = Act} {B = Effect} (change_act taken text) with_mark
+    (found-change_act taken text)
 
-found-inside : (header : Header) (taken : Part) (text : List ℕ)
-    → FindsPlace (inside header taken text)
-found-inside header part.Mark text = found-then _ _ (found-mark_of (argument text))
-found-inside header part.Author text = found-then _ _ (found-ident_of (argument text))
-found-inside header part.Committer text = found-then _ _ (found-ident_of (argument text))
-found-inside header part.Encoding text = found-then _ _ (found-encoding_of (argument text))
-found-inside header part.From text = found-then _ _ (found-commit_ish_of (argument text))
-found-inside header part.Merge text = found-then _ _ (found-commit_ish_of (argument text))
-found-inside header part.Tagger text = found-then _ _ (found-ident_of (argument text))
-found-inside header part.To text = found-then _ _ (found-commit_ish_of (argument text))
-found-inside header taken text = found-changed header taken text
+-- What an item brings in the open command.
+pub found-inner_effect : (now : Opened) (mark : Option ℕ) (part : Part) (item : Item)
+    → FindsPlace (inner_effect now mark part item)
+found-inner_effect now mark part (Line text) = found-line_effect now mark part text
+found-inner_effect now mark part (Data contents) = tt
+found-inner_effect now mark part Blank = tt
 
-found-given : (header : Header) (now : Opened) (contents : List ℕ)
-    → FindsPlace (given header now contents)
-found-given header opened.Blob contents = tt
-found-given header opened.Commit contents = tt
-found-given header opened.Inline contents = tt
-found-given header opened.Tag contents = tt
-found-given header _ contents = tt
-
--- What an item asks for in the open command.
-pub found-taken : (header : Header) (part : Part) (item : Item)
-    → FindsPlace (taken header part item)
-found-taken header part (Line text) = found-inside header part text
-found-taken header part (Data contents) = found-given header header.opened contents
-found-taken header part Blank = tt
-
-found-option_set : (late : Bool) (whose : Setting) (words : List ℕ)
-    → FindsPlace (option_set late whose words)
-found-option_set late setting.Git words =
+found-option_act : (late : Bool) (whose : Setting) (words : List ℕ)
+    → FindsPlace (option_act late whose words)
+found-option_act late setting.Git words =
     found-read _ _ (found-in_time late) (λ u. found-then _ _ (found-quiet_of words))
-found-option_set late setting.Head words =
+found-option_act late setting.Head words =
     found-read _ _ (found-in_time late)
     (λ u. found-then _ _ (found-head_of (argument (argument words))))
-found-option_set late setting.Other words = tt
+found-option_act late setting.Other words = tt
 
-found-begun_alone : (late : Bool) (command : Part) (text : List ℕ)
-    → FindsPlace (begun_alone late command text)
-found-begun_alone late part.GetMark text = found-then _ _ (found-mark_of (argument text))
-found-begun_alone late part.CatBlob text = found-then _ _ (found-dataref_of (argument text))
-found-begun_alone late part.Ls text = found-entry_shown (argument text)
-found-begun_alone late part.Feature text =
+found-single_act : (late : Bool) (command : Part) (text : List ℕ)
+    → FindsPlace (single_act late command text)
+found-single_act late part.GetMark text = found-then _ _ (found-mark_of (argument text))
+found-single_act late part.CatBlob text = found-then _ _ (found-dataref_of (argument text))
+found-single_act late part.Ls text = found-entry_act (argument text)
+found-single_act late part.Feature text =
     found-read _ _ (found-in_time late) (λ u. found-then _ _ (found-feature_of (argument text)))
-found-begun_alone late part.Setting text =
-    found-option_set late (setting_of (argument text)) (argument text)
-found-begun_alone late _ text = tt
+found-single_act late part.Setting text =
+    found-option_act late (setting_of (argument text)) (argument text)
+found-single_act late _ text = tt
 
-found-begun : (late : Bool) (command : Part) (text : List ℕ) → FindsPlace (begun late command text)
-found-begun late part.Blob text = tt
-found-begun late part.Commit text = found-then _ _ (found-ref_of (argument text))
-found-begun late part.Tag text = found-then _ _ (found-ref_of (codes "refs/tags/" ++ argument text))
-found-begun late part.Reset text = found-then _ _ (found-ref_of (argument text))
-found-begun late part.Alias text = tt
-found-begun late command text =
-    let brought : Act → Brought = λ act. record { header = header_of opened.Nothing; act = act } in
-    found-then {A = Act} {B = Brought} (begun_alone late command text) brought
-    (found-begun_alone late command text)
+found-first_line_act : (late : Bool) (command : Part) (text : List ℕ)
+    → FindsPlace (first_line_act late command text)
+found-first_line_act late part.Commit text = found-then _ _ (found-ref_of (argument text))
+found-first_line_act late part.Tag text =
+    found-then _ _ (found-ref_of (codes "refs/tags/" ++ argument text))
+found-first_line_act late part.Reset text = found-then _ _ (found-ref_of (argument text))
+found-first_line_act late command text = found-single_act late command text
 
 -- What an item asks for that begins a command.
-pub found-started : (late : Bool) (part : Part) (item : Item) → FindsPlace (started late part item)
-found-started late part (Line text) = found-begun late part text
-found-started late part (Data contents) = tt
-found-started late part Blank = tt
+pub found-first_act : (late : Bool) (part : Part) (item : Item)
+    → FindsPlace (first_act late part item)
+found-first_act late part (Line text) = found-first_line_act late part text
+found-first_act late part (Data contents) = tt
+found-first_act late part Blank = tt

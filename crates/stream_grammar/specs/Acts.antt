@@ -1,10 +1,9 @@
 -- Acts: what one item of a stream asks for, git-fast-import(1), "Commands".
-use Rattle.std.specs.Prelude.{ℕ, List, Option, None, Result, Ok}
+use Rattle.std.specs.Prelude.{ℕ, List, Option, Result, Ok}
 use Rattle.git_model.specs.declared.file_mode.FileMode.{FileMode}
 use Rattle.stream_grammar.specs.declared.fault.Fault.{Fault}
 use Rattle.stream_grammar.specs.declared.data_ref.DataRef.{DataRef}
 use Rattle.stream_grammar.specs.declared.feature.Feature.{Feature}
-use Rattle.stream_grammar.specs.declared.command.Opened.{Opened}
 use Rattle.stream_grammar.specs.Names.{CommitIsh}
 use Rattle.stream_grammar.specs.Changes.{Path}
 
@@ -24,7 +23,7 @@ pub data Act : Type 0 where
   -- what the open commit starts from, and what it merges
   StartFrom : CommitIsh → Act
   Merge : CommitIsh → Act
-  -- the files of the open commit change: one is put, by an object or by the data behind; one is
+  -- the files of the open commit change: one is put, by an object or by the next data; one is
   -- dropped, copied, renamed; all are dropped
   Modify : FileMode → DataRef → Path → Act
   ModifyInline : FileMode → Path → Act
@@ -57,23 +56,10 @@ pub data Act : Type 0 where
   Require : Feature → Act
   SetHead : List ℕ → Act
 
--- What the open command has said: which one it is, and its mark.
-pub record Header : Type 0 where
-  pub opened : Opened
+-- What a part of the open command brings: the mark that the command has then, and an act.
+pub record Effect : Type 0 where
   pub mark : Option ℕ
-
--- What a command has said at its first line.
-abbrev pub header_of : Opened → Header
-header_of opened = record { opened = opened; mark = None }
-
--- What a part brings: what the open command has said then, and an act.
-pub record Brought : Type 0 where
-  pub header : Header
   pub act : Act
 
-abbrev pub brings : Header → Act → Result Brought Fault
-brings header act = Ok (record { header = header; act = act })
-
--- This command is open then, or none.
-abbrev pub opens : Opened → Act → Result Brought Fault
-opens opened act = brings (header_of opened) act
+abbrev pub brings : Option ℕ → Act → Result Effect Fault
+brings mark act = Ok (record { mark = mark; act = act })

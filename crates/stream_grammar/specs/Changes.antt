@@ -10,7 +10,7 @@ use Rattle.git_paths.specs.Reading.{path_at}
 use Rattle.stream_grammar.specs.declared.fault.Fault.{Fault}
 use Rattle.stream_grammar.specs.declared.fault.Fault.TheVariants as fault
 use Rattle.stream_grammar.specs.declared.data_ref.DataRef.{DataRef}
-use Rattle.stream_grammar.specs.Texts.{read, first_word, behind_space, required, dataref_of}
+use Rattle.stream_grammar.specs.Texts.{read, first_word, after_space, required, dataref_of}
 
 -- The modes of the manual; Git's short forms of the first two are known too: <mode>
 unfoldable pub mode_of : List ℕ → Result FileMode Fault
@@ -47,7 +47,7 @@ path_read (Err e) = Err (fault_of_path e)
 abbrev pub path_of : List ℕ → Result Path Fault
 path_of text = read (path_read (path_at Last text)) (λ found. Ok found.0)
 
--- A source with a space behind it, and the path that is the rest of the line: <path> SP <path>
+-- A source with a space after it, and the path that is the rest of the line: <path> SP <path>
 abbrev pub paths_of : List ℕ → Result (Path × Path) Fault
 paths_of text =
     read (path_read (path_at Source text)) (λ source.
@@ -57,24 +57,24 @@ paths_of text =
 abbrev pub object_and_path : List ℕ → Result (DataRef × Path) Fault
 object_and_path text =
     read (dataref_of (first_word text)) (λ object.
-    read (required (behind_space text)) (λ rest.
+    read (required (after_space text)) (λ rest.
     read (path_of rest) (λ path. Ok (object, path))))
 
 -- <mode> SP <dataref> SP <path>
 abbrev pub modified : List ℕ → Result (FileMode × DataRef × Path) Fault
 modified text =
     read (mode_of (first_word text)) (λ mode.
-    read (required (behind_space text)) (λ rest.
+    read (required (after_space text)) (λ rest.
     read (object_and_path rest) (λ file. Ok (mode, file.0, file.1))))
 
 -- <mode> SP 'inline' SP <path>, where the rest of the line begins with 'inline'
 abbrev pub inline_path : List ℕ → Result Path Fault
-inline_path rest = read (required (behind_space rest)) (λ text. path_of text)
+inline_path rest = read (required (after_space rest)) (λ text. path_of text)
 
 abbrev pub modified_inline : List ℕ → Result (FileMode × Path) Fault
 modified_inline text =
     read (mode_of (first_word text)) (λ mode.
-    read (required (behind_space text)) (λ rest.
+    read (required (after_space text)) (λ rest.
     read (mode_inline mode) (λ file_mode.
     read (inline_path rest) (λ path. Ok (file_mode, path)))))
 

@@ -1,24 +1,26 @@
 -- Commands: what the items of a stream ask for, in order; git-fast-import(1), "Commands".
-use Rattle.std.specs.Prelude.{Bool, true, false, ◌&&◌, ◌||◌, not, if◌then◌else◌, List, [], ◌∷◌, ◌++◌}
+use Rattle.std.specs.Prelude.{ℕ, Bool, true, false, ◌&&◌, ◌||◌, not, if◌then◌else◌, List, [], ◌∷◌, ◌++◌}
 use Rattle.std.specs.Prelude.{Option, Some, None, Result, Ok, Err}
 use Rattle.stream_lex.specs.Items.{Item}
 use Rattle.stream_grammar.specs.declared.fault.Fault.{Fault}
 use Rattle.stream_grammar.specs.declared.fault.Fault.TheVariants as fault
 use Rattle.stream_grammar.specs.declared.part.Part.{Part}
-use Rattle.stream_grammar.specs.declared.command.Opened.{Opened}
-use Rattle.stream_grammar.specs.declared.command.Opened.TheVariants as opened
+use Rattle.stream_grammar.specs.declared.part.Part.TheVariants as part
+use Rattle.stream_grammar.specs.declared.stage.Opened.{Opened}
+use Rattle.stream_grammar.specs.declared.stage.Opened.TheVariants as opened
 use Rattle.stream_grammar.specs.Parts.{part_of, is_early}
-use Rattle.stream_grammar.specs.Grammar.{Slot, behind, fit, Fit, Stands, Ends, Misses, may_end, is_empty}
+use Rattle.stream_grammar.specs.Grammar.{Term, production_of, fit, Fit, Stands, Ends, Misses, may_end, is_empty}
 use Rattle.stream_grammar.specs.Texts.{read}
-use Rattle.stream_grammar.specs.Acts.{Act, Header, header_of, Brought}
-use Rattle.stream_grammar.specs.Lines.{taken, started}
+use Rattle.stream_grammar.specs.Acts.{Act, Effect}
+use Rattle.stream_grammar.specs.Lines.{inner_effect, first_act}
 
--- The open command: what it has said, and the slots that are left; and whether a feature comes too
--- late now.
+-- The open command: which one it is, its mark, and the terms of its production that are left; and
+-- whether a feature comes too late now.
 pub record Open : Type 0 where
   pub late : Bool
-  pub header : Header
-  pub left : List Slot
+  pub opened : Opened
+  pub mark : Option ℕ
+  pub left : List Term
 
 -- What an item gives: whether a commit ends before the act, and the act.
 pub record Done : Type 0 where
@@ -30,44 +32,83 @@ pub record Step : Type 0 where
   pub done : Done
   pub next : Open
 
--- Whether a commit is open, behind its message.
+-- Whether a commit is open, after its message.
 abbrev pub is_commit : Opened → Bool
 is_commit opened.Changes = true
 is_commit opened.Inline = true
 is_commit _ = false
 
--- What a part brought, with whether a feature is late then, whether a commit ends, and the slots
--- that are left.
-abbrev pub gives : Bool → Bool → List Slot → Result Brought Fault → Result Step Fault
-gives late ends left (Ok brought) = Ok (record {
-  done = record { ends_commit = ends; act = brought.act };
-  next = record { late = late; header = brought.header; left = left };
-})
-gives late ends left (Err e) = Err e
+-- Data end a blob and a tag. Those of a commit are its message or the contents of a file, and then
+-- its files may change.
+abbrev pub opened_after_data : Opened → Opened
+opened_after_data opened.Commit = opened.Changes
+opened_after_data opened.Inline = opened.Changes
+opened_after_data _ = opened.Nothing
 
--- A part that begins a command opens its slots; no other may stand where no command is open. Behind
+-- Which command is open after a part that stands in one.
+abbrev pub opened_after : Part → Opened → Opened
+opened_after part.Data now = opened_after_data now
+opened_after part.ModifyInline now = opened.Inline
+opened_after part.To now = opened.Nothing
+opened_after part.Blank now = opened.Nothing
+opened_after _ now = now
+
+-- Which command a part begins. Those of one line are over with it.
+abbrev pub opened_by : Part → Opened
+opened_by part.Blob = opened.Blob
+opened_by part.Commit = opened.Commit
+opened_by part.Tag = opened.Tag
+opened_by part.Reset = opened.Reset
+opened_by part.Alias = opened.Alias
+opened_by _ = opened.Nothing
+
+-- A part that stands in the open command leaves these terms. A commit ends with the part that
+-- leaves it none.
+abbrev pub goes_on : Open → Part → List Term → Result Effect Fault → Result Step Fault
+goes_on now part left (Ok effect) = Ok (record {
+  done = record { ends_commit = is_commit now.opened && is_empty left; act = effect.act };
+  next = record {
+    late = now.late;
+    opened = opened_after part now.opened;
+    mark = effect.mark;
+    left = left;
+  };
+})
+goes_on now part left (Err e) = Err e
+
+-- A part that begins a command leaves the terms of its production, and ends an open commit. After
 -- any command but features, options and blank lines a feature is late.
-abbrev pub begins : Open → Option (List Slot) → Part → Item → Result Step Fault
-begins now None part item = Err fault.UnknownCommand
-begins now (Some slots) part item =
-    gives (now.late || not (is_early part)) (is_commit now.header.opened) slots
-    (started now.late part item)
+abbrev pub opens : Open → Part → List Term → Result Act Fault → Result Step Fault
+opens now part left (Ok act) = Ok (record {
+  done = record { ends_commit = is_commit now.opened; act = act };
+  next = record {
+    late = now.late || not (is_early part);
+    opened = opened_by part;
+    mark = None;
+    left = left;
+  };
+})
+opens now part left (Err e) = Err e
+
+-- Only a part that has a production may stand where no command is open.
+abbrev pub step_outside : Open → Option (List Term) → Part → Item → Result Step Fault
+step_outside now None part item = Err fault.UnknownCommand
+step_outside now (Some terms) part item = opens now part terms (first_act now.late part item)
 
 -- An item stands in the open command, or ends it and begins the next one, or finds a part missing.
--- A commit ends too with the part that leaves it no slot.
-abbrev pub placed : Open → Part → Item → Fit → Result Step Fault
-placed now part item (Stands left) =
-    gives now.late (is_commit now.header.opened && is_empty left) left (taken now.header part item)
-placed now part item Ends = begins now (behind part) part item
-placed now part item Misses = Err fault.MissingPart
+abbrev pub step_by : Open → Part → Item → Fit → Result Step Fault
+step_by now part item (Stands left) =
+    goes_on now part left (inner_effect now.opened now.mark part item)
+step_by now part item Ends = step_outside now (production_of part) part item
+step_by now part item Misses = Err fault.MissingPart
 
 -- The place is decided by the first word alone, before the rest of a line is read.
 unfoldable pub step : Open → Item → Result Step Fault
-step now item = placed now (part_of item) item (fit (part_of item) now.left)
+step now item = step_by now (part_of item) item (fit (part_of item) now.left)
 
 -- No command is open.
 abbrev pub top : Open
-top = record { late = false; header = header_of opened.Nothing; left = [] }
+top = record { late = false; opened = opened.Nothing; mark = None; left = [] }
 
 -- A parser has an open command, or a fault that it answers from now on.
 abbrev pub Parsing : Type 0
@@ -91,13 +132,13 @@ abbrev pub after : Parsing → Item → Parsing
 after parsing item = next_of (read parsing (λ now. step now item))
 
 -- At the end of a stream a part of the open command may be missing. Else it ends a commit or not.
-abbrev pub ended : Open → Result Bool Fault
-ended now =
-    if may_end now.left then Ok (is_commit now.header.opened) else Err fault.MissingPart
+abbrev pub end_within : Open → Result Bool Fault
+end_within now =
+    if may_end now.left then Ok (is_commit now.opened) else Err fault.MissingPart
 
 -- What the end of the stream gives.
 abbrev pub end_of : Parsing → Result Bool Fault
-end_of parsing = read parsing ended
+end_of parsing = read parsing end_within
 
 -- What some items give, and what they leave.
 pub record Commands : Type 0 where
@@ -109,12 +150,12 @@ abbrev pub then_given : Result Done Fault → Commands → Commands
 then_given (Ok done) later = record { given = done ∷ later.given; rest = later.rest }
 then_given (Err e) later = record { given = []; rest = Err e }
 
--- The commands of some items. Behind the first item that fits nowhere nothing is given.
+-- The commands of some items. After the first item that fits nowhere nothing is given.
 unfoldable pub commands : Parsing → List Item → Commands
 commands parsing [] = record { given = []; rest = parsing }
 commands parsing (item ∷ items) =
     then_given (done_by parsing item) (commands (after parsing item) items)
 
 -- What was given, and then what further items give.
-abbrev pub behind_given : List Done → Commands → Commands
-behind_given given later = record { given = given ++ later.given; rest = later.rest }
+abbrev pub given_before : List Done → Commands → Commands
+given_before given later = record { given = given ++ later.given; rest = later.rest }

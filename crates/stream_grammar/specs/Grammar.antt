@@ -11,21 +11,21 @@ use Rattle.stream_grammar.specs.Parts.{same}
 pub data Often : Type 0 where
   Once Perhaps AnyNumber : Often
 
--- A slot is a place in a command, and the parts that may stand there.
-pub record Slot : Type 0 where
+-- A term is a place in a command, and the parts that may stand there.
+pub record Term : Type 0 where
   pub often : Often
   pub parts : List Part
 
 -- The part stands here.
-abbrev pub once : Part → Slot
+abbrev pub once : Part → Term
 once part = record { often = Once; parts = part ∷ [] }
 
 -- The part may stand here once.
-abbrev pub perhaps : Part → Slot
+abbrev pub perhaps : Part → Term
 perhaps part = record { often = Perhaps; parts = part ∷ [] }
 
 -- One of these parts may stand here, any number of times.
-abbrev pub any_number : List Part → Slot
+abbrev pub any_number : List Part → Term
 any_number parts = record { often = AnyNumber; parts = parts }
 
 -- What may stand in the place of a change of files: 'M', 'D', 'C', 'R', 'deleteall', and 'cat-blob'
@@ -33,105 +33,105 @@ any_number parts = record { often = AnyNumber; parts = parts }
 abbrev pub changes : List Part
 changes = Modify ∷ ModifyInline ∷ Delete ∷ Copy ∷ Rename ∷ DeleteAll ∷ CatBlob ∷ Ls ∷ []
 
--- What stands behind the first part of a command, in the manual's order; none for a part that
+-- What stands after the first part of a command, in the manual's order; none for a part that
 -- begins no command. A word below stands for its line: 'mark' SP ':' <idnum> LF, and so on.
-abbrev pub behind : Part → Option (List Slot)
+abbrev pub production_of : Part → Option (List Term)
 -- 'blob' LF mark? original-oid? data
-behind Blob = Some (perhaps Mark ∷ perhaps OriginalOid ∷ once Data ∷ [])
+production_of Blob = Some (perhaps Mark ∷ perhaps OriginalOid ∷ once Data ∷ [])
 -- 'commit' SP <ref> LF mark? original-oid? author? committer encoding? data
 --     from? merge* change* LF?
-behind Commit =
+production_of Commit =
     Some (perhaps Mark ∷ perhaps OriginalOid ∷ perhaps Author ∷ once Committer ∷ perhaps Encoding
     ∷ once Data ∷ perhaps From ∷ any_number (Merge ∷ []) ∷ any_number changes ∷ perhaps Blank ∷ [])
 -- 'tag' SP <name> LF mark? from original-oid? tagger? data
-behind Tag =
+production_of Tag =
     Some (perhaps Mark ∷ once From ∷ perhaps OriginalOid ∷ perhaps Tagger ∷ once Data ∷ [])
 -- 'reset' SP <ref> LF from? LF?
-behind Reset = Some (perhaps From ∷ perhaps Blank ∷ [])
+production_of Reset = Some (perhaps From ∷ perhaps Blank ∷ [])
 -- 'alias' LF mark to
-behind Alias = Some (once Mark ∷ once To ∷ [])
+production_of Alias = Some (once Mark ∷ once To ∷ [])
 -- 'checkpoint' LF
-behind Checkpoint = Some []
+production_of Checkpoint = Some []
 -- 'progress' SP <any> LF
-behind Progress = Some []
+production_of Progress = Some []
 -- 'get-mark' SP ':' <idnum> LF
-behind GetMark = Some []
+production_of GetMark = Some []
 -- 'cat-blob' SP <dataref> LF
-behind CatBlob = Some []
+production_of CatBlob = Some []
 -- 'ls' SP <dataref> SP <path> LF
-behind Ls = Some []
+production_of Ls = Some []
 -- 'done' LF
-behind Done = Some []
+production_of Done = Some []
 -- 'feature' SP <feature> ('=' <argument>)? LF
-behind Feature = Some []
+production_of Feature = Some []
 -- 'option' SP <option> LF
-behind Setting = Some []
+production_of Setting = Some []
 -- An optional LF between commands is a command without effect.
-behind Blank = Some []
+production_of Blank = Some []
 -- These stand inside commands alone.
-behind Mark = None
-behind OriginalOid = None
-behind Author = None
-behind Committer = None
-behind Encoding = None
-behind From = None
-behind Merge = None
-behind Tagger = None
-behind To = None
-behind Modify = None
-behind ModifyInline = None
-behind Delete = None
-behind Copy = None
-behind Rename = None
-behind DeleteAll = None
-behind Data = None
-behind Unknown = None
+production_of Mark = None
+production_of OriginalOid = None
+production_of Author = None
+production_of Committer = None
+production_of Encoding = None
+production_of From = None
+production_of Merge = None
+production_of Tagger = None
+production_of To = None
+production_of Modify = None
+production_of ModifyInline = None
+production_of Delete = None
+production_of Copy = None
+production_of Rename = None
+production_of DeleteAll = None
+production_of Data = None
+production_of Unknown = None
 
--- Whether a part may stand in a slot.
-abbrev pub accepts : Slot → Part → Bool
-accepts slot part = list_any (same part) slot.parts
+-- Whether a part may stand in a term.
+abbrev pub accepts : Term → Part → Bool
+accepts term part = list_any (same part) term.parts
 
--- Whether such a slot may stay empty.
+-- Whether such a term may stay empty.
 abbrev pub is_free : Often → Bool
 is_free Once = false
 is_free Perhaps = true
 is_free AnyNumber = true
 
--- The slots that stay open where this one, before the others, took a part.
-abbrev pub used : Often → Slot → List Slot → List Slot
-used Once slot slots = slots
-used Perhaps slot slots = slots
-used AnyNumber slot slots = slot ∷ slots
+-- The terms that stay open where this one, before the others, took a part.
+abbrev pub used : Often → Term → List Term → List Term
+used Once term terms = terms
+used Perhaps term terms = terms
+used AnyNumber term terms = term ∷ terms
 
--- 'M' SP <mode> SP 'inline' SP <path> LF data: its data stand behind it, before all else.
-abbrev pub due : Part → List Slot
+-- 'M' SP <mode> SP 'inline' SP <path> LF data: its data stand after it, before all else.
+abbrev pub due : Part → List Term
 due part = if same part ModifyInline then once Data ∷ [] else []
 
--- The slots that are left where a slot, before the others, took a part.
-abbrev pub left_after : Part → Slot → List Slot → List Slot
-left_after part slot slots = due part ++ used slot.often slot slots
+-- The terms that are left where a term, before the others, took a part.
+abbrev pub left_after : Part → Term → List Term → List Term
+left_after part term terms = due part ++ used term.often term terms
 
--- What a part is to the slots that are left: it stands in one of them, and others are left then; it
--- stands behind the command, which may end here; or a part is missing before it.
+-- What a part is to the terms that are left: it stands in one of them, and others are left then; it
+-- stands after the command, which may end here; or a part is missing before it.
 pub data Fit : Type 0 where
-  Stands : List Slot → Fit
+  Stands : List Term → Fit
   Ends : Fit
   Misses : Fit
 
--- A part stands in the first slot that accepts it and has no slot before it that must be filled.
-abbrev pub fit : Part → List Slot → Fit
+-- A part stands in the first term that accepts it and has no term before it that must be filled.
+abbrev pub fit : Part → List Term → Fit
 fit part [] = Ends
-fit part (slot ∷ slots) =
-    if accepts slot part then Stands (left_after part slot slots)
-    else if is_free slot.often then fit part slots
+fit part (term ∷ terms) =
+    if accepts term part then Stands (left_after part term terms)
+    else if is_free term.often then fit part terms
     else Misses
 
 -- Whether a command may end here.
-abbrev pub may_end : List Slot → Bool
+abbrev pub may_end : List Term → Bool
 may_end [] = true
-may_end (slot ∷ slots) = if is_free slot.often then may_end slots else false
+may_end (term ∷ terms) = if is_free term.often then may_end terms else false
 
--- Whether no slot is left: the command is whole.
-abbrev pub is_empty : List Slot → Bool
+-- Whether no term is left: the command is whole.
+abbrev pub is_empty : List Term → Bool
 is_empty [] = true
-is_empty (slot ∷ slots) = false
+is_empty (term ∷ terms) = false

@@ -4,7 +4,7 @@ use Rattle.git_model.specs.IdentReading.{BadIdent, BadIdentity, BadDate, read_id
 use Rattle.tenant_refs.specs.StoredName.{names_ref}
 use Rattle.stream_grammar.specs.declared.fault.Fault.{Fault}
 use Rattle.stream_grammar.specs.declared.fault.Fault.TheVariants as fault
-use Rattle.stream_grammar.specs.Texts.{read, behind_colon, idnum_of}
+use Rattle.stream_grammar.specs.Texts.{read, after_colon, idnum_of}
 
 -- A ref is a ref name or `HEAD`, of at most 1,024 bytes: <ref>
 unfoldable pub ref_of : List ℕ → Result (List ℕ) Fault
@@ -36,4 +36,4 @@ commit_at text None = Ok (Expression text)
 commit_at text (Some digits) = read (idnum_of digits) (λ mark. Ok (Marked mark))
 
 abbrev pub commit_ish_of : List ℕ → Result CommitIsh Fault
-commit_ish_of text = commit_at text (behind_colon text)
+commit_ish_of text = commit_at text (after_colon text)

@@ -23,7 +23,7 @@ change_part text =
     else if bytes_eq text (codes "deleteall") then part.DeleteAll
     else part.Unknown
 
--- A line that stands inside a command, by its first word and the space behind it.
+-- A line that stands inside a command, by its first word and the space after it.
 unfoldable pub inner_part : List ℕ → Part
 inner_part text =
     if starts_with nat_eq text (codes "mark ") then part.Mark
@@ -37,7 +37,7 @@ inner_part text =
     else if starts_with nat_eq text (codes "to ") then part.To
     else change_part text
 
--- A line that begins a command is known by its first word and the space behind it, or as a whole
+-- A line that begins a command is known by its first word and the space after it, or as a whole
 -- where no space may stand in it. Every other line stands inside a command, or is not known.
 unfoldable pub part_of_line : List ℕ → Part
 part_of_line text =
@@ -56,13 +56,13 @@ part_of_line text =
     else if starts_with nat_eq text (codes "option ") then part.Setting
     else inner_part text
 
--- What an item is, whatever its text says behind the first word.
+-- What an item is, whatever its text says after the first word.
 abbrev pub part_of : Item → Part
 part_of (Line text) = part_of_line text
 part_of (Data contents) = part.Data
 part_of Blank = part.Blank
 
--- A `feature` may still come behind features, options and blank lines.
+-- A `feature` may still come after features, options and blank lines.
 abbrev pub is_early : Part → Bool
 is_early part.Feature = true
 is_early part.Setting = true

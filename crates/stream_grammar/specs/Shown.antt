@@ -1,5 +1,5 @@
--- What the parser's values show: acts without where their bytes lie, and the open command as slots.
-use Rattle.std.specs.Prelude.{◌≡◌, ◌≢◌, Option, Some, None, Result, Ok, Err}
+-- What the parser's values show: acts without where their bytes lie, and the open command as terms.
+use Rattle.std.specs.Prelude.{◌≡◌, ◌≢◌, ℕ, Option, Some, None, Result, Ok, Err}
 use Rattle.stream_grammar.specs.declared.fault.Fault.{Fault}
 use Rattle.stream_grammar.specs.declared.fault.Fault.TheVariants as fault
 use Rattle.stream_grammar.specs.declared.commit_ish.CommitIsh.{CommitIsh as LentCommitIsh}
@@ -7,16 +7,15 @@ use Rattle.stream_grammar.specs.declared.commit_ish.CommitIsh.TheVariants as com
 use Rattle.stream_grammar.specs.declared.act.Act.{Act as LentAct}
 use Rattle.stream_grammar.specs.declared.act.Act.TheVariants as lent
 use Rattle.stream_grammar.specs.declared.act.Done.{Done as LentDone}
-use Rattle.stream_grammar.specs.declared.command.Header.{Header as HeldHeader}
 use Rattle.stream_grammar.specs.declared.command.Command.{Command}
 use Rattle.stream_grammar.specs.Names.{CommitIsh, Marked, Expression}
 use Rattle.stream_grammar.specs.Acts.{Act, Wait, StoreBlob, BeginTag, TagTarget, Tagger, StoreTag, Reset, ResetTo, SetMark}
 use Rattle.stream_grammar.specs.Acts.{Checkpoint, Progress, ShowMark, ShowObject, Finish, Require, SetHead}
 use Rattle.stream_grammar.specs.Acts.{BeginCommit, Author, Committer, Encoding, OpenCommit, StartFrom, Merge}
 use Rattle.stream_grammar.specs.Acts.{Modify, ModifyInline, PutContents, Delete, Copy, Rename, DeleteAll, ShowBranchEntry, ShowEntry}
-use Rattle.stream_grammar.specs.Acts.{Header, Brought}
+use Rattle.stream_grammar.specs.Acts.{Effect}
 use Rattle.stream_grammar.specs.Commands.{Done, Open, Parsing, Step}
-use Rattle.stream_grammar.specs.Stages.{slots_of}
+use Rattle.stream_grammar.specs.Stages.{terms_of, opened_of}
 
 -- A commit-ish without where its bytes lie.
 abbrev pub commit_shown : LentCommitIsh → CommitIsh
@@ -62,16 +61,13 @@ act_shown (lent.SetHead ref) = SetHead ref
 abbrev pub done_shown : LentDone → Done
 done_shown done = record { ends_commit = done.ends_commit; act = act_shown done.act }
 
--- What the open command has said.
-abbrev pub header_shown : HeldHeader → Header
-header_shown header = record { opened = header.opened; mark = header.mark }
-
--- The open command, with its slots for its stage.
+-- The open command, with its terms and its kind for its stage.
 abbrev pub open_shown : Command → Open
 open_shown command = record {
   late = command.late;
-  header = header_shown command.header;
-  left = slots_of command.stage;
+  opened = opened_of command.stage;
+  mark = command.mark;
+  left = terms_of command.stage;
 }
 
 -- A parser that answered a fault has it, whatever command was open.
@@ -79,11 +75,10 @@ abbrev pub parsing_shown : Option Fault → Command → Parsing
 parsing_shown None command = Ok (open_shown command)
 parsing_shown (Some fault) command = Err fault
 
--- What a part brought: an act, and what the open command has said then; or a fault.
-abbrev pub Brings : Result LentAct Fault → HeldHeader → Result Brought Fault → Type 0
-Brings (Ok act) new brought =
-    brought ≡ Ok (record { header = header_shown new; act = act_shown act })
-Brings (Err e) new brought = e ≢ fault.Memory → brought ≡ Err e
+-- What a part brought: an act, and the mark that the open command has then; or a fault.
+abbrev pub Brings : Result LentAct Fault → Option ℕ → Result Effect Fault → Type 0
+Brings (Ok act) mark effect = effect ≡ Ok (record { mark = mark; act = act_shown act })
+Brings (Err e) mark effect = e ≢ fault.Memory → effect ≡ Err e
 
 -- What an item gave, and the open command then; or a fault.
 abbrev pub Steps : Result LentDone Fault → Command → Result Step Fault → Type 0

@@ -1,5 +1,5 @@
--- The stages of the parser: each is the slots that are left of a production.
-use Rattle.std.specs.Prelude.{ℕ, List, [], ◌++◌, Option, Some, None, drop}
+-- The stages of the parser: each is the terms that are left of a production.
+use Rattle.std.specs.Prelude.{◌≡◌, ℕ, List, [], ◌++◌, Option, Some, None, drop}
 use Rattle.stream_grammar.specs.declared.part.Part.{Part}
 use Rattle.stream_grammar.specs.declared.part.Part.TheVariants as part
 use Rattle.stream_grammar.specs.declared.stage.BlobNext.{BlobNext}
@@ -16,64 +16,85 @@ use Rattle.stream_grammar.specs.declared.stage.AliasNext.{AliasNext}
 use Rattle.stream_grammar.specs.declared.stage.AliasNext.TheVariants as alias
 use Rattle.stream_grammar.specs.declared.stage.Stage.{Stage}
 use Rattle.stream_grammar.specs.declared.stage.Stage.TheVariants as stage
-use Rattle.stream_grammar.specs.declared.stage.Place.{Place}
-use Rattle.stream_grammar.specs.declared.stage.Place.TheVariants as place
-use Rattle.stream_grammar.specs.Grammar.{Slot, behind, due, Fit, Stands, Ends, Misses}
+use Rattle.stream_grammar.specs.declared.stage.Opened.{Opened}
+use Rattle.stream_grammar.specs.declared.stage.Opened.TheVariants as opened
+use Rattle.stream_grammar.specs.declared.stage.Fit.{Fit as StageFit}
+use Rattle.stream_grammar.specs.declared.stage.Fit.TheVariants as found
+use Rattle.stream_grammar.specs.Grammar.{Term, production_of, due, Fit, Stands, Ends, Misses}
+use Rattle.stream_grammar.specs.Commands.{opened_after}
 
-abbrev pub slots : Option (List Slot) → List Slot
-slots None = []
-slots (Some all) = all
+-- The terms of a production; none where there is no production.
+abbrev pub terms : Option (List Term) → List Term
+terms None = []
+terms (Some all) = all
 
--- The slots of a command from the n-th on.
-abbrev pub from_slot : ℕ → Part → List Slot
-from_slot n part = drop n (slots (behind part))
+-- The terms of a command from the n-th on.
+abbrev pub from_term : ℕ → Part → List Term
+from_term n part = drop n (terms (production_of part))
 
-abbrev pub blob_slots : BlobNext → List Slot
-blob_slots blob.Mark = from_slot 0 part.Blob
-blob_slots blob.OriginalOid = from_slot 1 part.Blob
-blob_slots blob.Data = from_slot 2 part.Blob
+abbrev pub blob_terms : BlobNext → List Term
+blob_terms blob.Mark = from_term 0 part.Blob
+blob_terms blob.OriginalOid = from_term 1 part.Blob
+blob_terms blob.Data = from_term 2 part.Blob
 
-abbrev pub commit_slots : CommitNext → List Slot
-commit_slots commit.Mark = from_slot 0 part.Commit
-commit_slots commit.OriginalOid = from_slot 1 part.Commit
-commit_slots commit.Author = from_slot 2 part.Commit
-commit_slots commit.Committer = from_slot 3 part.Commit
-commit_slots commit.Encoding = from_slot 4 part.Commit
-commit_slots commit.Data = from_slot 5 part.Commit
+abbrev pub commit_terms : CommitNext → List Term
+commit_terms commit.Mark = from_term 0 part.Commit
+commit_terms commit.OriginalOid = from_term 1 part.Commit
+commit_terms commit.Author = from_term 2 part.Commit
+commit_terms commit.Committer = from_term 3 part.Commit
+commit_terms commit.Encoding = from_term 4 part.Commit
+commit_terms commit.Data = from_term 5 part.Commit
 
-abbrev pub change_slots : ChangeNext → List Slot
-change_slots change.From = from_slot 6 part.Commit
-change_slots change.Merge = from_slot 7 part.Commit
-change_slots change.Change = from_slot 8 part.Commit
+abbrev pub change_terms : ChangeNext → List Term
+change_terms change.From = from_term 6 part.Commit
+change_terms change.Merge = from_term 7 part.Commit
+change_terms change.Change = from_term 8 part.Commit
 
-abbrev pub tag_slots : TagNext → List Slot
-tag_slots tag.Mark = from_slot 0 part.Tag
-tag_slots tag.From = from_slot 1 part.Tag
-tag_slots tag.OriginalOid = from_slot 2 part.Tag
-tag_slots tag.Tagger = from_slot 3 part.Tag
-tag_slots tag.Data = from_slot 4 part.Tag
+abbrev pub tag_terms : TagNext → List Term
+tag_terms tag.Mark = from_term 0 part.Tag
+tag_terms tag.From = from_term 1 part.Tag
+tag_terms tag.OriginalOid = from_term 2 part.Tag
+tag_terms tag.Tagger = from_term 3 part.Tag
+tag_terms tag.Data = from_term 4 part.Tag
 
-abbrev pub reset_slots : ResetNext → List Slot
-reset_slots reset.From = from_slot 0 part.Reset
-reset_slots reset.Blank = from_slot 1 part.Reset
+abbrev pub reset_terms : ResetNext → List Term
+reset_terms reset.From = from_term 0 part.Reset
+reset_terms reset.Blank = from_term 1 part.Reset
 
-abbrev pub alias_slots : AliasNext → List Slot
-alias_slots alias.Mark = from_slot 0 part.Alias
-alias_slots alias.To = from_slot 1 part.Alias
+abbrev pub alias_terms : AliasNext → List Term
+alias_terms alias.Mark = from_term 0 part.Alias
+alias_terms alias.To = from_term 1 part.Alias
 
--- The slots that are left at a stage.
-abbrev pub slots_of : Stage → List Slot
-slots_of stage.Top = []
-slots_of (stage.Blob next) = blob_slots next
-slots_of (stage.Commit next) = commit_slots next
-slots_of (stage.Changes next) = change_slots next
-slots_of stage.Inline = due part.ModifyInline ++ change_slots change.Change
-slots_of (stage.Tag next) = tag_slots next
-slots_of (stage.Reset next) = reset_slots next
-slots_of (stage.Alias next) = alias_slots next
+-- The terms that are left at a stage.
+abbrev pub terms_of : Stage → List Term
+terms_of stage.Top = []
+terms_of (stage.Blob next) = blob_terms next
+terms_of (stage.Commit next) = commit_terms next
+terms_of (stage.Changes next) = change_terms next
+terms_of stage.Inline = due part.ModifyInline ++ change_terms change.Change
+terms_of (stage.Tag next) = tag_terms next
+terms_of (stage.Reset next) = reset_terms next
+terms_of (stage.Alias next) = alias_terms next
+
+-- Which command is open at a stage.
+abbrev pub opened_of : Stage → Opened
+opened_of stage.Top = opened.Nothing
+opened_of (stage.Blob next) = opened.Blob
+opened_of (stage.Commit next) = opened.Commit
+opened_of (stage.Changes next) = opened.Changes
+opened_of stage.Inline = opened.Inline
+opened_of (stage.Tag next) = opened.Tag
+opened_of (stage.Reset next) = opened.Reset
+opened_of (stage.Alias next) = opened.Alias
 
 -- What the parser found about a part.
-abbrev pub fit_of : Place → Fit
-fit_of (place.Stands stage) = Stands (slots_of stage)
-fit_of place.Ends = Ends
-fit_of place.Misses = Misses
+abbrev pub fit_of : StageFit → Fit
+fit_of (found.Stands stage) = Stands (terms_of stage)
+fit_of found.Ends = Ends
+fit_of found.Misses = Misses
+
+-- At the stage where a part stands, the command is open that is open after the part.
+abbrev pub KeepsOpened : Opened → Part → StageFit → Type 0
+KeepsOpened now part (found.Stands stage) = opened_of stage ≡ opened_after part now
+KeepsOpened now part found.Ends = Unit {0}
+KeepsOpened now part found.Misses = Unit {0}

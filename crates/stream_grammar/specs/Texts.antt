@@ -1,11 +1,11 @@
 -- What the words of a line say: git-fast-import(1), "mark", "get-mark" and "cat-blob".
-use Rattle.std.specs.Prelude.{ℕ, ◌+◌, ◌^◌, ◌==◌, ◌&&◌, nat_lt, nat_le, Bool, if◌then◌else◌, List, [], ◌∷◌, length, take, drop, Option, Some, None, Result, Ok, Err}
-use Rattle.std.specs.Char.{is_ascii_digit}
-use Rattle.std.specs.List.{list_all, position_from}
+use Rattle.std.specs.Prelude.{ℕ, ◌+◌, ◌==◌, Bool, if◌then◌else◌, List, [], ◌∷◌, take, drop}
+use Rattle.std.specs.Prelude.{Option, Some, None, Result, Ok, Err}
+use Rattle.std.specs.List.{position_from}
 use Rattle.std.specs.Option.{option_map}
-use Rattle.std.specs.Str.Parse.{digits_value}
 use Rattle.hex.specs.declared.error.FromHexError.{FromHexError}
 use Rattle.hex.specs.Hex.{decode_sized}
+use Rattle.numerals.specs.Numbers.{number_of}
 use Rattle.stream_grammar.specs.declared.fault.Fault.{Fault}
 use Rattle.stream_grammar.specs.declared.fault.Fault.TheVariants as fault
 use Rattle.stream_grammar.specs.declared.data_ref.DataRef.{DataRef}
@@ -20,14 +20,14 @@ read (Err e) next = Err e
 abbrev pub is_space : ℕ → Bool
 is_space byte = byte == 32
 
--- What stands behind an index of a text; nothing behind none.
-abbrev pub behind_index : Option ℕ → List ℕ → List ℕ
-behind_index None text = []
-behind_index (Some index) text = drop (index + 1) text
+-- What stands after an index of a text; nothing after none.
+abbrev pub after_index : Option ℕ → List ℕ → List ℕ
+after_index None text = []
+after_index (Some index) text = drop (index + 1) text
 
--- What stands behind the first space of a line; nothing where it has none.
+-- What stands after the first space of a line; nothing where it has none.
 abbrev pub argument : List ℕ → List ℕ
-argument text = behind_index (position_from is_space 0 text) text
+argument text = after_index (position_from is_space 0 text) text
 
 -- A line's first word: what stands before its first space, or all of it.
 abbrev pub up_to_index : Option ℕ → List ℕ → List ℕ
@@ -37,31 +37,19 @@ up_to_index (Some index) text = take index text
 abbrev pub first_word : List ℕ → List ℕ
 first_word text = up_to_index (position_from is_space 0 text) text
 
--- What stands behind the first space of a line, where it has one.
-abbrev pub behind_space : List ℕ → Option (List ℕ)
-behind_space text = option_map (λ index. drop (index + 1) text) (position_from is_space 0 text)
+-- What stands after the first space of a line, where it has one.
+abbrev pub after_space : List ℕ → Option (List ℕ)
+after_space text = option_map (λ index. drop (index + 1) text) (position_from is_space 0 text)
 
 -- A line without what must stand in it is malformed.
 abbrev pub required : {A : Type 0} → Option A → Result A Fault
 required None = Err fault.Malformed
 required (Some value) = Ok value
 
--- What stands behind a colon, where a text begins with one.
-unfoldable pub behind_colon : List ℕ → Option (List ℕ)
-behind_colon [] = None
-behind_colon (byte ∷ bytes) = if byte == 58 then Some bytes else None
-
--- The text is 1 to 20 decimal digits.
-abbrev pub is_numeral : List ℕ → Bool
-is_numeral text = nat_lt 0 (length text) && nat_le (length text) 20 && list_all is_ascii_digit text
-
--- The number, where it is below 2^64.
-abbrev pub in_64_bits : ℕ → Option ℕ
-in_64_bits number = if nat_lt number (2 ^ 64) then Some number else None
-
--- The number that 1 to 20 decimal digits write, where it is below 2^64. Zeros may lead.
-unfoldable pub number_of : List ℕ → Option ℕ
-number_of text = if is_numeral text then in_64_bits (digits_value 10 text) else None
+-- What stands after a colon, where a text begins with one.
+unfoldable pub after_colon : List ℕ → Option (List ℕ)
+after_colon [] = None
+after_colon (byte ∷ bytes) = if byte == 58 then Some bytes else None
 
 -- A mark's number is not 0.
 unfoldable pub numbered : Option ℕ → Result ℕ Fault
@@ -78,7 +66,7 @@ marked (Some digits) = idnum_of digits
 
 -- A mark is a colon and an idnum: ':' <idnum>
 abbrev pub mark_of : List ℕ → Result ℕ Fault
-mark_of text = marked (behind_colon text)
+mark_of text = marked (after_colon text)
 
 -- What the digits of an object name write, or were no such digits.
 abbrev pub named : Result (List ℕ) FromHexError → Result DataRef Fault
@@ -91,4 +79,4 @@ referred text (Some digits) = read (idnum_of digits) (λ mark. Ok (data_ref.Mark
 
 -- A dataref is what begins with a colon, a mark then, or else an object name: <dataref>
 abbrev pub dataref_of : List ℕ → Result DataRef Fault
-dataref_of text = referred text (behind_colon text)
+dataref_of text = referred text (after_colon text)

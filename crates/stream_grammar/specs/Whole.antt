@@ -4,56 +4,56 @@ use Rattle.std.specs.Option.{option_and_then}
 use Rattle.stream_grammar.specs.declared.fault.Fault.{Fault}
 use Rattle.stream_grammar.specs.declared.fault.Fault.TheVariants as fault
 use Rattle.stream_grammar.specs.declared.part.Part.{Part}
-use Rattle.stream_grammar.specs.Grammar.{Slot, behind, Fit, Stands, Ends, Misses, accepts, is_free, left_after, fit, may_end}
+use Rattle.stream_grammar.specs.Grammar.{Term, production_of, Fit, Stands, Ends, Misses, accepts, is_free, left_after, fit, may_end}
 
--- These parts fill these slots, one by one in order.
-pub data Fills : List Slot → List Part → Type 0 where
+-- These parts fill these terms, one by one in order.
+pub data Fills : List Term → List Part → Type 0 where
   nothing_left : Fills [] []
-  stays_empty : (slot : Slot) (slots : List Slot) (parts : List Part)
-      → is_free slot.often ≡ true → Fills slots parts → Fills (slot ∷ slots) parts
-  is_filled : (slot : Slot) (slots : List Slot) (part : Part) (parts : List Part)
-      → accepts slot part ≡ true → Fills (left_after part slot slots) parts
-      → Fills (slot ∷ slots) (part ∷ parts)
+  stays_empty : (term : Term) (terms : List Term) (parts : List Part)
+      → is_free term.often ≡ true → Fills terms parts → Fills (term ∷ terms) parts
+  is_filled : (term : Term) (terms : List Term) (part : Part) (parts : List Part)
+      → accepts term part ≡ true → Fills (left_after part term terms) parts
+      → Fills (term ∷ terms) (part ∷ parts)
 
--- The slots that are left behind some parts of one command, where each of them stands in it.
-abbrev pub left_by : Fit → (List Slot → Option (List Slot)) → Option (List Slot)
+-- The terms that are left after some parts of one command, where each of them stands in it.
+abbrev pub left_by : Fit → (List Term → Option (List Term)) → Option (List Term)
 left_by (Stands left) next = next left
 left_by Ends next = None
 left_by Misses next = None
 
-abbrev pub left_behind : List Part → List Slot → Option (List Slot)
-left_behind [] slots = Some slots
-left_behind (part ∷ parts) slots = left_by (fit part slots) (λ left. left_behind parts left)
+abbrev pub left_by_parts : List Part → List Term → Option (List Term)
+left_by_parts [] terms = Some terms
+left_by_parts (part ∷ parts) terms = left_by (fit part terms) (λ left. left_by_parts parts left)
 
--- The parts are taken one by one, and the command may end behind them.
-pub record AreTaken (parts : List Part) (slots : List Slot) : Type 0 where
-  pub left : List Slot
-  pub behind_parts : left_behind parts slots ≡ Some left
+-- The parts are taken one by one, and the command may end after them.
+pub record AreTaken (parts : List Part) (terms : List Term) : Type 0 where
+  pub left : List Term
+  pub after_parts : left_by_parts parts terms ≡ Some left
   pub end : may_end left ≡ true
 
--- Parts that are whole commands, one behind the other.
+-- Parts that are whole commands, one after the other.
 pub data AreCommands : List Part → Type 0 where
   none_left : AreCommands []
-  one_first : (command : Part) (slots : List Slot) (parts later : List Part)
-      → behind command ≡ Some slots → Fills slots parts → AreCommands later
+  one_first : (command : Part) (terms : List Term) (parts later : List Part)
+      → production_of command ≡ Some terms → Fills terms parts → AreCommands later
       → AreCommands (command ∷ parts ++ later)
 
--- The slots that are left behind a part: those of the open command where it stands in it, or of the
--- next one, which it begins behind it; none where a part is missing, or it begins no command.
-abbrev pub slots_behind : Part → Fit → Option (List Slot)
-slots_behind part (Stands left) = Some left
-slots_behind part Ends = behind part
-slots_behind part Misses = None
+-- The terms that are left after a part: those of the open command where it stands in it, or of the
+-- next one, which it begins after it; none where a part is missing, or it begins no command.
+abbrev pub terms_next : Part → Fit → Option (List Term)
+terms_next part (Stands left) = Some left
+terms_next part Ends = production_of part
+terms_next part Misses = None
 
-abbrev pub left_in_turn : List Part → List Slot → Option (List Slot)
-left_in_turn [] slots = Some slots
-left_in_turn (part ∷ parts) slots =
-    option_and_then (λ left. left_in_turn parts left) (slots_behind part (fit part slots))
+abbrev pub left_in_turn : List Part → List Term → Option (List Term)
+left_in_turn [] terms = Some terms
+left_in_turn (part ∷ parts) terms =
+    option_and_then (λ left. left_in_turn parts left) (terms_next part (fit part terms))
 
--- The parts find their places one by one, and a stream may end behind them.
-pub record ArePlaced (parts : List Part) (slots : List Slot) : Type 0 where
-  pub left : List Slot
-  pub behind_parts : left_in_turn parts slots ≡ Some left
+-- The parts find their places one by one, and a stream may end after them.
+pub record ArePlaced (parts : List Part) (terms : List Term) : Type 0 where
+  pub left : List Term
+  pub after_parts : left_in_turn parts terms ≡ Some left
   pub end : may_end left ≡ true
 
 -- An answer is no fault of an item's place: neither an unknown command nor a missing part.

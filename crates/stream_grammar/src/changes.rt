@@ -6,7 +6,7 @@ ghost use Rattle.stream_grammar.specs.Changes as changes;
 
 use crate::data_ref::DataRef;
 use crate::fault::Fault;
-use crate::text::{behind_space, dataref_of, first_word};
+use crate::text::{after_space, dataref_of, first_word};
 use git_model::FileMode;
 use git_paths::{Path, Place};
 use std::alloc::Global;
@@ -77,7 +77,7 @@ pub fn object_and_path(alloc: Global, text: &[u8]) -> Result<(DataRef, Path), Fa
     ensures { Gives (λ file. file) result (changes.object_and_path text.now) }
 {
     let object = dataref_of(first_word(text))?;
-    match behind_space(text) {
+    match after_space(text) {
         Some(rest) => {
             let path = path_of(alloc, rest)?;
             Ok((object, path))
@@ -91,7 +91,7 @@ pub fn modified(alloc: Global, text: &[u8]) -> Result<(FileMode, DataRef, Path),
     ensures { Gives (λ file. file) result (changes.modified text.now) }
 {
     let mode = mode_of(first_word(text))?;
-    match behind_space(text) {
+    match after_space(text) {
         Some(rest) => {
             let (object, path) = object_and_path(alloc, rest)?;
             Ok((mode, object, path))
@@ -100,11 +100,11 @@ pub fn modified(alloc: Global, text: &[u8]) -> Result<(FileMode, DataRef, Path),
     }
 }
 
-// The path behind `inline` and its space.
+// The path after `inline` and its space.
 fn inline_path(alloc: Global, rest: &[u8]) -> Result<Path, Fault>
     ensures { Gives (λ path. path) result (changes.inline_path rest.now) }
 {
-    match behind_space(rest) {
+    match after_space(rest) {
         Some(text) => path_of(alloc, text),
         None => Err(Fault::Malformed),
     }
@@ -116,7 +116,7 @@ pub fn modified_inline(alloc: Global, text: &[u8]) -> Result<(FileMode, Path), F
     ensures { Gives (λ file. file) result (changes.modified_inline text.now) }
 {
     let mode = mode_of(first_word(text))?;
-    match behind_space(text) {
+    match after_space(text) {
         Some(rest) => {
             let mode = mode_inline(mode)?;
             let path = inline_path(alloc, rest)?;

@@ -23,7 +23,7 @@ pub enum Fault {
     /// No such feature or option of Git.
     #[error("feature not supported")]
     FeatureNotSupported,
-    /// A feature, or an option of Git or of this service, behind another command.
+    /// A feature, or an option of Git or of this service, after another command.
     #[error("feature too late")]
     FeatureTooLate,
     /// A text is no path, or is not ended as its place asks.
@@ -32,13 +32,13 @@ pub enum Fault {
     /// The text is no ref name.
     #[error("bad ref name")]
     BadRefName,
-    /// What stands behind the colon of a mark is no number from 1 to 2^64 - 1.
+    /// What stands after the colon of a mark is no number from 1 to 2^64 - 1.
     #[error("bad mark")]
     BadMark,
-    /// The name, the email or the space behind it, of an ident.
+    /// The name, the email or the space after it, of an ident.
     #[error("bad identity")]
     BadIdentity,
-    /// The seconds of an ident, or the offset behind them.
+    /// The seconds of an ident, or the offset after them.
     #[error("bad date")]
     BadDate,
     /// A word is no mode of a file.

@@ -6,8 +6,8 @@ ghost use Rattle.hex.specs.Hex.{IsBytes, encode_lower};
 ghost use Rattle.stream_lex.specs.Items as items;
 ghost use Rattle.stream_grammar.specs.declared.fault.Fault.{Fault};
 ghost use Rattle.stream_grammar.specs.declared.part.Part.{Part};
-ghost use Rattle.stream_grammar.specs.Commands.{Commands, Parsing, behind_given, commands, end_of, top};
-ghost use Rattle.stream_grammar.specs.Grammar.{Slot, behind};
+ghost use Rattle.stream_grammar.specs.Commands.{Commands, Parsing, given_before, commands, end_of, top};
+ghost use Rattle.stream_grammar.specs.Grammar.{Term, production_of};
 ghost use Rattle.stream_grammar.specs.Parts.{part_of};
 ghost use Rattle.stream_grammar.specs.Texts.{dataref_of, mark_of};
 ghost use Rattle.stream_grammar.specs.Whole.{AreCommands, ArePlaced, AreTaken, Fills, FindsPlace};
@@ -19,24 +19,24 @@ use crate::data_ref::DataRef;
 pub fn in_turn()
     ensures { (parsing : Parsing) (front more : List items.Item)
         → commands parsing (front ++ more)
-        ≡ behind_given (commands parsing front).given (commands (commands parsing front).rest more) }
+        ≡ given_before (commands parsing front).given (commands (commands parsing front).rest more) }
 {}
 
-/// Behind a fault nothing is given, and the fault stays.
+/// After a fault nothing is given, and the fault stays.
 pub fn faults_stay()
     ensures { (fault : Fault) (later : List items.Item)
         → commands (Err fault) later ≡ record { given = []; rest = Err fault } }
 {}
 
-/// The parts of a whole command are exactly those that fill the slots of its production.
+/// The parts of a whole command are exactly those that fill the terms of its production.
 pub fn whole_commands()
-    ensures filled { (slots : List Slot) (parts : List Part)
-        → AreTaken parts slots → Fills slots parts }
-    ensures taken { (command : Part) → IfSome (behind command)
-        (λ slots. (parts : List Part) → Fills slots parts → AreTaken parts slots) }
+    ensures filled { (terms : List Term) (parts : List Part)
+        → AreTaken parts terms → Fills terms parts }
+    ensures taken { (command : Part) → IfSome (production_of command)
+        (λ terms. (parts : List Part) → Fills terms parts → AreTaken parts terms) }
 {}
 
-/// The items of a stream that ends well are the parts of whole commands, one behind the other. Such
+/// The items of a stream that ends well are the parts of whole commands, one after the other. Such
 /// parts find their places, whatever open command each comes upon: so a stream of them is refused,
 /// if at all, by what its words say, and never as an unknown command (2) or a missing part (5).
 pub fn whole_streams()

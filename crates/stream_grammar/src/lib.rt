@@ -28,8 +28,6 @@ mod names;
 mod parser;
 mod part;
 mod stage;
-#[cfg(test)]
-mod tests;
 mod text;
 
 pub use act::{Act, Done};

@@ -8,7 +8,7 @@ ghost use Rattle.stream_grammar.specs.Shown.{commit_shown};
 
 use crate::commit_ish::CommitIsh;
 use crate::fault::Fault;
-use crate::text::{behind_colon, idnum_of};
+use crate::text::{after_colon, idnum_of};
 use git_objects::Ident;
 use std::alloc::Global;
 use tenant_refs::{RefName, RefNameFault};
@@ -60,11 +60,11 @@ pub fn ident_of(alloc: Global, text: &[u8]) -> Result<Ident, Fault>
     }
 }
 
-/// Reads a commit-ish: `Fault::BadMark` (12) for a colon with no mark's number behind it.
+/// Reads a commit-ish: `Fault::BadMark` (12) for a colon with no mark's number after it.
 pub fn commit_ish_of(text: &[u8]) -> Result<CommitIsh<'_>, Fault>
     ensures { Gives commit_shown result (names.commit_ish_of text.now) }
 {
-    match behind_colon(text) {
+    match after_colon(text) {
         Some(digits) => Ok(CommitIsh::Mark(idnum_of(digits)?)),
         None => Ok(CommitIsh::Expression(text)),
     }

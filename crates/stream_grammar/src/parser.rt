@@ -9,9 +9,9 @@ ghost use Rattle.stream_grammar.specs.Commands.{top, done_by, after, end_of};
 ghost use Rattle.stream_grammar.specs.Shown.{Answers};
 
 use crate::act::Done;
-use crate::command::{self, Command, Opened, header_of, is_commit};
+use crate::command::{self, Command, is_commit};
 use crate::fault::Fault;
-use crate::stage::{Stage, may_end_at};
+use crate::stage::{Stage, may_end_at, opened_of};
 use std::alloc::Global;
 use std::marker::Model;
 use stream_lex::Item;
@@ -44,7 +44,7 @@ impl Parser {
             fault: None,
             command: Command {
                 late: false,
-                header: header_of(Opened::Nothing),
+                mark: None,
                 stage: Stage::Top,
             },
         }
@@ -55,22 +55,23 @@ impl Parser {
     ///
     /// `Fault::UnknownCommand` (2) for an item that begins no command where none is open, and
     /// `Fault::MissingPart` (5) for one in the place of a part of the open command, whatever its
-    /// line says behind the first word. Else the first part of the line that fails decides, from
+    /// line says after the first word. Else the first part of the line that fails decides, from
     /// left to right: `Malformed` (3), `FeatureTooLate` (9) before `FeatureNotSupported` (8),
     /// `BadPath` (10) and `BadRefName` (11) before `Limit` (25), `BadMark` (12), `BadIdentity` (21)
     /// before `BadDate` (22), `BadMode` (23). A parser that answered one of these answers it from
     /// then on, whatever comes.
     ///
     /// Takes memory for refs, idents and paths; `Fault::Memory` (90) may stand in place of any
-    /// other answer, and leaves the parser unchanged.
+    /// answer but such a fault, and leaves the parser unchanged.
     pub fn take<'a>(&mut self, item: Item<'a>) -> Result<Done<'a>, Fault>
         ensures answers { Answers result (done_by self.old (item_of item.entry)) }
         ensures leaves { result ≢ Err Fault.Memory
             → self.new ≡ after self.old (item_of item.entry) }
         ensures unchanged { result ≡ Err Fault.Memory → self.new ≡ self.old }
+        ensures failed { (fault : Fault) → self.old ≡ Err fault → result ≡ Err fault }
     {
-        if let Some(fault) = self.fault {
-            return Err(fault);
+        if let Some(answered) = self.fault {
+            return Err(answered);
         }
         match command::take(self.alloc, &mut self.command, item) {
             Ok(done) => Ok(done),
@@ -93,7 +94,7 @@ impl Parser {
             return Err(fault);
         }
         if may_end_at(self.command.stage) {
-            Ok(is_commit(self.command.header.opened))
+            Ok(is_commit(opened_of(self.command.stage)))
         } else {
             Err(Fault::MissingPart)
         }

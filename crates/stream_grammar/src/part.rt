@@ -7,7 +7,7 @@ ghost use Rattle.stream_grammar.specs.Parts as parts;
 use crate::text::{argument, first_word};
 use stream_lex::Item;
 
-/// What an item is by its first word, whatever the rest of it says. Behind `M` its third word says
+/// What an item is by its first word, whatever the rest of it says. After `M` its third word says
 /// whether data follow.
 #[derive(Clone, Copy, Debug, PartialEq, Eq)]
 pub enum Part {
@@ -36,7 +36,7 @@ pub enum Part {
     To,
     /// A line that begins with `M`, where a mark or an object name stands for the contents.
     Modify,
-    /// The same where `inline` does: the contents are the data behind it.
+    /// The same where `inline` does: the contents are the data after it.
     ModifyInline,
     Delete,
     Copy,
@@ -154,7 +154,7 @@ pub fn part_of(item: Item<'_>) -> Part
     }
 }
 
-/// Whether a `feature` may still come behind this part, where it begins a command: behind features,
+/// Whether a `feature` may still come after this part, where it begins a command: after features,
 /// options and blank lines.
 pub fn is_early(part: Part) -> bool
     ensures { result ≡ parts.is_early part }

@@ -1,8 +1,10 @@
 //! Stages: how far the open command has come.
 
-ghost use Rattle.std.specs.Prelude.{◌≡◌};
+ghost use Rattle.std.specs.Prelude.{◌≡◌, IfSome};
 ghost use Rattle.std.specs.Option.{option_map};
-ghost use Rattle.stream_grammar.specs.Grammar.{fit, may_end, is_empty, behind};
+ghost use Rattle.stream_grammar.specs.declared.stage.Opened.TheVariants as opened;
+ghost use Rattle.stream_grammar.specs.Commands.{opened_by};
+ghost use Rattle.stream_grammar.specs.Grammar.{fit, may_end, is_empty, production_of};
 ghost use Rattle.stream_grammar.specs.Stages as stages;
 
 use crate::part::Part;
@@ -26,7 +28,7 @@ pub enum CommitNext {
     Data,
 }
 
-/// The first part of a commit that may come next, behind its message.
+/// The first part of a commit that may come next, after its message.
 #[derive(Clone, Copy)]
 pub enum ChangeNext {
     From,
@@ -73,59 +75,94 @@ pub enum Stage {
     Alias(AliasNext),
 }
 
+/// Which command is open.
+#[derive(Clone, Copy)]
+pub enum Opened {
+    Nothing,
+    Blob,
+    /// A commit, up to its message.
+    Commit,
+    /// A commit, after its message.
+    Changes,
+    /// The same, before the data of a file.
+    Inline,
+    Tag,
+    Reset,
+    Alias,
+}
+
+/// Which command is open at a stage.
+pub fn opened_of(stage: Stage) -> Opened
+    ensures { result ≡ stages.opened_of stage }
+{
+    match stage {
+        Stage::Top => Opened::Nothing,
+        Stage::Blob(_) => Opened::Blob,
+        Stage::Commit(_) => Opened::Commit,
+        Stage::Changes(_) => Opened::Changes,
+        Stage::Inline => Opened::Inline,
+        Stage::Tag(_) => Opened::Tag,
+        Stage::Reset(_) => Opened::Reset,
+        Stage::Alias(_) => Opened::Alias,
+    }
+}
+
 /// What a part is to the open command.
 #[derive(Clone, Copy)]
-pub enum Place {
+pub enum Fit {
     /// It stands in the command, which is at this stage then.
     Stands(Stage),
-    /// It stands behind the command, which is whole.
+    /// It stands after the command, which is whole.
     Ends,
     /// A part of the command is missing before it.
     Misses,
 }
 
 // Where a part stands while a blob is open.
-fn place_in_blob(next: BlobNext, part: Part) -> Place
-    ensures { stages.fit_of result ≡ fit part (stages.blob_slots next) }
+fn fit_in_blob(next: BlobNext, part: Part) -> Fit
+    ensures fit { stages.fit_of result ≡ fit part (stages.blob_terms next) }
+    ensures opened { stages.KeepsOpened opened.Blob part result }
 {
     match (part, next) {
-        (Part::Mark, BlobNext::Mark) => Place::Stands(Stage::Blob(BlobNext::OriginalOid)),
+        (Part::Mark, BlobNext::Mark) => Fit::Stands(Stage::Blob(BlobNext::OriginalOid)),
         (Part::OriginalOid, BlobNext::Mark | BlobNext::OriginalOid) => {
-            Place::Stands(Stage::Blob(BlobNext::Data))
+            Fit::Stands(Stage::Blob(BlobNext::Data))
         }
-        (Part::Data, _) => Place::Stands(Stage::Top),
-        _ => Place::Misses,
+        (Part::Data, _) => Fit::Stands(Stage::Top),
+        _ => Fit::Misses,
     }
 }
 
 // Where a part stands in a commit up to its message.
-fn place_in_commit(next: CommitNext, part: Part) -> Place
-    ensures { stages.fit_of result ≡ fit part (stages.commit_slots next) }
+fn fit_in_commit(next: CommitNext, part: Part) -> Fit
+    ensures fit { stages.fit_of result ≡ fit part (stages.commit_terms next) }
+    ensures opened { stages.KeepsOpened opened.Commit part result }
 {
     use CommitNext::{Author, Committer, Data, Encoding, Mark, OriginalOid};
     match (part, next) {
-        (Part::Mark, Mark) => Place::Stands(Stage::Commit(OriginalOid)),
-        (Part::OriginalOid, Mark | OriginalOid) => Place::Stands(Stage::Commit(Author)),
-        (Part::Author, Mark | OriginalOid | Author) => Place::Stands(Stage::Commit(Committer)),
+        (Part::Mark, Mark) => Fit::Stands(Stage::Commit(OriginalOid)),
+        (Part::OriginalOid, Mark | OriginalOid) => Fit::Stands(Stage::Commit(Author)),
+        (Part::Author, Mark | OriginalOid | Author) => Fit::Stands(Stage::Commit(Committer)),
         (Part::Committer, Mark | OriginalOid | Author | Committer) => {
-            Place::Stands(Stage::Commit(Encoding))
+            Fit::Stands(Stage::Commit(Encoding))
         }
-        (Part::Encoding, Encoding) => Place::Stands(Stage::Commit(Data)),
-        (Part::Data, Encoding | Data) => Place::Stands(Stage::Changes(ChangeNext::From)),
-        _ => Place::Misses,
+        (Part::Encoding, Encoding) => Fit::Stands(Stage::Commit(Data)),
+        (Part::Data, Encoding | Data) => Fit::Stands(Stage::Changes(ChangeNext::From)),
+        _ => Fit::Misses,
     }
 }
 
-// Where a part stands in a commit behind its message.
-fn place_in_changes(next: ChangeNext, part: Part) -> Place
-    ensures { stages.fit_of result ≡ fit part (stages.change_slots next) }
+// Where a part stands in a commit after its message.
+fn fit_in_changes(next: ChangeNext, part: Part) -> Fit
+    ensures fit { stages.fit_of result ≡ fit part (stages.change_terms next) }
+    ensures opened { stages.KeepsOpened opened.Changes part result }
 {
     match (part, next) {
-        (Part::From, ChangeNext::From) => Place::Stands(Stage::Changes(ChangeNext::Merge)),
+        (Part::From, ChangeNext::From) => Fit::Stands(Stage::Changes(ChangeNext::Merge)),
         (Part::Merge, ChangeNext::From | ChangeNext::Merge) => {
-            Place::Stands(Stage::Changes(ChangeNext::Merge))
+            Fit::Stands(Stage::Changes(ChangeNext::Merge))
         }
-        (Part::ModifyInline, _) => Place::Stands(Stage::Inline),
+        (Part::ModifyInline, _) => Fit::Stands(Stage::Inline),
         (
             Part::Modify
             | Part::Delete
@@ -135,83 +172,89 @@ fn place_in_changes(next: ChangeNext, part: Part) -> Place
             | Part::CatBlob
             | Part::Ls,
             _,
-        ) => Place::Stands(Stage::Changes(ChangeNext::Change)),
-        (Part::Blank, _) => Place::Stands(Stage::Top),
-        _ => Place::Ends,
+        ) => Fit::Stands(Stage::Changes(ChangeNext::Change)),
+        (Part::Blank, _) => Fit::Stands(Stage::Top),
+        _ => Fit::Ends,
     }
 }
 
 // Where a part stands in the place of a file's data.
-fn place_inline(part: Part) -> Place
-    ensures { stages.fit_of result ≡ fit part (stages.slots_of Stage.Inline) }
+fn fit_inline(part: Part) -> Fit
+    ensures fit { stages.fit_of result ≡ fit part (stages.terms_of Stage.Inline) }
+    ensures opened { stages.KeepsOpened opened.Inline part result }
 {
     match part {
-        Part::Data => Place::Stands(Stage::Changes(ChangeNext::Change)),
-        _ => Place::Misses,
+        Part::Data => Fit::Stands(Stage::Changes(ChangeNext::Change)),
+        _ => Fit::Misses,
     }
 }
 
 // Where a part stands while a tag is open.
-fn place_in_tag(next: TagNext, part: Part) -> Place
-    ensures { stages.fit_of result ≡ fit part (stages.tag_slots next) }
+fn fit_in_tag(next: TagNext, part: Part) -> Fit
+    ensures fit { stages.fit_of result ≡ fit part (stages.tag_terms next) }
+    ensures opened { stages.KeepsOpened opened.Tag part result }
 {
     match (part, next) {
-        (Part::Mark, TagNext::Mark) => Place::Stands(Stage::Tag(TagNext::From)),
+        (Part::Mark, TagNext::Mark) => Fit::Stands(Stage::Tag(TagNext::From)),
         (Part::From, TagNext::Mark | TagNext::From) => {
-            Place::Stands(Stage::Tag(TagNext::OriginalOid))
+            Fit::Stands(Stage::Tag(TagNext::OriginalOid))
         }
-        (Part::OriginalOid, TagNext::OriginalOid) => Place::Stands(Stage::Tag(TagNext::Tagger)),
+        (Part::OriginalOid, TagNext::OriginalOid) => Fit::Stands(Stage::Tag(TagNext::Tagger)),
         (Part::Tagger, TagNext::OriginalOid | TagNext::Tagger) => {
-            Place::Stands(Stage::Tag(TagNext::Data))
+            Fit::Stands(Stage::Tag(TagNext::Data))
         }
         (Part::Data, TagNext::OriginalOid | TagNext::Tagger | TagNext::Data) => {
-            Place::Stands(Stage::Top)
+            Fit::Stands(Stage::Top)
         }
-        _ => Place::Misses,
+        _ => Fit::Misses,
     }
 }
 
 // Where a part stands while a reset is open.
-fn place_in_reset(next: ResetNext, part: Part) -> Place
-    ensures { stages.fit_of result ≡ fit part (stages.reset_slots next) }
+fn fit_in_reset(next: ResetNext, part: Part) -> Fit
+    ensures fit { stages.fit_of result ≡ fit part (stages.reset_terms next) }
+    ensures opened { stages.KeepsOpened opened.Reset part result }
 {
     match (part, next) {
-        (Part::From, ResetNext::From) => Place::Stands(Stage::Reset(ResetNext::Blank)),
-        (Part::Blank, _) => Place::Stands(Stage::Top),
-        _ => Place::Ends,
+        (Part::From, ResetNext::From) => Fit::Stands(Stage::Reset(ResetNext::Blank)),
+        (Part::Blank, _) => Fit::Stands(Stage::Top),
+        _ => Fit::Ends,
     }
 }
 
 // Where a part stands while an alias is open.
-fn place_in_alias(next: AliasNext, part: Part) -> Place
-    ensures { stages.fit_of result ≡ fit part (stages.alias_slots next) }
+fn fit_in_alias(next: AliasNext, part: Part) -> Fit
+    ensures fit { stages.fit_of result ≡ fit part (stages.alias_terms next) }
+    ensures opened { stages.KeepsOpened opened.Alias part result }
 {
     match (part, next) {
-        (Part::Mark, AliasNext::Mark) => Place::Stands(Stage::Alias(AliasNext::To)),
-        (Part::To, AliasNext::To) => Place::Stands(Stage::Top),
-        _ => Place::Misses,
+        (Part::Mark, AliasNext::Mark) => Fit::Stands(Stage::Alias(AliasNext::To)),
+        (Part::To, AliasNext::To) => Fit::Stands(Stage::Top),
+        _ => Fit::Misses,
     }
 }
 
 /// Where a part stands.
-pub fn place_of(stage: Stage, part: Part) -> Place
-    ensures { stages.fit_of result ≡ fit part (stages.slots_of stage) }
+pub fn fit_of(stage: Stage, part: Part) -> Fit
+    ensures fit { stages.fit_of result ≡ fit part (stages.terms_of stage) }
+    ensures opened { stages.KeepsOpened (stages.opened_of stage) part result }
 {
     match stage {
-        Stage::Top => Place::Ends,
-        Stage::Blob(next) => place_in_blob(next, part),
-        Stage::Commit(next) => place_in_commit(next, part),
-        Stage::Changes(next) => place_in_changes(next, part),
-        Stage::Inline => place_inline(part),
-        Stage::Tag(next) => place_in_tag(next, part),
-        Stage::Reset(next) => place_in_reset(next, part),
-        Stage::Alias(next) => place_in_alias(next, part),
+        Stage::Top => Fit::Ends,
+        Stage::Blob(next) => fit_in_blob(next, part),
+        Stage::Commit(next) => fit_in_commit(next, part),
+        Stage::Changes(next) => fit_in_changes(next, part),
+        Stage::Inline => fit_inline(part),
+        Stage::Tag(next) => fit_in_tag(next, part),
+        Stage::Reset(next) => fit_in_reset(next, part),
+        Stage::Alias(next) => fit_in_alias(next, part),
     }
 }
 
-/// The stage behind the first part of a command; `None` for a part that begins no command.
-pub fn stage_behind(part: Part) -> Option<Stage>
-    ensures { option_map stages.slots_of result ≡ behind part }
+/// The stage after the first part of a command; `None` for a part that begins no command.
+pub fn first_stage(part: Part) -> Option<Stage>
+    ensures terms { option_map stages.terms_of result ≡ production_of part }
+    ensures opened { IfSome result (λ stage. stages.opened_of stage ≡ opened_by part) }
 {
     match part {
         Part::Blob => Some(Stage::Blob(BlobNext::Mark)),
@@ -250,7 +293,7 @@ pub fn stage_behind(part: Part) -> Option<Stage>
 
 /// Whether the open command may end at this stage.
 pub fn may_end_at(stage: Stage) -> bool
-    ensures { result ≡ may_end (stages.slots_of stage) }
+    ensures { result ≡ may_end (stages.terms_of stage) }
 {
     match stage {
         Stage::Top | Stage::Changes(_) | Stage::Reset(_) => true,
@@ -262,7 +305,7 @@ pub fn may_end_at(stage: Stage) -> bool
 
 /// Whether nothing more may stand in the command at this stage.
 pub fn is_whole(stage: Stage) -> bool
-    ensures { result ≡ is_empty (stages.slots_of stage) }
+    ensures { result ≡ is_empty (stages.terms_of stage) }
 {
     matches!(stage, Stage::Top)
 }

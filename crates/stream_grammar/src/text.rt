@@ -1,8 +1,7 @@
 //! The words of a line: marks and datarefs.
 
 ghost use Rattle.std.specs.Prelude.{◌≡◌, ◌<◌, length, IfSome};
-ghost use Rattle.std.specs.Char.{is_ascii_digit};
-ghost use Rattle.std.specs.List.{list_all, position_from};
+ghost use Rattle.std.specs.List.{position_from};
 ghost use Rattle.std.specs.Option.{option_copied};
 ghost use Rattle.stream_grammar.specs.Texts as texts;
 
@@ -10,7 +9,7 @@ use crate::data_ref::DataRef;
 use crate::fault::Fault;
 use crate::mark::Mark;
 use git_objects::Name;
-use std::str;
+use numerals::read_number;
 
 // Where the first space of a line is.
 fn space_in(line: &[u8]) -> Option<usize>
@@ -20,7 +19,7 @@ fn space_in(line: &[u8]) -> Option<usize>
     line.iter().position(|byte| *byte == b' ')
 }
 
-/// What stands behind the first space of a line; nothing where it has none.
+/// What stands after the first space of a line; nothing where it has none.
 pub fn argument(line: &[u8]) -> &[u8]
     ensures { result.now ≡ texts.argument line.now }
 {
@@ -40,9 +39,9 @@ pub fn first_word(line: &[u8]) -> &[u8]
     }
 }
 
-/// What stands behind the first space of a line, where it has one.
-pub fn behind_space(line: &[u8]) -> Option<&[u8]>
-    ensures { option_copied result ≡ texts.behind_space line.now }
+/// What stands after the first space of a line, where it has one.
+pub fn after_space(line: &[u8]) -> Option<&[u8]>
+    ensures { option_copied result ≡ texts.after_space line.now }
 {
     match space_in(line) {
         Some(index) => Some(line.split_at(index + 1).1),
@@ -50,41 +49,14 @@ pub fn behind_space(line: &[u8]) -> Option<&[u8]>
     }
 }
 
-/// What stands behind a colon, where the text begins with one.
-#[tactic(auto, unfolding(crate::specs::Texts::behind_colon))]
-pub fn behind_colon(text: &[u8]) -> Option<&[u8]>
-    ensures { option_copied result ≡ texts.behind_colon text.now }
+/// What stands after a colon, where the text begins with one.
+#[tactic(auto, unfolding(crate::specs::Texts::after_colon))]
+pub fn after_colon(text: &[u8]) -> Option<&[u8]>
+    ensures { option_copied result ≡ texts.after_colon text.now }
 {
     match text {
         [b':', rest @ ..] => Some(rest),
         _ => None,
-    }
-}
-
-fn are_digits(text: &[u8]) -> bool
-    ensures { result ≡ list_all is_ascii_digit text.now }
-{
-    text.iter().all(|byte| byte.is_ascii_digit())
-}
-
-// Whether the text is 1 to 20 decimal digits.
-fn is_numeral(text: &[u8]) -> bool
-    ensures { result ≡ texts.is_numeral text.now }
-{
-    !text.is_empty() && text.len() <= 20 && are_digits(text)
-}
-
-// The number that 1 to 20 decimal digits write, where it is below 2^64; zeros may lead.
-#[tactic(auto, unfolding(crate::specs::Texts::number_of))]
-fn number_of(text: &[u8]) -> Option<u64>
-    ensures { result ≡ texts.number_of text.now }
-{
-    if !is_numeral(text) {
-        return None;
-    }
-    match str::from_utf8(text) {
-        Ok(digits) => digits.parse().ok(),
-        Err(_) => None,
     }
 }
 
@@ -93,7 +65,7 @@ fn number_of(text: &[u8]) -> Option<u64>
 pub fn idnum_of(text: &[u8]) -> Result<Mark, Fault>
     ensures { result ≡ texts.idnum_of text.now }
 {
-    match number_of(text) {
+    match read_number(text) {
         Some(number) => Mark::from_number(number).ok_or(Fault::BadMark),
         None => Err(Fault::BadMark),
     }
@@ -104,18 +76,18 @@ pub fn idnum_of(text: &[u8]) -> Result<Mark, Fault>
 pub fn mark_of(text: &[u8]) -> Result<Mark, Fault>
     ensures { result ≡ texts.mark_of text.now }
 {
-    match behind_colon(text) {
+    match after_colon(text) {
         Some(digits) => idnum_of(digits),
         None => Err(Fault::Malformed),
     }
 }
 
 /// Reads a dataref, a mark or an object name: `Fault::BadMark` (12) for a colon with no such number
-/// behind it, `Fault::Malformed` (3) for what has no colon and is not 40 hexadecimal digits.
+/// after it, `Fault::Malformed` (3) for what has no colon and is not 40 hexadecimal digits.
 pub fn dataref_of(text: &[u8]) -> Result<DataRef, Fault>
     ensures { result ≡ texts.dataref_of text.now }
 {
-    match behind_colon(text) {
+    match after_colon(text) {
         Some(digits) => Ok(DataRef::Mark(idnum_of(digits)?)),
         None => match Name::from_hex(text) {
             Some(id) => Ok(DataRef::Name(id)),

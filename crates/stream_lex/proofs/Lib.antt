@@ -1,5 +1,4 @@
 pub mod Cases
-pub mod Numbers
 pub mod LineEnds
 pub mod Delimiters
 pub mod LineKinds

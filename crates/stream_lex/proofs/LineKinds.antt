@@ -5,7 +5,8 @@ use Rattle.std.specs.List.{starts_with}
 use Rattle.std.proofs.lemmas.Bool.Decides.{Decides-eqb}
 use Rattle.std.proofs.lemmas.Slice.Eq.{starts_is}
 use Rattle.stream_lex.specs.declared.header.LineKind.TheVariants.{Empty, Comment, Delimited, BadHeader, Other}
-use Rattle.stream_lex.specs.Headers.{count_of, counted_kind, header_kind, kind_of}
+use Rattle.stream_lex.specs.Headers.{counted_kind, header_kind, kind_of}
+use Rattle.numerals.specs.Numbers.{number_of}
 use Rattle.stream_lex.proofs.Cases.{by_cases}
 
 -- a text that starts with another is no shorter
@@ -22,7 +23,7 @@ header-delimited : (argument : List ℕ) → header_kind argument ≡ Delimited 
 unfolding header_kind
 header-delimited argument e = by_cases (starts_with nat_eq argument (codes "<<"))
     (λ begins. starts_length argument (codes "<<") begins)
-    (λ other. absurd (counted_is_not_delimited (count_of argument) (rw other at e)))
+    (λ other. absurd (counted_is_not_delimited (number_of argument) (rw other at e)))
 
 -- the header of a delimited data has at least `data <<`
 pub kind-delimited : (text : List ℕ) → kind_of text ≡ Delimited → 7 ≤ length text
@@ -52,7 +53,7 @@ header_is_not_empty argument e = by_cases (starts_with nat_eq argument (codes "<
     (λ begins. by_cases (eqb (length argument) 2)
     (λ two. let no_way : BadHeader ≡ Empty = rw (begins, two) at e in cc)
     (λ more. let no_way : Delimited ≡ Empty = rw (begins, more) at e in cc))
-    (λ other. count_is_not_empty (count_of argument) (rw other at e))
+    (λ other. count_is_not_empty (number_of argument) (rw other at e))
 
 -- only the empty line is empty
 pub kind-empty : (text : List ℕ) → kind_of text ≡ Empty → length text ≡ 0

@@ -1,6 +1,7 @@
 -- Lines and the headers of data: git-fast-import(1), "data".
-use Rattle.std.specs.Prelude.{◌≡◌, ℕ, ◌+◌, ◌*◌, ◌-◌, ◌^◌, ◌≤◌, Bool, ◌&&◌, ◌==◌, nat_eq, nat_lt, nat_le, if◌then◌else◌, List, length, drop, fold, Option, None, Some, codes}
-use Rattle.std.specs.List.{list_all, starts_with, position_or_len}
+use Rattle.std.specs.Prelude.{◌≡◌, ℕ, ◌≤◌, Bool, ◌==◌, nat_eq, if◌then◌else◌, List, length, drop, Option, None, Some, codes}
+use Rattle.std.specs.List.{starts_with, position_or_len}
+use Rattle.numerals.specs.Numbers.{number_of}
 use Rattle.stream_lex.specs.declared.header.LineKind.{LineKind}
 use Rattle.stream_lex.specs.declared.header.LineKind.TheVariants.{Empty, Comment, Counted, Delimited, BadHeader, Other}
 
@@ -29,37 +30,17 @@ pub record IsLine (text : List ℕ) : Type 0 where
   pub one_line : HasNoLineEnd text
   pub within_limit : length text ≤ longest_line
 
--- The byte is a decimal digit.
-abbrev pub is_digit : ℕ → Bool
-is_digit byte = nat_le 48 byte && nat_le byte 57
-
--- The number that decimal digits write.
-abbrev pub value_of : List ℕ → ℕ
-value_of digits = fold (λ value digit. 10 * value + (digit - 48)) 0 digits
-
--- The text is 1 to 20 decimal digits.
-abbrev pub is_numeral : List ℕ → Bool
-is_numeral text = nat_lt 0 (length text) && nat_le (length text) 20 && list_all is_digit text
-
--- The number, where it is below 2^64.
-abbrev pub in_64_bits : ℕ → Option ℕ
-in_64_bits value = if nat_lt value (2 ^ 64) then Some value else None
-
--- The count that 1 to 20 decimal digits write, where it is below 2^64; leading zeros are allowed.
-abbrev pub count_of : List ℕ → Option ℕ
-count_of text = if is_numeral text then in_64_bits (value_of text) else None
-
--- A data header by its count: a bad one is no header.
+-- A data header by its count, which is below 2^64; zeros may lead. A bad count is no header.
 abbrev pub counted_kind : Option ℕ → LineKind
 counted_kind None = BadHeader
 counted_kind (Some size) = Counted size
 
--- A data header by what stands behind `data SP`: `<<` and a delimiter, not empty, or a count.
+-- A data header by what stands after `data SP`: `<<` and a delimiter, not empty, or a count.
 unfoldable pub header_kind : List ℕ → LineKind
 header_kind argument =
     if starts_with nat_eq argument (codes "<<")
     then (if length argument == 2 then BadHeader else Delimited)
-    else counted_kind (count_of argument)
+    else counted_kind (number_of argument)
 
 -- What a line is, by how it begins.
 unfoldable pub kind_of : List ℕ → LineKind
@@ -69,6 +50,6 @@ kind_of text =
     else if starts_with nat_eq text (codes "data ") then header_kind (drop 5 text)
     else Other
 
--- The delimiter that a header names: what stands behind `data SP <<`.
+-- The delimiter that a header names: what stands after `data SP <<`.
 abbrev pub delimiter_of : List ℕ → List ℕ
 delimiter_of header = drop 7 header

@@ -1,8 +1,9 @@
 //! What a line is, by how it begins: git-fast-import(1), "data".
 
-ghost use Rattle.std.specs.Prelude.{◌≡◌, true};
-ghost use Rattle.std.specs.List.{list_all};
-ghost use Rattle.stream_lex.specs.Headers.{count_of, header_kind, in_64_bits, is_digit, is_numeral, kind_of, value_of};
+ghost use Rattle.std.specs.Prelude.{◌≡◌};
+ghost use Rattle.stream_lex.specs.Headers.{header_kind, kind_of};
+
+use numerals::read_number;
 
 /// What a line is, by how it begins. A line that begins with `data SP` is a data header.
 #[derive(Clone, Copy)]
@@ -37,7 +38,7 @@ pub fn kind(text: &[u8]) -> LineKind
     }
 }
 
-/// What a data header is, by what stands behind `data SP`.
+/// What a data header is, by what stands after `data SP`.
 #[tactic(auto, unfolding(crate::specs::Headers::header_kind))]
 fn data_kind(argument: &[u8]) -> LineKind
     ensures { result ≡ header_kind argument.now }
@@ -49,44 +50,9 @@ fn data_kind(argument: &[u8]) -> LineKind
             LineKind::Delimited
         }
     } else {
-        match count(argument) {
+        match read_number(argument) {
             Some(size) => LineKind::Counted(size),
             None => LineKind::BadHeader,
         }
     }
-}
-
-/// The count that 1 to 20 decimal digits write, where it is below 2^64.
-fn count(text: &[u8]) -> Option<u64>
-    ensures { result ≡ count_of text.now }
-{
-    if is_numeral(text) { value(text) } else { None }
-}
-
-/// Whether the text is 1 to 20 decimal digits.
-fn is_numeral(text: &[u8]) -> bool
-    ensures { result ≡ is_numeral text.now }
-{
-    !text.is_empty() && text.len() <= 20 && are_digits(text)
-}
-
-/// Whether each byte is a decimal digit.
-fn are_digits(text: &[u8]) -> bool
-    ensures { result ≡ list_all is_digit text.now }
-{
-    text.iter().all(|byte| b'0' <= *byte && *byte <= b'9')
-}
-
-/// The number that decimal digits write, where it is below 2^64.
-fn value(digits: &[u8]) -> Option<u64>
-    requires { is_numeral digits.now ≡ true }
-    ensures { result ≡ in_64_bits (value_of digits.now) }
-{
-    let mut value: u64 = 0;
-    for digit in digits {
-        value = value
-            .checked_mul(10)?
-            .checked_add(u64::from(*digit - b'0'))?;
-    }
-    Some(value)
 }

@@ -20,8 +20,6 @@ mod lexer;
 mod look;
 mod place;
 mod search;
-#[cfg(test)]
-mod tests;
 
 pub use fault::Fault;
 pub use item::Item;

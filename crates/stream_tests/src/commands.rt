@@ -2,7 +2,7 @@
 //!
 //! A row is an item, ` => `, and what it asks for, both derived by hand from the manual. `LF` is a
 //! blank line, `data x` are data, `END` is the end of the stream, and `COMMIT` stands for the three
-//! items of the shortest commit. A number is that of a fault; behind it, and behind `END`, the next
+//! items of the shortest commit. A number is that of a fault; after it, and after `END`, the next
 //! row begins a stream of its own. In an act `-` is no mark, `[a/b]` a path and `<x>` an
 //! expression; of an object name its first 8 digits stand there.
 
@@ -12,9 +12,9 @@ mod lines;
 mod tags;
 mod texts;
 
-use crate::{Act, CommitIsh, DataRef, Fault, Feature, FileMode, Mark, Parser, Path};
 use std::alloc::{AllocError, Global};
 use std::test::Fail;
+use stream_grammar::{Act, CommitIsh, DataRef, Fault, Feature, FileMode, Mark, Parser, Path};
 use stream_lex::Item;
 
 /// What a parser does, in words and as rows.
@@ -23,14 +23,23 @@ pub struct Case {
     pub rows: &'static [&'static str],
 }
 
-// What a row says that an act is, as bytes.
+// A parser, and what it answered to the last item, as a row says it.
 #[derive(Drop)]
-struct Text {
+struct Reading {
     alloc: Global,
+    parser: Parser,
     bytes: Vec<u8>,
 }
 
-impl Text {
+fn begin(alloc: Global) -> Reading {
+    Reading {
+        alloc,
+        parser: Parser::new(alloc),
+        bytes: Vec::new(alloc),
+    }
+}
+
+impl Reading {
     fn put(&mut self, part: &[u8]) -> Result<(), AllocError> {
         self.bytes.extend_from_slice(part)
     }
@@ -221,6 +230,70 @@ impl Text {
             _ => self.put_line_act(act),
         }
     }
+
+    fn put_fault(&mut self, fault: Fault) -> Result<(), AllocError> {
+        let number = fault.code();
+        let number = format!(in self.alloc; "{number}")?;
+        self.put(number.as_bytes())
+    }
+
+    // Takes an item, and writes what it asks for, or the number of its fault.
+    fn take(&mut self, item: Item<'_>) -> Result<(), AllocError> {
+        self.bytes.clear();
+        match self.parser.take(item) {
+            Ok(done) => {
+                if done.ends_commit {
+                    self.put(b"ends commit, ")?;
+                }
+                self.put_act(&done.act)
+            }
+            Err(fault) => self.put_fault(fault),
+        }
+    }
+
+    // Writes what the end of the stream is answered with.
+    fn end(&mut self) -> Result<(), AllocError> {
+        self.bytes.clear();
+        match self.parser.end() {
+            Ok(true) => self.put(b"ends commit"),
+            Ok(false) => self.put(b"ok"),
+            Err(fault) => self.put_fault(fault),
+        }
+    }
+
+    // Takes the item of a row.
+    fn take_row(&mut self, item: &str) -> Result<(), AllocError> {
+        if item == "END" {
+            return self.end();
+        }
+        if item == "LF" {
+            return self.take(Item::Blank);
+        }
+        if item == "COMMIT" {
+            self.take(Item::Line(b"commit refs/heads/m"))?;
+            self.take(Item::Line(b"committer A <a@b> 0 +0000"))?;
+            return self.take(Item::Data(b"m"));
+        }
+        match item.strip_prefix("data ") {
+            Some(contents) => self.take(Item::Data(contents.as_bytes())),
+            None => self.take(Item::Line(item.as_bytes())),
+        }
+    }
+
+    // Goes through the rows, and gives the first one that is answered otherwise, or none.
+    fn first_wrong<'a>(&mut self, rows: &[&'a str]) -> Result<&'a str, Fail> {
+        for row in rows {
+            let (item, wanted) = row.split_once(" => ").ok_or("a row without an answer")?;
+            self.take_row(item)?;
+            if self.bytes.as_slice() != wanted.as_bytes() {
+                return Ok(row);
+            }
+            if item == "END" || is_number(&self.bytes) {
+                self.parser = Parser::new(self.alloc);
+            }
+        }
+        Ok("")
+    }
 }
 
 fn mode_text(mode: FileMode) -> &'static [u8] {
@@ -244,73 +317,15 @@ fn feature_text(feature: Feature) -> &'static [u8] {
     }
 }
 
-// Takes an item, and writes what it asks for, or the number of its fault.
-fn answer(parser: &mut Parser, item: Item<'_>, text: &mut Text) -> Result<(), AllocError> {
-    match parser.take(item) {
-        Ok(done) => {
-            if done.ends_commit {
-                text.put(b"ends commit, ")?;
-            }
-            text.put_act(&done.act)
-        }
-        Err(fault) => put_fault(fault, text),
-    }
-}
-
-fn put_fault(fault: Fault, text: &mut Text) -> Result<(), AllocError> {
-    let number = fault.code();
-    let number = format!(in text.alloc; "{number}")?;
-    text.put(number.as_bytes())
-}
-
-fn answer_end(parser: &Parser, text: &mut Text) -> Result<(), AllocError> {
-    match parser.end() {
-        Ok(true) => text.put(b"ends commit"),
-        Ok(false) => text.put(b"ok"),
-        Err(fault) => put_fault(fault, text),
-    }
-}
-
-// What the item of a row asks for.
-fn answer_row(parser: &mut Parser, item: &str, text: &mut Text) -> Result<(), AllocError> {
-    if item == "END" {
-        return answer_end(parser, text);
-    }
-    if item == "LF" {
-        return answer(parser, Item::Blank, text);
-    }
-    if item == "COMMIT" {
-        let _begun = parser.take(Item::Line(b"commit refs/heads/m"));
-        let _made = parser.take(Item::Line(b"committer A <a@b> 0 +0000"));
-        return answer(parser, Item::Data(b"m"), text);
-    }
-    match item.strip_prefix("data ") {
-        Some(contents) => answer(parser, Item::Data(contents.as_bytes()), text),
-        None => answer(parser, Item::Line(item.as_bytes()), text),
-    }
-}
-
 // Whether a stream ends with such an answer: it is the number of a fault.
 fn is_number(text: &[u8]) -> bool {
     text.iter().all(|byte| byte.is_ascii_digit())
 }
 
-// Goes through the rows, and gives the first one that is answered otherwise, or none.
+// The first of the rows that is answered otherwise, or none.
 fn first_wrong<'a>(alloc: Global, rows: &[&'a str]) -> Result<&'a str, Fail> {
-    let mut parser = Parser::new(alloc);
-    for row in rows {
-        let (item, wanted) = row.split_once(" => ").ok_or("a row without an answer")?;
-        let bytes = Vec::new(alloc);
-        let mut text = Text { alloc, bytes };
-        answer_row(&mut parser, item, &mut text)?;
-        if text.bytes.as_slice() != wanted.as_bytes() {
-            return Ok(row);
-        }
-        if item == "END" || is_number(&text.bytes) {
-            parser = Parser::new(alloc);
-        }
-    }
-    Ok("")
+    let mut reading = begin(alloc);
+    reading.first_wrong(rows)
 }
 
 /// What the first case does that goes otherwise, and the row at which it does, or nothing.
