@@ -17,7 +17,7 @@ use Rattle.tenant_tables.specs.StandsIn.{LeavesOthers, AreCounted}
 use Rattle.tenant_tables.proofs.HoldLemmas.{held-nil}
 use Rattle.tenant_tables.proofs.TableLemmas.{LeavesOthers-refl, other_stands, other_objects}
 use Rattle.import_session.specs.Stream.{Runs, Refused}
-use Rattle.step_frames.specs.declared.answer.Answer.{Answer}
+use Rattle.service_steps.specs.declared.answer.Answer.{Answer}
 use Rattle.gitpool.specs.declared.tenant.Phase.{Phase}
 use Rattle.gitpool.specs.declared.tenant.Phase.TheVariants as phase
 use Rattle.gitpool.specs.declared.tenant.Tenant.{Tenant}

@@ -12,7 +12,7 @@ use Rattle.stream_lex.specs.Running.{more_of, extended}
 use Rattle.stream_grammar.specs.Commands.{top}
 use Rattle.import_session.specs.Session.{repository_in}
 use Rattle.import_session.specs.Stream.{Running, Runs, Refused, Outcome, End, finished, running_end, last_checkpoint, ended_well as import_ended}
-use Rattle.step_frames.specs.declared.answer.Answer.TheVariants as answer
+use Rattle.service_steps.specs.declared.answer.Answer.TheVariants as answer
 use Rattle.gitpool.specs.declared.stop.Stop.{Stop}
 use Rattle.gitpool.specs.declared.stop.Stop.TheVariants as stop
 use Rattle.gitpool.specs.declared.tenant.Phase.{Phase}

@@ -13,10 +13,10 @@ use Rattle.stream_lex.specs.Items.{Tail, Rest}
 use Rattle.stream_lex.specs.Running.{more_of}
 use Rattle.import_session.specs.Session.{repository_in}
 use Rattle.import_session.specs.Stream.{Running, Standing, Runs, Refused, last_checkpoint}
-use Rattle.step_frames.specs.declared.answer.Answer.{Answer}
-use Rattle.step_frames.specs.declared.answer.Answer.TheVariants as answers
-use Rattle.step_frames.specs.declared.step.Step.{Step}
-use Rattle.step_frames.specs.declared.step.Step.TheVariants as step
+use Rattle.service_steps.specs.declared.answer.Answer.{Answer}
+use Rattle.service_steps.specs.declared.answer.Answer.TheVariants as answers
+use Rattle.service_steps.specs.declared.step.Step.{Step}
+use Rattle.service_steps.specs.declared.step.Step.TheVariants as step
 use Rattle.gitpool.specs.declared.stop.Stop.{Stop}
 use Rattle.gitpool.specs.declared.stop.Stop.TheVariants as stop
 use Rattle.gitpool.specs.declared.tenant.Phase.{Phase}

@@ -8,7 +8,6 @@
 mod import;
 mod import_fault;
 mod key;
-mod reply;
 mod service;
 mod serving;
 mod stop;
@@ -18,9 +17,9 @@ mod tenants;
 
 pub use import::import_one;
 pub use import_fault::ImportFault;
-pub use reply::Reply;
 pub use service::Service;
+pub use service_steps::{Answer, Reply, ServiceFault, Step};
 pub use serving::serve;
-pub use step_frames::{Answer, FrameFault, Step};
+pub use step_frames::FrameFault;
 pub use stop::Stop;
 pub use stream::Stream;

@@ -10,6 +10,8 @@ mod one_byte;
 #[cfg(test)]
 mod services;
 #[cfg(test)]
+mod single_frames;
+#[cfg(test)]
 mod streams;
 #[cfg(test)]
 mod watched;

@@ -1,10 +1,10 @@
 //! Frames read and answers written, beside bytes derived by hand.
 
-use crate::{Answer, FrameFault, Frames, Step, write_answer};
 use git_objects::{Counted, FailingReader, FailingWriter};
 use std::alloc::Global;
 use std::io::Read;
 use std::test::Fail;
+use step_frames::{Answer, FrameFault, Frames, Step, write_answer};
 
 // Each kind of frame, one behind the other.
 const FRAMES: &[u8] = b"\x01\0\x01t\0\0\0\0\

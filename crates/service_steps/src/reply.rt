@@ -1,6 +1,6 @@
 //! Replies of a run.
 
-use step_frames::Answer;
+use crate::answer::Answer;
 
 /// What one step of a run was told.
 #[derive(Debug, Drop)]
