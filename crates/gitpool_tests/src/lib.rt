@@ -15,3 +15,5 @@ mod single_frames;
 mod streams;
 #[cfg(test)]
 mod watched;
+#[cfg(test)]
+mod worked;
