@@ -10,8 +10,6 @@ mod import_fault;
 mod key;
 mod service;
 mod serving;
-mod stop;
-mod stream;
 mod tenant;
 mod tenants;
 
@@ -21,5 +19,3 @@ pub use service::Service;
 pub use service_steps::{Answer, Reply, ServiceFault, Step};
 pub use serving::serve;
 pub use step_frames::FrameFault;
-pub use stop::Stop;
-pub use stream::Stream;

@@ -3,8 +3,8 @@ use Rattle.tenant_tables.specs.StandsIn.{StandsIn, LeavesOthers}
 use Rattle.stream_lex.specs.Items.{Item}
 use Rattle.stream_lex.specs.Running.{more_of}
 use Rattle.import_session.specs.Session.{running_in}
-use Rattle.gitpool.specs.Carrying.{Advances}
-use Rattle.gitpool.proofs.stream.carry.Given as goal
+use Rattle.tenant_stream.specs.Carrying.{Advances}
+use Rattle.tenant_stream.proofs.stream.carry.Given as goal
 
 abbrev pub invariant-items : goal.invariant-items
 invariant-items g l = record {

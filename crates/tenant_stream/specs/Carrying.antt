@@ -8,8 +8,8 @@ use Rattle.stream_lex.specs.Items.{Item, Tail, Rest, behind_items}
 use Rattle.stream_lex.specs.Running.{extended, more_of, HasNoItem}
 use Rattle.import_session.specs.Session.{Kept, new_session, running_in}
 use Rattle.import_session.specs.Stream.{Running, Outcome, End, after_reply, carried, last_checkpoint, refused}
-use Rattle.gitpool.specs.declared.stop.Stop.{Stop}
-use Rattle.gitpool.specs.declared.stop.Stop.TheVariants as stop
+use Rattle.tenant_stream.specs.declared.stop.Stop.{Stop}
+use Rattle.tenant_stream.specs.declared.stop.Stop.TheVariants as stop
 
 -- What is kept of a stream between two pieces: its session, and the bytes of which no item was
 -- given yet.

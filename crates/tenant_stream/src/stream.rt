@@ -8,8 +8,8 @@ ghost use Rattle.std.specs.Prelude.{◌≡◌, [], false};
 ghost use Rattle.tenant_tables.specs.StandsIn.{StandsIn, LeavesOthers};
 ghost use Rattle.import_session.specs.Session.{running_in, repository_in, workspace_in};
 ghost use Rattle.import_session.specs.Stream.{Runs, finished, last_checkpoint};
-ghost use Rattle.gitpool.specs.Stopping.{unfed};
-ghost use Rattle.gitpool.specs.Carrying.{new_stream, stream_in, Carries, Feeds, EndsAs, HasAmpleRoom, IsCommitted};
+ghost use Rattle.tenant_stream.specs.Stopping.{unfed};
+ghost use Rattle.tenant_stream.specs.Carrying.{new_stream, stream_in, Carries, Feeds, EndsAs, HasAmpleRoom, IsCommitted};
 
 use crate::stop::{Stop, stop_of};
 use content_pool::Pool;
@@ -105,7 +105,7 @@ pub struct Stream {
 }
 
 impl Model for Stream {
-    ghost use Rattle.gitpool.specs.Carrying.{Between};
+    ghost use Rattle.tenant_stream.specs.Carrying.{Between};
 
     ghost Value = { Between };
 

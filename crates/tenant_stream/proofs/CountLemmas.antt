@@ -7,7 +7,7 @@ use Rattle.stream_lex.specs.Items.{Item, Tail, Rest, Failed, Reading, behind_ite
 use Rattle.stream_lex.specs.Lexer.{held_bytes}
 use Rattle.stream_lex.specs.Reading.{First, Stops, Skips, Gives, behind, first_of, is_data, walk}
 use Rattle.stream_lex.specs.Running.{more_of, Takes as TakesItem}
-use Rattle.gitpool.specs.Carrying.{ReadsOn}
+use Rattle.tenant_stream.specs.Carrying.{ReadsOn}
 
 abbrev HasAtMost : Reading → ℕ → Type 0
 HasAtMost r n = length r.items ≤ n

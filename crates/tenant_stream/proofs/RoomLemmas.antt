@@ -6,7 +6,7 @@ use Rattle.tenant_tables.specs.View.{View, Entries, held}
 use Rattle.tenant_tables.specs.Objects.{objects}
 use Rattle.tenant_tables.proofs.TableLemmas.{length-objects}
 use Rattle.tenant_tables.specs.StandsIn.{StandsIn, LeavesOthers}
-use Rattle.gitpool.specs.Carrying.{HasAmpleRoom, IsCommitted}
+use Rattle.tenant_stream.specs.Carrying.{HasAmpleRoom, IsCommitted}
 
 -- one table takes at most one hold of a slot, however often it is called
 pub room_left : (digest : List ℕ → List ℕ) (p q : Cells) (es fs : Entries) → HasAmpleRoom p → LeavesOthers p es q fs → StandsIn digest q fs → HasRoom q

@@ -15,9 +15,9 @@ use Rattle.git_model.specs.Repository.{Repository}
 use Rattle.import_session.specs.Workspace.{Workspace}
 use Rattle.import_session.specs.Session.{Takes, Ends as SessionEnds}
 use Rattle.import_session.specs.Stream.{Running, Step, Outcome, after_reply, carried, going_on, at_tail, tail_outcome, last_checkpoint, refused, step, Runs, finished, running_end, command_end, ended_by, session_end}
-use Rattle.gitpool.specs.declared.stop.Stop.{Stop}
-use Rattle.gitpool.specs.Stopping.{stop_of, unfed}
-use Rattle.gitpool.specs.Carrying.{ReadsOn, CarriesOn, Advances, IsRefused, IsDrained, Goes, Ends, Fails, Stops, Carries, Feeds, outcome_behind}
+use Rattle.tenant_stream.specs.declared.stop.Stop.{Stop}
+use Rattle.tenant_stream.specs.Stopping.{stop_of, unfed}
+use Rattle.tenant_stream.specs.Carrying.{ReadsOn, CarriesOn, Advances, IsRefused, IsDrained, Goes, Ends, Fails, Stops, Carries, Feeds, outcome_behind}
 
 -- an item that was carried out stands first
 carried_first : (digest : List ℕ → List ℕ) (now : Running) (item : Item) (s : Step) (later : List Item) (tail : Tail)

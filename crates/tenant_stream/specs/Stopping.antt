@@ -6,8 +6,8 @@ use Rattle.import_session.specs.Faults.{code_of}
 use Rattle.stream_lex.specs.declared.fault.Fault.{Fault as LexFault}
 use Rattle.stream_lex.specs.declared.fault.Fault.TheVariants as lex_fault
 use Rattle.stream_lex.specs.Faults.{code_of as item_code}
-use Rattle.gitpool.specs.declared.stop.Stop.{Stop}
-use Rattle.gitpool.specs.declared.stop.Stop.TheVariants as stop
+use Rattle.tenant_stream.specs.declared.stop.Stop.{Stop}
+use Rattle.tenant_stream.specs.declared.stop.Stop.TheVariants as stop
 
 -- What a refusal of an item is to the stream, behind so many items.
 abbrev pub stop_of : Fault → ℕ → Stop

@@ -1,7 +1,7 @@
 use Rattle.std.proofs.Common.{ap}
 use Rattle.git_model.specs.Repository.{Repository}
-use Rattle.gitpool.proofs.RoomLemmas.{all_committed}
-use Rattle.gitpool.proofs.stream.Stream.abandon.Goals as goal
+use Rattle.tenant_stream.proofs.RoomLemmas.{all_committed}
+use Rattle.tenant_stream.proofs.stream.Stream.abandon.Goals as goal
 
 pub returns-clause-committed : goal.returns-clause-committed
 returns-clause-committed g c =

@@ -5,11 +5,11 @@ use Rattle.tenant_tables.proofs.TableLemmas.{LeavesOthers-refl, LeavesOthers-the
 use Rattle.stream_lex.specs.Looking.{item_of}
 use Rattle.import_session.specs.Session.{running_in, Takes}
 use Rattle.import_session.specs.Stream.{step}
-use Rattle.gitpool.specs.Carrying.{Carries}
-use Rattle.gitpool.proofs.CarryLemmas.{Advances-refl, Advances-read, item_stops, tail_stops, ends_at, goes, take_on, took_item, gave_none, gave_fault}
-use Rattle.gitpool.proofs.CountLemmas.{taken_at_most, left_falls}
-use Rattle.gitpool.proofs.RoomLemmas.{room_left}
-use Rattle.gitpool.proofs.stream.carry.Goals as goal
+use Rattle.tenant_stream.specs.Carrying.{Carries}
+use Rattle.tenant_stream.proofs.CarryLemmas.{Advances-refl, Advances-read, item_stops, tail_stops, ends_at, goes, take_on, took_item, gave_none, gave_fault}
+use Rattle.tenant_stream.proofs.CountLemmas.{taken_at_most, left_falls}
+use Rattle.tenant_stream.proofs.RoomLemmas.{room_left}
+use Rattle.tenant_stream.proofs.stream.carry.Goals as goal
 
 pub items-init : goal.items-init
 items-init g c = record {

@@ -1,7 +1,7 @@
 //! Why a stream does not go on.
 
 ghost use Rattle.std.specs.Prelude.{◌≡◌};
-ghost use Rattle.gitpool.specs.Stopping.{stop_of};
+ghost use Rattle.tenant_stream.specs.Stopping.{stop_of};
 
 use import_session::Fault;
 

@@ -1,7 +1,7 @@
 use Rattle.std.proofs.Common.{sym, ◌∙◌}
 use Rattle.import_session.specs.Session.{workspace_in}
-use Rattle.gitpool.proofs.CarryLemmas.{ends_refused}
-use Rattle.gitpool.proofs.stream.end.Goals as goal
+use Rattle.tenant_stream.proofs.CarryLemmas.{ends_refused}
+use Rattle.tenant_stream.proofs.stream.end.Goals as goal
 
 pub returns-in-Err-finish-clause-ended : goal.returns-in-Err-finish-clause-ended
 returns-in-Err-finish-clause-ended g c =

@@ -2,9 +2,9 @@ use Rattle.std.proofs.Common.{◌≡◌, ◌⊎◌, sym, ap, subst, ◌∙◌}
 use Rattle.stream_lex.specs.declared.fault.Fault.TheVariants as Fault
 use Rattle.stream_lex.specs.Items.{Tail, Failed}
 use Rattle.import_session.specs.Session.{Kept, running_in}
-use Rattle.gitpool.specs.Carrying.{Between}
-use Rattle.gitpool.proofs.CarryLemmas.{unfed_feeds}
-use Rattle.gitpool.proofs.stream.Stream.feed.Goals as goal
+use Rattle.tenant_stream.specs.Carrying.{Between}
+use Rattle.tenant_stream.proofs.CarryLemmas.{unfed_feeds}
+use Rattle.tenant_stream.proofs.stream.Stream.feed.Goals as goal
 
 pub returns-in-Err-clause-feeds : goal.returns-in-Err-clause-feeds
 returns-in-Err-clause-feeds g c =
