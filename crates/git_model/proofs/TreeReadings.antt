@@ -132,10 +132,11 @@ read_one e rest h =
     ∙ ap (λ (l : List ℕ). e ∷ entries_after (length (ds ++ 0 ∷ e.id)) l) (sym (append_assoc ds (0 ∷ e.id) rest))
     ∙ ap (λ (l : List TreeEntry). e ∷ l) (skip (ds ++ 0 ∷ e.id) rest)
 
-read_all : (es : List TreeEntry) → AllByRecursion CanWriteEntry es → tree_read (tree_contents es) ≡ es
+-- whether or not they make a tree
+pub entries_back : (es : List TreeEntry) → AllByRecursion CanWriteEntry es → tree_read (tree_contents es) ≡ es
 unfolding entries_after
-read_all [] h = refl
-read_all (e ∷ es) h = read_one e (tree_contents es) h.0 ∙ ap (λ (l : List TreeEntry). e ∷ l) (read_all es h.1)
+entries_back [] h = refl
+entries_back (e ∷ es) h = read_one e (tree_contents es) h.0 ∙ ap (λ (l : List TreeEntry). e ∷ l) (entries_back es h.1)
 
 pub tree_back : (es : List TreeEntry) → CanWriteTree es → tree_read (tree_contents es) ≡ es
-tree_back es h = read_all es (recursion_from_All CanWriteEntry es h.entries)
+tree_back es h = entries_back es (recursion_from_All CanWriteEntry es h.entries)
