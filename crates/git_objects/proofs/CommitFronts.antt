@@ -8,6 +8,8 @@ use Rattle.hex.specs.Hex.{encode_lower, lower_digits}
 use Rattle.hex.proofs.HexLemmas.{length-encode_with}
 use Rattle.git_model.specs.ObjectName.{IsObjectName}
 use Rattle.git_model.specs.Commit.{Commit, CanWriteCommit, commit_contents, line, name_line, optional_line}
+use Rattle.git_model.specs.CommitReading.{commit_read}
+use Rattle.git_model.proofs.CommitReadings.{commit_back}
 use Rattle.git_objects.specs.Fronts.{IsFront}
 use Rattle.git_objects.specs.HeaderParts.{end_lines}
 use Rattle.git_objects.specs.CommitParts.{AreParents, IsIdents, idents_text, IsEncoded}
@@ -113,6 +115,9 @@ commit_found bytes h message f = (
   record { tree = f.found.0.0; parents = f.found.0.1.0; author = f.found.0.1.1.0.0; committer = f.found.0.1.1.0.1; encoding = f.found.0.1.1.1 },
   f.found.1 ∙ whole_text (commit_from h message),
 )
+
+pub commit_reads : (bytes : List ℕ) (h : Head) (message : List ℕ) → IsFront IsHead head_text bytes (Some (h, message)) → commit_from h message ≡ commit_read bytes
+commit_reads bytes h message f = let found = commit_found bytes h message f in sym (ap commit_read found.1 ∙ commit_back (commit_from h message) found.0)
 
 pub commit_only : (bytes : List ℕ) (h : Head) (message : List ℕ) → IsFront IsHead head_text bytes (Some (h, message)) → (c : Commit) → CanWriteCommit c → bytes ≡ commit_contents c → commit_from h message ≡ c
 commit_only bytes h message f c is e =

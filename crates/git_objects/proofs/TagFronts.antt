@@ -1,29 +1,20 @@
 -- The header of a tag at the front of a text: its target, the target's kind, its name and its end.
-use Rattle.std.proofs.Common.{◌≡◌, ◌≢◌, ℕ, List, [], ◌∷◌, ◌++◌, sym, ap, subst, ◌∙◌, false, Option, Some, None, IfSome, codes}
-use Rattle.std.proofs.lemmas.Bool.{false≢true}
+use Rattle.std.proofs.Common.{◌≡◌, ℕ, List, [], ◌∷◌, ◌++◌, sym, ap, subst, ◌∙◌, Option, Some, None, codes}
 use Rattle.std.proofs.lemmas.List.{append_assoc}
-use Rattle.std.proofs.lemmas.List.Elements.{All-from_recursion, All-drop, All-weaker}
 use Rattle.std.proofs.lemmas.Option.{none-some, some_pair_parts}
 use Rattle.git_model.specs.declared.kind.Kind.{Kind}
 use Rattle.git_model.specs.ObjectName.{IsObjectName}
-use Rattle.git_model.specs.RefName.{IsRefName, is_forbidden}
+use Rattle.git_model.specs.RefName.{IsRefName}
 use Rattle.git_model.specs.Commit.{line, name_line, optional_line}
 use Rattle.git_model.specs.Tag.{Tag, CanWriteTag, tag_contents}
+use Rattle.git_model.specs.TagReading.{tag_read}
+use Rattle.git_model.proofs.TagReadings.{tag_back}
 use Rattle.git_objects.specs.Fronts.{IsFront}
 use Rattle.git_objects.specs.HeaderParts.{end_lines}
 use Rattle.git_objects.specs.TagParts.{IsTagged, IsTagger, kind_line}
 use Rattle.git_objects.proofs.Fronts.{Both, both, first_missing, second_missing, both_there}
-use Rattle.git_objects.proofs.Lines.{IsOneLine, ident_one_line}
-
-pub tagger_one_line : (tagger : Option (List ℕ)) → IsTagger tagger → IfSome tagger IsOneLine
-tagger_one_line None is = tt
-tagger_one_line (Some text) is = ident_one_line text is
-
--- a tag's name is one line, since a ref name has no line end
-name_one_line : (name : List ℕ) → IsRefName (codes "refs/tags/" ++ name) → IsOneLine name
-name_one_line name is =
-    let free = All-from_recursion (λ byte. is_forbidden byte ≡ false) (codes "refs/tags/" ++ name) is.no_forbidden_byte in
-    All-weaker (λ byte. is_forbidden byte ≡ false) (λ byte. byte ≢ 10) (λ b h e. false≢true (sym (subst (λ x. is_forbidden x ≡ false) e h))) name (All-drop (λ byte. is_forbidden byte ≡ false) 10 (codes "refs/tags/" ++ name) free)
+pub use Rattle.git_model.proofs.OneLine.{tagger_one_line}
+use Rattle.git_model.proofs.OneLine.{IsOneLine, tag_name_one_line}
 
 abbrev Named : List ℕ × Option (List ℕ) → Type 0
 Named = Both IsOneLine IsTagger (line (codes "tag ")) (end_lines (codes "tagger "))
@@ -59,7 +50,7 @@ whole_text : (t : Tag) → head_text (head_of t) ++ t.message ≡ tag_contents t
 whole_text t = regroup (name_line (codes "object ") t.target) (kind_line t.kind) (line (codes "tag ") t.name) (optional_line (codes "tagger ") t.tagger) t.message
 
 head_is : (t : Tag) → CanWriteTag t → IsHead (head_of t)
-head_is t is = (is.target, (is.kind, (name_one_line t.name is.name, is.tagger)))
+head_is t is = (is.target, (is.kind, (tag_name_one_line t.name is.name, is.tagger)))
 
 pub no_tag : (bytes : List ℕ) → IsFront IsHead head_text bytes None → (t : Tag) → CanWriteTag t → bytes ≡ tag_contents t → ⊥
 no_tag bytes f t is e = none-some _ (f.only (head_of t) t.message (head_is t is) (e ∙ sym (whole_text t)))
@@ -69,6 +60,9 @@ tag_found bytes h message f name = (
   record { target = f.found.0.0; kind = f.found.0.1.0; name = name; tagger = f.found.0.1.1.1 },
   f.found.1 ∙ whole_text (tag_from h message),
 )
+
+pub tag_reads : (bytes : List ℕ) (h : Head) (message : List ℕ) → IsFront IsHead head_text bytes (Some (h, message)) → IsRefName (codes "refs/tags/" ++ h.1.1.0) → tag_from h message ≡ tag_read bytes
+tag_reads bytes h message f name = let found = tag_found bytes h message f name in sym (ap tag_read found.1 ∙ tag_back (tag_from h message) found.0)
 
 pub tag_only : (bytes : List ℕ) (h : Head) (message : List ℕ) → IsFront IsHead head_text bytes (Some (h, message)) → (t : Tag) → CanWriteTag t → bytes ≡ tag_contents t → tag_from h message ≡ t
 tag_only bytes h message f t is e =

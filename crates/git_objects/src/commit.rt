@@ -4,6 +4,7 @@ ghost use Rattle.std.specs.Prelude.{◌≡◌, ◌≢◌, ◌++◌, length, take
 ghost use Rattle.std.specs.List.{flat_map};
 ghost use Rattle.std.specs.Option.{option_map, option_copied};
 ghost use Rattle.git_model.specs.Commit.{Commit, CanWriteCommit, commit_contents, name_line};
+ghost use Rattle.git_model.specs.CommitReading.{commit_read};
 ghost use Rattle.git_objects.specs.Parts.{commit_of};
 ghost use Rattle.git_objects.specs.Fronts.{IsFront};
 ghost use Rattle.git_objects.specs.HeaderParts.{end_lines};
@@ -117,6 +118,7 @@ pub fn read_commit(alloc: Global, contents: &[u8]) -> Result<Option<CommitParts<
         × (contents.now ≡ commit_contents (commit_of parts)))) }
     ensures only { (c : Commit) → CanWriteCommit c → contents.now ≡ commit_contents c
         → IfOk result (λ r. IsSomeAnd r (λ parts. commit_of parts ≡ c)) }
+    ensures read { IfOk result (λ r. IfSome r (λ parts. commit_of parts ≡ commit_read contents.now)) }
     ensures exact { IfOk result (λ r. IsNone r → (c : Commit) → CanWriteCommit c
         → contents.now ≢ commit_contents c) }
 {

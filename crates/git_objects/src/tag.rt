@@ -7,6 +7,7 @@ ghost use Rattle.git_model.specs.Kind.{kind_word as word_of};
 ghost use Rattle.git_model.specs.RefName.{IsRefName};
 ghost use Rattle.git_model.specs.Commit.{line};
 ghost use Rattle.git_model.specs.Tag.{Tag, CanWriteTag, tag_contents};
+ghost use Rattle.git_model.specs.TagReading.{tag_read};
 ghost use Rattle.git_objects.specs.Parts.{tag_of};
 ghost use Rattle.git_objects.specs.Fronts.{IsFront};
 ghost use Rattle.git_objects.specs.HeaderParts.{end_lines};
@@ -131,6 +132,7 @@ pub fn read_tag(alloc: Global, contents: &[u8]) -> Result<Option<TagParts<'_>>, 
         (λ parts. CanWriteTag (tag_of parts) × (contents.now ≡ tag_contents (tag_of parts)))) }
     ensures only { (t : Tag) → CanWriteTag t → contents.now ≡ tag_contents t
         → IfOk result (λ r. IsSomeAnd r (λ parts. tag_of parts ≡ t)) }
+    ensures read { IfOk result (λ r. IfSome r (λ parts. tag_of parts ≡ tag_read contents.now)) }
     ensures exact { IfOk result (λ r. IsNone r → (t : Tag) → CanWriteTag t → contents.now ≢ tag_contents t) }
 {
     let Some(first) = take_name_line(b"object ", contents) else {

@@ -3,6 +3,7 @@
 ghost use Rattle.std.specs.Prelude.{◌≡◌, ◌≢◌, ◌↔◌, List, ◌++◌, length, take, All, IfSome, IfOk, IsNone, IsSomeAnd, OnOk, OnErr, IsTrue, ⊤};
 ghost use Rattle.std.specs.Option.{option_map};
 ghost use Rattle.git_model.specs.Tree.{TreeEntry as Entry, IsEntryName, CanWriteEntry, CanWriteTree, entry_text, tree_contents};
+ghost use Rattle.git_model.specs.TreeReading.{tree_read};
 ghost use Rattle.git_objects.specs.Parts.{entry_of, entries_of};
 ghost use Rattle.git_objects.specs.Fronts.{IsFront};
 ghost use Rattle.git_objects.specs.TreeParts.{mode_text, name_text, AreInOrder, HasTwin};
@@ -164,6 +165,7 @@ pub fn read_tree(alloc: Global, contents: &[u8]) -> Result<Option<Vec<TreeEntry<
         × (contents.now ≡ tree_contents (entries_of es.items)))) }
     ensures only { (es : List Entry) → CanWriteTree es → contents.now ≡ tree_contents es
         → IfOk result (λ r. IsSomeAnd r (λ v. entries_of v.items ≡ es)) }
+    ensures read { IfOk result (λ r. IfSome r (λ es. entries_of es.items ≡ tree_read contents.now)) }
     ensures exact { IfOk result (λ r. IsNone r → (es : List Entry) → CanWriteTree es
         → contents.now ≢ tree_contents es) }
 {

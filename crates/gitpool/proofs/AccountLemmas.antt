@@ -17,12 +17,12 @@ use Rattle.tenant_tables.specs.StandsIn.{LeavesOthers, AreCounted}
 use Rattle.tenant_tables.proofs.HoldLemmas.{held-nil}
 use Rattle.tenant_tables.proofs.TableLemmas.{LeavesOthers-refl, other_stands, other_objects}
 use Rattle.import_session.specs.Stream.{Runs, Refused}
-use Rattle.step_frames.specs.declared.answer.Answer.{Answer}
+use Rattle.service_steps.specs.declared.answer.Answer.{Answer}
 use Rattle.gitpool.specs.declared.tenant.Phase.{Phase}
 use Rattle.gitpool.specs.declared.tenant.Phase.TheVariants as phase
 use Rattle.gitpool.specs.declared.tenant.Tenant.{Tenant}
 use Rattle.gitpool.specs.Alone.{Call, Turn, turn}
-use Rattle.gitpool.specs.Carrying.{HasAmpleRoom}
+use Rattle.tenant_stream.specs.Carrying.{HasAmpleRoom}
 use Rattle.gitpool.specs.Headline.{stop_told}
 use Rattle.gitpool.specs.Holding.{Holding, Idle, Busy, empty_repository, held_of, step_held}
 use Rattle.gitpool.specs.Tenants.{Tenants, Stands, kept_tail, held_in, holding_in, holdings, all_held, Accounts, Takes, Serves}

@@ -20,12 +20,12 @@ use Rattle.std.proofs.lemmas.List.{length-append}
 use Rattle.std.proofs.Math.Nat.{pos_of_ne-zero}
 use Rattle.step_frames.specs.Reading.{HasReadWell}
 use Rattle.step_frames.proofs.ReadLemmas.{one_well}
-use Rattle.gitpool.proofs.StreamLemmas.{carried-done}
-use Rattle.gitpool.specs.declared.stop.Stop.{Stop}
-use Rattle.gitpool.specs.declared.stop.Stop.TheVariants as stop
+use Rattle.tenant_stream.proofs.StreamLemmas.{carried-done}
+use Rattle.tenant_stream.specs.declared.stop.Stop.{Stop}
+use Rattle.tenant_stream.specs.declared.stop.Stop.TheVariants as stop
 use Rattle.gitpool.specs.declared.import_fault.ImportFault.{ImportFault}
 use Rattle.gitpool.specs.declared.import_fault.ImportFault.TheVariants as fault
-use Rattle.gitpool.specs.Carrying.{Between, Carries, Advances, Goes, Ends, EndsAs, Fails, Feeds, HasAmpleRoom, Stops, IsDrained, new_stream, outcome_behind, stream_in}
+use Rattle.tenant_stream.specs.Carrying.{Between, Carries, Advances, Goes, Ends, EndsAs, Fails, Feeds, HasAmpleRoom, Stops, IsDrained, new_stream, outcome_behind, stream_in}
 use Rattle.gitpool.specs.ImportFaults.{as_import}
 use Rattle.gitpool.specs.Import.{IsImported, IsGivenUp, IsStopped, IsDevice, IsSettled, AsksForMore, Imports, outcome_of, end_fault}
 use Rattle.gitpool.specs.Alone.{stream_of}

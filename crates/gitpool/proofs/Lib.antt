@@ -1,6 +1,3 @@
-mod CarryLemmas
-mod CountLemmas
-mod RoomLemmas
 mod StreamLemmas
 mod TenantLemmas
 mod OwnLemmas

@@ -12,12 +12,12 @@ use Rattle.stream_lex.proofs.Walks.{reading-append}
 use Rattle.import_session.specs.declared.fault.Fault.{Fault}
 use Rattle.import_session.specs.Workspace.{opened}
 use Rattle.import_session.specs.Stream.{Running, Step, Standing, Runs, Refused, Outcome, begun, after_reply, carried, going_on, step, at_tail, last_checkpoint}
-use Rattle.gitpool.specs.Carrying.{outcome_behind}
-use Rattle.step_frames.specs.declared.answer.Answer.TheVariants as answer
+use Rattle.tenant_stream.specs.Carrying.{outcome_behind}
+use Rattle.service_steps.specs.declared.answer.Answer.TheVariants as answer
 use Rattle.gitpool.specs.Alone.{Call, Open, Feed, End, Ask, Restart, State, Closed, Streaming, Dead, Turn, turn, Stopped, stop_at, stop_behind, stream_of, last_of, feed_stop, open_alone, feed_alone, added, fed_by, fed, fed_well, fed_until, ended, closed, run_alone}
 use Rattle.gitpool.specs.Headline.{told_by}
 use Rattle.gitpool.specs.Holding.{Holding, Idle, Busy, LeadsTo, standing_answer, gone_on, held_until, open_held, feed_held, fed_held, step_held}
-use Rattle.gitpool.proofs.StreamLemmas.{carried-done, carried-tail}
+use Rattle.tenant_stream.proofs.StreamLemmas.{carried-done, carried-tail}
 
 -- ---- items behind items
 

@@ -10,10 +10,10 @@ use Rattle.std.proofs.Math.Seq.{drop-append_seam, drop-append-le, drop-length}
 use Rattle.std.proofs.lemmas.Slice.Eq.{bytes_eq-Decides}
 use Rattle.content_pool.specs.Pool.{Cells}
 use Rattle.tenant_refs.specs.TenantName.{is_tenant_name}
-use Rattle.step_frames.specs.declared.answer.Answer.{Answer}
-use Rattle.gitpool.specs.declared.reply.Reply.{Reply}
-use Rattle.step_frames.specs.declared.step.Step.{Step}
-use Rattle.step_frames.specs.declared.step.Step.TheVariants as step
+use Rattle.service_steps.specs.declared.answer.Answer.{Answer}
+use Rattle.service_steps.specs.declared.reply.Reply.{Reply}
+use Rattle.service_steps.specs.declared.step.Step.{Step}
+use Rattle.service_steps.specs.declared.step.Step.TheVariants as step
 use Rattle.gitpool.specs.Alone.{Call, State, Closed, Turn, added, run_alone}
 use Rattle.gitpool.specs.Headline.{Told, told_by, told_in, Run, concerns, call_of, stop_told, part_of, steps_of, told_to, told_alone, left_alone, IsItsOwn, IsRefused, told_by_reply, told_since, run_of}
 use Rattle.gitpool.specs.Holding.{Holding, Holdings, Idle, LeadsTo, empty_repository, held_of, last_held, step_held}

@@ -6,10 +6,10 @@ use Rattle.std.proofs.lemmas.Grind.{flat_map-append}
 use Rattle.std.proofs.lemmas.List.{length-append}
 use Rattle.git_objects.specs.Device.{Device, HasRead, HasFault, AppendsFront}
 use Rattle.git_objects.proofs.KnownBytes.{Appends-nil, Appends-trans, HasRead-trans}
-use Rattle.step_frames.specs.declared.answer.Answer.{Answer}
+use Rattle.service_steps.specs.declared.answer.Answer.{Answer}
 use Rattle.step_frames.specs.declared.fault.FrameFault.{FrameFault}
 use Rattle.step_frames.specs.declared.fault.FrameFault.TheVariants as fault
-use Rattle.step_frames.specs.declared.step.Step.{Step}
+use Rattle.service_steps.specs.declared.step.Step.{Step}
 use Rattle.step_frames.specs.Frames.{frame_of, step_text, answer_text, IsGood, IsUnfinished}
 use Rattle.step_frames.specs.Reading.{HasReadWell, ReadsStep}
 use Rattle.step_frames.proofs.ReadLemmas.{well_none, well_more}

@@ -12,16 +12,17 @@ use Rattle.stream_lex.specs.Running.{more_of, extended}
 use Rattle.stream_grammar.specs.Commands.{top}
 use Rattle.import_session.specs.Session.{repository_in}
 use Rattle.import_session.specs.Stream.{Running, Runs, Refused, Outcome, End, finished, running_end, last_checkpoint, ended_well as import_ended}
-use Rattle.step_frames.specs.declared.answer.Answer.TheVariants as answer
-use Rattle.gitpool.specs.declared.stop.Stop.{Stop}
-use Rattle.gitpool.specs.declared.stop.Stop.TheVariants as stop
+use Rattle.service_steps.specs.declared.answer.Answer.TheVariants as answer
+use Rattle.tenant_stream.specs.declared.stop.Stop.{Stop}
+use Rattle.tenant_stream.specs.declared.stop.Stop.TheVariants as stop
 use Rattle.gitpool.specs.declared.tenant.Phase.{Phase}
 use Rattle.gitpool.specs.declared.tenant.Phase.TheVariants as phase
 use Rattle.gitpool.specs.Alone.{Open, End as EndCall, Turn, Stopped, ended, ended_well, end_answer, closed}
-use Rattle.gitpool.specs.Carrying.{outcome_behind, Between, new_stream, stream_in, Carries, Feeds, Stays, EndsAs}
+use Rattle.tenant_stream.specs.Carrying.{outcome_behind, Between, new_stream, stream_in, Carries, Feeds, Stays, EndsAs}
 use Rattle.gitpool.specs.Holding.{Idle, Busy, empty_repository, last_held, step_held, fed_held, held_until, gone_on, standing_answer, end_held}
 use Rattle.gitpool.specs.Tenants.{held_in, standing_in, kept_tail, IsSettled, Takes, GoesTo, StopsBehind, Fed}
-use Rattle.gitpool.proofs.StreamLemmas.{carried-done, GoesTo-goes, GoesTo-fails, StopsBehind-stops}
+use Rattle.tenant_stream.proofs.StreamLemmas.{carried-done}
+use Rattle.gitpool.proofs.StreamLemmas.{GoesTo-goes, GoesTo-fails, StopsBehind-stops}
 
 -- the committed objects are all, where no stream runs
 pub all_committed : (pool : Cells) (table : View) → table.committed ≡ length table.entries

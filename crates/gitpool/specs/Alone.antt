@@ -5,8 +5,8 @@ use Rattle.stream_lex.specs.Items.{Item, Rest}
 use Rattle.stream_lex.specs.Reading.{reading}
 use Rattle.import_session.specs.Workspace.{opened}
 use Rattle.import_session.specs.Stream.{Running, Standing, Runs, Refused, Outcome, begun, carried, last_checkpoint, finished}
-use Rattle.step_frames.specs.declared.answer.Answer.{Answer}
-use Rattle.step_frames.specs.declared.answer.Answer.TheVariants as answer
+use Rattle.service_steps.specs.declared.answer.Answer.{Answer}
+use Rattle.service_steps.specs.declared.answer.Answer.TheVariants as answer
 
 -- What a tenant may ask: git-fast-import(1) for Open, Feed and End, gitrevisions(7) for Ask.
 pub data Call : Type 0 where

@@ -3,11 +3,11 @@ use Rattle.std.specs.Prelude.{◌≡◌, ℕ, Bool, true, false, ◌&&◌, not, 
 use Rattle.std.specs.List.{zip}
 use Rattle.std.specs.Str.{bytes_eq}
 use Rattle.tenant_refs.specs.TenantName.{is_tenant_name}
-use Rattle.step_frames.specs.declared.answer.Answer.{Answer}
-use Rattle.step_frames.specs.declared.answer.Answer.TheVariants as answer
-use Rattle.gitpool.specs.declared.reply.Reply.{Reply}
-use Rattle.step_frames.specs.declared.step.Step.{Step}
-use Rattle.step_frames.specs.declared.step.Step.TheVariants as step
+use Rattle.service_steps.specs.declared.answer.Answer.{Answer}
+use Rattle.service_steps.specs.declared.answer.Answer.TheVariants as answer
+use Rattle.service_steps.specs.declared.reply.Reply.{Reply}
+use Rattle.service_steps.specs.declared.step.Step.{Step}
+use Rattle.service_steps.specs.declared.step.Step.TheVariants as step
 use Rattle.gitpool.specs.Alone.{Call, Open, Feed, End, Ask, Restart, Turn, State, added, run_alone}
 use Rattle.gitpool.specs.Holding.{Holding, LeadsTo}
 

@@ -13,9 +13,9 @@ use Rattle.stream_lex.specs.Items.{Tail, Rest}
 use Rattle.stream_lex.specs.Running.{more_of}
 use Rattle.import_session.specs.Workspace.{opened}
 use Rattle.import_session.specs.Stream.{Running, Standing, Runs, Refused, Outcome, begun, carried}
-use Rattle.gitpool.specs.Carrying.{outcome_behind}
-use Rattle.step_frames.specs.declared.answer.Answer.{Answer}
-use Rattle.step_frames.specs.declared.answer.Answer.TheVariants as answer
+use Rattle.tenant_stream.specs.Carrying.{outcome_behind}
+use Rattle.service_steps.specs.declared.answer.Answer.{Answer}
+use Rattle.service_steps.specs.declared.answer.Answer.TheVariants as answer
 use Rattle.gitpool.specs.Alone.{Call, Open, Feed, End, Ask, Restart, State, Closed, Streaming, Dead, Turn, turn, refused_under, unless_out_of_memory, stream_of, last_of, Stopped, stop_behind, ended, closed}
 
 -- Of a tenant without a stream its repository is held, of one with a stream how the stream stands.

@@ -1,7 +1,7 @@
 -- Why an import did not end well: the numbers of its faults.
 use Rattle.std.specs.Prelude.{ℕ, Result, Ok, Err}
-use Rattle.gitpool.specs.declared.stop.Stop.{Stop}
-use Rattle.gitpool.specs.declared.stop.Stop.TheVariants as stop
+use Rattle.tenant_stream.specs.declared.stop.Stop.{Stop}
+use Rattle.tenant_stream.specs.declared.stop.Stop.TheVariants as stop
 use Rattle.gitpool.specs.declared.import_fault.ImportFault.{ImportFault}
 use Rattle.gitpool.specs.declared.import_fault.ImportFault.TheVariants as fault
 

@@ -11,7 +11,7 @@ use Rattle.stream_lex.specs.Running.{extended}
 use Rattle.import_session.specs.Stream.{Running, Runs, Refused, after_reply, finished}
 use Rattle.gitpool.specs.declared.import_fault.ImportFault.{ImportFault}
 use Rattle.gitpool.specs.declared.import_fault.ImportFault.TheVariants as fault
-use Rattle.gitpool.specs.Carrying.{Between, IsDrained, outcome_behind, new_stream, stream_in}
+use Rattle.tenant_stream.specs.Carrying.{Between, IsDrained, outcome_behind, new_stream, stream_in}
 
 -- The one stream, its repository, and the replies that were not written yet.
 pub record Importing : Type 0 where

@@ -13,17 +13,17 @@ use Rattle.stream_lex.specs.Items.{Tail, Rest}
 use Rattle.stream_lex.specs.Running.{more_of}
 use Rattle.import_session.specs.Session.{repository_in}
 use Rattle.import_session.specs.Stream.{Running, Standing, Runs, Refused, last_checkpoint}
-use Rattle.step_frames.specs.declared.answer.Answer.{Answer}
-use Rattle.step_frames.specs.declared.answer.Answer.TheVariants as answers
-use Rattle.step_frames.specs.declared.step.Step.{Step}
-use Rattle.step_frames.specs.declared.step.Step.TheVariants as step
-use Rattle.gitpool.specs.declared.stop.Stop.{Stop}
-use Rattle.gitpool.specs.declared.stop.Stop.TheVariants as stop
+use Rattle.service_steps.specs.declared.answer.Answer.{Answer}
+use Rattle.service_steps.specs.declared.answer.Answer.TheVariants as answers
+use Rattle.service_steps.specs.declared.step.Step.{Step}
+use Rattle.service_steps.specs.declared.step.Step.TheVariants as step
+use Rattle.tenant_stream.specs.declared.stop.Stop.{Stop}
+use Rattle.tenant_stream.specs.declared.stop.Stop.TheVariants as stop
 use Rattle.gitpool.specs.declared.tenant.Phase.{Phase}
 use Rattle.gitpool.specs.declared.tenant.Phase.TheVariants as phase
 use Rattle.gitpool.specs.declared.tenant.Tenant.{Tenant}
 use Rattle.gitpool.specs.Alone.{Call, Open, Feed, End, Ask, State, Turn, stop_behind}
-use Rattle.gitpool.specs.Carrying.{outcome_behind, Between, stream_in}
+use Rattle.tenant_stream.specs.Carrying.{outcome_behind, Between, stream_in}
 use Rattle.gitpool.specs.Headline.{stop_told}
 use Rattle.gitpool.specs.Holding.{Holding, Idle, Busy, Holdings, LeadsTo, held_of, held_objects, last_held, step_held}
 

@@ -10,14 +10,13 @@ ghost use Rattle.gitpool.specs.Import.{Imports};
 ghost use Rattle.gitpool.specs.Importing.{IsReady, IsNewImport, PassesOn, EndsImport};
 
 use crate::import_fault::ImportFault;
-use crate::stop::Stop;
-use crate::stream::Stream;
 use content_pool::Pool;
 use git_objects::{Counted, DeviceFault, Naming, write_all};
 use std::alloc::Global;
 use std::io::{Read, Write};
 use std::marker::Model;
 use tenant_refs::Refs;
+use tenant_stream::{Stop, Stream};
 use tenant_tables::Table;
 
 // Bytes that one call of `read` may give.

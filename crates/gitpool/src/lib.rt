@@ -8,19 +8,14 @@
 mod import;
 mod import_fault;
 mod key;
-mod reply;
 mod service;
 mod serving;
-mod stop;
-mod stream;
 mod tenant;
 mod tenants;
 
 pub use import::import_one;
 pub use import_fault::ImportFault;
-pub use reply::Reply;
 pub use service::Service;
+pub use service_steps::{Answer, Reply, ServiceFault, Step};
 pub use serving::serve;
-pub use step_frames::{Answer, FrameFault, Step};
-pub use stop::Stop;
-pub use stream::Stream;
+pub use step_frames::FrameFault;

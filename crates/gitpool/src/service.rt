@@ -13,12 +13,12 @@ ghost use Rattle.gitpool.specs.Tenants.{Shows};
 ghost use Rattle.tenant_tables.specs.StandsIn.{StandsIn};
 
 use crate::key::Key;
-use crate::reply::Reply;
 use crate::tenant::Tenant;
 use crate::tenants::{count_committed, key_of, take_step};
 use content_pool::Pool;
 use git_objects::{Memory, Naming};
 use indexmap::IndexMap;
+use service_steps::Reply;
 use std::alloc::Global;
 use std::marker::Model;
 use step_frames::{Answer, Step};

@@ -7,19 +7,18 @@ ghost use Rattle.std.specs.Prelude.{◌≡◌, length, [], ◌∷◌, Ok, Err};
 ghost use Rattle.tenant_tables.specs.StandsIn.{StandsIn, LeavesOthers};
 ghost use Rattle.import_session.specs.Session.{repository_in};
 ghost use Rattle.gitpool.specs.Alone.{Open, Feed, End, Ask, Restart};
-ghost use Rattle.gitpool.specs.Carrying.{HasAmpleRoom, stream_in};
+ghost use Rattle.tenant_stream.specs.Carrying.{HasAmpleRoom, stream_in};
 ghost use Rattle.gitpool.specs.Headline.{stop_told};
 ghost use Rattle.gitpool.specs.Holding.{Idle, step_held, empty_repository, last_held};
 ghost use Rattle.gitpool.specs.Tenants.{held_in, holding_in, kept_tail, Stands, IsSettled, Takes, Fed};
 
-use crate::stop::Stop;
-use crate::stream::Stream;
 use content_pool::Pool;
 use git_objects::Naming;
 use std::alloc::Global;
 use std::mem;
 use step_frames::Answer;
 use tenant_refs::Refs;
+use tenant_stream::{Stop, Stream};
 use tenant_tables::Table;
 
 // The number under which a stream is dead that ran out of memory.

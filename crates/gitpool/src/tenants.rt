@@ -8,7 +8,7 @@ ghost use Rattle.std.specs.Map.{lookup};
 ghost use Rattle.std.specs.Str.{bytes_eq};
 ghost use Rattle.tenant_refs.specs.TenantName.{is_tenant_name as names_tenant};
 ghost use Rattle.gitpool.specs.Alone.{Open, Feed, End};
-ghost use Rattle.gitpool.specs.Carrying.{HasAmpleRoom};
+ghost use Rattle.tenant_stream.specs.Carrying.{HasAmpleRoom};
 ghost use Rattle.gitpool.specs.Tenants.{Accounts, Serves, Steps, holdings, restarted, restarted_at, has_committed};
 
 use crate::key::Key;

@@ -10,6 +10,10 @@ mod one_byte;
 #[cfg(test)]
 mod services;
 #[cfg(test)]
+mod single_frames;
+#[cfg(test)]
 mod streams;
 #[cfg(test)]
 mod watched;
+#[cfg(test)]
+mod worked;

@@ -9,7 +9,7 @@ use Rattle.git_objects.specs.Device.{Device}
 use Rattle.step_frames.specs.declared.fault.FrameFault.{FrameFault}
 use Rattle.step_frames.specs.declared.fault.FrameFault.TheVariants as fault
 use Rattle.step_frames.specs.declared.kind.Kind.{Kind}
-use Rattle.step_frames.specs.declared.step.Step.{Step}
+use Rattle.service_steps.specs.declared.step.Step.{Step}
 use Rattle.step_frames.specs.Frames.{Frame, sized, frame_text, frame_of, kind_of, kind_number, all_kinds, tenant_limit, body_limit, wrong_part, shown_wrong, IsGood, IsUnfinished, IsCutOff, IsBad}
 use Rattle.step_frames.specs.Reading.{HasReadWell, IsUnfinishedPart, ReadsKind, ReadsSized, ReadsStep}
 use Rattle.step_frames.proofs.ReadLemmas.{well_more, all_more, failed_more}

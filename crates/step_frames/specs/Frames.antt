@@ -4,10 +4,10 @@ use Rattle.std.specs.List.{find}
 use Rattle.std.specs.Int.{Width, w16, w32, w64, to_be_bytes}
 use Rattle.step_frames.specs.declared.kind.Kind.{Kind}
 use Rattle.step_frames.specs.declared.kind.Kind.TheVariants as kind
-use Rattle.step_frames.specs.declared.answer.Answer.{Answer}
-use Rattle.step_frames.specs.declared.answer.Answer.TheVariants as answer
-use Rattle.step_frames.specs.declared.step.Step.{Step}
-use Rattle.step_frames.specs.declared.step.Step.TheVariants as step
+use Rattle.service_steps.specs.declared.answer.Answer.{Answer}
+use Rattle.service_steps.specs.declared.answer.Answer.TheVariants as answer
+use Rattle.service_steps.specs.declared.step.Step.{Step}
+use Rattle.service_steps.specs.declared.step.Step.TheVariants as step
 
 -- ---- what a service is sent
 

@@ -6,7 +6,7 @@ use Rattle.git_objects.specs.Device.{Device, HasRead, HasFault}
 use Rattle.step_frames.specs.declared.fault.FrameFault.{FrameFault}
 use Rattle.step_frames.specs.declared.fault.FrameFault.TheVariants as fault
 use Rattle.step_frames.specs.declared.kind.Kind.{Kind}
-use Rattle.step_frames.specs.declared.step.Step.{Step}
+use Rattle.service_steps.specs.declared.step.Step.{Step}
 use Rattle.step_frames.specs.Frames.{sized, kind_of, frame_of, step_text, IsGood, IsUnfinished, IsCutOff, IsBad}
 
 -- Bytes were read, and no call failed.

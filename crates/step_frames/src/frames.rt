@@ -12,8 +12,8 @@ use crate::fault::FrameFault;
 use crate::fill::fill;
 use crate::kind::Kind;
 use crate::sized::{read_behind_u16, read_behind_u32};
-use crate::step::Step;
 use git_objects::Counted;
+use service_steps::Step;
 use std::alloc::Global;
 use std::io::Read;
 

@@ -4,20 +4,14 @@
 //! and the bytes of the reply. Nothing here knows what a step does.
 #![tactic(auto)]
 
-mod answer;
 mod fault;
 mod fill;
 mod frames;
 mod kind;
 mod sized;
-mod step;
 mod written;
 
-pub use answer::Answer;
 pub use fault::FrameFault;
 pub use frames::Frames;
-pub use step::Step;
+pub use service_steps::{Answer, Step};
 pub use written::write_answer;
-
-#[cfg(test)]
-mod tests;

@@ -9,6 +9,7 @@ use Rattle.git_model.proofs.RefNames.{is_ref_name-Decides}
 use Rattle.git_model.specs.Bytes.{BeginsWith}
 use Rattle.git_model.proofs.Texts.{begins_test, not_test, and_test, all_test, all_weaker, all_three}
 use Rattle.tenant_refs.specs.StoredName.{NamesRef, names_ref}
+use Rattle.tenant_refs.specs.declared.tenant_name.TheConstants.{TENANT_NAME_LIMIT}
 use Rattle.tenant_refs.specs.TenantName.{IsTenantName, is_tenant_name, parts_of, is_part, is_part_byte}
 
 pub names_ref-Decides : (text : List ℕ) → Decides (names_ref text) (NamesRef text)
@@ -41,7 +42,7 @@ part_test (x ∷ xs) =
 pub is_tenant_name-Decides : (text : List ℕ) → Decides (is_tenant_name text) (IsTenantName text)
 unfolding is_tenant_name IsPart
 is_tenant_name-Decides text =
-    let d = and_test _ _ (≤_test (length text) 64) (all_test is_part IsPart part_test (parts_of text)) in (
+    let d = and_test _ _ (≤_test (length text) TENANT_NAME_LIMIT) (all_test is_part IsPart part_test (parts_of text)) in (
       λ e. let h = d.0 e in record {
         no_part_is_empty = all_weaker (λ c p. p.0) (parts_of text) h.1;
         no_part_begins_with_a_dash = all_weaker (λ c p. p.1) (parts_of text) h.1;

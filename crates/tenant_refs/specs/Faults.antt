@@ -14,4 +14,3 @@ ref_name_code ref_name.Memory = 90
 -- Why no tenant name was read.
 abbrev pub tenant_name_code : TenantNameFault → ℕ
 tenant_name_code tenant_name.BadTenantName = 32
-tenant_name_code tenant_name.Memory = 90

@@ -3,6 +3,7 @@ use Rattle.std.specs.Prelude.{◌≡◌, ℕ, ◌≤◌, List, [], ◌∷◌, co
 use Rattle.std.specs.List.{slice_split, starts_with, list_all, AllByRecursion}
 use Rattle.std.specs.Char.{is_ascii_alphanumeric}
 use Rattle.git_model.specs.Bytes.{BeginsWith}
+use Rattle.tenant_refs.specs.declared.tenant_name.TheConstants.{TENANT_NAME_LIMIT}
 
 -- The parts of a tenant name are what stands between its slashes.
 abbrev pub parts_of : List ℕ → List (List ℕ)
@@ -22,7 +23,7 @@ pub record IsTenantName (text : List ℕ) : Type 0 where
   pub no_part_is_empty : EachPart (λ part. ¬ (part ≡ [])) text
   pub no_part_begins_with_a_dash : EachPart (λ part. ¬ BeginsWith part (codes "-")) text
   pub only_part_bytes : EachPart (AllByRecursion (λ byte. is_part_byte byte ≡ true)) text
-  pub at_most_64_bytes : length text ≤ 64
+  pub at_most_64_bytes : length text ≤ TENANT_NAME_LIMIT
 
 -- The same rules as a test that computes.
 abbrev pub is_part : List ℕ → Bool
@@ -31,4 +32,4 @@ is_part (byte ∷ rest) =
     not (starts_with nat_eq (byte ∷ rest) (codes "-")) && list_all is_part_byte (byte ∷ rest)
 
 unfoldable pub is_tenant_name : List ℕ → Bool
-is_tenant_name text = nat_le (length text) 64 && list_all is_part (parts_of text)
+is_tenant_name text = nat_le (length text) TENANT_NAME_LIMIT && list_all is_part (parts_of text)

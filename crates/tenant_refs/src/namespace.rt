@@ -36,7 +36,7 @@ mod tests {
 
     #[test]
     fn puts_each_part_into_its_own_namespace(rt: HostRuntime) -> Result<(), Fail> {
-        let tenant = TenantName::read(rt.alloc(), b"a/b")?;
+        let tenant = TenantName::read(b"a/b")?;
         let branch = RefName::read(rt.alloc(), b"refs/heads/m")?;
         let full = full_name(rt.alloc(), &tenant, &branch)?;
         let expected = b"refs/namespaces/a/refs/namespaces/b/refs/heads/m";

@@ -2,15 +2,16 @@
 //!
 //! A name of several parts is a tenant of its own: the tenants `a` and `a/b` share nothing.
 
-ghost use Rattle.std.specs.Prelude.{◌≡◌, ◌↔◌, ◌&&◌, IfOk, IsTrue, Err};
+ghost use Rattle.std.specs.Prelude.{◌≡◌, ◌≤◌, ◌↔◌, ◌&&◌, IfOk, IsTrue, Err, is_ok, length};
 ghost use Rattle.std.specs.List.{list_all};
+ghost use Rattle.std.specs.Cmp.Rules.{comparing, hashing};
+ghost use Rattle.std.proofs.Common.{rules};
 ghost use Rattle.tenant_refs.specs.TenantName.{IsTenantName, is_tenant_name, parts_of, is_part, is_part_byte};
 ghost use Rattle.tenant_refs.specs.declared.tenant_name_fault.TenantNameFault.TheVariants.{BadTenantName};
 
 use crate::tenant_name_fault::TenantNameFault;
-use crate::text::Text;
-use git_objects::Memory;
-use std::alloc::Global;
+use std::cmp::Ordering;
+use std::hash::{Hash, Hasher};
 use std::marker::Model;
 
 /// The longest tenant name, in bytes.
@@ -54,58 +55,124 @@ fn is_part_byte(byte: u8) -> bool
     byte.is_ascii_alphanumeric() || byte == b'-' || byte == b'_'
 }
 
-/// A tenant name, in order of bytes.
-#[derive(Debug, Drop, PartialEq, Eq, PartialOrd, Ord, Hash)]
+/// A tenant name, in order of bytes. It lies in the value itself, so that to read one and to look
+/// it up takes no memory.
+#[derive(Drop)]
 pub struct TenantName {
-    text: Text,
+    bytes: [u8; TENANT_NAME_LIMIT],
+    size: usize,
 }
 
 impl Model for TenantName {
-    ghost use Rattle.std.specs.Prelude.{ℕ, List, IsTrue};
+    ghost use Rattle.std.specs.Prelude.{ℕ, ◌≤◌, List, IsTrue, take};
+    ghost use Rattle.tenant_refs.specs.TenantName.{is_tenant_name};
+    ghost use Rattle.tenant_refs.specs.declared.tenant_name.TheConstants.{TENANT_NAME_LIMIT};
 
     ghost Value = { List ℕ };
 
-    ghost use Rattle.tenant_refs.specs.TenantName.{is_tenant_name};
+    ghost view = { λ name. take name.size name.bytes };
 
-    ghost view = { λ name. name.text };
-
-    ghost invariant = { λ name. IsTrue (is_tenant_name name.text) };
-
-    ghost inverse = { λ bytes. record { text = bytes } };
+    ghost invariant = { λ name. (name.size ≤ TENANT_NAME_LIMIT)
+        × IsTrue (is_tenant_name (take name.size name.bytes)) };
 }
 
 impl TenantName {
-    /// Reads a tenant name.
+    /// Reads a tenant name. Takes no memory.
     ///
-    /// `TenantNameFault::BadTenantName` (32) where `is_tenant_name` says no, and that answer takes
-    /// no memory. Else takes memory for the copy, and nothing has changed after
-    /// `TenantNameFault::Memory` (90).
-    pub fn read(alloc: Global, text: &[u8]) -> Result<TenantName, TenantNameFault>
+    /// `TenantNameFault::BadTenantName` (32) where `is_tenant_name` says no.
+    pub fn read(text: &[u8]) -> Result<TenantName, TenantNameFault>
         ensures name { IfOk result (λ name. name ≡ text.now) }
         ensures well_formed { IfOk result (λ name. IsTenantName name) }
         ensures bad { (result ≡ Err BadTenantName) ↔ (¬ IsTenantName text.now) }
+        ensures value { is_ok result ≡ is_tenant_name text.now }
     {
-        if !is_tenant_name(text) {
-            return Err(TenantNameFault::BadTenantName);
+        if is_tenant_name(text) {
+            Ok(TenantName::of(text))
+        } else {
+            Err(TenantNameFault::BadTenantName)
         }
-        let text = Text::from_slice(alloc, text)?;
-        Ok(TenantName { text })
     }
 
-    /// The bytes of the name.
+    // The name that this text is.
+    fn of(text: &[u8]) -> TenantName
+        requires named { IsTrue (is_tenant_name text.now) }
+        requires short { length text.now ≤ TENANT_NAME_LIMIT }
+        ensures { result ≡ text.now }
+    {
+        let mut bytes = [0; TENANT_NAME_LIMIT];
+        bytes[..text.len()].copy_from_slice(text);
+        TenantName {
+            bytes,
+            size: text.len(),
+        }
+    }
+
+    /// The bytes of the name, at most 64.
     pub fn as_bytes(&self) -> &[u8]
         ensures text { result.now ≡ self.now }
         ensures well_formed { IsTenantName self.now }
     {
-        self.text.as_bytes()
+        &self.bytes[..self.size]
     }
+}
 
-    /// A copy of the name. `Memory` (90) where there is no room for it.
-    pub fn try_clone(&self, alloc: Global) -> Result<TenantName, Memory>
-        ensures { IfOk result (λ copy. copy ≡ self.now) }
-    {
-        let text = self.text.try_clone(alloc)?;
-        Ok(TenantName { text })
+impl PartialEq for TenantName {
+    ghost use Rattle.std.specs.Str.{bytes_eq};
+
+    ghost eq = { bytes_eq };
+
+    ghost laws = { Prim.search (comparing, rules) };
+
+    fn eq(&self, other: &TenantName) -> bool {
+        self.as_bytes() == other.as_bytes()
+    }
+}
+
+impl Eq for TenantName {
+    ghost laws = { Prim.search (comparing, rules) };
+}
+
+impl PartialOrd for TenantName {
+    ghost use Rattle.std.specs.Prelude.{Some};
+    ghost use Rattle.std.specs.Ordering.{nat_cmp};
+    ghost use Rattle.std.specs.Cmp.Lexicographic.{slice_cmp, texts_po};
+
+    ghost partial_cmp = { λ a b. Some (slice_cmp nat_cmp a b) };
+
+    ghost laws = { texts_po };
+
+    fn partial_cmp(&self, other: &TenantName) -> Option<Ordering> {
+        Some(self.cmp(other))
+    }
+}
+
+impl Ord for TenantName {
+    ghost use Rattle.std.specs.Prelude.{refl};
+    ghost use Rattle.std.specs.Ordering.{nat_cmp};
+    ghost use Rattle.std.specs.Cmp.Lexicographic.{slice_cmp, nat_list_cmp_total, texts_ties};
+
+    ghost cmp = { slice_cmp nat_cmp };
+
+    ghost total = { nat_list_cmp_total };
+
+    ghost matches_partial_cmp = { λ _ _. refl };
+
+    ghost matches_eq = { texts_ties };
+
+    fn cmp(&self, other: &TenantName) -> Ordering {
+        self.as_bytes().cmp(other.as_bytes())
+    }
+}
+
+impl Hash for TenantName {
+    ghost use Rattle.std.specs.Hash as fed;
+
+    ghost hash_input = { λ text. fed.slice fed.u8 text };
+
+    ghost respects_eq = { Prim.search (hashing, rules) };
+
+    fn hash<H: Hasher>(&self, state: &mut H) {
+        self.as_bytes().hash(state);
     }
 }
 
@@ -133,7 +200,7 @@ mod tests {
         (b"a\n", false),
     ];
 
-    // Whether `a/b` with so many `x` behind it is a tenant name.
+    // Whether `a/b` with so many `x` after it is a tenant name.
     fn takes_so_many_more(alloc: Global, count: usize) -> Result<bool, Fail> {
         let mut text = Vec::from_slice(alloc, b"a/b")?;
         for _ in 0..count {
@@ -142,16 +209,16 @@ mod tests {
         Ok(is_tenant_name(&text))
     }
 
-    // Whether a name is read with its bytes, is as its copy, and comes behind another name.
-    fn reads_behind(alloc: Global, text: &[u8], earlier: &[u8]) -> Result<bool, Fail> {
-        let name = TenantName::read(alloc, text)?;
-        let copy = name.try_clone(alloc)?;
-        let earlier = TenantName::read(alloc, earlier)?;
-        Ok(name.as_bytes() == text && copy == name && earlier < name)
+    // Whether a name is read with its bytes, and comes after another name.
+    fn reads_after(text: &[u8], earlier: &[u8]) -> Result<bool, Fail> {
+        let name = TenantName::read(text)?;
+        let again = TenantName::read(text)?;
+        let earlier = TenantName::read(earlier)?;
+        Ok(name.as_bytes() == text && again == name && earlier < name)
     }
 
-    fn code_of(alloc: Global, text: &[u8]) -> u16 {
-        match TenantName::read(alloc, text) {
+    fn code_of(text: &[u8]) -> u16 {
+        match TenantName::read(text) {
             Ok(_) => 0,
             Err(fault) => fault.code(),
         }
@@ -168,10 +235,9 @@ mod tests {
     fn reads_a_tenant_name_of_64_bytes_in_all(rt: HostRuntime) -> Result<(), Fail> {
         assert!(rt; takes_so_many_more(rt.alloc(), 61)?);
         assert!(rt; !takes_so_many_more(rt.alloc(), 62)?);
-        assert!(rt; reads_behind(rt.alloc(), b"team/a", b"team")?);
-        assert_eq!(rt; code_of(rt.alloc(), b"a//b"), 32);
+        assert!(rt; reads_after(b"team/a", b"team")?);
+        assert_eq!(rt; code_of(b"a//b"), 32);
         assert_eq!(rt; TenantNameFault::BadTenantName.code(), 32);
-        assert_eq!(rt; TenantNameFault::Memory.code(), 90);
         Ok(())
     }
 }

@@ -2,6 +2,7 @@ pub mod EntryLemmas
 pub mod HoldLemmas
 pub mod SummaryLemmas
 pub mod TableLemmas
+pub mod RoomLemmas
 pub mod IndexLemmas
 pub mod TreeTexts
 pub mod AddLemmas

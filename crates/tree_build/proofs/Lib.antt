@@ -25,7 +25,7 @@ pub mod StoredAgain
 pub mod StandingGood
 pub mod ListedOrder
 pub mod StoredFiles
-pub mod TreeReading
 pub mod StoredTable
+pub mod GoodObjects
 pub mod StoringHeld
 pub mod ListedLater

@@ -9,7 +9,7 @@ use Rattle.git_model.specs.declared.kind.Kind.TheVariants as kind
 use Rattle.git_model.specs.Content.{content_from, name_by}
 use Rattle.git_model.specs.Repository.{Object, with_object}
 use Rattle.git_model.specs.Tree.{TreeEntry, tree_contents}
-use Rattle.content_pool.specs.Pool.{Cells, HasRoom}
+use Rattle.content_pool.specs.Pool.{Cells}
 use Rattle.tenant_tables.specs.declared.fault.Fault.{Fault as TableFault}
 use Rattle.tenant_tables.specs.declared.fault.Fault.TheVariants as table
 use Rattle.tenant_tables.specs.declared.summary.Summary.{Summary}
@@ -19,6 +19,7 @@ use Rattle.tenant_tables.specs.StandsIn.{StandsIn, LeavesOthers}
 use Rattle.tenant_tables.specs.Adding.{store_fault, Adds, Answers}
 use Rattle.tenant_tables.specs.Trees.{FitsTree}
 use Rattle.tenant_tables.proofs.TableLemmas.{LeavesOthers-refl, LeavesOthers-then}
+use Rattle.tenant_tables.proofs.RoomLemmas.{room-after}
 use Rattle.tree_build.specs.declared.below.Group.{Group}
 use Rattle.tree_build.specs.declared.fault.Fault.{Fault}
 use Rattle.tree_build.specs.declared.fault.Fault.TheVariants as fault
@@ -124,14 +125,6 @@ module _ (digest : List ℕ → List ℕ) where
 
   -- ---- one tree
 
-  pub has_room : (p : Cells) (v : View) → StandsIn digest p v.entries → HasRoomBeside p v.entries
-      → HasRoom p
-  has_room p v stands room s = let a = room s in let b = stands.once s in omega arith
-
-  room-after : (p q : Cells) (u v : View) → LeavesOthers p u.entries q v.entries
-      → HasRoomBeside p u.entries → HasRoomBeside q v.entries
-  room-after p q u v others room s = let a = room s in let b = others.rest s in omega arith
-
   pub adds-one : (p q : Cells) (u v : View) (es : List TreeEntry) (bytes : List ℕ) (s : Summary)
       → bytes ≡ tree_contents es
       → StandsIn digest p u.entries → HasRoomBeside p u.entries → FitsTree u.entries bytes s
@@ -141,7 +134,7 @@ module _ (digest : List ℕ → List ℕ) where
       → AddsTrees digest p u q v (es ∷ [])
   adds-one p q u v es bytes s is stands room fits after others none adds = record {
     stands = after;
-    room = room-after p q u v others room;
+    room = room-after p q u.entries v.entries others room;
     others = others;
     objects =
         adds.objects

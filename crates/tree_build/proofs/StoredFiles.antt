@@ -1,26 +1,19 @@
--- The files of a stored tree are those that it lists.
-use Rattle.std.proofs.Common.{◌≡◌, ◌≢◌, ℕ, zero, suc, ◌<◌, List, [], ◌∷◌, ◌++◌, length, take, Option, refl, sym, ap, ◌∙◌, subst, arith}
-use Rattle.std.specs.Prelude.{IsSome, unwrap_or}
+-- The files of a stored tree are those that it lists, where each directory's tree has a lower rank.
+use Rattle.std.proofs.Common.{◌≡◌, ◌≢◌, ℕ, zero, suc, ◌<◌, List, [], ◌∷◌, ◌++◌, Option, refl, sym, ap, ◌∙◌, subst, arith}
+use Rattle.std.specs.Prelude.{unwrap_or}
 use Rattle.std.specs.List.{AllByRecursion, flat_map}
-use Rattle.std.proofs.lemmas.List.{take_all}
 use Rattle.git_model.specs.declared.file_mode.FileMode.{FileMode}
 use Rattle.git_model.specs.declared.file_mode.FileMode.TheVariants as mode
 use Rattle.git_model.specs.Content.{Content, no_content}
-use Rattle.git_model.specs.Tree.{TreeEntry, CanWriteTree, tree_contents}
-use Rattle.content_pool.specs.Pool.{Cells}
-use Rattle.tenant_tables.specs.declared.summary.Summary.{Summary}
-use Rattle.tenant_tables.specs.View.{Entries, summary_of}
-use Rattle.tenant_tables.specs.Objects.{objects}
-use Rattle.tenant_tables.specs.StandsIn.{StandsIn}
-use Rattle.tenant_tables.specs.Trees.{DirectoryStands}
-use Rattle.tenant_tables.proofs.SummaryLemmas.{some_of}
-use Rattle.tenant_tables.proofs.TableLemmas.{length-objects}
+use Rattle.git_model.specs.Tree.{TreeEntry}
+use Rattle.git_model.specs.Repository.{Object}
+use Rattle.git_model.specs.StoredPath.{entries_in, entries_of}
+use Rattle.git_model.proofs.TreeReadings.{tree_back}
 use Rattle.tree_build.specs.FileMap.{Listed}
 use Rattle.tree_build.specs.Edits.{moved}
 use Rattle.tree_build.specs.StoredTree.{HasTree, file_from, Lists, nothing, first_file, first_directory, ListsTree}
-use Rattle.tree_build.specs.StoredFiles.{Reading, entries_of_content, entries_of, listed_by, listed_within, stored_files}
+use Rattle.tree_build.specs.StoredFiles.{listed_by, listed_within}
 use Rattle.tree_build.proofs.Apart.{all-weaker}
-use Rattle.tree_build.proofs.Standing.{position_of, tree-placed, stands-before}
 
 one_file : (m : FileMode) (e : TreeEntry) (b : Listed) → m ≢ mode.Directory → listed_by m e b ≡ file_from e ∷ []
 one_file mode.Directory e b ne = absurd (ne refl)
@@ -29,55 +22,74 @@ one_file mode.Executable e b ne = refl
 one_file mode.Symlink e b ne = refl
 one_file mode.Gitlink e b ne = refl
 
-module _ (read : Reading) (back : (es : List TreeEntry) → CanWriteTree es → read (tree_contents es) ≡ es)
-    (digest : List ℕ → List ℕ) (pool : Cells) (entries : Entries) (stands : StandsIn digest pool entries) where
-  pub entries-at : (id : List ℕ) (es : List TreeEntry) → HasTree (objects pool entries) id es → entries_of read (objects pool entries) id ≡ es
-  entries-at id es h = ap (λ (o : Option Content). entries_of_content read (unwrap_or o no_content)) h.content ∙ back es h.entries
+-- The tree of each directory among entries has a rank below a bound.
+abbrev pub RanksBelow : (List ℕ → ℕ) → ℕ → List TreeEntry → Type 0
+RanksBelow rank n es = AllByRecursion (λ e. e.mode ≡ mode.Directory → rank e.id < n) es
 
-  level : (n : ℕ) (id : List ℕ) → listed_within read (objects pool entries) (suc n) id
-      ≡ flat_map (λ e. listed_by e.mode e (listed_within read (objects pool entries) n e.id)) (entries_of read (objects pool entries) id)
+module _ (os : List Object) where
+  pub entries-at : (id : List ℕ) (es : List TreeEntry) → HasTree os id es → entries_of os id ≡ es
+  entries-at id es h =
+      ap (λ (o : Option Content). entries_in (unwrap_or o no_content).kind (unwrap_or o no_content).bytes) h.content ∙ tree_back es h.entries
+
+  abbrev listed_at : ℕ → List TreeEntry → Listed
+  listed_at n es = flat_map (λ e. listed_by e.mode e (listed_within os n e.id)) es
+
+  level : (n : ℕ) (id : List ℕ) (es : List TreeEntry) → HasTree os id es → listed_within os (suc n) id ≡ listed_at n es
   unfolding listed_within
-  level n id = refl
+  level n id es h = ap (listed_at n) (entries-at id es h)
 
-  -- what stands below a tree stands before it
-  before : (id : List ℕ) (es : List TreeEntry) (n : ℕ) → HasTree (objects pool entries) id es → position_of id entries < suc n
-      → AllByRecursion (λ e. e.mode ≡ mode.Directory → position_of e.id entries < n) es
+module _ (os : List Object) (rank : List ℕ → ℕ) (falls : (id : List ℕ) (es : List TreeEntry) → HasTree os id es → RanksBelow rank (rank id) es) where
+  -- what stands below a tree ranks below it
+  before : (id : List ℕ) (es : List TreeEntry) (n : ℕ) → HasTree os id es → rank id < suc n → RanksBelow rank n es
   before id es n has lt =
-      let p = tree-placed digest pool entries stands id es has in
-      all-weaker (DirectoryStands (take (position_of id entries) entries)) (λ (e : TreeEntry). e.mode ≡ mode.Directory → position_of e.id entries < n)
-      (λ e d is.
-      let b = stands-before e.id (position_of id entries) entries (some_of (summary_of e.id (take (position_of id entries) entries)) (λ s. s.files ≢ 0) (d is)) in omega arith)
-      es p.1.directories
+      all-weaker (λ (e : TreeEntry). e.mode ≡ mode.Directory → rank e.id < rank id) (λ (e : TreeEntry). e.mode ≡ mode.Directory → rank e.id < n)
+      (λ e d is. let b = d is in omega arith) es (falls id es has)
 
-  all-listed : {es : List TreeEntry} {fs : Listed} → Lists (objects pool entries) es fs → (n : ℕ) → AllByRecursion (λ e. e.mode ≡ mode.Directory → position_of e.id entries < n) es
-      → flat_map (λ e. listed_by e.mode e (listed_within read (objects pool entries) n e.id)) es ≡ fs
+  all-listed : {es : List TreeEntry} {fs : Listed} → Lists os es fs → (n : ℕ) → RanksBelow rank n es → listed_at os n es ≡ fs
   all-listed nothing n h = refl
   all-listed (first_file e es files ne l) n h =
-      ap (λ (r : Listed). r ++ flat_map (λ e. listed_by e.mode e (listed_within read (objects pool entries) n e.id)) es) (one_file e.mode e (listed_within read (objects pool entries) n e.id) ne)
+      ap (λ (r : Listed). r ++ listed_at os n es) (one_file e.mode e (listed_within os n e.id) ne)
       ∙ ap (λ (r : Listed). file_from e ∷ r) (all-listed l n h.1)
   all-listed (first_directory e es inside under files is has sub l) zero h = let no = h.0 is in absurd (omega arith)
   all-listed (first_directory e es inside under files is has sub l) (suc n) h =
-      let inner : listed_within read (objects pool entries) (suc n) e.id ≡ under =
-      level n e.id ∙ ap (flat_map (λ e. listed_by e.mode e (listed_within read (objects pool entries) n e.id))) (entries-at e.id inside has)
-      ∙ all-listed sub n (before e.id inside n has (h.0 is)) in
-      let rest : Listed = flat_map (λ e. listed_by e.mode e (listed_within read (objects pool entries) (suc n) e.id)) es in
-      ap (λ (m : FileMode). listed_by m e (listed_within read (objects pool entries) (suc n) e.id) ++ rest) is
+      let inner : listed_within os (suc n) e.id ≡ under = level os n e.id inside has ∙ all-listed sub n (before e.id inside n has (h.0 is)) in
+      let rest : Listed = listed_at os (suc n) es in
+      ap (λ (m : FileMode). listed_by m e (listed_within os (suc n) e.id) ++ rest) is
       ∙ ap (λ (u : Listed). moved (e.name ∷ []) u ++ rest) inner
       ∙ ap (λ (r : Listed). moved (e.name ∷ []) under ++ r) (all-listed l (suc n) h.1)
 
-  pub tree-within : (id : List ℕ) (fs : Listed) → ListsTree (objects pool entries) id fs → (n : ℕ) → position_of id entries < n
-      → listed_within read (objects pool entries) n id ≡ fs
+  pub tree-within : (id : List ℕ) (fs : Listed) → ListsTree os id fs → (n : ℕ) → rank id < n → listed_within os n id ≡ fs
   tree-within id fs t zero lt = absurd (omega arith)
-  tree-within id fs t (suc n) lt =
-      level n id ∙ ap (flat_map (λ e. listed_by e.mode e (listed_within read (objects pool entries) n e.id))) (entries-at id t.direct t.tree)
-      ∙ all-listed t.lists n (before id t.direct n t.tree lt)
+  tree-within id fs t (suc n) lt = level os n id t.direct t.tree ∙ all-listed t.lists n (before id t.direct n t.tree lt)
 
-  pub stored-listed : (id : List ℕ) (fs : Listed) → ListsTree (objects pool entries) id fs → stored_files read (objects pool entries) id ≡ fs
-  stored-listed id fs t =
-      let p = tree-placed digest pool entries stands id t.direct t.tree in
-      let all : take (length entries) entries ≡ entries = take_all (length entries) entries (omega arith) in
-      let some : IsSome (summary_of id (take (length entries) entries)) =
-      subst (λ (xs : Entries). IsSome (summary_of id xs)) (sym all) (subst (λ (o : Option Summary). IsSome o) (sym p.1.summary) refl) in
-      let within = stands-before id (length entries) entries some in
-      let size = length-objects pool entries in
-      tree-within id fs t (length (objects pool entries)) (omega arith)
+  -- ---- each tree lists files, where each directory's tree is there
+
+  module _ (trees : (id : List ℕ) (es : List TreeEntry) → HasTree os id es → AllByRecursion (λ e. e.mode ≡ mode.Directory → (inside : List TreeEntry) × HasTree os e.id inside) es) where
+    abbrev Below : ℕ → Type 0
+    Below n = (id : List ℕ) (es : List TreeEntry) → HasTree os id es → rank id < n → Lists os es (listed_within os n id)
+
+    entries-listed : (n : ℕ) → Below n → (es : List TreeEntry) → RanksBelow rank n es → AllByRecursion (λ e. e.mode ≡ mode.Directory → (inside : List TreeEntry) × HasTree os e.id inside) es
+        → Lists os es (listed_at os n es)
+    entries-listed n below [] h t = nothing
+    entries-listed n below (e ∷ es) h t = by_mode e.mode refl (entries-listed n below es h.1 t.1)
+      where
+        file : e.mode ≢ mode.Directory → Lists os es (listed_at os n es) → Lists os (e ∷ es) (listed_at os n (e ∷ es))
+        file ne l = subst (λ (r : Listed). Lists os (e ∷ es) (r ++ listed_at os n es)) (sym (one_file e.mode e (listed_within os n e.id) ne)) (first_file e es (listed_at os n es) ne l)
+
+        by_mode : (m : FileMode) → e.mode ≡ m → Lists os es (listed_at os n es) → Lists os (e ∷ es) (listed_at os n (e ∷ es))
+        by_mode mode.Directory is l =
+            let under = t.0 is in
+            subst (λ (m : FileMode). Lists os (e ∷ es) (listed_by m e (listed_within os n e.id) ++ listed_at os n es)) (sym is)
+            (first_directory e es under.0 (listed_within os n e.id) (listed_at os n es) is under.1 (below e.id under.0 under.1 (h.0 is)) l)
+        by_mode mode.Regular is l = file (λ d. cc) l
+        by_mode mode.Executable is l = file (λ d. cc) l
+        by_mode mode.Symlink is l = file (λ d. cc) l
+        by_mode mode.Gitlink is l = file (λ d. cc) l
+
+    tree-listed : (n : ℕ) → Below n
+    tree-listed zero id es has lt = absurd (omega arith)
+    tree-listed (suc n) id es has lt =
+        subst (Lists os es) (sym (level os n id es has)) (entries-listed n (tree-listed n) es (before id es n has lt) (trees id es has))
+
+    pub lists-within : (n : ℕ) (id : List ℕ) (es : List TreeEntry) → HasTree os id es → rank id < n → ListsTree os id (listed_within os n id)
+    lists-within n id es has lt = record { direct = es; tree = has; lists = tree-listed n id es has lt }

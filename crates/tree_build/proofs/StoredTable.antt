@@ -1,31 +1,61 @@
--- The stored trees of a table, with their files as a function.
-use Rattle.std.proofs.Common.{ℕ, List, sym, subst}
+-- The stored trees of a table: their files as a function, and their summaries.
+use Rattle.std.proofs.Common.{◌≡◌, ◌≢◌, ℕ, ◌<◌, List, length, take, Option, Some, refl, sym, ap, ◌∙◌, subst, arith}
+use Rattle.std.specs.Prelude.{IsSome}
+use Rattle.std.proofs.lemmas.List.{take_all}
+use Rattle.git_model.specs.declared.file_mode.FileMode.TheVariants as mode
 use Rattle.git_model.specs.Tree.{TreeEntry}
 use Rattle.content_pool.specs.Pool.{Cells}
-use Rattle.tenant_tables.specs.View.{Entries}
+use Rattle.tenant_tables.specs.declared.summary.Summary.{Summary}
+use Rattle.tenant_tables.specs.View.{Entries, summary_of}
 use Rattle.tenant_tables.specs.Objects.{objects}
 use Rattle.tenant_tables.specs.StandsIn.{StandsIn}
+use Rattle.tenant_tables.specs.Trees.{DirectoryStands}
+use Rattle.tenant_tables.proofs.SummaryLemmas.{some_of}
+use Rattle.tenant_tables.proofs.TableLemmas.{length-objects}
+use Rattle.tree_build.specs.FileMap.{Listed}
+use Rattle.tree_build.specs.Storable.{files_summary}
 use Rattle.tree_build.specs.StoredTree.{HasTree, ListsTree}
 use Rattle.tree_build.specs.StoredAgain.{IsStoredAlready}
 use Rattle.tree_build.specs.StoredFiles.{stored_files}
-use Rattle.tree_build.specs.TreeReading.{tree_read}
-use Rattle.tree_build.proofs.Standing.{tree-placed, tree-lists}
+use Rattle.tree_build.proofs.Apart.{all-weaker}
+use Rattle.tree_build.proofs.Standing.{position_of, stands-before, tree-placed, tree-lists, tree-summary}
 use Rattle.tree_build.proofs.StandingGood.{trees-good}
 use Rattle.tree_build.proofs.StoredAgain.{stored-already}
-use Rattle.tree_build.proofs.StoredFiles.{stored-listed}
-use Rattle.tree_build.proofs.TreeReading.{read-back}
+use Rattle.tree_build.proofs.StoredFiles.{RanksBelow, tree-within}
 
-pub files-listed : (digest : List ℕ → List ℕ) (pool : Cells) (entries : Entries) → StandsIn digest pool entries
-    → (id : List ℕ) (es : List TreeEntry) → HasTree (objects pool entries) id es
-    → ListsTree (objects pool entries) id (stored_files tree_read (objects pool entries) id)
-files-listed digest pool entries stands id es has =
-    let p = tree-placed digest pool entries stands id es has in
-    let t = tree-lists digest pool entries stands id p.0 p.1.summary in
-    subst (ListsTree (objects pool entries) id) (sym (stored-listed tree_read read-back digest pool entries stands id t.0 t.1)) t.1
+module _ (digest : List ℕ → List ℕ) (pool : Cells) (entries : Entries) (stands : StandsIn digest pool entries) where
+  -- what stands below a tree stands before it
+  falls : (id : List ℕ) (es : List TreeEntry) → HasTree (objects pool entries) id es → RanksBelow (λ k. position_of k entries) (position_of id entries) es
+  falls id es has =
+      let p = tree-placed digest pool entries stands id es has in
+      all-weaker (DirectoryStands (take (position_of id entries) entries)) (λ (e : TreeEntry). e.mode ≡ mode.Directory → position_of e.id entries < position_of id entries)
+      (λ e d is.
+      stands-before e.id (position_of id entries) entries (some_of (summary_of e.id (take (position_of id entries) entries)) (λ s. s.files ≢ 0) (d is)))
+      es p.1.directories
 
-pub table-stored : (digest : List ℕ → List ℕ) (pool : Cells) (entries : Entries) → StandsIn digest pool entries
-    → (id : List ℕ) (es : List TreeEntry) → HasTree (objects pool entries) id es
-    → IsStoredAlready digest (objects pool entries) id (stored_files tree_read (objects pool entries) id)
-table-stored digest pool entries stands id es has =
-    stored-already digest (objects pool entries) (trees-good digest pool entries stands) id (stored_files tree_read (objects pool entries) id)
-    (files-listed digest pool entries stands id es has)
+  stored-listed : (id : List ℕ) (fs : Listed) → ListsTree (objects pool entries) id fs → stored_files (objects pool entries) id ≡ fs
+  stored-listed id fs t =
+      let p = tree-placed digest pool entries stands id t.direct t.tree in
+      let all : take (length entries) entries ≡ entries = take_all (length entries) entries (omega arith) in
+      let some : IsSome (summary_of id (take (length entries) entries)) =
+      subst (λ (xs : Entries). IsSome (summary_of id xs)) (sym all) (subst (λ (o : Option Summary). IsSome o) (sym p.1.summary) refl) in
+      let within = stands-before id (length entries) entries some in
+      let size = length-objects pool entries in
+      tree-within (objects pool entries) (λ k. position_of k entries) falls id fs t (length (objects pool entries)) (omega arith)
+
+  files-listed : (id : List ℕ) (es : List TreeEntry) → HasTree (objects pool entries) id es
+      → ListsTree (objects pool entries) id (stored_files (objects pool entries) id)
+  files-listed id es has =
+      let p = tree-placed digest pool entries stands id es has in
+      let t = tree-lists digest pool entries stands id p.0 p.1.summary in
+      subst (ListsTree (objects pool entries) id) (sym (stored-listed id t.0 t.1)) t.1
+
+  pub table-stored : (id : List ℕ) (es : List TreeEntry) → HasTree (objects pool entries) id es
+      → IsStoredAlready digest (objects pool entries) id (stored_files (objects pool entries) id)
+  table-stored id es has =
+      stored-already digest (objects pool entries) (trees-good digest pool entries stands) id (stored_files (objects pool entries) id) (files-listed id es has)
+
+  pub table-summary : (id : List ℕ) (fs : Listed) → ListsTree (objects pool entries) id fs → summary_of id entries ≡ Some (files_summary fs)
+  table-summary id fs t =
+      let p = tree-placed digest pool entries stands id t.direct t.tree in
+      p.1.summary ∙ ap (λ (s : Summary). Some s) (tree-summary digest pool entries stands id p.0 fs p.1.summary t)

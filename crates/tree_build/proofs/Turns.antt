@@ -8,7 +8,7 @@ use Rattle.git_objects.specs.declared.tree_entry.TreeEntry as declared
 use Rattle.git_objects.specs.Parts.{entry_of, entries_of}
 use Rattle.git_model.specs.ObjectName.{IsObjectName}
 use Rattle.git_model.specs.Tree.{TreeEntry}
-use Rattle.content_pool.specs.Pool.{Cells, IsVacant}
+use Rattle.content_pool.specs.Pool.{Cells}
 use Rattle.tenant_tables.proofs.TableLemmas.{StandsIn-nil}
 use Rattle.tenant_tables.specs.declared.summary.Summary.{Summary}
 use Rattle.tenant_tables.specs.View.{View, Entries, summary_of}
@@ -164,10 +164,6 @@ module _ (digest : List ℕ → List ℕ) (p q : Cells) (u v : View) (all : List
       → LeavesOthers p u.entries q v.entries
   stores-others (Ok x) h = h.2.others
   stores-others (Err e) h = h.adds.others
-
--- in a pool that holds nothing there is room
-pub room-none : (p : Cells) (es : Entries) → IsVacant p → HasRoomBeside p es
-room-none p es vacant s = let none = vacant s in omega arith
 
 pub stands-none : (digest : List ℕ → List ℕ) (p : Cells) (es : Entries) → es ≡ []
     → StandsIn digest p es

@@ -2,6 +2,7 @@
 use Rattle.std.specs.Prelude.{◌≡◌, ◌≢◌, ℕ, ◌+◌, Bool, ◌&&◌, nat_le, [], ◌∷◌, ◌++◌, length, Option}
 use Rattle.std.specs.Prelude.{Some, None, if◌then◌else◌}
 use Rattle.std.specs.List.{list_any, list_all}
+use Rattle.std.specs.FinMap as finmap
 use Rattle.std.specs.FinMap.Entries.{put}
 use Rattle.git_paths.specs.Order.{path_cmp}
 use Rattle.git_paths.specs.Paths.{IsPath, is_within_limits}
@@ -11,13 +12,17 @@ use Rattle.tree_build.specs.declared.entry.Entry.{Entry}
 use Rattle.tree_build.specs.declared.check.TheConstants.{FILES_LIMIT}
 use Rattle.tree_build.specs.declared.fault.Fault.{Fault}
 use Rattle.tree_build.specs.declared.fault.Fault.TheVariants as fault
-use Rattle.tree_build.specs.FileMap.{Path, Listed, is_apart}
-use Rattle.tree_build.specs.Edits.{is_outside, is_root}
+use Rattle.tree_build.specs.FileMap.{Path, Listed, FileMap, is_apart}
+use Rattle.tree_build.specs.Edits.{is_outside, is_root, with_files}
 
 -- The source is given up where there is one, and the destination is replaced.
 abbrev pub stays : Option Path → Path → Path → Bool
 stays None to q = is_apart to q
 stays (Some from) to q = is_outside from q && is_apart to q
+
+-- The map with files in place of what does not stay.
+abbrev pub replaced : Option Path → Path → Listed → FileMap → FileMap
+replaced from to files m = with_files (finmap.retain_keys m (stays from to)) files
 
 -- Files put one by one into those of a map, each to its place.
 abbrev pub put_all : Listed → Listed → Listed

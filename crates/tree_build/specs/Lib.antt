@@ -11,7 +11,7 @@ pub mod Grafts
 pub mod Below
 pub mod Storing
 pub mod Storable
-pub mod StoredAgain
 pub mod Gathers
 pub mod StoredFiles
-pub mod TreeReading
+pub mod StoredAgain
+pub mod GoodTrees

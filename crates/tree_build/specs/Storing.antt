@@ -10,6 +10,7 @@ use Rattle.tenant_tables.specs.declared.summary.Summary.{Summary}
 use Rattle.tenant_tables.specs.View.{View, Entries, held, summary_of}
 use Rattle.tenant_tables.specs.Objects.{objects}
 use Rattle.tenant_tables.specs.StandsIn.{StandsIn, LeavesOthers}
+pub use Rattle.tenant_tables.specs.Room.{HasRoomBeside}
 use Rattle.tenant_tables.specs.Adding.{store_fault}
 use Rattle.tree_build.specs.declared.fault.Fault.{Fault}
 use Rattle.tree_build.specs.declared.fault.Fault.TheVariants as fault
@@ -37,10 +38,6 @@ trees_fault digest [] os = None
 trees_fault digest (es ∷ trees) os =
     or_later (store_fault (tree_name digest es) (tree_content es) os)
     (trees_fault digest trees (with_object (tree_name digest es) (tree_content es) os))
-
--- Nobody else holds a content 2^64 - 2 times, so that this table can hold each once.
-abbrev pub HasRoomBeside : Cells → Entries → Type 0
-HasRoomBeside pool entries = (s : ℕ) → holds pool s < held entries s + (2 ^ 64 - 2)
 
 -- Trees were added, and nothing else has changed: the committed prefix, other tables and the
 -- summaries that were there.

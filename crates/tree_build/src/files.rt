@@ -12,8 +12,8 @@ ghost use Rattle.git_model.specs.declared.file_mode.FileMode.TheVariants as mode
 ghost use Rattle.std.specs.List.{AllByRecursion};
 ghost use Rattle.std.specs.Option.{option_copied};
 ghost use Rattle.tree_build.specs.FileMap.{ArePairwiseApart, AreFiles, listed};
-ghost use Rattle.tree_build.specs.Edits.{files_at, moved, with_files, put_at, copied, renamed, without, put_fault, move_fault};
-ghost use Rattle.tree_build.specs.Kept.{stays, IsBelow};
+ghost use Rattle.tree_build.specs.Edits.{files_at, moved, put_at, copied, renamed, without, put_fault, move_fault};
+ghost use Rattle.tree_build.specs.Kept.{replaced, IsBelow};
 ghost use Rattle.tree_build.specs.Calls.{Edits};
 ghost use Rattle.tree_build.specs.Grafts.{Grafts};
 ghost use Rattle.tree_build.specs.Trees.{entry_at, nested_trees, tree_id};
@@ -190,7 +190,8 @@ impl Files {
         name: &Name,
     ) -> Result<(), Fault>
         requires stands { StandsIn N.digest_of pool.now table.now.entries }
-        ensures { Grafts result (objects pool.now table.now.entries) name.now path.now self.old self.new }
+        ensures { Grafts result (objects pool.now table.now.entries) name.now path.now
+            self.old self.new }
     {
         let alloc = self.alloc;
         if !is_small(tree_summary(pool, table, name)?) {
@@ -235,7 +236,7 @@ impl Files {
     /// the table has is found and not added again. `Fault::Limit` (25) where a tree's contents are
     /// too long or the table is full, else `Fault::NameCollision` (24) where the table has another
     /// object of a tree's name, in the order of storing; `Fault::Memory` (90) where a growth was
-    /// refused. The trees before the refused one then stand behind the committed prefix, and
+    /// refused. The trees before the refused one then stand after the committed prefix, and
     /// nothing else has changed. The files are unchanged in any case.
     ///
     /// The pool is the one that the table stands in, and nobody else holds a content 2^64 - 2
@@ -276,7 +277,7 @@ impl Files {
     ) -> Result<(), Fault>
         requires below { AllByRecursion (IsBelow to.now) files.items }
         requires apart { ArePairwiseApart files.items }
-        ensures { let after = with_files (map.retain_keys self.old (stays (option_copied from.entry) to.now)) files.items in
+        ensures { let after = replaced (option_copied from.entry) to.now files.items self.old in
             Edits result self.old self.new (put_fault files.items after) after }
     {
         let staying = count_staying(&self.files, from, to);

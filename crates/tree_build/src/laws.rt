@@ -1,21 +1,24 @@
 //! Laws of file maps: functions over the definitions alone, which run nothing.
 
-ghost use Rattle.std.specs.Prelude.{◌≡◌, ℕ, List, []};
+ghost use Rattle.std.specs.Prelude.{◌≡◌, ℕ, List, [], Some};
 ghost use Rattle.std.specs.FinMap as finmap;
+ghost use Rattle.git_model.specs.declared.kind.Kind.TheVariants as kind;
+ghost use Rattle.git_model.specs.GoodRepository.{AreObjects};
+ghost use Rattle.git_model.specs.References.{kind_named};
 ghost use Rattle.git_model.specs.Repository.{Object};
 ghost use Rattle.git_model.specs.Tree.{TreeEntry};
 ghost use Rattle.content_pool.specs.Pool.{Cells};
-ghost use Rattle.tenant_tables.specs.View.{Entries};
+ghost use Rattle.tenant_tables.specs.View.{Entries, summary_of};
 ghost use Rattle.tenant_tables.specs.Objects.{objects};
 ghost use Rattle.tenant_tables.specs.StandsIn.{StandsIn};
 ghost use Rattle.tree_build.specs.FileMap.{FileMap, Path, Listed, AreFiles, listed};
 ghost use Rattle.tree_build.specs.Edits.{files_at, with_files};
 ghost use Rattle.tree_build.specs.Trees.{grouped, tree_entries};
 ghost use Rattle.tree_build.specs.ByComponent.{IsByFirstComponent, IsTreeOf};
-ghost use Rattle.tree_build.specs.StoredTree.{HasTree, ListsTree};
+ghost use Rattle.tree_build.specs.StoredTree.{HasTree, ListsTree, AreFilesOf};
+ghost use Rattle.tree_build.specs.Storable.{files_summary};
 ghost use Rattle.tree_build.specs.Storing.{with_trees};
 ghost use Rattle.tree_build.specs.StoredFiles.{stored_files};
-ghost use Rattle.tree_build.specs.TreeReading.{tree_read};
 ghost use Rattle.tree_build.specs.StoredAgain.{AreTreesGood, IsStoredAlready};
 
 /// The files below any path, taken by neighbours with one first component, are the files at or
@@ -52,7 +55,34 @@ pub fn table_trees_stay()
         → StandsIn digest pool entries
         → (id : List ℕ) (es : List TreeEntry) → HasTree (objects pool entries) id es
         → IsStoredAlready digest (objects pool entries) id
-        (stored_files tree_read (objects pool entries) id) }
+        (stored_files (objects pool entries) id) }
+{}
+
+/// The summary that a table keeps beside a tree is that of the tree's files: how many they are, the
+/// most components of a path, and the most bytes of one.
+pub fn table_summaries_are_of_files()
+    ensures { (digest : List ℕ → List ℕ) (pool : Cells) (entries : Entries)
+        → StandsIn digest pool entries
+        → (id : List ℕ) (files : Listed) → ListsTree (objects pool entries) id files
+        → summary_of id entries ≡ Some (files_summary files) }
+{}
+
+/// In a good repository each tree has files, those that the function gives, and no others.
+pub fn good_trees_have_files()
+    ensures { (digest : List ℕ → List ℕ) (os : List Object) → AreObjects digest os
+        → (id : List ℕ) → kind_named id os ≡ Some kind.Tree → AreFilesOf os id (stored_files os id) }
+{}
+
+/// So whatever files a tree has, the function gives them.
+pub fn files_are_the_stored_files()
+    ensures { (digest : List ℕ → List ℕ) (os : List Object) → AreObjects digest os
+        → (id : List ℕ) (files : Listed) → AreFilesOf os id files → files ≡ stored_files os id }
+{}
+
+/// The trees of good objects are those of file maps, so that `stored_trees_stay` speaks of them.
+pub fn good_objects_have_good_trees()
+    ensures { (digest : List ℕ → List ℕ) (os : List Object) → AreObjects digest os
+        → AreTreesGood digest os }
 {}
 
 /// A stored tree lists its files in the order of a file map.

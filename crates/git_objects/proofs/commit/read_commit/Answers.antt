@@ -1,4 +1,4 @@
-use Rattle.git_objects.proofs.CommitFronts.{no_commit, commit_found, commit_only, tree_missing, idents_missing, encoding_missing, head_there}
+use Rattle.git_objects.proofs.CommitFronts.{no_commit, commit_found, commit_reads, commit_only, tree_missing, idents_missing, encoding_missing, head_there}
 use Rattle.git_objects.proofs.commit.read_commit.Goals as goal
 
 pub returns-in_default-clause-only : goal.returns-in_default-clause-only
@@ -21,6 +21,9 @@ returns-in_default-take_encoding-clause-exact c none = no_commit c.args.contents
 
 pub returns-clause-found : goal.returns-clause-found
 returns-clause-found c = commit_found c.args.contents.now _ _ (head_there c.args.contents.now _ _ _ _ _ _ _ _ c.in-Some.ensures c.in_ok-ancestors.ensures c.in-Some-take_idents.ensures c.in-Some-take_encoding.ensures)
+
+pub returns-clause-read : goal.returns-clause-read
+returns-clause-read c = commit_reads c.args.contents.now _ _ (head_there c.args.contents.now _ _ _ _ _ _ _ _ c.in-Some.ensures c.in_ok-ancestors.ensures c.in-Some-take_idents.ensures c.in-Some-take_encoding.ensures)
 
 pub returns-clause-only : goal.returns-clause-only
 returns-clause-only c = commit_only c.args.contents.now _ _ (head_there c.args.contents.now _ _ _ _ _ _ _ _ c.in-Some.ensures c.in_ok-ancestors.ensures c.in-Some-take_idents.ensures c.in-Some-take_encoding.ensures)

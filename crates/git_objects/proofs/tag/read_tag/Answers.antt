@@ -1,5 +1,5 @@
 use Rattle.std.proofs.lemmas.Bool.{iff_false}
-use Rattle.git_objects.proofs.TagFronts.{no_tag, tag_found, tag_only, wrong_name, name_missing, tagger_missing, head_there}
+use Rattle.git_objects.proofs.TagFronts.{no_tag, tag_found, tag_reads, tag_only, wrong_name, name_missing, tagger_missing, head_there}
 use Rattle.git_objects.proofs.tag.read_tag.Goals as goal
 
 pub returns-in_default-take_line-clause-only : goal.returns-in_default-take_line-clause-only
@@ -22,6 +22,9 @@ returns-then-not-branch-clause-exact c none = wrong_name c.args.contents.now _ _
 
 pub returns-clause-found : goal.returns-clause-found
 returns-clause-found c = tag_found c.args.contents.now _ _ (head_there c.args.contents.now _ _ _ _ _ _ _ _ c.in-Some.ensures c.in-Some-take_kind.ensures c.in-Some-take_line.ensures c.in-Some-take_tagger.ensures) (c.in_ok-is_tag_name.ensures.0 c.if-not-branch.false)
+
+pub returns-clause-read : goal.returns-clause-read
+returns-clause-read c = tag_reads c.args.contents.now _ _ (head_there c.args.contents.now _ _ _ _ _ _ _ _ c.in-Some.ensures c.in-Some-take_kind.ensures c.in-Some-take_line.ensures c.in-Some-take_tagger.ensures) (c.in_ok-is_tag_name.ensures.0 c.if-not-branch.false)
 
 pub returns-clause-only : goal.returns-clause-only
 returns-clause-only c = tag_only c.args.contents.now _ _ (head_there c.args.contents.now _ _ _ _ _ _ _ _ c.in-Some.ensures c.in-Some-take_kind.ensures c.in-Some-take_line.ensures c.in-Some-take_tagger.ensures)

@@ -1,6 +1,6 @@
 use Rattle.std.proofs.Common.{◌≡◌, ◌<◌, ◌++◌, ◌∷◌, [], ℕ, List, length, drop, ap, ◌∙◌, subst, sym, arith}
 use Rattle.std.proofs.lemmas.List.{length-append}
-use Rattle.gitpool.specs.declared.reply.Reply.{Reply}
+use Rattle.service_steps.specs.declared.reply.Reply.{Reply}
 use Rattle.gitpool.specs.Headline.{IsItsOwn, told_in, told_by_reply, Run}
 use Rattle.gitpool.specs.Holding.{held_of}
 use Rattle.gitpool.proofs.RunLemmas.{own-none, run-none, run-goes_on, bad-none, bad-goes_on, appended-none, appended-more}

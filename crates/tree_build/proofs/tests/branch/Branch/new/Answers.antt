@@ -1,4 +1,5 @@
-use Rattle.tree_build.proofs.Turns.{room-none, stands-none}
+use Rattle.tenant_tables.proofs.RoomLemmas.{room-none}
+use Rattle.tree_build.proofs.Turns.{stands-none}
 use Rattle.tree_build.proofs.tests.branch.Branch.new.Goals as goal
 
 pub invariant_of-result : goal.invariant_of-result

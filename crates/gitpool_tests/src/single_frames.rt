@@ -1,0 +1,184 @@
+//! Frames read and answers written, beside bytes derived by hand.
+
+use git_objects::{Counted, FailingReader, FailingWriter};
+use std::alloc::Global;
+use std::io::Read;
+use std::test::Fail;
+use step_frames::{Answer, FrameFault, Frames, Step, write_answer};
+
+// Each kind of frame, one behind the other.
+const FRAMES: &[u8] = b"\x01\0\x01t\0\0\0\0\
+    \x02\0\x03a/b\0\0\0\x02x\n\
+    \x03\0\0\0\0\0\0\
+    \x04\0\x01t\0\0\0\x04refs\
+    \x05\0\0\0\0\0\0";
+
+// What these frames say.
+const STEPS: &[Step<'static>] = &[
+    Step::Open { tenant: b"t" },
+    Step::Feed {
+        tenant: b"a/b",
+        bytes: b"x\n",
+    },
+    Step::End { tenant: b"" },
+    Step::Ask {
+        tenant: b"t",
+        query: b"refs",
+    },
+    Step::Restart,
+];
+
+// Where one of these frames ends, or the first begins.
+const ENDS: &[usize] = &[0, 8, 20, 27, 39, 46];
+
+// A wrong part, and how many bytes are read until it shows.
+const BAD: &[(&[u8], u64)] = &[
+    (b"\x06\0\x01t\0\0\0\0", 1),
+    (b"\0\0\0\0\0\0\0", 1),
+    (b"\x05\0\x01t\0\0\0\0", 3),
+    (b"\x05\x01\0\0\0\0\0\0", 3),
+    (b"\x01\0\x01t\0\0\0\x01x", 8),
+    (b"\x03\0\x01t\x01\0\0\0x", 8),
+    (b"\x05\0\0\0\0\0\x01x", 7),
+    (b"\x02\0\x01t\x01\0\0\x01x", 8),
+    (b"\x04\0\0\xff\xff\xff\xffx", 7),
+];
+
+// An answer whose reply is `x` and a line feed, and its bytes.
+const TOLD: &[(Answer, &[u8])] = &[
+    (Answer::Ok, b"\0\0\0\0\0\0\0\0\0\0\0\0\0\0\0\0\x02x\n"),
+    (
+        Answer::Fault(513),
+        b"\x01\0\0\0\0\0\0\x02\x01\0\0\0\0\0\0\0\x02x\n",
+    ),
+    (
+        Answer::Memory(0x0102_0304_0506_0708),
+        b"\x02\x01\x02\x03\x04\x05\x06\x07\x08\0\0\0\0\0\0\0\x02x\n",
+    ),
+];
+
+// Whether these bytes are read as these steps and no more, and how many bytes that takes.
+fn reads_steps(alloc: Global, bytes: &[u8], steps: &[Step<'_>]) -> Result<(bool, u64), Fail> {
+    let mut reader = Counted::new(bytes);
+    let mut frames = Frames::new(alloc);
+    for step in steps {
+        if frames.next(&mut reader)? != Some(*step) {
+            return Ok((false, 0));
+        }
+    }
+    Ok((frames.next(&mut reader)?.is_none(), reader.passed()))
+}
+
+// How many frames these bytes have, six at most, and the fault that ends them. Want of memory
+// ends a test.
+fn read_frames<R: Read>(
+    alloc: Global,
+    reader: &mut Counted<R>,
+) -> Result<(usize, Option<FrameFault>), Fail> {
+    let mut frames = Frames::new(alloc);
+    for count in 0..6usize {
+        match frames.next(reader) {
+            Ok(Some(_)) => {}
+            Ok(None) => return Ok((count, None)),
+            Err(FrameFault::Memory) => return Err(Fail::from(FrameFault::Memory)),
+            Err(fault) => return Ok((count, Some(fault))),
+        }
+    }
+    Ok((6, None))
+}
+
+// Whether a front of the frames has the frames that end in it, and is cut off behind the last of
+// them or has no more bytes.
+fn is_read_to_its_end(alloc: Global, front: &[u8]) -> Result<bool, Fail> {
+    let size = front.len();
+    let mut reader = Counted::new(front);
+    let (count, fault) = read_frames(alloc, &mut reader)?;
+    let ends = ENDS.iter().filter(|end| **end <= size).count();
+    let wanted = if ENDS.contains(&size) {
+        None
+    } else {
+        Some(FrameFault::CutOff)
+    };
+    Ok(ends.checked_sub(1) == Some(count) && fault == wanted)
+}
+
+// How many bytes the body of a frame of the most bytes has, as it is read.
+fn size_of_the_longest_body(alloc: Global) -> Result<Option<usize>, Fail> {
+    let mut bytes = Vec::from_slice(alloc, b"\x02\0\x01t\x01\0\0\0")?;
+    bytes.resize(16_777_216 + 8, b'x')?;
+    let mut reader = Counted::new(bytes.as_slice());
+    let mut frames = Frames::new(alloc);
+    match frames.next(&mut reader)? {
+        Some(Step::Feed { bytes, .. }) => Ok(Some(bytes.len())),
+        _ => Ok(None),
+    }
+}
+
+// What is told of a reader that fails in the second frame, and how often it failed.
+fn read_to_a_failure(alloc: Global) -> Result<(usize, Option<FrameFault>, u64), Fail> {
+    let mut reader = Counted::new(FailingReader::new(FRAMES, 4));
+    let (count, fault) = read_frames(alloc, &mut reader)?;
+    Ok((count, fault, reader.faults()))
+}
+
+#[test]
+fn reads_a_step_of_each_kind_and_a_body_of_the_most_bytes(rt: HostRuntime) -> Result<(), Fail> {
+    assert_eq!(rt; reads_steps(rt.alloc(), FRAMES, STEPS)?, (true, 46));
+    assert_eq!(rt; size_of_the_longest_body(rt.alloc())?, Some(16_777_216));
+    Ok(())
+}
+
+#[test]
+fn tells_a_wrong_part_a_frame_that_is_cut_off_and_a_reader_that_fails(
+    rt: HostRuntime,
+) -> Result<(), Fail> {
+    for (bytes, passed) in BAD {
+        let mut reader = Counted::new(*bytes);
+        let seen = read_frames(rt.alloc(), &mut reader)?;
+        assert_eq!(rt; seen, (0, Some(FrameFault::BadFrame)), "{bytes:?}");
+        assert_eq!(rt; reader.passed(), *passed, "{bytes:?}");
+    }
+    for size in 0..FRAMES.len() + 1 {
+        assert!(rt;
+            is_read_to_its_end(rt.alloc(), FRAMES.split_at(size).0)?,
+            "at {size}"
+        );
+    }
+    let failed = read_to_a_failure(rt.alloc())?;
+    assert_eq!(rt; failed, (1, Some(FrameFault::Device), 1));
+    Ok(())
+}
+
+fn told(alloc: Global, answer: Answer) -> Result<Vec<u8>, Fail> {
+    let mut writer = Counted::new(Vec::new(alloc));
+    write_answer(&mut writer, answer, b"x\n")?;
+    Ok(writer.into_inner())
+}
+
+// Whether an answer is told by a writer whose call `nth` fails, how often that failed, and how many
+// bytes it took. Every call takes one byte: the answer has 19.
+fn told_to_a_failure(alloc: Global, nth: u64) -> (bool, u64, u64) {
+    let mut writer = Counted::new(FailingWriter::new(Vec::new(alloc), nth));
+    let is_told = write_answer(&mut writer, Answer::Fault(13), b"x\n").is_ok();
+    (is_told, writer.faults(), writer.passed())
+}
+
+#[test]
+fn writes_each_answer_and_tells_a_writer_that_fails(rt: HostRuntime) -> Result<(), Fail> {
+    for (answer, text) in TOLD {
+        assert_eq!(rt; told(rt.alloc(), *answer)?.as_slice(), *text, "{answer:?}");
+    }
+    for nth in 0..19_u64 {
+        assert_eq!(rt; told_to_a_failure(rt.alloc(), nth), (false, 1, nth));
+    }
+    assert_eq!(rt; told_to_a_failure(rt.alloc(), 19), (true, 0, 19));
+    Ok(())
+}
+
+#[test]
+fn has_a_number_for_each_fault(rt: HostRuntime) {
+    assert_eq!(rt; FrameFault::BadFrame.code(), 50);
+    assert_eq!(rt; FrameFault::CutOff.code(), 51);
+    assert_eq!(rt; FrameFault::Device.code(), 68);
+    assert_eq!(rt; FrameFault::Memory.code(), 90);
+}

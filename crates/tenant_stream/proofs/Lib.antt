@@ -1,0 +1,4 @@
+mod CarryLemmas
+mod CountLemmas
+mod RoomLemmas
+pub mod StreamLemmas

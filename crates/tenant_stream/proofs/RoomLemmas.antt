@@ -1,0 +1,26 @@
+-- How often slots are held while one table takes and gives up holds.
+use Rattle.std.proofs.Common.{◌≡◌, ℕ, ◌+◌, ◌^◌, ◌<◌, ◌≤◌, List, length, take, min, sym, ap, ◌∙◌, arith}
+use Rattle.std.proofs.lemmas.List.{length-take}
+use Rattle.content_pool.specs.Pool.{Cells, holds, HasRoom}
+use Rattle.tenant_tables.specs.View.{View, Entries, held}
+use Rattle.tenant_tables.specs.Objects.{objects}
+use Rattle.tenant_tables.proofs.TableLemmas.{length-objects}
+use Rattle.tenant_tables.specs.StandsIn.{StandsIn, LeavesOthers}
+use Rattle.tenant_stream.specs.Carrying.{HasAmpleRoom, IsCommitted}
+
+-- one table takes at most one hold of a slot, however often it is called
+pub room_left : (digest : List ℕ → List ℕ) (p q : Cells) (es fs : Entries) → HasAmpleRoom p → LeavesOthers p es q fs → StandsIn digest q fs → HasRoom q
+room_left digest p q es fs ample others stands s =
+    let a = ample s in let r = others.rest s in let o = stands.once s in
+    omega (arith, a, r, o)
+
+-- a table that was rolled back to its committed objects has no others
+pub all_committed : (p q : Cells) (old new : View) → old.committed ≤ length old.entries → new.committed ≡ old.committed
+    → objects q new.entries ≡ take old.committed (objects p old.entries) → IsCommitted new
+all_committed p q old new within same left =
+    let n : length new.entries ≡ length (take old.committed (objects p old.entries)) =
+    sym (length-objects q new.entries) ∙ ap length left in
+    let m : length (take old.committed (objects p old.entries)) ≡ min old.committed (length (objects p old.entries)) =
+    length-take old.committed (objects p old.entries) in
+    let k = length-objects p old.entries in
+    omega (arith, n, m, k, within, same)

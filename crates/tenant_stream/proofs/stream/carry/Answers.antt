@@ -1,0 +1,86 @@
+use Rattle.std.proofs.Common.{◌≡◌, ℕ, ◌+◌, List, [], ◌∷◌, ◌++◌, Err, Some, Ok, None, refl, sym, ap, ◌∙◌, append-nil, append_assoc, arith, subst}
+use Rattle.std.proofs.lemmas.Bool.{false≢true}
+use Rattle.std.proofs.lemmas.List.{length-append}
+use Rattle.tenant_tables.proofs.TableLemmas.{LeavesOthers-refl, LeavesOthers-then}
+use Rattle.stream_lex.specs.Looking.{item_of}
+use Rattle.import_session.specs.Session.{running_in, Takes}
+use Rattle.import_session.specs.Stream.{step}
+use Rattle.tenant_stream.specs.Carrying.{Carries}
+use Rattle.tenant_stream.proofs.CarryLemmas.{Advances-refl, Advances-read, item_stops, tail_stops, ends_at, goes, take_on, took_item, gave_none, gave_fault}
+use Rattle.tenant_stream.proofs.CountLemmas.{taken_at_most, left_falls}
+use Rattle.tenant_stream.proofs.RoomLemmas.{room_left}
+use Rattle.tenant_stream.proofs.stream.carry.Goals as goal
+
+pub items-init : goal.items-init
+items-init g c = record {
+  stands = c.requires.stands;
+  others = LeavesOthers-refl c.args.pool.now c.args.table.now.entries;
+  refs = refl;
+  items = [];
+  replies = [];
+  advances = Advances-refl _ _ _;
+  printed = sym (append-nil _);
+  counted = refl;
+}
+
+pub returns-then-is_done-clause-carries : goal.returns-then-is_done-clause-carries
+returns-then-is_done-clause-carries g c =
+    goes _ _ _ _ _ _ _ _ _ c.items.invariant.advances c.items.invariant.printed
+    (λ none. let t = c.if-is_done.ensures in absurd (false≢true (sym none ∙ sym t)))
+
+pub take-requires-clause-room : goal.take-requires-clause-room
+take-requires-clause-room g c =
+    room_left _ _ _ _ _ c.requires.room c.items.invariant.others c.items.invariant.stands
+
+pub returns-in-Err-take-clause-carries : goal.returns-in-Err-take-clause-carries
+returns-in-Err-take-clause-carries g c =
+    rw c.stop_of.ensures
+    (item_stops _ _ _ _ _ _ _ _ _ _ _ _ _ _
+    (ends_at _ _ _ _ _ _ _ _ _ _ _ c.items.invariant.advances c.items.invariant.printed
+    c.in-Err-take.ensures.printed (sym c.is_done.ensures ∙ c.if-is_done.false) c.in-Err-take.ensures.checkpoint)
+    c.items.invariant.counted
+    (took_item _ _ _ _ _ c.in-Ok-Some.is c.in-Ok-Some.field-0-is c.next.follows.holds-at-none.first)
+    c.in-Err-take.ensures.taken)
+
+pub overflow_add-count : goal.overflow_add-count
+overflow_add-count g c =
+    let most = taken_at_most _ _ _ _ _ c.items.invariant.advances.reads
+    (took_item _ _ _ _ _ c.in-Ok-Some.is c.in-Ok-Some.field-0-is c.next.follows.holds-at-none.first) in
+    let counted = c.items.invariant.counted in
+    let bound = c.held-most.type_inv in
+    let same = c.held-most.ensures in
+    omega (arith, most, counted, bound, same)
+
+pub items-smaller : goal.items-smaller
+items-smaller g c =
+    left_falls _ _ _ (took_item _ _ _ _ _ c.in-Ok-Some.is c.in-Ok-Some.field-0-is c.next.follows.holds-at-none.first)
+
+pub items-preserved : goal.items-preserved
+items-preserved g c =
+    let next = take_on _ _ _ _ _ _ _ _ _ _ _ _ _ c.items.invariant.advances
+    (took_item _ _ _ _ _ c.in-Ok-Some.is c.in-Ok-Some.field-0-is c.next.follows.holds-at-none.first)
+    c.items.invariant.printed c.in_default.ensures.taken in
+    record {
+      stands = c.take.ensures.stands;
+      others = LeavesOthers-then _ _ _ _ _ _ c.items.invariant.others c.take.ensures.others;
+      refs = c.take.ensures.refs ∙ c.items.invariant.refs;
+      items = c.items.invariant.items ++ item_of c.in-Ok-Some.item ∷ [];
+      replies = next.replies;
+      advances = next.advances;
+      printed = next.printed;
+      counted = length-append c.items.invariant.items (item_of c.in-Ok-Some.item ∷ []) ∙ ap (λ n. n + 1) c.items.invariant.counted;
+    }
+
+pub returns-in-Ok-None-clause-carries : goal.returns-in-Ok-None-clause-carries
+returns-in-Ok-None-clause-carries g c =
+    let none = gave_none _ _ _ _ c.in-Ok-None.is c.in-Ok-None.field-0-is c.next.follows.holds-at-none.first in
+    goes _ _ _ _ _ _ _ _ _
+    (Advances-read _ _ _ _ _ _ _ _ c.items.invariant.advances none.0)
+    c.items.invariant.printed (λ _. none.1)
+
+pub returns-in-Err-clause-carries : goal.returns-in-Err-clause-carries
+returns-in-Err-clause-carries g c =
+    rw c.code.ensures
+    (tail_stops _ _ _ _ _ _ _ _ _ _ c.items.invariant.advances c.items.invariant.printed
+    (sym c.is_done.ensures ∙ c.if-is_done.false)
+    (gave_fault _ _ _ _ c.in-Err.is c.next.follows.holds-at-none.first))

@@ -1,0 +1,24 @@
+use Rattle.std.proofs.Common.{◌≡◌, ◌++◌, ℕ, List, [], length}
+use Rattle.tenant_tables.specs.StandsIn.{StandsIn, LeavesOthers}
+use Rattle.stream_lex.specs.Items.{Item}
+use Rattle.stream_lex.specs.Running.{more_of}
+use Rattle.import_session.specs.Session.{running_in}
+use Rattle.tenant_stream.specs.Carrying.{Advances}
+use Rattle.tenant_stream.proofs.stream.carry.Given as goal
+
+abbrev pub invariant-items : goal.invariant-items
+invariant-items g l = record {
+  stands : StandsIn g.N.Naming.digest_of l.pool l.table.entries;
+  others : LeavesOthers l.fn.pool l.fn.table.entries l.pool l.table.entries;
+  refs : l.refs ≡ l.fn.refs;
+  items : List Item;
+  replies : List ℕ;
+  advances : Advances g.N.Naming.digest_of
+      (running_in l.fn.session l.fn.pool l.fn.table l.fn.refs) l.fn.lexer.tail items replies
+      (running_in l.session l.pool l.table l.refs) l.lexer.tail;
+  printed : l.out.items ≡ l.fn.out.items ++ replies;
+  counted : length items ≡ l.count;
+}
+
+abbrev pub decreases-items : goal.decreases-items
+decreases-items g l = length (more_of l.lexer.tail []).items

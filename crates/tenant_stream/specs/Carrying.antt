@@ -1,0 +1,133 @@
+-- A stream between two pieces, and what a piece does to it: git-fast-import(1), "Input Format".
+use Rattle.std.specs.Prelude.{◌≡◌, ◌≢◌, ◌<◌, ◌^◌, ℕ, Bool, true, false, List, [], ◌++◌, length, Option, None, Some, Result, Ok, Err}
+use Rattle.git_model.specs.RefStore.{RefStore}
+use Rattle.git_model.specs.Repository.{Repository}
+use Rattle.content_pool.specs.Pool.{Cells, holds}
+use Rattle.tenant_tables.specs.View.{View}
+use Rattle.stream_lex.specs.Items.{Item, Tail, Rest, behind_items}
+use Rattle.stream_lex.specs.Running.{extended, more_of, HasNoItem}
+use Rattle.import_session.specs.Session.{Kept, new_session, running_in}
+use Rattle.import_session.specs.Stream.{Running, Outcome, End, after_reply, carried, last_checkpoint, refused}
+use Rattle.tenant_stream.specs.declared.stop.Stop.{Stop}
+use Rattle.tenant_stream.specs.declared.stop.Stop.TheVariants as stop
+
+-- What is kept of a stream between two pieces: its session, and the bytes of which no item was
+-- given yet.
+pub record Between : Type 0 where
+  pub session : Kept
+  pub tail : Tail
+
+-- Before the first byte.
+abbrev pub new_stream : Between
+new_stream = record { session = new_session; tail = Rest false [] }
+
+-- The running stream that this is, over the objects of a table in a pool.
+abbrev pub stream_in : Between → Cells → View → RefStore → Running
+stream_in stream pool table refs = running_in stream.session pool table refs
+
+-- All that a running stream will print, and how it will stand, where more bytes come behind a tail.
+abbrev pub outcome_behind : (List ℕ → List ℕ) → Running → Tail → List ℕ → Outcome
+outcome_behind digest now tail more =
+    carried digest now (more_of tail more).items (more_of tail more).tail
+
+-- Bytes were read: these items stand first, whatever bytes come.
+abbrev pub ReadsOn : Tail → List Item → Tail → Type 0
+ReadsOn old items new = (more : List ℕ) → more_of old more ≡ behind_items items (more_of new more)
+
+-- Items were carried out: these replies stand first, whatever comes behind the items.
+abbrev pub CarriesOn : (List ℕ → List ℕ) → Running → List Item → List ℕ → Running → Type 0
+CarriesOn digest now items replies next = (later : List Item) (tail : Tail)
+    → carried digest now (items ++ later) tail
+    ≡ after_reply replies (carried digest next later tail)
+
+-- A stream has gone on by these items, and printed these replies.
+pub record Advances (digest : List ℕ → List ℕ) (now : Running) (old : Tail) (items : List Item)
+    (replies : List ℕ) (next : Running) (new : Tail) : Type 0 where
+  pub reads : ReadsOn old items new
+  pub carries : CarriesOn digest now items replies next
+
+-- What stands next refuses the stream, whatever bytes come.
+abbrev pub IsRefused : (List ℕ → List ℕ) → Running → Tail → ℕ → Type 0
+IsRefused digest now tail code =
+    (more : List ℕ) → outcome_behind digest now tail more ≡ refused code now.workspace
+
+-- Nothing whole is left to be carried out: `done` was read, or no item is held.
+abbrev pub IsDrained : Bool → Tail → Type 0
+IsDrained true tail = Unit {0}
+IsDrained false tail = HasNoItem tail
+
+-- All items that were whole were carried out.
+pub record Goes (digest : List ℕ → List ℕ) (now : Running) (old : Tail) (out : List ℕ)
+    (next : Running) (new : Tail) (out' : List ℕ) : Type 0 where
+  pub items : List Item
+  pub replies : List ℕ
+  pub advances : Advances digest now old items replies next new
+  pub printed : out' ≡ out ++ replies
+  pub drained : IsDrained next.is_done new
+
+-- A stream has gone on by some items, and no further: what it printed stands behind `out`, and what
+-- is left has the same last checkpoint.
+pub record Ends (digest : List ℕ → List ℕ) (now : Running) (old : Tail) (out : List ℕ)
+    (items : List Item) (last : Running) (rest : Tail) (left : Running)
+    (out' : List ℕ) : Type 0 where
+  pub replies : List ℕ
+  pub advances : Advances digest now old items replies last rest
+  pub printed : out' ≡ out ++ replies
+  pub running : last.is_done ≡ false
+  pub checkpoint : last_checkpoint left.workspace ≡ last_checkpoint last.workspace
+
+-- Some items were carried out, and what stands behind them refuses the stream.
+pub record Fails (digest : List ℕ → List ℕ) (now : Running) (old : Tail) (out : List ℕ) (code : ℕ)
+    (left : Running) (out' : List ℕ) : Type 0 where
+  pub items : List Item
+  pub last : Running
+  pub rest : Tail
+  pub ends : Ends digest now old out items last rest left out'
+  pub refused : IsRefused digest last rest code
+
+-- So many items were carried out, and then memory ran out.
+pub record Stops (digest : List ℕ → List ℕ) (now : Running) (old : Tail) (out : List ℕ) (count : ℕ)
+    (left : Running) (out' : List ℕ) : Type 0 where
+  pub items : List Item
+  pub last : Running
+  pub rest : Tail
+  pub ends : Ends digest now old out items last rest left out'
+  pub counted : length items ≡ count
+
+-- What came of the bytes of a tail.
+abbrev pub Carries : (List ℕ → List ℕ) → Running → Tail → List ℕ → Result Unit Stop → Running → Tail
+    → List ℕ → Type 0
+Carries digest now old out (Ok u) next new out' = Goes digest now old out next new out'
+Carries digest now old out (Err (stop.Fault code)) next new out' =
+    Fails digest now old out code next out'
+Carries digest now old out (Err (stop.Memory count)) next new out' =
+    Stops digest now old out count next out'
+
+-- Nothing happened to a stream, which had read `done`.
+pub record Stays (now : Running) (old : Tail) (out : List ℕ) (result : Result Unit Stop)
+    (next : Running) (new : Tail) (out' : List ℕ) : Type 0 where
+  pub answer : result ≡ Ok tt
+  pub running : next ≡ now
+  pub tail : new ≡ old
+  pub printed : out' ≡ out
+
+-- What came of a piece. Behind `done` bytes are ignored.
+abbrev pub Feeds : (List ℕ → List ℕ) → Bool → Running → Tail → List ℕ → List ℕ → Result Unit Stop
+    → Running → Tail → List ℕ → Type 0
+Feeds digest true now old piece out result next new out' = Stays now old out result next new out'
+Feeds digest false now old piece out result next new out' =
+    Carries digest now (extended old piece) out result next new out'
+
+-- How a stream ended, and the repository that it left. Nothing here takes memory.
+abbrev pub EndsAs : End → Result Unit Stop → Repository → Type 0
+EndsAs end (Ok u) left = end ≡ record { fault = None; repository = left }
+EndsAs end (Err (stop.Fault code)) left = end ≡ record { fault = Some code; repository = left }
+EndsAs end (Err (stop.Memory count)) left = ⊥
+
+-- All objects of a table are committed.
+abbrev pub IsCommitted : View → Type 0
+IsCommitted table = table.committed ≡ length table.entries
+
+-- Each slot can be held far more often than it is.
+abbrev pub HasAmpleRoom : Cells → Type 0
+HasAmpleRoom pool = (s : ℕ) → holds pool s < 2 ^ 63

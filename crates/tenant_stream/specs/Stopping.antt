@@ -1,0 +1,27 @@
+-- Why a stream does not go on: want of memory is told apart from every fault of the stream.
+use Rattle.std.specs.Prelude.{ℕ}
+use Rattle.import_session.specs.declared.fault.Fault.{Fault}
+use Rattle.import_session.specs.declared.fault.Fault.TheVariants as fault
+use Rattle.import_session.specs.Faults.{code_of}
+use Rattle.stream_lex.specs.declared.fault.Fault.{Fault as LexFault}
+use Rattle.stream_lex.specs.declared.fault.Fault.TheVariants as lex_fault
+use Rattle.stream_lex.specs.Faults.{code_of as item_code}
+use Rattle.tenant_stream.specs.declared.stop.Stop.{Stop}
+use Rattle.tenant_stream.specs.declared.stop.Stop.TheVariants as stop
+
+-- What a refusal of an item is to the stream, behind so many items.
+abbrev pub stop_of : Fault → ℕ → Stop
+stop_of fault.Memory count = stop.Memory count
+stop_of (fault.Text text) count = stop.Fault (code_of (fault.Text text))
+stop_of fault.MarkUnknown count = stop.Fault (code_of fault.MarkUnknown)
+stop_of fault.WrongKind count = stop.Fault (code_of fault.WrongKind)
+stop_of fault.NameCollision count = stop.Fault (code_of fault.NameCollision)
+stop_of fault.Limit count = stop.Fault (code_of fault.Limit)
+
+-- What a lexer that takes no further piece is to the stream: it had failed, or memory ran out.
+abbrev pub unfed : LexFault → Stop
+unfed lex_fault.Memory = stop.Memory 0
+unfed lex_fault.LineTooLong = stop.Fault (item_code lex_fault.LineTooLong)
+unfed lex_fault.BadData = stop.Fault (item_code lex_fault.BadData)
+unfed lex_fault.CutOff = stop.Fault (item_code lex_fault.CutOff)
+unfed lex_fault.Limit = stop.Fault (item_code lex_fault.Limit)

@@ -1,0 +1,205 @@
+//! A stream of git-fast-import(1), piece by piece, over the objects and refs of one tenant.
+//!
+//! The table, the refs and the pool are lent at each call, the same ones from the first to the
+//! last. Bytes may be cut anywhere; what is kept between two pieces is neither the repository nor
+//! the bytes that went before.
+
+ghost use Rattle.std.specs.Prelude.{◌≡◌, [], false};
+ghost use Rattle.tenant_tables.specs.StandsIn.{StandsIn, LeavesOthers};
+ghost use Rattle.import_session.specs.Session.{running_in, repository_in, workspace_in};
+ghost use Rattle.import_session.specs.Stream.{Runs, finished, last_checkpoint};
+ghost use Rattle.tenant_stream.specs.Stopping.{unfed};
+ghost use Rattle.tenant_stream.specs.Carrying.{new_stream, stream_in, Carries, Feeds, EndsAs, HasAmpleRoom, IsCommitted};
+
+use crate::stop::{Stop, stop_of};
+use content_pool::Pool;
+use git_objects::Naming;
+use import_session::Session;
+use std::alloc::Global;
+use std::marker::Model;
+use stream_lex::{Fault, Lexer};
+use tenant_refs::Refs;
+use tenant_tables::Table;
+
+// Carries out all items that are whole, up to `done`.
+fn carry<N: Naming>(
+    lexer: &mut Lexer,
+    session: &mut Session,
+    pool: &mut Pool<N>,
+    table: &mut Table,
+    refs: &mut Refs,
+    out: &mut Vec<u8>,
+) -> Result<(), Stop>
+    requires stands { StandsIn N.digest_of pool.old table.old.entries }
+    requires room { HasAmpleRoom pool.old }
+    requires running { session.old.is_done ≡ false }
+    ensures stands { StandsIn N.digest_of pool.new table.new.entries }
+    ensures others { LeavesOthers pool.old table.old.entries pool.new table.new.entries }
+    ensures refs { refs.new ≡ refs.old }
+    ensures carries { Carries N.digest_of
+        (running_in session.old pool.old table.old refs.old) lexer.old.tail out.old.items result
+        (running_in session.new pool.new table.new refs.new) lexer.new.tail out.new.items }
+{
+    let _most = lexer.held();
+    let mut count = 0;
+    'items: loop {
+        if session.is_done() {
+            return Ok(());
+        }
+        match lexer.next() {
+            Ok(Some(item)) => {
+                if let Err(fault) = session.take(pool, table, refs, item, out) {
+                    return Err(stop_of(fault, count));
+                }
+                count += 1;
+            }
+            Ok(None) => return Ok(()),
+            Err(fault) => return Err(Stop::Fault(fault.code())),
+        }
+    }
+}
+
+// What a lexer that takes no further piece is to the stream.
+fn unfed(fault: Fault) -> Stop
+    ensures { result ≡ unfed fault }
+{
+    match fault {
+        Fault::Memory => Stop::Memory(0),
+        _ => Stop::Fault(fault.code()),
+    }
+}
+
+// The end of the bytes, and then that of the commands.
+fn end<N: Naming>(
+    lexer: &Lexer,
+    session: &Session,
+    pool: &mut Pool<N>,
+    table: &mut Table,
+    refs: &mut Refs,
+) -> Result<(), Stop>
+    requires stands { StandsIn N.digest_of pool.old table.old.entries }
+    ensures stands { StandsIn N.digest_of pool.new table.new.entries }
+    ensures others { LeavesOthers pool.old table.old.entries pool.new table.new.entries }
+    ensures refs { refs.new ≡ refs.old }
+    ensures ended { EndsAs
+        (finished (Runs (running_in session.now pool.old table.old refs.old) lexer.now.tail)) result
+        (last_checkpoint (running_in session.now pool.new table.new refs.new).workspace) }
+{
+    if session.is_done() {
+        return Ok(());
+    }
+    if let Err(fault) = lexer.end() {
+        return Err(Stop::Fault(fault.code()));
+    }
+    match session.finish(pool, table, refs) {
+        Ok(()) => Ok(()),
+        Err(fault) => Err(Stop::Fault(fault.code())),
+    }
+}
+
+/// A running stream of one tenant.
+#[derive(Drop)]
+pub struct Stream {
+    lexer: Lexer,
+    session: Session,
+}
+
+impl Model for Stream {
+    ghost use Rattle.tenant_stream.specs.Carrying.{Between};
+
+    ghost Value = { Between };
+
+    ghost view = { λ stream. record { session = stream.session; tail = stream.lexer.tail } };
+}
+
+impl Stream {
+    /// A stream before its first byte. Takes no memory; what it keeps later comes from `alloc`.
+    pub fn new(alloc: Global) -> Stream
+        ensures { result ≡ new_stream }
+    {
+        Stream {
+            lexer: Lexer::new(alloc),
+            session: Session::new(alloc),
+        }
+    }
+
+    /// Whether `done` was read, so that no byte behind it is looked at. Takes no memory.
+    pub fn is_done(&self) -> bool
+        ensures { result ≡ self.now.session.is_done }
+    {
+        self.session.is_done()
+    }
+
+    /// Takes the next piece, carries out the items that it makes whole, and appends what they print
+    /// to `out`: git-fast-import(1), "Input Format".
+    ///
+    /// `Stop::Fault` where the bytes, the text of an item or its meaning are refused;
+    /// `Stop::Memory` (90) with the number of items of this call that took effect. `out` has the
+    /// replies of the items before it, the objects and refs of the last checkpoint are unchanged,
+    /// and only `abandon` may follow. Behind `done` nothing is read, and no memory is taken.
+    pub fn feed<N: Naming>(
+        &mut self,
+        pool: &mut Pool<N>,
+        table: &mut Table,
+        refs: &mut Refs,
+        piece: &[u8],
+        out: &mut Vec<u8>,
+    ) -> Result<(), Stop>
+        requires stands { StandsIn N.digest_of pool.old table.old.entries }
+        requires room { HasAmpleRoom pool.old }
+        ensures stands { StandsIn N.digest_of pool.new table.new.entries }
+        ensures others { LeavesOthers pool.old table.old.entries pool.new table.new.entries }
+        ensures refs { refs.new ≡ refs.old }
+        ensures feeds { Feeds N.digest_of self.old.session.is_done
+            (stream_in self.old pool.old table.old refs.old) self.old.tail piece.now out.old.items
+            result (stream_in self.new pool.new table.new refs.new) self.new.tail out.new.items }
+    {
+        if self.is_done() {
+            return Ok(());
+        }
+        if let Err(fault) = self.lexer.feed(piece) {
+            return Err(unfed(fault));
+        }
+        carry(&mut self.lexer, &mut self.session, pool, table, refs, out)
+    }
+
+    /// Ends the stream, which is a checkpoint unless `done` was read before. It prints nothing and
+    /// takes no memory.
+    ///
+    /// `Stop::Fault` where a line or a data is cut off (6), or a part of a command is missing (5).
+    /// The table then has the objects of the last checkpoint.
+    pub fn finish<N: Naming>(
+        self,
+        pool: &mut Pool<N>,
+        table: &mut Table,
+        refs: &mut Refs,
+    ) -> Result<(), Stop>
+        requires stands { StandsIn N.digest_of pool.old table.old.entries }
+        ensures stands { StandsIn N.digest_of pool.new table.new.entries }
+        ensures others { LeavesOthers pool.old table.old.entries pool.new table.new.entries }
+        ensures refs { refs.new ≡ refs.old }
+        ensures ended { EndsAs
+            (finished (Runs (stream_in self pool.old table.old refs.old) self.tail)) result
+            (repository_in pool.new table.new refs.new) }
+        ensures committed { IsCommitted table.new }
+    {
+        let ended = end(&self.lexer, &self.session, pool, table, refs);
+        self.abandon(pool, table, refs);
+        ended
+    }
+
+    /// Gives the stream up: its table is rolled back to the last checkpoint. Takes no memory.
+    pub fn abandon<N: Naming>(self, pool: &mut Pool<N>, table: &mut Table, refs: &mut Refs)
+        requires stands { StandsIn N.digest_of pool.old table.old.entries }
+        ensures stands { StandsIn N.digest_of pool.new table.new.entries }
+        ensures others { LeavesOthers pool.old table.old.entries pool.new table.new.entries }
+        ensures refs { refs.new ≡ refs.old }
+        ensures left { repository_in pool.new table.new refs.new
+            ≡ last_checkpoint (workspace_in [] pool.old table.old refs.old) }
+        ensures committed { IsCommitted table.new }
+    {
+        let Stream { session, .. } = self;
+        let _within = table.committed_len();
+        session.abandon(pool, table, refs);
+    }
+}
