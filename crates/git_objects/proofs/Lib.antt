@@ -1,4 +1,4 @@
-pub mod KnownBytes
+pub use Rattle.byte_devices.proofs.KnownBytes
 pub mod Digits
 pub mod Idents
 pub mod Fronts
@@ -10,4 +10,3 @@ pub mod TreeReads
 pub mod Lines
 pub mod CommitFronts
 pub mod TagFronts
-mod WrittenSoFar

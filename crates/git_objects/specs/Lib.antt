@@ -1,13 +1,13 @@
 -- In reading order. What the definitions below speak of is passed on first.
+pub use Rattle.byte_devices.specs.Device
+pub use Rattle.byte_devices.specs.Failing
 pub use Rattle.git_model.specs.Kind
 pub use Rattle.git_model.specs.ObjectName
 pub use Rattle.git_model.specs.Tree
 pub use Rattle.git_model.specs.Commit
 pub use Rattle.git_model.specs.Tag
 pub mod Naming
-pub mod Device
 pub mod Ident
-pub mod Failing
 pub mod Parts
 pub mod Fronts
 pub mod TreeParts

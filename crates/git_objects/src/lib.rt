@@ -6,10 +6,6 @@
 #![tactic(auto)]
 
 mod commit;
-mod counted;
-mod device_fault;
-mod failing_reader;
-mod failing_writer;
 mod fault;
 mod front;
 mod header;
@@ -28,13 +24,9 @@ mod tag;
 mod tail_naming;
 mod tree;
 mod tree_entry;
-mod whole_text;
 
+pub use byte_devices::{Counted, DeviceFault, FailingReader, FailingWriter, write_all};
 pub use commit::{CommitParts, read_commit, write_commit};
-pub use counted::Counted;
-pub use device_fault::DeviceFault;
-pub use failing_reader::FailingReader;
-pub use failing_writer::FailingWriter;
 pub use fault::Fault;
 pub use git_model::{FileMode, Kind};
 pub use ident::{Ident, is_written_ident};
@@ -49,4 +41,3 @@ pub use tag::{TagParts, read_tag, write_tag};
 pub use tail_naming::TailNaming;
 pub use tree::{read_tree, write_tree};
 pub use tree_entry::{TreeEntry, is_entry_name};
-pub use whole_text::write_all;

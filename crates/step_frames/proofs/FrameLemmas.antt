@@ -5,14 +5,14 @@ use Rattle.std.specs.List.{find}
 use Rattle.std.specs.Option.{unwrap_or}
 use Rattle.std.proofs.lemmas.Bool.{lt-ltb, le-ltb, ltb-true, ltb-false, eqb-true}
 use Rattle.std.proofs.lemmas.List.{length-append, length-replicate}
-use Rattle.git_objects.specs.Device.{Device}
+use Rattle.byte_devices.specs.Device.{Device}
 use Rattle.step_frames.specs.declared.fault.FrameFault.{FrameFault}
 use Rattle.step_frames.specs.declared.fault.FrameFault.TheVariants as fault
 use Rattle.step_frames.specs.declared.kind.Kind.{Kind}
 use Rattle.service_steps.specs.declared.step.Step.{Step}
 use Rattle.step_frames.specs.Frames.{Frame, sized, frame_text, frame_of, kind_of, kind_number, all_kinds, tenant_limit, body_limit, wrong_part, shown_wrong, IsGood, IsUnfinished, IsCutOff, IsBad}
 use Rattle.step_frames.specs.Reading.{HasReadWell, IsUnfinishedPart, ReadsKind, ReadsSized, ReadsStep}
-use Rattle.step_frames.proofs.ReadLemmas.{well_more, all_more, failed_more}
+use Rattle.byte_devices.proofs.ReadLemmas.{well_more, all_more, failed_more}
 
 -- ---- which part is wrong
 

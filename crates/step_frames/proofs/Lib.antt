@@ -1,4 +1,4 @@
-pub mod ReadLemmas
+pub use Rattle.byte_devices.proofs.ReadLemmas
 pub mod SizedLemmas
 pub mod FrameLemmas
 pub mod WriteLemmas

@@ -3,11 +3,11 @@ use Rattle.std.proofs.Common.{◌≡◌, ◌≢◌, ℕ, zero, suc, ◌-◌, ◌
 use Rattle.std.specs.Int.{Width, w16, w32, byte_len, to_be_bytes, from_be_bytes}
 use Rattle.std.proofs.lemmas.List.{length-append, length-replicate}
 use Rattle.std.proofs.lemmas.Nat.{be_bytes_2, be_bytes_4}
-use Rattle.git_objects.specs.Device.{Device}
+use Rattle.byte_devices.specs.Device.{Device}
 use Rattle.step_frames.specs.declared.fault.FrameFault.{FrameFault}
 use Rattle.step_frames.specs.declared.fault.FrameFault.TheVariants as fault
 use Rattle.step_frames.specs.Reading.{AreBytes, IsShort, HasReadWell, bound, ReadsNumber, ReadsRoom, ReadsSized, IsUnfinishedPart}
-use Rattle.step_frames.proofs.ReadLemmas.{well_more, all_more, failed_more}
+use Rattle.byte_devices.proofs.ReadLemmas.{well_more, all_more, failed_more}
 
 -- Every list of so many bytes is that of a number.
 pub record Written (width : Width) (bytes : List ℕ) : Type 0 where

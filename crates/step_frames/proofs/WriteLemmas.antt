@@ -1,8 +1,8 @@
 -- A text that is written in two parts.
 use Rattle.std.proofs.Common.{ℕ, List, ◌++◌, Option, Result, Ok, Err, OnErr, sym, ap, ◌∙◌, append_assoc}
 use Rattle.std.specs.Io.KnownBytes.{Appends}
-use Rattle.git_objects.specs.Device.{AppendsFront}
-use Rattle.git_objects.proofs.KnownBytes.{Appends-trans}
+use Rattle.byte_devices.specs.Device.{AppendsFront}
+use Rattle.byte_devices.proofs.KnownBytes.{Appends-trans}
 
 -- A front of the first part was written.
 pub front_of_first : (a b : Option (List ℕ)) (first later : List ℕ) → AppendsFront a b first → AppendsFront a b (first ++ later)

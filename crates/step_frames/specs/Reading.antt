@@ -1,27 +1,13 @@
 -- What the calls that read a frame do to a reader, by their answers.
 use Rattle.std.specs.Prelude.{◌≡◌, ◌≢◌, ℕ, ◌<◌, ◌≤◌, ◌*◌, ◌^◌, List, [], ◌∷◌, ◌++◌, length, get_or, Option, None, Some, Result, Ok, Err}
 use Rattle.std.specs.Int.{Width, to_be_bytes, byte_len}
-use Rattle.std.specs.Io.KnownBytes.{IsAtEnd}
-use Rattle.git_objects.specs.Device.{Device, HasRead, HasFault}
+use Rattle.byte_devices.specs.Device.{Device}
+pub use Rattle.byte_devices.specs.Reading.{HasReadWell, HasReadAll, HasFailed, AreBytes, IsShort, Fills}
 use Rattle.step_frames.specs.declared.fault.FrameFault.{FrameFault}
 use Rattle.step_frames.specs.declared.fault.FrameFault.TheVariants as fault
 use Rattle.step_frames.specs.declared.kind.Kind.{Kind}
 use Rattle.service_steps.specs.declared.step.Step.{Step}
 use Rattle.step_frames.specs.Frames.{sized, kind_of, frame_of, step_text, IsGood, IsUnfinished, IsCutOff, IsBad}
-
--- Bytes were read, and no call failed.
-pub record HasReadWell (old new : Device) (bytes : List ℕ) : Type 0 where
-  pub read : HasRead old new bytes
-  pub well : new.faults ≡ old.faults
-
--- Bytes were read, and then the reader was at its end, or a call failed.
-pub record HasReadAll (old new : Device) (bytes : List ℕ) : Type 0 where
-  pub read : HasReadWell old new bytes
-  pub end : IsAtEnd new.known
-
-pub record HasFailed (old new : Device) (bytes : List ℕ) : Type 0 where
-  pub read : HasRead old new bytes
-  pub fault : HasFault old.faults new.faults
 
 -- A step was read as its frame; or the reader was at its end before one; or what was read refuses
 -- all that is behind it.
@@ -36,25 +22,6 @@ ReadsStep old (Err fault.Memory) new = (bytes : List ℕ) × IsUnfinished bytes
     × HasReadWell old new bytes
 
 -- ---- parts
-
--- Each number is a byte.
-abbrev pub AreBytes : List ℕ → Type 0
-AreBytes bytes = (i : ℕ) → get_or bytes i 0 < 256
-
--- A front of some room, which lacks something.
-pub record IsShort (room : ℕ) (bytes : List ℕ) : Type 0 where
-  pub lacks : length bytes < room
-  pub small : AreBytes bytes
-
--- A room was filled.
-abbrev pub Fills : Device → Result Unit FrameFault → Device → List ℕ → Type 0
-Fills old (Ok u) new room = HasReadWell old new room
-Fills old (Err fault.CutOff) new room = (bytes : List ℕ) × IsShort (length room) bytes
-    × HasReadAll old new bytes
-Fills old (Err fault.Device) new room = (bytes : List ℕ) × IsShort (length room) bytes
-    × HasFailed old new bytes
-Fills old (Err fault.BadFrame) new room = ⊥
-Fills old (Err fault.Memory) new room = ⊥
 
 -- The kind of a frame was read.
 abbrev pub ReadsKind : Device → Result (Option Kind) FrameFault → Device → Type 0

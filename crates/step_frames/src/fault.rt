@@ -1,9 +1,9 @@
 //! Why no further frame is read, or no further answer written.
 
 ghost use Rattle.std.specs.Prelude.{◌≡◌};
-ghost use Rattle.step_frames.specs.Faults.{code_of};
+ghost use Rattle.step_frames.specs.Faults.{code_of, frame_fault};
 
-use git_objects::DeviceFault;
+use byte_devices::{DeviceFault, FillFault};
 use std::alloc::AllocError;
 use thiserror::Error;
 
@@ -45,6 +45,17 @@ impl From<DeviceFault> for FrameFault {
 
     fn from(_failed: DeviceFault) -> FrameFault {
         FrameFault::Device
+    }
+}
+
+impl From<FillFault> for FrameFault {
+    ghost from_gives = { λ short fault. fault ≡ frame_fault short };
+
+    fn from(short: FillFault) -> FrameFault {
+        match short {
+            FillFault::Ended => FrameFault::CutOff,
+            FillFault::Failed => FrameFault::Device,
+        }
     }
 }
 

@@ -5,14 +5,13 @@
 
 ghost use Rattle.std.specs.Prelude.{◌≡◌, ◌≤◌, length};
 ghost use Rattle.step_frames.specs.Frames.{tenant_limit, body_limit, framed, frame_of};
-ghost use Rattle.git_objects.specs.Device.{device_of, seen};
+ghost use Rattle.byte_devices.specs.Device.{device_of, seen};
 ghost use Rattle.step_frames.specs.Reading.{ReadsKind, ReadsStep};
 
 use crate::fault::FrameFault;
-use crate::fill::fill;
 use crate::kind::Kind;
 use crate::sized::{read_behind_u16, read_behind_u32};
-use git_objects::Counted;
+use byte_devices::{Counted, FillFault, fill};
 use service_steps::Step;
 use std::alloc::Global;
 use std::io::Read;
@@ -28,8 +27,8 @@ fn read_kind<R: Read>(reader: &mut Counted<R>) -> Result<Option<Kind>, FrameFaul
             Some(kind) => Ok(Some(kind)),
             None => Err(FrameFault::BadFrame),
         },
-        Err(FrameFault::CutOff) => Ok(None),
-        Err(fault) => Err(fault),
+        Err(FillFault::Ended) => Ok(None),
+        Err(FillFault::Failed) => Err(FrameFault::Device),
     }
 }
 

@@ -5,7 +5,6 @@
 #![tactic(auto)]
 
 mod fault;
-mod fill;
 mod frames;
 mod kind;
 mod sized;

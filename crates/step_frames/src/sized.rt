@@ -2,12 +2,11 @@
 
 ghost use Rattle.std.specs.Prelude.{◌≡◌};
 ghost use Rattle.std.specs.Int.{w16, w32};
-ghost use Rattle.git_objects.specs.Device.{device_of, seen};
+ghost use Rattle.byte_devices.specs.Device.{device_of, seen};
 ghost use Rattle.step_frames.specs.Reading.{ReadsNumber, ReadsRoom, ReadsSized};
 
 use crate::fault::FrameFault;
-use crate::fill::fill;
-use git_objects::Counted;
+use byte_devices::{Counted, fill};
 use std::io::Read;
 
 // A number of two bytes.
@@ -45,7 +44,8 @@ fn read_room<R: Read>(
         return Err(FrameFault::BadFrame);
     }
     room.resize_with(n, || 0)?;
-    fill(reader, room)
+    fill(reader, room)?;
+    Ok(())
 }
 
 /// Bytes behind their length in two bytes, at most so many.

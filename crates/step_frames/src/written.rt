@@ -2,11 +2,11 @@
 
 ghost use Rattle.std.specs.Prelude.{◌≡◌, OnOk, OnErr};
 ghost use Rattle.std.specs.Io.KnownBytes.{Appends};
-ghost use Rattle.git_objects.specs.Device.{device_of, faults_of, AppendsFront, HasFault};
+ghost use Rattle.byte_devices.specs.Device.{device_of, faults_of, AppendsFront, HasFault};
 ghost use Rattle.step_frames.specs.Frames.{status_of, answer_head, answer_text};
 
+use byte_devices::{Counted, DeviceFault, write_all};
 use byteorder::{BigEndian, ByteOrder};
-use git_objects::{Counted, DeviceFault, write_all};
 use service_steps::Answer;
 use std::io::Write;
 

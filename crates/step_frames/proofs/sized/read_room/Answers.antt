@@ -1,6 +1,6 @@
 use Rattle.std.proofs.Common.{arith}
 use Rattle.std.proofs.lemmas.Result.{err_from_is_err_and}
-use Rattle.step_frames.proofs.ReadLemmas.{well_none}
+use Rattle.byte_devices.proofs.ReadLemmas.{well_none}
 use Rattle.step_frames.proofs.sized.read_room.Goals as goal
 
 pub returns-then-n-limit : goal.returns-then-n-limit

@@ -1,6 +1,6 @@
 use Rattle.std.proofs.Common.{ℕ, List, subst, sym}
 use Rattle.std.proofs.lemmas.Nat.{be_bytes_4}
-use Rattle.git_objects.specs.Device.{device_of, seen}
+use Rattle.byte_devices.specs.Device.{device_of, seen}
 use Rattle.step_frames.specs.Reading.{HasReadWell}
 use Rattle.step_frames.proofs.sized.read_u32.Goals as goal
 

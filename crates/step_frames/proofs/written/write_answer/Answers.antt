@@ -1,6 +1,6 @@
 use Rattle.std.proofs.Common.{ℕ, List, subst}
 use Rattle.std.specs.Io.KnownBytes.{Appends}
-use Rattle.git_objects.specs.Device.{device_of}
+use Rattle.byte_devices.specs.Device.{device_of}
 use Rattle.step_frames.proofs.WriteLemmas.{front_of_later, on_err}
 use Rattle.step_frames.proofs.written.write_answer.Goals as goal
 

@@ -2,7 +2,7 @@ use Rattle.std.proofs.Common.{ℕ, Option, Ok, Err, subst, ◌∙◌}
 use Rattle.std.specs.Int.{w16, w32}
 use Rattle.step_frames.specs.declared.kind.Kind.{Kind}
 use Rattle.step_frames.specs.Reading.{ReadsKind, ReadsSized}
-use Rattle.git_objects.specs.Device.{Device, device_of, seen}
+use Rattle.byte_devices.specs.Device.{Device, device_of, seen}
 use Rattle.step_frames.specs.Frames.{framed}
 use Rattle.step_frames.proofs.FrameLemmas.{kind_fails, knows, names, tenant_fails, body_fails, frame_read}
 use Rattle.step_frames.proofs.frames.Frames.next.Goals as goal

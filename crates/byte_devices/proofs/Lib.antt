@@ -1,0 +1,3 @@
+pub mod KnownBytes
+pub mod ReadLemmas
+mod WrittenSoFar

@@ -1,0 +1,71 @@
+-- Counts of what a reader or a writer did.
+use Rattle.std.specs.Prelude.{◌≡◌, ℕ, zero, suc, ◌+◌, ◌-◌, ◌^◌, ◌<◌, min, List, [], ◌∷◌, ◌++◌, length, Option, Result, Ok, Err}
+use Rattle.std.specs.Io.KnownBytes.{Appends, Consumes}
+use Rattle.byte_devices.specs.declared.counted.Counted.{Counted}
+
+-- The reader or writer inside, its calls so far, those that failed, and the bytes that went through
+-- it.
+abbrev pub device_of : {T : Type 0} → Counted T → T
+device_of counted = counted.device
+
+abbrev pub calls_of : {T : Type 0} → Counted T → ℕ
+calls_of counted = counted.calls
+
+abbrev pub faults_of : {T : Type 0} → Counted T → ℕ
+faults_of counted = counted.faults
+
+abbrev pub passed_of : {T : Type 0} → Counted T → ℕ
+passed_of counted = counted.passed
+
+-- A count that goes up by n stays at its greatest, 2^64 - 1.
+abbrev pub counted_on : ℕ → ℕ → ℕ
+counted_on count n = min (count + n) (2 ^ 64 - 1)
+
+-- A read failed where it answered an error.
+abbrev pub faults_after_read : {E : Type 0} → ℕ → Result ℕ E → ℕ
+faults_after_read faults (Ok n) = faults
+faults_after_read faults (Err e) = counted_on faults 1
+
+-- A write failed where it answered an error, and where it was given bytes and took none.
+abbrev pub faults_after_write : {E : Type 0} → ℕ → List ℕ → Result ℕ E → ℕ
+faults_after_write faults [] (Ok n) = faults
+faults_after_write faults (byte ∷ bytes) (Ok zero) = counted_on faults 1
+faults_after_write faults (byte ∷ bytes) (Ok (suc n)) = faults
+faults_after_write faults bytes (Err e) = counted_on faults 1
+
+-- The bytes that went through a read or a write are those that it says.
+abbrev pub passed_after : {E : Type 0} → ℕ → Result ℕ E → ℕ
+passed_after passed (Ok n) = counted_on passed n
+passed_after passed (Err e) = passed
+
+-- A fault was counted between two counts, unless they stood at their greatest.
+abbrev pub HasFault : ℕ → ℕ → Type 0
+HasFault old new = old < 2 ^ 64 - 1 → old < new
+
+-- Known bytes grew by a prefix of these.
+pub record AppendsFront (old new : Option (List ℕ)) (bytes : List ℕ) : Type 0 where
+  pub front : List ℕ
+  pub rest : List ℕ
+  pub parts : bytes ≡ front ++ rest
+  pub appends : Appends old new front
+
+-- What is known of a device: the bytes that it still has, or that it took; its calls so far, those
+-- that failed, and the bytes that went through it.
+pub record Device : Type 0 where
+  pub known : Option (List ℕ)
+  pub calls : ℕ
+  pub faults : ℕ
+  pub passed : ℕ
+
+abbrev pub seen : {T : Type 0} → Option (List ℕ) → Counted T → Device
+seen known counted = record {
+  known = known;
+  calls = calls_of counted;
+  faults = faults_of counted;
+  passed = passed_of counted;
+}
+
+-- These bytes, the first ones that the reader had, were read.
+pub record HasRead (old new : Device) (bytes : List ℕ) : Type 0 where
+  pub consumed : Consumes old.known new.known bytes
+  pub passed : new.passed ≡ counted_on old.passed (length bytes)

@@ -1,0 +1,38 @@
+-- What calls of `read`, one after the other, did to a reader.
+use Rattle.std.specs.Prelude.{◌≡◌, ℕ, ◌<◌, List, length, get_or, Result, Ok, Err}
+use Rattle.std.specs.Io.KnownBytes.{IsAtEnd}
+use Rattle.byte_devices.specs.Device.{Device, HasRead, HasFault}
+use Rattle.byte_devices.specs.declared.fill_fault.FillFault.{FillFault}
+use Rattle.byte_devices.specs.declared.fill_fault.FillFault.TheVariants as fault
+
+-- Bytes were read, and no call failed.
+pub record HasReadWell (old new : Device) (bytes : List ℕ) : Type 0 where
+  pub read : HasRead old new bytes
+  pub well : new.faults ≡ old.faults
+
+-- Bytes were read, and then the reader was at its end.
+pub record HasReadAll (old new : Device) (bytes : List ℕ) : Type 0 where
+  pub read : HasReadWell old new bytes
+  pub end : IsAtEnd new.known
+
+-- Bytes were read, and then a call failed.
+pub record HasFailed (old new : Device) (bytes : List ℕ) : Type 0 where
+  pub read : HasRead old new bytes
+  pub fault : HasFault old.faults new.faults
+
+-- Each number is a byte.
+abbrev pub AreBytes : List ℕ → Type 0
+AreBytes bytes = (i : ℕ) → get_or bytes i 0 < 256
+
+-- A prefix of some room, which lacks something.
+pub record IsShort (room : ℕ) (bytes : List ℕ) : Type 0 where
+  pub lacks : length bytes < room
+  pub small : AreBytes bytes
+
+-- A room was filled; or the bytes read fall short of it, and the reader was at its end, or failed.
+abbrev pub Fills : Device → Result Unit FillFault → Device → List ℕ → Type 0
+Fills old (Ok u) new room = HasReadWell old new room
+Fills old (Err fault.Ended) new room = (bytes : List ℕ) × IsShort (length room) bytes
+    × HasReadAll old new bytes
+Fills old (Err fault.Failed) new room = (bytes : List ℕ) × IsShort (length room) bytes
+    × HasFailed old new bytes

@@ -1,0 +1,84 @@
+//! What is counted of readers and writers that fail at a chosen call.
+
+use byte_devices::{Counted, FailingReader, FailingWriter, FillFault, fill};
+use std::alloc::Global;
+use std::io;
+use std::io::{Read, Write};
+
+// What is written in turn, and how many bytes of it are taken, none where the call fails.
+type Writes<'a> = &'a [(&'a [u8], Option<usize>)];
+
+const TO_A_FAILING_WRITER: Writes<'static> = &[
+    (b"hello", Some(1)),
+    (b"ello", Some(1)),
+    (b"llo", None),
+];
+
+// A slice takes what it has room for, and then nothing.
+const TO_TWO_BYTES: Writes<'static> = &[(b"abc", Some(2)), (b"c", Some(0)), (b"", Some(0))];
+
+fn count_of(answer: io::Result<usize>) -> Option<usize> {
+    match answer {
+        Ok(count) => Some(count),
+        Err(_) => None,
+    }
+}
+
+// The calls, those that failed, and the bytes that went through.
+fn counts_of<T>(device: &Counted<T>) -> (u64, u64, u64) {
+    (device.calls(), device.faults(), device.passed())
+}
+
+// Whether reads of three bytes each give so many.
+fn gives<R: Read>(reader: &mut Counted<R>, counts: &[Option<usize>]) -> bool {
+    for count in counts {
+        let mut buf = [0; 3];
+        if count_of(reader.read(&mut buf)) != *count {
+            return false;
+        }
+    }
+    true
+}
+
+fn takes<W: Write>(writer: &mut Counted<W>, writes: Writes<'_>) -> bool {
+    for (bytes, count) in writes {
+        if count_of(writer.write(bytes)) != *count {
+            return false;
+        }
+    }
+    true
+}
+
+fn is_written_until_it_fails(alloc: Global) -> bool {
+    let mut writer = Counted::new(FailingWriter::new(Vec::new(alloc), 2));
+    let is_counted = takes(&mut writer, TO_A_FAILING_WRITER) && counts_of(&writer) == (3, 1, 2);
+    let taken = writer.into_inner().into_inner();
+    is_counted && taken.as_slice() == b"he".as_slice()
+}
+
+#[test]
+fn counts_reads_and_those_that_fail_and_their_bytes(rt: HostRuntime) {
+    let mut reader = Counted::new(FailingReader::new(&b"hello"[..], 2));
+    assert!(rt; gives(&mut reader, &[Some(3), Some(2), None, None]));
+    assert!(rt; counts_of(&reader) == (4, 2, 5));
+}
+
+#[test]
+fn counts_writes_and_those_that_fail_or_take_nothing_and_their_bytes(rt: HostRuntime) {
+    assert!(rt; is_written_until_it_fails(rt.alloc()));
+    let mut room = [0; 2];
+    let mut writer = Counted::new(&mut room[..]);
+    assert!(rt; takes(&mut writer, TO_TWO_BYTES));
+    assert!(rt; counts_of(&writer) == (3, 1, 2));
+}
+
+#[test]
+fn fills_a_room_from_reads_of_any_size(rt: HostRuntime) {
+    let mut reader = Counted::new(&b"hello"[..]);
+    let mut room = [0; 3];
+    assert!(rt; fill(&mut reader, &mut room) == Ok(()) && &room == b"hel");
+    assert!(rt; fill(&mut reader, &mut room) == Err(FillFault::Ended) && &room == b"lol");
+    assert!(rt; counts_of(&reader) == (3, 0, 5));
+    let mut reader = Counted::new(FailingReader::new(&b"hello"[..], 0));
+    assert!(rt; fill(&mut reader, &mut room) == Err(FillFault::Failed));
+}
