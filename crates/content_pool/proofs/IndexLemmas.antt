@@ -94,7 +94,7 @@ module _ (old new : Buckets) (id : List ℕ) (o : Option (List ℕ)) (updates : 
       ]
 
 module _ (old new : Buckets) (id w : List ℕ) (slot : ℕ) (updates : (n : List ℕ) → lookup (bytes_eq n) new ≡ cond (bytes_eq id n) (Some w) (lookup (bytes_eq n) old)) where
-  -- A slot put behind the others of its bucket is noted.
+  -- A slot put after the others of its bucket is noted.
   pub Notes-push : (b : List ℕ) → Some b ≡ lookup (bytes_eq id) old → w ≡ b ++ slot ∷ [] → Notes old new id slot
   Notes-push b was is = Notes-update old new id (Some w) updates slot
       (λ s. ap (λ l. times l s) is ∙ sum_by_push (λ t. cond (t == s) 1 0) b slot ∙ ap (λ o. times (unwrap_or o []) s + cond (slot == s) 1 0) was)

@@ -28,8 +28,8 @@ use Rattle.gitpool.specs.declared.import_fault.ImportFault.TheVariants as fault
 use Rattle.tenant_stream.specs.Carrying.{Between, Carries, Advances, Goes, Ends, EndsAs, Fails, Feeds, HasAmpleRoom, Stops, IsDrained, new_stream, outcome_behind, stream_in}
 use Rattle.gitpool.specs.ImportFaults.{as_import}
 use Rattle.gitpool.specs.Import.{IsImported, IsGivenUp, IsStopped, IsDevice, IsSettled, AsksForMore, Imports, outcome_of, end_fault}
-use Rattle.gitpool.specs.Alone.{stream_of}
-use Rattle.gitpool.specs.Holding.{empty_repository}
+use Rattle.tenant_service.specs.Alone.{stream_of}
+use Rattle.tenant_service.specs.Holding.{empty_repository}
 use Rattle.gitpool.specs.Importing.{Importing, running_of, IsNewImport, IsReady, Passes, IsRefusedWith, IsWrittenFront, PassesOn, EndsImport}
 
 -- where nothing whole is held, nothing more is printed yet

@@ -15,11 +15,11 @@ use Rattle.step_frames.specs.Reading.{HasReadWell, ReadsStep}
 use Rattle.step_frames.proofs.ReadLemmas.{well_none, well_more}
 use Rattle.step_frames.proofs.FrameLemmas.{none_read}
 use Rattle.step_frames.proofs.WriteLemmas.{front_of_later}
-use Rattle.gitpool.specs.Headline.{Told, told_in, Run, IsItsOwn, IsRefused}
-use Rattle.gitpool.specs.Holding.{Holdings, held_of}
+use Rattle.tenant_service.specs.Headline.{Told, told_in, Run, IsItsOwn, IsRefused}
+use Rattle.tenant_service.specs.Holding.{Holdings, held_of}
 use Rattle.gitpool.specs.Serving.{steps_text, answers_text, Served, AppendsAsFar, Serves}
-use Rattle.gitpool.proofs.AccountLemmas.{all_whole}
-use Rattle.gitpool.proofs.RunLemmas.{own-more, own-none}
+use Rattle.tenant_service.proofs.AccountLemmas.{all_whole}
+use Rattle.tenant_service.proofs.RunLemmas.{own-more, own-none}
 
 -- So many frames were read and answered, and nothing else was read.
 pub record SoFar (digest : List ℕ → List ℕ) (before after : Holdings) (r0 r w0 w : Device) (count : ℕ) : Type 0 where

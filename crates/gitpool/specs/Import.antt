@@ -5,8 +5,8 @@ use Rattle.git_objects.specs.Device.{Device, HasRead, HasFault, AppendsFront}
 use Rattle.import_session.specs.Stream.{Outcome, Standing, Runs, Refused, finished}
 use Rattle.gitpool.specs.declared.import_fault.ImportFault.{ImportFault}
 use Rattle.gitpool.specs.declared.import_fault.ImportFault.TheVariants as fault
-use Rattle.gitpool.specs.Alone.{stream_of}
-use Rattle.gitpool.specs.Holding.{empty_repository}
+use Rattle.tenant_service.specs.Alone.{stream_of}
+use Rattle.tenant_service.specs.Holding.{empty_repository}
 
 -- What all bytes of a stream over an empty repository printed, and how it stands.
 abbrev pub outcome_of : (List ℕ → List ℕ) → List ℕ → Outcome

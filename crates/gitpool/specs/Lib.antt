@@ -1,9 +1,9 @@
--- In reading order: a repository of its own, runs of many tenants, and what the service holds;
--- where a tenant's parts lie; one stream from a reader to a writer, and frames of steps.
-pub mod Alone
-pub mod Headline
-pub mod Holding
-pub mod Tenants
+-- In reading order: one stream from a reader to a writer, and frames of steps. What a service is told
+-- and holds stands in tenant_service.
+pub use Rattle.tenant_service.specs.Alone
+pub use Rattle.tenant_service.specs.Headline
+pub use Rattle.tenant_service.specs.Holding
+pub use Rattle.tenant_service.specs.Tenants
 pub mod ImportFaults
 pub mod Import
 pub mod Importing

@@ -6,8 +6,8 @@ use Rattle.git_objects.specs.Device.{Device, HasRead, HasFault, AppendsFront}
 use Rattle.step_frames.specs.declared.fault.FrameFault.{FrameFault}
 use Rattle.step_frames.specs.declared.fault.FrameFault.TheVariants as fault
 use Rattle.step_frames.specs.Frames.{frame_of, step_text, answer_text, IsGood, IsUnfinished, IsCutOff, IsBad}
-use Rattle.gitpool.specs.Headline.{Run, IsItsOwn, IsRefused}
-use Rattle.gitpool.specs.Holding.{Holdings, held_of}
+use Rattle.tenant_service.specs.Headline.{Run, IsItsOwn, IsRefused}
+use Rattle.tenant_service.specs.Holding.{Holdings, held_of}
 
 -- The frames of the steps of a run, and those of what they were told.
 abbrev pub steps_text : Run → List ℕ

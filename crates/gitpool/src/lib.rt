@@ -7,15 +7,11 @@
 
 mod import;
 mod import_fault;
-mod key;
-mod service;
 mod serving;
-mod tenant;
-mod tenants;
 
 pub use import::import_one;
 pub use import_fault::ImportFault;
-pub use service::Service;
 pub use service_steps::{Answer, Reply, ServiceFault, Step};
 pub use serving::serve;
 pub use step_frames::FrameFault;
+pub use tenant_service::Service;

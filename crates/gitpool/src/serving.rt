@@ -5,11 +5,11 @@
 ghost use Rattle.git_objects.specs.Device.{device_of, seen};
 ghost use Rattle.gitpool.specs.Serving.{Serves};
 
-use crate::service::Service;
 use git_objects::{Counted, Naming};
 use std::alloc::Global;
 use std::io::{Read, Write};
 use step_frames::{FrameFault, Frames, write_answer};
+use tenant_service::Service;
 
 // How many frames are taken before their sender counts as one that never ends.
 const FRAMES_LIMIT: u64 = 1 << 32;

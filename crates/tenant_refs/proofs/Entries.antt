@@ -60,7 +60,7 @@ not_tied {R = R} same k q x up e f =
     cc
 
 module _ {K X : Type 0} (R : K → K → Ordering) where
-  -- the keys of these entries come before k, or behind it
+  -- the keys of these entries come before k, or after it
   abbrev pub AllBefore : K → List (K × X) → Type 0
   AllBefore k = AllByRecursion (λ e. R k e.0 ≡ Greater)
 
@@ -91,8 +91,8 @@ module _ {K X : Type 0} (R : K → K → Ordering) where
     below_one x k v [] after h = less _ (first _ _ h)
     below_one x k v (e ∷ es) after h = below_one x k v es after (second _ _ h)
 
-    -- in order, what stands in front of an entry comes before it, and what stands behind comes
-    -- behind it
+    -- in order, what stands in front of an entry comes before it, and what stands after comes
+    -- after it
     pub before-sorted : (k : K) (v : X) (before after : List (K × X)) → T (is_sorted R (before ++ (k, v) ∷ after)) → AllBefore k before
     before-sorted k v [] after h = tt
     before-sorted k v (e ∷ es) after h = (above o e.0 k (below_one e.0 k v es after (first _ _ h)), before-sorted k v es after (second _ _ h))

@@ -82,7 +82,7 @@ bytes_of [] = []
 bytes_of (a ∷ []) = []
 bytes_of (a ∷ b ∷ rest) = (half a * 16 + half b) ∷ bytes_of rest
 
--- digits, and others behind them up to two for each byte of a name
+-- digits, and others after them up to two for each byte of a name
 padded : ℕ → List ℕ → List ℕ → List ℕ
 padded c [] ds = []
 padded c (b ∷ q) [] = c ∷ c ∷ padded c q []
@@ -122,7 +122,7 @@ is_digit d k h = by (hex_digit_value d) h
     by None e = cc e
     by (Some v) e = refl
 
--- one digit, and any other behind it, stand for the bytes between two
+-- one digit, and any other after it, stand for the bytes between two
 one_digit : (d b : ℕ) (X Y : Ordering) → is_hex_digit d ≡ true → within X Y ≡ true
     → within (ordering_then (nat_cmp (half d * 16 + 0) b) X) (ordering_then (nat_cmp (half d * 16 + 15) b) Y) ≡ stands d (b / 16)
 one_digit d b X Y h rest =
@@ -174,7 +174,7 @@ two_digits d e b X Y h g =
 
 -- ---- the two names
 
--- the names between that of the least and that of the greatest digits behind the given ones are those that these begin
+-- the names between that of the least and that of the greatest digits after the given ones are those that these begin
 between : (ds q : List ℕ) → AllPass is_hex_digit ds → All (λ byte. byte < 256) q → length ds ≤ 2 * length q
     → lies (bytes_of (padded 48 q ds)) (bytes_of (padded 102 q ds)) q ≡ begins ds q
 unfolding begins bytes_of padded half stands
@@ -261,7 +261,7 @@ All-left : {X : Type 0} (P : X → Type 0) (xs ys : List X) → All P (xs ++ ys)
 All-left P [] ys h = All-nil P
 All-left P (x ∷ xs) ys h = All-cons P x xs (All-head P x (xs ++ ys) h) (All-left P xs ys (All-tail P x (xs ++ ys) h))
 
--- digits with others behind them, as text of forty
+-- digits with others after them, as text of forty
 abbrev pub forty : ℕ → List ℕ → List ℕ
 forty c ds = ds ++ replicate (40 - length ds) c
 
@@ -303,7 +303,7 @@ All-replicate : {X : Type 0} (P : X → Type 0) (n : ℕ) (x : X) → P x → Al
 All-replicate P zero x h = All-nil P
 All-replicate P (suc n) x h = All-cons P x (replicate n x) h (All-replicate P n x h)
 
--- digits that begin a name, with a digit behind them, decode
+-- digits that begin a name, with a digit after them, decode
 decodes : (c : ℕ) (ds id : List ℕ) → is_hex_digit c ≡ true → length id ≡ 20 → begins ds id ≡ true → IsOk (decode_sized (forty c ds) 20)
 decodes c ds id h size b =
     let found = begins-digits ds id b in

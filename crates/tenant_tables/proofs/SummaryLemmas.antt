@@ -23,13 +23,13 @@ use Rattle.tenant_tables.specs.View.{Entries, entry_named, summary_of}
 use Rattle.tenant_tables.specs.Trees.{IsSummed, SummedBehind, FitsTree, DirectoryStands, by_mode, below, both, entry_summary, no_files, one_file, tree_summary}
 use Rattle.tenant_tables.proofs.HoldLemmas.{Keeps, held-at}
 
--- what stands among the first stands there whatever comes behind
+-- what stands among the first stands there whatever comes after
 pub slice_get-append : {X : Type 0} (xs ys : List X) (i : ℕ) → i < length xs → slice_get (xs ++ ys) i ≡ slice_get xs i
 slice_get-append [] ys i h = absurd (omega arith)
 slice_get-append (x ∷ xs) ys zero h = refl
 slice_get-append (x ∷ xs) ys (suc i) h = slice_get-append xs ys i (omega arith)
 
--- what comes behind stands at the length
+-- what comes after stands at the length
 pub slice_get-pushed : {X : Type 0} (xs : List X) (x : X) → slice_get (xs ++ x ∷ []) (length xs) ≡ Some x
 slice_get-pushed [] x = refl
 slice_get-pushed (y ∷ xs) x = slice_get-pushed xs x

@@ -39,7 +39,7 @@ same_long (x ∷ xs) (y ∷ ys) rs ss n e =
 differ : (xs ys : List ℕ) → bytes_eq xs ys ≡ false → xs ≡ ys → ⊥
 differ xs ys no_test e = true≢false (sym ((bytes_eq-Decides xs ys).1 e) ∙ no_test)
 
--- the digits of a mode tell it, whatever stands behind the space that ends them
+-- the digits of a mode tell it, whatever stands after the space that ends them
 modes : (m n : FileMode) (rs ss : List ℕ) → mode_digits m ++ codes " " ++ rs ≡ mode_digits n ++ codes " " ++ ss → (m ≡ n) × (rs ≡ ss)
 modes Regular Regular rs ss e = (refl, ap (drop 7) e)
 modes Regular Executable rs ss e = absurd (differ (codes "100644") (codes "100755") refl (ap (take 6) e))
@@ -67,7 +67,7 @@ modes Directory Symlink rs ss e = absurd (differ (codes "40000 ") (codes "120000
 modes Directory Gitlink rs ss e = absurd (differ (codes "40000 ") (codes "160000") refl (ap (take 6) e))
 modes Directory Directory rs ss e = (refl, ap (drop 6) e)
 
--- an entry's text, with what stands behind it
+-- an entry's text, with what stands after it
 text_then : (e : TreeEntry) (rest : List ℕ) → entry_text e ++ rest ≡ mode_digits e.mode ++ codes " " ++ (e.name ++ 0 ∷ (e.id ++ rest))
 text_then e rest =
     append_assoc (mode_digits e.mode ++ codes " " ++ e.name) (0 ∷ e.id) rest

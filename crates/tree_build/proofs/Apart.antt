@@ -114,7 +114,7 @@ apart-filter t [] h = tt
 apart-filter t (f ∷ fs) h =
     by_cases (t f) (λ yea. rw yea (all-filter (λ (g : Path × Entry). is_apart f.0 g.0 ≡ true) t fs h.0, apart-filter t fs h.1)) (λ nay. rw nay (apart-filter t fs h.1))
 
--- what is cut out of files that stand pairwise apart stands so, and behind any path too
+-- what is cut out of files that stand pairwise apart stands so, and after any path too
 cut_one-apart : (top to q : Path) (e : Entry) (o : Option Path) → behind top q ≡ o → (fs : Listed)
     → AllByRecursion (λ g. is_apart q (top ++ g.0) ≡ true) fs → ArePairwiseApart (moved to fs)
     → ArePairwiseApart (moved to (cut_one o e fs))

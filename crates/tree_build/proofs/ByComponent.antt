@@ -40,7 +40,7 @@ cut-cut top rest (f ∷ fs) =
 
 -- ---- all groups of one component
 
--- their files, one group's behind another's
+-- their files, one group's after another's
 abbrev gathered : List ℕ → Groups → Listed
 gathered c [] = []
 gathered c (g ∷ groups) = if bytes_eq c g.0 then g.1 ++ gathered c groups else gathered c groups

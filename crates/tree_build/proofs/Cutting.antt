@@ -57,7 +57,7 @@ in_turn (f ∷ fs) h s a =
     let parts = both_true (below_all path_cmp f.0 fs) (is_sorted path_cmp fs) s in
     (turns_over f fs h.0 h.1 parts.0 a.0, in_turn fs h.1 parts.1 a.1)
 
--- ---- behind a path
+-- ---- after a path
 
 cut_one-pairs : (R : File → File → Type 0) (top q : Path) (e : Entry) (o : Option Path)
     → behind top q ≡ o → (fs : Listed) → AllByRecursion (λ g. R (q, e) (top ++ g.0, g.1)) fs

@@ -25,7 +25,7 @@ use Rattle.tree_build.specs.Gathers.{has_none, Gathers}
 use Rattle.tree_build.proofs.Listing.{lists-append, lists-file, lists-directory}
 use Rattle.tree_build.proofs.Standing.{position_of, stands-before, summary-all, the_summary, tree-placed, tree-lists, tree-summary}
 
--- Files were put behind others: those of some direct entries, with a path put before each of theirs.
+-- Files were put after others: those of some direct entries, with a path put before each of theirs.
 pub record GathersSome (os : List Object) (top : Path) (es : List TreeEntry) (old new : Listed) : Type 0 where
   pub files : Listed
   pub lists : Lists os es files

@@ -39,7 +39,7 @@ joined_end (c ∷ top) [] = omega arith
 joined_end (c ∷ top) (d ∷ p) =
     let more = ap length (joined-append c top (d ∷ p)) ∙ length-append (joined (c ∷ top)) (tail (d ∷ p)) in omega arith
 
--- files whose paths are within the limits behind another path
+-- files whose paths are within the limits after another path
 shallow : (top : Path) (fs : Listed) → AllByRecursion (λ f. IsWithinLimits f.0) (moved top fs) → depth_of fs ≤ 256
 shallow top [] h = omega arith
 shallow top (f ∷ fs) h =
@@ -50,7 +50,7 @@ short top [] h = omega arith
 short top (f ∷ fs) h =
     let here = h.0.bytes in let rest = short top fs h.1 in let n = joined_end top f.0 in omega arith
 
--- a path with something behind it is not the root
+-- a path with something after it is not the root
 not_root : (top p : Path) → p ≢ [] → is_root (top ++ p) ≡ false
 not_root [] [] h = absurd (h refl)
 not_root [] (c ∷ p) h = refl

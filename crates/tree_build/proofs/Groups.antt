@@ -113,7 +113,7 @@ unfolding begun
 begun-some c [] groups h = absurd (true≢false h)
 begun-some c (f ∷ fs) groups h = refl
 
--- the first group, and what is behind it
+-- the first group, and what is after it
 first_group : (c : List ℕ) (fs : Listed) → next_name fs ≡ Some c
     → grouped fs ≡ (c, cut (c ∷ []) (take (run_of c fs) fs)) ∷ grouped (drop (run_of c fs) fs)
 first_group c fs h =

@@ -20,9 +20,9 @@ use Rattle.tree_build.specs.Trees.{tree_content}
 use Rattle.tree_build.specs.StoredTree.{HasTree, file_from, Lists, nothing, first_file, first_directory, ListsTree}
 use Rattle.tree_build.proofs.Apart.{all-map, all-weaker, is_apart-below}
 
--- ---- entries behind others
+-- ---- entries after others
 
--- what is listed of entries behind others stands behind what is listed of these
+-- what is listed of entries after others stands after what is listed of these
 pub lists-append : {os : List Object} {ds : List TreeEntry} {gs : Listed} → Lists os ds gs → {es : List TreeEntry} {fs : Listed} → Lists os es fs → Lists os (es ++ ds) (fs ++ gs)
 lists-append k nothing = k
 lists-append {os} {ds} {gs} k (first_file e es files ne l) = first_file e (es ++ ds) (files ++ gs) ne (lists-append k l)
@@ -105,7 +105,7 @@ apart-append [] ys h across k = k
 apart-append (x ∷ xs) ys h across k =
     (all-append (λ (g : Path × Entry). is_apart x.0 g.0 ≡ true) xs ys h.0 across.0, apart-append xs ys h.1 across.1 k)
 
--- files stand apart behind any path
+-- files stand apart after any path
 pub apart-moved : (top : Path) (fs : Listed) → ArePairwiseApart fs → ArePairwiseApart (moved top fs)
 apart-moved top [] h = tt
 apart-moved top (f ∷ fs) h = (

@@ -145,7 +145,7 @@ rises_over c q e (d, (f ∷ fs)) path nay a =
     let ne : c ≢ d = λ same. true≢false (sym ((bytes_eq-Decides c d).1 same) ∙ nay) in
     (key_rises c d q f.0 (component c q path) (component d f.0 a.path) ne a.before, ne)
 
--- and before those behind them
+-- and before those after them
 rises_behind : (c : Bytes) (q : Path) (e : Entry) (g h : Bytes × Listed) → Rises (c, (q, e) ∷ []) g
     → Rises g h → OfFirst (Ahead c q) h → Rises (c, (q, e) ∷ []) h
 rises_behind c q e g (d, []) r s a = absurd a

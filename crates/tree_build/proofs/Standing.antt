@@ -135,7 +135,7 @@ no_fault os id es h = ap content_fault h.content
 
 -- ---- in a table
 
--- The tree of a name, behind the trees of its directories.
+-- The tree of a name, after the trees of its directories.
 pub record IsPlaced (pool : Cells) (entries : Entries) (id : List ℕ) (es : List TreeEntry) (s : Summary) : Type 0 where
   pub summary : summary_of id entries ≡ Some s
   pub has : HasTree (objects pool entries) id es
@@ -186,7 +186,7 @@ module _ (digest : List ℕ → List ℕ) (pool : Cells) (entries : Entries) (st
           let t = of_entry e is (some_is (content pool e.slot) c k) e.summary refl in
           (t.0, ap (option_and_then (λ (x : Entry). x.summary)) is ∙ t.1)
 
-  -- a tree stands behind those of its directories
+  -- a tree stands after those of its directories
   pub tree-placed : (id : List ℕ) (es : List TreeEntry) → HasTree (objects pool entries) id es → (s : Summary) × IsPlaced pool entries id es s
   tree-placed id es h =
       let s = summary_at id (tree_content es) h.content refl in

@@ -98,7 +98,7 @@ module _ (digest : List ℕ → List ℕ) where
       fault-append a b (objects p u.entries) none ∙ ap (trees_fault digest b) (sym first.objects)
       ∙ more
 
-  -- no memory, behind some trees
+  -- no memory, after some trees
   pub stopped : (p q : Cells) (u v : View) (all done rest : List (List TreeEntry))
       → AddsTrees digest p u q v done → all ≡ done ++ rest
       → AddsSome digest p u q v all fault.Memory

@@ -128,7 +128,7 @@ module _ (digest : List ℕ → List ℕ) (deep : ℕ) where
         (split all last is ∙ ap (λ (t : List (List TreeEntry)). t ++ (trees_of digest deep (drop (i + 1) gs) ++ last)) (one_more digest deep gs i x lt at)
         ∙ append_assoc (trees_of digest deep (take i gs)) (group_trees digest deep (group_of x)) (trees_of digest deep (drop (i + 1) gs) ++ last))
 
-  -- the last tree, behind all others
+  -- the last tree, after all others
   pub stores-last : (answer : Result (List ℕ) Fault) (p q r : Cells) (u v w : View) (all a : List (List TreeEntry)) (es : List TreeEntry) (id : List ℕ)
       → AddsTrees digest p u q v a
       → trees_fault digest a (objects p u.entries) ≡ None → all ≡ a ++ es ∷ []

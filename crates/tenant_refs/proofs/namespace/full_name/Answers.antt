@@ -7,7 +7,7 @@ use Rattle.tenant_refs.specs.FullName.{namespace_of, full_name}
 use Rattle.tenant_refs.proofs.FullNames.{pushed, flat_map-more, full_name-one}
 use Rattle.tenant_refs.proofs.namespace.full_name.Goals as goal
 
--- one part's namespace goes behind those so far
+-- one part's namespace goes after those so far
 pub loop-part-preserved : goal.loop-part-preserved
 loop-part-preserved c =
     c.in_ok-push.ensures.items

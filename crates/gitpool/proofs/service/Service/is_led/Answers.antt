@@ -1,7 +1,0 @@
-use Rattle.std.proofs.Common.{subst}
-use Rattle.gitpool.specs.Holding.{Holdings}
-use Rattle.gitpool.specs.Tenants.{AreLed}
-use Rattle.gitpool.proofs.service.Service.is_led.Goals as goal
-
-pub returns : goal.returns
-returns g c = subst (λ (all : Holdings). AreLed g.N.Naming.digest_of all) c.self.view_is c.self.invariant.led

@@ -1,0 +1,327 @@
+-- The accounts of all tenants, through a call of one.
+use Rattle.std.proofs.Common.{◌≡◌, ℕ, ◌+◌, ◌<◌, ◌≤◌, ◌^◌, Bool, true, false, cond, List, [], ◌∷◌, ◌++◌, length, None, Some, refl, sym, ap, subst, ◌∙◌, arith, append-nil}
+use Rattle.std.specs.List.{AllByRecursion}
+use Rattle.std.specs.Map.{lookup, set_value}
+use Rattle.std.specs.Option.{option_map, unwrap_or}
+use Rattle.std.specs.Str.{bytes_eq}
+use Rattle.std.proofs.lemmas.List.{map-append}
+use Rattle.std.proofs.lemmas.List.Sums.{sum_by-append, sum_by-cons}
+use Rattle.std.proofs.lemmas.Slice.Eq.{bytes_eq-Decides}
+use Rattle.git_model.specs.RefStore.{RefStore}
+use Rattle.git_model.specs.Repository.{Object}
+use Rattle.content_pool.specs.Pool.{Cells, holds, IsVacant}
+use Rattle.tenant_refs.specs.TenantName.{is_tenant_name}
+use Rattle.tenant_tables.specs.View.{View, Entries, held}
+use Rattle.tenant_tables.specs.Objects.{objects}
+use Rattle.tenant_tables.specs.StandsIn.{LeavesOthers, AreCounted}
+use Rattle.tenant_tables.proofs.HoldLemmas.{held-nil}
+use Rattle.tenant_tables.proofs.TableLemmas.{LeavesOthers-refl, other_stands, other_objects}
+use Rattle.import_session.specs.Stream.{Runs, Refused}
+use Rattle.service_steps.specs.declared.answer.Answer.{Answer}
+use Rattle.tenant_service.specs.declared.tenant.Phase.{Phase}
+use Rattle.tenant_service.specs.declared.tenant.Phase.TheVariants as phase
+use Rattle.tenant_service.specs.declared.tenant.Tenant.{Tenant}
+use Rattle.tenant_service.specs.Alone.{Call, Turn, turn}
+use Rattle.tenant_stream.specs.Carrying.{HasAmpleRoom}
+use Rattle.tenant_service.specs.Headline.{stop_told}
+use Rattle.tenant_service.specs.Holding.{Holding, Idle, Busy, empty_repository, held_of, step_held}
+use Rattle.tenant_service.specs.Tenants.{Tenants, Stands, kept_tail, held_in, holding_in, holdings, all_held, Accounts}
+use Rattle.tenant_service.specs.OneStep.{Takes, store, Serves}
+
+-- ---- tenants that a call did not touch
+
+held_in-other : (ph : Phase) (p q : Cells) (t : View) (r : RefStore) → objects q t.entries ≡ objects p t.entries → held_in ph q t r ≡ held_in ph p t r
+held_in-other phase.Closed p q t r same = ap (λ (os : List Object). Idle (record { objects = os; refs = r })) same
+held_in-other (phase.Running stream) p q t r same =
+    ap (λ (os : List Object). Busy (Runs (record {
+      workspace = record { objects = os; committed = t.committed; refs = r; marks = stream.session.marks };
+      parsing = stream.session.parsing;
+      is_done = stream.session.is_done;
+    }) (kept_tail stream))) same
+held_in-other (phase.Dead code) p q t r same = ap (λ (os : List Object). Busy (Refused code (record { objects = os; refs = r }))) same
+
+-- all tenants of a list, beside one that is not in it
+counted_beside : (p : Cells) (e : List ℕ × Tenant) (es : Tenants) (old : Entries) → ((s : ℕ) → all_held (e ∷ es) s + held old s ≤ holds p s)
+    → AreCounted p old e.1.table.entries
+counted_beside p e es old bound =
+    record { sum = λ s. let b = bound s in let c = sum_by-cons (λ (x : List ℕ × Tenant). held x.1.table.entries s) e es in omega arith }
+
+bound_beside : (p : Cells) (e : List ℕ × Tenant) (es : Tenants) (old : Entries) → ((s : ℕ) → all_held (e ∷ es) s + held old s ≤ holds p s)
+    → (s : ℕ) → all_held es s + held old s ≤ holds p s
+bound_beside p e es old bound s = let b = bound s in let c = sum_by-cons (λ (x : List ℕ × Tenant). held x.1.table.entries s) e es in omega arith
+
+stands_beside : (digest : List ℕ → List ℕ) (p q : Cells) (old new : Entries) → LeavesOthers p old q new → (es : Tenants)
+    → ((s : ℕ) → all_held es s + held old s ≤ holds p s)
+    → AllByRecursion (λ e. Stands digest p e.1) es → AllByRecursion (λ e. Stands digest q e.1) es
+stands_beside digest p q old new leaves [] bound all = tt
+stands_beside digest p q old new leaves (e ∷ es) bound all = (
+  record {
+    entries = other_stands digest p q old new e.1.table.entries all.0.entries (counted_beside p e es old bound) leaves;
+    settled = all.0.settled;
+  },
+  stands_beside digest p q old new leaves es (bound_beside p e es old bound) all.1,
+)
+
+holdings_beside : (p q : Cells) (old new : Entries) → LeavesOthers p old q new → (es : Tenants)
+    → ((s : ℕ) → all_held es s + held old s ≤ holds p s) → holdings q es ≡ holdings p es
+holdings_beside p q old new leaves [] bound = refl
+holdings_beside p q old new leaves (e ∷ es) bound =
+    let first : holding_in q e.1 ≡ holding_in p e.1 =
+    held_in-other e.1.phase p q e.1.table e.1.refs (other_objects p q old new e.1.table.entries (counted_beside p e es old bound) leaves) in
+    let rest = holdings_beside p q old new leaves es (bound_beside p e es old bound) in
+    λ i. (e.0, first i) ∷ rest i
+
+-- ---- one tenant among others
+
+pub all_parts : {X : Type 0} (P : X → Type 0) (xs ys : List X) → AllByRecursion P (xs ++ ys) → AllByRecursion P xs × AllByRecursion P ys
+all_parts P [] ys h = (tt, h)
+all_parts P (x ∷ xs) ys h = let rest = all_parts P xs ys h.1 in ((h.0, rest.0), rest.1)
+
+pub all_whole : {X : Type 0} (P : X → Type 0) (xs ys : List X) → AllByRecursion P xs → AllByRecursion P ys → AllByRecursion P (xs ++ ys)
+all_whole P [] ys h k = k
+all_whole P (x ∷ xs) ys h k = (h.0, all_whole P xs ys h.1 k)
+
+pub held-among : (front back : Tenants) (name : List ℕ) (t : Tenant) (s : ℕ)
+    → all_held (front ++ (name, t) ∷ back) s ≡ all_held front s + (held t.table.entries s + all_held back s)
+held-among front back name t s =
+    sum_by-append (λ (x : List ℕ × Tenant). held x.1.table.entries s) front ((name, t) ∷ back)
+    ∙ ap (λ n. all_held front s + n) (sum_by-cons (λ (x : List ℕ × Tenant). held x.1.table.entries s) (name, t) back)
+
+-- one tenant changed, and the pool with it
+pub record Changed (digest : List ℕ → List ℕ) (p q : Cells) (front back : Tenants) (name : List ℕ) (new : Tenant) : Type 0 where
+  pub accounts : Accounts digest q (front ++ (name, new) ∷ back)
+  pub shown : holdings q (front ++ (name, new) ∷ back) ≡ holdings p front ++ (name, holding_in q new) ∷ holdings p back
+
+pub changed : (digest : List ℕ → List ℕ) (p q : Cells) (front back : Tenants) (name : List ℕ) (old new : Tenant)
+    → Accounts digest p (front ++ (name, old) ∷ back) → Stands digest q new → LeavesOthers p old.table.entries q new.table.entries
+    → Changed digest p q front back name new
+changed digest p q front back name old new h stands leaves = record {
+  accounts = record {
+    names =
+        let n = all_parts _ front ((name, old) ∷ back) h.names in
+        all_whole _ front ((name, new) ∷ back) n.0 (n.1.0, n.1.1);
+    stands =
+        all_whole _ front ((name, new) ∷ back) (stands_beside digest p q _ _ leaves front in_front parts.0)
+        (stands, stands_beside digest p q _ _ leaves back in_back parts.1.1);
+    counts = λ s.
+        let a = held-among front back name old s in
+        let b = held-among front back name new s in
+        let c = h.counts s in
+        let r = leaves.rest s in
+        omega arith;
+  };
+  shown =
+      map-append (λ (e : List ℕ × Tenant). (e.0, holding_in q e.1)) front ((name, new) ∷ back)
+      ∙ (λ i. holdings_beside p q _ _ leaves front in_front i ++ (name, holding_in q new) ∷ holdings_beside p q _ _ leaves back in_back i);
+}
+  where
+    in_front : (s : ℕ) → all_held front s + held old.table.entries s ≤ holds p s
+    in_front s = let a = held-among front back name old s in let c = h.counts s in omega arith
+
+    in_back : (s : ℕ) → all_held back s + held old.table.entries s ≤ holds p s
+    in_back s = let a = held-among front back name old s in let c = h.counts s in omega arith
+
+    parts : AllByRecursion (λ e. Stands digest p e.1) front × AllByRecursion (λ e. Stands digest p e.1) ((name, old) ∷ back)
+    parts = all_parts _ front ((name, old) ∷ back) h.stands
+
+-- ---- look-ups
+
+pub lookup-holdings : (p : Cells) (name : List ℕ) (es : Tenants) → lookup (bytes_eq name) (holdings p es) ≡ option_map (holding_in p) (lookup (bytes_eq name) es)
+lookup-holdings p name [] = refl
+lookup-holdings p name (e ∷ es) = by (bytes_eq name e.0) (lookup-holdings p name es)
+  where
+    by : (b : Bool) → lookup (bytes_eq name) (holdings p es) ≡ option_map (holding_in p) (lookup (bytes_eq name) es)
+        → cond b (Some (holding_in p e.1)) (lookup (bytes_eq name) (holdings p es)) ≡ option_map (holding_in p) (cond b (Some e.1) (lookup (bytes_eq name) es))
+    by true h = refl
+    by false h = h
+
+-- another name's look-up passes an entry by
+lookup-past : {X : Type 0} (other name : List ℕ) (xs ys : List (List ℕ × X)) (x : X) → bytes_eq other name ≡ false
+    → lookup (bytes_eq other) (xs ++ (name, x) ∷ ys) ≡ lookup (bytes_eq other) (xs ++ ys)
+lookup-past other name [] ys x apart = ap (λ (b : Bool). cond b (Some x) (lookup (bytes_eq other) ys)) apart
+lookup-past other name (e ∷ xs) ys x apart = ap (λ o. cond (bytes_eq other e.0) (Some e.1) o) (lookup-past other name xs ys x apart)
+
+lookup-found : {X : Type 0} (name : List ℕ) (xs ys : List (List ℕ × X)) (x : X) → lookup (bytes_eq name) xs ≡ None
+    → lookup (bytes_eq name) (xs ++ (name, x) ∷ ys) ≡ Some x
+lookup-found name [] ys x none = ap (λ (b : Bool). cond b (Some x) (lookup (bytes_eq name) ys)) ((bytes_eq-Decides name name).1 refl)
+lookup-found name (e ∷ xs) ys x none = by (bytes_eq name e.0) none (lookup-found name xs ys x)
+  where
+    by : (b : Bool) → cond b (Some e.1) (lookup (bytes_eq name) xs) ≡ None
+        → (lookup (bytes_eq name) xs ≡ None → lookup (bytes_eq name) (xs ++ (name, x) ∷ ys) ≡ Some x)
+        → cond b (Some e.1) (lookup (bytes_eq name) (xs ++ (name, x) ∷ ys)) ≡ Some x
+    by true e later = cc e
+    by false e later = later e
+
+-- where a name's entry stands
+pub record Found (name : List ℕ) (es : Tenants) (old new : Tenant) : Type 0 where
+  pub front : Tenants
+  pub back : Tenants
+  pub apart : lookup (bytes_eq name) front ≡ None
+  pub is : es ≡ front ++ (name, old) ∷ back
+  pub set : set_value (bytes_eq name) es new ≡ front ++ (name, new) ∷ back
+
+pub found : (name : List ℕ) (es : Tenants) (old new : Tenant) → lookup (bytes_eq name) es ≡ Some old → Found name es old new
+found name [] old new h = cc h
+found name (e ∷ es) old new h = by (bytes_eq name e.0) refl h (found name es old new)
+  where
+    by : (b : Bool) → bytes_eq name e.0 ≡ b → cond b (Some e.1) (lookup (bytes_eq name) es) ≡ Some old
+        → (lookup (bytes_eq name) es ≡ Some old → Found name es old new) → Found name (e ∷ es) old new
+    by true here got later =
+        let same : name ≡ e.0 = (bytes_eq-Decides name e.0).0 here in
+        let value : e.1 ≡ old = cc got in
+        record {
+          front = [];
+          back = es;
+          apart = refl;
+          is = λ i. (sym same i, value i) ∷ es;
+          set =
+              ap (λ (b : Bool). cond b ((e.0, new) ∷ es) (e ∷ set_value (bytes_eq name) es new)) here
+              ∙ ap (λ (k : List ℕ). (k, new) ∷ es) (sym same);
+        }
+    by false past got later =
+        let f = later got in
+        record {
+          front = e ∷ f.front;
+          back = f.back;
+          apart = ap (λ (b : Bool). cond b (Some e.1) (lookup (bytes_eq name) f.front)) past ∙ f.apart;
+          is = ap (λ (xs : Tenants). e ∷ xs) f.is;
+          set =
+              ap (λ (b : Bool). cond b ((e.0, new) ∷ es) (e ∷ set_value (bytes_eq name) es new)) past
+              ∙ ap (λ (xs : Tenants). e ∷ xs) f.set;
+        }
+
+-- ---- a call of a tenant that is there
+
+pub stands-found : (digest : List ℕ → List ℕ) (p : Cells) (name : List ℕ) (es : Tenants) (old : Tenant) → Accounts digest p es
+    → lookup (bytes_eq name) es ≡ Some old → Stands digest p old
+stands-found digest p name es old h got =
+    let f = found name es old old got in
+    let all = subst (λ (xs : Tenants). AllByRecursion (λ e. Stands digest p e.1) xs) f.is h.stands in
+    (all_parts _ f.front ((name, old) ∷ f.back) all).1.0
+
+pub serves-found : (digest : List ℕ → List ℕ) (name : List ℕ) (call : Call) (p q : Cells) (es : Tenants) (old new : Tenant) (answer : Answer) (out out' : List ℕ)
+    → Accounts digest p es → lookup (bytes_eq name) es ≡ Some old → Stands digest q new
+    → LeavesOthers p old.table.entries q new.table.entries
+    → Takes (step_held digest call (stop_told answer) (holding_in p old)) answer out out' (holding_in q new)
+    → Serves digest name call (store p es) answer out out' (store q (set_value (bytes_eq name) es new))
+serves-found digest name call p q es old new answer out out' h got stands leaves takes =
+    let f = found name es old new got in
+    let accounts = subst (λ (xs : Tenants). Accounts digest p xs) f.is h in
+    let c = changed digest p q f.front f.back name old new accounts stands leaves in
+    let before : held_of name (holdings p es) ≡ holding_in p old =
+    ap (λ o. unwrap_or o (Idle empty_repository)) (lookup-holdings p name es ∙ ap (option_map (holding_in p)) got) in
+    let front_apart : lookup (bytes_eq name) (holdings p f.front) ≡ None = lookup-holdings p name f.front ∙ ap (option_map (holding_in p)) f.apart in
+    let after : held_of name (holdings q (set_value (bytes_eq name) es new)) ≡ holding_in q new =
+    ap (λ o. unwrap_or o (Idle empty_repository))
+    (ap (λ (xs : Tenants). lookup (bytes_eq name) (holdings q xs)) f.set ∙ ap (lookup (bytes_eq name)) c.shown
+    ∙ lookup-found name (holdings p f.front) (holdings p f.back) (holding_in q new) front_apart) in
+    record {
+      accounts = subst (λ (xs : Tenants). Accounts digest q xs) (sym f.set) c.accounts;
+      own =
+          subst (λ (x : Holding). Takes (step_held digest call (stop_told answer) x) answer out out' (held_of name (holdings q (set_value (bytes_eq name) es new)))) (sym before)
+          (subst (λ (x : Holding). Takes (step_held digest call (stop_told answer) (holding_in p old)) answer out out' x) (sym after) takes);
+      others = λ other apart.
+          ap (λ o. unwrap_or o (Idle empty_repository))
+          (ap (λ (xs : Tenants). lookup (bytes_eq other) (holdings q xs)) f.set ∙ ap (lookup (bytes_eq other)) c.shown
+          ∙ lookup-past other name (holdings p f.front) (holdings p f.back) (holding_in q new) apart
+          ∙ sym (lookup-past other name (holdings p f.front) (holdings p f.back) (holding_in p old) apart)
+          ∙ ap (lookup (bytes_eq other)) (sym (map-append (λ (e : List ℕ × Tenant). (e.0, holding_in p e.1)) f.front ((name, old) ∷ f.back)))
+          ∙ ap (λ (xs : Tenants). lookup (bytes_eq other) (holdings p xs)) (sym f.is));
+    }
+
+-- ---- room
+
+once-all : (digest : List ℕ → List ℕ) (p : Cells) (es : Tenants) → AllByRecursion (λ e. Stands digest p e.1) es → (s : ℕ) → all_held es s ≤ length es
+once-all digest p [] all s = omega arith
+once-all digest p (e ∷ es) all s =
+    let o = all.0.entries.once s in
+    let rest = once-all digest p es all.1 s in
+    let c = sum_by-cons (λ (x : List ℕ × Tenant). held x.1.table.entries s) e es in
+    omega arith
+
+pub ample : (digest : List ℕ → List ℕ) (p : Cells) (es : Tenants) → Accounts digest p es → length es < 2 ^ 63 → HasAmpleRoom p
+ample digest p es h few s = let o = once-all digest p es h.stands s in let c = h.counts s in omega arith
+
+-- ---- a tenant that was never seen
+
+pub held-missing : (p : Cells) (name : List ℕ) (es : Tenants) → lookup (bytes_eq name) es ≡ None → held_of name (holdings p es) ≡ Idle empty_repository
+held-missing p name es none =
+    ap (λ o. unwrap_or o (Idle empty_repository)) (lookup-holdings p name es ∙ ap (option_map (holding_in p)) none)
+
+-- a call that leaves all as it was
+pub serves-missing : (digest : List ℕ → List ℕ) (name : List ℕ) (call : Call) (p : Cells) (es new : Tenants) (answer : Answer) (out : List ℕ)
+    → Accounts digest p es → lookup (bytes_eq name) es ≡ None → new ≡ es
+    → step_held digest call (stop_told answer) (Idle empty_repository) ≡ turn answer [] (Idle empty_repository)
+    → Serves digest name call (store p es) answer out out (store p new)
+serves-missing digest name call p es new answer out h none same is =
+    subst (λ (xs : Tenants). Serves digest name call (store p es) answer out out (store p xs)) (sym same)
+    (record {
+      accounts = h;
+      own =
+          subst (λ (x : Holding). Takes (step_held digest call (stop_told answer) x) answer out out x) (sym (held-missing p name es none))
+          (record {
+            answered = ap (λ (t : Turn Holding). t.answer) is;
+            printed = sym (append-nil out) ∙ ap (λ (t : Turn Holding). out ++ t.reply) (sym is);
+            leaves = ap (λ (t : Turn Holding). t.state) is;
+          });
+      others = λ other apart. refl;
+    })
+
+-- one that adds it
+pub serves-new : (digest : List ℕ → List ℕ) (name : List ℕ) (call : Call) (p : Cells) (es new : Tenants) (t : Tenant) (answer : Answer) (out out' : List ℕ)
+    → Accounts digest p es → is_tenant_name name ≡ true → lookup (bytes_eq name) es ≡ None → new ≡ es ++ (name, t) ∷ []
+    → t.table.entries ≡ [] → Stands digest p t
+    → Takes (step_held digest call (stop_told answer) (Idle empty_repository)) answer out out' (holding_in p t)
+    → Serves digest name call (store p es) answer out out' (store p new)
+serves-new digest name call p es new t answer out out' h named none same empty stands takes =
+    subst (λ (xs : Tenants). Serves digest name call (store p es) answer out out' (store p xs)) (sym same)
+    (record {
+      accounts = record {
+        names = all_whole _ es ((name, t) ∷ []) h.names (named, tt);
+        stands = all_whole _ es ((name, t) ∷ []) h.stands (stands, tt);
+        counts = λ s.
+            let a = held-among es [] name t s in
+            let z : held t.table.entries s ≡ 0 = ap (λ (entries : Entries). held entries s) empty ∙ held-nil s in
+            let c = h.counts s in
+            omega arith;
+      };
+      own =
+          subst (λ (x : Holding). Takes (step_held digest call (stop_told answer) x) answer out out' (held_of name (holdings p (es ++ (name, t) ∷ []))))
+          (sym (held-missing p name es none))
+          (subst (λ (x : Holding). Takes (step_held digest call (stop_told answer) (Idle empty_repository)) answer out out' x) (sym after) takes);
+      others = λ other apart.
+          ap (λ o. unwrap_or o (Idle empty_repository))
+          (ap (lookup (bytes_eq other)) (map-append (λ (e : List ℕ × Tenant). (e.0, holding_in p e.1)) es ((name, t) ∷ []))
+          ∙ lookup-past other name (holdings p es) [] (holding_in p t) apart
+          ∙ ap (lookup (bytes_eq other)) (append-nil (holdings p es)));
+    })
+  where
+    after : held_of name (holdings p (es ++ (name, t) ∷ [])) ≡ holding_in p t
+    after =
+        ap (λ o. unwrap_or o (Idle empty_repository))
+        (ap (lookup (bytes_eq name)) (map-append (λ (e : List ℕ × Tenant). (e.0, holding_in p e.1)) es ((name, t) ∷ []))
+        ∙ lookup-found name (holdings p es) [] (holding_in p t) (lookup-holdings p name es ∙ ap (option_map (holding_in p)) none))
+
+-- nothing at all
+pub Accounts-nil : (digest : List ℕ → List ℕ) (p : Cells) → IsVacant p → Accounts digest p []
+Accounts-nil digest p vacant = record { names = tt; stands = tt; counts = vacant }
+
+-- a table that stays leaves all others
+pub leaves-same : (p : Cells) (old new : View) → new ≡ old → LeavesOthers p old.entries p new.entries
+leaves-same p old new same = subst (λ (t : View). LeavesOthers p old.entries p t.entries) (sym same) (LeavesOthers-refl p old.entries)
+
+-- a bad name has no tenant
+pub bad-missing : (name : List ℕ) (es : Tenants) → AllByRecursion (λ e. is_tenant_name e.0 ≡ true) es → is_tenant_name name ≡ false
+    → lookup (bytes_eq name) es ≡ None
+bad-missing name [] named bad = refl
+bad-missing name (e ∷ es) named bad = by (bytes_eq name e.0) refl (bad-missing name es named.1 bad)
+  where
+    by : (b : Bool) → bytes_eq name e.0 ≡ b → lookup (bytes_eq name) es ≡ None → cond b (Some e.1) (lookup (bytes_eq name) es) ≡ None
+    by true here rest =
+        let both : false ≡ true = sym bad ∙ ap is_tenant_name ((bytes_eq-Decides name e.0).0 here) ∙ named.0 in cc both
+    by false past rest = rest
+
+-- the tenant of a name
+pub held-found : (p : Cells) (name : List ℕ) (es : Tenants) (t : Tenant) → lookup (bytes_eq name) es ≡ Some t → held_of name (holdings p es) ≡ holding_in p t
+held-found p name es t got =
+    ap (λ o. unwrap_or o (Idle empty_repository)) (lookup-holdings p name es ∙ ap (option_map (holding_in p)) got)

@@ -1,0 +1,7 @@
+mod StreamLemmas
+mod TenantLemmas
+mod OwnLemmas
+pub mod AccountLemmas
+pub mod RunLemmas
+mod RestartLemmas
+mod StoredLemmas

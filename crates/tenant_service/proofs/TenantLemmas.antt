@@ -1,0 +1,197 @@
+-- One tenant: what is held of it after each call.
+use Rattle.std.proofs.Common.{◌≡◌, ℕ, Bool, true, false, cond, List, [], ◌++◌, length, take, Option, None, Some, Result, Ok, Err, refl, sym, ap, subst, ◌∙◌, arith, append-nil}
+use Rattle.std.proofs.lemmas.List.{take_all}
+use Rattle.git_model.specs.RefStore.{RefStore, no_refs}
+use Rattle.git_model.specs.Repository.{Repository, Object}
+use Rattle.content_pool.specs.Pool.{Cells}
+use Rattle.tenant_tables.specs.View.{View}
+use Rattle.tenant_tables.specs.Objects.{objects}
+use Rattle.tenant_tables.proofs.TableLemmas.{length-objects}
+use Rattle.stream_lex.specs.Items.{Tail, Rest}
+use Rattle.stream_lex.specs.Running.{more_of, extended}
+use Rattle.stream_grammar.specs.Commands.{top}
+use Rattle.import_session.specs.Session.{repository_in}
+use Rattle.import_session.specs.Stream.{Running, Runs, Refused, Outcome, End, finished, running_end, last_checkpoint, ended_well as import_ended}
+use Rattle.service_steps.specs.declared.answer.Answer.TheVariants as answer
+use Rattle.tenant_stream.specs.declared.stop.Stop.{Stop}
+use Rattle.tenant_stream.specs.declared.stop.Stop.TheVariants as stop
+use Rattle.tenant_service.specs.declared.tenant.Phase.{Phase}
+use Rattle.tenant_service.specs.declared.tenant.Phase.TheVariants as phase
+use Rattle.tenant_service.specs.Alone.{Open, End as EndCall, Turn, Stopped, ended, ended_well, end_answer, closed}
+use Rattle.tenant_stream.specs.Carrying.{outcome_behind, Between, new_stream, stream_in, Carries, Feeds, Stays, EndsAs}
+use Rattle.tenant_service.specs.Holding.{Idle, Busy, empty_repository, last_held, step_held, fed_held, held_until, gone_on, standing_answer, end_held}
+use Rattle.tenant_service.specs.Tenants.{held_in, standing_in, kept_tail, IsSettled}
+use Rattle.tenant_service.specs.OneStep.{Takes, GoesTo, StopsBehind, Fed}
+use Rattle.tenant_stream.proofs.StreamLemmas.{carried-done}
+use Rattle.tenant_service.proofs.StreamLemmas.{GoesTo-goes, GoesTo-fails, StopsBehind-stops}
+
+-- the committed objects are all, where no stream runs
+pub all_committed : (pool : Cells) (table : View) → table.committed ≡ length table.entries
+    → take table.committed (objects pool table.entries) ≡ objects pool table.entries
+all_committed pool table settled =
+    take_all table.committed (objects pool table.entries) (let n = length-objects pool table.entries in omega arith)
+
+-- what is left where the table was rolled back
+pub given_up : (ph : Phase) (before after : Cells) (old new : View) (refs : RefStore) → IsSettled ph old
+    → objects after new.entries ≡ take old.committed (objects before old.entries)
+    → repository_in after new refs ≡ last_held (held_in ph before old refs)
+given_up phase.Closed before after old new refs settled left =
+    ap (λ (os : List Object). record { objects = os; refs = refs }) (left ∙ all_committed before old settled)
+given_up (phase.Running stream) before after old new refs settled left =
+    ap (λ (os : List Object). record { objects = os; refs = refs }) left
+given_up (phase.Dead code) before after old new refs settled left =
+    ap (λ (os : List Object). record { objects = os; refs = refs }) (left ∙ all_committed before old settled)
+
+-- a tenant with nothing
+pub held_nothing : (pool : Cells) (table : View) (refs : RefStore) → table.entries ≡ [] → refs ≡ no_refs
+    → Idle (repository_in pool table refs) ≡ Idle empty_repository
+unfolding objects
+held_nothing pool table refs empty unset = rw (empty, unset) refl
+
+-- a stream that was opened
+pub took-opened : (digest : List ℕ → List ℕ) (ph : Phase) (pool : Cells) (table : View) (refs : RefStore) (stream : Between)
+    → ph ≡ phase.Closed → IsSettled ph table → stream ≡ new_stream
+    → Takes (step_held digest Open None (held_in ph pool table refs)) answer.Ok [] [] (Busy (standing_in stream pool table refs))
+unfolding kept_tail
+took-opened digest phase.Closed pool table refs stream closed settled new = record {
+  answered = refl;
+  printed = refl;
+  leaves =
+      rw new
+      (ap (λ (n : ℕ). Busy (Runs (record {
+        workspace = record { objects = objects pool table.entries; committed = n; refs = refs; marks = [] };
+        parsing = Ok top;
+        is_done = false;
+      }) (Rest false []))) (length-objects pool table.entries ∙ sym settled));
+}
+took-opened digest (phase.Running s) pool table refs stream closed settled new = cc closed
+took-opened digest (phase.Dead code) pool table refs stream closed settled new = cc closed
+
+-- what the stream does with a piece
+kept-running : (s : Between) → s.session.is_done ≡ false → kept_tail s ≡ s.tail
+unfolding kept_tail
+kept-running s running = ap (λ (b : Bool). cond b (Rest false []) s.tail) running
+
+kept-done : (s : Between) → s.session.is_done ≡ true → kept_tail s ≡ Rest false []
+unfolding kept_tail
+kept-done s done = ap (λ (b : Bool). cond b (Rest false []) s.tail) done
+
+kept-is : (s : Between) → kept_tail s ≡ cond s.session.is_done (Rest false []) s.tail
+unfolding kept_tail
+kept-is s = refl
+
+pub fed-feeds : (digest : List ℕ → List ℕ) (s s' : Between) (p p' : Cells) (t t' : View) (r r' : RefStore) (piece out out' : List ℕ)
+    (result : Result Unit Stop)
+    → Feeds digest s.session.is_done (stream_in s p t r) s.tail piece out result (stream_in s' p' t' r') s'.tail out'
+    → Fed digest (stream_in s p t r) (kept_tail s) piece out result out' (stream_in s' p' t' r') (kept_tail s')
+fed-feeds digest s s' p p' t t' r r' piece out out' result h = by s.session.is_done refl h
+  where
+    now : Running
+    now = stream_in s p t r
+
+    next : Running
+    next = stream_in s' p' t' r'
+
+    stays : s.session.is_done ≡ true → Stays now s.tail out result next s'.tail out'
+        → Fed digest now (kept_tail s) piece out result out' next (kept_tail s')
+    stays done h =
+        let done' : s'.session.is_done ≡ true = ap (λ (w : Running). w.is_done) h.running ∙ done in
+        subst (λ (e : Result Unit Stop). Fed digest now (kept_tail s) piece out e out' next (kept_tail s')) (sym h.answer)
+        (record {
+          replies = [];
+          outcome = carried-done digest now (more_of (kept_tail s) piece).items (more_of (kept_tail s) piece).tail done
+              ∙ ap (λ (w : Running). record { replies = []; standing = Runs w (Rest false []) }) (sym h.running)
+              ∙ ap (λ (k : Tail). record { replies = []; standing = Runs next k }) (sym (kept-done s' done'));
+          printed = h.printed ∙ sym (append-nil out);
+        })
+
+    carries : (result : Result Unit Stop) → s.session.is_done ≡ false → Carries digest now (extended s.tail piece) out result next s'.tail out'
+        → Fed digest now s.tail piece out result out' next (kept_tail s')
+    carries (Ok u) running h =
+        subst (λ (k : Tail). GoesTo digest now s.tail piece out out' (Runs next k)) (sym (kept-is s'))
+        (GoesTo-goes digest now next s.tail s'.tail piece out out' h)
+    carries (Err (stop.Fault code)) running h = GoesTo-fails digest now next s.tail piece out out' code h
+    carries (Err (stop.Memory count)) running h = StopsBehind-stops digest now next s.tail piece out out' count h
+
+    by : (b : Bool) → s.session.is_done ≡ b → Feeds digest b now s.tail piece out result next s'.tail out'
+        → Fed digest now (kept_tail s) piece out result out' next (kept_tail s')
+    by true done h = stays done h
+    by false running h =
+        subst (λ (k : Tail). Fed digest now k piece out result out' next (kept_tail s')) (sym (kept-running s running))
+        (carries result running h)
+
+-- a piece that was taken
+pub took-goes : (digest : List ℕ → List ℕ) (now next : Running) (tail kept : Tail) (piece out out' : List ℕ)
+    → GoesTo digest now tail piece out out' (Runs next kept)
+    → Takes (fed_held digest piece None now tail) answer.Ok out out' (Busy (Runs next kept))
+took-goes digest now next tail kept piece out out' h = record {
+  answered = ap (λ (o : Outcome). standing_answer o.standing) h.outcome;
+  printed = h.printed ∙ ap (λ (o : Outcome). out ++ o.replies) (sym h.outcome);
+  leaves = ap (λ (o : Outcome). Busy o.standing) h.outcome;
+}
+
+-- one that was refused
+pub took-refused : (digest : List ℕ → List ℕ) (now : Running) (tail : Tail) (piece out out' : List ℕ) (code : ℕ) (r left : Repository)
+    → GoesTo digest now tail piece out out' (Refused code r) → left ≡ r
+    → Takes (fed_held digest piece None now tail) (answer.Fault code) out out' (Busy (Refused code left))
+took-refused digest now tail piece out out' code r left h same = record {
+  answered = ap (λ (o : Outcome). standing_answer o.standing) h.outcome;
+  printed = h.printed ∙ ap (λ (o : Outcome). out ++ o.replies) (sym h.outcome);
+  leaves = ap (λ (o : Outcome). Busy o.standing) h.outcome ∙ ap (λ (x : Repository). Busy (Refused code x)) (sym same);
+}
+
+-- and one behind some items of which memory ran out
+pub took-stopped : (digest : List ℕ → List ℕ) (now last : Running) (tail : Tail) (piece out out' : List ℕ) (count : ℕ) (left : Repository)
+    → StopsBehind digest now tail piece count out out' last → left ≡ last_checkpoint last.workspace
+    → Takes (fed_held digest piece (Some count) now tail) (answer.Memory count) out out' (Busy (Refused 90 left))
+took-stopped digest now last tail piece out out' count left h same =
+    subst (λ (o : Option Stopped). Takes (held_until count o (gone_on (outcome_behind digest now tail piece))) (answer.Memory count) out out' (Busy (Refused 90 left)))
+    (sym h.stop)
+    (record { answered = refl; printed = h.printed; leaves = ap (λ (x : Repository). Busy (Refused 90 x)) (sym same) })
+
+-- a stream that ended
+ended-none : (now : Running) (tail : Tail) → ended None (Runs now tail) ≡ ended_well (Runs now tail)
+ended-none now tail = by now.is_done
+  where
+    by : (b : Bool) → cond b (ended_well (Runs now tail)) (ended_well (Runs now tail)) ≡ ended_well (Runs now tail)
+    by true = refl
+    by false = refl
+
+finished-kept : (s : Between) (p : Cells) (t : View) (r : RefStore)
+    → finished (Runs (stream_in s p t r) (kept_tail s)) ≡ finished (Runs (stream_in s p t r) s.tail)
+finished-kept s p t r = by s.session.is_done refl
+  where
+    by : (b : Bool) → s.session.is_done ≡ b
+        → cond b (import_ended (stream_in s p t r).workspace) (running_end (stream_in s p t r) (kept_tail s))
+        ≡ cond b (import_ended (stream_in s p t r).workspace) (running_end (stream_in s p t r) s.tail)
+    by true done = refl
+    by false running = ap (λ (k : Tail). running_end (stream_in s p t r) k) (kept-running s running)
+
+took-ended : (s : Between) (p : Cells) (t : View) (r : RefStore) (end : End)
+    → finished (Runs (stream_in s p t r) s.tail) ≡ end
+    → Takes (end_held None (Busy (standing_in s p t r))) (end_answer end.fault) [] [] (Idle end.repository)
+took-ended s p t r end h =
+    subst (λ (x : Turn Repository). Takes (closed Idle x) (end_answer end.fault) [] [] (Idle end.repository))
+    (sym (ended-none (stream_in s p t r) (kept_tail s)))
+    (let e : finished (Runs (stream_in s p t r) (kept_tail s)) ≡ end = finished-kept s p t r ∙ h in record {
+      answered = ap (λ (x : End). end_answer x.fault) e;
+      printed = refl;
+      leaves = ap (λ (x : End). Idle x.repository) e;
+    })
+
+pub took-ended_well : (digest : List ℕ → List ℕ) (ph new : Phase) (s : Between) (p q : Cells) (t u : View) (r v : RefStore) → ph ≡ phase.Running s
+    → new ≡ phase.Closed → EndsAs (finished (Runs (stream_in s p t r) s.tail)) (Ok tt) (repository_in q u v)
+    → Takes (step_held digest EndCall None (held_in ph p t r)) answer.Ok [] [] (held_in new q u v)
+took-ended_well digest ph new s p q t u r v is after h =
+    subst (λ (y : Phase). Takes (step_held digest EndCall None (held_in ph p t r)) answer.Ok [] [] (held_in y q u v)) (sym after)
+    (subst (λ (x : Phase). Takes (step_held digest EndCall None (held_in x p t r)) answer.Ok [] [] (Idle (repository_in q u v))) (sym is)
+    (took-ended s p t r (record { fault = None; repository = repository_in q u v }) h))
+
+pub took-ended_badly : (digest : List ℕ → List ℕ) (ph new : Phase) (s : Between) (p q : Cells) (t u : View) (r v : RefStore) (code : ℕ)
+    → ph ≡ phase.Running s → new ≡ phase.Closed
+    → EndsAs (finished (Runs (stream_in s p t r) s.tail)) (Err (stop.Fault code)) (repository_in q u v)
+    → Takes (step_held digest EndCall None (held_in ph p t r)) (answer.Fault code) [] [] (held_in new q u v)
+took-ended_badly digest ph new s p q t u r v code is after h =
+    subst (λ (y : Phase). Takes (step_held digest EndCall None (held_in ph p t r)) (answer.Fault code) [] [] (held_in y q u v)) (sym after)
+    (subst (λ (x : Phase). Takes (step_held digest EndCall None (held_in x p t r)) (answer.Fault code) [] [] (Idle (repository_in q u v))) (sym is)
+    (took-ended s p t r (record { fault = Some code; repository = repository_in q u v }) h))

@@ -1,0 +1,25 @@
+use Rattle.std.proofs.Common.{◌∷◌, [], subst}
+use Rattle.tenant_service.specs.Headline.{IsItsOwn, told_in}
+use Rattle.tenant_service.specs.Holding.{Holdings, held_of}
+use Rattle.tenant_service.specs.Tenants.{holdings}
+use Rattle.tenant_service.proofs.RunLemmas.{own-step, stepped, led-on}
+use Rattle.tenant_service.proofs.service.Service.step.Goals as goal
+
+pub returns-clause-own : goal.returns-clause-own
+returns-clause-own g c = λ tenant.
+    subst (λ (before : Holdings). IsItsOwn g.N.Naming.digest_of tenant (held_of tenant before)
+    ((c.args.step, told_in c.take_step.result c.args.out.now.items c.take_step.new.out.items) ∷ [])
+    (held_of tenant (holdings c.take_step.new.pool c.take_step.new.tenants.entries)))
+    c.self.view_is
+    (own-step g.N.Naming.digest_of c.args.step c.self.inside.pool c.take_step.new.pool c.self.inside.tenants.entries c.take_step.new.tenants.entries
+    c.take_step.result c.args.out.now.items c.take_step.new.out.items c.take_step.ensures tenant)
+
+pub invariant_of-self : goal.invariant_of-self
+invariant_of-self g c = record {
+  accounts = stepped g.N.Naming.digest_of c.args.step c.self.inside.pool c.self.inside.tenants.entries c.take_step.result c.args.out.now.items
+      c.take_step.new.out.items c.take_step.new.pool c.take_step.new.tenants.entries c.take_step.ensures;
+  led = led-on g.N.Naming.digest_of (holdings c.self.inside.pool c.self.inside.tenants.entries)
+      (holdings c.take_step.new.pool c.take_step.new.tenants.entries) _
+      (λ tenant. own-step g.N.Naming.digest_of c.args.step c.self.inside.pool c.take_step.new.pool c.self.inside.tenants.entries c.take_step.new.tenants.entries
+      c.take_step.result c.args.out.now.items c.take_step.new.out.items c.take_step.ensures tenant) c.self.invariant.led;
+}

@@ -1,0 +1,7 @@
+-- In reading order: a repository of its own, runs of many tenants, and what the service holds; then
+-- where a tenant's parts lie, and what one step does to them.
+pub mod Alone
+pub mod Headline
+pub mod Holding
+pub mod Tenants
+pub mod OneStep

@@ -1,0 +1,126 @@
+-- What a step does to the tenants and the pool: what the proofs of the service's calls say to one
+-- another. No public clause cites it.
+use Rattle.std.specs.Prelude.{◌≡◌, ℕ, zero, suc, Bool, true, false, List, [], ◌∷◌, ◌++◌, map, Some, Result, Ok, Err}
+use Rattle.std.specs.Str.{bytes_eq}
+use Rattle.content_pool.specs.Pool.{Cells}
+use Rattle.tenant_refs.specs.TenantName.{is_tenant_name}
+use Rattle.stream_lex.specs.Items.{Tail}
+use Rattle.stream_lex.specs.Running.{more_of}
+use Rattle.import_session.specs.Stream.{Running, Standing, Runs, Refused, last_checkpoint}
+use Rattle.service_steps.specs.declared.answer.Answer.{Answer}
+use Rattle.service_steps.specs.declared.answer.Answer.TheVariants as answers
+use Rattle.service_steps.specs.declared.step.Step.{Step}
+use Rattle.service_steps.specs.declared.step.Step.TheVariants as step
+use Rattle.tenant_stream.specs.declared.stop.Stop.{Stop}
+use Rattle.tenant_stream.specs.declared.stop.Stop.TheVariants as stop
+use Rattle.tenant_stream.specs.Carrying.{outcome_behind}
+use Rattle.tenant_service.specs.Alone.{Call, Turn, stop_behind}
+use Rattle.tenant_service.specs.Headline.{call_of, stop_told}
+use Rattle.tenant_service.specs.Holding.{Holding, Idle, Holdings, held_of, last_held, step_held}
+use Rattle.tenant_service.specs.Tenants.{Tenants, Accounts, holdings}
+
+-- A call was answered and printed as a turn says, and left what it says.
+pub record Takes (t : Turn Holding) (answer : Answer) (out out' : List ℕ) (left : Holding)
+    : Type 0 where
+  pub answered : t.answer ≡ answer
+  pub printed : out' ≡ out ++ t.reply
+  pub leaves : t.state ≡ left
+
+-- What bytes did to a stream: they print on, and leave a stream that stands so.
+pub record GoesTo (digest : List ℕ → List ℕ) (now : Running) (tail : Tail) (piece : List ℕ)
+    (out out' : List ℕ) (left : Standing) : Type 0 where
+  pub replies : List ℕ
+  pub outcome : outcome_behind digest now tail piece ≡ record { replies = replies; standing = left }
+  pub printed : out' ≡ out ++ replies
+
+-- Memory ran out behind so many items.
+pub record StopsBehind (digest : List ℕ → List ℕ) (now : Running) (tail : Tail) (piece : List ℕ)
+    (count : ℕ) (out out' : List ℕ) (left : Running) : Type 0 where
+  pub replies : List ℕ
+  pub stop : stop_behind digest now (more_of tail piece).items count
+      ≡ Some (record { replies = replies; repository = last_checkpoint left.workspace })
+  pub printed : out' ≡ out ++ replies
+
+-- What came of a piece of a stream, which goes on or is given up.
+abbrev pub Fed : (List ℕ → List ℕ) → Running → Tail → List ℕ → List ℕ → Result Unit Stop → List ℕ
+    → Running → Tail → Type 0
+Fed digest now tail piece out (Ok u) out' next kept =
+    GoesTo digest now tail piece out out' (Runs next kept)
+Fed digest now tail piece out (Err (stop.Fault code)) out' next kept =
+    GoesTo digest now tail piece out out' (Refused code (last_checkpoint next.workspace))
+Fed digest now tail piece out (Err (stop.Memory count)) out' next kept =
+    StopsBehind digest now tail piece count out out' next
+
+-- The pool and all tenants, before a step or after it.
+pub record Store : Type 0 where
+  pub pool : Cells
+  pub tenants : Tenants
+
+abbrev pub store : Cells → Tenants → Store
+store pool tenants = record { pool = pool; tenants = tenants }
+
+-- What is held of a tenant then.
+abbrev pub held_in_store : List ℕ → Store → Holding
+held_in_store name s = held_of name (holdings s.pool s.tenants)
+
+-- A call of the tenant of this name was answered and printed as it says, and is in the accounts.
+pub record Serves (digest : List ℕ → List ℕ) (name : List ℕ) (call : Call) (before : Store)
+    (answer : Answer) (out out' : List ℕ) (after : Store) : Type 0 where
+  pub accounts : Accounts digest after.pool after.tenants
+  pub own : Takes (step_held digest call (stop_told answer) (held_in_store name before)) answer
+      out out' (held_in_store name after)
+  pub others : (other : List ℕ) → bytes_eq other name ≡ false
+      → held_in_store other after ≡ held_in_store other before
+
+-- A step with a bad name was refused, and changed nothing.
+pub record Refuses (digest : List ℕ → List ℕ) (before : Store) (answer : Answer)
+    (out out' : List ℕ) (after : Store) : Type 0 where
+  pub accounts : Accounts digest after.pool after.tenants
+  pub answered : answer ≡ answers.Fault 32
+  pub printed : out' ≡ out
+  pub same : holdings after.pool after.tenants ≡ holdings before.pool before.tenants
+
+-- A call under a name: of its tenant, or of nobody.
+abbrev pub Calls : (List ℕ → List ℕ) → Bool → List ℕ → Call → Store → Answer → List ℕ → List ℕ
+    → Store → Type 0
+Calls digest true name call before answer out out' after =
+    Serves digest name call before answer out out' after
+Calls digest false name call before answer out out' after =
+    Refuses digest before answer out out' after
+
+-- A restart goes back to the last checkpoint of every tenant.
+abbrev pub restarted : Holdings → Holdings
+restarted all = map (λ e. (e.0, Idle (last_held e.1))) all
+
+pub record Restarts (digest : List ℕ → List ℕ) (before : Store) (answer : Answer)
+    (out out' : List ℕ) (after : Store) : Type 0 where
+  pub accounts : Accounts digest after.pool after.tenants
+  pub answered : answer ≡ answers.Ok
+  pub printed : out' ≡ out
+  pub closed : holdings after.pool after.tenants ≡ restarted (holdings before.pool before.tenants)
+
+-- The name that a step is under. A restart is under none.
+abbrev pub name_of : Step → List ℕ
+name_of (step.Open given) = given.now
+name_of (step.Feed given bytes) = given.now
+name_of (step.End given) = given.now
+name_of (step.Ask given query) = given.now
+name_of step.Restart = []
+
+-- What a step did: a restart, or a call under a name.
+abbrev pub Steps : (List ℕ → List ℕ) → Step → Store → Answer → List ℕ → List ℕ → Store → Type 0
+Steps digest step.Restart before answer out out' after =
+    Restarts digest before answer out out' after
+Steps digest s before answer out out' after =
+    Calls digest (is_tenant_name (name_of s)) (name_of s) (call_of s) before answer out out' after
+
+-- The first so many are restarted, or just the one at a position.
+abbrev pub first_restarted : ℕ → Holdings → Holdings
+first_restarted zero all = all
+first_restarted (suc n) [] = []
+first_restarted (suc n) (e ∷ all) = (e.0, Idle (last_held e.1)) ∷ first_restarted n all
+
+abbrev pub restarted_at : ℕ → Holdings → Holdings
+restarted_at n [] = []
+restarted_at zero (e ∷ all) = (e.0, Idle (last_held e.1)) ∷ all
+restarted_at (suc n) (e ∷ all) = e ∷ restarted_at n all

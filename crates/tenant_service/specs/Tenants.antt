@@ -1,0 +1,86 @@
+-- What lies where of a tenant: its objects in a table over the shared pool, its refs, and the phase
+-- of its stream.
+use Rattle.std.specs.Prelude.{◌≡◌, ℕ, Bool, true, false, if◌then◌else◌, List, [], length, take, map, nat_lt, sum_by}
+use Rattle.std.specs.List.{AllByRecursion}
+use Rattle.git_model.specs.RefStore.{RefStore}
+use Rattle.content_pool.specs.Pool.{Cells, holds}
+use Rattle.tenant_refs.specs.TenantName.{is_tenant_name}
+use Rattle.tenant_tables.specs.View.{View, held}
+use Rattle.tenant_tables.specs.Objects.{objects}
+use Rattle.tenant_tables.specs.StandsIn.{StandsIn}
+use Rattle.stream_lex.specs.Items.{Tail, Rest}
+use Rattle.import_session.specs.Session.{repository_in}
+use Rattle.import_session.specs.Stream.{Standing, Runs, Refused}
+use Rattle.tenant_service.specs.declared.tenant.Phase.{Phase}
+use Rattle.tenant_service.specs.declared.tenant.Phase.TheVariants as phase
+use Rattle.tenant_service.specs.declared.tenant.Tenant.{Tenant}
+use Rattle.tenant_service.specs.Alone.{State}
+use Rattle.tenant_stream.specs.Carrying.{Between, stream_in}
+use Rattle.tenant_service.specs.Holding.{Holding, Idle, Busy, Holdings, LeadsTo, held_of, held_objects, last_held}
+
+-- Behind `done` no bytes are kept.
+unfoldable pub kept_tail : Between → Tail
+kept_tail stream = if stream.session.is_done then Rest false [] else stream.tail
+
+-- How a stream stands, whose objects stand in a table over a pool.
+abbrev pub standing_in : Between → Cells → View → RefStore → Standing
+standing_in stream pool table refs = Runs (stream_in stream pool table refs) (kept_tail stream)
+
+-- What is held of a tenant.
+abbrev pub held_in : Phase → Cells → View → RefStore → Holding
+held_in phase.Closed pool table refs = Idle (repository_in pool table refs)
+held_in (phase.Running stream) pool table refs = Busy (standing_in stream pool table refs)
+held_in (phase.Dead code) pool table refs = Busy (Refused code (repository_in pool table refs))
+
+abbrev pub holding_in : Cells → Tenant → Holding
+holding_in pool tenant = held_in tenant.phase pool tenant.table tenant.refs
+
+-- Where no stream runs all objects are committed.
+abbrev pub IsSettled : Phase → View → Type 0
+IsSettled phase.Closed table = table.committed ≡ length table.entries
+IsSettled (phase.Running stream) table = Unit {0}
+IsSettled (phase.Dead code) table = table.committed ≡ length table.entries
+
+-- A tenant's table stands in the pool.
+pub record Stands (digest : List ℕ → List ℕ) (pool : Cells) (tenant : Tenant) : Type 0 where
+  pub entries : StandsIn digest pool tenant.table.entries
+  pub settled : IsSettled tenant.phase tenant.table
+
+-- All tenants, by their names.
+abbrev pub Tenants : Type 0
+Tenants = List (List ℕ × Tenant)
+
+-- How often their tables hold a slot.
+abbrev pub all_held : Tenants → ℕ → ℕ
+all_held tenants s = sum_by (λ e. held e.1.table.entries s) tenants
+
+-- Each tenant has a good name, and its table stands in the pool; and a slot is held as often as
+-- tables hold it.
+pub record Accounts (digest : List ℕ → List ℕ) (pool : Cells) (tenants : Tenants) : Type 0 where
+  pub names : AllByRecursion (λ e. is_tenant_name e.0 ≡ true) tenants
+  pub stands : AllByRecursion (λ e. Stands digest pool e.1) tenants
+  pub counts : (s : ℕ) → holds pool s ≡ all_held tenants s
+
+-- What is held of each tenant.
+abbrev pub holdings : Cells → Tenants → Holdings
+holdings pool tenants = map (λ e. (e.0, holding_in pool e.1)) tenants
+
+-- Whether a table has a committed object.
+abbrev pub has_committed : View → Bool
+has_committed table = nat_lt 0 (length (take table.committed table.entries))
+
+-- A pool, a table and refs show what is held of a tenant: its objects in order, how many of them
+-- stood at the last checkpoint, and the refs and objects of that checkpoint.
+pub record Shows (held : Holding) (pool : Cells) (table : View) (refs : RefStore) : Type 0 where
+  pub all : objects pool table.entries ≡ held_objects held
+  pub committed : take table.committed (objects pool table.entries) ≡ (last_held held).objects
+  pub saved : refs ≡ (last_held held).refs
+
+-- To what is held of any tenant some repository and stream of its own lead.
+abbrev pub AreLed : (List ℕ → List ℕ) → Holdings → Type 0
+AreLed digest all = (tenant : List ℕ) → (state : State) × LeadsTo digest state (held_of tenant all)
+
+-- What is always true of a service.
+pub record IsService (digest : List ℕ → List ℕ) (pool : Cells) (tenants : Tenants) : Type 0 where
+  pub accounts : Accounts digest pool tenants
+  pub led : AreLed digest (holdings pool tenants)

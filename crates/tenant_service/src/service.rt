@@ -1,0 +1,156 @@
+//! A service of many tenants over one pool of contents.
+//!
+//! Each tenant has its own table, refs and stream; what they share is the pool, and no tenant is
+//! told anything of it. Steps come one at a time, and may cut a stream at any byte.
+
+ghost use Rattle.std.specs.Prelude.{◌≡◌, ◌+◌, ◌++◌, ℕ, List, [], ◌∷◌, length, drop, count_by, IsNone, IfSome, OnErr, OnOk, ◌<◌};
+ghost use Rattle.content_pool.specs.LiveContents.{live_contents, stored_sizes};
+ghost use Rattle.std.specs.List.{AllByRecursion};
+ghost use Rattle.tenant_service.specs.Alone.{added, State};
+ghost use Rattle.tenant_service.specs.Headline.{IsItsOwn, IsRefused, told_in, told_since, run_of};
+ghost use Rattle.tenant_service.specs.Holding.{LeadsTo, Idle, empty_repository, held_of, held_contents, has_commit};
+ghost use Rattle.tenant_service.specs.Tenants.{Shows};
+ghost use Rattle.tenant_tables.specs.StandsIn.{StandsIn};
+
+use crate::tenant::Tenant;
+use crate::tenants::{count_committed, name_of, take_step};
+use content_pool::Pool;
+use git_objects::{Memory, Naming};
+use indexmap::IndexMap;
+use service_steps::{Answer, Reply, Step};
+use std::alloc::Global;
+use std::marker::Model;
+use tenant_refs::{Refs, TenantName};
+use tenant_tables::Table;
+
+/// The repositories and streams of any number of tenants. Contracts see what is held of each.
+#[derive(Drop)]
+pub struct Service<N: Naming> {
+    alloc: Global,
+    pool: Pool<N>,
+    tenants: IndexMap<TenantName, Tenant>,
+}
+
+impl<N: Naming> Model for Service<N> {
+    ghost use Rattle.tenant_service.specs.Holding.{Holdings};
+    ghost use Rattle.std.specs.Coded.{codes};
+    ghost use Rattle.tenant_service.specs.Holding.{ref_map_code};
+    ghost use Rattle.tenant_service.specs.Tenants.{IsService, holdings};
+
+    ghost Value = { Holdings };
+
+    ghost coded = { Prim.hlevel (codes, ref_map_code) };
+
+    ghost view = { λ service. holdings service.pool service.tenants.entries };
+
+    ghost invariant = { λ service.
+        IsService N.digest_of service.pool service.tenants.entries };
+}
+
+impl<N: Naming> Service<N> {
+    /// A service that has seen no tenant. Takes no memory; what it keeps later comes from `alloc`.
+    pub fn new(alloc: Global, naming: N) -> Service<N>
+        ensures { result ≡ [] }
+    {
+        Service {
+            alloc,
+            pool: Pool::new(alloc, naming),
+            tenants: IndexMap::new(alloc),
+        }
+    }
+
+    /// What holds of every service: a fact for proofs. A call does nothing.
+    pub fn is_led(&self)
+        ensures { (tenant : List ℕ) → (state : State)
+            × LeadsTo N.digest_of state (held_of tenant self.now) }
+    {
+        let _pool = &self.pool;
+    }
+
+    /// How many distinct contents all tenants hold together, those of running streams included, and
+    /// the sum of their sizes in bytes, 2^64 - 1 where it is more. For the operator: no step tells
+    /// a tenant. Takes no memory.
+    pub fn stored(&self) -> (u64, u64)
+        ensures { result ≡ stored_sizes (held_contents self.now) }
+    {
+        self.pool.stored()
+    }
+
+    /// How many tenants have an object at their last checkpoint. For the operator. Takes no memory.
+    pub fn tenants(&self) -> u64
+        ensures { result ≡ count_by (λ e. has_commit e.1) self.now }
+    {
+        count_committed(&self.tenants) as u64
+    }
+
+    /// The pool of all tenants, and the table and refs of one, for the operator; `None` for a
+    /// tenant that is as if never seen. Takes no memory.
+    ///
+    /// Behind the table's committed prefix are the objects of the running stream.
+    pub fn view(&self, tenant: &[u8]) -> Option<(&Pool<N>, &Table, &Refs)>
+        ensures unseen { IsNone result → held_of tenant.now self.now ≡ Idle empty_repository }
+        ensures shown { IfSome result (λ lent.
+            Shows (held_of tenant.now self.now) lent.0.now lent.1.now lent.2.now) }
+        ensures stands { IfSome result (λ lent.
+            StandsIn N.digest_of lent.0.now lent.1.now.entries) }
+        ensures pool { IfSome result (λ lent.
+            stored_sizes (live_contents lent.0.now) ≡ stored_sizes (held_contents self.now)) }
+    {
+        let tenants = &self.tenants;
+        let Ok(name) = name_of(tenant) else {
+            return None;
+        };
+        let Some(tenant) = tenants.get(&name) else {
+            return None;
+        };
+        Some((&self.pool, &tenant.table, &tenant.refs))
+    }
+
+    /// Takes one step, and appends the bytes of its reply to `out`: git-fast-import(1) for streams.
+    ///
+    /// A bad tenant name is 32; Open with a stream is 31, Feed or End without one is 30; an Ask is
+    /// 40, for no query is known yet. These change nothing and take no memory. A fault of the bytes
+    /// of a Feed, or of an End, is answered under its number, and leaves the last checkpoint; each
+    /// later Feed answers the number again, and so does the End, which always closes the stream.
+    ///
+    /// `Memory` tells that a growth was refused: in an Open, where nothing has changed then, or in
+    /// a Feed behind so many whole items of the call. `out` then has the replies of those, the
+    /// tenant stands at its last checkpoint, and its stream is dead under 90.
+    pub fn step(&mut self, step: Step<'_>, out: &mut Vec<u8>) -> Answer
+        ensures own { (tenant : List ℕ) → IsItsOwn N.digest_of tenant (held_of tenant self.old)
+            ((step.entry, told_in result out.old.items out.new.items) ∷ [])
+            (held_of tenant self.new) }
+        ensures appended { out.new.items
+            ≡ out.old.items ++ added out.old.items out.new.items }
+        ensures bad_names { IsRefused (step.entry, told_in result out.old.items out.new.items) }
+    {
+        take_step(self.alloc, &mut self.pool, &mut self.tenants, step, out)
+    }
+
+    /// Takes steps in turn, and appends a reply for each. To every tenant they are those that it
+    /// would get in a repository of its own.
+    ///
+    /// After `Memory` (90), where there was no room for a further reply, the steps that have a
+    /// reply were taken, and no others.
+    pub fn run(&mut self, steps: &[Step<'_>], replies: &mut Vec<Reply>) -> Result<(), Memory>
+        ensures own { (tenant : List ℕ) → IsItsOwn N.digest_of tenant (held_of tenant self.old)
+            (run_of steps.now (told_since replies.old.items replies.new.items))
+            (held_of tenant self.new) }
+        ensures appended { replies.new.items
+            ≡ replies.old.items ++ drop (length replies.old.items) replies.new.items }
+        ensures all { OnOk result
+            (length replies.new.items ≡ length replies.old.items + length steps.now) }
+        ensures short { OnErr result
+            (length replies.new.items < length replies.old.items + length steps.now) }
+        ensures bad_names { AllByRecursion IsRefused
+            (run_of steps.now (told_since replies.old.items replies.new.items)) }
+    {
+        for step in steps {
+            replies.reserve(1)?;
+            let mut bytes = Vec::new(self.alloc);
+            let answer = self.step(*step, &mut bytes);
+            replies.push(Reply { answer, bytes }).unwrap();
+        }
+        Ok(())
+    }
+}

@@ -1,0 +1,188 @@
+//! What a service keeps of one tenant, and what each call does to it.
+//!
+//! The pool is lent, and holds other tenants' contents too. A call goes through the tenant's own
+//! table alone, and leaves the holds of all others as they are.
+
+ghost use Rattle.std.specs.Prelude.{◌≡◌, length, [], ◌∷◌, Ok, Err};
+ghost use Rattle.tenant_tables.specs.StandsIn.{StandsIn, LeavesOthers};
+ghost use Rattle.import_session.specs.Session.{repository_in};
+ghost use Rattle.tenant_service.specs.Alone.{Open, Feed, End, Ask, Restart};
+ghost use Rattle.tenant_stream.specs.Carrying.{HasAmpleRoom, stream_in};
+ghost use Rattle.tenant_service.specs.Headline.{stop_told};
+ghost use Rattle.tenant_service.specs.Holding.{Idle, step_held, empty_repository, last_held};
+ghost use Rattle.tenant_service.specs.Tenants.{held_in, holding_in, kept_tail, Stands, IsSettled};
+ghost use Rattle.tenant_service.specs.OneStep.{Takes, Fed};
+
+use content_pool::Pool;
+use git_objects::Naming;
+use service_steps::{Answer, ServiceFault};
+use std::alloc::Global;
+use std::mem;
+use tenant_refs::Refs;
+use tenant_stream::{Stop, Stream};
+use tenant_tables::Table;
+
+// The number under which a stream is dead that ran out of memory.
+const OUT_OF_MEMORY: u16 = 90;
+
+/// The phase of a tenant's stream.
+#[derive(Drop)]
+pub enum Phase {
+    /// There is none.
+    Closed,
+    /// It runs.
+    Running(Stream),
+    /// It was refused, or ran out of memory, under this number.
+    Dead(u16),
+}
+
+/// A tenant: its objects, its refs, and its stream.
+#[derive(Drop)]
+pub struct Tenant {
+    pub table: Table,
+    pub refs: Refs,
+    pub phase: Phase,
+}
+
+/// A tenant with nothing. Takes no memory.
+pub fn new_tenant(alloc: Global) -> Tenant
+    ensures entries { result.table.entries ≡ [] }
+    ensures held { (pool : _) → holding_in pool result ≡ Idle empty_repository }
+    ensures settled { IsSettled result.phase result.table }
+{
+    Tenant {
+        table: Table::new(alloc),
+        refs: Refs::new(alloc),
+        phase: Phase::Closed,
+    }
+}
+
+/// Opens a stream; 31 where there is one. Takes no memory.
+pub fn open<N: Naming>(alloc: Global, pool: &Pool<N>, tenant: &mut Tenant) -> Answer
+    requires stands { Stands N.digest_of pool.now tenant.old }
+    ensures stands { Stands N.digest_of pool.now tenant.new }
+    ensures table { tenant.new.table ≡ tenant.old.table }
+    ensures own { Takes
+        (step_held N.digest_of Open (stop_told result) (holding_in pool.now tenant.old)) result
+        [] [] (holding_in pool.now tenant.new) }
+{
+    match &tenant.phase {
+        Phase::Closed => {
+            tenant.phase = Phase::Running(Stream::new(alloc));
+            Answer::Ok
+        }
+        _ => ServiceFault::StreamIsOpen.answer(),
+    }
+}
+
+/// Goes back to the last checkpoint, and leaves the stream in another phase. Takes no memory.
+pub fn give_up<N: Naming>(pool: &mut Pool<N>, tenant: &mut Tenant, phase: Phase)
+    requires stands { Stands N.digest_of pool.old tenant.old }
+    ensures phase { tenant.new.phase ≡ phase }
+    ensures stands { StandsIn N.digest_of pool.new tenant.new.table.entries }
+    ensures others { LeavesOthers pool.old tenant.old.table.entries pool.new tenant.new.table.entries }
+    ensures settled { tenant.new.table.committed ≡ length tenant.new.table.entries }
+    ensures left { repository_in pool.new tenant.new.table tenant.new.refs
+        ≡ last_held (holding_in pool.old tenant.old) }
+{
+    let _within = tenant.table.committed_len();
+    tenant.table.roll_back(pool);
+    tenant.phase = phase;
+}
+
+// Feeds a stream that runs.
+fn feed_stream<N: Naming>(
+    pool: &mut Pool<N>,
+    table: &mut Table,
+    refs: &mut Refs,
+    stream: &mut Stream,
+    piece: &[u8],
+    out: &mut Vec<u8>,
+) -> Result<(), Stop>
+    requires stands { StandsIn N.digest_of pool.old table.old.entries }
+    requires room { HasAmpleRoom pool.old }
+    ensures stands { StandsIn N.digest_of pool.new table.new.entries }
+    ensures others { LeavesOthers pool.old table.old.entries pool.new table.new.entries }
+    ensures fed { Fed N.digest_of
+        (stream_in stream.old pool.old table.old refs.old) (kept_tail stream.old) piece.now
+        out.old.items result out.new.items
+        (stream_in stream.new pool.new table.new refs.new) (kept_tail stream.new) }
+{
+    stream.feed(pool, table, refs, piece, out)
+}
+
+/// Feeds the next bytes; 30 where there is no stream, and a dead one answers its number again.
+///
+/// A fault of the bytes, or want of memory, leaves the last checkpoint and a dead stream.
+pub fn feed<N: Naming>(
+    pool: &mut Pool<N>,
+    tenant: &mut Tenant,
+    piece: &[u8],
+    out: &mut Vec<u8>,
+) -> Answer
+    requires stands { Stands N.digest_of pool.old tenant.old }
+    requires room { HasAmpleRoom pool.old }
+    ensures stands { Stands N.digest_of pool.new tenant.new }
+    ensures others { LeavesOthers pool.old tenant.old.table.entries pool.new tenant.new.table.entries }
+    ensures own { Takes
+        (step_held N.digest_of (Feed piece.now) (stop_told result) (holding_in pool.old tenant.old))
+        result out.old.items out.new.items (holding_in pool.new tenant.new) }
+{
+    let fed = match &mut tenant.phase {
+        Phase::Closed => return ServiceFault::NoStream.answer(),
+        Phase::Dead(code) => return Answer::Fault(*code),
+        Phase::Running(stream) => {
+            feed_stream(
+                pool,
+                &mut tenant.table,
+                &mut tenant.refs,
+                stream,
+                piece,
+                out,
+            )
+        }
+    };
+    match fed {
+        Ok(()) => Answer::Ok,
+        Err(Stop::Fault(code)) => {
+            give_up(pool, tenant, Phase::Dead(code));
+            Answer::Fault(code)
+        }
+        Err(Stop::Memory(items)) => {
+            give_up(pool, tenant, Phase::Dead(OUT_OF_MEMORY));
+            Answer::Memory(items)
+        }
+    }
+}
+
+/// Ends the stream; 30 where there is none. Takes no memory.
+pub fn end<N: Naming>(pool: &mut Pool<N>, tenant: &mut Tenant) -> Answer
+    requires stands { Stands N.digest_of pool.old tenant.old }
+    ensures stands { Stands N.digest_of pool.new tenant.new }
+    ensures others { LeavesOthers pool.old tenant.old.table.entries pool.new tenant.new.table.entries }
+    ensures own { Takes
+        (step_held N.digest_of End (stop_told result) (holding_in pool.old tenant.old)) result
+        [] [] (holding_in pool.new tenant.new) }
+{
+    match mem::replace(&mut tenant.phase, Phase::Closed) {
+        Phase::Closed => ServiceFault::NoStream.answer(),
+        Phase::Dead(code) => Answer::Fault(code),
+        Phase::Running(stream) => {
+            match stream.finish(pool, &mut tenant.table, &mut tenant.refs) {
+                Ok(()) => Answer::Ok,
+                Err(Stop::Fault(code)) => Answer::Fault(code),
+                Err(Stop::Memory(items)) => Answer::Memory(items),
+            }
+        }
+    }
+}
+
+/// Closes the stream, if there is one, and goes back to the last checkpoint. Takes no memory.
+pub fn restart<N: Naming>(pool: &mut Pool<N>, tenant: &mut Tenant)
+    requires stands { Stands N.digest_of pool.old tenant.old }
+    ensures stands { Stands N.digest_of pool.new tenant.new }
+    ensures others { LeavesOthers pool.old tenant.old.table.entries pool.new tenant.new.table.entries }
+    ensures own { holding_in pool.new tenant.new ≡ Idle (last_held (holding_in pool.old tenant.old)) }
+{
+    give_up(pool, tenant, Phase::Closed);
+}

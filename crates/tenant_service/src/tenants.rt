@@ -1,0 +1,197 @@
+//! All tenants of a service, by their names, and the calls of one of them.
+//!
+//! The pool lies beside them. What a call does to its tenant is in the accounts then, and every
+//! other tenant has what it had.
+
+ghost use Rattle.std.specs.Prelude.{◌≡◌, ◌<◌, [], length, true, false, None, Ok, Err, MatchResult, count_by};
+ghost use Rattle.std.specs.Map.{lookup};
+ghost use Rattle.std.specs.Str.{bytes_eq};
+ghost use Rattle.tenant_refs.specs.TenantName.{is_tenant_name as names_tenant};
+ghost use Rattle.tenant_service.specs.Alone.{Open, Feed, End};
+ghost use Rattle.tenant_stream.specs.Carrying.{HasAmpleRoom};
+ghost use Rattle.tenant_service.specs.Tenants.{Accounts, holdings, has_committed};
+ghost use Rattle.tenant_service.specs.OneStep.{store, Serves, Steps, restarted, restarted_at};
+
+use crate::tenant::{Tenant, end, feed, new_tenant, open, restart};
+use content_pool::Pool;
+use git_objects::Naming;
+use indexmap::IndexMap;
+use service_steps::{Answer, ServiceFault, Step};
+use std::alloc::Global;
+use tenant_refs::TenantName;
+
+/// Feeds the stream of the tenant of this name; 30 where there is none.
+pub fn feed_one<N: Naming>(
+    pool: &mut Pool<N>,
+    tenants: &mut IndexMap<TenantName, Tenant>,
+    name: &TenantName,
+    piece: &[u8],
+    out: &mut Vec<u8>,
+) -> Answer
+    requires { Accounts N.digest_of pool.old tenants.old.entries }
+    ensures { Serves N.digest_of name.now (Feed piece.now) (store pool.old tenants.old.entries) result
+        out.old.items out.new.items (store pool.new tenants.new.entries) }
+{
+    let _few = tenants.len();
+    match tenants.get_mut(name) {
+        Some(tenant) => feed(pool, tenant, piece, out),
+        None => ServiceFault::NoStream.answer(),
+    }
+}
+
+/// Ends the stream of the tenant of this name; 30 where there is none. Takes no memory.
+pub fn end_one<N: Naming>(
+    pool: &mut Pool<N>,
+    tenants: &mut IndexMap<TenantName, Tenant>,
+    name: &TenantName,
+) -> Answer
+    requires { Accounts N.digest_of pool.old tenants.old.entries }
+    ensures { Serves N.digest_of name.now End (store pool.old tenants.old.entries) result
+        [] [] (store pool.new tenants.new.entries) }
+{
+    match tenants.get_mut(name) {
+        Some(tenant) => end(pool, tenant),
+        None => ServiceFault::NoStream.answer(),
+    }
+}
+
+/// Opens a stream of the tenant of this name; 31 where there is one.
+///
+/// `Memory(0)` where a tenant that was not seen before finds no room; nothing has changed then.
+pub fn open_one<N: Naming>(
+    alloc: Global,
+    pool: &Pool<N>,
+    tenants: &mut IndexMap<TenantName, Tenant>,
+    name: TenantName,
+) -> Answer
+    requires accounts { Accounts N.digest_of pool.now tenants.old.entries }
+    requires named { names_tenant name ≡ true }
+    ensures { Serves N.digest_of name Open (store pool.now tenants.old.entries) result
+        [] [] (store pool.now tenants.new.entries) }
+{
+    match tenants.get_mut(&name) {
+        Some(tenant) => open(alloc, pool, tenant),
+        None => open_new(alloc, pool, tenants, name),
+    }
+}
+
+// Opens a stream of a tenant that was not seen before.
+fn open_new<N: Naming>(
+    alloc: Global,
+    pool: &Pool<N>,
+    tenants: &mut IndexMap<TenantName, Tenant>,
+    name: TenantName,
+) -> Answer
+    requires accounts { Accounts N.digest_of pool.now tenants.old.entries }
+    requires named { names_tenant name ≡ true }
+    requires new { lookup (bytes_eq name) tenants.old.entries ≡ None }
+    ensures { Serves N.digest_of name Open (store pool.now tenants.old.entries) result
+        [] [] (store pool.now tenants.new.entries) }
+{
+    let mut tenant = new_tenant(alloc);
+    let answer = open(alloc, pool, &mut tenant);
+    match tenants.insert(name, tenant) {
+        Ok(_) => answer,
+        Err(_) => Answer::Memory(0),
+    }
+}
+
+// Closes the stream of the tenant at this place, from 0 in the order in which they were seen.
+fn restart_at<N: Naming>(
+    pool: &mut Pool<N>,
+    tenants: &mut IndexMap<TenantName, Tenant>,
+    place: usize,
+)
+    requires accounts { Accounts N.digest_of pool.old tenants.old.entries }
+    requires within { place < length tenants.old.entries }
+    ensures accounts { Accounts N.digest_of pool.new tenants.new.entries }
+    ensures len { length tenants.new.entries ≡ length tenants.old.entries }
+    ensures closed { holdings pool.new tenants.new.entries
+        ≡ restarted_at place (holdings pool.old tenants.old.entries) }
+{
+    if let Some(tenant) = tenants.get_index_mut(place) {
+        restart(pool, tenant);
+    }
+}
+
+/// Closes all streams, and goes back to the last checkpoint of every tenant. Takes no memory.
+pub fn restart_all<N: Naming>(pool: &mut Pool<N>, tenants: &mut IndexMap<TenantName, Tenant>)
+    requires { Accounts N.digest_of pool.old tenants.old.entries }
+    ensures accounts { Accounts N.digest_of pool.new tenants.new.entries }
+    ensures closed { holdings pool.new tenants.new.entries
+        ≡ restarted (holdings pool.old tenants.old.entries) }
+{
+    for place in 0..tenants.len() {
+        restart_at(pool, tenants, place);
+    }
+}
+
+/// The name of a tenant; 32 where the text is none. Takes no memory.
+pub fn name_of(tenant: &[u8]) -> Result<TenantName, ServiceFault>
+    ensures { MatchResult result
+        (λ name. (names_tenant tenant.now ≡ true) × (name ≡ tenant.now))
+        (λ fault. (names_tenant tenant.now ≡ false) × (fault ≡ ServiceFault.BadTenantName)) }
+{
+    match TenantName::read(tenant) {
+        Ok(name) => Ok(name),
+        Err(_) => Err(ServiceFault::BadTenantName),
+    }
+}
+
+/// Takes one step; 32 where the tenant's name is a bad one.
+pub fn take_step<N: Naming>(
+    alloc: Global,
+    pool: &mut Pool<N>,
+    tenants: &mut IndexMap<TenantName, Tenant>,
+    step: Step<'_>,
+    out: &mut Vec<u8>,
+) -> Answer
+    requires { Accounts N.digest_of pool.old tenants.old.entries }
+    ensures { Steps N.digest_of step.entry (store pool.old tenants.old.entries) result
+        out.old.items out.new.items (store pool.new tenants.new.entries) }
+{
+    match step {
+        Step::Open { tenant } => match name_of(tenant) {
+            Ok(name) => open_one(alloc, pool, tenants, name),
+            Err(fault) => fault.answer(),
+        },
+        Step::Feed { tenant, bytes } => match name_of(tenant) {
+            Ok(name) => feed_one(pool, tenants, &name, bytes, out),
+            Err(fault) => fault.answer(),
+        },
+        Step::End { tenant } => match name_of(tenant) {
+            Ok(name) => end_one(pool, tenants, &name),
+            Err(fault) => fault.answer(),
+        },
+        Step::Ask { tenant, .. } => match name_of(tenant) {
+            Ok(_) => ServiceFault::BadQuery.answer(),
+            Err(fault) => fault.answer(),
+        },
+        Step::Restart => {
+            restart_all(pool, tenants);
+            Answer::Ok
+        }
+    }
+}
+
+// Whether a tenant has a committed object.
+fn has_committed(tenant: &Tenant) -> bool
+    ensures { result ≡ has_committed tenant.now.table }
+{
+    tenant.table.committed_len() > 0
+}
+
+/// How many tenants have a committed object.
+pub fn count_committed(tenants: &IndexMap<TenantName, Tenant>) -> usize
+    ensures { result ≡ count_by (λ e. has_committed e.1.table) tenants.now.entries }
+{
+    let mut count = 0;
+    let many = tenants.len();
+    for place in 0..many {
+        let (_, tenant) = tenants.get_index(place).unwrap();
+        if has_committed(tenant) {
+            count += 1;
+        }
+    }
+    count
+}
