@@ -23,7 +23,8 @@ line_first text rest is =
     first-whole_at (text ++ 10 ∷ rest) (length text) (line_length-append_none text (10 ∷ rest) is.one_line ∙ omega arith) is.within_limit (omega (arith, length-append text (10 ∷ rest)))
     ∙ ap (λ t. whole_line (kind_of t) t (length text + 1) (text ++ 10 ∷ rest)) (take_at text (10 ∷ rest) (length text) refl)
 
-line_is : (text rest : List ℕ) (kind : LineKind) → IsLine text → kind_of text ≡ kind → first_of (text ++ 10 ∷ rest) ≡ whole_line kind text (length text + 1) (text ++ 10 ∷ rest)
+line_is : (text rest : List ℕ) (kind : LineKind) → IsLine text → kind_of text ≡ kind
+    → first_of (text ++ 10 ∷ rest) ≡ whole_line kind text (length text + 1) (text ++ 10 ∷ rest)
 line_is text rest kind is kind_is = line_first text rest is ∙ ap (λ k. whole_line k text (length text + 1) (text ++ 10 ∷ rest)) kind_is
 
 -- what stands after a line
@@ -31,7 +32,8 @@ behind_line : (text rest : List ℕ) → drop (length text + 1) (text ++ 10 ∷ 
 behind_line text rest = ap (drop (length text + 1)) (sym (append_assoc text (10 ∷ []) rest)) ∙ drop_at (text ++ 10 ∷ []) rest (length text + 1) (length-append text (10 ∷ []))
 
 -- whole lines hold no delimiter line
-pub before-lines : (delimiter : List ℕ) {lines : List ℕ} → HasNoLineEnd delimiter → OtherLines delimiter lines → (rest : List ℕ)
+pub before-lines : (delimiter : List ℕ) {lines : List ℕ} → HasNoLineEnd delimiter
+    → OtherLines delimiter lines → (rest : List ℕ)
     → before_delimiter delimiter true (lines ++ rest) ≡ option_map (λ n. length lines + n) (before_delimiter delimiter true rest)
 before-lines delimiter none no_lines rest = sym (option_map-same (λ n. 0 + n) (λ n. n) (before_delimiter delimiter true rest) (λ n. omega arith) ∙ option_map_id (before_delimiter delimiter true rest))
 before-lines delimiter none (one_more text lines text_none other later) rest =
@@ -42,12 +44,16 @@ before-lines delimiter none (one_more text lines text_none other later) rest =
     (λ n. omega (arith, length-append text (10 ∷ lines)))
 
 -- whole lines and a text hold no delimiter line
-pub before-lines_and_text : (delimiter lines text : List ℕ) → HasNoLineEnd delimiter → OtherLines delimiter lines → HasNoLineEnd text → before_delimiter delimiter true (lines ++ text) ≡ None
+pub before-lines_and_text : (delimiter lines text : List ℕ) → HasNoLineEnd delimiter
+    → OtherLines delimiter lines → HasNoLineEnd text
+    → before_delimiter delimiter true (lines ++ text) ≡ None
 before-lines_and_text delimiter lines text none others text_none =
     before-lines delimiter none others text ∙ ap (option_map (λ n. length lines + n)) (before-no_line delimiter true text text_none)
 
 -- whole lines before the delimiter line
-pub before-lines_and_delimiter : (delimiter lines rest : List ℕ) → HasNoLineEnd delimiter → OtherLines delimiter lines → before_delimiter delimiter true (lines ++ (delimiter ++ 10 ∷ rest)) ≡ Some (length lines)
+pub before-lines_and_delimiter : (delimiter lines rest : List ℕ) → HasNoLineEnd delimiter
+    → OtherLines delimiter lines
+    → before_delimiter delimiter true (lines ++ (delimiter ++ 10 ∷ rest)) ≡ Some (length lines)
 before-lines_and_delimiter delimiter lines rest none others =
     before-lines delimiter none others (delimiter ++ 10 ∷ rest)
     ∙ ap (option_map (λ n. length lines + n)) (before-delimiter_line delimiter rest)
@@ -57,7 +63,8 @@ no_line_end_in : (header : List ℕ) → IsLine header → HasNoLineEnd (delimit
 no_line_end_in header is = none_in-drop 7 header is.one_line
 
 -- what stands first where a delimited data's header is there
-header_delimited : (header behind : List ℕ) (o : Option ℕ) → IsLine header → kind_of header ≡ Delimited → before_delimiter (delimiter_of header) true behind ≡ o
+header_delimited : (header behind : List ℕ) (o : Option ℕ) → IsLine header
+    → kind_of header ≡ Delimited → before_delimiter (delimiter_of header) true behind ≡ o
     → first_of (header ++ 10 ∷ behind) ≡ data_before o (delimiter_of header) (length header + 1) (header ++ 10 ∷ behind)
 header_delimited header behind o is kind e =
     line_is header behind Delimited is kind
@@ -67,7 +74,8 @@ long : (header behind : List ℕ) → length (header ++ 10 ∷ behind) ≡ lengt
 long header behind = length-append header (10 ∷ behind) ∙ omega arith
 
 -- a whole data stands first
-pub data_first : {text raw : List ℕ} → IsData text raw → (rest : List ℕ) → first_of (text ++ rest) ≡ Gives (Data raw) (length text)
+pub data_first : {text raw : List ℕ} → IsData text raw → (rest : List ℕ)
+    → first_of (text ++ rest) ≡ Gives (Data raw) (length text)
 data_first (counted header raw is kind small) rest =
     let n = length header + 1 in
     let bytes = header ++ 10 ∷ (raw ++ rest) in
@@ -107,13 +115,15 @@ too_large_first (delimited_too_large header lines text is kind others text_none 
     ∙ before-overdue (delimiter_of header) (length header + 1) (header ++ 10 ∷ (lines ++ text)) (omega (arith, long header (lines ++ text)))
 
 -- a data, and what comes after it
-data_and : {text raw : List ℕ} → IsData text raw → (rest : List ℕ) → reading false (text ++ rest) ≡ before (Data raw) (reading true rest)
+data_and : {text raw : List ℕ} → IsData text raw → (rest : List ℕ)
+    → reading false (text ++ rest) ≡ before (Data raw) (reading true rest)
 data_and {text = text} {raw = raw} is rest =
     reading-gives (text ++ rest) false (Data raw) (length text) (stands-false (text ++ rest)) (data_first is rest)
     ∙ ap (λ l. before (Data raw) (reading true l)) (drop_at text rest (length text) refl)
 
 -- each case of the relation is the plain program's
-pub read_so : {bytes : List ℕ} {items : List Item} {tail : Tail} → Reads bytes items tail → reading false bytes ≡ record { items = items; tail = tail }
+pub read_so : {bytes : List ℕ} {items : List Item} {tail : Tail} → Reads bytes items tail
+    → reading false bytes ≡ record { items = items; tail = tail }
 read_so nothing_left = walk-nil 0 false
 read_so (unfinished_line text is some) = reading-stops text false (Rest false text) (stands-false text) (first-unfinished text (omega (arith, is.one_line, is.within_limit)) (omega (arith, is.one_line)))
 read_so (line_too_long text rest none long_text) =

@@ -46,7 +46,8 @@ none_in_line xs =
     (cases_lt (line_length (take (line_length xs) xs)) (length (take (line_length xs) xs)))
 
 -- a line, its line end, and the rest
-pub line_split : (xs : List ℕ) (end : ℕ) → line_length xs ≡ end → end < length xs → xs ≡ take end xs ++ 10 ∷ drop (end + 1) xs
+pub line_split : (xs : List ℕ) (end : ℕ) → line_length xs ≡ end → end < length xs
+    → xs ≡ take end xs ++ 10 ∷ drop (end + 1) xs
 line_split xs end at found =
     let stop : not (is_line_end (get_or xs (line_length xs) 0)) ≡ false = prefix_len_stops (λ b. not (is_line_end b)) xs 0 (omega arith) in
     let is : get_or xs end 0 ≡ 10 = eqb-true (get_or xs end 0) 10 (rw (← at) (is_true (is_line_end (get_or xs (line_length xs) 0)) stop)) in
@@ -57,7 +58,8 @@ line_split xs end at found =
     is_true false h = cc
 
 -- a text whose beginning has no line end
-pub line_length-known : (xs : List ℕ) (n : ℕ) → n ≤ length xs → HasNoLineEnd (take n xs) → line_length xs ≡ n + line_length (drop n xs)
+pub line_length-known : (xs : List ℕ) (n : ℕ) → n ≤ length xs → HasNoLineEnd (take n xs)
+    → line_length xs ≡ n + line_length (drop n xs)
 line_length-known xs n within none =
     let split : take n xs ++ drop n xs ≡ xs = take-append-drop n xs in
     sym (ap line_length split) ∙ line_length-append_none (take n xs) (drop n xs) none ∙ ap (λ k. k + line_length (drop n xs)) (length-take-le n xs within)
@@ -66,7 +68,8 @@ line_length-known xs n within none =
 abbrev pub begins : List ℕ → List ℕ → Bool
 begins xs delimiter = starts_with nat_eq xs (delimiter ++ 10 ∷ [])
 
-begins-true : (xs delimiter : List ℕ) → begins xs delimiter ≡ true → (rest : List ℕ) × (xs ≡ delimiter ++ 10 ∷ rest)
+begins-true : (xs delimiter : List ℕ) → begins xs delimiter ≡ true
+    → (rest : List ℕ) × (xs ≡ delimiter ++ 10 ∷ rest)
 begins-true xs delimiter h =
     let rest = drop (length (delimiter ++ 10 ∷ [])) xs in
     (rest, (starts_is Decides-eqb xs (delimiter ++ 10 ∷ []) (begins xs delimiter) refl).0 h ∙ append_assoc delimiter (10 ∷ []) rest)
@@ -75,17 +78,20 @@ begins-of : (xs delimiter rest : List ℕ) → xs ≡ delimiter ++ 10 ∷ rest �
 begins-of xs delimiter rest e =
     (starts_is Decides-eqb xs (delimiter ++ 10 ∷ []) (begins xs delimiter) refl).1 rest (e ∙ sym (append_assoc delimiter (10 ∷ []) rest))
 
-begins-append : (xs ys delimiter : List ℕ) → begins xs delimiter ≡ true → begins (xs ++ ys) delimiter ≡ true
+begins-append : (xs ys delimiter : List ℕ) → begins xs delimiter ≡ true
+    → begins (xs ++ ys) delimiter ≡ true
 begins-append xs ys delimiter h =
     let p = begins-true xs delimiter h in
     begins-of (xs ++ ys) delimiter (p.0 ++ ys) (ap (λ l. l ++ ys) p.1 ∙ append_assoc delimiter (10 ∷ p.0) ys)
 
-begins-length : (xs delimiter : List ℕ) → begins xs delimiter ≡ true → length delimiter + 1 ≤ length xs
+begins-length : (xs delimiter : List ℕ) → begins xs delimiter ≡ true
+    → length delimiter + 1 ≤ length xs
 begins-length xs delimiter h =
     let p = begins-true xs delimiter h in
     omega (arith, ap length p.1, length-append delimiter (10 ∷ p.0))
 
-begins-append_long : (xs ys delimiter : List ℕ) → length delimiter + 1 ≤ length xs → begins (xs ++ ys) delimiter ≡ begins xs delimiter
+begins-append_long : (xs ys delimiter : List ℕ) → length delimiter + 1 ≤ length xs
+    → begins (xs ++ ys) delimiter ≡ begins xs delimiter
 begins-append_long xs ys delimiter long =
     ap (λ l. pointwise nat_eq (delimiter ++ 10 ∷ []) l) (take-append-le (length (delimiter ++ 10 ∷ [])) xs ys (omega (arith, length-append delimiter (10 ∷ []))))
 
@@ -99,7 +105,9 @@ none_suc None h = refl
 none_suc (Some j) h = absurd (none-some (suc j) (sym h))
 
 -- one step of the search for a delimiter line
-pub before-here : (delimiter : List ℕ) (at_start : Bool) (byte : ℕ) (bytes : List ℕ) → (at_start && begins (byte ∷ bytes) delimiter) ≡ true → before_delimiter delimiter at_start (byte ∷ bytes) ≡ Some 0
+pub before-here : (delimiter : List ℕ) (at_start : Bool) (byte : ℕ) (bytes : List ℕ)
+    → (at_start && begins (byte ∷ bytes) delimiter) ≡ true
+    → before_delimiter delimiter at_start (byte ∷ bytes) ≡ Some 0
 unfolding before_delimiter
 before-here delimiter at_start byte bytes h = rw h refl
 
@@ -107,7 +115,8 @@ pub before-next : (delimiter : List ℕ) (at_start : Bool) (byte : ℕ) (bytes :
 unfolding before_delimiter
 before-next delimiter at_start byte bytes h = rw h refl
 
-pub before-nil : (delimiter : List ℕ) (at_start : Bool) → before_delimiter delimiter at_start [] ≡ None
+pub before-nil : (delimiter : List ℕ) (at_start : Bool)
+    → before_delimiter delimiter at_start [] ≡ None
 unfolding before_delimiter
 before-nil delimiter at_start = refl
 
@@ -116,7 +125,8 @@ both_true true b h = (refl, h)
 both_true false b h = cc
 
 -- a delimiter line that is found lies within the bytes
-pub before-fits : (delimiter : List ℕ) (at_start : Bool) (bytes : List ℕ) (k : ℕ) → before_delimiter delimiter at_start bytes ≡ Some k → k + length delimiter + 1 ≤ length bytes
+pub before-fits : (delimiter : List ℕ) (at_start : Bool) (bytes : List ℕ) (k : ℕ)
+    → before_delimiter delimiter at_start bytes ≡ Some k → k + length delimiter + 1 ≤ length bytes
 before-fits delimiter at_start [] k h = absurd (none-some k (sym (before-nil delimiter at_start) ∙ h))
 before-fits delimiter at_start (byte ∷ bytes) k h = by_cases (at_start && begins (byte ∷ bytes) delimiter)
     (λ here.
@@ -128,7 +138,9 @@ before-fits delimiter at_start (byte ∷ bytes) k h = by_cases (at_start && begi
     omega (arith, before-fits delimiter (is_line_end byte) bytes p.0 p.1, p.2))
 
 -- it stays where it is, whatever comes after it
-pub before-append_some : (delimiter : List ℕ) (at_start : Bool) (bytes more : List ℕ) (k : ℕ) → before_delimiter delimiter at_start bytes ≡ Some k → before_delimiter delimiter at_start (bytes ++ more) ≡ Some k
+pub before-append_some : (delimiter : List ℕ) (at_start : Bool) (bytes more : List ℕ) (k : ℕ)
+    → before_delimiter delimiter at_start bytes ≡ Some k
+    → before_delimiter delimiter at_start (bytes ++ more) ≡ Some k
 before-append_some delimiter at_start [] more k h = absurd (none-some k (sym (before-nil delimiter at_start) ∙ h))
 before-append_some delimiter at_start (byte ∷ bytes) more k h = by_cases (at_start && begins (byte ∷ bytes) delimiter)
     (λ here.
@@ -146,7 +158,10 @@ before-append_some delimiter at_start (byte ∷ bytes) more k h = by_cases (at_s
     (λ not_here. before-next delimiter at_start byte (bytes ++ more) not_here ∙ ap (option_map suc) behind ∙ ap Some (sym p.2)))
 
 -- one that is found only with more bytes ends among these
-pub before-append_none : (delimiter : List ℕ) (at_start : Bool) (bytes more : List ℕ) (k : ℕ) → before_delimiter delimiter at_start bytes ≡ None → before_delimiter delimiter at_start (bytes ++ more) ≡ Some k → length bytes < k + length delimiter + 1
+pub before-append_none : (delimiter : List ℕ) (at_start : Bool) (bytes more : List ℕ) (k : ℕ)
+    → before_delimiter delimiter at_start bytes ≡ None
+    → before_delimiter delimiter at_start (bytes ++ more) ≡ Some k
+    → length bytes < k + length delimiter + 1
 before-append_none delimiter at_start [] more k none h = omega arith
 before-append_none delimiter at_start (byte ∷ bytes) more k none h = by_cases (at_start && begins (byte ∷ bytes) delimiter)
     (λ here. absurd (none-some 0 (sym none ∙ before-here delimiter at_start byte bytes here)))
@@ -165,16 +180,19 @@ before-append_none delimiter at_start (byte ∷ bytes) more k none h = by_cases 
     omega (arith, before-append_none delimiter (is_line_end byte) bytes more p.0 tail_none p.1, p.2)))
 
 -- what is mapped twice
-pub option_map-same : (f g : ℕ → ℕ) (o : Option ℕ) → ((n : ℕ) → f n ≡ g n) → option_map f o ≡ option_map g o
+pub option_map-same : (f g : ℕ → ℕ) (o : Option ℕ) → ((n : ℕ) → f n ≡ g n)
+    → option_map f o ≡ option_map g o
 option_map-same f g None same = refl
 option_map-same f g (Some n) same = ap Some (same n)
 
-pub option_map-twice : (f g h : ℕ → ℕ) (o : Option ℕ) → ((n : ℕ) → f (g n) ≡ h n) → option_map f (option_map g o) ≡ option_map h o
+pub option_map-twice : (f g h : ℕ → ℕ) (o : Option ℕ) → ((n : ℕ) → f (g n) ≡ h n)
+    → option_map f (option_map g o) ≡ option_map h o
 option_map-twice f g h None same = refl
 option_map-twice f g h (Some n) same = ap Some (same n)
 
 -- the first byte of a text without line ends is none, and the others have none
-none_cons : (byte : ℕ) (text : List ℕ) → HasNoLineEnd (byte ∷ text) → (is_line_end byte ≡ false) × HasNoLineEnd text
+none_cons : (byte : ℕ) (text : List ℕ) → HasNoLineEnd (byte ∷ text)
+    → (is_line_end byte ≡ false) × HasNoLineEnd text
 none_cons byte text none = by_cases (is_line_end byte)
     (λ ends. let zero_is : line_length (byte ∷ text) ≡ 0 = ap (λ b. cond (not b) (1 + line_length text) 0) ends in absurd (omega arith))
     (λ other. let more_is : line_length (byte ∷ text) ≡ 1 + line_length text = ap (λ b. cond (not b) (1 + line_length text) 0) other in (other, omega arith))
@@ -190,7 +208,8 @@ begins-none text delimiter none = by_cases (begins text delimiter)
     (λ no_begin. no_begin)
 
 -- nor does a line that is not the delimiter
-pub begins-other : (text rest delimiter : List ℕ) → HasNoLineEnd text → HasNoLineEnd delimiter → text ≢ delimiter → begins (text ++ 10 ∷ rest) delimiter ≡ false
+pub begins-other : (text rest delimiter : List ℕ) → HasNoLineEnd text → HasNoLineEnd delimiter
+    → text ≢ delimiter → begins (text ++ 10 ∷ rest) delimiter ≡ false
 begins-other text rest delimiter none delimiter_none other = by_cases (begins (text ++ 10 ∷ rest) delimiter)
     (λ here.
     let p = begins-true (text ++ 10 ∷ rest) delimiter here in
@@ -201,7 +220,8 @@ begins-other text rest delimiter none delimiter_none other = by_cases (begins (t
     (λ no_begin. no_begin)
 
 -- a text without line ends holds no delimiter line
-pub before-no_line : (delimiter : List ℕ) (at_start : Bool) (text : List ℕ) → HasNoLineEnd text → before_delimiter delimiter at_start text ≡ None
+pub before-no_line : (delimiter : List ℕ) (at_start : Bool) (text : List ℕ) → HasNoLineEnd text
+    → before_delimiter delimiter at_start text ≡ None
 before-no_line delimiter at_start [] none = before-nil delimiter at_start
 before-no_line delimiter at_start (byte ∷ text) none =
     let two = none_cons byte text none in
@@ -225,7 +245,8 @@ before-line_within delimiter (byte ∷ text) rest none =
     ∙ option_map-twice suc (λ n. length text + 1 + n) (λ n. length (byte ∷ text) + 1 + n) (before_delimiter delimiter true rest) (λ n. omega arith)
 
 -- a line that is not the delimiter is passed over
-pub before-other_line : (delimiter text rest : List ℕ) → HasNoLineEnd text → HasNoLineEnd delimiter → text ≢ delimiter
+pub before-other_line : (delimiter text rest : List ℕ) → HasNoLineEnd text → HasNoLineEnd delimiter
+    → text ≢ delimiter
     → before_delimiter delimiter true (text ++ 10 ∷ rest) ≡ option_map (λ n. length text + 1 + n) (before_delimiter delimiter true rest)
 before-other_line delimiter [] rest none delimiter_none other =
     before-next delimiter true 10 rest (begins-other [] rest delimiter none delimiter_none other)
@@ -238,6 +259,7 @@ before-other_line delimiter (byte ∷ text) rest none delimiter_none other =
     ∙ option_map-twice suc (λ n. length text + 1 + n) (λ n. length (byte ∷ text) + 1 + n) (before_delimiter delimiter true rest) (λ n. omega arith)
 
 -- the delimiter line itself
-pub before-delimiter_line : (delimiter rest : List ℕ) → before_delimiter delimiter true (delimiter ++ 10 ∷ rest) ≡ Some 0
+pub before-delimiter_line : (delimiter rest : List ℕ)
+    → before_delimiter delimiter true (delimiter ++ 10 ∷ rest) ≡ Some 0
 before-delimiter_line [] rest = before-here [] true 10 rest (begins-of (10 ∷ rest) [] rest refl)
 before-delimiter_line (byte ∷ delimiter) rest = before-here (byte ∷ delimiter) true byte (delimiter ++ 10 ∷ rest) (begins-of (byte ∷ delimiter ++ 10 ∷ rest) (byte ∷ delimiter) rest refl)

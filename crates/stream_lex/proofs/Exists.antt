@@ -25,7 +25,8 @@ data Parts (delimiter : List ℕ) : List ℕ → Type 0 where
   no_delimiter : (lines text : List ℕ) → OtherLines delimiter lines → HasNoLineEnd text → Parts delimiter (lines ++ text)
   delimiter_line : (lines behind : List ℕ) → OtherLines delimiter lines → Parts delimiter (lines ++ (delimiter ++ 10 ∷ behind))
 
-one_line_more : (delimiter text : List ℕ) {rest : List ℕ} → HasNoLineEnd text → text ≢ delimiter → Parts delimiter rest → Parts delimiter (text ++ 10 ∷ rest)
+one_line_more : (delimiter text : List ℕ) {rest : List ℕ} → HasNoLineEnd text → text ≢ delimiter
+    → Parts delimiter rest → Parts delimiter (text ++ 10 ∷ rest)
 one_line_more delimiter text none other (no_delimiter lines last others last_none) =
     subst (λ (l : List ℕ). Parts delimiter l) (append_assoc text (10 ∷ lines) last) (no_delimiter (text ++ 10 ∷ lines) last (one_more text lines none other others) last_none)
 one_line_more delimiter text none other (delimiter_line lines behind others) =
@@ -49,7 +50,8 @@ parts (suc n) delimiter bytes short = ⊎_elim
     (cases_lt (line_length bytes) (length bytes))
 
 -- a data, and what stands after it
-after_data : {text raw : List ℕ} → IsData text raw → (rest : List ℕ) → ((later : List ℕ) → length later ≤ length rest → Has later) → Has (text ++ rest)
+after_data : {text raw : List ℕ} → IsData text raw → (rest : List ℕ)
+    → ((later : List ℕ) → length later ≤ length rest → Has later) → Has (text ++ rest)
 after_data {text = text} {raw = raw} is [] later =
     subst Has (sym (append-nil text)) (Data raw ∷ [], Rest true [], data_at_end text raw is)
 after_data {text = text} {raw = raw} is (byte ∷ rest) later = by_cases (is_line_end byte)
@@ -61,7 +63,8 @@ after_data {text = text} {raw = raw} is (byte ∷ rest) later = by_cases (is_lin
     (Data raw ∷ had.0, had.1, data_and_more text raw rest byte is (λ e. false≢true (sym other ∙ eq-eqb byte 10 e)) had.2))
 
 -- a counted data
-counted_has : (header rest : List ℕ) (size : ℕ) → IsLine header → kind_of header ≡ Counted size → ((later : List ℕ) → length later ≤ length rest → Has later) → Has (header ++ 10 ∷ rest)
+counted_has : (header rest : List ℕ) (size : ℕ) → IsLine header → kind_of header ≡ Counted size
+    → ((later : List ℕ) → length later ≤ length rest → Has later) → Has (header ++ 10 ∷ rest)
 counted_has header rest size is kind later = ⊎_elim
     (λ large. subst Has (append_assoc header (10 ∷ []) rest) ([], Failed Limit, data_too_large (header ++ 10 ∷ []) rest (counted_too_large header size is kind large)))
     (λ small. ⊎_elim
@@ -76,9 +79,11 @@ counted_has header rest size is kind later = ⊎_elim
     (cases_lt largest_data size)
 
 -- a delimited data, of which the first bytes are looked at
-delimited_has : (header : List ℕ) {front : List ℕ} (back : List ℕ) → IsLine header → kind_of header ≡ Delimited → Parts (delimiter_of header) front
+delimited_has : (header : List ℕ) {front : List ℕ} (back : List ℕ) → IsLine header
+    → kind_of header ≡ Delimited → Parts (delimiter_of header) front
     → ((length front < largest_data + length (delimiter_of header) + 1) × (back ≡ [])) ⊎ (length front ≡ largest_data + length (delimiter_of header) + 1)
-    → ((later : List ℕ) → length later ≤ length (front ++ back) → Has later) → Has (header ++ 10 ∷ (front ++ back))
+    → ((later : List ℕ) → length later ≤ length (front ++ back) → Has later)
+    → Has (header ++ 10 ∷ (front ++ back))
 delimited_has header back is kind (no_delimiter lines text others none) enough later = ⊎_elim
     (λ short.
     subst (λ (l : List ℕ). Has (header ++ 10 ∷ l)) (sym (append-nil (lines ++ text)) ∙ ap (λ l. (lines ++ text) ++ l) (sym short.1))
@@ -101,7 +106,8 @@ delimited_has header back is kind (delimiter_line lines behind others) enough la
     (after_data data_is (behind ++ back) (λ l short. later l (omega (arith, length-append behind back, length-append (lines ++ (delimiter ++ 10 ∷ behind)) back))))
 
 -- a data header that names a delimiter
-delimited_line : (header rest : List ℕ) → IsLine header → kind_of header ≡ Delimited → ((later : List ℕ) → length later ≤ length rest → Has later) → Has (header ++ 10 ∷ rest)
+delimited_line : (header rest : List ℕ) → IsLine header → kind_of header ≡ Delimited
+    → ((later : List ℕ) → length later ≤ length rest → Has later) → Has (header ++ 10 ∷ rest)
 delimited_line header rest is kind later =
     let most = largest_data + length (delimiter_of header) + 1 in
     let joined : take most rest ++ drop most rest ≡ rest = take-append-drop most rest in
@@ -114,7 +120,8 @@ delimited_line header rest is kind later =
     (λ l short. later l (omega (arith, ap length joined))))
 
 -- a whole line
-line_has : (text rest : List ℕ) (kind : LineKind) → IsLine text → kind_of text ≡ kind → ((later : List ℕ) → length later ≤ length rest → Has later) → Has (text ++ 10 ∷ rest)
+line_has : (text rest : List ℕ) (kind : LineKind) → IsLine text → kind_of text ≡ kind
+    → ((later : List ℕ) → length later ≤ length rest → Has later) → Has (text ++ 10 ∷ rest)
 line_has text rest Empty is kind later =
     let had = later rest (omega arith) in
     subst (λ (l : List ℕ). Has (l ++ 10 ∷ rest)) (sym (nil_from_length text (kind-empty text kind))) (Blank ∷ had.0, had.1, blank_line rest had.2)

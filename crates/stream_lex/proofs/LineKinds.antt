@@ -10,7 +10,8 @@ use Rattle.numerals.specs.Numbers.{number_of}
 use Rattle.stream_lex.proofs.Cases.{by_cases}
 
 -- a text that starts with another is no shorter
-starts_length : (text start : List ℕ) → starts_with nat_eq text start ≡ true → length start ≤ length text
+starts_length : (text start : List ℕ) → starts_with nat_eq text start ≡ true
+    → length start ≤ length text
 starts_length text start h =
     let e = (starts_is Decides-eqb text start (starts_with nat_eq text start) refl).0 h in
     omega (arith, ap length e, length-append start (drop (length start) text))

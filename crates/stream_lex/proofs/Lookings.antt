@@ -21,7 +21,9 @@ use Rattle.stream_lex.proofs.Settled.{Fits, first-fits, first-append_line}
 use Rattle.stream_lex.proofs.Walks.{StandsFirst, takes, passes, fails, waits, waits_for_more}
 
 -- what holds whatever bytes come holds of those that are there
-pub at_once : (bytes : List ℕ) (now : List ℕ → First) → ((more : List ℕ) → first_of (bytes ++ more) ≡ now (bytes ++ more)) → first_of bytes ≡ now bytes
+pub at_once : (bytes : List ℕ) (now : List ℕ → First)
+    → ((more : List ℕ) → first_of (bytes ++ more) ≡ now (bytes ++ more))
+    → first_of bytes ≡ now bytes
 at_once bytes now leads = subst (λ (l : List ℕ). first_of l ≡ now l) (append-nil bytes) (leads [])
 
 -- the line after those that are known not to be the delimiter
@@ -29,8 +31,10 @@ abbrev pub text_at : List ℕ → ℕ → ℕ → List ℕ
 text_at bytes line end = take (end - line) (drop line bytes)
 
 -- where it is not the delimiter, the search goes on after it
-step : (header line end : ℕ) (bytes : List ℕ) → header ≤ line → line ≤ end → end < length bytes → line_length (drop line bytes) ≡ end - line
-    → HasNoLineEnd (delimiter_of (take (header - 1) bytes)) → text_at bytes line end ≢ delimiter_of (take (header - 1) bytes)
+step : (header line end : ℕ) (bytes : List ℕ) → header ≤ line → line ≤ end → end < length bytes
+    → line_length (drop line bytes) ≡ end - line
+    → HasNoLineEnd (delimiter_of (take (header - 1) bytes))
+    → text_at bytes line end ≢ delimiter_of (take (header - 1) bytes)
     → delimited_from header line bytes ≡ delimited_from header (end + 1) bytes
 step header line end bytes lines onwards inside at none other =
     let delimiter = delimiter_of (take (header - 1) bytes) in
@@ -50,9 +54,12 @@ step header line end bytes lines onwards inside at none other =
     ∙ option_map-twice (λ n. line - header + n) (λ n. length (text_at bytes line end) + 1 + n) (λ n. end + 1 - header + n) later (λ n. omega arith))
 
 -- the same, whatever bytes come
-pub step_more : (header line end : ℕ) (bytes : List ℕ) → header ≤ line → line ≤ end → end < length bytes → line_length (drop line bytes) ≡ end - line
-    → HasNoLineEnd (take (header - 1) bytes) → text_at bytes line end ≢ delimiter_of (take (header - 1) bytes)
-    → (more : List ℕ) → delimited_from header line (bytes ++ more) ≡ delimited_from header (end + 1) (bytes ++ more)
+pub step_more : (header line end : ℕ) (bytes : List ℕ) → header ≤ line → line ≤ end
+    → end < length bytes → line_length (drop line bytes) ≡ end - line
+    → HasNoLineEnd (take (header - 1) bytes)
+    → text_at bytes line end ≢ delimiter_of (take (header - 1) bytes)
+    → (more : List ℕ)
+    → delimited_from header line (bytes ++ more) ≡ delimited_from header (end + 1) (bytes ++ more)
 step_more header line end bytes lines onwards inside at none other more =
     let apart : drop line (bytes ++ more) ≡ drop line bytes ++ more = drop-append-le line bytes more (omega arith) in
     let long : length (drop line bytes) ≡ length bytes - line = length-drop line bytes in
@@ -64,7 +71,8 @@ step_more header line end bytes lines onwards inside at none other more =
     (λ e. other (sym text_same ∙ e ∙ ap delimiter_of header_same))
 
 -- where it is the delimiter, the data is there
-pub delimiter_found : (header line end : ℕ) (bytes : List ℕ) → line ≤ end → end < length bytes → line_length (drop line bytes) ≡ end - line
+pub delimiter_found : (header line end : ℕ) (bytes : List ℕ) → line ≤ end → end < length bytes
+    → line_length (drop line bytes) ≡ end - line
     → text_at bytes line end ≡ delimiter_of (take (header - 1) bytes)
     → delimited_from header line bytes ≡ data_before (Some (line - header)) (delimiter_of (take (header - 1) bytes)) header bytes
 delimiter_found header line end bytes onwards inside at same =
@@ -82,14 +90,16 @@ delimiter_missing header line bytes none =
     ap (λ o. data_before (option_map (λ n. line - header + n) o) (delimiter_of (take (header - 1) bytes)) header bytes) (before-no_line (delimiter_of (take (header - 1) bytes)) true (drop line bytes) none)
 
 -- the line that was searched in two parts
-pub line_at : (bytes : List ℕ) (seen line end : ℕ) → line ≤ seen → seen ≤ length bytes → HasNoLineEnd (take (seen - line) (drop line bytes)) → IsLineEnd bytes seen end
+pub line_at : (bytes : List ℕ) (seen line end : ℕ) → line ≤ seen → seen ≤ length bytes
+    → HasNoLineEnd (take (seen - line) (drop line bytes)) → IsLineEnd bytes seen end
     → line_length (drop line bytes) ≡ end - line
 line_at bytes seen line end before within none found =
     let same : drop (seen - line) (drop line bytes) ≡ drop seen bytes = drop-drop (seen - line) line bytes ∙ ap (λ n. drop n bytes) (omega arith) in
     line_length-known (drop line bytes) (seen - line) (omega (arith, length-drop line bytes)) none
     ∙ ap (λ l. seen - line + line_length l) same ∙ omega (arith, found.first, found.behind)
 
-pub none_at : (bytes : List ℕ) (seen line : ℕ) → line ≤ seen → seen ≤ length bytes → HasNoLineEnd (take (seen - line) (drop line bytes)) → HasNoLineEnd (drop seen bytes)
+pub none_at : (bytes : List ℕ) (seen line : ℕ) → line ≤ seen → seen ≤ length bytes
+    → HasNoLineEnd (take (seen - line) (drop line bytes)) → HasNoLineEnd (drop seen bytes)
     → HasNoLineEnd (drop line bytes)
 none_at bytes seen line before within none later =
     let same : drop (seen - line) (drop line bytes) ≡ drop seen bytes = drop-drop (seen - line) line bytes ∙ ap (λ n. drop n bytes) (omega arith) in
@@ -97,8 +107,10 @@ none_at bytes seen line before within none later =
     ∙ ap (λ l. seen - line + line_length l) same ∙ omega (arith, later, length-drop line bytes, length-drop seen bytes)
 
 -- the next line of a delimited data
-pub in_next_line : (bytes : List ℕ) (seen header line end : ℕ) → seen ≤ length bytes → IsInDelimited bytes seen header line → IsLineEnd bytes seen end
-    → text_at bytes line end ≢ delimiter_of (take (header - 1) bytes) → IsInDelimited bytes (end + 1) header (end + 1)
+pub in_next_line : (bytes : List ℕ) (seen header line end : ℕ) → seen ≤ length bytes
+    → IsInDelimited bytes seen header line → IsLineEnd bytes seen end
+    → text_at bytes line end ≢ delimiter_of (take (header - 1) bytes)
+    → IsInDelimited bytes (end + 1) header (end + 1)
 in_next_line bytes seen header line end within at found other =
     let line_is = line_at bytes seen line end at.seen_on within at.line_so_far found in
     record {
@@ -114,23 +126,28 @@ in_next_line bytes seen header line end within at found other =
     zero_is end = omega arith
 
 -- the delimiter line of a delimited data
-pub at_delimiter : (bytes : List ℕ) (seen header line end : ℕ) → seen ≤ length bytes → IsInDelimited bytes seen header line → IsLineEnd bytes seen end
+pub at_delimiter : (bytes : List ℕ) (seen header line end : ℕ) → seen ≤ length bytes
+    → IsInDelimited bytes seen header line → IsLineEnd bytes seen end
     → text_at bytes line end ≡ delimiter_of (take (header - 1) bytes) → first_of bytes ≡ data_before (Some (line - header)) (delimiter_of (take (header - 1) bytes)) header bytes
 at_delimiter bytes seen header line end within at found same =
     at_once bytes (delimited_from header line) at.leads
     ∙ delimiter_found header line end bytes (omega (arith, at.seen_on, found.behind)) found.inside (line_at bytes seen line end at.seen_on within at.line_so_far found) same
 
-pub delimiter_length : (bytes : List ℕ) (line end : ℕ) {delimiter : List ℕ} → end < length bytes → text_at bytes line end ≡ delimiter → length delimiter ≡ end - line
+pub delimiter_length : (bytes : List ℕ) (line end : ℕ) {delimiter : List ℕ} → end < length bytes
+    → text_at bytes line end ≡ delimiter → length delimiter ≡ end - line
 delimiter_length bytes line end inside same = sym (ap length same) ∙ length-take-le (end - line) (drop line bytes) (omega (arith, length-drop line bytes))
 
 -- a delimited data with no delimiter line yet
-pub before_delimiter_line : (bytes : List ℕ) (seen header line : ℕ) → seen ≤ length bytes → IsInDelimited bytes seen header line → HasNoLineEnd (drop seen bytes)
+pub before_delimiter_line : (bytes : List ℕ) (seen header line : ℕ) → seen ≤ length bytes
+    → IsInDelimited bytes seen header line → HasNoLineEnd (drop seen bytes)
     → first_of bytes ≡ data_before None (delimiter_of (take (header - 1) bytes)) header bytes
 before_delimiter_line bytes seen header line within at none =
     at_once bytes (delimited_from header line) at.leads
     ∙ delimiter_missing header line bytes (none_at bytes seen line at.seen_on within at.line_so_far none)
 
-pub all_seen : (bytes : List ℕ) (seen header line : ℕ) → seen ≤ length bytes → IsInDelimited bytes seen header line → HasNoLineEnd (drop seen bytes) → IsInDelimited bytes (length bytes) header line
+pub all_seen : (bytes : List ℕ) (seen header line : ℕ) → seen ≤ length bytes
+    → IsInDelimited bytes seen header line → HasNoLineEnd (drop seen bytes)
+    → IsInDelimited bytes (length bytes) header line
 all_seen bytes seen header line within at none = record {
   delimiter = at.delimiter;
   header_line = at.header_line;
@@ -141,7 +158,8 @@ all_seen bytes seen header line within at none = record {
 }
 
 -- what is found is what comes next
-pub next_found : (bytes : List ℕ) (place : Place) (skips : Bool) (found : Found) → tail_at bytes place ≡ Rest skips bytes → StandsFirst skips bytes
+pub next_found : (bytes : List ℕ) (place : Place) (skips : Bool) (found : Found)
+    → tail_at bytes place ≡ Rest skips bytes → StandsFirst skips bytes
     → first_found bytes found ≡ first_of bytes → WaitsWithAll bytes found → IsNext bytes place found
 next_found bytes place skips (Waits next) at here e all = (
   rw (at, all) (waits bytes skips here),
@@ -156,21 +174,27 @@ next_found bytes place skips (Lends item n) at here e all =
 next_found bytes place skips (Fails fault) at here e all = rw at (fails bytes skips fault here (sym e))
 
 -- where the first line end stands, and none before it
-pub line_from_start : (bytes : List ℕ) (seen end : ℕ) → seen ≤ length bytes → HasNoLineEnd (take seen bytes) → IsLineEnd bytes seen end → line_length bytes ≡ end
+pub line_from_start : (bytes : List ℕ) (seen end : ℕ) → seen ≤ length bytes
+    → HasNoLineEnd (take seen bytes) → IsLineEnd bytes seen end → line_length bytes ≡ end
 line_from_start bytes seen end within none found = line_length-known bytes seen within none ∙ omega (arith, found.first, found.behind)
 
-pub none_from_start : (bytes : List ℕ) (seen : ℕ) → seen ≤ length bytes → HasNoLineEnd (take seen bytes) → HasNoLineEnd (drop seen bytes) → HasNoLineEnd bytes
+pub none_from_start : (bytes : List ℕ) (seen : ℕ) → seen ≤ length bytes
+    → HasNoLineEnd (take seen bytes) → HasNoLineEnd (drop seen bytes) → HasNoLineEnd bytes
 none_from_start bytes seen within none later = line_length-known bytes seen within none ∙ omega (arith, later, length-drop seen bytes)
 
 -- a data header that is there
-pub in_counted : (bytes : List ℕ) (end size : ℕ) → line_length bytes ≡ end → end ≤ longest_line → end < length bytes → Counted size ≡ kind_of (take end bytes) → IsInCounted bytes (end + 1) size
+pub in_counted : (bytes : List ℕ) (end size : ℕ) → line_length bytes ≡ end → end ≤ longest_line
+    → end < length bytes → Counted size ≡ kind_of (take end bytes)
+    → IsInCounted bytes (end + 1) size
 in_counted bytes end size at short found kind_is = record {
   inside = omega arith;
   some = omega arith;
   leads = λ more. first-append_line bytes more end at short found ∙ ap (λ kind. whole_line kind (take end bytes) (end + 1) (bytes ++ more)) (sym kind_is);
 }
 
-pub in_delimited : (bytes : List ℕ) (end : ℕ) → line_length bytes ≡ end → end ≤ longest_line → end < length bytes → Delimited ≡ kind_of (take end bytes) → IsInDelimited bytes (end + 1) (end + 1) (end + 1)
+pub in_delimited : (bytes : List ℕ) (end : ℕ) → line_length bytes ≡ end → end ≤ longest_line
+    → end < length bytes → Delimited ≡ kind_of (take end bytes)
+    → IsInDelimited bytes (end + 1) (end + 1) (end + 1)
 in_delimited bytes end at short found kind_is = record {
   delimiter = omega (arith, kind-delimited (take end bytes) (sym kind_is), length-take-le end bytes (omega arith));
   header_line = subst (λ (n : ℕ). HasNoLineEnd (take n bytes)) (at ∙ omega arith) (none_in_line bytes);
@@ -191,7 +215,8 @@ in_delimited bytes end at short found kind_is = record {
     header_is more = sym (take-append-le end bytes more (omega arith)) ∙ ap (λ n. take n (bytes ++ more)) (omega arith)
 
 -- a whole line
-pub by_kind : (bytes : List ℕ) (end : ℕ) (kind : LineKind) → line_length bytes ≡ end → end ≤ longest_line → end < length bytes → kind ≡ kind_of (take end bytes)
+pub by_kind : (bytes : List ℕ) (end : ℕ) (kind : LineKind) → line_length bytes ≡ end
+    → end ≤ longest_line → end < length bytes → kind ≡ kind_of (take end bytes)
     → whole_line kind (take end bytes) (end + 1) bytes ≡ first_of bytes
 by_kind bytes end kind at short found kind_is =
     ap (λ k. whole_line k (take end bytes) (end + 1) bytes) kind_is ∙ sym (first-whole_at bytes end at short found)

@@ -3,10 +3,12 @@ use Rattle.std.proofs.Common.{ℕ, ◌≤◌, List, length, Option, None, Some, 
 use Rattle.stream_lex.specs.declared.search.Search.{Search}
 use Rattle.stream_lex.specs.Search.{GoesOver, SearchesOn, FindsLineEnd}
 
-pub stays : (bytes : List ℕ) (search : Search) → search.seen ≤ length bytes → SearchesOn bytes search search
+pub stays : (bytes : List ℕ) (search : Search) → search.seen ≤ length bytes
+    → SearchesOn bytes search search
 stays bytes search within = record { within = within; onwards = omega arith; counted = omega arith; once = omega arith }
 
-pub goes_on : (bytes : List ℕ) (first old new : Search) (found : Option ℕ) → SearchesOn bytes first old → FindsLineEnd bytes old.seen found → GoesOver bytes old found new
+pub goes_on : (bytes : List ℕ) (first old new : Search) (found : Option ℕ)
+    → SearchesOn bytes first old → FindsLineEnd bytes old.seen found → GoesOver bytes old found new
     → SearchesOn bytes first new
 goes_on bytes first old new None so_far finds over = record {
   within = omega (arith, over.seen);

@@ -27,15 +27,18 @@ Fits bytes (Stops (Failed fault)) = Unit {0}
 Fits bytes (Skips n) = (0 < n) × (n ≤ length bytes)
 Fits bytes (Gives item n) = (0 < n) × (n ≤ length bytes)
 
-unsettled : (first : First) (skips : Bool) (bytes : List ℕ) {P : Type 0} → first ≡ Stops (Rest skips bytes) → IsSettled first → P
+unsettled : (first : First) (skips : Bool) (bytes : List ℕ) {P : Type 0}
+    → first ≡ Stops (Rest skips bytes) → IsSettled first → P
 unsettled first skips bytes e h = absurd (subst IsSettled e h)
 
 -- a part of the bytes is the same with more bytes after
-part_same : (n size : ℕ) (bytes more : List ℕ) → n + size ≤ length bytes → take size (drop n (bytes ++ more)) ≡ take size (drop n bytes)
+part_same : (n size : ℕ) (bytes more : List ℕ) → n + size ≤ length bytes
+    → take size (drop n (bytes ++ more)) ≡ take size (drop n bytes)
 part_same n size bytes more within =
     ap (take size) (drop-append-le n bytes more (omega arith)) ∙ take-append-le size (drop n bytes) more (omega (arith, length-drop n bytes))
 
-counted-settled : (size n : ℕ) (bytes more : List ℕ) → IsSettled (counted_data size n bytes) → counted_data size n (bytes ++ more) ≡ counted_data size n bytes
+counted-settled : (size n : ℕ) (bytes more : List ℕ) → IsSettled (counted_data size n bytes)
+    → counted_data size n (bytes ++ more) ≡ counted_data size n bytes
 counted-settled size n bytes more settled = ⊎_elim
     (λ large. counted-too_large size n (bytes ++ more) large ∙ sym (counted-too_large size n bytes large))
     (λ small. ⊎_elim
@@ -47,12 +50,16 @@ counted-settled size n bytes more settled = ⊎_elim
     (cases_lt (length bytes) (n + size)))
     (cases_lt largest_data size)
 
-overdue-stays : (delimiter : List ℕ) (n : ℕ) (bytes more : List ℕ) (o : Option ℕ) → n ≤ length bytes → n + largest_data + length delimiter + 1 ≤ length bytes
-    → ((k : ℕ) → o ≡ Some k → length (drop n bytes) < k + length delimiter + 1) → data_before o delimiter n (bytes ++ more) ≡ Stops (Failed Limit)
+overdue-stays : (delimiter : List ℕ) (n : ℕ) (bytes more : List ℕ) (o : Option ℕ) → n ≤ length bytes
+    → n + largest_data + length delimiter + 1 ≤ length bytes
+    → ((k : ℕ) → o ≡ Some k → length (drop n bytes) < k + length delimiter + 1)
+    → data_before o delimiter n (bytes ++ more) ≡ Stops (Failed Limit)
 overdue-stays delimiter n bytes more None within long later = before-overdue delimiter n (bytes ++ more) (omega (arith, length-append bytes more))
 overdue-stays delimiter n bytes more (Some k) within long later = before-too_large k delimiter n (bytes ++ more) (omega (arith, later k refl, length-drop n bytes))
 
-delimited-settled : (delimiter : List ℕ) (n : ℕ) (bytes more : List ℕ) → n ≤ length bytes → IsSettled (delimited_data delimiter n bytes) → delimited_data delimiter n (bytes ++ more) ≡ delimited_data delimiter n bytes
+delimited-settled : (delimiter : List ℕ) (n : ℕ) (bytes more : List ℕ) → n ≤ length bytes
+    → IsSettled (delimited_data delimiter n bytes)
+    → delimited_data delimiter n (bytes ++ more) ≡ delimited_data delimiter n bytes
 delimited-settled delimiter n bytes more within settled = go (before_delimiter delimiter true (drop n bytes)) refl settled
   where
     apart : drop n (bytes ++ more) ≡ drop n bytes ++ more
@@ -77,7 +84,9 @@ delimited-settled delimiter n bytes more within settled = go (before_delimiter d
         ∙ sym (before-overdue delimiter n bytes long))
         (cases_lt (length bytes) (n + largest_data + length delimiter + 1))
 
-whole-settled : (kind : LineKind) (text : List ℕ) (n : ℕ) (bytes more : List ℕ) → n ≤ length bytes → IsSettled (whole_line kind text n bytes) → whole_line kind text n (bytes ++ more) ≡ whole_line kind text n bytes
+whole-settled : (kind : LineKind) (text : List ℕ) (n : ℕ) (bytes more : List ℕ) → n ≤ length bytes
+    → IsSettled (whole_line kind text n bytes)
+    → whole_line kind text n (bytes ++ more) ≡ whole_line kind text n bytes
 whole-settled Empty text n bytes more within settled = refl
 whole-settled Comment text n bytes more within settled = refl
 whole-settled (Counted size) text n bytes more within settled = counted-settled size n bytes more settled
@@ -86,14 +95,16 @@ whole-settled BadHeader text n bytes more within settled = refl
 whole-settled Other text n bytes more within settled = refl
 
 -- where the first line end stands, the line is the same with more bytes after
-pub first-append_line : (bytes more : List ℕ) (end : ℕ) → line_length bytes ≡ end → end ≤ longest_line → end < length bytes
+pub first-append_line : (bytes more : List ℕ) (end : ℕ) → line_length bytes ≡ end
+    → end ≤ longest_line → end < length bytes
     → first_of (bytes ++ more) ≡ whole_line (kind_of (take end bytes)) (take end bytes) (end + 1) (bytes ++ more)
 first-append_line bytes more end at short found =
     let same : take end (bytes ++ more) ≡ take end bytes = take-append-le end bytes more (omega arith) in
     first-whole_at (bytes ++ more) end (line_length-append_found bytes more (omega arith) ∙ at) short (omega (arith, length-append bytes more))
     ∙ ap (λ text. whole_line (kind_of text) text (end + 1) (bytes ++ more)) same
 
-pub first-settled : (bytes more : List ℕ) → IsSettled (first_of bytes) → first_of (bytes ++ more) ≡ first_of bytes
+pub first-settled : (bytes more : List ℕ) → IsSettled (first_of bytes)
+    → first_of (bytes ++ more) ≡ first_of bytes
 first-settled bytes more settled = ⊎_elim
     (λ long. first-too_long (bytes ++ more) (omega (arith, line_length-grows bytes more)) ∙ sym (first-too_long bytes long))
     (λ short. ⊎_elim
@@ -116,7 +127,8 @@ counted-fits size n bytes some = ⊎_elim
     (cases_lt (length bytes) (n + size)))
     (cases_lt largest_data size)
 
-delimited-fits : (delimiter : List ℕ) (n : ℕ) (bytes : List ℕ) → 0 < n → n ≤ length bytes → Fits bytes (delimited_data delimiter n bytes)
+delimited-fits : (delimiter : List ℕ) (n : ℕ) (bytes : List ℕ) → 0 < n → n ≤ length bytes
+    → Fits bytes (delimited_data delimiter n bytes)
 delimited-fits delimiter n bytes some within = go (before_delimiter delimiter true (drop n bytes)) refl
   where
     go : (o : Option ℕ) → before_delimiter delimiter true (drop n bytes) ≡ o → Fits bytes (data_before o delimiter n bytes)
@@ -129,7 +141,8 @@ delimited-fits delimiter n bytes some within = go (before_delimiter delimiter tr
         (λ long. subst (Fits bytes) (sym (before-overdue delimiter n bytes long)) tt)
         (cases_lt (length bytes) (n + largest_data + length delimiter + 1))
 
-whole-fits : (kind : LineKind) (text : List ℕ) (n : ℕ) (bytes : List ℕ) → 0 < n → n ≤ length bytes → Fits bytes (whole_line kind text n bytes)
+whole-fits : (kind : LineKind) (text : List ℕ) (n : ℕ) (bytes : List ℕ) → 0 < n → n ≤ length bytes
+    → Fits bytes (whole_line kind text n bytes)
 whole-fits Empty text n bytes some within = (some, within)
 whole-fits Comment text n bytes some within = (some, within)
 whole-fits (Counted size) text n bytes some within = counted-fits size n bytes some

@@ -19,30 +19,37 @@ pub first-here : (byte : ℕ) (bytes : List ℕ) (skips : Bool) → (skips && is
 unfolding walk
 first-here byte bytes skips h = rw h refl
 
-pub walk-skip_one : (byte : ℕ) (bytes : List ℕ) (skips : Bool) → (skips && is_line_end byte) ≡ true → walk (byte ∷ bytes) 0 skips ≡ walk bytes 0 false
+pub walk-skip_one : (byte : ℕ) (bytes : List ℕ) (skips : Bool) → (skips && is_line_end byte) ≡ true
+    → walk (byte ∷ bytes) 0 skips ≡ walk bytes 0 false
 unfolding walk
 walk-skip_one byte bytes skips h = rw h refl
 
-pub walk-nil : (n : ℕ) (skips : Bool) → walk [] n skips ≡ record { items = []; tail = Rest skips [] }
+pub walk-nil : (n : ℕ) (skips : Bool)
+    → walk [] n skips ≡ record { items = []; tail = Rest skips [] }
 unfolding walk
 walk-nil n skips = refl
 
-walk-suc : (byte : ℕ) (bytes : List ℕ) (n : ℕ) (skips : Bool) → walk (byte ∷ bytes) (suc n) skips ≡ walk bytes n skips
+walk-suc : (byte : ℕ) (bytes : List ℕ) (n : ℕ) (skips : Bool)
+    → walk (byte ∷ bytes) (suc n) skips ≡ walk bytes n skips
 unfolding walk
 walk-suc byte bytes n skips = refl
 
 -- bytes that are passed over
-pub walk-drop : (bytes : List ℕ) (n : ℕ) (skips : Bool) → n ≤ length bytes → walk bytes n skips ≡ reading skips (drop n bytes)
+pub walk-drop : (bytes : List ℕ) (n : ℕ) (skips : Bool) → n ≤ length bytes
+    → walk bytes n skips ≡ reading skips (drop n bytes)
 walk-drop bytes zero skips within = refl
 walk-drop [] (suc n) skips within = absurd (omega arith)
 walk-drop (byte ∷ bytes) (suc n) skips within = walk-suc byte bytes n skips ∙ walk-drop bytes n skips (omega arith)
 
-walk-drop_one : (byte : ℕ) (bytes : List ℕ) (n : ℕ) (skips : Bool) → 0 < n → n ≤ length (byte ∷ bytes) → walk bytes (n - 1) skips ≡ reading skips (drop n (byte ∷ bytes))
+walk-drop_one : (byte : ℕ) (bytes : List ℕ) (n : ℕ) (skips : Bool) → 0 < n
+    → n ≤ length (byte ∷ bytes) → walk bytes (n - 1) skips ≡ reading skips (drop n (byte ∷ bytes))
 walk-drop_one byte bytes zero skips some within = absurd (omega arith)
 walk-drop_one byte bytes (suc n) skips some within = ap (λ k. walk bytes k skips) (omega arith) ∙ walk-drop bytes n skips (omega arith)
 
 -- the reading by what stands first
-pub reading-gives : (bytes : List ℕ) (skips : Bool) (item : Item) (n : ℕ) → StandsFirst skips bytes → first_of bytes ≡ Gives item n → reading skips bytes ≡ before item (reading (is_data item) (drop n bytes))
+pub reading-gives : (bytes : List ℕ) (skips : Bool) (item : Item) (n : ℕ) → StandsFirst skips bytes
+    → first_of bytes ≡ Gives item n
+    → reading skips bytes ≡ before item (reading (is_data item) (drop n bytes))
 reading-gives [] skips item n here e =
     let fits : Fits [] (Gives item n) = subst (Fits []) e (first-fits []) in
     absurd (omega arith)
@@ -52,7 +59,8 @@ reading-gives (byte ∷ bytes) skips item n here e =
     ∙ ap (λ first. behind first (λ n data_next. walk bytes n data_next)) e
     ∙ ap (before item) (walk-drop_one byte bytes n (is_data item) fits.0 fits.1)
 
-pub reading-skips : (bytes : List ℕ) (skips : Bool) (n : ℕ) → StandsFirst skips bytes → first_of bytes ≡ Skips n → reading skips bytes ≡ reading false (drop n bytes)
+pub reading-skips : (bytes : List ℕ) (skips : Bool) (n : ℕ) → StandsFirst skips bytes
+    → first_of bytes ≡ Skips n → reading skips bytes ≡ reading false (drop n bytes)
 reading-skips [] skips n here e =
     let fits : Fits [] (Skips n) = subst (Fits []) e (first-fits []) in
     absurd (omega arith)
@@ -62,7 +70,8 @@ reading-skips (byte ∷ bytes) skips n here e =
     ∙ ap (λ first. behind first (λ n data_next. walk bytes n data_next)) e
     ∙ walk-drop_one byte bytes n false fits.0 fits.1
 
-pub reading-stops : (bytes : List ℕ) (skips : Bool) (tail : Tail) → StandsFirst skips bytes → first_of bytes ≡ Stops tail → reading skips bytes ≡ record { items = []; tail = tail }
+pub reading-stops : (bytes : List ℕ) (skips : Bool) (tail : Tail) → StandsFirst skips bytes
+    → first_of bytes ≡ Stops tail → reading skips bytes ≡ record { items = []; tail = tail }
 reading-stops [] skips tail here e =
     let rest : Stops tail ≡ Stops (Rest false []) = sym e ∙ first-unfinished [] (omega arith) (omega arith) in
     let tail_is : tail ≡ Rest false [] = cc in
@@ -71,7 +80,8 @@ reading-stops (byte ∷ bytes) skips tail here e =
     first-here byte bytes skips here ∙ ap (λ first. behind first (λ n data_next. walk bytes n data_next)) e
 
 -- a line end is skipped in no other place
-pub reading-alike : (bytes : List ℕ) (skips : Bool) → StandsFirst skips bytes → reading skips bytes ≡ reading false bytes
+pub reading-alike : (bytes : List ℕ) (skips : Bool) → StandsFirst skips bytes
+    → reading skips bytes ≡ reading false bytes
 reading-alike [] skips here = ap (λ wish. reading wish []) here
 reading-alike (byte ∷ bytes) skips here = first-here byte bytes skips here ∙ sym (first-here byte bytes false refl)
 
@@ -79,7 +89,8 @@ pub stands-false : (bytes : List ℕ) → StandsFirst false bytes
 stands-false [] = refl
 stands-false (byte ∷ bytes) = refl
 
-pub stands-append : (bytes more : List ℕ) (skips : Bool) → StandsFirst skips bytes → StandsFirst skips (bytes ++ more)
+pub stands-append : (bytes more : List ℕ) (skips : Bool) → StandsFirst skips bytes
+    → StandsFirst skips (bytes ++ more)
 stands-append [] [] skips here = here
 stands-append [] (byte ∷ more) skips here = ap (λ b. b && is_line_end byte) here
 stands-append (byte ∷ bytes) more skips here = here
@@ -138,33 +149,40 @@ pub reading-append : (bytes more : List ℕ) (skips : Bool) → reading skips (b
 reading-append bytes more skips = walk-append bytes more 0 skips (omega arith)
 
 -- what is settled comes first, whatever bytes come
-pub takes : (bytes : List ℕ) (skips : Bool) (item : Item) (n : ℕ) → StandsFirst skips bytes → first_of bytes ≡ Gives item n → Takes (Rest skips bytes) item (Rest (is_data item) (drop n bytes))
+pub takes : (bytes : List ℕ) (skips : Bool) (item : Item) (n : ℕ) → StandsFirst skips bytes
+    → first_of bytes ≡ Gives item n
+    → Takes (Rest skips bytes) item (Rest (is_data item) (drop n bytes))
 takes bytes skips item n here e more =
     let settled : IsSettled (first_of bytes) = subst IsSettled (sym e) tt in
     let fits : Fits bytes (Gives item n) = subst (Fits bytes) e (first-fits bytes) in
     reading-gives (bytes ++ more) skips item n (stands-append bytes more skips here) (first-settled bytes more settled ∙ e)
     ∙ ap (λ l. before item (reading (is_data item) l)) (drop-append-le n bytes more fits.1)
 
-pub passes : (bytes : List ℕ) (skips : Bool) (n : ℕ) → StandsFirst skips bytes → first_of bytes ≡ Skips n → ReadsAlike (Rest skips bytes) (Rest false (drop n bytes))
+pub passes : (bytes : List ℕ) (skips : Bool) (n : ℕ) → StandsFirst skips bytes
+    → first_of bytes ≡ Skips n → ReadsAlike (Rest skips bytes) (Rest false (drop n bytes))
 passes bytes skips n here e more =
     let settled : IsSettled (first_of bytes) = subst IsSettled (sym e) tt in
     let fits : Fits bytes (Skips n) = subst (Fits bytes) e (first-fits bytes) in
     reading-skips (bytes ++ more) skips n (stands-append bytes more skips here) (first-settled bytes more settled ∙ e)
     ∙ ap (reading false) (drop-append-le n bytes more fits.1)
 
-pub fails : (bytes : List ℕ) (skips : Bool) (fault : Fault) → StandsFirst skips bytes → first_of bytes ≡ Stops (Failed fault) → ReadsAlike (Rest skips bytes) (Failed fault)
+pub fails : (bytes : List ℕ) (skips : Bool) (fault : Fault) → StandsFirst skips bytes
+    → first_of bytes ≡ Stops (Failed fault) → ReadsAlike (Rest skips bytes) (Failed fault)
 fails bytes skips fault here e more =
     let settled : IsSettled (first_of bytes) = subst IsSettled (sym e) tt in
     reading-stops (bytes ++ more) skips (Failed fault) (stands-append bytes more skips here) (first-settled bytes more settled ∙ e)
 
-pub waits : (bytes : List ℕ) (skips : Bool) → StandsFirst skips bytes → ReadsAlike (Rest skips bytes) (Rest false bytes)
+pub waits : (bytes : List ℕ) (skips : Bool) → StandsFirst skips bytes
+    → ReadsAlike (Rest skips bytes) (Rest false bytes)
 waits bytes skips here more = reading-alike (bytes ++ more) skips (stands-append bytes more skips here)
 
-pub waits_for_more : (bytes : List ℕ) → first_of bytes ≡ Stops (Rest false bytes) → HasNoItem (Rest false bytes)
+pub waits_for_more : (bytes : List ℕ) → first_of bytes ≡ Stops (Rest false bytes)
+    → HasNoItem (Rest false bytes)
 waits_for_more bytes e = reading-stops bytes false (Rest false bytes) (stands-false bytes) e
 
 -- the line end after a data
-pub passes_line_end : (byte : ℕ) (bytes : List ℕ) → byte ≡ 10 → ReadsAlike (Rest true (byte ∷ bytes)) (Rest false bytes)
+pub passes_line_end : (byte : ℕ) (bytes : List ℕ) → byte ≡ 10
+    → ReadsAlike (Rest true (byte ∷ bytes)) (Rest false bytes)
 passes_line_end byte bytes e more = walk-skip_one byte (bytes ++ more) true (eq-eqb byte 10 e)
 
 -- no byte yet
@@ -173,17 +191,20 @@ nothing_yet [] skips none = walk-nil 0 skips
 nothing_yet (byte ∷ bytes) skips none = absurd (omega arith)
 
 -- the first byte after a data: a line end, or another one
-pub passes_first : (bytes : List ℕ) (skips : Bool) → skips ≡ true → 0 < length bytes → get_or bytes 0 0 ≡ 10 → ReadsAlike (Rest skips bytes) (Rest false (drop 1 bytes))
+pub passes_first : (bytes : List ℕ) (skips : Bool) → skips ≡ true → 0 < length bytes
+    → get_or bytes 0 0 ≡ 10 → ReadsAlike (Rest skips bytes) (Rest false (drop 1 bytes))
 passes_first [] skips wish some ends = absurd (omega arith)
 passes_first (byte ∷ bytes) skips wish some ends = rw wish (passes_line_end byte bytes ends)
 
-pub stands-other : (bytes : List ℕ) (skips : Bool) → 0 < length bytes → get_or bytes 0 0 ≢ 10 → StandsFirst skips bytes
+pub stands-other : (bytes : List ℕ) (skips : Bool) → 0 < length bytes → get_or bytes 0 0 ≢ 10
+    → StandsFirst skips bytes
 stands-other [] skips some other = absurd (omega arith)
 stands-other (byte ∷ bytes) true some other = ne_eqb byte 10 other
 stands-other (byte ∷ bytes) false some other = refl
 
 -- after a fault no byte changes the reading
-pub faults-stay : (bytes more : List ℕ) (fault : Fault) → (reading false bytes).tail ≡ Failed fault → reading false (bytes ++ more) ≡ reading false bytes
+pub faults-stay : (bytes more : List ℕ) (fault : Fault) → (reading false bytes).tail ≡ Failed fault
+    → reading false (bytes ++ more) ≡ reading false bytes
 faults-stay bytes more fault failed =
     reading-append bytes more false
     ∙ ap (λ tail. behind_items (reading false bytes).items (more_of tail more)) failed
