@@ -5,9 +5,10 @@
 
 ghost use Rattle.std.specs.Prelude.{◌≡◌, ◌≢◌, Err, OnErr};
 ghost use Rattle.content_pool.specs.Pool.{HasRoom};
-ghost use Rattle.tenant_tables.specs.StandsIn.{StandsIn, LeavesOthers};
+ghost use Rattle.tenant_tables.specs.StandsIn.{StandsIn};
 ghost use Rattle.stream_grammar.specs.Shown.{act_shown};
 ghost use Rattle.stream_lex.specs.Looking.{item_of};
+ghost use Rattle.import_session.specs.Lent.{Keeps};
 ghost use Rattle.import_session.specs.Stream.{step, is_finish, session_end};
 ghost use Rattle.import_session.specs.Session.{running_in, repository_in, last_in, new_session, Takes, CarriesOut};
 
@@ -88,8 +89,7 @@ impl Session {
     ) -> Result<(), Fault>
         requires stands { StandsIn N.digest_of pool.old table.old.entries }
         requires room { HasRoom pool.old }
-        ensures stands { StandsIn N.digest_of pool.new table.new.entries }
-        ensures others { LeavesOthers pool.old table.old.entries pool.new table.new.entries }
+        ensures keeps { Keeps N.digest_of pool.old table.old pool.new table.new }
         ensures taken { Takes
             (step N.digest_of (running_in self.old pool.old table.old refs.old)
             (item_of item.entry))
@@ -124,8 +124,7 @@ impl Session {
         out: &mut Vec<u8>,
     ) -> Result<(), Fault>
         requires stands { StandsIn N.digest_of pool.old table.old.entries }
-        ensures stands { StandsIn N.digest_of pool.new table.new.entries }
-        ensures others { LeavesOthers pool.old table.old.entries pool.new table.new.entries }
+        ensures keeps { Keeps N.digest_of pool.old table.old pool.new table.new }
         ensures ended { CarriesOut
             (session_end N.digest_of (running_in self.old pool.old table.old refs.old))
             (running_in self.new pool.new table.new refs.new).workspace out.old.items out.new.items
@@ -149,8 +148,7 @@ impl Session {
     /// Gives the stream up: its table is rolled back to the last checkpoint. Takes no memory.
     pub fn abandon<N: Naming>(self, pool: &mut Pool<N>, table: &mut Table, refs: &mut Refs)
         requires { StandsIn N.digest_of pool.old table.old.entries }
-        ensures stands { StandsIn N.digest_of pool.new table.new.entries }
-        ensures others { LeavesOthers pool.old table.old.entries pool.new table.new.entries }
+        ensures keeps { Keeps N.digest_of pool.old table.old pool.new table.new }
         ensures left { repository_in pool.new table.new refs.new
             ≡ last_in pool.old table.old refs.old }
         ensures committed { table.new.committed ≡ table.old.committed }

@@ -5,7 +5,8 @@
 //! the bytes that went before.
 
 ghost use Rattle.std.specs.Prelude.{◌≡◌, ◌≢◌, ℕ, false, Err, OnErr};
-ghost use Rattle.tenant_tables.specs.StandsIn.{StandsIn, LeavesOthers};
+ghost use Rattle.tenant_tables.specs.StandsIn.{StandsIn};
+ghost use Rattle.import_session.specs.Lent.{Keeps};
 ghost use Rattle.import_session.specs.Session.{running_in, repository_in, last_in};
 ghost use Rattle.tenant_stream.specs.Stopping.{unfed};
 ghost use Rattle.tenant_stream.specs.Carrying.{new_stream, stream_in, Carries, Feeds, EndsAs, HasAmpleRoom, IsCommitted};
@@ -32,8 +33,7 @@ fn carry<N: Naming>(
     requires stands { StandsIn N.digest_of pool.old table.old.entries }
     requires room { HasAmpleRoom pool.old }
     requires running { session.old.is_done ≡ false }
-    ensures stands { StandsIn N.digest_of pool.new table.new.entries }
-    ensures others { LeavesOthers pool.old table.old.entries pool.new table.new.entries }
+    ensures keeps { Keeps N.digest_of pool.old table.old pool.new table.new }
     ensures refs { refs.new ≡ refs.old }
     ensures carries { Carries N.digest_of
         (running_in session.old pool.old table.old refs.old) lexer.old.tail out.old.items result
@@ -78,8 +78,7 @@ fn end<N: Naming>(
     out: &mut Vec<u8>,
 ) -> Result<(), Stop>
     requires stands { StandsIn N.digest_of pool.old table.old.entries }
-    ensures stands { StandsIn N.digest_of pool.new table.new.entries }
-    ensures others { LeavesOthers pool.old table.old.entries pool.new table.new.entries }
+    ensures keeps { Keeps N.digest_of pool.old table.old pool.new table.new }
     ensures refs { refs.new ≡ refs.old }
     ensures ended { EndsAs N.digest_of
         (running_in session.old pool.old table.old refs.old) lexer.now.tail out.old.items result
@@ -148,8 +147,7 @@ impl Stream {
     ) -> Result<(), Stop>
         requires stands { StandsIn N.digest_of pool.old table.old.entries }
         requires room { HasAmpleRoom pool.old }
-        ensures stands { StandsIn N.digest_of pool.new table.new.entries }
-        ensures others { LeavesOthers pool.old table.old.entries pool.new table.new.entries }
+        ensures keeps { Keeps N.digest_of pool.old table.old pool.new table.new }
         ensures refs { refs.new ≡ refs.old }
         ensures feeds { Feeds N.digest_of self.old.session.is_done
             (stream_in self.old pool.old table.old refs.old) self.old.tail piece.now out.old.items
@@ -177,8 +175,7 @@ impl Stream {
         out: &mut Vec<u8>,
     ) -> Result<(), Stop>
         requires stands { StandsIn N.digest_of pool.old table.old.entries }
-        ensures stands { StandsIn N.digest_of pool.new table.new.entries }
-        ensures others { LeavesOthers pool.old table.old.entries pool.new table.new.entries }
+        ensures keeps { Keeps N.digest_of pool.old table.old pool.new table.new }
         ensures refs { refs.new ≡ refs.old }
         ensures ended { EndsAs N.digest_of
             (stream_in self pool.old table.old refs.old) self.tail out.old.items result
@@ -196,8 +193,7 @@ impl Stream {
     /// Gives the stream up: its table is rolled back to the last checkpoint. Takes no memory.
     pub fn abandon<N: Naming>(self, pool: &mut Pool<N>, table: &mut Table, refs: &mut Refs)
         requires stands { StandsIn N.digest_of pool.old table.old.entries }
-        ensures stands { StandsIn N.digest_of pool.new table.new.entries }
-        ensures others { LeavesOthers pool.old table.old.entries pool.new table.new.entries }
+        ensures keeps { Keeps N.digest_of pool.old table.old pool.new table.new }
         ensures refs { refs.new ≡ refs.old }
         ensures left { repository_in pool.new table.new refs.new
             ≡ last_in pool.old table.old refs.old }
