@@ -3,4 +3,3 @@ pub mod PoolLemmas
 pub mod CallerLemmas
 pub mod DistinctSums
 pub mod StoredLemmas
-pub mod PlainLemmas

@@ -8,13 +8,9 @@
 mod bucket;
 mod bytes;
 mod index;
-mod plain;
 mod pool;
 mod slot;
 mod stored;
-#[cfg(test)]
-mod tests;
 
-pub use plain::PlainPool;
 pub use pool::Pool;
 pub use slot::Slot;

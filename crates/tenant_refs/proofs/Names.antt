@@ -24,7 +24,8 @@ pub names_ref-yes : (text : List ℕ) → names_ref text ≡ true → NamesRef t
 names_ref-yes text e = (names_ref-Decides text).0 e
 
 IsPart : List ℕ → Type 0
-IsPart part = (¬ (part ≡ [])) × (¬ BeginsWith part (codes "-")) × AllByRecursion (λ byte. is_part_byte byte ≡ true) part
+IsPart part =
+    (¬ (part ≡ [])) × (¬ BeginsWith part (codes "-")) × AllByRecursion (λ byte. is_part_byte byte ≡ true) part
 
 ≤_test : (a b : ℕ) → Decides (nat_le a b) (a ≤ b)
 ≤_test a b = (λ e. leb-true a b e, λ h. le-leb a b h)

@@ -28,19 +28,3 @@ pub fn full_name(alloc: Global, tenant: &TenantName, ref_name: &RefName) -> Resu
     full.extend_from_slice(ref_name.as_bytes())?;
     Ok(full)
 }
-
-#[cfg(test)]
-mod tests {
-    use crate::{RefName, TenantName, full_name};
-    use std::test::Fail;
-
-    #[test]
-    fn puts_each_part_into_its_own_namespace(rt: HostRuntime) -> Result<(), Fail> {
-        let tenant = TenantName::read(b"a/b")?;
-        let branch = RefName::read(rt.alloc(), b"refs/heads/m")?;
-        let full = full_name(rt.alloc(), &tenant, &branch)?;
-        let expected = b"refs/namespaces/a/refs/namespaces/b/refs/heads/m";
-        assert_eq!(rt; full.as_slice(), expected.as_slice());
-        Ok(())
-    }
-}

@@ -33,33 +33,42 @@ use Rattle.tenant_tables.proofs.IndexLemmas.{entry_named-push, later}
 
 -- ---- what is found
 
-pub found_none : (p : Cells) (id : List ℕ) (es : Entries) → None ≡ slot_of id es → object_named id (objects p es) ≡ None
+pub found_none : (p : Cells) (id : List ℕ) (es : Entries) → None ≡ slot_of id es
+    → object_named id (objects p es) ≡ None
 found_none p id es h = object_named-objects p id es ∙ by (entry_named id es) h
   where
-    by : (o : Option Entry) → None ≡ option_map (λ e. e.slot) o → option_map (λ e. content p e.slot) o ≡ None
+    by : (o : Option Entry) → None ≡ option_map (λ e. e.slot) o
+        → option_map (λ e. content p e.slot) o ≡ None
     by None e = refl
     by (Some f) e = cc e
 
-pub found_some : (p : Cells) (id : List ℕ) (es : Entries) (s : ℕ) → Some s ≡ slot_of id es → object_named id (objects p es) ≡ Some (content p s)
+pub found_some : (p : Cells) (id : List ℕ) (es : Entries) (s : ℕ) → Some s ≡ slot_of id es
+    → object_named id (objects p es) ≡ Some (content p s)
 found_some p id es s h = object_named-objects p id es ∙ by (entry_named id es) h
   where
-    by : (o : Option Entry) → Some s ≡ option_map (λ e. e.slot) o → option_map (λ e. content p e.slot) o ≡ Some (content p s)
+    by : (o : Option Entry) → Some s ≡ option_map (λ e. e.slot) o
+        → option_map (λ e. content p e.slot) o ≡ Some (content p s)
     by None e = cc e
     by (Some f) e = let at : s ≡ f.slot = cc e in rw at refl
 
-pub found_entry : (id : List ℕ) (es : Entries) (s : ℕ) → Some s ≡ slot_of id es → (e : Entry) × (entry_named id es ≡ Some e) × (e.slot ≡ s)
+pub found_entry : (id : List ℕ) (es : Entries) (s : ℕ) → Some s ≡ slot_of id es
+    → (e : Entry) × (entry_named id es ≡ Some e) × (e.slot ≡ s)
 found_entry id es s h = by (entry_named id es) h
   where
-    by : (o : Option Entry) → Some s ≡ option_map (λ e. e.slot) o → (e : Entry) × (o ≡ Some e) × (e.slot ≡ s)
+    by : (o : Option Entry) → Some s ≡ option_map (λ e. e.slot) o
+        → (e : Entry) × (o ≡ Some e) × (e.slot ≡ s)
     by None e = cc e
     by (Some f) e = (f, refl, cc e)
 
-pub found_held : (id : List ℕ) (es : Entries) (e : Entry) → entry_named id es ≡ Some e → 0 < held es e.slot
+pub found_held : (id : List ℕ) (es : Entries) (e : Entry) → entry_named id es ≡ Some e
+    → 0 < held es e.slot
 unfolding entry_named
-found_held id es e h = let at = place_from_lookup (bytes_eq id) es e h in held-at es at.0 at.1 e at.2
+found_held id es e h =
+    let at = place_from_lookup (bytes_eq id) es e h in held-at es at.0 at.1 e at.2
 
 -- the slot that is found is live
-pub found_live : (digest : List ℕ → List ℕ) (p : Cells) (id : List ℕ) (es : Entries) (s : ℕ) → StandsIn digest p es → Some s ≡ slot_of id es → IsLive p s
+pub found_live : (digest : List ℕ → List ℕ) (p : Cells) (id : List ℕ) (es : Entries) (s : ℕ)
+    → StandsIn digest p es → Some s ≡ slot_of id es → IsLive p s
 found_live digest p id es s stands h =
     let at = found_entry id es s h in
     let n = stands.counted at.0.slot in
@@ -93,7 +102,8 @@ fault_by long there full =
     if long then Some Limit else if unwrap_or there false then None else if full then Some Limit
     else if is_some there then Some NameCollision else None
 
-pub store_fault-by : (id : List ℕ) (c : Content) (os : List Object) (there : Option Bool) → there ≡ option_map (same_content c) (object_named id os)
+pub store_fault-by : (id : List ℕ) (c : Content) (os : List Object) (there : Option Bool)
+    → there ≡ option_map (same_content c) (object_named id os)
     → store_fault id c os ≡ fault_by (nat_lt CONTENTS_LIMIT (length c.bytes)) there (nat_le OBJECTS_LIMIT (length os))
 unfolding store_fault
 store_fault-by id c os there is = rw is (by (object_named id os))
@@ -101,28 +111,35 @@ store_fault-by id c os there is = rw is (by (object_named id os))
     by : (o : Option Content)
         → cond (nat_lt CONTENTS_LIMIT (length c.bytes)) (Some Limit) (cond (option_map_or (same_content c) o false) None
         (cond (nat_le OBJECTS_LIMIT (length os)) (Some Limit) (cond (is_some o) (Some NameCollision) None)))
-        ≡ fault_by (nat_lt CONTENTS_LIMIT (length c.bytes)) (option_map (same_content c) o) (nat_le OBJECTS_LIMIT (length os))
+        ≡ fault_by (nat_lt CONTENTS_LIMIT (length c.bytes)) (option_map (same_content c) o)
+        (nat_le OBJECTS_LIMIT (length os))
     by None = refl
     by (Some d) = refl
 
 module _ (id : List ℕ) (c : Content) (os : List Object) (there : Option Bool) (is : there ≡ option_map (same_content c) (object_named id os)) where
-  by_tests : length c.bytes ≤ CONTENTS_LIMIT → store_fault id c os ≡ fault_by false there (nat_le OBJECTS_LIMIT (length os))
+  by_tests : length c.bytes ≤ CONTENTS_LIMIT
+      → store_fault id c os ≡ fault_by false there (nat_le OBJECTS_LIMIT (length os))
   by_tests fits =
       let short : nat_lt CONTENTS_LIMIT (length c.bytes) ≡ false = grind (arith, nat_tests) in
-      store_fault-by id c os there is ∙ ap (λ (b : Bool). fault_by b there (nat_le OBJECTS_LIMIT (length os))) short
+      store_fault-by id c os there is
+      ∙ ap (λ (b : Bool). fault_by b there (nat_le OBJECTS_LIMIT (length os))) short
 
-  pub fault-found : length c.bytes ≤ CONTENTS_LIMIT → unwrap_or there false ≡ true → store_fault id c os ≡ None
+  pub fault-found : length c.bytes ≤ CONTENTS_LIMIT → unwrap_or there false ≡ true
+      → store_fault id c os ≡ None
   fault-found fits found = by_tests fits ∙ rw found refl
 
-  pub fault-full : length c.bytes ≤ CONTENTS_LIMIT → unwrap_or there false ≡ false → (n : ℕ) → length os ≡ n → nat_le OBJECTS_LIMIT n ≡ true
+  pub fault-full : length c.bytes ≤ CONTENTS_LIMIT → unwrap_or there false ≡ false → (n : ℕ)
+      → length os ≡ n → nat_le OBJECTS_LIMIT n ≡ true
       → store_fault id c os ≡ Some Limit
   fault-full fits lost n size full = by_tests fits ∙ rw (lost, size, full) refl
 
-  pub fault-clash : length c.bytes ≤ CONTENTS_LIMIT → unwrap_or there false ≡ false → (n : ℕ) → length os ≡ n → nat_le OBJECTS_LIMIT n ≡ false
+  pub fault-clash : length c.bytes ≤ CONTENTS_LIMIT → unwrap_or there false ≡ false → (n : ℕ)
+      → length os ≡ n → nat_le OBJECTS_LIMIT n ≡ false
       → is_some there ≡ true → store_fault id c os ≡ Some NameCollision
   fault-clash fits lost n size room taken = by_tests fits ∙ rw (lost, size, room, taken) refl
 
-  pub fault-none : length c.bytes ≤ CONTENTS_LIMIT → unwrap_or there false ≡ false → (n : ℕ) → length os ≡ n → nat_le OBJECTS_LIMIT n ≡ false
+  pub fault-none : length c.bytes ≤ CONTENTS_LIMIT → unwrap_or there false ≡ false → (n : ℕ)
+      → length os ≡ n → nat_le OBJECTS_LIMIT n ≡ false
       → is_some there ≡ false → store_fault id c os ≡ None
   fault-none fits lost n size room free = by_tests fits ∙ rw (lost, size, room, free) refl
 
@@ -130,12 +147,14 @@ module _ (id : List ℕ) (c : Content) (os : List Object) (there : Option Bool) 
   pub no_object : is_some there ≡ false → object_named id os ≡ None
   no_object free = none-from_map (object_named id os) (rw is at free)
     where
-      none-from_map : (o : Option Content) → is_some (option_map (same_content c) o) ≡ false → o ≡ None
+      none-from_map : (o : Option Content) → is_some (option_map (same_content c) o) ≡ false
+          → o ≡ None
       none-from_map None h = refl
       none-from_map (Some d) h = cc h
 
 -- contents that are too long
-pub fault-long : (id : List ℕ) (c : Content) (os : List Object) → CONTENTS_LIMIT < length c.bytes → store_fault id c os ≡ Some Limit
+pub fault-long : (id : List ℕ) (c : Content) (os : List Object) → CONTENTS_LIMIT < length c.bytes
+    → store_fault id c os ≡ Some Limit
 fault-long id c os above =
     let long : nat_lt CONTENTS_LIMIT (length c.bytes) ≡ true = grind (arith, nat_tests) in
     store_fault-by id c os _ refl ∙ rw long refl
@@ -146,7 +165,8 @@ later-none : (o : Option Entry) → later o None ≡ o
 later-none (Some f) = refl
 later-none None = refl
 
-pub no_entry : (p : Cells) (id : List ℕ) (es : Entries) → object_named id (objects p es) ≡ None → entry_named id es ≡ None
+pub no_entry : (p : Cells) (id : List ℕ) (es : Entries) → object_named id (objects p es) ≡ None
+    → entry_named id es ≡ None
 no_entry p id es h = by (entry_named id es) (sym (object_named-objects p id es) ∙ h)
   where
     by : (o : Option Entry) → option_map (λ e. content p e.slot) o ≡ None → o ≡ None
@@ -157,12 +177,15 @@ objects-push : (p : Cells) (es : Entries) (id : List ℕ) (e : Entry)
     → objects p (es ++ (id, e) ∷ []) ≡ objects p es ++ record { id = id; content = content p e.slot } ∷ []
 unfolding objects
 objects-push p [] id e = refl
-objects-push p (x ∷ es) id e = ap (λ (os : List Object). record { id = x.0; content = content p x.1.slot } ∷ os) (objects-push p es id e)
+objects-push p (x ∷ es) id e =
+    ap (λ (os : List Object). record { id = x.0; content = content p x.1.slot } ∷ os)
+    (objects-push p es id e)
 
 summary_of-push : (q : List ℕ) (es : Entries) (id : List ℕ) (e : Entry) → entry_named id es ≡ None
     → summary_of q (es ++ (id, e) ∷ []) ≡ cond (bytes_eq q id) e.summary (summary_of q es)
 summary_of-push q es id e none =
-    ap (option_and_then (λ (f : Entry). f.summary)) (entry_named-push q es id e) ∙ by (bytes_eq q id) refl
+    ap (option_and_then (λ (f : Entry). f.summary)) (entry_named-push q es id e)
+    ∙ by (bytes_eq q id) refl
   where
     at : bytes_eq q id ≡ true → entry_named q es ≡ None
     at same = let is : q ≡ id = (bytes_eq-Decides q id).0 same in rw is none
@@ -178,10 +201,13 @@ pub record Pushed (digest : List ℕ → List ℕ) (c : Content) (summary : Opti
   pub adds : Adds digest c summary p old q new
 
 pub pushed : (digest : List ℕ → List ℕ) (id : List ℕ) (c : Content) (summary : Option Summary) (p : Cells) (old : View) (q : Cells) (new : View) (slot : ℕ)
-    → PushesAt id c summary p old q new slot → id ≡ name_by digest c → entry_named id old.entries ≡ None → StandsIn digest p old.entries
-    → SummedBehind old.entries c summary → length c.bytes ≤ CONTENTS_LIMIT → Pushed digest c summary p old q new
+    → PushesAt id c summary p old q new slot → id ≡ name_by digest c
+    → entry_named id old.entries ≡ None → StandsIn digest p old.entries
+    → SummedBehind old.entries c summary → length c.bytes ≤ CONTENTS_LIMIT
+    → Pushed digest c summary p old q new
 pushed digest id c summary p old q new slot h named none stands summed within = record {
-  stands = rw is (StandsIn-put digest p q old.entries id added c stands h.puts named none summed within);
+  stands =
+      rw is (StandsIn-put digest p q old.entries id added c stands h.puts named none summed within);
   others = rw is (LeavesOthers-put p q old.entries id added c h.puts);
   adds = record {
     objects =
@@ -199,7 +225,9 @@ pushed digest id c summary p old q new slot h named none stands summed within = 
     is = ap (λ (v : View). v.entries) h.entries
 
     absent : object_named id (objects p old.entries) ≡ None
-    absent = object_named-objects p id old.entries ∙ ap (option_map (λ (e : Entry). content p e.slot)) none
+    absent =
+        object_named-objects p id old.entries
+        ∙ ap (option_map (λ (e : Entry). content p e.slot)) none
 
     same : objects q old.entries ++ record { id = id; content = content q slot } ∷ [] ≡ objects p old.entries ++ record { id = id; content = c } ∷ []
     same =
@@ -233,19 +261,25 @@ contents c d h =
     let bytes = (bytes_eq-Decides c.bytes d.bytes).0 parts.1 in
     λ i. record { kind = kind i; bytes = bytes i }
 
-there_is : (p : Cells) (id : List ℕ) (es : Entries) (c : Content) (there : Option Bool) → there ≡ option_map (same_content c) (object_named id (objects p es))
-    → unwrap_or there false ≡ true → (e : Entry) × (entry_named id es ≡ Some e) × (c ≡ content p e.slot)
+there_is : (p : Cells) (id : List ℕ) (es : Entries) (c : Content) (there : Option Bool)
+    → there ≡ option_map (same_content c) (object_named id (objects p es))
+    → unwrap_or there false ≡ true
+    → (e : Entry) × (entry_named id es ≡ Some e) × (c ≡ content p e.slot)
 there_is p id es c there is h =
-    by (entry_named id es) refl (sym (ap (λ (o : Option Bool). unwrap_or o false) (is ∙ ap (option_map (same_content c)) (object_named-objects p id es))) ∙ h)
+    by (entry_named id es) refl
+    (sym (ap (λ (o : Option Bool). unwrap_or o false) (is ∙ ap (option_map (same_content c)) (object_named-objects p id es))) ∙ h)
   where
-    by : (o : Option Entry) → entry_named id es ≡ o → unwrap_or (option_map (same_content c) (option_map (λ e. content p e.slot) o)) false ≡ true
+    by : (o : Option Entry) → entry_named id es ≡ o
+        → unwrap_or (option_map (same_content c) (option_map (λ e. content p e.slot) o)) false ≡ true
         → (e : Entry) × (entry_named id es ≡ Some e) × (c ≡ content p e.slot)
     by None at lost = cc lost
     by (Some e) at same = (e, at, contents c (content p e.slot) same)
 
 pub found_adds : (digest : List ℕ → List ℕ) (id : List ℕ) (c : Content) (summary : Option Summary) (p : Cells) (old : View) (there : Option Bool)
-    → there ≡ option_map (same_content c) (object_named id (objects p old.entries)) → unwrap_or there false ≡ true → id ≡ name_by digest c
-    → StandsIn digest p old.entries → SummedBehind old.entries c summary → Adds digest c summary p old p old
+    → there ≡ option_map (same_content c) (object_named id (objects p old.entries))
+    → unwrap_or there false ≡ true → id ≡ name_by digest c
+    → StandsIn digest p old.entries → SummedBehind old.entries c summary
+    → Adds digest c summary p old p old
 unfolding entry_named IsSummed
 found_adds digest id c summary p old there is found named stands summed = record {
   objects = rw (← named) (rw some refl);
@@ -257,9 +291,12 @@ found_adds digest id c summary p old there is found named stands summed = record
     at = there_is p id old.entries c there is found
 
     some : is_some (object_named id (objects p old.entries)) ≡ true
-    some = ap is_some (object_named-objects p id old.entries ∙ ap (option_map (λ (e : Entry). content p e.slot)) at.1)
+    some =
+        ap is_some
+        (object_named-objects p id old.entries ∙ ap (option_map (λ (e : Entry). content p e.slot)) at.1)
 
-    place : (i : ℕ) × (k : List ℕ) × (slice_get old.entries i ≡ Some (k, at.0)) × (bytes_eq id k ≡ true)
+    place : (i : ℕ) × (k : List ℕ) × (slice_get old.entries i ≡ Some (k, at.0))
+        × (bytes_eq id k ≡ true)
     place = place_from_lookup (bytes_eq id) old.entries at.0 at.1
 
     same : at.0.summary ≡ summary
@@ -267,7 +304,8 @@ found_adds digest id c summary p old there is found named stands summed = record
         SummedBehind-same place.0 old.entries c at.0.summary summary
         (subst (λ (d : Content). SummedBehind (take place.0 old.entries) d at.0.summary) (sym at.2) (stands.summed place.0 place.1 at.0 place.2)) summed
 
-    by : (q : List ℕ) (b : Bool) → bytes_eq q id ≡ b → summary_of q old.entries ≡ cond b summary (summary_of q old.entries)
+    by : (q : List ℕ) (b : Bool) → bytes_eq q id ≡ b
+        → summary_of q old.entries ≡ cond b summary (summary_of q old.entries)
     by q true e =
         let is_id : q ≡ id = (bytes_eq-Decides q id).0 e in
         rw (is_id, at.1) same

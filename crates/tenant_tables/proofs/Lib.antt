@@ -8,5 +8,3 @@ pub mod TreeTexts
 pub mod AddLemmas
 pub mod Abbreviations
 pub mod FoundLemmas
-pub mod TwoTables
-pub mod PlainLemmas

@@ -30,7 +30,7 @@ Answers (Err fault.Limit) id refusal = refusal ≡ Some fault.Limit
 Answers (Err fault.NameCollision) id refusal = refusal ≡ Some fault.NameCollision
 Answers (Err fault.Memory) id refusal = Unit {0}
 
--- One entry behind those that were there, in a slot that the pool holds once more.
+-- One entry after those that were there, in a slot that the pool holds once more.
 pub record PushesAt (id : List ℕ) (c : Content) (summary : Option Summary) (before : Cells)
     (old : View) (after : Cells) (new : View) (slot : ℕ) : Type 0 where
   pub puts : Puts before after slot c
@@ -44,7 +44,7 @@ abbrev pub Pushes : List ℕ → Content → Option Summary → Cells → View �
 Pushes id c summary before old after new = (slot : ℕ)
     × PushesAt id c summary before old after new slot
 
--- The object is there afterwards, behind those that were there unless it was one of them, and
+-- The object is there afterwards, after those that were there unless it was one of them, and
 -- nothing else has changed. A name that was there keeps its summary.
 pub record Adds (digest : List ℕ → List ℕ) (c : Content) (summary : Option Summary) (before : Cells)
     (old : View) (after : Cells) (new : View) : Type 0 where

@@ -1,4 +1,4 @@
--- The ordered index of a table's names, and what a table is without one.
+-- The ordered index of a table's names.
 use Rattle.std.specs.Prelude.{◌≡◌, ℕ, ◌≤◌, List, length, All, is_some}
 use Rattle.std.specs.Ordering.{nat_cmp}
 use Rattle.std.specs.Cmp.Lexicographic.{slice_cmp}
@@ -21,10 +21,3 @@ pub record IsTable (entries : Entries) (index : BTreeSet (List ℕ)) (committed 
   pub within : committed ≤ length entries
   pub limited : length entries ≤ OBJECTS_LIMIT
   pub indexed : IsIndexed entries index
-
--- The same without an index, for the plain table.
-pub record IsList (entries : Entries) (committed : ℕ) : Type 0 where
-  pub within : committed ≤ length entries
-  pub limited : length entries ≤ OBJECTS_LIMIT
-  pub named : All IsObjectName (names entries)
-  pub distinct : IsDistinct bytes_eq (names entries)

@@ -7,8 +7,8 @@ use Rattle.tenant_tables.specs.View.{Entries, held}
 use Rattle.tenant_tables.specs.Trees.{IsSummed}
 
 -- Entries stand in a pool where each has the object name of the content in its slot, where none of
--- these is longer than a table takes, where no slot has two of them, where the pool counts a hold for each, and where their summaries are those of
--- their trees.
+-- these is longer than a table takes, where no slot has two of them, where the pool counts a hold
+-- for each, and where their summaries are those of their trees.
 pub record StandsIn (digest : List ℕ → List ℕ) (pool : Cells) (entries : Entries) : Type 0 where
   pub named : All (λ e. e.0 ≡ name_by digest (content pool e.1.slot)) entries
   pub short : All (λ e. length (content pool e.1.slot).bytes ≤ CONTENTS_LIMIT) entries

@@ -38,7 +38,11 @@ entry_summary table e = by_mode e.mode (below e.name (unwrap_or (summary_of e.id
 
 -- The files of both; the longer of the two paths, and the deeper.
 abbrev pub both : Summary → Summary → Summary
-both s t = record { files = s.files + t.files; depth = max s.depth t.depth; longest = max s.longest t.longest }
+both s t = record {
+  files = s.files + t.files;
+  depth = max s.depth t.depth;
+  longest = max s.longest t.longest;
+}
 
 -- The summary of a tree with these entries, whose directories have theirs in the table.
 abbrev pub tree_summary : Entries → List TreeEntry → Summary
@@ -62,13 +66,13 @@ pub record IsTreeOf (table : Entries) (bytes : List ℕ) (summary : Summary)
 abbrev pub FitsTree : Entries → List ℕ → Summary → Type 0
 FitsTree table bytes summary = (es : List TreeEntry) × IsTreeOf table bytes summary es
 
--- What stands in an entry beside its slot: behind those of the table, a tree has its summary, and
+-- What stands in an entry beside its slot: after those of the table, a tree has its summary, and
 -- every other object none.
 abbrev pub SummedBehind : Entries → Content → Option Summary → Type 0
 SummedBehind table c None = c.kind ≢ kind.Tree
 SummedBehind table c (Some s) = (c.kind ≡ kind.Tree) × FitsTree table c.bytes s
 
--- Each entry is summed behind those before it.
+-- Each entry is summed after those before it.
 unfoldable pub IsSummed : Cells → Entries → Type 0
 IsSummed pool entries = (i : ℕ) (id : List ℕ) (e : Entry) → slice_get entries i ≡ Some (id, e)
     → SummedBehind (take i entries) (content pool e.slot) e.summary

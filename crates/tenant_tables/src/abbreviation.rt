@@ -1,4 +1,4 @@
-//! The object names that some digits begin lie between two names: that with zeros behind the
+//! The object names that some digits begin lie between two names: that with zeros after the
 //! digits, and that with `f`s.
 
 ghost use Rattle.std.specs.Prelude.{◌≡◌, ◌≢◌, ◌≤◌, ◌++◌, ◌-◌, ℕ, List, Ok, length, replicate, false, IfNone, IfSome};
@@ -19,15 +19,15 @@ fn padded(digits: &[u8], digit: u8) -> Option<Name>
         return None;
     }
     let mut text = [digit; 40];
-    for (place, given) in digits.iter().enumerate() {
-        text[place] = *given;
+    for (position, given) in digits.iter().enumerate() {
+        text[position] = *given;
     }
     Name::from_hex(&text)
 }
 
-/// The least and the greatest object name that these hexadecimal digits begin; `None` where they
-/// begin none.
-pub(crate) fn bounds(digits: &[u8]) -> Option<(Name, Name)>
+/// The least and the greatest object name that these hexadecimal digits of either case begin;
+/// `None` where they begin none. Takes no memory.
+pub fn bounds(digits: &[u8]) -> Option<(Name, Name)>
     ensures none { IfNone result ((id : List ℕ) → IsObjectName id → begins digits.now id ≡ false) }
     ensures some { IfSome result (λ r. Bounds digits.now r.0 r.1) }
 {

@@ -1,7 +1,7 @@
 //! A tenant's object table: which object names it has, in the order in which they were added.
 //!
 //! The contents lie in the pool, shared with other tenants. A lookup goes through this table alone,
-//! so what is not in it does not exist for the tenant. Objects behind the committed prefix belong
+//! so what is not in it does not exist for the tenant. Objects after the committed prefix belong
 //! to the open stream and go at `roll_back`.
 #![tactic(auto)]
 
@@ -9,17 +9,14 @@ mod abbreviation;
 mod entry;
 mod fault;
 mod found;
-mod plain;
 mod sight;
 mod sized;
 mod summary;
 mod table;
-#[cfg(test)]
-mod tests;
 
+pub use abbreviation::bounds;
 pub use fault::Fault;
 pub use found::Found;
-pub use plain::PlainTable;
 pub use sight::Sight;
 pub use summary::Summary;
-pub use table::Table;
+pub use table::{CONTENTS_LIMIT, OBJECTS_LIMIT, Table};

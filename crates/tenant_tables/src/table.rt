@@ -280,7 +280,7 @@ impl Table {
         self.len() >= OBJECTS_LIMIT
     }
 
-    // Puts an object behind all others. All that may fail comes before the first change that is not
+    // Puts an object after all others. All that may fail comes before the first change that is not
     // taken back.
     fn push_new<N: Naming>(
         &mut self,
@@ -320,7 +320,7 @@ impl Table {
         self.committed = self.len();
     }
 
-    /// Takes out the objects behind the committed prefix and releases their slots. Takes no memory.
+    /// Takes out the objects after the committed prefix and releases their slots. Takes no memory.
     ///
     /// What another table holds stays in the pool. The pool is the one that the table stands in.
     pub fn roll_back<N: Naming>(&mut self, pool: &mut Pool<N>)

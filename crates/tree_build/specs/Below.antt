@@ -23,7 +23,7 @@ group_of g = (g.name.now, files_below g.below.items)
 abbrev pub groups_of : List Group → Groups
 groups_of gs = map group_of gs
 
--- The first component of a path and what is behind it.
+-- The first component of a path and what is after it.
 abbrev pub split_path : Path → Entry → Option (List ℕ × (Path × Entry))
 split_path [] e = None
 split_path (c ∷ rest) e = Some (c, (rest, e))

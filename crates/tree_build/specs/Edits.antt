@@ -10,7 +10,7 @@ use Rattle.tree_build.specs.declared.fault.Fault.{Fault}
 use Rattle.tree_build.specs.declared.fault.Fault.TheVariants as fault
 use Rattle.tree_build.specs.FileMap.{Path, Listed, FileMap, listed, is_apart}
 
--- A file before others, if its path has something behind the top.
+-- A file before others, if its path has something after the top.
 abbrev pub cut_one : Option Path → Entry → Listed → Listed
 cut_one (Some rest) e files = (rest, e) ∷ files
 cut_one None e files = files

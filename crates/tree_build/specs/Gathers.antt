@@ -17,7 +17,7 @@ is_small s = nat_le s.files FILES_LIMIT && nat_le s.depth 256 && nat_le s.longes
 abbrev pub has_none : Option Summary → Bool
 has_none s = (unwrap_or s no_files).files == 0
 
--- Files were put behind others: those of the tree of a name, with a path put before each of theirs.
+-- Files were put after others: those of the tree of a name, with a path put before each of theirs.
 pub record Gathers (os : List Object) (top : Path) (id : List ℕ) (old new : Listed) : Type 0 where
   pub files : Listed
   pub listed : ListsTree os id files

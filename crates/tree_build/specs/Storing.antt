@@ -16,7 +16,7 @@ use Rattle.tree_build.specs.declared.fault.Fault.{Fault}
 use Rattle.tree_build.specs.declared.fault.Fault.TheVariants as fault
 use Rattle.tree_build.specs.Trees.{tree_content, tree_name}
 
--- Objects with trees added behind them, in their order. A tree that is there is not added again.
+-- Objects with trees added after them, in their order. A tree that is there is not added again.
 abbrev pub with_trees : (List ℕ → List ℕ) → List (List TreeEntry) → List Object → List Object
 with_trees digest [] os = os
 with_trees digest (es ∷ trees) os =

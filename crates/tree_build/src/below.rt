@@ -13,7 +13,7 @@ use crate::map::Entries;
 use git_paths::{Components, Path};
 use std::alloc::{AllocError, Global};
 
-/// A file below a directory: what its path has behind that of the directory.
+/// A file below a directory: what its path has after that of the directory.
 #[derive(Drop)]
 pub(crate) struct Below<'a> {
     pub path: Components<'a>,

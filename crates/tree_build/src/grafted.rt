@@ -84,7 +84,7 @@ fn child(alloc: Global, top: &Path, name: &[u8]) -> Result<Path, Memory>
     Ok(top.child(alloc, name)?)
 }
 
-// Puts a file behind others.
+// Puts a file after others.
 fn push_file(
     files: &mut Vec<(Path, Entry)>,
     path: Path,
@@ -102,7 +102,7 @@ fn push_file(
     Ok(())
 }
 
-/// Puts the files of the tree of this name, with a path put before each of theirs, behind others.
+/// Puts the files of the tree of this name, with a path put before each of theirs, after others.
 #[cycle(gathering)]
 pub(crate) fn gather<N: Naming>(
     alloc: Global,

@@ -15,8 +15,3 @@ mod storing;
 pub use entry::Entry;
 pub use fault::Fault;
 pub use files::Files;
-
-#[cfg(test)]
-mod made_by_git;
-#[cfg(test)]
-mod tests;

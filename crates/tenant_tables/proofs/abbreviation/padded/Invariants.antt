@@ -1,5 +1,5 @@
 use Rattle.std.proofs.Common.{◌≡◌, ◌++◌, ◌-◌, take, replicate}
 use Rattle.tenant_tables.proofs.abbreviation.padded.Given as goal
 
-abbrev pub invariant-loop-place : goal.invariant-loop-place
-invariant-loop-place l = l.text ≡ take l.place l.digits ++ replicate (40 - l.place) l.digit
+abbrev pub invariant-loop-position : goal.invariant-loop-position
+invariant-loop-position l = l.text ≡ take l.position l.digits ++ replicate (40 - l.position) l.digit

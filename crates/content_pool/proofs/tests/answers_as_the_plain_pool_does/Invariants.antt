@@ -1,7 +1,0 @@
-use Rattle.std.proofs.Common.{ℕ, ◌≤◌}
-use Rattle.content_pool.specs.Pool.{holds}
-use Rattle.content_pool.proofs.tests.answers_as_the_plain_pool_does.Given as goal
-
--- each turn adds one hold at most
-abbrev pub invariant-loop-bytes : goal.invariant-loop-bytes
-invariant-loop-bytes g l = ((s : ℕ) → holds l.pool s ≤ l.bytes-index) × ((s : ℕ) → holds l.plain s ≤ l.bytes-index)

@@ -1,0 +1,3 @@
+pub mod PoolsInLists
+pub mod TablesInLists
+pub mod TwoTables

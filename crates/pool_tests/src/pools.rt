@@ -1,0 +1,171 @@
+//! What no clause says of a pool: names from git, that calls succeed, and which slot is used again.
+
+ghost use Rattle.std.specs.Prelude.{◌≡◌, ℕ, ◌<◌, IfOk};
+ghost use Rattle.content_pool.specs.Pool.{IsVacant, holds};
+
+use crate::plain_pool::PlainPool;
+use content_pool::{Pool, Slot};
+use git_model::Kind;
+use git_objects::{Memory, Naming, Sha1Naming, TailNaming};
+use std::alloc::Global;
+use std::test::Fail;
+
+// The number of contents in a pool, and the sum of their sizes.
+type Sizes = (u64, u64);
+
+// The digits of the name of `hello` and a line feed as a blob, whether it is given back so, and
+// what is then stored.
+fn of_hello(alloc: Global) -> Result<([u8; 40], bool, Sizes), Fail> {
+    let mut pool = Pool::new(alloc, Sha1Naming);
+    let (slot, id) = pool.put(Kind::Blob, b"hello\n")?;
+    let (kind, bytes) = pool.get(slot);
+    let is_same = kind == Kind::Blob && bytes == b"hello\n".as_slice();
+    Ok((id.to_hex(), is_same, pool.stored()))
+}
+
+// Holds one content four times, each time otherwise, and answers its one slot.
+fn held_in_four_ways(alloc: Global, pool: &mut Pool<Sha1Naming>) -> Result<Slot, Fail>
+    requires { IsVacant pool.old }
+    ensures { IfOk result (λ slot. holds pool.new slot ≡ 4) }
+{
+    let (slot, id) = pool.put(Kind::Blob, b"a")?;
+    let (again, _) = pool.put(Kind::Blob, b"a")?;
+    let owned = Vec::from_slice(alloc, b"a")?;
+    let taken = pool.put_owned(id, Kind::Blob, owned)?;
+    if again != slot || taken != slot {
+        return Err(Fail::from("two slots for one content"));
+    }
+    pool.hold(slot);
+    Ok(slot)
+}
+
+// Whether a content that is held four times stays until its last release.
+fn keeps_a_content_until_its_last_release(alloc: Global) -> Result<bool, Fail> {
+    let mut pool = Pool::new(alloc, Sha1Naming);
+    let slot = held_in_four_ways(alloc, &mut pool)?;
+    for _ in 0..3u32 {
+        pool.release(slot);
+        if pool.stored() != (1, 1) {
+            return Ok(false);
+        }
+    }
+    pool.release(slot);
+    Ok(pool.stored() == (0, 0))
+}
+
+// Whether the slot of a released content is that of the next one, and what it then holds.
+fn uses_a_slot_again_after_its_last_release(alloc: Global) -> Result<bool, Fail> {
+    let mut pool = Pool::new(alloc, Sha1Naming);
+    let (first, _) = pool.put(Kind::Blob, b"a")?;
+    pool.release(first);
+    let (second, _) = pool.put(Kind::Blob, b"b")?;
+    let (_, bytes) = pool.get(second);
+    Ok(second == first && bytes == b"b".as_slice())
+}
+
+// Whether two contents of one name lie apart, and each is given up alone.
+fn tells_two_contents_of_one_name_apart(alloc: Global) -> Result<bool, Fail> {
+    let mut pool = Pool::new(alloc, TailNaming);
+    let (ab, first) = pool.put(Kind::Blob, b"ab")?;
+    let (ba, second) = pool.put(Kind::Blob, b"ba")?;
+    if first != second || ab == ba || pool.stored() != (2, 4) {
+        return Ok(false);
+    }
+    pool.release(ab);
+    let (_, bytes) = pool.get(ba);
+    Ok(bytes == b"ba".as_slice() && pool.stored() == (1, 2))
+}
+
+// Whether the pool is as it was after so many contents, each in the slot of the first.
+fn is_as_it_was_after_ten_thousand_contents(alloc: Global) -> Result<bool, Fail> {
+    let mut pool = Pool::new(alloc, Sha1Naming);
+    let (first, _) = pool.put(Kind::Blob, b"first")?;
+    pool.release(first);
+    for number in 0..10_000u32 {
+        let (slot, _) = pool.put(Kind::Blob, &number.to_be_bytes())?;
+        if slot != first || pool.stored() != (1, 4) {
+            return Ok(false);
+        }
+        pool.release(slot);
+    }
+    Ok(pool.stored() == (0, 0))
+}
+
+#[test]
+fn stores_each_content_once(rt: HostRuntime) -> Result<(), Fail> {
+    let name_by_git = *b"ce013625030ba8dba906f756967f9e9ca394464a";
+    assert_eq!(rt; of_hello(rt.alloc())?, (name_by_git, true, (1, 6)));
+    assert!(rt; keeps_a_content_until_its_last_release(rt.alloc())?);
+    assert!(rt; uses_a_slot_again_after_its_last_release(rt.alloc())?);
+    assert!(rt; tells_two_contents_of_one_name_apart(rt.alloc())?);
+    assert!(rt; is_as_it_was_after_ten_thousand_contents(rt.alloc())?);
+    Ok(())
+}
+
+// Contents of two names, some of them twice.
+const PUT: &[&[u8]] = &[b"ab", b"ba", b"cd", b"ab", b"dc", b"ba"];
+
+// Whether both answer alike when these contents are put, and then hold four of two bytes.
+fn answer_alike(
+    pool: &mut Pool<TailNaming>,
+    plain: &mut PlainPool<TailNaming>,
+) -> Result<bool, Memory>
+    requires vacant { IsVacant pool.old }
+    requires plain_vacant { IsVacant plain.old }
+{
+    for bytes in PUT {
+        let (slot, id) = pool.put(Kind::Blob, bytes)?;
+        let (position, plain_id) = plain.put(Kind::Blob, bytes)?;
+        let answer = (id, pool.get(slot), pool.stored());
+        if answer != (plain_id, plain.get(position), plain.stored()) {
+            return Ok(false);
+        }
+    }
+    Ok(pool.stored() == (4, 8))
+}
+
+fn new_pools_answer_alike(alloc: Global) -> Result<bool, Memory> {
+    let mut pool = Pool::new(alloc, TailNaming);
+    let mut plain = PlainPool::new(alloc, TailNaming);
+    answer_alike(&mut pool, &mut plain)
+}
+
+#[test]
+fn answers_as_the_plain_pool_does(rt: HostRuntime) -> Result<(), Fail> {
+    assert!(rt; new_pools_answer_alike(rt.alloc())?);
+    Ok(())
+}
+
+// Run with the first, second, .. allocation refused: the pool is then as it was, and a second try
+// goes through.
+#[test]
+fn is_unchanged_after_a_refused_growth(rt: HostRuntime) -> Result<(), Fail> {
+    assert!(rt; stays_after_a_refusal(rt.alloc())?);
+    Ok(())
+}
+
+// Whether both contents are put, each a second time where a growth was refused and changed nothing.
+fn stays_after_a_refusal(alloc: Global) -> Result<bool, Memory> {
+    let mut pool = Pool::new(alloc, TailNaming);
+    put_both(&mut pool)
+}
+
+fn put_both(pool: &mut Pool<TailNaming>) -> Result<bool, Memory>
+    requires { IsVacant pool.old }
+{
+    let before = pool.stored();
+    if pool.put(Kind::Blob, b"ab").is_err() {
+        if pool.stored() != before {
+            return Ok(false);
+        }
+        pool.put(Kind::Blob, b"ab")?;
+    }
+    let before = pool.stored();
+    if pool.put(Kind::Blob, b"ba").is_err() {
+        if pool.stored() != before {
+            return Ok(false);
+        }
+        pool.put(Kind::Blob, b"ba")?;
+    }
+    Ok(pool.stored() == (2, 4))
+}

@@ -1,9 +1,0 @@
-use Rattle.std.proofs.Common.{refl}
-use Rattle.tenant_tables.proofs.TwoTables.{Share-nil}
-use Rattle.tenant_tables.proofs.tests.beside.Beside.new.Goals as goal
-
-pub invariant_of-result : goal.invariant_of-result
-invariant_of-result g c = (
-  Share-nil _ _ _ _ c.new.ensures c.new-2.ensures.entries refl,
-  Share-nil _ _ _ _ c.new-3.ensures c.new-4.ensures.entries refl,
-)

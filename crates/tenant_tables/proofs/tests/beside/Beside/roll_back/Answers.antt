@@ -1,8 +1,0 @@
-use Rattle.tenant_tables.proofs.TwoTables.{Share-first}
-use Rattle.tenant_tables.proofs.tests.beside.Beside.roll_back.Goals as goal
-
-pub invariant_of-self : goal.invariant_of-self
-invariant_of-self g c = (
-  Share-first _ _ _ _ _ _ c.self.invariant.0 c.roll_back.ensures.stands c.roll_back.ensures.others,
-  Share-first _ _ _ _ _ _ c.self.invariant.1 c.roll_back-2.ensures.stands c.roll_back-2.ensures.others,
-)

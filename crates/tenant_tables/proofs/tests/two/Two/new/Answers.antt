@@ -1,5 +1,0 @@
-use Rattle.tenant_tables.proofs.TwoTables.{Share-nil}
-use Rattle.tenant_tables.proofs.tests.two.Two.new.Goals as goal
-
-pub invariant_of-result : goal.invariant_of-result
-invariant_of-result g c = Share-nil _ _ _ _ c.new.ensures c.new-2.ensures.entries c.new-3.ensures.entries

@@ -1,5 +1,0 @@
-use Rattle.tenant_tables.proofs.TwoTables.{Share-first}
-use Rattle.tenant_tables.proofs.tests.two.Two.roll_back_first.Goals as goal
-
-pub invariant_of-self : goal.invariant_of-self
-invariant_of-self g c = Share-first _ _ _ _ _ _ c.self.invariant c.roll_back.ensures.stands c.roll_back.ensures.others

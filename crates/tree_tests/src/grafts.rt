@@ -1,0 +1,128 @@
+//! Stored trees that are put at a path, beside the names that Git gives.
+
+use crate::branch::{Case, HELLO, Step, first_wrong};
+use crate::files::{EMPTY_TREE, REGULAR, VERSION, VERSION_TREE};
+use git_objects::FileMode;
+use std::test::Fail;
+
+const RUN_TREE: &[u8; 40] = b"cf84a6b23e5ecf275e91fa653b8828bfe92ad4e4";
+
+// `git mktree` gave the names of the tree with bb/ccc alone, and of that with kept alone.
+const LOW_TREE: &[u8; 40] = b"8af50a44220f11f707b74ab13153b1764c202c92";
+
+const KEPT_TREE: &[u8; 40] = b"ceb548dfe0173c61beb9a1a7582f1a9ed557f7e3";
+
+const CASES: &[Case] = &[
+    // `git mktree` gave the name of the tree with a/b/test.txt alone.
+    Case {
+        does: "a stored tree stands below the path",
+        steps: &[
+            Step::Put(b"test.txt", VERSION, 0),
+            Step::Store(VERSION_TREE),
+            Step::Clear,
+            Step::Put(b"a", HELLO, 0),
+            Step::Graft(b"a/b", VERSION_TREE, 0),
+            Step::Mode(b"a/b/test.txt", REGULAR),
+            Step::Tree(b"a/b", VERSION_TREE),
+            Step::Tree(b"", b"b124a545b9b4866d0efa91f96ce0516015f8ccce"),
+        ],
+    },
+    // `git write-tree` gave the name of the tree with c and, at a/b, the stored one.
+    Case {
+        does: "two directories of one tree and a mode are kept",
+        steps: &[
+            Step::Put(b"one/x", HELLO, 0),
+            Step::Put(b"two/x", HELLO, 0),
+            Step::PutLine(b"100755 ce013625030ba8dba906f756967f9e9ca394464a\trun"),
+            Step::Store(RUN_TREE),
+            Step::Clear,
+            Step::Put(b"c", HELLO, 0),
+            Step::Put(b"a/b/gone", HELLO, 0),
+            Step::Graft(b"a/b", RUN_TREE, 0),
+            Step::Mode(b"a/b/gone", None),
+            Step::Mode(b"a/b/run", Some(FileMode::Executable)),
+            Step::Mode(b"a/b/two/x", REGULAR),
+            Step::Tree(b"", b"87577dc82e37d63e3d1e616f1b17e636c6531696"),
+        ],
+    },
+    Case {
+        does: "the empty tree only removes",
+        steps: &[
+            Step::Store(EMPTY_TREE),
+            Step::Put(b"c", HELLO, 0),
+            Step::Put(b"d/e/x", HELLO, 0),
+            Step::Put(b"f", HELLO, 0),
+            Step::Graft(b"d/e", EMPTY_TREE, 0),
+            Step::Mode(b"d", None),
+            Step::Graft(b"f/g/h", EMPTY_TREE, 0),
+            Step::Mode(b"f", None),
+            Step::Tree(b"", b"435927d2fe872add393f6b83553075ffeb232cba"),
+            Step::Graft(b"", EMPTY_TREE, 0),
+            Step::Tree(b"", EMPTY_TREE),
+        ],
+    },
+    Case {
+        does: "a tree at the root takes the place of all",
+        steps: &[
+            Step::Put(b"test.txt", VERSION, 0),
+            Step::Store(VERSION_TREE),
+            Step::Put(b"a/b", HELLO, 0),
+            Step::Put(b"c", HELLO, 0),
+            Step::Graft(b"", VERSION_TREE, 0),
+            Step::Mode(b"a", None),
+            Step::Mode(b"c", None),
+            Step::Tree(b"", VERSION_TREE),
+        ],
+    },
+    Case {
+        does: "a tree that is not there is refused",
+        steps: &[
+            Step::Put(b"a", HELLO, 0),
+            Step::Graft(b"a", EMPTY_TREE, 14),
+            Step::Mode(b"a", REGULAR),
+        ],
+    },
+    Case {
+        does: "an object that is no tree is refused",
+        steps: &[
+            Step::AddBlob(b"hello\n"),
+            Step::Graft(b"", HELLO, 15),
+            Step::Graft(b"", EMPTY_TREE, 14),
+        ],
+    },
+    // `git mktree` gave the names of both trees with the grafted one.
+    Case {
+        does: "paths past the limits by joining are refused",
+        steps: &[
+            Step::Put(b"bb/ccc", HELLO, 0),
+            Step::Store(LOW_TREE),
+            Step::Clear,
+            Step::Put(b"kept", HELLO, 0),
+            Step::GraftLong(255, 1, LOW_TREE, 25),
+            Step::Tree(b"", KEPT_TREE),
+            Step::GraftLong(1, 16377, LOW_TREE, 25),
+            Step::Tree(b"", KEPT_TREE),
+            Step::GraftLong(254, 1, LOW_TREE, 0),
+            Step::Tree(b"", b"f741607286f5906f784fa46d2f1777845cae9e49"),
+        ],
+    },
+    Case {
+        does: "a path of the most bytes is put by joining",
+        steps: &[
+            Step::Put(b"bb/ccc", HELLO, 0),
+            Step::Store(LOW_TREE),
+            Step::Clear,
+            Step::Put(b"kept", HELLO, 0),
+            Step::GraftLong(1, 16376, LOW_TREE, 0),
+            Step::Tree(b"", b"06d0f6b10a54beba7df39dac7402a66a9910cd6d"),
+        ],
+    },
+];
+
+#[test]
+fn stored_trees_are_put_as_git_does(rt: HostRuntime) -> Result<(), Fail> {
+    for case in CASES {
+        assert_eq!(rt; first_wrong(rt.alloc(), case.steps)?, None, "{}", case.does);
+    }
+    Ok(())
+}

@@ -1,0 +1,14 @@
+//! Tests of tree_build: edits, grafts and the trees of a branch, beside the names that Git gives.
+//! Nothing else stands here.
+#![tactic(auto)]
+
+#[cfg(test)]
+mod branch;
+#[cfg(test)]
+mod files;
+#[cfg(test)]
+mod grafts;
+#[cfg(test)]
+mod made_by_git;
+#[cfg(test)]
+mod real_trees;
