@@ -10,9 +10,7 @@ ghost use Rattle.git_objects.specs.Fronts.{IsFront};
 ghost use Rattle.git_objects.specs.HeaderParts.{end_lines};
 
 use crate::front::split_at_byte;
-use crate::ident::is_written_ident;
-use crate::memory::Memory;
-use crate::name::Name;
+use git_names::{Memory, Name, is_written_ident};
 
 /// Appends a line. After `Memory` (90) a piece of it may stand behind what stood there.
 pub fn append_line(word: &[u8], text: &[u8], contents: &mut Vec<u8>) -> Result<(), Memory>
