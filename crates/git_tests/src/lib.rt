@@ -12,4 +12,6 @@ mod names;
 #[cfg(test)]
 mod objects;
 #[cfg(test)]
+mod paths;
+#[cfg(test)]
 mod ref_names;

@@ -12,7 +12,10 @@ use std::test::Fail;
 const THREE: &[u8; 90] =
     b"100644 a\0oooooooooooooooooooo100644 a.txt\0oooooooooooooooooooo40000 a\0oooooooooooooooooooo";
 
-// Which parts of trees are trees: `.` is below the slash that a directory's name is compared with.
+// The last two of them: `.` is below the slash that a directory's name is compared with.
+const FILE_FIRST: &[u8] = b"100644 a.txt\0oooooooooooooooooooo40000 a\0oooooooooooooooooooo";
+
+// Which texts are trees.
 const TREES: &[(&[u8], bool)] = &[
     (b"40000 x\0oooooooooooooooooooo", true),
     (b"040000 x\0oooooooooooooooooooo", false),
@@ -21,10 +24,7 @@ const TREES: &[(&[u8], bool)] = &[
         b"100644 a\0oooooooooooooooooooo100644 a.txt\0oooooooooooooooooooo",
         true,
     ),
-    (
-        b"100644 a.txt\0oooooooooooooooooooo40000 a\0oooooooooooooooooooo",
-        true,
-    ),
+    (FILE_FIRST, true),
 ];
 
 const TAGS: &[(&[u8], bool)] = &[
@@ -63,7 +63,7 @@ fn are_in_order(entries: &[TreeEntry<'_>]) -> bool {
 
 // Whether a file comes before a directory whose name it begins with.
 fn has_the_file_first(alloc: Global) -> Result<bool, Memory> {
-    match read_tree(alloc, &THREE[29..])? {
+    match read_tree(alloc, FILE_FIRST)? {
         Some(entries) => Ok(are_in_order(&entries)),
         None => Ok(false),
     }
