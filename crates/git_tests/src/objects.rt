@@ -47,7 +47,11 @@ fn is_tree(alloc: Global, contents: &[u8]) -> Result<bool, Memory> {
 }
 
 fn is_tag(alloc: Global, contents: &[u8]) -> Result<bool, Memory> {
-    Ok(read_tag(alloc, contents)?.is_some())
+    match read_tag(alloc, contents) {
+        Ok(Some(_)) => Ok(true),
+        Ok(None) => Ok(false),
+        Err(memory) => Err(memory),
+    }
 }
 
 fn are_in_order(entries: &[TreeEntry<'_>]) -> bool {
