@@ -19,7 +19,8 @@ pub record Writes (p q : Cells) (k : ℕ) (o : Option Stored) : Type 0 where
   pub others : (s : ℕ) → s ≢ k → cell q s ≡ cell p s
 
 -- A write into a slot that stores something.
-pub Writes-set : (p : Cells) (k : ℕ) (e : Stored) (o : Option Stored) → cell p k ≡ Some e → Writes p (slice_set p k o) k o
+pub Writes-set : (p : Cells) (k : ℕ) (e : Stored) (o : Option Stored) → cell p k ≡ Some e
+    → Writes p (slice_set p k o) k o
 Writes-set p k e o was =
     record {
       here = get_or-set_same p k o None (grind (arith, get_or_past));
@@ -27,11 +28,13 @@ Writes-set p k e o was =
     }
 
 -- A slab's update is a write.
-pub Writes-updates : (old new : Slab Stored) (k : ℕ) (o : Option Stored) → Updates old new k o → Writes old.slots new.slots k o
+pub Writes-updates : (old new : Slab Stored) (k : ℕ) (o : Option Stored) → Updates old new k o
+    → Writes old.slots new.slots k o
 Writes-updates old new k o updates = record { here = updates.changed; others = updates.others }
 
 -- A slab's update after a change of its capacity alone, at a key that was told before.
-pub Writes-behind : (first old new : Slab Stored) (k key : ℕ) (o : Option Stored) → old.slots ≡ first.slots → k ≡ key → Updates old new k o → Writes first.slots new.slots key o
+pub Writes-behind : (first old new : Slab Stored) (k key : ℕ) (o : Option Stored)
+    → old.slots ≡ first.slots → k ≡ key → Updates old new k o → Writes first.slots new.slots key o
 Writes-behind first old new k key o same told updates =
     rw (← same, ← told) (Writes-updates old new k o updates)
 
@@ -84,10 +87,13 @@ pub IsPool-once : (digest : List ℕ → List ℕ) (p : Cells) → IsPool digest
 IsPool-once digest p sound s t live_s live_t same =
     let e = stored_at p s live_s in
     let f = stored_at p t live_t in
-    sound.distinct s t e.0 f.0 e.1 f.1 (sym (content-at p s e.0 e.1) ∙ same ∙ content-at p t f.0 f.1)
+    sound.distinct s t e.0 f.0 e.1 f.1
+    (sym (content-at p s e.0 e.1) ∙ same ∙ content-at p t f.0 f.1)
 
 -- A pool stays sound where each slot that stores something stored the same content before, and is held.
-pub IsPool-within : (digest : List ℕ → List ℕ) (p q : Cells) → IsPool digest p → ((s : ℕ) (e : Stored) → cell q s ≡ Some e → (f : Stored) × (cell p s ≡ Some f) × (content_of e ≡ content_of f) × (e.id ≡ f.id) × (0 < e.holds)) → IsPool digest q
+pub IsPool-within : (digest : List ℕ → List ℕ) (p q : Cells) → IsPool digest p
+    → ((s : ℕ) (e : Stored) → cell q s ≡ Some e → (f : Stored) × (cell p s ≡ Some f) × (content_of e ≡ content_of f) × (e.id ≡ f.id) × (0 < e.holds))
+    → IsPool digest q
 IsPool-within digest p q sound before =
     record {
       counted = λ s e is. (before s e is).4;
@@ -103,7 +109,8 @@ module _ (p q : Cells) (k : ℕ) (e : Stored) (n : ℕ) (was : cell p k ≡ Some
   pub IsPool-recounted : (digest : List ℕ → List ℕ) → IsPool digest p → 0 < n → IsPool digest q
   IsPool-recounted digest sound positive = IsPool-within digest p q sound before
     where
-      before : (s : ℕ) (f : Stored) → cell q s ≡ Some f → (g : Stored) × (cell p s ≡ Some g) × (content_of f ≡ content_of g) × (f.id ≡ g.id) × (0 < f.holds)
+      before : (s : ℕ) (f : Stored) → cell q s ≡ Some f
+          → (g : Stored) × (cell p s ≡ Some g) × (content_of f ≡ content_of g) × (f.id ≡ g.id) × (0 < f.holds)
       before s f is =
           elim (cases_eq s k) [
             | inl same ↦
@@ -153,7 +160,8 @@ module _ (p q : Cells) (k : ℕ) (e : Stored) (was : cell p k ≡ Some e) (w : W
   pub IsPool-given_up : (digest : List ℕ → List ℕ) → IsPool digest p → IsPool digest q
   IsPool-given_up digest sound = IsPool-within digest p q sound before
     where
-      before : (s : ℕ) (f : Stored) → cell q s ≡ Some f → (g : Stored) × (cell p s ≡ Some g) × (content_of f ≡ content_of g) × (f.id ≡ g.id) × (0 < f.holds)
+      before : (s : ℕ) (f : Stored) → cell q s ≡ Some f
+          → (g : Stored) × (cell p s ≡ Some g) × (content_of f ≡ content_of g) × (f.id ≡ g.id) × (0 < f.holds)
       before s f is =
           elim (cases_eq s k) [
             | inl same ↦ absurd (none-some f (sym w.here ∙ ap (cell q) (sym same) ∙ is))
@@ -186,7 +194,9 @@ module _ (p q : Cells) (k : ℕ) (e : Stored) (was : cell p k ≡ Some e) (w : W
 
 module _ (p q : Cells) (k : ℕ) (e : Stored) (was : cell p k ≡ None) (w : Writes p q k (Some e)) where
   -- A content that was not held is stored.
-  pub IsPool-stored : (digest : List ℕ → List ℕ) → IsPool digest p → e.id ≡ name_by digest (content_of e) → e.holds ≡ 1 → ((s : ℕ) → IsLive p s → content p s ≡ content_of e → ⊥) → IsPool digest q
+  pub IsPool-stored : (digest : List ℕ → List ℕ) → IsPool digest p
+      → e.id ≡ name_by digest (content_of e) → e.holds ≡ 1
+      → ((s : ℕ) → IsLive p s → content p s ≡ content_of e → ⊥) → IsPool digest q
   IsPool-stored digest sound named once absent =
       record {
         counted = λ s f is.
@@ -222,7 +232,9 @@ module _ (p q : Cells) (k : ℕ) (e : Stored) (was : cell p k ≡ None) (w : Wri
           ]
 
       no_other : (s : ℕ) (f : Stored) → cell p s ≡ Some f → content_of f ≡ content_of e → ⊥
-      no_other s f is same = absent s (subst (λ h. 0 < h) (sym (holds-at p s f is)) (sound.counted s f is)) (content-at p s f is ∙ same)
+      no_other s f is same =
+          absent s (subst (λ h. 0 < h) (sym (holds-at p s f is)) (sound.counted s f is))
+          (content-at p s f is ∙ same)
 
   pub IsIndexed-stored : (m m' : Buckets) → IsIndexed p m → Notes m m' e.id k → IsIndexed q m'
   IsIndexed-stored m m' indexed notes name s =
@@ -245,23 +257,30 @@ module _ (p q : Cells) (k : ℕ) (e : Stored) (was : cell p k ≡ None) (w : Wri
       }
 
 -- What is stored stands in the bucket of its object name.
-pub times-at : (p : Cells) (m : Buckets) (s : ℕ) (e : Stored) → cell p s ≡ Some e → IsIndexed p m → 0 < times (bucket m e.id) s
+pub times-at : (p : Cells) (m : Buckets) (s : ℕ) (e : Stored) → cell p s ≡ Some e → IsIndexed p m
+    → 0 < times (bucket m e.id) s
 times-at p m s e is indexed =
     let once : times (bucket m e.id) s ≡ (if bytes_eq e.id e.id then 1 else 0) = indexed e.id s ∙ rw is in
     omega (arith, rw ((bytes_decides e.id e.id).1 refl) at once)
 
 -- A slot in a bucket stores something.
-pub stored_in_bucket : (p : Cells) (m : Buckets) (id : List ℕ) → IsIndexed p m → (k : ℕ) → k < length (bucket m id) → IsSome (cell p (get_or (bucket m id) k 0))
+pub stored_in_bucket : (p : Cells) (m : Buckets) (id : List ℕ) → IsIndexed p m → (k : ℕ)
+    → k < length (bucket m id) → IsSome (cell p (get_or (bucket m id) k 0))
 stored_in_bucket p m id indexed k within =
     let s : ℕ = get_or (bucket m id) k 0 in
     by (cell p s) refl (subst (λ n. 0 < n) (indexed id s) (times_at_place (bucket m id) k within))
   where
-    by : (o : Option Stored) → cell p (get_or (bucket m id) k 0) ≡ o → 0 < (if is_named p (get_or (bucket m id) k 0) id then 1 else 0) → IsSome (cell p (get_or (bucket m id) k 0))
+    by : (o : Option Stored) → cell p (get_or (bucket m id) k 0) ≡ o
+        → 0 < (if is_named p (get_or (bucket m id) k 0) id then 1 else 0)
+        → IsSome (cell p (get_or (bucket m id) k 0))
     by None is named = absurd (omega (arith, rw is at named))
     by (Some e) is named = rw is refl
 
 -- A content that is stored under no slot of its bucket is not held.
-pub held_nowhere : (digest : List ℕ → List ℕ) (p : Cells) (m : Buckets) (id : List ℕ) (c : Content) → IsPool digest p → IsIndexed p m → id ≡ name_by digest c → ((k : ℕ) → k < length (bucket m id) → Stores p (get_or (bucket m id) k 0) c → ⊥) → (s : ℕ) → IsLive p s → content p s ≡ c → ⊥
+pub held_nowhere : (digest : List ℕ → List ℕ) (p : Cells) (m : Buckets) (id : List ℕ) (c : Content)
+    → IsPool digest p → IsIndexed p m → id ≡ name_by digest c
+    → ((k : ℕ) → k < length (bucket m id) → Stores p (get_or (bucket m id) k 0) c → ⊥) → (s : ℕ)
+    → IsLive p s → content p s ≡ c → ⊥
 held_nowhere digest p m id c sound indexed named nowhere s live same =
     let e = stored_at p s live in
     let is : content_of e.0 ≡ c = sym (content-at p s e.0 e.1) ∙ same in
@@ -271,6 +290,7 @@ held_nowhere digest p m id c sound indexed named nowhere s live same =
     nowhere place.0 place.1 (rw place.2 (record { stored = e.0; there = e.1; same = is }))
 
 -- A content that a slot stores is what the live slot holds.
-pub Stores-live : (digest : List ℕ → List ℕ) (p : Cells) (s : ℕ) (c : Content) → IsPool digest p → Stores p s c → IsLive p s × (content p s ≡ c)
+pub Stores-live : (digest : List ℕ → List ℕ) (p : Cells) (s : ℕ) (c : Content) → IsPool digest p
+    → Stores p s c → IsLive p s × (content p s ≡ c)
 Stores-live digest p s c sound stores =
     (subst (λ n. 0 < n) (sym (holds-at p s stores.stored stores.there)) (sound.counted s stores.stored stores.there), content-at p s stores.stored stores.there ∙ stores.same)

@@ -11,5 +11,10 @@ pub mod TreeReadings
 pub mod CommitReadings
 pub mod TagReadings
 pub mod Places
+pub mod Least
+pub mod Earlier
+pub mod Peelings
+pub mod Growing
+pub mod GoodRefs
 mod ReadingExamples
 mod ReachExamples

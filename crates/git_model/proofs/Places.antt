@@ -18,31 +18,31 @@ pub record StandsAt (os : List Object) (id : List ℕ) (c : Content) : Type 0 wh
   pub within : place_of id os < length os
   pub object : object_at (place_of id os) os ≡ record { id = id; content = c }
 
-first_place : (id : List ℕ) (o : Object) (os : List Object) → bytes_eq id o.id ≡ true → place_of id (o ∷ os) ≡ 0
+pub first_place : (id : List ℕ) (o : Object) (os : List Object) → bytes_eq id o.id ≡ true → place_of id (o ∷ os) ≡ 0
 unfolding place_of
 first_place id o os e = rw e refl
 
-later_place : (id : List ℕ) (o : Object) (os : List Object) → bytes_eq id o.id ≡ false → place_of id (o ∷ os) ≡ suc (place_of id os)
+pub later_place : (id : List ℕ) (o : Object) (os : List Object) → bytes_eq id o.id ≡ false → place_of id (o ∷ os) ≡ suc (place_of id os)
 unfolding place_of
 later_place id o os e = rw e (omega arith)
 
-first_object : (o : Object) (os : List Object) → object_at 0 (o ∷ os) ≡ o
+pub first_object : (o : Object) (os : List Object) → object_at 0 (o ∷ os) ≡ o
 unfolding object_at
 first_object o os = refl
 
-later_object : (n : ℕ) (o : Object) (os : List Object) → object_at (suc n) (o ∷ os) ≡ object_at n os
+pub later_object : (n : ℕ) (o : Object) (os : List Object) → object_at (suc n) (o ∷ os) ≡ object_at n os
 unfolding object_at
 later_object n o os = refl
 
-first_named : (id : List ℕ) (o : Object) (os : List Object) → bytes_eq id o.id ≡ true → object_named id (o ∷ os) ≡ Some o.content
+pub first_named : (id : List ℕ) (o : Object) (os : List Object) → bytes_eq id o.id ≡ true → object_named id (o ∷ os) ≡ Some o.content
 unfolding object_named
 first_named id o os e = rw e refl
 
-later_named : (id : List ℕ) (o : Object) (os : List Object) → bytes_eq id o.id ≡ false → object_named id (o ∷ os) ≡ object_named id os
+pub later_named : (id : List ℕ) (o : Object) (os : List Object) → bytes_eq id o.id ≡ false → object_named id (o ∷ os) ≡ object_named id os
 unfolding object_named
 later_named id o os e = rw e refl
 
-nothing_named : (id : List ℕ) → object_named id [] ≡ None
+pub nothing_named : (id : List ℕ) → object_named id [] ≡ None
 unfolding object_named
 nothing_named id = refl
 

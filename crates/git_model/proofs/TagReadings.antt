@@ -65,7 +65,7 @@ lines_are t h = (
 
 -- ---- what the lines with a word say
 
-kind_back : (k : Kind) → kind_named_by (kind_word k) ≡ k
+pub kind_back : (k : Kind) → kind_named_by (kind_word k) ≡ k
 unfolding kind_named_by
 kind_back kind.Commit = refl
 kind_back kind.Tree = refl

@@ -1,13 +1,22 @@
-//! Laws of what the contents of objects say: functions over the definitions alone, which run
-//! nothing.
+//! Laws of what contents say, of good objects, of reach and of peeling: functions over the definitions
+//! alone, which run nothing.
 
-ghost use Rattle.std.specs.Prelude.{◌≡◌, List};
+ghost use Rattle.std.specs.Prelude.{◌≡◌, ◌↔◌, ℕ, List, [], ◌∷◌, ◌++◌, ◌≤◌, take, Option, Some, IsTrue};
+ghost use Rattle.std.specs.FinMap as map;
+ghost use Rattle.git_model.specs.declared.kind.Kind.{Kind as Kinds};
+ghost use Rattle.git_model.specs.declared.kind.Kind.TheVariants as kind;
 ghost use Rattle.git_model.specs.Tree.{TreeEntry, CanWriteTree, tree_contents};
 ghost use Rattle.git_model.specs.TreeReading.{tree_read};
 ghost use Rattle.git_model.specs.Commit.{Commit, CanWriteCommit, commit_contents};
 ghost use Rattle.git_model.specs.CommitReading.{commit_read};
 ghost use Rattle.git_model.specs.Tag.{Tag, CanWriteTag, tag_contents};
 ghost use Rattle.git_model.specs.TagReading.{tag_read};
+ghost use Rattle.git_model.specs.Repository.{Object};
+ghost use Rattle.git_model.specs.References.{kind_named, parents_of, referred_by};
+ghost use Rattle.git_model.specs.GoodRepository.{AreObjects, MayAdd, AreRefs, IsShortRefName, MayHold, refs_limit};
+ghost use Rattle.git_model.specs.RefStore.{RefStore, no_refs, with_head, ChangesRef};
+ghost use Rattle.git_model.specs.Peeling.{ComesFirstTo, is_of, is_there_untagged, next_to, peeled_to, without_tags};
+ghost use Rattle.git_model.specs.Reach.{Reaches, is_reachable};
 
 /// The contents of a tree say its entries.
 pub fn trees_are_read_back()
@@ -22,4 +31,85 @@ pub fn commits_are_read_back()
 /// The contents of a tag say that tag.
 pub fn tags_are_read_back()
     ensures { (t : Tag) → CanWriteTag t → tag_read (tag_contents t) ≡ t }
+{}
+
+/// No objects are good.
+pub fn no_objects_are_good()
+    ensures { (digest : List ℕ → List ℕ) → AreObjects digest [] }
+{}
+
+/// Good objects stay good where one is added that may be.
+pub fn one_more_object_is_good()
+    ensures { (digest : List ℕ → List ℕ) (os : List Object) (o : Object)
+        → AreObjects digest os → MayAdd digest os o → AreObjects digest (os ++ o ∷ []) }
+{}
+
+/// Each prefix of good objects is good by itself.
+pub fn each_prefix_is_good()
+    ensures { (digest : List ℕ → List ℕ) (os : List Object) (n : ℕ)
+        → AreObjects digest os → AreObjects digest (take n os) }
+{}
+
+/// No refs, with the first HEAD, are good refs.
+pub fn no_refs_are_good()
+    ensures { (os : List Object) → AreRefs os no_refs }
+{}
+
+/// Good refs stay good while objects are added.
+pub fn refs_stay_good_beside_more_objects()
+    ensures { (os more : List Object) (store : RefStore) → AreRefs os store
+        → AreRefs (os ++ more) store }
+{}
+
+/// Good refs stay good where one ref changes to a target that it may hold, or to none.
+pub fn refs_stay_good_where_one_changes()
+    ensures { (os : List Object) (old new : RefStore) (ref : List ℕ) (target : Option (List ℕ))
+        → AreRefs os old → ChangesRef old new ref target
+        → ((id : List ℕ) → target ≡ Some id → IsShortRefName ref × MayHold os ref id)
+        → map.len new.refs ≤ refs_limit
+        → AreRefs os new }
+{}
+
+/// Good refs stay good where HEAD names another ref.
+pub fn refs_stay_good_under_another_head()
+    ensures { (os : List Object) (store : RefStore) (ref : List ℕ) → AreRefs os store
+        → IsShortRefName ref → AreRefs os (with_head store ref) }
+{}
+
+/// Among good objects the test by ways of bounded length gives the least closed set: what is
+/// reachable by parents.
+pub fn parents_reach_the_least_set()
+    ensures { (digest : List ℕ → List ℕ) (os : List Object) → AreObjects digest os
+        → (from to : List ℕ)
+        → IsTrue (is_reachable os (parents_of os) from to) ↔ Reaches (parents_of os) from to }
+{}
+
+/// The same by all that objects refer to.
+pub fn references_reach_the_least_set()
+    ensures { (digest : List ℕ → List ℕ) (os : List Object) → AreObjects digest os
+        → (from to : List ℕ)
+        → IsTrue (is_reachable os (referred_by os) from to) ↔ Reaches (referred_by os) from to }
+{}
+
+/// The test of a kind says what the object of a name is.
+pub fn kinds_are_tested()
+    ensures { (os : List Object) (wanted : Kinds) (id : List ℕ)
+        → IsTrue (is_of os wanted id) ↔ (kind_named id os ≡ Some wanted) }
+{}
+
+/// Among good objects peeling ends at the first object of the wanted kind on the way, wherever that
+/// stands, and answers none where no such object is on it.
+pub fn peeling_ends_at_the_first()
+    ensures { (digest : List ℕ → List ℕ) (os : List Object) → AreObjects digest os
+        → (wanted : Kinds) (id found : List ℕ)
+        → (peeled_to os wanted id ≡ Some found)
+        ↔ ComesFirstTo (is_of os wanted) (next_to os wanted) id found }
+{}
+
+/// The same of tags that are followed to what is none.
+pub fn tags_lead_to_the_first_that_is_none()
+    ensures { (digest : List ℕ → List ℕ) (os : List Object) → AreObjects digest os
+        → (id found : List ℕ)
+        → (without_tags os id ≡ Some found)
+        ↔ ComesFirstTo (is_there_untagged os) (next_to os kind.Blob) id found }
 {}

@@ -50,7 +50,8 @@ lookup-find test (e ∷ es) = by (test e.0) (lookup-find test es)
 position_or_len-keys : {K X : Type 0} (test : K → Bool) (es : List (K × X))
     → position_or_len (λ e. test e.0) es ≡ position_or_len test (keys_of es)
 position_or_len-keys test [] = refl
-position_or_len-keys test (e ∷ es) = ap (λ n. cond (not (test e.0)) (1 + n) 0) (position_or_len-keys test es)
+position_or_len-keys test (e ∷ es) =
+    ap (λ n. cond (not (test e.0)) (1 + n) 0) (position_or_len-keys test es)
 
 length-keys : {K X : Type 0} (es : List (K × X)) → length (keys_of es) ≡ length es
 length-keys [] = refl
@@ -67,7 +68,8 @@ position-within p xs i h = by (nat_lt (position_or_len p xs) (length xs)) refl h
   where
     by : (b : Bool) → nat_lt (position_or_len p xs) (length xs) ≡ b
         → cond b (Some (position_or_len p xs)) None ≡ Some i → i < length xs
-    by true below at = let same : position_or_len p xs ≡ i = cc at in grind (arith, nat_tests, below, same)
+    by true below at =
+        let same : position_or_len p xs ≡ i = cc at in grind (arith, nat_tests, below, same)
     by false below lost = cc lost
 
 -- what stands there is what a look-up finds
@@ -85,7 +87,8 @@ pub lookup_none : {K X : Type 0} (test : K → Bool) (es : List (K × X))
     → position (λ x. test x.0) es ≡ None → lookup test es ≡ None
 lookup_none test es none =
     sym (lookup-find test es)
-    ∙ ap (option_map (λ x. x.1)) (find_at (λ x. test x.0) es ∙ slice_get_past es (position_or_len (λ x. test x.0) es) past)
+    ∙ ap (option_map (λ x. x.1))
+    (find_at (λ x. test x.0) es ∙ slice_get_past es (position_or_len (λ x. test x.0) es) past)
   where
     past : length es ≤ position_or_len (λ x. test x.0) es
     past = by (nat_lt (position_or_len (λ x. test x.0) es) (length es)) refl none
@@ -121,7 +124,8 @@ pub walked_all : (ds first last : List ℕ) (es : Entries) (n : ℕ) (found : Fo
     → length es ≤ n → found ≡ only_of (filter (lies first last) (names (take n es)))
     → found ≡ found_among ds (names es)
 walked_all ds first last es n found bounds named past is =
-    is ∙ ap (λ fs. only_of (filter (lies first last) (names fs))) (take_all n es past) ∙ walked ds first last es bounds named
+    is ∙ ap (λ fs. only_of (filter (lies first last) (names fs))) (take_all n es past)
+    ∙ walked ds first last es bounds named
 
 names-append : (es fs : Entries) → names (es ++ fs) ≡ names es ++ names fs
 names-append [] fs = refl
@@ -131,14 +135,17 @@ names-append (e ∷ es) fs = ap (λ ids. e.0 ∷ ids) (names-append es fs)
 module _ (first last : List ℕ) (es : Entries) (i : ℕ) (e : List ℕ × Entry) (within : i < length es) (here : e ≡ get_or es i e) where
   more : filter (lies first last) (names (take (i + 1) es)) ≡ filter (lies first last) (names (take i es)) ++ cond (lies first last e.0) (e.0 ∷ []) []
   more =
-      ap (λ fs. filter (lies first last) (names fs)) (take_more es i e within ∙ ap (λ x. take i es ++ x ∷ []) (sym here))
-      ∙ ap (filter (lies first last)) (names-push (take i es) e.0 e.1) ∙ filter-append (lies first last) (names (take i es)) (e.0 ∷ [])
+      ap (λ fs. filter (lies first last) (names fs))
+      (take_more es i e within ∙ ap (λ x. take i es ++ x ∷ []) (sym here))
+      ∙ ap (filter (lies first last)) (names-push (take i es) e.0 e.1)
+      ∙ filter-append (lies first last) (names (take i es)) (e.0 ∷ [])
 
   -- passes the next by
   pub walked_past : lies first last e.0 ≡ false
       → only_of (filter (lies first last) (names (take i es))) ≡ only_of (filter (lies first last) (names (take (i + 1) es)))
   walked_past outside =
-      ap only_of (sym (more ∙ ap (λ b. filter (lies first last) (names (take i es)) ++ cond b (e.0 ∷ []) []) outside ∙ append-nil _))
+      ap only_of
+      (sym (more ∙ ap (λ b. filter (lies first last) (names (take i es)) ++ cond b (e.0 ∷ []) []) outside ∙ append-nil _))
 
   -- finds the first
   pub walked_first : lies first last e.0 ≡ true
@@ -146,7 +153,8 @@ module _ (first last : List ℕ) (es : Entries) (i : ℕ) (e : List ℕ × Entry
       → found.One e.0 ≡ only_of (filter (lies first last) (names (take (i + 1) es)))
   walked_first inside none =
       by (filter (lies first last) (names (take i es))) none
-      ∙ ap only_of (sym (more ∙ ap (λ b. filter (lies first last) (names (take i es)) ++ cond b (e.0 ∷ []) []) inside))
+      ∙ ap only_of
+      (sym (more ∙ ap (λ b. filter (lies first last) (names (take i es)) ++ cond b (e.0 ∷ []) []) inside))
     where
       by : (ids : List (List ℕ)) → found.None ≡ only_of ids
           → found.One e.0 ≡ only_of (ids ++ e.0 ∷ [])
@@ -160,13 +168,16 @@ module _ (first last : List ℕ) (es : Entries) (i : ℕ) (e : List ℕ × Entry
       → only_of (filter (lies first last) (names (take i es))) ≢ found.None
       → found.Many ≡ found_among ds (names es)
   walked_second ds bounds named inside some =
-      sym (found_many (lies first last) (names (take i es)) (names (drop (i + 1) es)) e.0 inside some)
-      ∙ ap (λ ids. only_of (filter (lies first last) ids)) all ∙ walked ds first last es bounds named
+      sym
+      (found_many (lies first last) (names (take i es)) (names (drop (i + 1) es)) e.0 inside some)
+      ∙ ap (λ ids. only_of (filter (lies first last) ids)) all
+      ∙ walked ds first last es bounds named
     where
       all : names (take i es) ++ e.0 ∷ names (drop (i + 1) es) ≡ names es
       all =
           sym (names-append (take i es) (e ∷ drop (i + 1) es))
-          ∙ ap names (ap (λ fs. take i es ++ fs) (ap (λ x. x ∷ drop (i + 1) es) here ∙ sym (drop_more es i e within)) ∙ take-append-drop i es)
+          ∙ ap names
+          (ap (λ fs. take i es ++ fs) (ap (λ x. x ∷ drop (i + 1) es) here ∙ sym (drop_more es i e within)) ∙ take-append-drop i es)
 
 -- ---- each change
 
@@ -181,7 +192,9 @@ IsList-push es committed id e h spare named none =
     let len = length-append es ((id, e) ∷ []) in record {
       within = let w = h.within in omega (arith, len);
       limited = omega (arith, len);
-      named = subst (All IsObjectName) (sym (names-push es id e)) (All-push IsObjectName (names es) id h.named named);
+      named =
+          subst (All IsObjectName) (sym (names-push es id e))
+          (All-push IsObjectName (names es) id h.named named);
       distinct =
           subst (IsDistinct bytes_eq) (sym (names-push es id e))
           (IsDistinct-push nat_list_eq_equiv (names es) id h.distinct (any-names id es ∙ ap is_some none));
@@ -194,9 +207,15 @@ IsList-pop es committed x h beyond =
     let len = length-append es (x ∷ []) in record {
       within = omega (arith, len);
       limited = let w = h.limited in omega (arith, len);
-      named = All-front IsObjectName (names es) x.0 (subst (All IsObjectName) (names-push es x.0 x.1) h.named);
-      distinct = subst (IsDistinct bytes_eq) front (IsDistinct-take bytes_eq (length (names es)) (names (es ++ x ∷ [])) h.distinct);
+      named =
+          All-front IsObjectName (names es) x.0
+          (subst (All IsObjectName) (names-push es x.0 x.1) h.named);
+      distinct =
+          subst (IsDistinct bytes_eq) front
+          (IsDistinct-take bytes_eq (length (names es)) (names (es ++ x ∷ [])) h.distinct);
     }
   where
     front : take (length (names es)) (names (es ++ x ∷ [])) ≡ names es
-    front = ap (take (length (names es))) (names-push es x.0 x.1) ∙ take-append_seam (names es) (x.0 ∷ [])
+    front =
+        ap (take (length (names es))) (names-push es x.0 x.1)
+        ∙ take-append_seam (names es) (x.0 ∷ [])

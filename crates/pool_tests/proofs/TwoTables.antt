@@ -29,7 +29,8 @@ Share-nil digest p es fs vacant a b =
 -- each holds a slot at most once, so there is room for more holds
 pub Share-room : (digest : List ℕ → List ℕ) (p : Cells) (es fs : Entries) → Share digest p es fs
     → HasRoom p
-Share-room digest p es fs h s = let a = h.first.once s in let b = h.second.once s in let c = h.counts s in omega arith
+Share-room digest p es fs h s =
+    let a = h.first.once s in let b = h.second.once s in let c = h.counts s in omega arith
 
 -- a call of the first table keeps the second
 pub Share-first : (digest : List ℕ → List ℕ) (p q : Cells) (es gs fs : Entries)
@@ -37,7 +38,9 @@ pub Share-first : (digest : List ℕ → List ℕ) (p q : Cells) (es gs fs : Ent
     → LeavesOthers p es q gs → Share digest q gs fs
 Share-first digest p q es gs fs h stands others = record {
   first = stands;
-  second = other_stands digest p q es gs fs h.second (record { sum = λ s. let c = h.counts s in omega arith }) others;
+  second =
+      other_stands digest p q es gs fs h.second
+      (record { sum = λ s. let c = h.counts s in omega arith }) others;
   counts = λ s. let c = h.counts s in let r = others.rest s in omega arith;
 }
 
@@ -46,7 +49,9 @@ pub Share-second : (digest : List ℕ → List ℕ) (p q : Cells) (es fs gs : En
     → Share digest p es fs → StandsIn digest q gs
     → LeavesOthers p fs q gs → Share digest q es gs
 Share-second digest p q es fs gs h stands others = record {
-  first = other_stands digest p q fs gs es h.first (record { sum = λ s. let c = h.counts s in omega arith }) others;
+  first =
+      other_stands digest p q fs gs es h.first
+      (record { sum = λ s. let c = h.counts s in omega arith }) others;
   second = stands;
   counts = λ s. let c = h.counts s in let r = others.rest s in omega arith;
 }

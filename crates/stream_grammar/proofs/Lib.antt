@@ -4,6 +4,7 @@ pub mod Placed
 pub mod Printed
 pub mod Refs
 pub mod Refused
+pub mod Rows
 pub mod Streams
 pub mod Taken
 pub mod Words

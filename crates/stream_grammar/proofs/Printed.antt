@@ -1,6 +1,6 @@
 -- A mark in decimal digits, and an object name in hexadecimal ones, are read as they were written.
 use Rattle.std.proofs.Common.{arith, sym, ◌∙◌, ap, ◌≡◌, ◌<◌, ◌^◌, ◌/◌, ◌==◌, ◌++◌, refl}
-use Rattle.std.proofs.Common.{length, ℕ, true, false, List, [], ◌∷◌, Some, None, Ok, codes}
+use Rattle.std.proofs.Common.{length, ℕ, false, List, [], ◌∷◌, Some, None, Ok, codes}
 use Rattle.std.proofs.lemmas.Bool.{ne_eqb}
 use Rattle.std.specs.Fmt.{decimal}
 use Rattle.std.specs.Prelude.{slice_index}

@@ -1,60 +1,70 @@
 -- Parts: what an item is by its first word alone, and of a changed file whether its data follow; by
 -- the commands of git-fast-import(1).
-use Rattle.std.specs.Prelude.{ℕ, Bool, true, false, nat_eq, if◌then◌else◌, List, codes}
-use Rattle.std.specs.List.{starts_with}
+use Rattle.std.specs.Prelude.{ℕ, Bool, true, false, nat_eq, if◌then◌else◌, List, [], ◌∷◌, codes}
+use Rattle.std.specs.List.{starts_with, ends_with}
 use Rattle.std.specs.Str.{bytes_eq}
 use Rattle.stream_lex.specs.Items.{Item, Line, Data, Blank}
 use Rattle.stream_grammar.specs.Texts.{argument, first_word}
 use Rattle.stream_grammar.specs.declared.part.Part.{Part}
 use Rattle.stream_grammar.specs.declared.part.Part.TheVariants as part
 
+-- The lines of the manual: each by its first word and the space after it, or as a whole where no
+-- space may stand in it. First those that begin a command, and then those that stand inside one.
+abbrev pub words : List (List ℕ × Part)
+words =
+    (codes "blob", part.Blob)
+    ∷ (codes "commit ", part.Commit)
+    ∷ (codes "tag ", part.Tag)
+    ∷ (codes "reset ", part.Reset)
+    ∷ (codes "alias", part.Alias)
+    ∷ (codes "checkpoint", part.Checkpoint)
+    ∷ (codes "progress ", part.Progress)
+    ∷ (codes "get-mark ", part.GetMark)
+    ∷ (codes "cat-blob ", part.CatBlob)
+    ∷ (codes "ls ", part.Ls)
+    ∷ (codes "done", part.Done)
+    ∷ (codes "feature ", part.Feature)
+    ∷ (codes "option ", part.Setting)
+    ∷ (codes "mark ", part.Mark)
+    ∷ (codes "original-oid ", part.OriginalOid)
+    ∷ (codes "author ", part.Author)
+    ∷ (codes "committer ", part.Committer)
+    ∷ (codes "encoding ", part.Encoding)
+    ∷ (codes "from ", part.From)
+    ∷ (codes "merge ", part.Merge)
+    ∷ (codes "tagger ", part.Tagger)
+    ∷ (codes "to ", part.To)
+    ∷ (codes "M ", part.Modify)
+    ∷ (codes "D ", part.Delete)
+    ∷ (codes "C ", part.Copy)
+    ∷ (codes "R ", part.Rename)
+    ∷ (codes "deleteall", part.DeleteAll) ∷ []
+
+-- A line fits a word that ends in a space where it begins with it, and any other where it is it.
+abbrev pub fits : List ℕ → List ℕ → Bool
+fits word text =
+    if ends_with nat_eq word (codes " ") then starts_with nat_eq text word else bytes_eq text word
+
+-- The part of the first word that a line fits. A line that fits none is unknown.
+abbrev pub first_fit : List (List ℕ × Part) → List ℕ → Part
+first_fit [] text = part.Unknown
+first_fit (row ∷ rows) text = if fits row.0 text then row.1 else first_fit rows text
+
+unfoldable pub part_by_word : List ℕ → Part
+part_by_word text = first_fit words text
+
 -- The third word of a line is `inline`.
 abbrev pub is_inline : List ℕ → Bool
 is_inline text = bytes_eq (first_word (argument (argument text))) (codes "inline")
 
--- A line that changes files in a commit.
-unfoldable pub change_part : List ℕ → Part
-change_part text =
-    if starts_with nat_eq text (codes "M ")
-    then (if is_inline text then part.ModifyInline else part.Modify)
-    else if starts_with nat_eq text (codes "D ") then part.Delete
-    else if starts_with nat_eq text (codes "C ") then part.Copy
-    else if starts_with nat_eq text (codes "R ") then part.Rename
-    else if bytes_eq text (codes "deleteall") then part.DeleteAll
-    else part.Unknown
+-- A modified file whose third word is `inline` has its data after it.
+abbrev pub with_inline : Part → Bool → Part
+with_inline part.Modify inline = if inline then part.ModifyInline else part.Modify
+with_inline known inline = known
 
--- A line that stands inside a command, by its first word and the space after it.
-unfoldable pub inner_part : List ℕ → Part
-inner_part text =
-    if starts_with nat_eq text (codes "mark ") then part.Mark
-    else if starts_with nat_eq text (codes "original-oid ") then part.OriginalOid
-    else if starts_with nat_eq text (codes "author ") then part.Author
-    else if starts_with nat_eq text (codes "committer ") then part.Committer
-    else if starts_with nat_eq text (codes "encoding ") then part.Encoding
-    else if starts_with nat_eq text (codes "from ") then part.From
-    else if starts_with nat_eq text (codes "merge ") then part.Merge
-    else if starts_with nat_eq text (codes "tagger ") then part.Tagger
-    else if starts_with nat_eq text (codes "to ") then part.To
-    else change_part text
-
--- A line that begins a command is known by its first word and the space after it, or as a whole
--- where no space may stand in it. Every other line stands inside a command, or is not known.
-unfoldable pub part_of_line : List ℕ → Part
-part_of_line text =
-    if bytes_eq text (codes "blob") then part.Blob
-    else if starts_with nat_eq text (codes "commit ") then part.Commit
-    else if starts_with nat_eq text (codes "tag ") then part.Tag
-    else if starts_with nat_eq text (codes "reset ") then part.Reset
-    else if bytes_eq text (codes "alias") then part.Alias
-    else if bytes_eq text (codes "checkpoint") then part.Checkpoint
-    else if starts_with nat_eq text (codes "progress ") then part.Progress
-    else if starts_with nat_eq text (codes "get-mark ") then part.GetMark
-    else if starts_with nat_eq text (codes "cat-blob ") then part.CatBlob
-    else if starts_with nat_eq text (codes "ls ") then part.Ls
-    else if bytes_eq text (codes "done") then part.Done
-    else if starts_with nat_eq text (codes "feature ") then part.Feature
-    else if starts_with nat_eq text (codes "option ") then part.Setting
-    else inner_part text
+-- What a line is.
+abbrev pub part_of_line : List ℕ → Part
+part_of_line text = with_inline (part_by_word text) (is_inline text)
 
 -- What an item is, whatever its text says after the first word.
 abbrev pub part_of : Item → Part

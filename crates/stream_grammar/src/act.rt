@@ -14,7 +14,7 @@ use git_paths::Path;
 ///
 /// A command of several lines asks for something with each of them that says more than its mark.
 /// Its mark comes with the act of its last part.
-#[derive(Debug, Drop)]
+#[derive(Drop)]
 pub enum Act<'a> {
     /// Nothing yet: the command that the item belongs to is not whole, or has no effect.
     Wait,
@@ -131,7 +131,7 @@ pub enum Act<'a> {
 }
 
 /// What was done with an item.
-#[derive(Debug, Drop)]
+#[derive(Drop)]
 pub struct Done<'a> {
     /// Whether the item ends an open commit, before its own act.
     pub ends_commit: bool,

@@ -3,7 +3,7 @@
 use crate::mark::Mark;
 
 /// What a command says for a commit. Whether there is such a commit is decided where it is used.
-#[derive(Clone, Copy, Debug, PartialEq, Eq)]
+#[derive(Clone, Copy, PartialEq, Eq)]
 pub enum CommitIsh<'a> {
     /// The commit that this mark was set to last.
     Mark(Mark),

@@ -4,7 +4,7 @@ use crate::mark::Mark;
 use git_objects::Name;
 
 /// What a command says for an object: its mark, or its name.
-#[derive(Clone, Copy, Debug, PartialEq, Eq)]
+#[derive(Clone, Copy, PartialEq, Eq)]
 pub enum DataRef {
     /// The object that this mark was set to last.
     Mark(Mark),

@@ -6,7 +6,7 @@ ghost use Rattle.stream_grammar.specs.Features as features;
 use crate::fault::Fault;
 
 /// What a stream asks for before its other commands.
-#[derive(Clone, Copy, Debug, PartialEq, Eq)]
+#[derive(Clone, Copy, PartialEq, Eq)]
 pub enum Feature {
     /// The stream ends with `done`.
     Done,

@@ -9,7 +9,7 @@ use stream_lex::Item;
 
 /// What an item is by its first word, whatever the rest of it says. After `M` its third word says
 /// whether data follow.
-#[derive(Clone, Copy, Debug, PartialEq, Eq)]
+#[derive(Clone, Copy, PartialEq, Eq)]
 pub enum Part {
     Blob,
     Commit,
@@ -48,6 +48,62 @@ pub enum Part {
     Unknown,
 }
 
+// A part by the first word of its line and the space after it, or by the whole line where no space
+// may stand in it.
+const WORDS: &[(&[u8], Part)] = &[
+    (b"blob", Part::Blob),
+    (b"commit ", Part::Commit),
+    (b"tag ", Part::Tag),
+    (b"reset ", Part::Reset),
+    (b"alias", Part::Alias),
+    (b"checkpoint", Part::Checkpoint),
+    (b"progress ", Part::Progress),
+    (b"get-mark ", Part::GetMark),
+    (b"cat-blob ", Part::CatBlob),
+    (b"ls ", Part::Ls),
+    (b"done", Part::Done),
+    (b"feature ", Part::Feature),
+    (b"option ", Part::Setting),
+    (b"mark ", Part::Mark),
+    (b"original-oid ", Part::OriginalOid),
+    (b"author ", Part::Author),
+    (b"committer ", Part::Committer),
+    (b"encoding ", Part::Encoding),
+    (b"from ", Part::From),
+    (b"merge ", Part::Merge),
+    (b"tagger ", Part::Tagger),
+    (b"to ", Part::To),
+    (b"M ", Part::Modify),
+    (b"D ", Part::Delete),
+    (b"C ", Part::Copy),
+    (b"R ", Part::Rename),
+    (b"deleteall", Part::DeleteAll),
+];
+
+// Whether a line begins with a word that ends in a space, or is a word that does not.
+fn fits(word: &[u8], line: &[u8]) -> bool
+    ensures { result ≡ parts.fits word.now line.now }
+{
+    if word.ends_with(b" ") {
+        line.starts_with(word)
+    } else {
+        line == word
+    }
+}
+
+// The part of the first word that fits a line.
+#[tactic(auto, unfolding(crate::specs::Parts::part_by_word))]
+fn part_by_word(line: &[u8]) -> Part
+    ensures { result ≡ parts.part_by_word line.now }
+{
+    for (word, part) in WORDS {
+        if fits(word, line) {
+            return *part;
+        }
+    }
+    Part::Unknown
+}
+
 // Whether the third word of a line is `inline`.
 fn is_inline(line: &[u8]) -> bool
     ensures { result ≡ parts.is_inline line.now }
@@ -55,91 +111,13 @@ fn is_inline(line: &[u8]) -> bool
     first_word(argument(argument(line))) == b"inline".as_slice()
 }
 
-// The part that a line is which changes files in a commit.
-#[tactic(auto, unfolding(crate::specs::Parts::change_part))]
-fn change_part(line: &[u8]) -> Part
-    ensures { result ≡ parts.change_part line.now }
-{
-    if line.starts_with(b"M ") {
-        if is_inline(line) {
-            Part::ModifyInline
-        } else {
-            Part::Modify
-        }
-    } else if line.starts_with(b"D ") {
-        Part::Delete
-    } else if line.starts_with(b"C ") {
-        Part::Copy
-    } else if line.starts_with(b"R ") {
-        Part::Rename
-    } else if line == b"deleteall".as_slice() {
-        Part::DeleteAll
-    } else {
-        Part::Unknown
-    }
-}
-
-// The part that a line is which begins no command.
-#[tactic(auto, unfolding(crate::specs::Parts::inner_part))]
-fn inner_part(line: &[u8]) -> Part
-    ensures { result ≡ parts.inner_part line.now }
-{
-    if line.starts_with(b"mark ") {
-        Part::Mark
-    } else if line.starts_with(b"original-oid ") {
-        Part::OriginalOid
-    } else if line.starts_with(b"author ") {
-        Part::Author
-    } else if line.starts_with(b"committer ") {
-        Part::Committer
-    } else if line.starts_with(b"encoding ") {
-        Part::Encoding
-    } else if line.starts_with(b"from ") {
-        Part::From
-    } else if line.starts_with(b"merge ") {
-        Part::Merge
-    } else if line.starts_with(b"tagger ") {
-        Part::Tagger
-    } else if line.starts_with(b"to ") {
-        Part::To
-    } else {
-        change_part(line)
-    }
-}
-
 /// The part that a line is.
-#[tactic(auto, unfolding(crate::specs::Parts::part_of_line))]
-pub fn part_of_line(line: &[u8]) -> Part
+fn part_of_line(line: &[u8]) -> Part
     ensures { result ≡ parts.part_of_line line.now }
 {
-    if line == b"blob".as_slice() {
-        Part::Blob
-    } else if line.starts_with(b"commit ") {
-        Part::Commit
-    } else if line.starts_with(b"tag ") {
-        Part::Tag
-    } else if line.starts_with(b"reset ") {
-        Part::Reset
-    } else if line == b"alias".as_slice() {
-        Part::Alias
-    } else if line == b"checkpoint".as_slice() {
-        Part::Checkpoint
-    } else if line.starts_with(b"progress ") {
-        Part::Progress
-    } else if line.starts_with(b"get-mark ") {
-        Part::GetMark
-    } else if line.starts_with(b"cat-blob ") {
-        Part::CatBlob
-    } else if line.starts_with(b"ls ") {
-        Part::Ls
-    } else if line == b"done".as_slice() {
-        Part::Done
-    } else if line.starts_with(b"feature ") {
-        Part::Feature
-    } else if line.starts_with(b"option ") {
-        Part::Setting
-    } else {
-        inner_part(line)
+    match part_by_word(line) {
+        Part::Modify if is_inline(line) => Part::ModifyInline,
+        part => part,
     }
 }
 

@@ -26,7 +26,7 @@ line_first text rest is =
 line_is : (text rest : List ℕ) (kind : LineKind) → IsLine text → kind_of text ≡ kind → first_of (text ++ 10 ∷ rest) ≡ whole_line kind text (length text + 1) (text ++ 10 ∷ rest)
 line_is text rest kind is kind_is = line_first text rest is ∙ ap (λ k. whole_line k text (length text + 1) (text ++ 10 ∷ rest)) kind_is
 
--- what stands behind a line
+-- what stands after a line
 behind_line : (text rest : List ℕ) → drop (length text + 1) (text ++ 10 ∷ rest) ≡ rest
 behind_line text rest = ap (drop (length text + 1)) (sym (append_assoc text (10 ∷ []) rest)) ∙ drop_at (text ++ 10 ∷ []) rest (length text + 1) (length-append text (10 ∷ []))
 
@@ -106,7 +106,7 @@ too_large_first (delimited_too_large header lines text is kind others text_none 
     header_delimited header (lines ++ text) None is kind (before-lines_and_text (delimiter_of header) lines text (no_line_end_in header is) others text_none)
     ∙ before-overdue (delimiter_of header) (length header + 1) (header ++ 10 ∷ (lines ++ text)) (omega (arith, long header (lines ++ text)))
 
--- a data, and what comes behind it
+-- a data, and what comes after it
 data_and : {text raw : List ℕ} → IsData text raw → (rest : List ℕ) → reading false (text ++ rest) ≡ before (Data raw) (reading true rest)
 data_and {text = text} {raw = raw} is rest =
     reading-gives (text ++ rest) false (Data raw) (length text) (stands-false (text ++ rest)) (data_first is rest)

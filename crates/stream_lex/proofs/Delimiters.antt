@@ -127,7 +127,7 @@ before-fits delimiter at_start (byte ∷ bytes) k h = by_cases (at_start && begi
     let p = some_suc (before_delimiter delimiter (is_line_end byte) bytes) k (sym (before-next delimiter at_start byte bytes later) ∙ h) in
     omega (arith, before-fits delimiter (is_line_end byte) bytes p.0 p.1, p.2))
 
--- it stays where it is, whatever comes behind it
+-- it stays where it is, whatever comes after it
 pub before-append_some : (delimiter : List ℕ) (at_start : Bool) (bytes more : List ℕ) (k : ℕ) → before_delimiter delimiter at_start bytes ≡ Some k → before_delimiter delimiter at_start (bytes ++ more) ≡ Some k
 before-append_some delimiter at_start [] more k h = absurd (none-some k (sym (before-nil delimiter at_start) ∙ h))
 before-append_some delimiter at_start (byte ∷ bytes) more k h = by_cases (at_start && begins (byte ∷ bytes) delimiter)
@@ -212,7 +212,7 @@ before-no_line delimiter at_start (byte ∷ text) none =
     and_false true = refl
     and_false false = refl
 
--- from within a line it goes on behind the line's end
+-- from within a line it goes on after the line's end
 before-line_within : (delimiter text rest : List ℕ) → HasNoLineEnd text
     → before_delimiter delimiter false (text ++ 10 ∷ rest) ≡ option_map (λ n. length text + 1 + n) (before_delimiter delimiter true rest)
 before-line_within delimiter [] rest none =

@@ -48,7 +48,7 @@ parts (suc n) delimiter bytes short = ⊎_elim
     (λ none. no_delimiter [] bytes no_lines (omega (arith, line_length-le bytes)))
     (cases_lt (line_length bytes) (length bytes))
 
--- a data, and what stands behind it
+-- a data, and what stands after it
 after_data : {text raw : List ℕ} → IsData text raw → (rest : List ℕ) → ((later : List ℕ) → length later ≤ length rest → Has later) → Has (text ++ rest)
 after_data {text = text} {raw = raw} is [] later =
     subst Has (sym (append-nil text)) (Data raw ∷ [], Rest true [], data_at_end text raw is)

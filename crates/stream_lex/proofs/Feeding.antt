@@ -1,4 +1,4 @@
--- More bytes behind what is held.
+-- More bytes after what is held.
 use Rattle.std.proofs.Common.{◌≡◌, ℕ, ◌≤◌, List, ◌++◌, length, drop, false, refl, sym, ap, ◌∙◌, append_assoc}
 use Rattle.std.proofs.lemmas.List.{drop-append-le}
 use Rattle.stream_lex.specs.declared.fault.Fault.{Fault}

@@ -22,7 +22,7 @@ finds_none bytes h = prefix_len_is (λ b. not (is_line_end b)) bytes (length byt
 pub finds_some : (bytes : List ℕ) (at : ℕ) → IsFirstByte (is_byte 10) bytes (Some at) → line_length bytes ≡ at
 finds_some bytes at h = prefix_len_is (λ b. not (is_line_end b)) bytes at 0 (omega (arith, h.0.high)) (λ k below. goes_on (is_line_end (get_or bytes k 0)) (h.0.before k (omega arith) below)) (λ below. stops (is_line_end (get_or bytes at 0)) h.1)
 
--- the same in the bytes behind those that were seen
+-- the same in the bytes after those that were seen
 pub finds_none_behind : (bytes fresh : List ℕ) (seen : ℕ) → fresh ≡ drop seen bytes → IsFirstByte (is_byte 10) fresh None → FindsLineEnd bytes seen None
 finds_none_behind bytes fresh seen e h = rw (← e) (finds_none fresh h)
 
@@ -35,7 +35,7 @@ finds_some_behind bytes fresh seen at e within h =
       first = rw (← e) (omega (arith, finds_some fresh at h));
     }
 
--- the first line end stays the first one, whatever comes behind it
+-- the first line end stays the first one, whatever comes after it
 pub line_length-append_found : (xs ys : List ℕ) → line_length xs < length xs → line_length (xs ++ ys) ≡ line_length xs
 line_length-append_found xs ys found =
     prefix_len-append (λ b. not (is_line_end b)) xs ys ∙ ap (λ e. cond e (length xs + line_length ys) (line_length xs)) (ne_eqb (line_length xs) (length xs) (λ e. omega arith))
@@ -47,7 +47,7 @@ line_length-append_none xs ys none =
 pub line_length-le : (xs : List ℕ) → line_length xs ≤ length xs
 line_length-le xs = prefix_len-le-length (λ b. not (is_line_end b)) xs
 
--- what comes behind moves no line end to the front
+-- what comes after moves no line end to the front
 pub line_length-grows : (xs ys : List ℕ) → line_length xs ≤ line_length (xs ++ ys)
 line_length-grows xs ys = ⊎_elim
     (λ found. omega (arith, line_length-append_found xs ys found))

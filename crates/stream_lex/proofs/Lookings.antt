@@ -24,11 +24,11 @@ use Rattle.stream_lex.proofs.Walks.{StandsFirst, takes, passes, fails, waits, wa
 pub at_once : (bytes : List ℕ) (now : List ℕ → First) → ((more : List ℕ) → first_of (bytes ++ more) ≡ now (bytes ++ more)) → first_of bytes ≡ now bytes
 at_once bytes now leads = subst (λ (l : List ℕ). first_of l ≡ now l) (append-nil bytes) (leads [])
 
--- the line behind those that are known not to be the delimiter
+-- the line after those that are known not to be the delimiter
 abbrev pub text_at : List ℕ → ℕ → ℕ → List ℕ
 text_at bytes line end = take (end - line) (drop line bytes)
 
--- where it is not the delimiter, the search goes on behind it
+-- where it is not the delimiter, the search goes on after it
 step : (header line end : ℕ) (bytes : List ℕ) → header ≤ line → line ≤ end → end < length bytes → line_length (drop line bytes) ≡ end - line
     → HasNoLineEnd (delimiter_of (take (header - 1) bytes)) → text_at bytes line end ≢ delimiter_of (take (header - 1) bytes)
     → delimited_from header line bytes ≡ delimited_from header (end + 1) bytes

@@ -30,7 +30,7 @@ Fits bytes (Gives item n) = (0 < n) × (n ≤ length bytes)
 unsettled : (first : First) (skips : Bool) (bytes : List ℕ) {P : Type 0} → first ≡ Stops (Rest skips bytes) → IsSettled first → P
 unsettled first skips bytes e h = absurd (subst IsSettled e h)
 
--- a part of the bytes is the same with more bytes behind
+-- a part of the bytes is the same with more bytes after
 part_same : (n size : ℕ) (bytes more : List ℕ) → n + size ≤ length bytes → take size (drop n (bytes ++ more)) ≡ take size (drop n bytes)
 part_same n size bytes more within =
     ap (take size) (drop-append-le n bytes more (omega arith)) ∙ take-append-le size (drop n bytes) more (omega (arith, length-drop n bytes))
@@ -85,7 +85,7 @@ whole-settled Delimited text n bytes more within settled = delimited-settled (de
 whole-settled BadHeader text n bytes more within settled = refl
 whole-settled Other text n bytes more within settled = refl
 
--- where the first line end stands, the line is the same with more bytes behind
+-- where the first line end stands, the line is the same with more bytes after
 pub first-append_line : (bytes more : List ℕ) (end : ℕ) → line_length bytes ≡ end → end ≤ longest_line → end < length bytes
     → first_of (bytes ++ more) ≡ whole_line (kind_of (take end bytes)) (take end bytes) (end + 1) (bytes ++ more)
 first-append_line bytes more end at short found =

@@ -163,7 +163,7 @@ waits bytes skips here more = reading-alike (bytes ++ more) skips (stands-append
 pub waits_for_more : (bytes : List ℕ) → first_of bytes ≡ Stops (Rest false bytes) → HasNoItem (Rest false bytes)
 waits_for_more bytes e = reading-stops bytes false (Rest false bytes) (stands-false bytes) e
 
--- the line end behind a data
+-- the line end after a data
 pub passes_line_end : (byte : ℕ) (bytes : List ℕ) → byte ≡ 10 → ReadsAlike (Rest true (byte ∷ bytes)) (Rest false bytes)
 passes_line_end byte bytes e more = walk-skip_one byte (bytes ++ more) true (eq-eqb byte 10 e)
 
@@ -172,7 +172,7 @@ pub nothing_yet : (bytes : List ℕ) (skips : Bool) → length bytes ≤ 0 → H
 nothing_yet [] skips none = walk-nil 0 skips
 nothing_yet (byte ∷ bytes) skips none = absurd (omega arith)
 
--- the first byte behind a data: a line end, or another one
+-- the first byte after a data: a line end, or another one
 pub passes_first : (bytes : List ℕ) (skips : Bool) → skips ≡ true → 0 < length bytes → get_or bytes 0 0 ≡ 10 → ReadsAlike (Rest skips bytes) (Rest false (drop 1 bytes))
 passes_first [] skips wish some ends = absurd (omega arith)
 passes_first (byte ∷ bytes) skips wish some ends = rw wish (passes_line_end byte bytes ends)
@@ -182,7 +182,7 @@ stands-other [] skips some other = absurd (omega arith)
 stands-other (byte ∷ bytes) true some other = ne_eqb byte 10 other
 stands-other (byte ∷ bytes) false some other = refl
 
--- behind a fault no byte changes the reading
+-- after a fault no byte changes the reading
 pub faults-stay : (bytes more : List ℕ) (fault : Fault) → (reading false bytes).tail ≡ Failed fault → reading false (bytes ++ more) ≡ reading false bytes
 faults-stay bytes more fault failed =
     reading-append bytes more false

@@ -8,13 +8,13 @@ pub data Item : Type 0 where
   Data : List ℕ → Item
   Blank : Item
 
--- What stands behind the last item: bytes that are no whole item yet, with whether a line end that
--- comes first is still to be skipped, for it would stand directly behind a data; or a fault.
+-- What stands after the last item: bytes that are no whole item yet, with whether a line end that
+-- comes first is still to be skipped, for it would stand directly after a data; or a fault.
 pub data Tail : Type 0 where
   Rest : Bool → List ℕ → Tail
   Failed : Fault → Tail
 
--- How bytes are read: the items in order, and what stands behind them.
+-- How bytes are read: the items in order, and what stands after them.
 pub record Reading : Type 0 where
   pub items : List Item
   pub tail : Tail

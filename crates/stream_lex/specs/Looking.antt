@@ -39,7 +39,7 @@ delimited_from header line bytes =
     let later = before_delimiter delimiter true (drop line bytes) in
     data_before (option_map (λ n. line - header + n) later) delimiter header bytes
 
--- The bytes begin with a header of so many bytes, which counts the data behind it.
+-- The bytes begin with a header of so many bytes, which counts the data after it.
 pub record IsInCounted (bytes : List ℕ) (header size : ℕ) : Type 0 where
   pub inside : header ≤ length bytes
   pub some : 0 < header

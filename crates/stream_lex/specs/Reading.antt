@@ -21,14 +21,14 @@ before_delimiter delimiter at_start (byte ∷ bytes) =
     if at_start && starts_with nat_eq (byte ∷ bytes) (delimiter ++ 10 ∷ []) then Some 0
     else option_map suc (before_delimiter delimiter (is_line_end byte) bytes)
 
--- Data of a counted size behind a header of n bytes.
+-- Data of a counted size after a header of n bytes.
 unfoldable pub counted_data : ℕ → ℕ → List ℕ → First
 counted_data size n bytes =
     if nat_lt largest_data size then Stops (Failed Limit)
     else if nat_lt (length bytes) (n + size) then Stops (Rest false bytes)
     else Gives (Data (take size (drop n bytes))) (n + size)
 
--- Data behind a header of n bytes, by how many bytes stand before its delimiter line.
+-- Data after a header of n bytes, by how many bytes stand before its delimiter line.
 unfoldable pub data_before : Option ℕ → List ℕ → ℕ → List ℕ → First
 data_before None delimiter n bytes =
     if nat_lt (length bytes) (n + largest_data + length delimiter + 1) then Stops (Rest false bytes)
@@ -37,7 +37,7 @@ data_before (Some size) delimiter n bytes =
     if nat_lt largest_data size then Stops (Failed Limit)
     else Gives (Data (take size (drop n bytes))) (n + size + length delimiter + 1)
 
--- Data up to a delimiter line, behind a header of n bytes.
+-- Data up to a delimiter line, after a header of n bytes.
 abbrev pub delimited_data : List ℕ → ℕ → List ℕ → First
 delimited_data delimiter n bytes =
     data_before (before_delimiter delimiter true (drop n bytes)) delimiter n bytes
@@ -64,13 +64,13 @@ first_at end bytes =
 abbrev pub first_of : List ℕ → First
 first_of bytes = first_at (line_length bytes) bytes
 
--- An item is a data, so that a line end directly behind it is skipped.
+-- An item is a data, so that a line end directly after it is skipped.
 abbrev pub is_data : Item → Bool
 is_data (Line text) = false
 is_data (Data raw) = true
 is_data Blank = false
 
--- The reading of what stands first, where `later` reads on behind so many of the further bytes.
+-- The reading of what stands first, where `later` reads on after so many of the further bytes.
 abbrev pub behind : First → (ℕ → Bool → Reading) → Reading
 behind (Stops tail) later = record { items = []; tail = tail }
 behind (Skips n) later = later (n - 1) false
@@ -85,6 +85,6 @@ walk (byte ∷ bytes) zero skips =
     if skips && is_line_end byte then walk bytes 0 false
     else behind (first_of (byte ∷ bytes)) (λ n data_next. walk bytes n data_next)
 
--- How bytes are read from a line's beginning, behind a data or not.
+-- How bytes are read from a line's beginning, after a data or not.
 abbrev pub reading : Bool → List ℕ → Reading
 reading skips bytes = walk bytes 0 skips

@@ -33,7 +33,7 @@ pub data IsUnfinishedData : List ℕ → Type 0 where
       → length (lines ++ text) < largest_data + length (delimiter_of header) + 1
       → IsUnfinishedData (header ++ 10 ∷ (lines ++ text))
 
--- The text is the beginning of one data that is too large: its count says so, or behind its header
+-- The text is the beginning of one data that is too large: its count says so, or after its header
 -- stand so many bytes with no delimiter line that the raw bytes can only be too many.
 pub data IsTooLargeData : List ℕ → Type 0 where
   counted_too_large : (header : List ℕ) (size : ℕ)

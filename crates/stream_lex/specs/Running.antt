@@ -3,7 +3,7 @@ use Rattle.std.specs.Prelude.{◌≡◌, false, ℕ, List, [], ◌++◌}
 use Rattle.stream_lex.specs.Items.{Item, Tail, Rest, Failed, Reading, before, behind_items}
 use Rattle.stream_lex.specs.Reading.{reading}
 
--- The tail with more bytes behind it; a fault stays.
+-- The tail with more bytes after it; a fault stays.
 abbrev pub extended : Tail → List ℕ → Tail
 extended (Rest skips bytes) more = Rest skips (bytes ++ more)
 extended (Failed fault) more = Failed fault

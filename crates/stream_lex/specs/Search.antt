@@ -13,7 +13,7 @@ pub record IsLineEnd (bytes : List ℕ) (seen end : ℕ) : Type 0 where
   pub inside : end < length bytes
   pub first : line_length (drop seen bytes) ≡ end - seen
 
--- What is found: the first line end behind the bytes that were seen, if there is one.
+-- What is found: the first line end after the bytes that were seen, if there is one.
 abbrev pub FindsLineEnd : List ℕ → ℕ → Option ℕ → Type 0
 FindsLineEnd bytes seen None = HasNoLineEnd (drop seen bytes)
 FindsLineEnd bytes seen (Some end) = IsLineEnd bytes seen end
@@ -23,7 +23,7 @@ abbrev pub gone_over : List ℕ → Option ℕ → ℕ
 gone_over bytes None = length bytes
 gone_over bytes (Some end) = end + 1
 
--- The search has gone over the bytes behind those seen, and counted each of them once.
+-- The search has gone over the bytes after those seen, and counted each of them once.
 pub record GoesOver (bytes : List ℕ) (old : Search) (found : Option ℕ) (new : Search) : Type 0 where
   pub seen : new.seen ≡ gone_over bytes found
   pub searched : new.searched ≡ counted_on old.searched (new.seen - old.seen)

@@ -21,14 +21,14 @@ const LARGE_BUFFER: usize = 1_048_576;
 pub struct Cursor {
     /// The items of so many bytes were given.
     pub taken: usize,
-    /// What is known of the bytes behind those.
+    /// What is known of the bytes after those.
     pub place: Place,
-    /// How far the search for a line end has gone in the bytes behind those that were taken.
+    /// How far the search for a line end has gone in the bytes after those that were taken.
     pub search: Search,
 }
 
 impl Cursor {
-    /// Goes on behind an item or a comment of `len` bytes.
+    /// Goes on after an item or a comment of `len` bytes.
     fn pass(&mut self, len: usize, after_data: bool)
         requires { self.old.taken + len < 2 ^ 64 }
         ensures taken { self.new.taken ≡ self.old.taken + len }
@@ -42,7 +42,7 @@ impl Cursor {
     }
 }
 
-/// The first item behind the cursor, which goes on behind it.
+/// The first item after the cursor, which goes on after it.
 pub fn next_item<'a>(bytes: &'a [u8], cursor: &mut Cursor) -> Result<Option<Item<'a>>, Fault>
     requires { IsAt bytes.now cursor.old }
     ensures at { IsAt bytes.now cursor.new }
@@ -70,7 +70,7 @@ pub fn next_item<'a>(bytes: &'a [u8], cursor: &mut Cursor) -> Result<Option<Item
     }
 }
 
-/// Whether the item is a data, so that a line end directly behind it is skipped.
+/// Whether the item is a data, so that a line end directly after it is skipped.
 fn is_data(item: &Item) -> bool
     ensures { result ≡ data_item (item_of item.now) }
 {

@@ -26,7 +26,7 @@ pub fn prefixes_agree()
         ≡ behind_items (reading false bytes).items (more_of (reading false bytes).tail more) }
 {}
 
-/// Behind a fault no byte changes the reading.
+/// After a fault no byte changes the reading.
 pub fn faults_stay()
     ensures { (bytes more : List ℕ) (fault : Fault) → (reading false bytes).tail ≡ Failed fault
         → reading false (bytes ++ more) ≡ reading false bytes }

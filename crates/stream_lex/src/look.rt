@@ -100,7 +100,7 @@ fn whole<'a>(bytes: &'a [u8], end: usize, search: &mut Search) -> Found<'a>
     }
 }
 
-/// What stands first in `bytes`, where a header of `header` bytes counts the `size` bytes behind
+/// What stands first in `bytes`, where a header of `header` bytes counts the `size` bytes after
 /// it.
 fn counted(bytes: &[u8], header: usize, size: u64) -> Found<'_>
     requires { IsInCounted bytes.now header size }

@@ -5,11 +5,11 @@ use crate::fault::Fault;
 /// What the bytes of which no item was given yet begin with, as far as it is known.
 #[derive(Clone, Copy)]
 pub enum Place {
-    /// A line; behind a data, a line end that comes first is skipped.
+    /// A line; after a data, a line end that comes first is skipped.
     Line { after_data: bool },
-    /// A header of `header` bytes, its line end included, and behind it a data of `size` bytes.
+    /// A header of `header` bytes, its line end included, and after it a data of `size` bytes.
     Counted { header: usize, size: usize },
-    /// A header of `header` bytes, its line end included, and behind it a data that ends at a
+    /// A header of `header` bytes, its line end included, and after it a data that ends at a
     /// delimiter line. No line of the data before the byte at `line` is the delimiter.
     Delimited { header: usize, line: usize },
     /// Nothing more: the stream cannot be read on.

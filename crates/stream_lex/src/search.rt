@@ -15,7 +15,7 @@ pub struct Search {
 }
 
 impl Search {
-    /// The place of the first line end in `bytes` behind those that were seen.
+    /// The place of the first line end in `bytes` after those that were seen.
     pub fn line_end(&mut self, bytes: &[u8]) -> Option<usize>
         requires { self.old.seen ≤ length bytes.now }
         ensures found { FindsLineEnd bytes.now self.old.seen result }

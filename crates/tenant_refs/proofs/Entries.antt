@@ -41,7 +41,8 @@ equal Greater e = cc
 
 module _ {X : Type 0} where
   -- where two tests do not both pass, it does not matter which is asked first
-  asked_first : (a b : Bool) (x y z : Option X) → (a ≡ true → b ≡ true → ⊥) → y ≡ cond b None z → cond a x y ≡ cond b None (cond a x z)
+  asked_first : (a b : Bool) (x y z : Option X) → (a ≡ true → b ≡ true → ⊥) → y ≡ cond b None z
+      → cond a x y ≡ cond b None (cond a x z)
   asked_first true true x y z apart rest = absurd (apart refl refl)
   asked_first true false x y z apart rest = refl
   asked_first false b x y z apart rest = rest
@@ -50,10 +51,12 @@ module _ {X : Type 0} where
   asked_twice true x y none = none refl
   asked_twice false x y none = refl
 
-above : {K : Type 0} {R : K → K → Ordering} → IsTotalOrder R → (x k : K) → R x k ≡ Less → R k x ≡ Greater
+above : {K : Type 0} {R : K → K → Ordering} → IsTotalOrder R → (x k : K) → R x k ≡ Less
+    → R k x ≡ Greater
 above o x k e = o.antisymm k x ∙ ap ordering_reverse e
 
-not_tied : {K : Type 0} {R : K → K → Ordering} → IsAntisymmetric R → (k q x : K) → R k x ≡ Greater → is_eq (R q x) ≡ true → is_eq (R q k) ≡ true → ⊥
+not_tied : {K : Type 0} {R : K → K → Ordering} → IsAntisymmetric R → (k q x : K) → R k x ≡ Greater
+    → is_eq (R q x) ≡ true → is_eq (R q k) ≡ true → ⊥
 not_tied {R = R} same k q x up e f =
     let here = same q k (equal _ f) in
     let along : R k x ≡ Equal = subst (λ z. R z x ≡ Equal) here (equal (R q x) e) in
@@ -72,32 +75,39 @@ module _ {K X : Type 0} (R : K → K → Ordering) where
   behind-below_all k (e ∷ es) h = (less _ (first _ _ h), behind-below_all k es (second _ _ h))
 
   -- a key in its gap: `put` puts it there, and `find` finds nothing
-  pub put-gap : (k : K) (v : X) (before after : List (K × X)) → AllBefore k before → AllBehind k after
+  pub put-gap : (k : K) (v : X) (before after : List (K × X)) → AllBefore k before
+      → AllBehind k after
       → put R k v (before ++ after) ≡ before ++ (k, v) ∷ after
   put-gap k v [] [] low high = refl
   put-gap k v [] (e ∷ es) low high = rw high.0
-  put-gap k v (e ∷ es) after low high = rw low.0 (ap (λ rest. e ∷ rest) (put-gap k v es after low.1 high))
+  put-gap k v (e ∷ es) after low high =
+      rw low.0 (ap (λ rest. e ∷ rest) (put-gap k v es after low.1 high))
 
   pub find-behind : (k : K) (es : List (K × X)) → AllBehind k es → find R k es ≡ None
   find-behind k [] high = refl
   find-behind k (e ∷ es) high = rw high.0 (find-behind k es high.1)
 
-  pub find-gap : (k : K) (before after : List (K × X)) → AllBefore k before → AllBehind k after → find R k (before ++ after) ≡ None
+  pub find-gap : (k : K) (before after : List (K × X)) → AllBefore k before → AllBehind k after
+      → find R k (before ++ after) ≡ None
   find-gap k [] after low high = find-behind k after high
   find-gap k (e ∷ es) after low high = rw low.0 (find-gap k es after low.1 high)
 
   module _ (o : IsTotalOrder R) where
-    below_one : (x k : K) (v : X) (before after : List (K × X)) → T (below_all R x (before ++ (k, v) ∷ after)) → R x k ≡ Less
+    below_one : (x k : K) (v : X) (before after : List (K × X))
+        → T (below_all R x (before ++ (k, v) ∷ after)) → R x k ≡ Less
     below_one x k v [] after h = less _ (first _ _ h)
     below_one x k v (e ∷ es) after h = below_one x k v es after (second _ _ h)
 
     -- in order, what stands in front of an entry comes before it, and what stands after comes
     -- after it
-    pub before-sorted : (k : K) (v : X) (before after : List (K × X)) → T (is_sorted R (before ++ (k, v) ∷ after)) → AllBefore k before
+    pub before-sorted : (k : K) (v : X) (before after : List (K × X))
+        → T (is_sorted R (before ++ (k, v) ∷ after)) → AllBefore k before
     before-sorted k v [] after h = tt
-    before-sorted k v (e ∷ es) after h = (above o e.0 k (below_one e.0 k v es after (first _ _ h)), before-sorted k v es after (second _ _ h))
+    before-sorted k v (e ∷ es) after h =
+        (above o e.0 k (below_one e.0 k v es after (first _ _ h)), before-sorted k v es after (second _ _ h))
 
-    pub behind-sorted : (k : K) (v : X) (before after : List (K × X)) → T (is_sorted R (before ++ (k, v) ∷ after)) → AllBehind k after
+    pub behind-sorted : (k : K) (v : X) (before after : List (K × X))
+        → T (is_sorted R (before ++ (k, v) ∷ after)) → AllBehind k after
     behind-sorted k v [] after h = behind-below_all k after (first _ _ h)
     behind-sorted k v (e ∷ es) after h = behind-sorted k v es after (second _ _ h)
 
@@ -105,32 +115,46 @@ module _ {K X : Type 0} (R : K → K → Ordering) where
     pub put-place : (k : K) (v w : X) (before after : List (K × X)) → AllBefore k before
         → put R k w (before ++ (k, v) ∷ after) ≡ before ++ (k, w) ∷ after
     put-place k v w [] after low = rw (tied_itself o k)
-    put-place k v w (e ∷ es) after low = rw low.0 (ap (λ rest. e ∷ rest) (put-place k v w es after low.1))
+    put-place k v w (e ∷ es) after low =
+        rw low.0 (ap (λ rest. e ∷ rest) (put-place k v w es after low.1))
 
-    pub find-place : (k : K) (v : X) (before after : List (K × X)) → AllBefore k before → find R k (before ++ (k, v) ∷ after) ≡ Some v
+    pub find-place : (k : K) (v : X) (before after : List (K × X)) → AllBefore k before
+        → find R k (before ++ (k, v) ∷ after) ≡ Some v
     find-place k v [] after low = rw (tied_itself o k)
     find-place k v (e ∷ es) after low = rw low.0 (find-place k v es after low.1)
 
     -- an entry taken out
-    below_out : (x k : K) (v : X) (before after : List (K × X)) → T (below_all R x (before ++ (k, v) ∷ after)) → T (below_all R x (before ++ after))
+    below_out : (x k : K) (v : X) (before after : List (K × X))
+        → T (below_all R x (before ++ (k, v) ∷ after)) → T (below_all R x (before ++ after))
     below_out x k v [] after h = second _ _ h
-    below_out x k v (e ∷ es) after h = both _ _ (first _ _ h) (below_out x k v es after (second _ _ h))
+    below_out x k v (e ∷ es) after h =
+        both _ _ (first _ _ h) (below_out x k v es after (second _ _ h))
 
-    pub is_sorted-out : (k : K) (v : X) (before after : List (K × X)) → T (is_sorted R (before ++ (k, v) ∷ after)) → T (is_sorted R (before ++ after))
+    pub is_sorted-out : (k : K) (v : X) (before after : List (K × X))
+        → T (is_sorted R (before ++ (k, v) ∷ after)) → T (is_sorted R (before ++ after))
     is_sorted-out k v [] after h = second _ _ h
-    is_sorted-out k v (e ∷ es) after h = both _ _ (below_out e.0 k v es after (first _ _ h)) (is_sorted-out k v es after (second _ _ h))
+    is_sorted-out k v (e ∷ es) after h =
+        both _ _ (below_out e.0 k v es after (first _ _ h))
+        (is_sorted-out k v es after (second _ _ h))
 
-    pub second-above : (e f : K × X) (es : List (K × X)) → T (is_sorted R (e ∷ (f ∷ es))) → R f.0 e.0 ≡ Greater
+    pub second-above : (e f : K × X) (es : List (K × X)) → T (is_sorted R (e ∷ (f ∷ es)))
+        → R f.0 e.0 ≡ Greater
     second-above e f es h = above o e.0 f.0 (less _ (first _ _ (first _ _ h)))
 
-    pub sorted_tail : (e : K × X) (es : List (K × X)) → T (is_sorted R (e ∷ es)) → T (is_sorted R es)
+    pub sorted_tail : (e : K × X) (es : List (K × X)) → T (is_sorted R (e ∷ es))
+        → T (is_sorted R es)
     sorted_tail e es h = second _ _ h
 
     module _ (same : IsAntisymmetric R) where
-      behind_tied : (k q : K) (es : List (K × X)) → AllBehind k es → eq_by_cmp R q k ≡ true → find R q es ≡ None
-      behind_tied k q es high e = subst (λ x. find R x es ≡ None) (sym (same q k (equal _ e))) (find-behind k es high)
+      behind_tied : (k q : K) (es : List (K × X)) → AllBehind k es → eq_by_cmp R q k ≡ true
+          → find R q es ≡ None
+      behind_tied k q es high e =
+          subst (λ x. find R x es ≡ None) (sym (same q k (equal _ e))) (find-behind k es high)
 
-      pub find-out : (k : K) (v : X) (before after : List (K × X)) → AllBefore k before → AllBehind k after
-          → (q : K) → find R q (before ++ after) ≡ cond (eq_by_cmp R q k) None (find R q (before ++ (k, v) ∷ after))
+      pub find-out : (k : K) (v : X) (before after : List (K × X)) → AllBefore k before
+          → AllBehind k after
+          → (q : K)
+          → find R q (before ++ after) ≡ cond (eq_by_cmp R q k) None (find R q (before ++ (k, v) ∷ after))
       find-out k v [] after low high q = asked_twice _ _ _ (behind_tied k q after high)
-      find-out k v (e ∷ es) after low high q = asked_first _ _ _ _ _ (not_tied same k q e.0 low.0) (find-out k v es after low.1 high q)
+      find-out k v (e ∷ es) after low high q =
+          asked_first _ _ _ _ _ (not_tied same k q e.0 low.0) (find-out k v es after low.1 high q)

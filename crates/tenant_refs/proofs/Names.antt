@@ -9,7 +9,8 @@ use Rattle.tenant_refs.specs.declared.tenant_name.TheConstants.{TENANT_NAME_LIMI
 use Rattle.tenant_refs.specs.TenantName.{IsTenantName, is_tenant_name, parts_of, is_part, is_part_byte}
 
 IsPart : List ℕ → Type 0
-IsPart part = (¬ (part ≡ [])) × (¬ BeginsWith part (codes "-")) × AllByRecursion (λ byte. is_part_byte byte ≡ true) part
+IsPart part =
+    (¬ (part ≡ [])) × (¬ BeginsWith part (codes "-")) × AllByRecursion (λ byte. is_part_byte byte ≡ true) part
 
 ≤_test : (a b : ℕ) → Decides (nat_le a b) (a ≤ b)
 ≤_test a b = (λ e. leb-true a b e, λ h. le-leb a b h)

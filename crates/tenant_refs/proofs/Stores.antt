@@ -38,25 +38,38 @@ is_ref_name-first_head = refl
 
 -- edits of a list, cut at the place
 module _ {X : Type 0} where
-  set-length : (before after : List X) (x y : X) → set (before ++ x ∷ after) (length before) y ≡ before ++ y ∷ after
+  set-length : (before after : List X) (x y : X)
+      → set (before ++ x ∷ after) (length before) y ≡ before ++ y ∷ after
   set-length [] after x y = refl
   set-length (b ∷ bs) after x y = ap (λ l. b ∷ l) (set-length bs after x y)
 
-  drop-past : (before after : List X) (x : X) → drop (suc (length before)) (before ++ x ∷ after) ≡ after
+  drop-past : (before after : List X) (x : X)
+      → drop (suc (length before)) (before ++ x ∷ after) ≡ after
   drop-past [] after x = refl
   drop-past (b ∷ bs) after x = drop-past bs after x
 
-  set-seam : (before after : List X) (x y : X) (i : ℕ) → length before ≡ i → set (before ++ x ∷ after) i y ≡ before ++ y ∷ after
-  set-seam before after x y i e = subst (λ n. set (before ++ x ∷ after) n y ≡ before ++ y ∷ after) e (set-length before after x y)
+  set-seam : (before after : List X) (x y : X) (i : ℕ) → length before ≡ i
+      → set (before ++ x ∷ after) i y ≡ before ++ y ∷ after
+  set-seam before after x y i e =
+      subst (λ n. set (before ++ x ∷ after) n y ≡ before ++ y ∷ after) e
+      (set-length before after x y)
 
-  insert-seam : (before after : List X) (y : X) (i : ℕ) → length before ≡ i → insert (before ++ after) i y ≡ before ++ y ∷ after
-  insert-seam before after y i e = subst (λ n. insert (before ++ after) n y ≡ before ++ y ∷ after) e (rw (take-append_seam, drop-append_seam))
+  insert-seam : (before after : List X) (y : X) (i : ℕ) → length before ≡ i
+      → insert (before ++ after) i y ≡ before ++ y ∷ after
+  insert-seam before after y i e =
+      subst (λ n. insert (before ++ after) n y ≡ before ++ y ∷ after) e
+      (rw (take-append_seam, drop-append_seam))
 
-  remove-seam : (before after : List X) (x : X) (i : ℕ) → length before ≡ i → remove (before ++ x ∷ after) i ≡ before ++ after
-  remove-seam before after x i e = subst (λ n. remove (before ++ x ∷ after) n ≡ before ++ after) e (rw (take-append_seam, drop-past))
+  remove-seam : (before after : List X) (x : X) (i : ℕ) → length before ≡ i
+      → remove (before ++ x ∷ after) i ≡ before ++ after
+  remove-seam before after x i e =
+      subst (λ n. remove (before ++ x ∷ after) n ≡ before ++ after) e
+      (rw (take-append_seam, drop-past))
 
-  get_or-seam : (before after : List X) (x d : X) (i : ℕ) → length before ≡ i → get_or (before ++ x ∷ after) i d ≡ x
-  get_or-seam before after x d i e = subst (λ n. get_or (before ++ x ∷ after) n d ≡ x) e (get_or-append_seam before x after d)
+  get_or-seam : (before after : List X) (x d : X) (i : ℕ) → length before ≡ i
+      → get_or (before ++ x ∷ after) i d ≡ x
+  get_or-seam before after x d i e =
+      subst (λ n. get_or (before ++ x ∷ after) n d ≡ x) e (get_or-append_seam before x after d)
 
 module _ (es : Entries) (sorted : T (is_sorted bytes_cmp es)) where
   pub entries-made : map.entries (made es) ≡ es
@@ -80,14 +93,21 @@ module _ (es : Entries) (sorted : T (is_sorted bytes_cmp es)) where
     sorted_here = subst (λ l. T (is_sorted bytes_cmp l)) at.stands sorted
 
     pub entry-place : (d : List ℕ × List ℕ) → get_or es i d ≡ (ref, at.target)
-    entry-place d = ap (λ l. get_or l i d) at.stands ∙ get_or-seam at.before at.after (ref, at.target) d i at.position_is
+    entry-place d =
+        ap (λ l. get_or l i d) at.stands
+        ∙ get_or-seam at.before at.after (ref, at.target) d i at.position_is
 
     pub get-place : map.get (made es) ref ≡ Some at.target
-    get-place = get-made ref ∙ ap (find bytes_cmp ref) at.stands ∙ find-place bytes_cmp nat_list_cmp_total ref at.target at.before at.after (before-sorted bytes_cmp nat_list_cmp_total ref at.target at.before at.after sorted_here)
+    get-place =
+        get-made ref ∙ ap (find bytes_cmp ref) at.stands
+        ∙ find-place bytes_cmp nat_list_cmp_total ref at.target at.before at.after
+        (before-sorted bytes_cmp nat_list_cmp_total ref at.target at.before at.after sorted_here)
 
-    pub set-place : (target : List ℕ) → T (is_sorted bytes_cmp (set es i (ref, target))) × (made (set es i (ref, target)) ≡ map.insert (made es) ref target)
+    pub set-place : (target : List ℕ)
+        → T (is_sorted bytes_cmp (set es i (ref, target))) × (made (set es i (ref, target)) ≡ map.insert (made es) ref target)
     set-place target = made-put ref target _ (ap (put bytes_cmp ref target) at.stands
-        ∙ put-place bytes_cmp nat_list_cmp_total ref at.target target at.before at.after (before-sorted bytes_cmp nat_list_cmp_total ref at.target at.before at.after sorted_here)
+        ∙ put-place bytes_cmp nat_list_cmp_total ref at.target target at.before at.after
+        (before-sorted bytes_cmp nat_list_cmp_total ref at.target at.before at.after sorted_here)
         ∙ sym (ap (λ l. set l i (ref, target)) at.stands ∙ set-seam at.before at.after _ _ i at.position_is))
 
     pub remove-place : T (is_sorted bytes_cmp (remove es i)) × (made (remove es i) ≡ map.remove (made es) ref)
@@ -97,16 +117,21 @@ module _ (es : Entries) (sorted : T (is_sorted bytes_cmp es)) where
           sorted_out,
           same_map nat_list_cmp_total bytes_exact _ _ (λ q.
               get-from_sorted bytes_cmp (remove es i) q sorted_out ∙ ap (find bytes_cmp q) out
-              ∙ find-out bytes_cmp nat_list_cmp_total bytes_exact ref at.target at.before at.after (before-sorted bytes_cmp nat_list_cmp_total ref at.target at.before at.after sorted_here) (behind-sorted bytes_cmp nat_list_cmp_total ref at.target at.before at.after sorted_here) q
+              ∙ find-out bytes_cmp nat_list_cmp_total bytes_exact ref at.target at.before at.after
+              (before-sorted bytes_cmp nat_list_cmp_total ref at.target at.before at.after sorted_here)
+              (behind-sorted bytes_cmp nat_list_cmp_total ref at.target at.before at.after sorted_here) q
               ∙ ap (λ l. cond (eq_by_cmp bytes_cmp q ref) None (find bytes_cmp q l)) (sym at.stands)
               ∙ sym (get-remove nat_list_cmp_total (made es) ref q ∙ ap (cond (eq_by_cmp bytes_cmp q ref) None) (get-made q))),
         )
 
   module _ (ref : List ℕ) (i : ℕ) (gap : IsGapFor es ref i) where
     pub get-gap : map.get (made es) ref ≡ None
-    get-gap = get-made ref ∙ ap (find bytes_cmp ref) gap.parts ∙ find-gap bytes_cmp ref gap.before gap.after gap.below gap.above
+    get-gap =
+        get-made ref ∙ ap (find bytes_cmp ref) gap.parts
+        ∙ find-gap bytes_cmp ref gap.before gap.after gap.below gap.above
 
-    pub insert-gap : (target : List ℕ) → T (is_sorted bytes_cmp (insert es i (ref, target))) × (made (insert es i (ref, target)) ≡ map.insert (made es) ref target)
+    pub insert-gap : (target : List ℕ)
+        → T (is_sorted bytes_cmp (insert es i (ref, target))) × (made (insert es i (ref, target)) ≡ map.insert (made es) ref target)
     insert-gap target = made-put ref target _ (ap (put bytes_cmp ref target) gap.parts
         ∙ put-gap bytes_cmp ref target gap.before gap.after gap.below gap.above
         ∙ sym (ap (λ l. insert l i (ref, target)) gap.parts ∙ insert-seam gap.before gap.after _ i gap.position_is))
@@ -116,7 +141,8 @@ kept_where_none : (b : Bool) (x : Option (List ℕ)) → (b ≡ true → x ≡ N
 kept_where_none true x none = sym (none refl)
 kept_where_none false x none = refl
 
-pub remove-none : (refs : RefMap) (ref : List ℕ) → map.get refs ref ≡ None → map.remove refs ref ≡ refs
+pub remove-none : (refs : RefMap) (ref : List ℕ) → map.get refs ref ≡ None
+    → map.remove refs ref ≡ refs
 remove-none refs ref none = same_map nat_list_cmp_total bytes_exact _ _ (λ q.
     get-remove nat_list_cmp_total refs ref q ∙ kept_where_none _ _ (λ e. subst (λ x. map.get refs x ≡ None) (sym (bytes_exact q ref (equal _ e))) none))
 
@@ -131,16 +157,22 @@ tied_same x y apart = go _ refl
 tied_here : (x : List ℕ) → eq_by_cmp bytes_cmp x x ≡ true
 tied_here x = ap is_eq (tied_itself nat_list_cmp_total x)
 
-pub ChangesRef-with_ref : (store : RefStore) (ref target : List ℕ) → ChangesRef store (with_ref store ref target) ref (Some target)
+pub ChangesRef-with_ref : (store : RefStore) (ref target : List ℕ)
+    → ChangesRef store (with_ref store ref target) ref (Some target)
 ChangesRef-with_ref store ref target = record {
-  this_ref = get-insert nat_list_cmp_total store.refs ref target ref ∙ ap (λ b. cond b (Some target) (map.get store.refs ref)) (tied_here ref);
+  this_ref =
+      get-insert nat_list_cmp_total store.refs ref target ref
+      ∙ ap (λ b. cond b (Some target) (map.get store.refs ref)) (tied_here ref);
   other_refs = λ other apart. get-insert nat_list_cmp_total store.refs ref target other ∙ ap (λ b. cond b (Some target) (map.get store.refs other)) (tied_same other ref apart);
   head = refl;
 }
 
-pub ChangesRef-without_ref : (store : RefStore) (ref : List ℕ) → ChangesRef store (without_ref store ref) ref None
+pub ChangesRef-without_ref : (store : RefStore) (ref : List ℕ)
+    → ChangesRef store (without_ref store ref) ref None
 ChangesRef-without_ref store ref = record {
-  this_ref = get-remove nat_list_cmp_total store.refs ref ref ∙ ap (λ b. cond b None (map.get store.refs ref)) (tied_here ref);
+  this_ref =
+      get-remove nat_list_cmp_total store.refs ref ref
+      ∙ ap (λ b. cond b None (map.get store.refs ref)) (tied_here ref);
   other_refs = λ other apart. get-remove nat_list_cmp_total store.refs ref other ∙ ap (λ b. cond b None (map.get store.refs other)) (tied_same other ref apart);
   head = refl;
 }

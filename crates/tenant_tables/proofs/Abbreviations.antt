@@ -37,14 +37,16 @@ equal x b h = sym (nat_cmp_is x b Equal h)
 greater : (x b : ℕ) → b < x → nat_cmp x b ≡ Greater
 greater x b h = sym (nat_cmp_is x b Greater h)
 
-below_end : (x b : ℕ) (X : Ordering) → x ≤ b → is_le X ≡ true → is_le (ordering_then (nat_cmp x b) X) ≡ true
+below_end : (x b : ℕ) (X : Ordering) → x ≤ b → is_le X ≡ true
+    → is_le (ordering_then (nat_cmp x b) X) ≡ true
 below_end x b X h rest =
     elim (cases_eq x b) [
       | inl same ↦ rw (equal x b same) rest
       | inr other ↦ rw (less x b (omega arith)) refl
     ]
 
-above_end : (y b : ℕ) (Y : Ordering) → b ≤ y → is_lt Y ≡ false → is_lt (ordering_then (nat_cmp y b) Y) ≡ false
+above_end : (y b : ℕ) (Y : Ordering) → b ≤ y → is_lt Y ≡ false
+    → is_lt (ordering_then (nat_cmp y b) Y) ≡ false
 above_end y b Y h rest =
     elim (cases_eq y b) [
       | inl same ↦ rw (equal y b same) rest
@@ -55,7 +57,8 @@ not_true : (b : Bool) → not b ≡ true → b ≡ false
 not_true true h = sym h
 not_true false h = refl
 
-inside : (x y b : ℕ) (X Y : Ordering) → x ≤ b → b ≤ y → within X Y ≡ true → within (ordering_then (nat_cmp x b) X) (ordering_then (nat_cmp y b) Y) ≡ true
+inside : (x y b : ℕ) (X Y : Ordering) → x ≤ b → b ≤ y → within X Y ≡ true
+    → within (ordering_then (nat_cmp x b) X) (ordering_then (nat_cmp y b) Y) ≡ true
 inside x y b X Y low high rest =
     let parts = and_parts (is_le X) (not (is_lt Y)) rest in
     rw (below_end x b X low parts.0, above_end y b Y high (not_true (is_lt Y) parts.1)) refl
@@ -64,11 +67,13 @@ pub and_false : (b : Bool) → (b && false) ≡ false
 and_false true = refl
 and_false false = refl
 
-outside : (x y b : ℕ) (X Y : Ordering) → (b < x) ⊎ (y < b) → within (ordering_then (nat_cmp x b) X) (ordering_then (nat_cmp y b) Y) ≡ false
+outside : (x y b : ℕ) (X Y : Ordering) → (b < x) ⊎ (y < b)
+    → within (ordering_then (nat_cmp x b) X) (ordering_then (nat_cmp y b) Y) ≡ false
 outside x y b X Y (inl low) = rw (greater x b low) refl
 outside x y b X Y (inr high) = rw (less y b high) (and_false _)
 
-both_same : (x b : ℕ) (X Y : Ordering) → x ≡ b → within (ordering_then (nat_cmp x b) X) (ordering_then (nat_cmp x b) Y) ≡ within X Y
+both_same : (x b : ℕ) (X Y : Ordering) → x ≡ b
+    → within (ordering_then (nat_cmp x b) X) (ordering_then (nat_cmp x b) Y) ≡ within X Y
 both_same x b X Y h = rw (equal x b h) refl
 
 -- ---- digits
@@ -130,7 +135,8 @@ one_digit d b X Y h rest =
     (elim (cases_eq (half d) (b / 16)) [
       | inl same ↦
           let yes_test : nat_eq (half d) (b / 16) ≡ true = grind (arith, nat_tests) in
-          inside (half d * 16 + 0) (half d * 16 + 15) b X Y (omega arith) (omega arith) rest ∙ sym yes_test
+          inside (half d * 16 + 0) (half d * 16 + 15) b X Y (omega arith) (omega arith) rest
+          ∙ sym yes_test
       | inr other ↦
           let no_test : nat_eq (half d) (b / 16) ≡ false = grind (arith, nat_tests) in
           elim (cases_lt (half d) (b / 16)) [
@@ -175,7 +181,8 @@ two_digits d e b X Y h g =
 -- ---- the two names
 
 -- the names between that of the least and that of the greatest digits after the given ones are those that these begin
-between : (ds q : List ℕ) → AllPass is_hex_digit ds → All (λ byte. byte < 256) q → length ds ≤ 2 * length q
+between : (ds q : List ℕ) → AllPass is_hex_digit ds → All (λ byte. byte < 256) q
+    → length ds ≤ 2 * length q
     → lies (bytes_of (padded 48 q ds)) (bytes_of (padded 102 q ds)) q ≡ begins ds q
 unfolding begins bytes_of padded half stands
 between [] [] h bs n = refl
@@ -190,7 +197,8 @@ between (d ∷ []) (b ∷ q) h bs n =
 between (d ∷ e ∷ ds) (b ∷ q) h bs n =
     let others = All-tail (λ x. is_hex_digit x ≡ true) d (e ∷ ds) h in
     let rest = between ds q (All-tail (λ x. is_hex_digit x ≡ true) e ds others) (All-tail (λ byte. byte < 256) b q bs) (omega arith) in
-    two_digits d e b _ _ (All-head (λ x. is_hex_digit x ≡ true) d (e ∷ ds) h) (All-head (λ x. is_hex_digit x ≡ true) e ds others)
+    two_digits d e b _ _ (All-head (λ x. is_hex_digit x ≡ true) d (e ∷ ds) h)
+    (All-head (λ x. is_hex_digit x ≡ true) e ds others)
     ∙ ap (λ (t : Bool). stands d (b / 16) && (stands e (b % 16) && t)) rest
 
 -- the least does not come after the greatest
@@ -199,14 +207,17 @@ ascend : (ds q : List ℕ) → length ds ≤ 2 * length q
 unfolding bytes_of padded half
 ascend ds [] n = by ds n
   where
-    by : (es : List ℕ) → length es ≤ 0 → is_gt (slice_cmp nat_cmp (bytes_of (padded 48 [] es)) (bytes_of (padded 102 [] es))) ≡ false
+    by : (es : List ℕ) → length es ≤ 0
+        → is_gt (slice_cmp nat_cmp (bytes_of (padded 48 [] es)) (bytes_of (padded 102 [] es))) ≡ false
     by es m = refl
 ascend [] (b ∷ q) n = refl
 ascend (d ∷ []) (b ∷ q) n = rw (less (half d * 16 + 0) (half d * 16 + 15) (omega arith)) refl
-ascend (d ∷ e ∷ ds) (b ∷ q) n = rw (equal (half d * 16 + half e) (half d * 16 + half e) refl) (ascend ds q (omega arith))
+ascend (d ∷ e ∷ ds) (b ∷ q) n =
+    rw (equal (half d * 16 + half e) (half d * 16 + half e) refl) (ascend ds q (omega arith))
 
 -- what begins a name is digits, no more than it has
-pub begins-digits : (ds q : List ℕ) → begins ds q ≡ true → AllPass is_hex_digit ds × (length ds ≤ 2 * length q)
+pub begins-digits : (ds q : List ℕ) → begins ds q ≡ true
+    → AllPass is_hex_digit ds × (length ds ≤ 2 * length q)
 unfolding begins
 begins-digits [] q h = (All-nil (λ x. is_hex_digit x ≡ true), omega arith)
 begins-digits (d ∷ ds) [] h = cc h
@@ -215,7 +226,8 @@ begins-digits (d ∷ []) (b ∷ q) h =
     (All-cons (λ x. is_hex_digit x ≡ true) d [] (is_digit d (b / 16) parts.0) (All-nil (λ x. is_hex_digit x ≡ true)), omega arith)
 begins-digits (d ∷ e ∷ ds) (b ∷ q) h =
     let parts =
-    and_parts (option_eq nat_eq (hex_digit_value d) (Some (b / 16))) (option_eq nat_eq (hex_digit_value e) (Some (b % 16)) && begins ds q) h in
+    and_parts (option_eq nat_eq (hex_digit_value d) (Some (b / 16)))
+    (option_eq nat_eq (hex_digit_value e) (Some (b % 16)) && begins ds q) h in
     let more = and_parts (option_eq nat_eq (hex_digit_value e) (Some (b % 16))) (begins ds q) parts.1 in
     let rest = begins-digits ds q more.1 in
     let n = rest.1 in (
@@ -225,41 +237,52 @@ begins-digits (d ∷ e ∷ ds) (b ∷ q) h =
     )
 
 -- text that decodes is the bytes that its digits write
-consed : (v : ℕ) (r : Result (List ℕ) FromHexError) (bytes : List ℕ) → cons_byte v r ≡ Ok bytes → (more : List ℕ) × (r ≡ Ok more) × (v ∷ more ≡ bytes)
+consed : (v : ℕ) (r : Result (List ℕ) FromHexError) (bytes : List ℕ) → cons_byte v r ≡ Ok bytes
+    → (more : List ℕ) × (r ≡ Ok more) × (v ∷ more ≡ bytes)
 consed v (Ok more) bytes e = (more, refl, cc e)
 consed v (Err f) bytes e = cc e
 
-paired : (i a b : ℕ) → is_hex_digit a ≡ true → is_hex_digit b ≡ true → pair_value a b i ≡ Ok (half a * 16 + half b)
+paired : (i a b : ℕ) → is_hex_digit a ≡ true → is_hex_digit b ≡ true
+    → pair_value a b i ≡ Ok (half a * 16 + half b)
 paired i a b h g = rw (some_half a h, some_half b g) refl
 
-decoded : (i : ℕ) (s bytes : List ℕ) → AllPass is_hex_digit s → decode_pairs i s ≡ Ok bytes → bytes ≡ bytes_of s
+decoded : (i : ℕ) (s bytes : List ℕ) → AllPass is_hex_digit s → decode_pairs i s ≡ Ok bytes
+    → bytes ≡ bytes_of s
 unfolding decode_pairs bytes_of
 decoded i [] bytes h e = let same : [] ≡ bytes = cc e in sym same
 decoded i (a ∷ []) bytes h e = cc e
 decoded i (a ∷ b ∷ rest) bytes h e =
     let others = All-tail (λ x. is_hex_digit x ≡ true) a (b ∷ rest) h in
     let pair =
-    paired i a b (All-head (λ x. is_hex_digit x ≡ true) a (b ∷ rest) h) (All-head (λ x. is_hex_digit x ≡ true) b rest others) in
+    paired i a b (All-head (λ x. is_hex_digit x ≡ true) a (b ∷ rest) h)
+    (All-head (λ x. is_hex_digit x ≡ true) b rest others) in
     let more = consed (half a * 16 + half b) (decode_pairs (i + 2) rest) bytes (sym (decode_pairs-ok_pair i a b (half a * 16 + half b) rest pair) ∙ e) in
-    sym more.2 ∙ ap (λ (bs : List ℕ). (half a * 16 + half b) ∷ bs) (decoded (i + 2) rest more.0 (All-tail (λ x. is_hex_digit x ≡ true) b rest others) more.1)
+    sym more.2
+    ∙ ap (λ (bs : List ℕ). (half a * 16 + half b) ∷ bs)
+    (decoded (i + 2) rest more.0 (All-tail (λ x. is_hex_digit x ≡ true) b rest others) more.1)
 
-padded-is : (c : ℕ) (ds q : List ℕ) → length ds ≤ 2 * length q → padded c q ds ≡ ds ++ replicate (2 * length q - length ds) c
+padded-is : (c : ℕ) (ds q : List ℕ) → length ds ≤ 2 * length q
+    → padded c q ds ≡ ds ++ replicate (2 * length q - length ds) c
 unfolding padded
 padded-is c [] [] n = refl
 padded-is c (d ∷ ds) [] n = absurd (omega arith)
 padded-is c [] (b ∷ q) n =
     let e : 2 * suc (length q) - 0 ≡ suc (suc (2 * length q - 0)) = omega arith in
-    ap (λ (t : List ℕ). c ∷ c ∷ t) (padded-is c [] q (omega arith)) ∙ ap (λ (k : ℕ). replicate k c) (sym e)
+    ap (λ (t : List ℕ). c ∷ c ∷ t) (padded-is c [] q (omega arith))
+    ∙ ap (λ (k : ℕ). replicate k c) (sym e)
 padded-is c (d ∷ []) (b ∷ q) n =
     let e : 2 * suc (length q) - 1 ≡ suc (2 * length q - 0) = omega arith in
-    ap (λ (t : List ℕ). d ∷ c ∷ t) (padded-is c [] q (omega arith)) ∙ ap (λ (k : ℕ). d ∷ replicate k c) (sym e)
+    ap (λ (t : List ℕ). d ∷ c ∷ t) (padded-is c [] q (omega arith))
+    ∙ ap (λ (k : ℕ). d ∷ replicate k c) (sym e)
 padded-is c (d ∷ f ∷ ds) (b ∷ q) n =
     let e : 2 * suc (length q) - suc (suc (length ds)) ≡ 2 * length q - length ds = omega arith in
-    ap (λ (t : List ℕ). d ∷ f ∷ t) (padded-is c ds q (omega arith)) ∙ ap (λ (k : ℕ). d ∷ f ∷ (ds ++ replicate k c)) (sym e)
+    ap (λ (t : List ℕ). d ∷ f ∷ t) (padded-is c ds q (omega arith))
+    ∙ ap (λ (k : ℕ). d ∷ f ∷ (ds ++ replicate k c)) (sym e)
 
 All-left : {X : Type 0} (P : X → Type 0) (xs ys : List X) → All P (xs ++ ys) → All P xs
 All-left P [] ys h = All-nil P
-All-left P (x ∷ xs) ys h = All-cons P x xs (All-head P x (xs ++ ys) h) (All-left P xs ys (All-tail P x (xs ++ ys) h))
+All-left P (x ∷ xs) ys h =
+    All-cons P x xs (All-head P x (xs ++ ys) h) (All-left P xs ys (All-tail P x (xs ++ ys) h))
 
 -- digits with others after them, as text of forty
 abbrev pub forty : ℕ → List ℕ → List ℕ
@@ -286,14 +309,17 @@ text_of c ds bytes e =
           let twice : 2 * length q ≡ 40 = omega (arith, size) in
           let fits : length ds ≤ 2 * length q = omega (arith, short, twice) in
           decoded 0 (forty c ds) bytes ok.1 pairs
-          ∙ ap bytes_of (sym (padded-is c ds q fits ∙ ap (λ (n : ℕ). ds ++ replicate (n - length ds) c) twice));
+          ∙ ap bytes_of
+          (sym (padded-is c ds q fits ∙ ap (λ (n : ℕ). ds ++ replicate (n - length ds) c) twice));
     }
 
-pub bounds-of : (ds first last : List ℕ) → decode_sized (forty 48 ds) 20 ≡ Ok first → decode_sized (forty 102 ds) 20 ≡ Ok last → Bounds ds first last
+pub bounds-of : (ds first last : List ℕ) → decode_sized (forty 48 ds) 20 ≡ Ok first
+    → decode_sized (forty 102 ds) 20 ≡ Ok last → Bounds ds first last
 bounds-of ds first last e f =
     let low = text_of 48 ds first e in
     let high = text_of 102 ds last f in record {
-      forward = rw (low.writes (replicate 20 0) refl, high.writes (replicate 20 0) refl) (ascend ds (replicate 20 0) low.short);
+      forward =
+          rw (low.writes (replicate 20 0) refl, high.writes (replicate 20 0) refl) (ascend ds (replicate 20 0) low.short);
       between =
           λ id is. rw (low.writes id is.size, high.writes id is.size)
           (between ds id low.digits is.bytes (let n = low.short in let m = is.size in omega arith));
@@ -304,7 +330,8 @@ All-replicate P zero x h = All-nil P
 All-replicate P (suc n) x h = All-cons P x (replicate n x) h (All-replicate P n x h)
 
 -- digits that begin a name, with a digit after them, decode
-decodes : (c : ℕ) (ds id : List ℕ) → is_hex_digit c ≡ true → length id ≡ 20 → begins ds id ≡ true → IsOk (decode_sized (forty c ds) 20)
+decodes : (c : ℕ) (ds id : List ℕ) → is_hex_digit c ≡ true → length id ≡ 20 → begins ds id ≡ true
+    → IsOk (decode_sized (forty c ds) 20)
 decodes c ds id h size b =
     let found = begins-digits ds id b in
     let n = found.1 in
@@ -318,10 +345,12 @@ decodes c ds id h size b =
 
 -- text that does not decode begins no name
 pub begins-none : (c : ℕ) (ds : List ℕ) → is_hex_digit c ≡ true
-    → (length ds ≤ 40 → (bytes : List ℕ) → decode_sized (forty c ds) 20 ≢ Ok bytes) → (id : List ℕ) → IsObjectName id → begins ds id ≡ false
+    → (length ds ≤ 40 → (bytes : List ℕ) → decode_sized (forty c ds) 20 ≢ Ok bytes) → (id : List ℕ)
+    → IsObjectName id → begins ds id ≡ false
 begins-none c ds h none id is = by (begins ds id) refl
   where
-    lost : (r : Result (List ℕ) FromHexError) → decode_sized (forty c ds) 20 ≡ r → IsOk r → length ds ≤ 40 → ⊥
+    lost : (r : Result (List ℕ) FromHexError) → decode_sized (forty c ds) 20 ≡ r → IsOk r
+        → length ds ≤ 40 → ⊥
     lost (Ok bytes) e ok short = none short bytes e
     lost (Err f) e ok short = cc ok
 
@@ -329,5 +358,6 @@ begins-none c ds h none id is = by (begins ds id) refl
     by true e =
         let n = (begins-digits ds id e).1 in
         let size = is.size in
-        absurd (lost (decode_sized (forty c ds) 20) refl (decodes c ds id h size e) (omega (arith, n, size)))
+        absurd
+        (lost (decode_sized (forty c ds) 20) refl (decodes c ds id h size e) (omega (arith, n, size)))
     by false e = refl

@@ -295,8 +295,8 @@ found_adds digest id c summary p old there is found named stands summed = record
         ap is_some
         (object_named-objects p id old.entries ∙ ap (option_map (λ (e : Entry). content p e.slot)) at.1)
 
-    place : (i : ℕ) × (k : List ℕ) × (slice_get old.entries i ≡ Some (k, at.0)) ×
-        (bytes_eq id k ≡ true)
+    place : (i : ℕ) × (k : List ℕ) × (slice_get old.entries i ≡ Some (k, at.0))
+        × (bytes_eq id k ≡ true)
     place = place_from_lookup (bytes_eq id) old.entries at.0 at.1
 
     same : at.0.summary ≡ summary

@@ -18,12 +18,14 @@ use Rattle.git_model.specs.Repository.{object_named}
 use Rattle.tenant_tables.specs.Objects.{objects}
 
 -- one entry more holds its slot once more
-pub held-push : (es : Entries) (id : List ℕ) (e : Entry) (s : ℕ) → held (es ++ (id, e) ∷ []) s ≡ held es s + cond (e.slot == s) 1 0
+pub held-push : (es : Entries) (id : List ℕ) (e : Entry) (s : ℕ)
+    → held (es ++ (id, e) ∷ []) s ≡ held es s + cond (e.slot == s) 1 0
 unfolding held
 held-push es id e s = sum_by_push (λ (x : List ℕ × Entry). cond (x.1.slot == s) 1 0) es (id, e)
 
 -- the first entry, and the others
-pub held-cons : (x : List ℕ × Entry) (es : Entries) (s : ℕ) → held (x ∷ es) s ≡ cond (x.1.slot == s) 1 0 + held es s
+pub held-cons : (x : List ℕ × Entry) (es : Entries) (s : ℕ)
+    → held (x ∷ es) s ≡ cond (x.1.slot == s) 1 0 + held es s
 unfolding held
 held-cons x es s = sum_by-cons (λ (y : List ℕ × Entry). cond (y.1.slot == s) 1 0) x es
 
@@ -38,12 +40,14 @@ pub held-tail : (x : List ℕ × Entry) (es : Entries) (s : ℕ) → held es s �
 held-tail x es s = rw (held-cons x es s) (omega arith)
 
 -- an entry holds its slot
-pub held-at : (es : Entries) (i : ℕ) (id : List ℕ) (e : Entry) → slice_get es i ≡ Some (id, e) → 0 < held es e.slot
+pub held-at : (es : Entries) (i : ℕ) (id : List ℕ) (e : Entry) → slice_get es i ≡ Some (id, e)
+    → 0 < held es e.slot
 held-at [] i id e h = cc h
 held-at (x ∷ es) zero id e h =
     let same : x ≡ (id, e) = cc h in
     subst (λ (y : List ℕ × Entry). 0 < held (x ∷ es) y.1.slot) same (held-head x es)
-held-at (x ∷ es) (suc i) id e h = let rest = held-at es i id e h in omega (arith, held-tail x es e.slot)
+held-at (x ∷ es) (suc i) id e h =
+    let rest = held-at es i id e h in omega (arith, held-tail x es e.slot)
 
 -- the slots that entries hold have the same contents in both pools
 pub record Keeps (before after : Cells) (es : Entries) : Type 0 where
@@ -66,7 +70,8 @@ abbrev pub IsNamed : (List ℕ → List ℕ) → Cells → List ℕ × Entry →
 IsNamed digest p x = x.0 ≡ name_by digest (content p x.1.slot)
 
 -- and are named by them
-pub named-kept : (digest : List ℕ → List ℕ) (p q : Cells) (es : Entries) → Keeps p q es → All (IsNamed digest p) es → All (IsNamed digest q) es
+pub named-kept : (digest : List ℕ → List ℕ) (p q : Cells) (es : Entries) → Keeps p q es
+    → All (IsNamed digest p) es → All (IsNamed digest q) es
 named-kept digest p q [] k h = All-nil (IsNamed digest q)
 named-kept digest p q (x ∷ es) k h =
     All-cons (IsNamed digest q) x es
@@ -77,7 +82,8 @@ named-kept digest p q (x ∷ es) k h =
 abbrev pub IsShort : Cells → List ℕ × Entry → Type 0
 IsShort p e = length (content p e.1.slot).bytes ≤ CONTENTS_LIMIT
 
-pub short-kept : (p q : Cells) (es : Entries) → Keeps p q es → All (IsShort p) es → All (IsShort q) es
+pub short-kept : (p q : Cells) (es : Entries) → Keeps p q es → All (IsShort p) es
+    → All (IsShort q) es
 short-kept p q [] k h = All-nil (IsShort q)
 short-kept p q (x ∷ es) k h =
     All-cons (IsShort q) x es
@@ -85,20 +91,24 @@ short-kept p q (x ∷ es) k h =
     (short-kept p q es (Keeps-tail p q x es k) (All-tail (IsShort p) x es h))
 
 -- the look-up of a name goes by the first entry, and then by the others
-named_first : (id : List ℕ) (x : List ℕ × Entry) (es : Entries) → id ≡ x.0 → entry_named id (x ∷ es) ≡ Some x.1
+named_first : (id : List ℕ) (x : List ℕ × Entry) (es : Entries) → id ≡ x.0
+    → entry_named id (x ∷ es) ≡ Some x.1
 unfolding entry_named
 named_first id x es e = rw ((bytes_eq-Decides id x.0).1 e) refl
 
-named_later : (id : List ℕ) (x : List ℕ × Entry) (es : Entries) → entry_named id (x ∷ es) ≡ None → entry_named id es ≡ None
+named_later : (id : List ℕ) (x : List ℕ × Entry) (es : Entries) → entry_named id (x ∷ es) ≡ None
+    → entry_named id es ≡ None
 unfolding entry_named
 named_later id x es h = by (bytes_eq id x.0) h
   where
-    by : (b : Bool) → cond b (Some x.1) (lookup (bytes_eq id) es) ≡ None → lookup (bytes_eq id) es ≡ None
+    by : (b : Bool) → cond b (Some x.1) (lookup (bytes_eq id) es) ≡ None
+        → lookup (bytes_eq id) es ≡ None
     by true e = cc e
     by false e = e
 
 -- no entry is in a slot whose content's name has no entry
-pub held-absent : (digest : List ℕ → List ℕ) (p : Cells) (es : Entries) (id : List ℕ) (s : ℕ) → All (IsNamed digest p) es
+pub held-absent : (digest : List ℕ → List ℕ) (p : Cells) (es : Entries) (id : List ℕ) (s : ℕ)
+    → All (IsNamed digest p) es
     → entry_named id es ≡ None → id ≡ name_by digest (content p s) → held es s ≡ 0
 held-absent digest p [] id s h none e = held-nil s
 held-absent digest p (x ∷ es) id s h none e =
@@ -114,12 +124,14 @@ held-absent digest p (x ∷ es) id s h none e =
     ]
 
 -- the look-up among objects is that among entries
-pub object_named-objects : (p : Cells) (id : List ℕ) (es : Entries) → object_named id (objects p es) ≡ option_map (λ e. content p e.slot) (entry_named id es)
+pub object_named-objects : (p : Cells) (id : List ℕ) (es : Entries)
+    → object_named id (objects p es) ≡ option_map (λ e. content p e.slot) (entry_named id es)
 unfolding objects object_named entry_named
 object_named-objects p id [] = refl
 object_named-objects p id (x ∷ es) = by (bytes_eq id x.0) (object_named-objects p id es)
   where
-    by : (b : Bool) → object_named id (objects p es) ≡ option_map (λ e. content p e.slot) (entry_named id es)
+    by : (b : Bool)
+        → object_named id (objects p es) ≡ option_map (λ e. content p e.slot) (entry_named id es)
         → cond b (Some (content p x.1.slot)) (object_named id (objects p es)) ≡ option_map (λ e. content p e.slot) (cond b (Some x.1) (lookup (bytes_eq id) es))
     by true h = refl
     by false h = h

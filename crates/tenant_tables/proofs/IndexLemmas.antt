@@ -39,13 +39,15 @@ unfolding entry_named
 entry_named-push q [] id e = refl
 entry_named-push q (x ∷ es) id e = by (bytes_eq q x.0) (entry_named-push q es id e)
   where
-    by : (b : Bool) → lookup (bytes_eq q) (es ++ (id, e) ∷ []) ≡ later (lookup (bytes_eq q) es) (cond (bytes_eq q id) (Some e) None)
+    by : (b : Bool)
+        → lookup (bytes_eq q) (es ++ (id, e) ∷ []) ≡ later (lookup (bytes_eq q) es) (cond (bytes_eq q id) (Some e) None)
         → cond b (Some x.1) (lookup (bytes_eq q) (es ++ (id, e) ∷ []))
         ≡ later (cond b (Some x.1) (lookup (bytes_eq q) es)) (cond (bytes_eq q id) (Some e) None)
     by true h = refl
     by false h = h
 
-is_some-later : {X : Type 0} (o : Option X) (b : Bool) (x : X) → is_some (later o (cond b (Some x) None)) ≡ cond b true (is_some o)
+is_some-later : {X : Type 0} (o : Option X) (b : Bool) (x : X)
+    → is_some (later o (cond b (Some x) None)) ≡ cond b true (is_some o)
 is_some-later (Some y) true x = refl
 is_some-later (Some y) false x = refl
 is_some-later None true x = refl
@@ -53,31 +55,41 @@ is_some-later None false x = refl
 
 pub is_some-push : (q : List ℕ) (es : Entries) (id : List ℕ) (e : Entry)
     → is_some (entry_named q (es ++ (id, e) ∷ [])) ≡ cond (bytes_eq q id) true (is_some (entry_named q es))
-is_some-push q es id e = ap is_some (entry_named-push q es id e) ∙ is_some-later (entry_named q es) (bytes_eq q id) e
+is_some-push q es id e =
+    ap is_some (entry_named-push q es id e) ∙ is_some-later (entry_named q es) (bytes_eq q id) e
 
 -- the order of names tells them apart
 at_name : (id q : List ℕ) → is_eq (slice_cmp nat_cmp id q) ≡ bytes_eq q id
 at_name id q = is_eq-slice_cmp id q ∙ nat_list_eq_equiv.symm id q
 
 -- what the set has after a change at one name
-changed : (b : Bool) (id : List ℕ) (old new : BTreeSet (List ℕ)) → UpdatesBy (slice_cmp nat_cmp) (slice_cmp nat_cmp id) old new b
-    → (q : List ℕ) → contains (slice_cmp nat_cmp) new q ≡ cond (bytes_eq q id) b (contains (slice_cmp nat_cmp) old q)
-changed b id old new h q = h.0 q ∙ ap (λ (t : Bool). cond t b (contains (slice_cmp nat_cmp) old q)) (at_name id q)
+changed : (b : Bool) (id : List ℕ) (old new : BTreeSet (List ℕ))
+    → UpdatesBy (slice_cmp nat_cmp) (slice_cmp nat_cmp id) old new b
+    → (q : List ℕ)
+    → contains (slice_cmp nat_cmp) new q ≡ cond (bytes_eq q id) b (contains (slice_cmp nat_cmp) old q)
+changed b id old new h q =
+    h.0 q ∙ ap (λ (t : Bool). cond t b (contains (slice_cmp nat_cmp) old q)) (at_name id q)
 
-pub names-push : (es : Entries) (id : List ℕ) (e : Entry) → names (es ++ (id, e) ∷ []) ≡ names es ++ id ∷ []
+pub names-push : (es : Entries) (id : List ℕ) (e : Entry)
+    → names (es ++ (id, e) ∷ []) ≡ names es ++ id ∷ []
 names-push [] id e = refl
 names-push (x ∷ es) id e = ap (λ ns. x.0 ∷ ns) (names-push es id e)
 
 -- a name more in both
-pub IsTable-push : (es : Entries) (old new : BTreeSet (List ℕ)) (committed : ℕ) (id : List ℕ) (e : Entry) → IsTable es old committed
-    → length es < OBJECTS_LIMIT → IsObjectName id → UpdatesBy (slice_cmp nat_cmp) (slice_cmp nat_cmp id) old new true
+pub IsTable-push : (es : Entries) (old new : BTreeSet (List ℕ)) (committed : ℕ) (id : List ℕ)
+    (e : Entry)
+    → IsTable es old committed
+    → length es < OBJECTS_LIMIT → IsObjectName id
+    → UpdatesBy (slice_cmp nat_cmp) (slice_cmp nat_cmp id) old new true
     → IsDistinct bytes_eq (names (es ++ (id, e) ∷ [])) → IsTable (es ++ (id, e) ∷ []) new committed
 IsTable-push es old new committed id e h spare named updates distinct =
     let len = length-append es ((id, e) ∷ []) in record {
       within = let w = h.within in omega (arith, len);
       limited = omega (arith, len);
       indexed = record {
-        named = subst (All IsObjectName) (sym (names-push es id e)) (All-push IsObjectName (names es) id h.indexed.named named);
+        named =
+            subst (All IsObjectName) (sym (names-push es id e))
+            (All-push IsObjectName (names es) id h.indexed.named named);
         distinct = distinct;
         same =
             λ q. changed true id old new updates q
@@ -90,10 +102,13 @@ put_back : (b c : Bool) → (b ≡ true → c ≡ false) → cond b false (cond 
 put_back true c h = sym (h refl)
 put_back false c h = refl
 
-none_there : (es : Entries) (id q : List ℕ) → entry_named id es ≡ None → bytes_eq q id ≡ true → is_some (entry_named q es) ≡ false
+none_there : (es : Entries) (id q : List ℕ) → entry_named id es ≡ None → bytes_eq q id ≡ true
+    → is_some (entry_named q es) ≡ false
 none_there es id q none same = let e : q ≡ id = (bytes_eq-Decides q id).0 same in rw (e, none) refl
 
-pub IsTable-put_back : (es : Entries) (old mid new : BTreeSet (List ℕ)) (committed : ℕ) (id : List ℕ) → IsTable es old committed
+pub IsTable-put_back : (es : Entries) (old mid new : BTreeSet (List ℕ)) (committed : ℕ)
+    (id : List ℕ)
+    → IsTable es old committed
     → entry_named id es ≡ None → UpdatesBy (slice_cmp nat_cmp) (slice_cmp nat_cmp id) old mid true
     → UpdatesBy (slice_cmp nat_cmp) (slice_cmp nat_cmp id) mid new false → IsTable es new committed
 IsTable-put_back es old mid new committed id h none there gone = record {
@@ -114,19 +129,25 @@ taken_out : (b c d : Bool) → (b ≡ true → d ≡ false) → c ≡ cond b tru
 taken_out true c d h e = sym (h refl)
 taken_out false c d h e = e
 
-pub IsTable-pop : (es : Entries) (old new : BTreeSet (List ℕ)) (committed : ℕ) (id : List ℕ) (e : Entry)
-    → IsTable (es ++ (id, e) ∷ []) old committed → committed < length (es ++ (id, e) ∷ []) → entry_named id es ≡ None
-    → UpdatesBy (slice_cmp nat_cmp) (slice_cmp nat_cmp id) old new false → IsDistinct bytes_eq (names es) → IsTable es new committed
+pub IsTable-pop : (es : Entries) (old new : BTreeSet (List ℕ)) (committed : ℕ) (id : List ℕ)
+    (e : Entry)
+    → IsTable (es ++ (id, e) ∷ []) old committed → committed < length (es ++ (id, e) ∷ [])
+    → entry_named id es ≡ None
+    → UpdatesBy (slice_cmp nat_cmp) (slice_cmp nat_cmp id) old new false
+    → IsDistinct bytes_eq (names es) → IsTable es new committed
 IsTable-pop es old new committed id e h beyond none gone distinct =
     let len = length-append es ((id, e) ∷ []) in record {
       within = omega (arith, len);
       limited = let w = h.limited in omega (arith, len);
       indexed = record {
-        named = All-front IsObjectName (names es) id (subst (All IsObjectName) (names-push es id e) h.indexed.named);
+        named =
+            All-front IsObjectName (names es) id
+            (subst (All IsObjectName) (names-push es id e) h.indexed.named);
         distinct = distinct;
         same =
             λ q. changed false id old new gone q
-            ∙ taken_out (bytes_eq q id) (contains (slice_cmp nat_cmp) old q) (is_some (entry_named q es)) (none_there es id q none)
+            ∙ taken_out (bytes_eq q id) (contains (slice_cmp nat_cmp) old q)
+            (is_some (entry_named q es)) (none_there es id q none)
             (h.indexed.same q ∙ is_some-push q es id e);
       };
     }

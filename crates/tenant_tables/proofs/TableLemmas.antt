@@ -18,9 +18,11 @@ use Rattle.tenant_tables.specs.Trees.{SummedBehind}
 use Rattle.tenant_tables.proofs.HoldLemmas.{Keeps, IsNamed, IsShort, short-kept, held-push, held-nil, held-absent, objects-kept, named-kept}
 use Rattle.tenant_tables.proofs.SummaryLemmas.{IsSummed-nil, IsSummed-kept, IsSummed-prefix, IsSummed-push}
 
-pub All-front : {X : Type 0} (P : X → Type 0) (xs : List X) (x : X) → All P (xs ++ x ∷ []) → All P xs
+pub All-front : {X : Type 0} (P : X → Type 0) (xs : List X) (x : X) → All P (xs ++ x ∷ [])
+    → All P xs
 All-front P xs x h k d within =
-    subst P (get_or-append xs (x ∷ []) d k within) (h k d (let n = length-append xs (x ∷ []) in omega arith))
+    subst P (get_or-append xs (x ∷ []) d k within)
+    (h k d (let n = length-append xs (x ∷ []) in omega arith))
 
 -- ---- an empty table
 
@@ -36,7 +38,8 @@ StandsIn-nil digest p = record {
 -- ---- a pool that changed under a table
 
 -- entries stand where they stood, if their slots keep their contents and are still counted
-pub StandsIn-kept : (digest : List ℕ → List ℕ) (p q : Cells) (es : Entries) → StandsIn digest p es → Keeps p q es
+pub StandsIn-kept : (digest : List ℕ → List ℕ) (p q : Cells) (es : Entries) → StandsIn digest p es
+    → Keeps p q es
     → ((s : ℕ) → held es s ≤ holds q s) → StandsIn digest q es
 StandsIn-kept digest p q es h k counted = record {
   named = named-kept digest p q es k h.named;
@@ -50,7 +53,8 @@ live_here : (p : Cells) (slot s : ℕ) → s ≡ slot → 0 < holds p s → 0 < 
 live_here p slot s here h = rw here at h
 
 -- a put keeps what is live
-pub Keeps-put : (p q : Cells) (slot : ℕ) (c : Content) (es : Entries) → Puts p q slot c → ((s : ℕ) → held es s ≤ holds p s) → Keeps p q es
+pub Keeps-put : (p q : Cells) (slot : ℕ) (c : Content) (es : Entries) → Puts p q slot c
+    → ((s : ℕ) → held es s ≤ holds p s) → Keeps p q es
 Keeps-put p q slot c es h counted = record { contents = by }
   where
     by : (s : ℕ) → 0 < held es s → content q s ≡ content p s
@@ -63,14 +67,16 @@ Keeps-put p q slot c es h counted = record { contents = by }
         ]
 
 -- a release keeps what is live afterwards
-pub Keeps-release : (p q : Cells) (slot : ℕ) (es : Entries) → Releases p q slot → ((s : ℕ) → held es s ≤ holds q s) → Keeps p q es
+pub Keeps-release : (p q : Cells) (slot : ℕ) (es : Entries) → Releases p q slot
+    → ((s : ℕ) → held es s ≤ holds q s) → Keeps p q es
 Keeps-release p q slot es h counted =
     record { contents = λ s some. h.contents s (let n = counted s in omega arith) }
 
 -- ---- one entry more
 
 pub StandsIn-put : (digest : List ℕ → List ℕ) (p q : Cells) (es : Entries) (id : List ℕ) (e : Entry) (c : Content)
-    → StandsIn digest p es → Puts p q e.slot c → id ≡ name_by digest c → entry_named id es ≡ None → SummedBehind es c e.summary → length c.bytes ≤ CONTENTS_LIMIT
+    → StandsIn digest p es → Puts p q e.slot c → id ≡ name_by digest c → entry_named id es ≡ None
+    → SummedBehind es c e.summary → length c.bytes ≤ CONTENTS_LIMIT
     → StandsIn digest q (es ++ (id, e) ∷ [])
 StandsIn-put digest p q es id e c h puts named none summed within =
     let k = Keeps-put p q e.slot c es puts h.counted in record {
@@ -88,7 +94,9 @@ StandsIn-put digest p q es id e c h puts named none summed within =
     }
   where
     absent : IsLive p e.slot → held es e.slot ≡ 0
-    absent live = held-absent digest p es id e.slot h.named none (named ∙ ap (name_by digest) (sym (puts.had live)))
+    absent live =
+        held-absent digest p es id e.slot h.named none
+        (named ∙ ap (name_by digest) (sym (puts.had live)))
 
     fresh : held es e.slot ≡ 0
     fresh =
@@ -112,7 +120,8 @@ StandsIn-put digest p q es id e c h puts named none summed within =
           | inr other ↦ let m = puts.others s other in rw (held-push es id e s) (grind (arith, nat_tests, n, m))
         ]
 
-pub LeavesOthers-put : (p q : Cells) (es : Entries) (id : List ℕ) (e : Entry) (c : Content) → Puts p q e.slot c
+pub LeavesOthers-put : (p q : Cells) (es : Entries) (id : List ℕ) (e : Entry) (c : Content)
+    → Puts p q e.slot c
     → LeavesOthers p es q (es ++ (id, e) ∷ [])
 LeavesOthers-put p q es id e c puts = record { rest = rest; kept = kept }
   where
@@ -152,7 +161,8 @@ StandsIn-release digest p q es id e h releases =
           | inr other ↦ let r = releases.others s other in grind (arith, nat_tests, n, m, r)
         ]
 
-pub LeavesOthers-release : (p q : Cells) (es : Entries) (id : List ℕ) (e : Entry) → Releases p q e.slot
+pub LeavesOthers-release : (p q : Cells) (es : Entries) (id : List ℕ) (e : Entry)
+    → Releases p q e.slot
     → LeavesOthers p (es ++ (id, e) ∷ []) q es
 LeavesOthers-release p q es id e releases = record { rest = rest; kept = kept }
   where
@@ -171,7 +181,8 @@ LeavesOthers-release p q es id e releases = record { rest = rest; kept = kept }
 pub LeavesOthers-refl : (p : Cells) (es : Entries) → LeavesOthers p es p es
 LeavesOthers-refl p es = record { rest = λ s. refl; kept = λ s more. refl }
 
-pub LeavesOthers-then : (p q r : Cells) (es fs gs : Entries) → LeavesOthers p es q fs → LeavesOthers q fs r gs → LeavesOthers p es r gs
+pub LeavesOthers-then : (p q r : Cells) (es fs gs : Entries) → LeavesOthers p es q fs
+    → LeavesOthers q fs r gs → LeavesOthers p es r gs
 LeavesOthers-then p q r es fs gs first second = record {
   rest = λ s. let a = first.rest s in let b = second.rest s in omega arith;
   kept = λ s more. let a = first.rest s in second.kept s (omega arith) ∙ first.kept s more;
@@ -179,27 +190,34 @@ LeavesOthers-then p q r es fs gs first second = record {
 
 -- ---- what another table sees of it
 
-others_keep : (p q : Cells) (es fs os : Entries) → AreCounted p es os → LeavesOthers p es q fs → Keeps p q os
+others_keep : (p q : Cells) (es fs os : Entries) → AreCounted p es os → LeavesOthers p es q fs
+    → Keeps p q os
 others_keep p q es fs os counted leaves =
     record { contents = λ s some. leaves.kept s (let n = counted.sum s in omega arith) }
 
-pub other_objects : (p q : Cells) (es fs os : Entries) → AreCounted p es os → LeavesOthers p es q fs → objects q os ≡ objects p os
-other_objects p q es fs os counted leaves = objects-kept p q os (others_keep p q es fs os counted leaves)
+pub other_objects : (p q : Cells) (es fs os : Entries) → AreCounted p es os → LeavesOthers p es q fs
+    → objects q os ≡ objects p os
+other_objects p q es fs os counted leaves =
+    objects-kept p q os (others_keep p q es fs os counted leaves)
 
-pub other_counted : (p q : Cells) (es fs os : Entries) → AreCounted p es os → LeavesOthers p es q fs → AreCounted q fs os
+pub other_counted : (p q : Cells) (es fs os : Entries) → AreCounted p es os → LeavesOthers p es q fs
+    → AreCounted q fs os
 other_counted p q es fs os counted leaves =
     record { sum = λ s. let n = counted.sum s in let r = leaves.rest s in omega arith }
 
-pub other_stands : (digest : List ℕ → List ℕ) (p q : Cells) (es fs os : Entries) → StandsIn digest p os → AreCounted p es os
+pub other_stands : (digest : List ℕ → List ℕ) (p q : Cells) (es fs os : Entries)
+    → StandsIn digest p os → AreCounted p es os
     → LeavesOthers p es q fs → StandsIn digest q os
 other_stands digest p q es fs os stands counted leaves =
     let still = other_counted p q es fs os counted leaves in
-    StandsIn-kept digest p q os stands (others_keep p q es fs os counted leaves) (λ s. let n = still.sum s in omega arith)
+    StandsIn-kept digest p q os stands (others_keep p q es fs os counted leaves)
+    (λ s. let n = still.sum s in omega arith)
 
 -- ---- the last entry of a table
 
 -- its slot is live
-pub last_live : (digest : List ℕ → List ℕ) (p : Cells) (es fs : Entries) (id : List ℕ) (e : Entry) → es ≡ fs ++ (id, e) ∷ []
+pub last_live : (digest : List ℕ → List ℕ) (p : Cells) (es fs : Entries) (id : List ℕ) (e : Entry)
+    → es ≡ fs ++ (id, e) ∷ []
     → StandsIn digest p es → IsLive p e.slot
 last_live digest p es fs id e is h =
     let n = h.counted e.slot in
@@ -207,7 +225,8 @@ last_live digest p es fs id e is h =
     grind (arith, nat_tests, n, m)
 
 -- without it the others stand
-pub last_given_up : (digest : List ℕ → List ℕ) (p q : Cells) (es fs : Entries) (id : List ℕ) (e : Entry) → es ≡ fs ++ (id, e) ∷ []
+pub last_given_up : (digest : List ℕ → List ℕ) (p q : Cells) (es fs : Entries) (id : List ℕ) (e : Entry)
+    → es ≡ fs ++ (id, e) ∷ []
     → StandsIn digest p es → Releases p q e.slot → StandsIn digest q fs × LeavesOthers p es q fs
 last_given_up digest p q es fs id e is h releases = (
   StandsIn-release digest p q fs id e (rw is at h) releases,
@@ -215,22 +234,28 @@ last_given_up digest p q es fs id e is h releases = (
 )
 
 -- and they are all but the last
-pub but_last : (es fs : Entries) (x : List ℕ × Entry) → es ≡ fs ++ x ∷ [] → fs ≡ take (length es - 1) es
+pub but_last : (es fs : Entries) (x : List ℕ × Entry) → es ≡ fs ++ x ∷ []
+    → fs ≡ take (length es - 1) es
 but_last es fs x is =
     let n = length-append fs (x ∷ []) in
     let k : length (fs ++ x ∷ []) - 1 ≡ length fs = omega (arith, n) in
     rw (is, k) (sym (take-append_seam fs (x ∷ [])))
 
 -- the objects of the first entries are the first objects
-pub objects-take : (p : Cells) (n : ℕ) (es : Entries) → objects p (take n es) ≡ take n (objects p es)
+pub objects-take : (p : Cells) (n : ℕ) (es : Entries)
+    → objects p (take n es) ≡ take n (objects p es)
 unfolding objects
-objects-take p n es = sym (take-map (λ (e : List ℕ × Entry). record { id = e.0; content = content p e.1.slot }) n es)
+objects-take p n es =
+    sym (take-map (λ (e : List ℕ × Entry). record { id = e.0; content = content p e.1.slot }) n es)
 
 -- and they stay the same
-pub last_objects : (digest : List ℕ → List ℕ) (p q : Cells) (es fs : Entries) (id : List ℕ) (e : Entry) → es ≡ fs ++ (id, e) ∷ []
-    → StandsIn digest p es → Releases p q e.slot → objects q fs ≡ take (length es - 1) (objects p es)
+pub last_objects : (digest : List ℕ → List ℕ) (p q : Cells) (es fs : Entries) (id : List ℕ) (e : Entry)
+    → es ≡ fs ++ (id, e) ∷ []
+    → StandsIn digest p es → Releases p q e.slot
+    → objects q fs ≡ take (length es - 1) (objects p es)
 last_objects digest p q es fs id e is h releases =
-    objects-kept p q fs (Keeps-release p q e.slot fs releases (last_given_up digest p q es fs id e is h releases).0.counted)
+    objects-kept p q fs
+    (Keeps-release p q e.slot fs releases (last_given_up digest p q es fs id e is h releases).0.counted)
     ∙ ap (objects p) (but_last es fs (id, e) is) ∙ objects-take p (length es - 1) es
 
 pub length-objects : (p : Cells) (es : Entries) → length (objects p es) ≡ length es

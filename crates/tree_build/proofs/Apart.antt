@@ -45,8 +45,11 @@ behind-both c p q = rw ((bytes_eq-Decides c c).1 refl) refl
 pub is_apart-below : (p a b : Path) → is_apart (p ++ a) (p ++ b) ≡ is_apart a b
 is_apart-below [] a b = refl
 is_apart-below (c ∷ p) a b =
-    ap (λ (o : Option Path). not (is_some o) && not (is_some (behind (c ∷ (p ++ b)) (c ∷ (p ++ a))))) (behind-both c (p ++ a) (p ++ b))
-    ∙ ap (λ (o : Option Path). not (is_some (behind (p ++ a) (p ++ b))) && not (is_some o)) (behind-both c (p ++ b) (p ++ a))
+    ap
+    (λ (o : Option Path). not (is_some o) && not (is_some (behind (c ∷ (p ++ b)) (c ∷ (p ++ a)))))
+    (behind-both c (p ++ a) (p ++ b))
+    ∙ ap (λ (o : Option Path). not (is_some (behind (p ++ a) (p ++ b))) && not (is_some o))
+    (behind-both c (p ++ b) (p ++ a))
     ∙ is_apart-below p a b
 
 -- what stands apart from a path stands apart from all below it
@@ -62,7 +65,9 @@ apart_below (c ∷ p) a (d ∷ q) h =
   where
     differ : (d c x y : List ℕ) → bytes_eq c d ≡ false → bytes_eq d c ≡ false
     differ d c x y nay =
-        by_cases (bytes_eq d c) (λ yea. absurd (true≢false (sym ((bytes_eq-Decides c d).1 (sym ((bytes_eq-Decides d c).0 yea))) ∙ nay))) (λ no. no)
+        by_cases (bytes_eq d c)
+        (λ yea. absurd (true≢false (sym ((bytes_eq-Decides c d).1 (sym ((bytes_eq-Decides d c).0 yea))) ∙ nay)))
+        (λ no. no)
 
 -- ---- what is cut from files and put elsewhere
 
@@ -100,7 +105,8 @@ pub all-filter : {A : Type 0} (P : A → Type 0) (t : A → Bool) (xs : List A) 
     → AllByRecursion P (filter t xs)
 all-filter P t [] h = tt
 all-filter P t (x ∷ xs) h =
-    by_cases (t x) (λ yea. rw yea (h.0, all-filter P t xs h.1)) (λ nay. rw nay (all-filter P t xs h.1))
+    by_cases (t x) (λ yea. rw yea (h.0, all-filter P t xs h.1))
+    (λ nay. rw nay (all-filter P t xs h.1))
 
 pub filter-all : {A : Type 0} (t : A → Bool) (xs : List A)
     → AllByRecursion (λ x. t x ≡ true) (filter t xs)
@@ -112,14 +118,17 @@ pub apart-filter : (t : Path × Entry → Bool) (fs : Listed) → ArePairwiseApa
     → ArePairwiseApart (filter t fs)
 apart-filter t [] h = tt
 apart-filter t (f ∷ fs) h =
-    by_cases (t f) (λ yea. rw yea (all-filter (λ (g : Path × Entry). is_apart f.0 g.0 ≡ true) t fs h.0, apart-filter t fs h.1)) (λ nay. rw nay (apart-filter t fs h.1))
+    by_cases (t f)
+    (λ yea. rw yea (all-filter (λ (g : Path × Entry). is_apart f.0 g.0 ≡ true) t fs h.0, apart-filter t fs h.1))
+    (λ nay. rw nay (apart-filter t fs h.1))
 
 -- what is cut out of files that stand pairwise apart stands so, and after any path too
 cut_one-apart : (top to q : Path) (e : Entry) (o : Option Path) → behind top q ≡ o → (fs : Listed)
     → AllByRecursion (λ g. is_apart q (top ++ g.0) ≡ true) fs → ArePairwiseApart (moved to fs)
     → ArePairwiseApart (moved to (cut_one o e fs))
 cut_one-apart top to q e (Some r) is fs h rest = (
-  all-map (λ (g : Path × Entry). (to ++ g.0, g.1)) (λ (g : Path × Entry). is_apart (to ++ r) g.0 ≡ true) fs
+  all-map (λ (g : Path × Entry). (to ++ g.0, g.1))
+      (λ (g : Path × Entry). is_apart (to ++ r) g.0 ≡ true) fs
       (all-weaker (λ (g : Path × Entry). is_apart q (top ++ g.0) ≡ true) (λ (g : Path × Entry). is_apart (to ++ r) (to ++ g.0) ≡ true)
       (λ g a. is_apart-below to r g.0 ∙ sym (is_apart-below top r g.0) ∙ subst (λ (x : Path). is_apart x (top ++ g.0) ≡ true) (behind_some top q r is) a) fs h),
   rest,

@@ -61,7 +61,8 @@ gathered_file c d q e (g ∷ groups) =
     by_cases (bytes_eq d g.0)
     (λ yea. rw yea
     (joins c d q e g.1 (gathered c groups)
-    ∙ ap (λ (x : List ℕ). cut_one (behind (c ∷ []) (d ∷ q)) e (if bytes_eq c x then g.1 ++ gathered c groups else gathered c groups))
+    ∙ ap
+    (λ (x : List ℕ). cut_one (behind (c ∷ []) (d ∷ q)) e (if bytes_eq c x then g.1 ++ gathered c groups else gathered c groups))
     ((bytes_eq-Decides d g.0).0 yea)))
     (λ nay. rw nay (begins c d q e (gathered c (g ∷ groups))))
 
@@ -90,7 +91,8 @@ distinct-rise (g ∷ groups) h =
 pairs : (groups : Groups) → AreDistinct groups → AllPairs (λ g h. g.0 ≢ h.0) groups
 pairs [] h i j d lt within = absurd (omega arith)
 pairs (g ∷ groups) h i j d lt within =
-    AllPairs-cons (λ a b. a.0 ≢ b.0) g groups (All-from_recursion (λ k. g.0 ≢ k.0) groups h.0) (pairs groups h.1)
+    AllPairs-cons (λ a b. a.0 ≢ b.0) g groups (All-from_recursion (λ k. g.0 ≢ k.0) groups h.0)
+    (pairs groups h.1)
     i j d lt within
 
 none_of : (c : List ℕ) (groups : Groups) → AllByRecursion (λ h. c ≢ h.0) groups
@@ -184,7 +186,8 @@ module _ (m : FileMap) (top : Path) (are : AreFiles (listed m)) where
           (All-from_recursion (λ g. (g.1 ≡ files_at m (top ++ g.0 ∷ [])) × (g.1 ≢ [])) groups those) at,
       λ is.
           let all : files ≡ gathered c groups = is.0 ∙ sym (gathered-is c) in
-          subst (λ (l : Listed). Contains groups (c, l)) (sym all) (found c groups distinct (λ none. is.1 (all ∙ none))),
+          subst (λ (l : Listed). Contains groups (c, l)) (sym all)
+          (found c groups distinct (λ none. is.1 (all ∙ none))),
     );
     once = pairs groups distinct;
   }

@@ -71,7 +71,8 @@ cut-pairs : (R : File → File → Type 0) (top : Path) (fs : Listed) → Pairs 
     → Pairs (λ a b. R (top ++ a.0, a.1) (top ++ b.0, b.1)) (cut top fs)
 cut-pairs R top [] h = tt
 cut-pairs R top (f ∷ fs) h =
-    cut_one-pairs R top f.0 f.1 (behind top f.0) refl (cut top fs) (cut-all (R f) top fs h.0) (cut-pairs R top fs h.1)
+    cut_one-pairs R top f.0 f.1 (behind top f.0) refl (cut top fs) (cut-all (R f) top fs h.0)
+    (cut-pairs R top fs h.1)
 
 behind_top : (top q r : Path) → is_apart q r ≡ true → below (joined (top ++ q)) (joined (top ++ r))
     → below (joined q) (joined r)
@@ -86,7 +87,8 @@ turn_behind top f g h =
 -- files of a map below a path are in order, and stand apart
 pub turns-cut : (top : Path) (fs : Listed) → AreFiles fs → Pairs InTurn (cut top fs)
 turns-cut top fs h =
-    pairs-weaker (λ a b. InTurn (top ++ a.0, a.1) (top ++ b.0, b.1)) InTurn (turn_behind top) (cut top fs)
+    pairs-weaker (λ a b. InTurn (top ++ a.0, a.1) (top ++ b.0, b.1)) InTurn (turn_behind top)
+    (cut top fs)
     (cut-pairs InTurn top fs (in_turn fs h.each h.in_order h.apart))
 
 not_root : (top q : Path) → q ≢ [] → top ++ q ≢ []
@@ -125,7 +127,8 @@ storable-cut top fs h none =
     let pairs = turns-cut top fs h in record {
       in_order = order-of (cut top fs) pairs;
       each =
-          files_behind top (cut top fs) (no_roots (cut top fs) pairs none) (cut-all IsFile top fs h.each);
+          files_behind top (cut top fs) (no_roots (cut top fs) pairs none)
+          (cut-all IsFile top fs h.each);
       apart = apart-of (cut top fs) pairs;
       few = let n = cut-length top fs in let m = h.few in omega arith;
     }

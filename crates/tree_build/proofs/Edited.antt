@@ -44,13 +44,15 @@ pub length-kept : (t : Path → Bool) (fs : Listed)
     → length (filter t (keys_of fs)) ≡ length (filter (λ f. t f.0) fs)
 length-kept t [] = refl
 length-kept t (f ∷ fs) =
-    by_cases (t f.0) (λ yea. rw yea (ap (λ (n : ℕ). suc n) (length-kept t fs))) (λ nay. rw nay (length-kept t fs))
+    by_cases (t f.0) (λ yea. rw yea (ap (λ (n : ℕ). suc n) (length-kept t fs)))
+    (λ nay. rw nay (length-kept t fs))
 
 pub edited-is : (from : Option Path) (to : Path) (fs files : Listed) → AreFiles fs
     → edited from to fs files ≡ from_sorted (put_all (kept from to fs) files)
 edited-is from to fs files h =
     ap (λ (m : FileMap). with_files m files) (sym (retain_keys-of (stays from to) fs h))
-    ∙ with_files-of (kept from to fs) files (true-T _ (AreFiles-filter (stays from to) fs h).in_order)
+    ∙ with_files-of (kept from to fs) files
+    (true-T _ (AreFiles-filter (stays from to) fs h).in_order)
 
 -- what stays stands apart from the destination
 stays-apart : (from : Option Path) (to q : Path) → stays from to q ≡ true → is_apart to q ≡ true
@@ -61,14 +63,16 @@ pub may_put : (from : Option Path) (to : Path) (fs files : Listed)
     → AllByRecursion (IsBelow to) files → ArePairwiseApart files → MayPut (kept from to fs) files
 may_put from to fs files below apart = record {
   outside =
-      all-weaker (IsBelow to) (λ f. AllByRecursion (λ g. is_apart f.0 g.0 ≡ true) (kept from to fs)) each files below;
+      all-weaker (IsBelow to)
+      (λ f. AllByRecursion (λ g. is_apart f.0 g.0 ≡ true) (kept from to fs)) each files below;
   apart = apart;
 }
   where
     each : (f : Path × Entry) → IsBelow to f
         → AllByRecursion (λ g. is_apart f.0 g.0 ≡ true) (kept from to fs)
     each f b =
-        all-weaker (λ (g : Path × Entry). stays from to g.0 ≡ true) (λ (g : Path × Entry). is_apart f.0 g.0 ≡ true)
+        all-weaker (λ (g : Path × Entry). stays from to g.0 ≡ true)
+        (λ (g : Path × Entry). is_apart f.0 g.0 ≡ true)
         (λ g s. subst (λ (x : Path). is_apart x g.0 ≡ true) (sym b.below) (apart_below to b.rest g.0 (stays-apart from to g.0 s)))
         (kept from to fs) (filter-all (λ (g : Path × Entry). stays from to g.0) fs)
 
@@ -131,7 +135,8 @@ AreFiles-edited from to fs files n h below apart is none =
     let more = both_true (list_all (λ f. is_within_limits f.0) files) (leb (n + length files) FILES_LIMIT) parts.1 in
     let few : n + length files ≤ FILES_LIMIT = leb-true _ _ more.1 in
     let same : n ≡ length (kept from to fs) = is ∙ length-kept (stays from to) fs in
-    AreFiles-put_all (kept from to fs) files (AreFiles-filter (stays from to) fs h) (may_put from to fs files below apart)
+    AreFiles-put_all (kept from to fs) files (AreFiles-filter (stays from to) fs h)
+    (may_put from to fs files below apart)
     (are_files to files below (not_roots files parts.0) (all_short files more.0)) (subst (λ (k : ℕ). k + length files ≤ FILES_LIMIT) same few)
 
 pub few_stay : (from : Option Path) (to : Path) (fs : Listed) (n : ℕ) → AreFiles fs
@@ -157,22 +162,27 @@ module _ {A : Type 0} where
       → Edits result old new (move_fault others (with_files m others)) (with_files m others)
   unfolding move_fault
   edits-as result old new m files others same some h =
-      subst (λ (l : Listed). Edits result old new (move_fault l (with_files m l)) (with_files m l)) same
+      subst
+      (λ (l : Listed). Edits result old new (move_fault l (with_files m l)) (with_files m l)) same
       (subst (λ (b : Bool). Edits result old new (cond b (Some fault.SourceMissing) (put_fault files (with_files m files))) (with_files m files)) (sym some) h)
 
-  pub edits-copied : (result : Result A Fault) (old new : FileMap) (from to : Path) (fs files : Listed)
+  pub edits-copied : (result : Result A Fault) (old new : FileMap) (from to : Path)
+      (fs files : Listed)
       → AreFiles fs → from_sorted fs ≡ old → files ≡ moved to (cut from fs) → is_empty files ≡ false
       → Edits result old new (put_fault files (with_files (finmap.retain_keys old (stays None to)) files)) (with_files (finmap.retain_keys old (stays None to)) files)
       → Edits result old new (move_fault (moved to (files_at old from)) (copied old from to)) (copied old from to)
   edits-copied result old new from to fs files h view is some e =
-      edits-as result old new (finmap.retain_keys old (is_apart to)) files (moved to (files_at old from)) (is ∙ files-as from to fs old h view) some e
+      edits-as result old new (finmap.retain_keys old (is_apart to)) files
+      (moved to (files_at old from)) (is ∙ files-as from to fs old h view) some e
 
-  pub edits-renamed : (result : Result A Fault) (old new : FileMap) (from to : Path) (fs files : Listed)
+  pub edits-renamed : (result : Result A Fault) (old new : FileMap) (from to : Path)
+      (fs files : Listed)
       → AreFiles fs → from_sorted fs ≡ old → files ≡ moved to (cut from fs) → is_empty files ≡ false
       → Edits result old new (put_fault files (with_files (finmap.retain_keys old (stays (Some from) to)) files)) (with_files (finmap.retain_keys old (stays (Some from) to)) files)
       → Edits result old new (move_fault (moved to (files_at old from)) (renamed old from to)) (renamed old from to)
   edits-renamed result old new from to fs files h view is some e =
-      edits-as result old new (finmap.retain_keys (without old from) (is_apart to)) files (moved to (files_at old from)) (is ∙ files-as from to fs old h view) some
+      edits-as result old new (finmap.retain_keys (without old from) (is_apart to)) files
+      (moved to (files_at old from)) (is ∙ files-as from to fs old h view) some
       (subst (λ (m : FileMap). Edits result old new (put_fault files (with_files m files)) (with_files m files)) (sym (retain-twice (is_outside from) (is_apart to) old)) e)
 
 -- the source has no file
@@ -200,7 +210,8 @@ pub edits-put : {A : Type 0} (result : Result A Fault) (old new : FileMap) (to :
     → Edits result old new (put_fault files (with_files (finmap.retain_keys old (stays None to)) files)) (with_files (finmap.retain_keys old (stays None to)) files)
     → Edits result old new (put_fault (moved to (([], e) ∷ [])) (put_at old to e)) (put_at old to e)
 edits-put result old new to e files is h =
-    subst (λ (l : Listed). Edits result old new (put_fault l (with_files (finmap.retain_keys old (is_apart to)) l)) (with_files (finmap.retain_keys old (is_apart to)) l))
+    subst
+    (λ (l : Listed). Edits result old new (put_fault l (with_files (finmap.retain_keys old (is_apart to)) l)) (with_files (finmap.retain_keys old (is_apart to)) l))
     (is ∙ ap (λ (p : Path). (p, e) ∷ []) (sym (append-nil to))) h
 
 -- what is moved is fit to be put
@@ -215,7 +226,8 @@ moved-below from to fs path h =
       rest = g.0;
       below = refl;
       path =
-          All-append IsComponent to g.0 path (IsPath-behind from (from ++ g.0) g.0 f.path (sym (behind-append from g.0)));
+          All-append IsComponent to g.0 path
+          (IsPath-behind from (from ++ g.0) g.0 f.path (sym (behind-append from g.0)));
       mode = f.mode;
       name = f.name;
     }

@@ -67,7 +67,8 @@ add_pairs R c f (g ∷ groups) h rest =
     (λ yea. rw yea
     (let same = (bytes_eq-Decides c g.0).0 yea in (
       (
-        subst (λ (x : Bytes). AllByRecursion (λ k. R (c ∷ f.0, f.1) (x ∷ k.0, k.1)) g.1) (sym same) h.0,
+        subst (λ (x : Bytes). AllByRecursion (λ k. R (c ∷ f.0, f.1) (x ∷ k.0, k.1)) g.1)
+            (sym same) h.0,
         subst (λ (x : Bytes). Pairs (λ a b. R (x ∷ a.0, a.1) (x ∷ b.0, b.1)) g.1) (sym same) rest.0,
       ),
       rest.1,
@@ -95,13 +96,15 @@ add_few n c f [] h = (omega arith, tt)
 add_few n c f (g ∷ groups) h =
     let rest = all-weaker (λ (k : Bytes × Listed). length k.1 ≤ n) (λ (k : Bytes × Listed). length k.1 ≤ suc n) (λ k le. omega arith) groups h.1 in
     let one = h.0 in
-    by_cases (bytes_eq c g.0) (λ yea. rw yea (omega arith, rest)) (λ nay. rw nay (omega arith, (omega arith, rest)))
+    by_cases (bytes_eq c g.0) (λ yea. rw yea (omega arith, rest))
+    (λ nay. rw nay (omega arith, (omega arith, rest)))
 
 path_few : (n : ℕ) (p : Path) (e : Entry) (groups : Groups)
     → AllByRecursion (λ g. length g.1 ≤ n) groups
     → AllByRecursion (λ g. length g.1 ≤ suc n) (add_path p e groups)
 path_few n [] e groups h =
-    all-weaker (λ (k : Bytes × Listed). length k.1 ≤ n) (λ (k : Bytes × Listed). length k.1 ≤ suc n) (λ k le. omega arith) groups h
+    all-weaker (λ (k : Bytes × Listed). length k.1 ≤ n) (λ (k : Bytes × Listed). length k.1 ≤ suc n)
+    (λ k le. omega arith) groups h
 path_few n (c ∷ q) e groups h = add_few n c (q, e) groups h
 
 pub grouped-few : (fs : Listed) → AllByRecursion (λ g. length g.1 ≤ length fs) (grouped fs)
@@ -126,7 +129,8 @@ InTurn f g = below (joined f.0) (joined g.0) × (is_apart f.0 g.0 ≡ true)
 same_front : (c a b : Bytes) → slice_cmp nat_cmp (c ++ a) (c ++ b) ≡ slice_cmp nat_cmp a b
 same_front [] a b = refl
 same_front (x ∷ c) a b =
-    ap (λ (r : Ordering). ordering_then r (slice_cmp nat_cmp (c ++ a) (c ++ b))) (tied_itself nat_cmp_total x)
+    ap (λ (r : Ordering). ordering_then r (slice_cmp nat_cmp (c ++ a) (c ++ b)))
+    (tied_itself nat_cmp_total x)
     ∙ same_front c a b
 
 pub tails_below : (c : Bytes) (q r : Path) → is_apart q r ≡ true
@@ -134,7 +138,8 @@ pub tails_below : (c : Bytes) (q r : Path) → is_apart q r ≡ true
 tails_below c [] r a h = absurd (false≢true a)
 tails_below c (x ∷ q) [] a h = absurd (false≢true a)
 tails_below c (x ∷ q) (y ∷ r) a h =
-    sym (ap (λ (o : Ordering). ordering_then o (slice_cmp nat_cmp (joined (x ∷ q)) (joined (y ∷ r)))) (tied_itself nat_cmp_total 47))
+    sym
+    (ap (λ (o : Ordering). ordering_then o (slice_cmp nat_cmp (joined (x ∷ q)) (joined (y ∷ r)))) (tied_itself nat_cmp_total 47))
     ∙ sym (same_front c (47 ∷ joined (x ∷ q)) (47 ∷ joined (y ∷ r))) ∙ h
 
 tails_turn : (c : Bytes) (f g : File) → InTurn (c ∷ f.0, f.1) (c ∷ g.0, g.1) → InTurn f g
@@ -251,7 +256,8 @@ trivial (f ∷ fs) = (tt, trivial fs)
 pub groups-are : (fs : Listed) → AreStorable fs
     → AllByRecursion (IsGroup (depth_of fs)) (grouped fs)
 groups-are fs h =
-    each (grouped fs) (grouped-first (λ p. Unit {0}) fs (trivial fs)) (grouped-all IsFile fs h.each) (grouped-pairs InTurn fs (in_turn fs h.in_order h.apart))
+    each (grouped fs) (grouped-first (λ p. Unit {0}) fs (trivial fs)) (grouped-all IsFile fs h.each)
+    (grouped-pairs InTurn fs (in_turn fs h.in_order h.apart))
     (grouped-all (λ f. length f.0 ≤ depth_of fs) fs (depth_each fs (depth_of fs) (omega arith))) (grouped-few fs)
   where
     each : (gs : Groups) → AllByRecursion (OfFirst (λ p. Unit {0})) gs

@@ -35,7 +35,8 @@ pub gathers-none : (os : List Object) (top : Path) (old : Listed) → GathersSom
 gathers-none os top old = record { files = []; lists = nothing; behind = sym (append-nil old) }
 
 -- a path and then a name before files
-pub moved-twice : (top : Path) (c : List ℕ) (fs : Listed) → moved (top ++ c ∷ []) fs ≡ moved top (moved (c ∷ []) fs)
+pub moved-twice : (top : Path) (c : List ℕ) (fs : Listed)
+    → moved (top ++ c ∷ []) fs ≡ moved top (moved (c ∷ []) fs)
 moved-twice top c [] = refl
 moved-twice top c (f ∷ fs) =
     let here = append_assoc top (c ∷ []) f.0 in
@@ -43,35 +44,45 @@ moved-twice top c (f ∷ fs) =
     λ i. (here i, f.1) ∷ rest i
 
 -- one entry more
-gathers-more : (os : List Object) (top : Path) (es : List TreeEntry) (e : TreeEntry) (gs old mid new : Listed) → GathersSome os top es old mid
+gathers-more : (os : List Object) (top : Path) (es : List TreeEntry) (e : TreeEntry)
+    (gs old mid new : Listed)
+    → GathersSome os top es old mid
     → Lists os (e ∷ []) gs → new ≡ mid ++ moved top gs → GathersSome os top (es ++ e ∷ []) old new
 gathers-more os top es e gs old mid new sofar one is = record {
   files = sofar.files ++ gs;
   lists = lists-append one sofar.lists;
   behind =
-      is ∙ ap (λ (l : Listed). l ++ moved top gs) sofar.behind ∙ append_assoc old (moved top sofar.files) (moved top gs)
-      ∙ ap (λ (l : Listed). old ++ l) (sym (map-append (λ (f : Path × Entry). (top ++ f.0, f.1)) sofar.files gs));
+      is ∙ ap (λ (l : Listed). l ++ moved top gs) sofar.behind
+      ∙ append_assoc old (moved top sofar.files) (moved top gs)
+      ∙ ap (λ (l : Listed). old ++ l)
+      (sym (map-append (λ (f : Path × Entry). (top ++ f.0, f.1)) sofar.files gs));
 }
 
 -- the entries that were read, and one more
-next_entries : (xs : List declared.TreeEntry) (i : ℕ) (x : declared.TreeEntry) → i < length xs → x ≡ get_or xs i x
+next_entries : (xs : List declared.TreeEntry) (i : ℕ) (x : declared.TreeEntry) → i < length xs
+    → x ≡ get_or xs i x
     → entries_of (take i xs) ++ entry_of x ∷ [] ≡ entries_of (take (i + 1) xs)
 next_entries xs i x lt at =
     sym (map-append entry_of (take i xs) (x ∷ []))
-    ∙ ap entries_of (sym (take_more xs i x lt ∙ ap (λ (y : declared.TreeEntry). take i xs ++ y ∷ []) (sym at)))
+    ∙ ap entries_of
+    (sym (take_more xs i x lt ∙ ap (λ (y : declared.TreeEntry). take i xs ++ y ∷ []) (sym at)))
 
 module _ (os : List Object) (top : Path) (xs : List declared.TreeEntry) (i : ℕ) (x : declared.TreeEntry) (lt : i < length xs) (at : x ≡ get_or xs i x) where
-  pub file_turn : (path : Path) (old mid new : Listed) → (entry_of x).mode ≢ mode.Directory → path ≡ top ++ (entry_of x).name ∷ []
+  pub file_turn : (path : Path) (old mid new : Listed) → (entry_of x).mode ≢ mode.Directory
+      → path ≡ top ++ (entry_of x).name ∷ []
       → new ≡ mid ++ (path, record { mode = (entry_of x).mode; name = (entry_of x).id }) ∷ []
-      → GathersSome os top (entries_of (take i xs)) old mid → GathersSome os top (entries_of (take (i + 1) xs)) old new
+      → GathersSome os top (entries_of (take i xs)) old mid
+      → GathersSome os top (entries_of (take (i + 1) xs)) old new
   file_turn path old mid new ne is pushed sofar =
       subst (λ (es : List TreeEntry). GathersSome os top es old new) (next_entries xs i x lt at)
       (gathers-more os top (entries_of (take i xs)) (entry_of x) (file_from (entry_of x) ∷ []) old mid new sofar (lists-file (entry_of x) ne)
       (pushed ∙ ap (λ (p : Path). mid ++ (p, (file_from (entry_of x)).1) ∷ []) is))
 
-  pub directory_turn : (path : Path) (old mid new : Listed) → (entry_of x).mode ≡ mode.Directory → path ≡ top ++ (entry_of x).name ∷ []
+  pub directory_turn : (path : Path) (old mid new : Listed) → (entry_of x).mode ≡ mode.Directory
+      → path ≡ top ++ (entry_of x).name ∷ []
       → Gathers os path (entry_of x).id mid new
-      → GathersSome os top (entries_of (take i xs)) old mid → GathersSome os top (entries_of (take (i + 1) xs)) old new
+      → GathersSome os top (entries_of (take i xs)) old mid
+      → GathersSome os top (entries_of (take (i + 1) xs)) old new
   directory_turn path old mid new dir is inside sofar =
       subst (λ (es : List TreeEntry). GathersSome os top es old new) (next_entries xs i x lt at)
       (gathers-more os top (entries_of (take i xs)) (entry_of x) (moved ((entry_of x).name ∷ []) inside.files) old mid new sofar
@@ -81,8 +92,11 @@ module _ (os : List Object) (top : Path) (xs : List declared.TreeEntry) (i : ℕ
       ∙ ap (λ (l : Listed). mid ++ l) (moved-twice top (entry_of x).name inside.files)))
 
 -- all entries
-pub gathers-all : (os : List Object) (top : Path) (id : List ℕ) (xs : List declared.TreeEntry) (i : ℕ) (old new : Listed) → length xs ≤ i
-    → HasTree os id (entries_of xs) → GathersSome os top (entries_of (take i xs)) old new → Gathers os top id old new
+pub gathers-all : (os : List Object) (top : Path) (id : List ℕ) (xs : List declared.TreeEntry)
+    (i : ℕ) (old new : Listed)
+    → length xs ≤ i
+    → HasTree os id (entries_of xs) → GathersSome os top (entries_of (take i xs)) old new
+    → Gathers os top id old new
 gathers-all os top id xs i old new done has sofar = record {
   files = sofar.files;
   listed = record { direct = entries_of xs; tree = has; lists = subst (λ (l : List declared.TreeEntry). Lists os (entries_of l) sofar.files) (take_all i xs done) sofar.lists };
@@ -91,14 +105,19 @@ gathers-all os top id xs i old new done has sofar = record {
 
 -- ---- in a table
 
-entry_at : (P : TreeEntry → Type 0) (xs : List declared.TreeEntry) (i : ℕ) (x : declared.TreeEntry) → AllByRecursion P (entries_of xs) → i < length xs → x ≡ get_or xs i x → P (entry_of x)
+entry_at : (P : TreeEntry → Type 0) (xs : List declared.TreeEntry) (i : ℕ) (x : declared.TreeEntry)
+    → AllByRecursion P (entries_of xs) → i < length xs → x ≡ get_or xs i x → P (entry_of x)
 entry_at P [] i x h lt at = absurd (omega arith)
 entry_at P (y ∷ ys) zero x h lt at = subst (λ (z : declared.TreeEntry). P (entry_of z)) (sym at) h.0
 entry_at P (y ∷ ys) (suc i) x h lt at = entry_at P ys i x h.1 (omega arith) at
 
 -- the entry that is read has a name of a path
-pub component_at : (os : List Object) (id : List ℕ) (xs : List declared.TreeEntry) (i : ℕ) (x : declared.TreeEntry) → HasTree os id (entries_of xs) → i < length xs → x ≡ get_or xs i x → IsEntryName (entry_of x).name
-component_at os id xs i x h lt at = (entry_at CanWriteEntry xs i x (recursion_from_All CanWriteEntry (entries_of xs) h.entries.entries) lt at).name
+pub component_at : (os : List Object) (id : List ℕ) (xs : List declared.TreeEntry) (i : ℕ)
+    (x : declared.TreeEntry)
+    → HasTree os id (entries_of xs) → i < length xs → x ≡ get_or xs i x
+    → IsEntryName (entry_of x).name
+component_at os id xs i x h lt at =
+    (entry_at CanWriteEntry xs i x (recursion_from_All CanWriteEntry (entries_of xs) h.entries.entries) lt at).name
 
 no_file : (top : Path) (old fs : Listed) → length fs ≡ 0 → old ≡ old ++ moved top fs
 no_file top old [] h = sym (append-nil old)
@@ -106,17 +125,21 @@ no_file top old (f ∷ fs) h = absurd (omega arith)
 
 module _ (digest : List ℕ → List ℕ) (pool : Cells) (entries : Entries) (stands : StandsIn digest pool entries) where
   -- a directory's tree stands before the tree
-  pub inside_before : (id : List ℕ) (xs : List declared.TreeEntry) (i : ℕ) (x : declared.TreeEntry) → HasTree (objects pool entries) id (entries_of xs) → i < length xs → x ≡ get_or xs i x
-      → (entry_of x).mode ≡ mode.Directory → (position_of (entry_of x).id entries < position_of id entries) × IsSome (summary_of (entry_of x).id entries)
+  pub inside_before : (id : List ℕ) (xs : List declared.TreeEntry) (i : ℕ) (x : declared.TreeEntry)
+      → HasTree (objects pool entries) id (entries_of xs) → i < length xs → x ≡ get_or xs i x
+      → (entry_of x).mode ≡ mode.Directory
+      → (position_of (entry_of x).id entries < position_of id entries) × IsSome (summary_of (entry_of x).id entries)
   inside_before id xs i x h lt at dir =
       let p = tree-placed digest pool entries stands id (entries_of xs) h in
       let some = some_of (summary_of (entry_of x).id (take (position_of id entries) entries)) (λ s. s.files ≢ 0) (entry_at (DirectoryStands (take (position_of id entries) entries)) xs i x p.1.directories lt at dir) in (
         stands-before (entry_of x).id (position_of id entries) entries some,
-        subst (λ (o : Option Summary). IsSome o) (summary-all (entry_of x).id (position_of id entries) entries some) some,
+        subst (λ (o : Option Summary). IsSome o)
+            (summary-all (entry_of x).id (position_of id entries) entries some) some,
       )
 
   -- a tree without files
-  pub gathers_nothing : (id : List ℕ) (top : Path) (old : Listed) → IsSome (summary_of id entries) → has_none (summary_of id entries) ≡ true → Gathers (objects pool entries) top id old old
+  pub gathers_nothing : (id : List ℕ) (top : Path) (old : Listed) → IsSome (summary_of id entries)
+      → has_none (summary_of id entries) ≡ true → Gathers (objects pool entries) top id old old
   gathers_nothing id top old some none =
       let s = the_summary (summary_of id entries) some in
       let t = tree-lists digest pool entries stands id s.0 s.1 in

@@ -1,5 +1,5 @@
 -- The trees of good objects: each lists just the files that the function gives.
-use Rattle.std.proofs.Common.{◌≡◌, ◌≢◌, ℕ, zero, suc, ◌<◌, List, [], ◌∷◌, length, All, Option, None, Some, refl, sym, ap, ◌∙◌, subst}
+use Rattle.std.proofs.Common.{◌≡◌, ◌≢◌, ℕ, ◌<◌, List, [], ◌∷◌, length, All, Option, None, Some, refl, sym, ap, ◌∙◌, subst}
 use Rattle.std.specs.Prelude.{unwrap_or}
 use Rattle.std.specs.Option.{option_map}
 use Rattle.std.specs.List.{AllByRecursion}
@@ -19,7 +19,7 @@ use Rattle.tree_build.specs.FileMap.{Listed}
 use Rattle.tree_build.specs.Trees.{tree_content}
 use Rattle.tree_build.specs.StoredTree.{HasTree, ListsTree, AreFilesOf}
 use Rattle.tree_build.specs.StoredFiles.{stored_files}
-use Rattle.tree_build.specs.StoredAgain.{HasEntries, IsFilled, AreTreesGood}
+use Rattle.tree_build.specs.StoredAgain.{IsFilled, AreTreesGood}
 use Rattle.tree_build.proofs.Apart.{all-weaker}
 use Rattle.tree_build.proofs.StoredFiles.{RanksBelow, tree-within, lists-within}
 

@@ -40,12 +40,14 @@ joined_end (c ∷ top) (d ∷ p) =
     let more = ap length (joined-append c top (d ∷ p)) ∙ length-append (joined (c ∷ top)) (tail (d ∷ p)) in omega arith
 
 -- files whose paths are within the limits after another path
-shallow : (top : Path) (fs : Listed) → AllByRecursion (λ f. IsWithinLimits f.0) (moved top fs) → depth_of fs ≤ 256
+shallow : (top : Path) (fs : Listed) → AllByRecursion (λ f. IsWithinLimits f.0) (moved top fs)
+    → depth_of fs ≤ 256
 shallow top [] h = omega arith
 shallow top (f ∷ fs) h =
     let here = h.0.components in let rest = shallow top fs h.1 in let n = length-append top f.0 in omega arith
 
-short : (top : Path) (fs : Listed) → AllByRecursion (λ f. IsWithinLimits f.0) (moved top fs) → longest_of fs ≤ 16383
+short : (top : Path) (fs : Listed) → AllByRecursion (λ f. IsWithinLimits f.0) (moved top fs)
+    → longest_of fs ≤ 16383
 short top [] h = omega arith
 short top (f ∷ fs) h =
     let here = h.0.bytes in let rest = short top fs h.1 in let n = joined_end top f.0 in omega arith
@@ -56,34 +58,42 @@ not_root [] [] h = absurd (h refl)
 not_root [] (c ∷ p) h = refl
 not_root (c ∷ top) p h = refl
 
-no_roots : (top : Path) (fs : Listed) → AllByRecursion IsSound fs → list_any (λ f. is_root f.0) (moved top fs) ≡ false
+no_roots : (top : Path) (fs : Listed) → AllByRecursion IsSound fs
+    → list_any (λ f. is_root f.0) (moved top fs) ≡ false
 no_roots top [] h = refl
 no_roots top (f ∷ fs) h = rw (not_root top f.0 h.0.below_the_root) (no_roots top fs h.1)
 
 -- files below a path may be put beside those that stay
-may_put : (top : Path) (held fs : Listed) → ArePairwiseApart fs → MayPut (kept None top held) (moved top fs)
+may_put : (top : Path) (held fs : Listed) → ArePairwiseApart fs
+    → MayPut (kept None top held) (moved top fs)
 may_put top held fs apart = record { outside = each fs; apart = apart-moved top fs apart }
   where
-    each : (gs : Listed) → AllByRecursion (λ f. AllByRecursion (λ g. is_apart f.0 g.0 ≡ true) (kept None top held)) (moved top gs)
+    each : (gs : Listed)
+        → AllByRecursion (λ f. AllByRecursion (λ g. is_apart f.0 g.0 ≡ true) (kept None top held)) (moved top gs)
     each [] = tt
     each (g ∷ gs) = (
-      all-weaker (λ (h : Path × Entry). is_apart top h.0 ≡ true) (λ (h : Path × Entry). is_apart (top ++ g.0) h.0 ≡ true) (λ h a. apart_below top g.0 h.0 a)
+      all-weaker (λ (h : Path × Entry). is_apart top h.0 ≡ true)
+          (λ (h : Path × Entry). is_apart (top ++ g.0) h.0 ≡ true) (λ h a. apart_below top g.0 h.0 a)
           (kept None top held) (filter-all (λ (h : Path × Entry). is_apart top h.0) held),
       each gs,
     )
 
 -- the map has these files at least
-many : (top : Path) (held fs : Listed) → AreFiles held → ArePairwiseApart fs → length fs ≤ finmap.len (put_tree_at (from_sorted held) top fs)
+many : (top : Path) (held fs : Listed) → AreFiles held → ArePairwiseApart fs
+    → length fs ≤ finmap.len (put_tree_at (from_sorted held) top fs)
 many top held fs h apart =
     let sorted = true-T _ (AreFiles-filter (is_apart top) held h).in_order in
     let same : finmap.len (put_tree_at (from_sorted held) top fs) ≡ length (kept None top held) + length (moved top fs) =
     ap (λ (m : FileMap). finmap.len m) (edited-is None top held (moved top fs) h)
-    ∙ len-of (put_all (kept None top held) (moved top fs)) (sorted-put_all (kept None top held) (moved top fs) sorted)
+    ∙ len-of (put_all (kept None top held) (moved top fs))
+    (sorted-put_all (kept None top held) (moved top fs) sorted)
     ∙ length-put_all (kept None top held) (moved top fs) (may_put top held fs apart) sorted in
     let n : length (moved top fs) ≡ length fs = length-map fs (λ (f : Path × Entry). (top ++ f.0, f.1)) in
     subst (λ (k : ℕ). length fs ≤ k) (sym same) (omega arith)
 
-small_if : (top : Path) (held fs : Listed) (s : Summary) → AreFiles held → ArePairwiseApart fs → s ≡ files_summary fs → fits (moved top fs) (put_tree_at (from_sorted held) top fs) ≡ true → is_small s ≡ true
+small_if : (top : Path) (held fs : Listed) (s : Summary) → AreFiles held → ArePairwiseApart fs
+    → s ≡ files_summary fs → fits (moved top fs) (put_tree_at (from_sorted held) top fs) ≡ true
+    → is_small s ≡ true
 small_if top held fs s h apart is all =
     let parts = both_true _ _ all in
     let short_paths = all_short (moved top fs) parts.0 in
@@ -97,10 +107,12 @@ small_if top held fs s h apart is all =
     let first : leb s.files FILES_LIMIT ≡ true = le-leb s.files FILES_LIMIT (omega arith) in
     let second : leb s.depth 256 ≡ true = le-leb s.depth 256 (omega arith) in
     let third : leb s.longest 16383 ≡ true = le-leb s.longest 16383 (omega arith) in
-    from_both (leb s.files FILES_LIMIT && leb s.depth 256) (leb s.longest 16383) (from_both (leb s.files FILES_LIMIT) (leb s.depth 256) first second) third
+    from_both (leb s.files FILES_LIMIT && leb s.depth 256) (leb s.longest 16383)
+    (from_both (leb s.files FILES_LIMIT) (leb s.depth 256) first second) third
 
 -- a tree that is not small is refused
-pub too_large : (top : Path) (held fs : Listed) (s : Summary) → AreFiles held → ArePairwiseApart fs → AllByRecursion IsSound fs → s ≡ files_summary fs → is_small s ≡ false
+pub too_large : (top : Path) (held fs : Listed) (s : Summary) → AreFiles held → ArePairwiseApart fs
+    → AllByRecursion IsSound fs → s ≡ files_summary fs → is_small s ≡ false
     → put_fault (moved top fs) (put_tree_at (from_sorted held) top fs) ≡ Some fault.Limit
 unfolding put_fault
 too_large top held fs s h apart sound is large =
@@ -111,12 +123,14 @@ too_large top held fs s h apart sound is large =
 -- ---- what a call answers
 
 -- the files of a tree are its only ones
-pub the_files : (os : List Object) (id : List ℕ) (fs : Listed) → ListsTree os id fs → AreFilesOf os id fs
+pub the_files : (os : List Object) (id : List ℕ) (fs : Listed) → ListsTree os id fs
+    → AreFilesOf os id fs
 the_files os id fs t = record { listed = t; only = λ others u. tree-only os id others fs u t }
 
 module _ {A : Type 0} (os : List Object) (id : List ℕ) (path : Path) (old : FileMap) where
   -- no tree has this name
-  pub grafts-none : (e : Fault) → tree_fault os id ≡ Some e → Grafts {A = A} (Err e) os id path old old
+  pub grafts-none : (e : Fault) → tree_fault os id ≡ Some e
+      → Grafts {A = A} (Err e) os id path old old
   grafts-none e is = record {
     files = [];
     listed = λ none. absurd (let no : Some e ≡ None = sym is ∙ none in cc no);
@@ -124,36 +138,48 @@ module _ {A : Type 0} (os : List Object) (id : List ℕ) (path : Path) (old : Fi
   }
 
   -- there was no memory
-  pub grafts-memory : (new : FileMap) (fs : Listed) → ListsTree os id fs → Grafts {A = A} (Err fault.Memory) os id path old new
+  pub grafts-memory : (new : FileMap) (fs : Listed) → ListsTree os id fs
+      → Grafts {A = A} (Err fault.Memory) os id path old new
   grafts-memory new fs t = record { files = fs; listed = λ _. the_files os id fs t; edits = λ ne. absurd (ne refl) }
 
   -- the files of the tree were put, or refused
   pub grafts-edits : (result : Result A Fault) (new : FileMap) (fs : Listed) → ListsTree os id fs
-      → Edits result old new (put_fault (moved path fs) (put_tree_at old path fs)) (put_tree_at old path fs) → Grafts result os id path old new
+      → Edits result old new (put_fault (moved path fs) (put_tree_at old path fs)) (put_tree_at old path fs)
+      → Grafts result os id path old new
   grafts-edits result new fs t e = record {
     files = fs;
     listed = λ _. the_files os id fs t;
     edits =
-        subst (λ (o : Option Fault). Edits result old new (or_else o (put_fault (moved path fs) (put_tree_at old path fs))) (put_tree_at old path fs))
+        subst
+        (λ (o : Option Fault). Edits result old new (or_else o (put_fault (moved path fs) (put_tree_at old path fs))) (put_tree_at old path fs))
         (sym (no_fault os id t.direct t.tree)) e;
   }
 
 -- ---- what is put
 
 -- files that are gathered below a path
-pub gathered-below : (os : List Object) (top : Path) (id : List ℕ) (items : Listed) → (g : Gathers os top id [] items) → AllByRecursion (λ f. IsPath f.0) items → AllByRecursion (IsBelow top) items
+pub gathered-below : (os : List Object) (top : Path) (id : List ℕ) (items : Listed)
+    → (g : Gathers os top id [] items) → AllByRecursion (λ f. IsPath f.0) items
+    → AllByRecursion (IsBelow top) items
 gathered-below os top id items g paths =
-    subst (AllByRecursion (IsBelow top)) (sym g.behind) (each g.files (tree-sound os id g.files g.listed) (subst (AllByRecursion (λ f. IsPath f.0)) g.behind paths))
+    subst (AllByRecursion (IsBelow top)) (sym g.behind)
+    (each g.files (tree-sound os id g.files g.listed) (subst (AllByRecursion (λ f. IsPath f.0)) g.behind paths))
   where
-    each : (fs : Listed) → AllByRecursion IsSound fs → AllByRecursion (λ f. IsPath f.0) (moved top fs) → AllByRecursion (IsBelow top) (moved top fs)
+    each : (fs : Listed) → AllByRecursion IsSound fs
+        → AllByRecursion (λ f. IsPath f.0) (moved top fs)
+        → AllByRecursion (IsBelow top) (moved top fs)
     each [] s p = tt
     each (f ∷ fs) s p =
         (record { rest = f.0; below = refl; path = p.0; mode = s.0.mode; name = s.0.name }, each fs s.1 p.1)
 
-pub gathered-apart : (os : List Object) (top : Path) (id : List ℕ) (items : Listed) → (g : Gathers os top id [] items) → ArePairwiseApart items
-gathered-apart os top id items g = subst ArePairwiseApart (sym g.behind) (apart-moved top g.files (tree-apart os id g.files g.listed))
+pub gathered-apart : (os : List Object) (top : Path) (id : List ℕ) (items : Listed)
+    → (g : Gathers os top id [] items) → ArePairwiseApart items
+gathered-apart os top id items g =
+    subst ArePairwiseApart (sym g.behind)
+    (apart-moved top g.files (tree-apart os id g.files g.listed))
 
-pub grafts-put : {A : Type 0} (os : List Object) (id : List ℕ) (path : Path) (old new : FileMap) (result : Result A Fault) (items : Listed) → Gathers os path id [] items
+pub grafts-put : {A : Type 0} (os : List Object) (id : List ℕ) (path : Path) (old new : FileMap) (result : Result A Fault) (items : Listed)
+    → Gathers os path id [] items
     → Edits result old new (put_fault items (with_files (finmap.retain_keys old (stays None path)) items)) (with_files (finmap.retain_keys old (stays None path)) items)
     → Grafts result os id path old new
 grafts-put os id path old new result items g e =

@@ -73,7 +73,8 @@ run_goes : (c : List ℕ) (fs : Listed)
     → AllByRecursion (λ f. goes_with c f.0 ≡ true) (take (run_of c fs) fs)
 run_goes c [] = tt
 run_goes c (f ∷ fs) =
-    by_cases (goes_with c f.0) (λ yea. rw (yea, one_more (run_of c fs)) (yea, run_goes c fs)) (λ nay. rw nay tt)
+    by_cases (goes_with c f.0) (λ yea. rw (yea, one_more (run_of c fs)) (yea, run_goes c fs))
+    (λ nay. rw nay tt)
 
 other_name : (c d : List ℕ) (f : Path × Entry) (groups : Groups) → bytes_eq c d ≡ false
     → BeginsOther c (add_file d f groups)
@@ -88,7 +89,8 @@ other_path c (d ∷ q) e groups nay = other_name c d (q, e) groups nay
 later_other : (c : List ℕ) (fs : Listed) → BeginsOther c (grouped (drop (run_of c fs) fs))
 later_other c [] = tt
 later_other c (f ∷ fs) =
-    by_cases (goes_with c f.0) (λ yea. rw (yea, one_more (run_of c fs)) (later_other c fs)) (λ nay. rw nay (other_path c f.0 f.1 (grouped fs) nay))
+    by_cases (goes_with c f.0) (λ yea. rw (yea, one_more (run_of c fs)) (later_other c fs))
+    (λ nay. rw nay (other_path c f.0 f.1 (grouped fs) nay))
 
 run_some : (c : List ℕ) (fs : Listed) → next_name fs ≡ Some c → 0 < run_of c fs
 run_some c [] h = cc h
@@ -118,8 +120,10 @@ first_group : (c : List ℕ) (fs : Listed) → next_name fs ≡ Some c
     → grouped fs ≡ (c, cut (c ∷ []) (take (run_of c fs) fs)) ∷ grouped (drop (run_of c fs) fs)
 first_group c fs h =
     ap grouped (sym (take-append-drop (run_of c fs) fs))
-    ∙ run_grouped c (take (run_of c fs) fs) (drop (run_of c fs) fs) (run_goes c fs) (later_other c fs)
-    ∙ begun-some c (cut (c ∷ []) (take (run_of c fs) fs)) (grouped (drop (run_of c fs) fs)) (cut_some c fs h)
+    ∙ run_grouped c (take (run_of c fs) fs) (drop (run_of c fs) fs) (run_goes c fs)
+    (later_other c fs)
+    ∙ begun-some c (cut (c ∷ []) (take (run_of c fs) fs)) (grouped (drop (run_of c fs) fs))
+    (cut_some c fs h)
 
 pub no_group : (fs : Listed) → next_name fs ≡ None → grouped fs ≡ []
 no_group [] h = refl
@@ -144,9 +148,13 @@ next-group c bs n below h is within cuts =
       within = within;
       first =
           first_group c (files_below bs) h
-          ∙ ap (λ (k : ℕ). (c, cut (c ∷ []) (take k (files_below bs))) ∷ grouped (drop k (files_below bs))) (sym run)
-          ∙ ap (λ (l : Listed). (c, cut (c ∷ []) l) ∷ grouped (drop n (files_below bs))) (take-map file_below n bs)
-          ∙ ap (λ (l : Listed). (c, cut (c ∷ []) (files_below (take n bs))) ∷ grouped l) (drop-map file_below n bs)
+          ∙ ap
+          (λ (k : ℕ). (c, cut (c ∷ []) (take k (files_below bs))) ∷ grouped (drop k (files_below bs)))
+          (sym run)
+          ∙ ap (λ (l : Listed). (c, cut (c ∷ []) l) ∷ grouped (drop n (files_below bs)))
+          (take-map file_below n bs)
+          ∙ ap (λ (l : Listed). (c, cut (c ∷ []) (files_below (take n bs))) ∷ grouped l)
+          (drop-map file_below n bs)
           ∙ ap (λ (l : Listed). (c, l) ∷ grouped (files_below (drop n bs))) (sym cuts);
     }
 
@@ -159,7 +167,8 @@ one_of (Some b) None e h = cc h
 one_of (Some b) (Some q) e h =
     ap (λ (f : Path × Entry). f ∷ []) (sym (some_is (file_below b) (q, e) h))
 
-pub cut_turn : (c : List ℕ) (bs : List Below) (i : ℕ) (b : Below) (o : Option Below) (old new : List Below)
+pub cut_turn : (c : List ℕ) (bs : List Below) (i : ℕ) (b : Below) (o : Option Below)
+    (old new : List Below)
     → i < length bs → b ≡ get_or bs i b
     → option_map file_below o ≡ option_map (λ r. (r, b.entry)) (behind (c ∷ []) b.path)
     → files_below old ≡ cut (c ∷ []) (files_below (take i bs))
@@ -167,10 +176,12 @@ pub cut_turn : (c : List ℕ) (bs : List Below) (i : ℕ) (b : Below) (o : Optio
 cut_turn c bs i b o old new lt at one sofar is =
     ap files_below is ∙ map-append file_below old (option_to_list o)
     ∙ ap (λ (l : Listed). l ++ files_below (option_to_list o)) sofar
-    ∙ ap (λ (l : Listed). cut (c ∷ []) (files_below (take i bs)) ++ l) (sym (one_of o (behind (c ∷ []) b.path) b.entry one))
+    ∙ ap (λ (l : Listed). cut (c ∷ []) (files_below (take i bs)) ++ l)
+    (sym (one_of o (behind (c ∷ []) b.path) b.entry one))
     ∙ sym (cut-append (c ∷ []) (files_below (take i bs)) (file_below b ∷ []))
     ∙ ap (cut (c ∷ [])) (sym (map-append file_below (take i bs) (b ∷ [])))
-    ∙ ap (λ (l : List Below). cut (c ∷ []) (files_below l)) (sym (take_more bs i b lt ∙ ap (λ (x : Below). take i bs ++ x ∷ []) (sym at)))
+    ∙ ap (λ (l : List Below). cut (c ∷ []) (files_below l))
+    (sym (take_more bs i b lt ∙ ap (λ (x : Below). take i bs ++ x ∷ []) (sym at)))
 
 -- ---- the files of a map below a path
 
@@ -180,7 +191,8 @@ cut_more top xs p e =
     ap (cut top) (map-append deref_pair xs ((p, e) ∷ []))
     ∙ cut-append top (map deref_pair xs) ((p.now, e.now) ∷ [])
 
-pub found_turn : (top : Path) (xs : List (Bor Path × Bor Entry)) (p : Bor Path) (e : Bor Entry) (old new : List Below) (o : Option Path) (r : Path)
+pub found_turn : (top : Path) (xs : List (Bor Path × Bor Entry)) (p : Bor Path) (e : Bor Entry)
+    (old new : List Below) (o : Option Path) (r : Path)
     → files_below old ≡ cut top (map deref_pair xs) → o ≡ Some r → o ≡ behind top p.now
     → new ≡ old ++ record { path = r; entry = e.now } ∷ []
     → files_below new ≡ cut top (map deref_pair (xs ++ (p, e) ∷ []))
@@ -190,7 +202,8 @@ found_turn top xs p e old new o r sofar is found pushed =
     ∙ ap (λ (k : Option Path). cut top (map deref_pair xs) ++ cut_one k e.now []) (sym is ∙ found)
     ∙ sym (cut_more top xs p e)
 
-pub lost_turn : (top : Path) (xs : List (Bor Path × Bor Entry)) (p : Bor Path) (e : Bor Entry) (fs : Listed) (o : Option Path)
+pub lost_turn : (top : Path) (xs : List (Bor Path × Bor Entry)) (p : Bor Path) (e : Bor Entry)
+    (fs : Listed) (o : Option Path)
     → fs ≡ cut top (map deref_pair xs) → o ≡ None → o ≡ behind top p.now
     → fs ≡ cut top (map deref_pair (xs ++ (p, e) ∷ []))
 lost_turn top xs p e fs o sofar is found =

@@ -47,7 +47,8 @@ found_same : (id : List ℕ) (c d : Content) (os : List Object) → store_fault 
     → object_named id os ≡ Some d → same_content c d ≡ true
 unfolding store_fault
 found_same id c d os none is =
-    by (nat_lt CONTENTS_LIMIT (length c.bytes)) (same_content c d) (nat_le OBJECTS_LIMIT (length os))
+    by (nat_lt CONTENTS_LIMIT (length c.bytes)) (same_content c d)
+    (nat_le OBJECTS_LIMIT (length os))
     (subst (λ (o : Option Content). cond (nat_lt CONTENTS_LIMIT (length c.bytes)) (Some fault.Limit) (cond (option_map_or (same_content c) o false) None (cond (nat_le OBJECTS_LIMIT (length os)) (Some fault.Limit) (cond (is_some o) (Some fault.NameCollision) None))) ≡ None) is none)
   where
     by : (a b f : Bool)

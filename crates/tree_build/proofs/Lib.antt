@@ -27,5 +27,6 @@ pub mod ListedOrder
 pub mod StoredFiles
 pub mod StoredTable
 pub mod GoodObjects
+pub mod GoodTrees
 pub mod StoringHeld
 pub mod ListedLater

@@ -51,21 +51,27 @@ moved_more : (to from : Path) (xs : List (Bor Path × Bor Entry)) (p : Bor Path)
 moved_more to from xs p e =
     ap (λ (l : Listed). moved to (cut from l)) (map-append deref_pair xs ((p, e) ∷ []))
     ∙ ap (moved to) (cut-append from (map deref_pair xs) ((p.now, e.now) ∷ []))
-    ∙ map-append (λ (f : Path × Entry). (to ++ f.0, f.1)) (cut from (map deref_pair xs)) (cut_one (behind from p.now) e.now [])
+    ∙ map-append (λ (f : Path × Entry). (to ++ f.0, f.1)) (cut from (map deref_pair xs))
+    (cut_one (behind from p.now) e.now [])
 
-pub moved_some : (to from : Path) (xs : List (Bor Path × Bor Entry)) (p : Bor Path) (e : Bor Entry) (rest : Path)
+pub moved_some : (to from : Path) (xs : List (Bor Path × Bor Entry)) (p : Bor Path) (e : Bor Entry)
+    (rest : Path)
     → Some rest ≡ behind from p.now
     → moved to (cut from (map deref_pair (xs ++ (p, e) ∷ []))) ≡ moved to (cut from (map deref_pair xs)) ++ (to ++ rest, e.now) ∷ []
 moved_some to from xs p e rest h =
     moved_more to from xs p e
-    ∙ ap (λ (o : Option Path). moved to (cut from (map deref_pair xs)) ++ moved to (cut_one o e.now [])) (sym h)
+    ∙ ap
+    (λ (o : Option Path). moved to (cut from (map deref_pair xs)) ++ moved to (cut_one o e.now []))
+    (sym h)
 
 pub moved_none : (to from : Path) (xs : List (Bor Path × Bor Entry)) (p : Bor Path) (e : Bor Entry)
     → None ≡ behind from p.now
     → moved to (cut from (map deref_pair (xs ++ (p, e) ∷ []))) ≡ moved to (cut from (map deref_pair xs))
 moved_none to from xs p e h =
     moved_more to from xs p e
-    ∙ ap (λ (o : Option Path). moved to (cut from (map deref_pair xs)) ++ moved to (cut_one o e.now [])) (sym h)
+    ∙ ap
+    (λ (o : Option Path). moved to (cut from (map deref_pair xs)) ++ moved to (cut_one o e.now []))
+    (sym h)
     ∙ append-nil (moved to (cut from (map deref_pair xs)))
 
 -- ---- one turn of a loop
@@ -79,7 +85,8 @@ put_turn end held new files left o p e sofar popped is put =
     ∙ ap (λ (x : Option (Path × Entry)). put_all held (left ++ option_to_list x)) (sym is)
     ∙ ap (put_all held) (sym popped) ∙ sofar
 
-pub moved_turn : (to from : Path) (xs : List (Bor Path × Bor Entry)) (p : Bor Path) (e : Bor Entry) (files new : Listed) (o : Option Path) (rest joined : Path)
+pub moved_turn : (to from : Path) (xs : List (Bor Path × Bor Entry)) (p : Bor Path) (e : Bor Entry)
+    (files new : Listed) (o : Option Path) (rest joined : Path)
     → files ≡ moved to (cut from (map deref_pair xs)) → o ≡ Some rest → o ≡ behind from p.now
     → joined ≡ to ++ rest → new ≡ files ++ (joined, e.now) ∷ []
     → new ≡ moved to (cut from (map deref_pair (xs ++ (p, e) ∷ [])))

@@ -27,7 +27,8 @@ retain_keys-of t fs h =
     same_map path_cmp-total path_cmp-IsAntisymmetric _ _ (λ q.
     get-from_sorted path_cmp _ q (is_sorted-where_key path_cmp t fs (true-T _ h.in_order))
     ∙ find-where_key path_cmp t q (alike t q) fs
-    ∙ ap (λ (o : Option Entry). cond (t q) o None) (sym (get-from_sorted path_cmp fs q (true-T _ h.in_order)))
+    ∙ ap (λ (o : Option Entry). cond (t q) o None)
+    (sym (get-from_sorted path_cmp fs q (true-T _ h.in_order)))
     ∙ sym (get-retain_keys (from_sorted fs) t q (alike t q)))
 
 insert-of : (fs : Listed) (p : Path) (e : Entry) → T (is_sorted path_cmp fs)

@@ -44,7 +44,8 @@ entry-direct digest deep g =
 
 module _ (digest : List ℕ → List ℕ) (deep : ℕ) where
   -- one entry more
-  pub entries_turn : (gs : List Group) (i : ℕ) (x : Group) (id : List ℕ) (e : declared.TreeEntry) (old new : List declared.TreeEntry)
+  pub entries_turn : (gs : List Group) (i : ℕ) (x : Group) (id : List ℕ) (e : declared.TreeEntry)
+      (old new : List declared.TreeEntry)
       → i < length gs → x ≡ get_or gs i x
       → id ≡ id_of digest deep (group_of x) → entry_of e ≡ entry_by (group_of x) id
       → entries_of old ≡ map (direct_of digest deep) (groups_of (take i gs))
@@ -53,10 +54,12 @@ module _ (digest : List ℕ → List ℕ) (deep : ℕ) where
   entries_turn gs i x id e old new lt at named entry sofar is =
       ap entries_of is ∙ map-append entry_of old (e ∷ [])
       ∙ ap (λ (l : List TreeEntry). l ++ entry_of e ∷ []) sofar
-      ∙ ap (λ (t : TreeEntry). map (direct_of digest deep) (groups_of (take i gs)) ++ t ∷ []) (entry ∙ ap (entry_by (group_of x)) named ∙ entry-direct digest deep (group_of x))
+      ∙ ap (λ (t : TreeEntry). map (direct_of digest deep) (groups_of (take i gs)) ++ t ∷ [])
+      (entry ∙ ap (entry_by (group_of x)) named ∙ entry-direct digest deep (group_of x))
       ∙ sym (map-append (direct_of digest deep) (groups_of (take i gs)) (group_of x ∷ []))
       ∙ ap (map (direct_of digest deep)) (sym (map-append group_of (take i gs) (x ∷ [])))
-      ∙ ap (λ (l : List Group). map (direct_of digest deep) (groups_of l)) (sym (take_more gs i x lt ∙ ap (λ (y : Group). take i gs ++ y ∷ []) (sym at)))
+      ∙ ap (λ (l : List Group). map (direct_of digest deep) (groups_of l))
+      (sym (take_more gs i x lt ∙ ap (λ (y : Group). take i gs ++ y ∷ []) (sym at)))
 
   -- all entries
   pub entries_end : (gs : List Group) (i : ℕ) (es : List declared.TreeEntry) (files : Listed)

@@ -52,7 +52,8 @@ apart-put p e (f ∷ fs) h rest =
       | Less ↦ (h, rest)
       | Equal ↦ rest
       | Greater ↦ (
-        all-put (λ (g : Path × Entry). is_apart f.0 g.0 ≡ true) p e fs (is_apart-symmetric f.0 p ∙ h.0) rest.0,
+        all-put (λ (g : Path × Entry). is_apart f.0 g.0 ≡ true) p e fs
+            (is_apart-symmetric f.0 p ∙ h.0) rest.0,
         apart-put p e fs h.1 rest.1,
       )
     ]
@@ -98,7 +99,8 @@ length-put_all held (f ∷ files) may h =
     let none = none_apart f.0 (put_all held files) (apart_from_all held files f.0 may.outside.0 may.apart.0) in
     let one = length-put path_cmp path_cmp-total f.0 f.1 (put_all held files) (sorted-put_all held files h) in
     let more : length (put path_cmp f.0 f.1 (put_all held files)) ≡ length (put_all held files) + 1 = one
-    ∙ ap (λ (o : Option Entry). cond (is_some o) (length (put_all held files)) (length (put_all held files) + 1)) none in
+    ∙ ap
+    (λ (o : Option Entry). cond (is_some o) (length (put_all held files)) (length (put_all held files) + 1)) none in
     omega arith
 
 pub AreFiles-put_all : (held files : Listed) → AreFiles held → MayPut held files

@@ -60,7 +60,8 @@ rise (x ∷ c) (y ∷ d) s t nc nd ne h =
       | Less ↦ λ is k. refl
       | Equal ↦ λ is k.
           let same : x ≡ y = ranked x y Equal (sym is) in
-          rise c d s t (All-tail (λ b. b ≢ 47) x c nc) (All-tail (λ b. b ≢ 47) y d nd) (λ e. ne (λ i. same i ∷ e i)) k
+          rise c d s t (All-tail (λ b. b ≢ 47) x c nc) (All-tail (λ b. b ≢ 47) y d nd)
+          (λ e. ne (λ i. same i ∷ e i)) k
       | Greater ↦ λ is k. cc k
     ] refl h
 
@@ -154,7 +155,8 @@ rises_behind c q e g (d, (f ∷ fs)) r s a =
       up,
       λ same.
           let one : key c q ≡ key c f.0 = same_key c q f.0 (subst (λ (x : Bytes). is_apart (c ∷ q) (x ∷ f.0) ≡ true) (sym same) a.apart) in
-          not_below_itself (key c q) (subst (λ (k : Bytes). below (key c q) k) (sym (one ∙ ap (λ (x : Bytes). key x f.0) same)) up),
+          not_below_itself (key c q)
+          (subst (λ (k : Bytes). below (key c q) k) (sym (one ∙ ap (λ (x : Bytes). key x f.0) same)) up),
     )
 
 all_behind : (c : Bytes) (q : Path) (e : Entry) (g : Bytes × Listed) (groups : Groups)

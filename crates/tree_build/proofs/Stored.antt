@@ -50,7 +50,8 @@ module _ (digest : List ℕ → List ℕ) where
   fault-append [] b os h = refl
   fault-append (es ∷ a) b os h =
       let parts = no_fault (store_fault (tree_name digest es) (tree_content es) os) (trees_fault digest a (with_object (tree_name digest es) (tree_content es) os)) h in
-      ap (λ (f : Option TableFault). or_later f (trees_fault digest (a ++ b) (with_object (tree_name digest es) (tree_content es) os))) parts.0
+      ap
+      (λ (f : Option TableFault). or_later f (trees_fault digest (a ++ b) (with_object (tree_name digest es) (tree_content es) os))) parts.0
       ∙ fault-append a b (with_object (tree_name digest es) (tree_content es) os) parts.1
 
   later_fault : (f : Option TableFault) (x y : Option Fault) (e : Fault) → (x ≡ Some e → y ≡ Some e)
@@ -62,7 +63,8 @@ module _ (digest : List ℕ → List ℕ) where
       → trees_fault digest a os ≡ Some e → trees_fault digest (a ++ b) os ≡ Some e
   fault-front [] b os e h = cc h
   fault-front (es ∷ a) b os e h =
-      later_fault (store_fault (tree_name digest es) (tree_content es) os) _ _ e (fault-front a b (with_object (tree_name digest es) (tree_content es) os) e) h
+      later_fault (store_fault (tree_name digest es) (tree_content es) os) _ _ e
+      (fault-front a b (with_object (tree_name digest es) (tree_content es) os) e) h
 
   -- ---- calls one after another
 
@@ -120,7 +122,8 @@ module _ (digest : List ℕ → List ℕ) where
     refusal = λ ne.
         ap (λ (t : List (List TreeEntry)). trees_fault digest t (objects p u.entries)) is
         ∙ fault-append a (b ++ more) (objects p u.entries) none
-        ∙ fault-front b more (with_trees digest a (objects p u.entries)) e (subst (λ (os : List Object). trees_fault digest b os ≡ Some e) first.objects (second.refusal ne));
+        ∙ fault-front b more (with_trees digest a (objects p u.entries)) e
+        (subst (λ (os : List Object). trees_fault digest b os ≡ Some e) first.objects (second.refusal ne));
   }
 
   -- ---- one tree
@@ -138,7 +141,8 @@ module _ (digest : List ℕ → List ℕ) where
     others = others;
     objects =
         adds.objects
-        ∙ ap (λ (b : List ℕ). with_object (name_by digest (content_from kind.Tree b)) (content_from kind.Tree b) (objects p u.entries)) is;
+        ∙ ap
+        (λ (b : List ℕ). with_object (name_by digest (content_from kind.Tree b)) (content_from kind.Tree b) (objects p u.entries)) is;
     committed = adds.committed;
     kept =
         summaries-kept digest p q u v (content_from kind.Tree bytes) s stands refl fits none adds;
@@ -149,7 +153,8 @@ module _ (digest : List ℕ → List ℕ) where
       → store_fault (name_by digest (content_from kind.Tree bytes)) (content_from kind.Tree bytes) os ≡ None
       → trees_fault digest (es ∷ []) os ≡ None
   unrefused-one es bytes os is none =
-      ap (λ (f : Option TableFault). or_later f None) (ap (λ (b : List ℕ). store_fault (name_by digest (content_from kind.Tree b)) (content_from kind.Tree b) os) (sym is) ∙ none)
+      ap (λ (f : Option TableFault). or_later f None)
+      (ap (λ (b : List ℕ). store_fault (name_by digest (content_from kind.Tree b)) (content_from kind.Tree b) os) (sym is) ∙ none)
 
   refused_by : (e : TableFault) (f : Option TableFault) (id : List ℕ)
       → Answers {name = List ℕ} (Err e) id f → as_fault e ≢ fault.Memory
@@ -158,7 +163,8 @@ module _ (digest : List ℕ → List ℕ) where
   refused_by table.NameCollision f id h ne = ap (λ (x : Option TableFault). or_later x None) h
   refused_by table.Memory f id h ne = absurd (ne refl)
 
-  pub refused-one : (p q : Cells) (u v : View) (es : List TreeEntry) (bytes : List ℕ) (e : TableFault) (id : List ℕ)
+  pub refused-one : (p q : Cells) (u v : View) (es : List TreeEntry) (bytes : List ℕ)
+      (e : TableFault) (id : List ℕ)
       → bytes ≡ tree_contents es
       → StandsIn digest p u.entries → HasRoomBeside p u.entries
       → Answers {name = List ℕ} (Err e) id (store_fault (name_by digest (content_from kind.Tree bytes)) (content_from kind.Tree bytes) (objects p u.entries))
@@ -168,9 +174,12 @@ module _ (digest : List ℕ → List ℕ) where
     rest = es ∷ [];
     parts = refl;
     adds =
-        subst (λ (x : View). AddsTrees digest p u q x []) (sym same.0) (subst (λ (y : Cells). AddsTrees digest p u y u []) (sym same.1) (adds-none p u stands room));
+        subst (λ (x : View). AddsTrees digest p u q x []) (sym same.0)
+        (subst (λ (y : Cells). AddsTrees digest p u y u []) (sym same.1) (adds-none p u stands room));
     refusal = λ ne.
-        ap (λ (b : List ℕ). or_later (store_fault (name_by digest (content_from kind.Tree b)) (content_from kind.Tree b) (objects p u.entries)) None) (sym is)
+        ap
+        (λ (b : List ℕ). or_later (store_fault (name_by digest (content_from kind.Tree b)) (content_from kind.Tree b) (objects p u.entries)) None)
+        (sym is)
         ∙ refused_by e _ id answer (λ m. ne (named ∙ m)) ∙ ap Some (sym named);
   }
 
@@ -186,7 +195,8 @@ module _ (digest : List ℕ → List ℕ) where
       ap (trees_of deep) (take_more gs i x lt ∙ ap (λ (y : Group). take i gs ++ y ∷ []) (sym at))
       ∙ ap (flat_map (group_trees digest deep)) (map-append group_of (take i gs) (x ∷ []))
       ∙ flat_map-append (group_trees digest deep) (groups_of (take i gs)) (group_of x ∷ [])
-      ∙ ap (λ (t : List (List TreeEntry)). trees_of deep (take i gs) ++ t) (append-nil (group_trees digest deep (group_of x)))
+      ∙ ap (λ (t : List (List TreeEntry)). trees_of deep (take i gs) ++ t)
+      (append-nil (group_trees digest deep (group_of x)))
 
   pub parted : (deep : ℕ) (gs : List Group) (i : ℕ)
       → trees_of deep gs ≡ trees_of deep (take i gs) ++ trees_of deep (drop i gs)
@@ -216,7 +226,9 @@ module _ (digest : List ℕ → List ℕ) where
   unfolding trees_within
   trees-any zero fs gs each h are =
       ap (λ (es : List TreeEntry). es ∷ []) (sym (entries-nil digest 0 fs refl))
-      ∙ ap (λ (g : List (List ℕ × Listed)). flat_map (group_trees digest (0 - 1)) g ++ entries_within digest 0 fs ∷ []) (sym (are ∙ ap grouped (nowhere fs each h)))
+      ∙ ap
+      (λ (g : List (List ℕ × Listed)). flat_map (group_trees digest (0 - 1)) g ++ entries_within digest 0 fs ∷ [])
+      (sym (are ∙ ap grouped (nowhere fs each h)))
   trees-any (suc n) fs gs each h are =
       rw (one_less n) (ap (λ (g : List (List ℕ × Listed)). flat_map (group_trees digest n) g ++ entries_within digest (suc n) fs ∷ []) (sym are))
 

@@ -9,9 +9,9 @@ use Rattle.tenant_tables.specs.Objects.{objects}
 use Rattle.tenant_tables.specs.StandsIn.{StandsIn}
 use Rattle.tenant_tables.proofs.TableLemmas.{LeavesOthers-refl}
 use Rattle.tree_build.specs.FileMap.{Listed}
-use Rattle.tree_build.specs.Trees.{depth_of, tree_name, entries_within, trees_within}
+use Rattle.tree_build.specs.Trees.{depth_of, tree_name, entries_within}
 use Rattle.tree_build.specs.Below.{group_trees}
-use Rattle.tree_build.specs.StoredTree.{HasTree, ListsTree}
+use Rattle.tree_build.specs.StoredTree.{ListsTree}
 use Rattle.tree_build.specs.Storing.{AddsTrees, HasRoomBeside, trees_fault}
 use Rattle.tree_build.proofs.Listing.{tree-sound}
 use Rattle.tree_build.proofs.StandingGood.{trees-good}

@@ -77,14 +77,16 @@ pub below-one : (c : Bytes) (d : Bytes) (q : Path) (e : Entry)
     → table.below c (files_summary (((d ∷ q), e) ∷ [])) ≡ path_summary (c ∷ d ∷ q)
 below-one c d q e =
     below-some c ((d ∷ q), e) []
-    ∙ (let n = length-append c (47 ∷ joined (d ∷ q)) in same_summary _ _ refl (omega arith) (omega arith))
+    ∙
+    (let n = length-append c (47 ∷ joined (d ∷ q)) in same_summary _ _ refl (omega arith) (omega arith))
 
 -- and beside others
 pub below-more : (c : Bytes) (d : Bytes) (q : Path) (e : Entry) (f : Path × Entry) (fs : Listed)
     → table.below c (files_summary (((d ∷ q), e) ∷ f ∷ fs)) ≡ table.both (path_summary (c ∷ d ∷ q)) (table.below c (files_summary (f ∷ fs)))
 below-more c d q e f fs =
     below-some c ((d ∷ q), e) (f ∷ fs)
-    ∙ (let n = length-append c (47 ∷ joined (d ∷ q)) in same_summary _ _ (omega arith) (omega arith) (omega arith))
+    ∙
+    (let n = length-append c (47 ∷ joined (d ∷ q)) in same_summary _ _ (omega arith) (omega arith) (omega arith))
     ∙ ap (table.both (path_summary (c ∷ d ∷ q))) (sym (below-some c f fs))
 
 -- a group that a file joins has no file at its name, nor has the file
@@ -101,7 +103,8 @@ joined-sum c q e (d, (([], f) ∷ fs)) same j = absurd j
 joined-sum c [] e (d, (((x ∷ r), f) ∷ fs)) same j = absurd j
 joined-sum c (y ∷ q) e (d, (((x ∷ r), f) ∷ fs)) same j =
     below-more c y q e ((x ∷ r), f) fs
-    ∙ ap (λ (n : Bytes). table.both (path_summary (c ∷ y ∷ q)) (table.below n (files_summary (((x ∷ r), f) ∷ fs)))) same
+    ∙ ap
+    (λ (n : Bytes). table.both (path_summary (c ∷ y ∷ q)) (table.below n (files_summary (((x ∷ r), f) ∷ fs)))) same
 
 one-sum : (c : Bytes) (q : Path) (e : Entry) → group_sum (c, (q, e) ∷ []) ≡ path_summary (c ∷ q)
 one-sum c [] e = refl
@@ -194,12 +197,15 @@ module _ (digest : List ℕ → List ℕ) (deep : ℕ) where
           map (direct_of digest deep) (grouped fs),
           record {
             writable =
-                can_write_tree digest deep bound (grouped fs) groups (groups-rise fs (all-weaker IsFile (λ f. IsPath f.0) (λ f k. k.path) fs h.each) h.in_order h.apart) ids;
+                can_write_tree digest deep bound (grouped fs) groups
+                (groups-rise fs (all-weaker IsFile (λ f. IsPath f.0) (λ f k. k.path) fs h.each) h.in_order h.apart) ids;
             contents = contents;
             directories =
-                All-from_recursion (table.DirectoryStands held) (map (direct_of digest deep) (grouped fs)) (stand (grouped fs) groups known);
+                All-from_recursion (table.DirectoryStands held)
+                (map (direct_of digest deep) (grouped fs)) (stand (grouped fs) groups known);
             sums =
-                sym (groups-sum fs (all-weaker IsFile (λ f. f.0 ≢ []) (λ f k. k.below_the_root) fs h.each) h.apart)
+                sym
+                (groups-sum fs (all-weaker IsFile (λ f. f.0 ≢ []) (λ f k. k.below_the_root) fs h.each) h.apart)
                 ∙ sym (none-both (groups_sum (grouped fs)))
                 ∙ sym (fold-sums table.no_files (map group_sum (grouped fs)))
                 ∙ ap (fold table.both table.no_files) (sym (entries-sum (grouped fs) groups known));

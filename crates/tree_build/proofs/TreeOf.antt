@@ -29,7 +29,8 @@ depth_within (f ∷ fs) n h = let one = h.0 in let rest = depth_within fs n h.1 
 depth-groups : (fs : Listed) (n : ℕ) → depth_of fs ≤ suc n
     → AllByRecursion (λ g. depth_of g.1 ≤ n) (grouped fs)
 depth-groups fs n h =
-    all-weaker (λ (g : List ℕ × Listed). AllByRecursion (λ f. suc (length f.0) ≤ suc n) g.1) (λ g. depth_of g.1 ≤ n)
+    all-weaker (λ (g : List ℕ × Listed). AllByRecursion (λ f. suc (length f.0) ≤ suc n) g.1)
+    (λ g. depth_of g.1 ≤ n)
     (λ g k. depth_within g.1 n k) (grouped fs)
     (grouped-all (λ (f : File). length f.0 ≤ suc n) fs (depth_each fs (suc n) h))
 

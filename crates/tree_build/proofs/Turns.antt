@@ -60,12 +60,14 @@ entry-id g id = by (file_of g.1)
     by (Some e) = refl
     by None = refl
 
-pub ids_turn : (g : List ℕ × Listed) (id : List ℕ) (e : declared.TreeEntry) (old new : List declared.TreeEntry)
+pub ids_turn : (g : List ℕ × Listed) (id : List ℕ) (e : declared.TreeEntry)
+    (old new : List declared.TreeEntry)
     → IsObjectName id → entry_of e ≡ entry_by g id
     → AllByRecursion (λ e. IsObjectName e.id) (entries_of old) → new ≡ old ++ e ∷ []
     → AllByRecursion (λ e. IsObjectName e.id) (entries_of new)
 ids_turn g id e old new named entry sofar is =
-    subst (AllByRecursion (λ e. IsObjectName e.id)) (sym (ap entries_of is ∙ map-append entry_of old (e ∷ [])))
+    subst (AllByRecursion (λ e. IsObjectName e.id))
+    (sym (ap entries_of is ∙ map-append entry_of old (e ∷ [])))
     (all-append (λ (t : TreeEntry). IsObjectName t.id) (entries_of old) (entry_of e) sofar (subst IsObjectName (sym (ap (λ (t : TreeEntry). t.id) entry ∙ entry-id g id)) named))
 
 module _ (digest : List ℕ → List ℕ) (deep : ℕ) where
@@ -85,7 +87,8 @@ module _ (digest : List ℕ → List ℕ) (deep : ℕ) where
       → IsKnownGroup digest deep new (group_of x)
       → AllByRecursion (IsKnownGroup digest deep new) (groups_of (take (i + 1) gs))
   known_turn old new kept gs i x lt at h k =
-      subst (λ (l : List Group). AllByRecursion (IsKnownGroup digest deep new) (groups_of l)) (sym (take_more gs i x lt ∙ ap (λ (y : Group). take i gs ++ y ∷ []) (sym at)))
+      subst (λ (l : List Group). AllByRecursion (IsKnownGroup digest deep new) (groups_of l))
+      (sym (take_more gs i x lt ∙ ap (λ (y : Group). take i gs ++ y ∷ []) (sym at)))
       (subst (AllByRecursion (IsKnownGroup digest deep new)) (sym (map-append group_of (take i gs) (x ∷ [])))
       (all-append (IsKnownGroup digest deep new) (groups_of (take i gs)) (group_of x) (known-kept old new kept (groups_of (take i gs)) h) k))
 
@@ -94,28 +97,33 @@ module _ (digest : List ℕ → List ℕ) (deep : ℕ) where
         → AddsTrees digest q v r w (group_trees digest deep (group_of x))
         → AddsTrees digest p u r w (trees_of digest deep (take (i + 1) gs))
     adds_turn first second =
-        subst (AddsTrees digest p u r w) (sym (one_more digest deep gs i x lt at)) (adds-then digest p q r u v w _ _ first second)
+        subst (AddsTrees digest p u r w) (sym (one_more digest deep gs i x lt at))
+        (adds-then digest p q r u v w _ _ first second)
 
     pub unrefused_turn : AddsTrees digest p u q v (trees_of digest deep (take i gs))
         → trees_fault digest (trees_of digest deep (take i gs)) (objects p u.entries) ≡ None
         → trees_fault digest (group_trees digest deep (group_of x)) (objects q v.entries) ≡ None
         → trees_fault digest (trees_of digest deep (take (i + 1) gs)) (objects p u.entries) ≡ None
     unrefused_turn first none more =
-        ap (λ (t : List (List TreeEntry)). trees_fault digest t (objects p u.entries)) (one_more digest deep gs i x lt at)
+        ap (λ (t : List (List TreeEntry)). trees_fault digest t (objects p u.entries))
+        (one_more digest deep gs i x lt at)
         ∙ unrefused-then digest p q u v _ _ first none more
 
     split : (all last : List (List TreeEntry)) → all ≡ trees_of digest deep gs ++ last
         → all ≡ trees_of digest deep (take (i + 1) gs) ++ (trees_of digest deep (drop (i + 1) gs) ++ last)
     split all last is =
         is ∙ ap (λ (t : List (List TreeEntry)). t ++ last) (parted digest deep gs (i + 1))
-        ∙ append_assoc (trees_of digest deep (take (i + 1) gs)) (trees_of digest deep (drop (i + 1) gs)) last
+        ∙ append_assoc (trees_of digest deep (take (i + 1) gs))
+        (trees_of digest deep (drop (i + 1) gs)) last
 
     pub stopped_here : (all last : List (List TreeEntry)) → all ≡ trees_of digest deep gs ++ last
         → AddsTrees digest p u q v (trees_of digest deep (take i gs))
         → AddsTrees digest q v r w (group_trees digest deep (group_of x))
         → AddsSome digest p u r w all fault.Memory
     stopped_here all last is first second =
-        stopped digest p r u w all (trees_of digest deep (take (i + 1) gs)) (trees_of digest deep (drop (i + 1) gs) ++ last) (adds_turn first second) (split all last is)
+        stopped digest p r u w all (trees_of digest deep (take (i + 1) gs))
+        (trees_of digest deep (drop (i + 1) gs) ++ last) (adds_turn first second)
+        (split all last is)
 
     pub refused_here : (all last : List (List TreeEntry)) (e : Fault)
         → all ≡ trees_of digest deep gs ++ last
@@ -124,12 +132,15 @@ module _ (digest : List ℕ → List ℕ) (deep : ℕ) where
         → AddsSome digest q v r w (group_trees digest deep (group_of x)) e
         → AddsSome digest p u r w all e
     refused_here all last e is first none second =
-        some-then digest p q r u v w all (trees_of digest deep (take i gs)) (group_trees digest deep (group_of x)) (trees_of digest deep (drop (i + 1) gs) ++ last) e first none second
+        some-then digest p q r u v w all (trees_of digest deep (take i gs))
+        (group_trees digest deep (group_of x))
+        (trees_of digest deep (drop (i + 1) gs) ++ last) e first none second
         (split all last is ∙ ap (λ (t : List (List TreeEntry)). t ++ (trees_of digest deep (drop (i + 1) gs) ++ last)) (one_more digest deep gs i x lt at)
         ∙ append_assoc (trees_of digest deep (take i gs)) (group_trees digest deep (group_of x)) (trees_of digest deep (drop (i + 1) gs) ++ last))
 
   -- the last tree, after all others
-  pub stores-last : (answer : Result (List ℕ) Fault) (p q r : Cells) (u v w : View) (all a : List (List TreeEntry)) (es : List TreeEntry) (id : List ℕ)
+  pub stores-last : (answer : Result (List ℕ) Fault) (p q r : Cells) (u v w : View)
+      (all a : List (List TreeEntry)) (es : List TreeEntry) (id : List ℕ)
       → AddsTrees digest p u q v a
       → trees_fault digest a (objects p u.entries) ≡ None → all ≡ a ++ es ∷ []
       → StoresTrees answer digest q v r w (es ∷ []) id → StoresTrees answer digest p u r w all id
@@ -140,7 +151,8 @@ module _ (digest : List ℕ → List ℕ) (deep : ℕ) where
     subst (AddsTrees digest p u r w) (sym is) (adds-then digest p q r u v w a (es ∷ []) first h.2),
   )
   stores-last (Err e) p q r u v w all a es id first none is h =
-      some-then digest p q r u v w all a (es ∷ []) [] e first none h (is ∙ ap (λ (t : List (List TreeEntry)). a ++ t) (sym (append-nil (es ∷ []))))
+      some-then digest p q r u v w all a (es ∷ []) [] e first none h
+      (is ∙ ap (λ (t : List (List TreeEntry)). a ++ t) (sym (append-nil (es ∷ []))))
 
   -- at the end of the loop all groups are stored
   pub all_trees : (gs : List Group) (i : ℕ) → length gs ≤ i

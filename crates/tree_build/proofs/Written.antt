@@ -97,7 +97,8 @@ module _ (digest : List ℕ → List ℕ) (deep bound : ℕ) where
   pub tree_order : (gs : Groups) → AllByRecursion (IsGroup bound) gs → GroupsRise gs
       → IsSorted tree_cmp (map (direct_of digest deep) gs)
   tree_order gs h r k d low high =
-      not_before (order_key (get_or (map (direct_of digest deep) gs) k d)) (order_key (get_or (map (direct_of digest deep) gs) (k + 1) d))
+      not_before (order_key (get_or (map (direct_of digest deep) gs) k d))
+      (order_key (get_or (map (direct_of digest deep) gs) (k + 1) d))
       (keys_rise gs h r k (k + 1) d (omega arith) high)
 
   pub can_write_tree : (gs : Groups) → AllByRecursion (IsGroup bound) gs → GroupsRise gs

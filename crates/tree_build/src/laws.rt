@@ -1,11 +1,12 @@
 //! Laws of file maps: functions over the definitions alone, which run nothing.
 
-ghost use Rattle.std.specs.Prelude.{◌≡◌, ℕ, List, [], Some};
+ghost use Rattle.std.specs.Prelude.{◌≡◌, ℕ, List, [], ◌∷◌, ◌++◌, Some};
 ghost use Rattle.std.specs.FinMap as finmap;
 ghost use Rattle.git_model.specs.declared.kind.Kind.TheVariants as kind;
-ghost use Rattle.git_model.specs.GoodRepository.{AreObjects};
+ghost use Rattle.git_model.specs.GoodRepository.{AreObjects, MayAdd};
 ghost use Rattle.git_model.specs.References.{kind_named};
-ghost use Rattle.git_model.specs.Repository.{Object};
+ghost use Rattle.git_model.specs.Repository.{Object, Repository};
+ghost use Rattle.git_model.specs.RefStore.{no_refs};
 ghost use Rattle.git_model.specs.Tree.{TreeEntry};
 ghost use Rattle.content_pool.specs.Pool.{Cells};
 ghost use Rattle.tenant_tables.specs.View.{Entries, summary_of};
@@ -19,6 +20,7 @@ ghost use Rattle.tree_build.specs.StoredTree.{HasTree, ListsTree, AreFilesOf};
 ghost use Rattle.tree_build.specs.Storable.{files_summary};
 ghost use Rattle.tree_build.specs.Storing.{with_trees};
 ghost use Rattle.tree_build.specs.StoredFiles.{stored_files};
+ghost use Rattle.tree_build.specs.GoodTrees.{IsTreeOfFiles, IsRepository};
 ghost use Rattle.tree_build.specs.StoredAgain.{AreTreesGood, IsStoredAlready};
 
 /// The files below any path, taken by neighbours with one first component, are the files at or
@@ -96,4 +98,19 @@ pub fn stored_files_stay()
     ensures { (digest : List ℕ → List ℕ) (trees : List (List TreeEntry)) (os : List Object)
         (id : List ℕ) (files : Listed) → ListsTree os id files
         → ListsTree (with_trees digest trees os) id files }
+{}
+
+/// A good repository stays good where an object is added that may be, and, if it is a tree, has the
+/// files of a file map within the limits.
+pub fn one_more_object_keeps_a_repository()
+    ensures { (digest : List ℕ → List ℕ) (r : Repository) (o : Object)
+        → IsRepository digest r → MayAdd digest r.objects o
+        → (o.content.kind ≡ kind.Tree → IsTreeOfFiles (r.objects ++ o ∷ []) o.id)
+        → IsRepository digest (record r { objects = r.objects ++ o ∷ [] }) }
+{}
+
+/// A repository with no objects and no refs is good.
+pub fn an_empty_repository_is_good()
+    ensures { (digest : List ℕ → List ℕ)
+        → IsRepository digest (record { objects = []; refs = no_refs }) }
 {}

@@ -2,4 +2,5 @@ use Rattle.std.proofs.Common.{◌≡◌, ◌-◌, ◌^◌, min, take, length, su
 use Rattle.pool_tests.proofs.plain_pool.total_size.Given as goal
 
 abbrev pub invariant-loop-cell : goal.invariant-loop-cell
-invariant-loop-cell l = l.total ≡ min (sum_by (λ e. length e.bytes) (take l.cell-index l.cells)) (2 ^ 64 - 1)
+invariant-loop-cell l =
+    l.total ≡ min (sum_by (λ e. length e.bytes) (take l.cell-index l.cells)) (2 ^ 64 - 1)

@@ -4,4 +4,5 @@ use Rattle.pool_tests.proofs.pools.answer_alike.Given as goal
 
 -- each turn adds one hold at most
 abbrev pub invariant-loop-bytes : goal.invariant-loop-bytes
-invariant-loop-bytes l = ((s : ℕ) → holds l.pool s ≤ l.bytes-index) × ((s : ℕ) → holds l.plain s ≤ l.bytes-index)
+invariant-loop-bytes l =
+    ((s : ℕ) → holds l.pool s ≤ l.bytes-index) × ((s : ℕ) → holds l.plain s ≤ l.bytes-index)

@@ -13,10 +13,12 @@ pushed c =
     elim c.match-cut_off.branch [
       | in-Some+in_ok-push-in-Some w ↦
           ap (λ v. v.items) w.below-is ∙ w.in_ok-push-in-Some.ensures.items
-          ∙ ap (λ (o : Option Below). c.loop-file.below.items ++ option_to_list o) (sym w.in-Some.is)
+          ∙ ap (λ (o : Option Below). c.loop-file.below.items ++ option_to_list o)
+          (sym w.in-Some.is)
       | in-None w ↦
           ap (λ v. v.items) w.below-is ∙ sym (append-nil c.loop-file.below.items)
-          ∙ ap (λ (o : Option Below). c.loop-file.below.items ++ option_to_list o) (sym w.in-None.is)
+          ∙ ap (λ (o : Option Below). c.loop-file.below.items ++ option_to_list o)
+          (sym w.in-None.is)
     ]
 
 pub loop-file-preserved : goal.loop-file-preserved

@@ -17,4 +17,5 @@ returns-in_ok-below-in-Some c =
 
 pub returns-in-None : goal.returns-in-None
 returns-in-None c =
-    no_group (files_below c.args.files.now) (sym c.next_name.ensures ∙ ap (λ (o : Option (Bor (List ℕ))). option_map (λ name. name.now) o) c.in-None.is)
+    no_group (files_below c.args.files.now)
+    (sym c.next_name.ensures ∙ ap (λ (o : Option (Bor (List ℕ))). option_map (λ name. name.now) o) c.in-None.is)

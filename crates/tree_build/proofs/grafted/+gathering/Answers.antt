@@ -18,13 +18,16 @@ returns-then-has_none-clause-gathers g t c =
 
 pub loop-entry-init : goal.loop-entry-init
 loop-entry-init g t c = record {
-  gathered = gathers-none (objects c.args.pool.now c.args.table.now.entries) c.args.top.now c.args.files.now.items;
+  gathered =
+      gathers-none
+      (objects c.args.pool.now c.args.table.now.entries) c.args.top.now c.args.files.now.items;
   paths = c.requires.paths;
 }
 
 pub child-requires : goal.child-requires
 child-requires g t c =
-    component_at (objects c.args.pool.now c.args.table.now.entries) c.args.id.now c.deref-entry-items.result.now c.loop-entry.entry-index c.entry-item.result
+    component_at
+    (objects c.args.pool.now c.args.table.now.entries) c.args.id.now c.deref-entry-items.result.now c.loop-entry.entry-index c.entry-item.result
     (subst (λ (l : List TreeEntry). HasTree (objects c.args.pool.now c.args.table.now.entries) c.args.id.now (entries_of l)) (sym c.deref-entry-items.ensures.value) c.in_ok-entries.ensures)
     c.loop-entry-test.true c.entry-item.is
 
@@ -43,18 +46,24 @@ Turned os top xs n old l = record { gathered : GathersSome os top (entries_of (t
 pub loop-entry-preserved : goal.loop-entry-preserved
 loop-entry-preserved g t c = elim c.match-entry.branch [
   | in-Directory+in_ok-gather-in-Directory w ↦
-      subst (λ (l : Listed). Turned (objects c.args.pool.now c.args.table.now.entries) c.args.top.now c.deref-entry-items.result.now (c.loop-entry.entry-index + 1) c.args.files.now.items l) (sym (ap (λ v. v.items) w.files-is))
+      subst
+      (λ (l : Listed). Turned (objects c.args.pool.now c.args.table.now.entries) c.args.top.now c.deref-entry-items.result.now (c.loop-entry.entry-index + 1) c.args.files.now.items l)
+      (sym (ap (λ v. v.items) w.files-is))
       (record {
         gathered =
-            directory_turn (objects c.args.pool.now c.args.table.now.entries) c.args.top.now c.deref-entry-items.result.now c.loop-entry.entry-index c.entry-item.result c.loop-entry-test.true c.entry-item.is
+            directory_turn
+            (objects c.args.pool.now c.args.table.now.entries) c.args.top.now c.deref-entry-items.result.now c.loop-entry.entry-index c.entry-item.result c.loop-entry-test.true c.entry-item.is
             c.in_ok-path.path c.args.files.now.items c.loop-entry.files.items w.gather.new.files.items w.in-Directory.is c.in_ok-path.ensures w.in_ok-gather-in-Directory.ensures.gathers c.loop-entry.invariant.gathered;
         paths = w.in_ok-gather-in-Directory.ensures.paths;
       })
   | in_default+in_ok-push_file-in_default w ↦
-      subst (λ (l : Listed). Turned (objects c.args.pool.now c.args.table.now.entries) c.args.top.now c.deref-entry-items.result.now (c.loop-entry.entry-index + 1) c.args.files.now.items l) (sym (ap (λ v. v.items) w.files-is))
+      subst
+      (λ (l : Listed). Turned (objects c.args.pool.now c.args.table.now.entries) c.args.top.now c.deref-entry-items.result.now (c.loop-entry.entry-index + 1) c.args.files.now.items l)
+      (sym (ap (λ v. v.items) w.files-is))
       (record {
         gathered =
-            file_turn (objects c.args.pool.now c.args.table.now.entries) c.args.top.now c.deref-entry-items.result.now c.loop-entry.entry-index c.entry-item.result c.loop-entry-test.true c.entry-item.is
+            file_turn
+            (objects c.args.pool.now c.args.table.now.entries) c.args.top.now c.deref-entry-items.result.now c.loop-entry.entry-index c.entry-item.result c.loop-entry-test.true c.entry-item.is
             c.in_ok-path.path c.args.files.now.items c.loop-entry.files.items w.push_file.new.files.items w.in_default.not-Directory c.in_ok-path.ensures w.in_ok-push_file-in_default.ensures.file c.loop-entry.invariant.gathered;
         paths = w.in_ok-push_file-in_default.ensures.paths;
       })
@@ -63,7 +72,8 @@ loop-entry-preserved g t c = elim c.match-entry.branch [
 pub returns : goal.returns
 returns g t c = record {
   gathers =
-      gathers-all (objects c.args.pool.now c.args.table.now.entries) c.args.top.now c.args.id.now c.deref-entry-items.result.now c.loop-entry.entry-index c.args.files.now.items c.loop-entry.files.items
+      gathers-all
+      (objects c.args.pool.now c.args.table.now.entries) c.args.top.now c.args.id.now c.deref-entry-items.result.now c.loop-entry.entry-index c.args.files.now.items c.loop-entry.files.items
       c.loop-entry-test.false
       (subst (λ (l : List TreeEntry). HasTree (objects c.args.pool.now c.args.table.now.entries) c.args.id.now (entries_of l)) (sym c.deref-entry-items.ensures.value) c.in_ok-entries.ensures)
       c.loop-entry.invariant.gathered;

@@ -25,4 +25,5 @@ pub returns : goal.returns
 returns g c =
     let found = subst (λ (o : Option (Vec TreeEntry)). IfSome o (λ es. CanWriteTree (entries_of es.items) × (c.get.result.1.now ≡ tree_contents (entries_of es.items)))) c.unwrap.ensures c.in_ok-entries.ensures.found in
     read_tree g.N.Naming.digest_of c.args.pool.now c.args.table.now.entries c.requires.stands c.args.id.now c.unwrap-slot.result c.get.result.0 c.get.result.1.now
-    c.requires.tree (sym c.unwrap-slot.ensures ∙ c.find.ensures) c.get.ensures (entries_of c.unwrap.result.items) found.0 found.1
+    c.requires.tree (sym c.unwrap-slot.ensures ∙ c.find.ensures) c.get.ensures
+    (entries_of c.unwrap.result.items) found.0 found.1

@@ -5,4 +5,5 @@ use Rattle.tree_build.proofs.map.drop_below.Goals as goal
 
 pub returns : goal.returns
 returns c =
-    filter_same_pairs _ (λ f. is_outside c.args.top.now f.0) _ (λ k v b w f' t. search rules) _ _ c.retain.ensures.filtered
+    filter_same_pairs _ (λ f. is_outside c.args.top.now f.0) _
+    (λ k v b w f' t. search rules) _ _ c.retain.ensures.filtered

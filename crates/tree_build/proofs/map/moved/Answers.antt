@@ -10,4 +10,5 @@ loop-path-preserved-in_ok-push-in-Some-behind c =
 pub loop-path-preserved : goal.loop-path-preserved
 loop-path-preserved c =
     c.loop-path.invariant
-    ∙ sym (moved_none c.args.to.now c.args.from.now c.loop-path.yielded c.in-Some.path c.in-Some.entry (sym c.in-None-behind.is ∙ c.behind.ensures))
+    ∙ sym
+    (moved_none c.args.to.now c.args.from.now c.loop-path.yielded c.in-Some.path c.in-Some.entry (sym c.in-None-behind.is ∙ c.behind.ensures))

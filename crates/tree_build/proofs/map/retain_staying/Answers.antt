@@ -6,4 +6,5 @@ use Rattle.tree_build.proofs.map.retain_staying.Goals as goal
 
 pub returns : goal.returns
 returns c =
-    filter_same_pairs _ (λ f. stays (option_copied c.args.from) c.args.to.now f.0) _ (λ k v b w f' t. search rules) _ _ c.retain.ensures.filtered
+    filter_same_pairs _ (λ f. stays (option_copied c.args.from) c.args.to.now f.0) _
+    (λ k v b w f' t. search rules) _ _ c.retain.ensures.filtered

@@ -25,13 +25,15 @@ use Rattle.tree_build.proofs.storing.+storing.Goals as goal
 
 pub store_trees-returns-in-Err-clause-stores : goal.store_trees-returns-in-Err-clause-stores
 store_trees-returns-in-Err-clause-stores g t c =
-    stopped g.N.Naming.digest_of _ _ _ _ _ [] (trees_within g.N.Naming.digest_of c.args.deep (files_below c.args.files.now))
+    stopped g.N.Naming.digest_of _ _ _ _ _ []
+    (trees_within g.N.Naming.digest_of c.args.deep (files_below c.args.files.now))
     (adds-none g.N.Naming.digest_of c.args.pool.now c.args.table.now c.requires.stands c.requires.room) refl
 
 pub store_trees-overflow_sub-deep : goal.store_trees-overflow_sub-deep
 store_trees-overflow_sub-deep g t c =
     let are = ap groups_of c.deref-group-items.ensures.value ∙ c.in-Ok.ensures in
-    deep_some (files_below c.args.files.now) c.loop-group.group-index c.args.deep c.requires.files.each c.requires.deep
+    deep_some
+    (files_below c.args.files.now) c.loop-group.group-index c.args.deep c.requires.files.each c.requires.deep
     (subst (λ n. c.loop-group.group-index < n) (sym (length-map c.deref-group-items.result.now group_of) ∙ ap length are) c.loop-group-test.true)
 
 pub store_trees-store_group-requires : goal.store_trees-store_group-requires
@@ -42,7 +44,8 @@ store_trees-store_group-requires g t c κs within =
       (
         search (rules, within),
         (
-          each-storable c.args.deep (files_below c.args.files.now) c.deref-group-items.result.now c.loop-group.group-index c.group-item.result c.requires.files c.requires.deep are c.loop-group-test.true c.group-item.is,
+          each-storable c.args.deep
+              (files_below c.args.files.now) c.deref-group-items.result.now c.loop-group.group-index c.group-item.result c.requires.files c.requires.deep are c.loop-group-test.true c.group-item.is,
           (c.loop-group.invariant.adds.stands, c.loop-group.invariant.adds.room),
         ),
       ),
@@ -51,33 +54,42 @@ store_trees-store_group-requires g t c κs within =
 pub store_trees-returns-in-Err-store_group-clause-stores : goal.store_trees-returns-in-Err-store_group-clause-stores
 store_trees-returns-in-Err-store_group-clause-stores g t c =
     let are = ap groups_of c.deref-group-items.ensures.value ∙ c.in-Ok.ensures in
-    refused_here g.N.Naming.digest_of (c.args.deep - 1) _ _ _ _ _ _ c.deref-group-items.result.now c.loop-group.group-index c.group-item.result c.loop-group-test.true c.group-item.is
-    _ _ _ (trees-any g.N.Naming.digest_of c.args.deep (files_below c.args.files.now) c.deref-group-items.result.now c.requires.files.each c.requires.deep are)
+    refused_here g.N.Naming.digest_of
+    (c.args.deep - 1) _ _ _ _ _ _ c.deref-group-items.result.now c.loop-group.group-index c.group-item.result c.loop-group-test.true c.group-item.is
+    _ _ _
+    (trees-any g.N.Naming.digest_of c.args.deep (files_below c.args.files.now) c.deref-group-items.result.now c.requires.files.each c.requires.deep are)
     c.loop-group.invariant.adds c.loop-group.invariant.unrefused c.in-Err-store_group.ensures.stores
 
 pub store_trees-returns-then-is_err-clause-stores : goal.store_trees-returns-then-is_err-clause-stores
 store_trees-returns-then-is_err-clause-stores g t c =
     let are = ap groups_of c.deref-group-items.ensures.value ∙ c.in-Ok.ensures in
-    stopped_here g.N.Naming.digest_of (c.args.deep - 1) _ _ _ _ _ _ c.deref-group-items.result.now c.loop-group.group-index c.group-item.result c.loop-group-test.true c.group-item.is
-    _ _ (trees-any g.N.Naming.digest_of c.args.deep (files_below c.args.files.now) c.deref-group-items.result.now c.requires.files.each c.requires.deep are)
+    stopped_here g.N.Naming.digest_of
+    (c.args.deep - 1) _ _ _ _ _ _ c.deref-group-items.result.now c.loop-group.group-index c.group-item.result c.loop-group-test.true c.group-item.is
+    _ _
+    (trees-any g.N.Naming.digest_of c.args.deep (files_below c.args.files.now) c.deref-group-items.result.now c.requires.files.each c.requires.deep are)
     c.loop-group.invariant.adds c.in-Ok-store_group.ensures.stores.2
 
 pub store_trees-loop-group-preserved : goal.store_trees-loop-group-preserved
 store_trees-loop-group-preserved g t c =
     let one = pushed c.push.result c.is_err.result c.push.new.self.items c.loop-group.entries.items c.entry_by.result c.is_err.ensures.negation c.if-is_err.false c.push.ensures.items in record {
       entries =
-          entries_turn g.N.Naming.digest_of (c.args.deep - 1) c.deref-group-items.result.now c.loop-group.group-index c.group-item.result c.in-Ok-store_group.id c.entry_by.result _ _
+          entries_turn g.N.Naming.digest_of
+          (c.args.deep - 1) c.deref-group-items.result.now c.loop-group.group-index c.group-item.result c.in-Ok-store_group.id c.entry_by.result _ _
           c.loop-group-test.true c.group-item.is c.in-Ok-store_group.ensures.stores.0 c.entry_by.ensures c.loop-group.invariant.entries one;
       ids =
-          ids_turn (group_of c.group-item.result) c.in-Ok-store_group.id c.entry_by.result _ _ c.has_twenty_bytes.ensures c.entry_by.ensures c.loop-group.invariant.ids one;
+          ids_turn
+          (group_of c.group-item.result) c.in-Ok-store_group.id c.entry_by.result _ _ c.has_twenty_bytes.ensures c.entry_by.ensures c.loop-group.invariant.ids one;
       adds =
-          adds_turn g.N.Naming.digest_of (c.args.deep - 1) _ _ _ _ _ _ c.deref-group-items.result.now c.loop-group.group-index c.group-item.result c.loop-group-test.true c.group-item.is
+          adds_turn g.N.Naming.digest_of
+          (c.args.deep - 1) _ _ _ _ _ _ c.deref-group-items.result.now c.loop-group.group-index c.group-item.result c.loop-group-test.true c.group-item.is
           c.loop-group.invariant.adds c.in-Ok-store_group.ensures.stores.2;
       unrefused =
-          unrefused_turn g.N.Naming.digest_of (c.args.deep - 1) _ _ c.store_group.new.pool _ _ c.store_group.new.table c.deref-group-items.result.now c.loop-group.group-index c.group-item.result c.loop-group-test.true c.group-item.is
+          unrefused_turn g.N.Naming.digest_of
+          (c.args.deep - 1) _ _ c.store_group.new.pool _ _ c.store_group.new.table c.deref-group-items.result.now c.loop-group.group-index c.group-item.result c.loop-group-test.true c.group-item.is
           c.loop-group.invariant.adds c.loop-group.invariant.unrefused c.in-Ok-store_group.ensures.stores.1;
       known =
-          known_turn g.N.Naming.digest_of (c.args.deep - 1) _ _ c.in-Ok-store_group.ensures.stores.2.kept c.deref-group-items.result.now c.loop-group.group-index c.group-item.result c.loop-group-test.true c.group-item.is
+          known_turn g.N.Naming.digest_of
+          (c.args.deep - 1) _ _ c.in-Ok-store_group.ensures.stores.2.kept c.deref-group-items.result.now c.loop-group.group-index c.group-item.result c.loop-group-test.true c.group-item.is
           c.loop-group.invariant.known c.in-Ok-store_group.ensures.known;
     }
 
@@ -94,7 +106,9 @@ pub store_trees-add_entries-requires-clause-fits : goal.store_trees-add_entries-
 store_trees-add_entries-requires-clause-fits g t c =
     let are = ap groups_of c.deref-group-items.ensures.value ∙ c.in-Ok.ensures in
     let entries = the_entries g.N.Naming.digest_of c.args.deep (files_below c.args.files.now) c.deref-group-items.result.now c.loop-group.group-index c.deref.result.now c.loop-group.entries.items c.loop-group-test.false c.loop-group.invariant.entries are c.deref.ensures.value in
-    subst (λ (s : Summary). FitsTree c.loop-group.table.entries (tree_contents (entries_of c.deref.result.now)) s) (sym c.summary_of.ensures)
+    subst
+    (λ (s : Summary). FitsTree c.loop-group.table.entries (tree_contents (entries_of c.deref.result.now)) s)
+    (sym c.summary_of.ensures)
     (fits-tree g.N.Naming.digest_of (c.args.deep - 1) _ c.loop-group.table.entries (files_below c.args.files.now) (tree_contents (entries_of c.deref.result.now)) refl c.requires.files
     (subst (AllByRecursion (IsKnownGroup g.N.Naming.digest_of (c.args.deep - 1) c.loop-group.table.entries)) (ap groups_of (take_all c.loop-group.group-index c.deref-group-items.result.now c.loop-group-test.false) ∙ are) c.loop-group.invariant.known)
     (subst (AllByRecursion (λ e. IsObjectName e.id)) (ap entries_of (sym c.deref.ensures.value) ∙ entries) c.loop-group.invariant.ids)
@@ -104,9 +118,12 @@ pub store_trees-returns-clause-stores : goal.store_trees-returns-clause-stores
 store_trees-returns-clause-stores g t c =
     let are = ap groups_of c.deref-group-items.ensures.value ∙ c.in-Ok.ensures in
     let entries : entries_of c.deref.result.now ≡ entries_within g.N.Naming.digest_of c.args.deep (files_below c.args.files.now) =
-    the_entries g.N.Naming.digest_of c.args.deep (files_below c.args.files.now) c.deref-group-items.result.now c.loop-group.group-index c.deref.result.now c.loop-group.entries.items c.loop-group-test.false c.loop-group.invariant.entries are c.deref.ensures.value
-    ∙ sym (entries-any g.N.Naming.digest_of c.args.deep (files_below c.args.files.now) c.requires.files.each c.requires.deep) in
-    stores-last g.N.Naming.digest_of (c.args.deep - 1) c.add_entries.result _ _ _ _ _ _ _ (trees_of g.N.Naming.digest_of (c.args.deep - 1) (take c.loop-group.group-index c.deref-group-items.result.now))
+    the_entries g.N.Naming.digest_of c.args.deep
+    (files_below c.args.files.now) c.deref-group-items.result.now c.loop-group.group-index c.deref.result.now c.loop-group.entries.items c.loop-group-test.false c.loop-group.invariant.entries are c.deref.ensures.value
+    ∙ sym
+    (entries-any g.N.Naming.digest_of c.args.deep (files_below c.args.files.now) c.requires.files.each c.requires.deep) in
+    stores-last g.N.Naming.digest_of (c.args.deep - 1) c.add_entries.result _ _ _ _ _ _ _
+    (trees_of g.N.Naming.digest_of (c.args.deep - 1) (take c.loop-group.group-index c.deref-group-items.result.now))
     (entries_within g.N.Naming.digest_of c.args.deep (files_below c.args.files.now)) _
     c.loop-group.invariant.adds c.loop-group.invariant.unrefused
     (trees-any g.N.Naming.digest_of c.args.deep (files_below c.args.files.now) c.deref-group-items.result.now c.requires.files.each c.requires.deep are
@@ -117,7 +134,10 @@ pub store_trees-returns-clause-known : goal.store_trees-returns-clause-known
 store_trees-returns-clause-known g t c =
     let are = ap groups_of c.deref-group-items.ensures.value ∙ c.in-Ok.ensures in
     let entries : entries_of c.deref.result.now ≡ entries_within g.N.Naming.digest_of c.args.deep (files_below c.args.files.now) =
-    the_entries g.N.Naming.digest_of c.args.deep (files_below c.args.files.now) c.deref-group-items.result.now c.loop-group.group-index c.deref.result.now c.loop-group.entries.items c.loop-group-test.false c.loop-group.invariant.entries are c.deref.ensures.value
-    ∙ sym (entries-any g.N.Naming.digest_of c.args.deep (files_below c.args.files.now) c.requires.files.each c.requires.deep) in
-    subst (λ (s : Summary). OnOk c.add_entries.result (summary_of (tree_name g.N.Naming.digest_of (entries_within g.N.Naming.digest_of c.args.deep (files_below c.args.files.now))) c.add_entries.new.table.entries ≡ Some s)) c.summary_of.ensures
+    the_entries g.N.Naming.digest_of c.args.deep
+    (files_below c.args.files.now) c.deref-group-items.result.now c.loop-group.group-index c.deref.result.now c.loop-group.entries.items c.loop-group-test.false c.loop-group.invariant.entries are c.deref.ensures.value
+    ∙ sym
+    (entries-any g.N.Naming.digest_of c.args.deep (files_below c.args.files.now) c.requires.files.each c.requires.deep) in
+    subst
+    (λ (s : Summary). OnOk c.add_entries.result (summary_of (tree_name g.N.Naming.digest_of (entries_within g.N.Naming.digest_of c.args.deep (files_below c.args.files.now))) c.add_entries.new.table.entries ≡ Some s)) c.summary_of.ensures
     (subst (λ (es : List TreeEntry). OnOk c.add_entries.result (summary_of (tree_name g.N.Naming.digest_of es) c.add_entries.new.table.entries ≡ Some c.summary_of.result)) entries c.add_entries.ensures.known)

@@ -14,7 +14,8 @@ pub invariant_of-self : goal.invariant_of-self
 invariant_of-self g c =
     let w = Writes-set c.self.inside.cells.slots c.slot.inside.key _ (Some (record c.index_mut.result.now { holds = c.index_mut.result.now.holds - 1 })) c.index_mut.ensures.value in
     let same : c.index.result.now.holds ≡ c.index_mut.result.now.holds = ap (λ e. e.holds) (same_Some _ _ (sym c.index.ensures ∙ c.index_mut.ensures.value)) in (
-      IsPool-recounted _ _ _ _ _ c.index_mut.ensures.value w _ c.self.invariant.0 (omega (arith, same, c.if-index-gt-LAST.true)),
+      IsPool-recounted _ _ _ _ _ c.index_mut.ensures.value w _ c.self.invariant.0
+          (omega (arith, same, c.if-index-gt-LAST.true)),
       IsIndexed-recounted _ _ _ _ _ c.index_mut.ensures.value w _ c.self.invariant.1,
     )
 

@@ -4,10 +4,14 @@ use Rattle.content_pool.proofs.PoolLemmas.{Writes-behind, IsPool-once, IsPool-st
 use Rattle.content_pool.proofs.pool.Pool.store.Goals as goal
 
 pub returns-in_err-reserve-clause-once : goal.returns-in_err-reserve-clause-once
-returns-in_err-reserve-clause-once g c = subst (λ (p : Cells). HoldsEachOnce p) (sym (ap (λ s. s.slots) c.reserve.ensures.rest_kept)) (IsPool-once _ _ c.self.invariant.0)
+returns-in_err-reserve-clause-once g c =
+    subst (λ (p : Cells). HoldsEachOnce p) (sym (ap (λ s. s.slots) c.reserve.ensures.rest_kept))
+    (IsPool-once _ _ c.self.invariant.0)
 
 pub returns-in_err-note-clause-once : goal.returns-in_err-note-clause-once
-returns-in_err-note-clause-once g c = subst (λ (p : Cells). HoldsEachOnce p) (sym (ap (λ s. s.slots) c.reserve.ensures.rest_kept)) (IsPool-once _ _ c.self.invariant.0)
+returns-in_err-note-clause-once g c =
+    subst (λ (p : Cells). HoldsEachOnce p) (sym (ap (λ s. s.slots) c.reserve.ensures.rest_kept))
+    (IsPool-once _ _ c.self.invariant.0)
 
 pub invariant_of-self-2 : goal.invariant_of-self-2
 invariant_of-self-2 g c =

@@ -4,7 +4,8 @@ use Rattle.pool_tests.proofs.PoolsInLists.{Writes-slots_push, slots_of-vacant}
 use Rattle.pool_tests.proofs.plain_pool.PlainPool.store.Goals as goal
 
 pub returns-in_err-push-clause-once : goal.returns-in_err-push-clause-once
-returns-in_err-push-clause-once g c = rw c.in_err-push.ensures.items (IsPool-once _ _ c.self.invariant)
+returns-in_err-push-clause-once g c =
+    rw c.in_err-push.ensures.items (IsPool-once _ _ c.self.invariant)
 
 pub invariant_of-self-2 : goal.invariant_of-self-2
 invariant_of-self-2 g c =

@@ -4,30 +4,39 @@ use Rattle.tenant_tables.proofs.TableLemmas.{length-objects}
 use Rattle.pool_tests.proofs.plain_table.PlainTable.add.Goals as goal
 
 pub returns-then-bytes-gt-CONTENTS_LIMIT-clause-answer : goal.returns-then-bytes-gt-CONTENTS_LIMIT-clause-answer
-returns-then-bytes-gt-CONTENTS_LIMIT-clause-answer g c = fault-long _ _ _ c.if-bytes-gt-CONTENTS_LIMIT.true
+returns-then-bytes-gt-CONTENTS_LIMIT-clause-answer g c =
+    fault-long _ _ _ c.if-bytes-gt-CONTENTS_LIMIT.true
 
 pub returns-then-unwrap_or-clause-answer : goal.returns-then-unwrap_or-clause-answer
 returns-then-unwrap_or-clause-answer g c = (
   c.in_ok-id.ensures,
-  fault-found _ _ _ _ (rw c.in_ok-id.ensures at c.has_content-there.ensures) c.if-bytes-gt-CONTENTS_LIMIT.false (sym c.if-unwrap_or.ensures),
+  fault-found _ _ _ _
+      (rw c.in_ok-id.ensures at c.has_content-there.ensures) c.if-bytes-gt-CONTENTS_LIMIT.false
+      (sym c.if-unwrap_or.ensures),
 )
 
 pub returns-then-unwrap_or-clause-ok : goal.returns-then-unwrap_or-clause-ok
 returns-then-unwrap_or-clause-ok g c =
-    found_adds _ _ _ _ _ _ _ c.has_content-there.ensures (sym c.if-unwrap_or.ensures) c.in_ok-id.ensures c.requires.stands c.requires.no_tree
+    found_adds _ _ _ _ _ _ _ c.has_content-there.ensures
+    (sym c.if-unwrap_or.ensures) c.in_ok-id.ensures c.requires.stands c.requires.no_tree
 
 pub returns-then-is_full-clause-answer : goal.returns-then-is_full-clause-answer
 returns-then-is_full-clause-answer g c =
-    fault-full _ _ _ _ (rw c.in_ok-id.ensures at c.has_content-there.ensures) c.if-bytes-gt-CONTENTS_LIMIT.false (sym c.if-unwrap_or.ensures)
+    fault-full _ _ _ _
+    (rw c.in_ok-id.ensures at c.has_content-there.ensures) c.if-bytes-gt-CONTENTS_LIMIT.false
+    (sym c.if-unwrap_or.ensures)
     _ (length-objects _ _) (sym c.if-is_full.ensures)
 
 pub returns-then-is_some-clause-answer : goal.returns-then-is_some-clause-answer
 returns-then-is_some-clause-answer g c =
-    fault-clash _ _ _ _ (rw c.in_ok-id.ensures at c.has_content-there.ensures) c.if-bytes-gt-CONTENTS_LIMIT.false (sym c.if-unwrap_or.ensures)
+    fault-clash _ _ _ _
+    (rw c.in_ok-id.ensures at c.has_content-there.ensures) c.if-bytes-gt-CONTENTS_LIMIT.false
+    (sym c.if-unwrap_or.ensures)
     _ (length-objects _ _) (sym c.if-is_full.ensures) (sym c.if-is_some.ensures)
 
 pub push_new-requires-clause-new : goal.push_new-requires-clause-new
-push_new-requires-clause-new g c = no_entry _ _ _ (no_object _ _ _ _ c.has_content-there.ensures (sym c.if-is_some.ensures))
+push_new-requires-clause-new g c =
+    no_entry _ _ _ (no_object _ _ _ _ c.has_content-there.ensures (sym c.if-is_some.ensures))
 
 pub returns-clause-stands : goal.returns-clause-stands
 returns-clause-stands g c =
@@ -42,7 +51,9 @@ returns-clause-others g c =
 pub returns-clause-answer : goal.returns-clause-answer
 returns-clause-answer g c = (
   c.in_ok-id.ensures,
-  fault-none _ _ _ _ (rw c.in_ok-id.ensures at c.has_content-there.ensures) c.if-bytes-gt-CONTENTS_LIMIT.false (sym c.if-unwrap_or.ensures)
+  fault-none _ _ _ _
+      (rw c.in_ok-id.ensures at c.has_content-there.ensures) c.if-bytes-gt-CONTENTS_LIMIT.false
+      (sym c.if-unwrap_or.ensures)
       _ (length-objects _ _) (sym c.if-is_full.ensures) (sym c.if-is_some.ensures),
 )
 

@@ -12,7 +12,8 @@ release-requires g c = rw c.slot.ensures
 
 pub invariant_of-self : goal.invariant_of-self
 invariant_of-self g c =
-    subst (λ (es : Entries). IsList es c.self.inside.committed) (c.in_default.ensures.items ∙ append-nil _) c.self.invariant
+    subst (λ (es : Entries). IsList es c.self.inside.committed)
+    (c.in_default.ensures.items ∙ append-nil _) c.self.invariant
 
 pub invariant_of-self-2 : goal.invariant_of-self-2
 invariant_of-self-2 g c =
@@ -32,4 +33,6 @@ returns-clause-others g c =
 
 pub returns-clause-objects : goal.returns-clause-objects
 returns-clause-objects g c =
-    last_objects _ _ _ _ _ _ _ (sym (ap (λ (v : View). v.entries) c.self.view_is) ∙ c.in-Some.ensures.items) c.requires.stands (rw c.slot.ensures at c.release.ensures)
+    last_objects _ _ _ _ _ _ _
+    (sym (ap (λ (v : View). v.entries) c.self.view_is) ∙ c.in-Some.ensures.items) c.requires.stands
+    (rw c.slot.ensures at c.release.ensures)

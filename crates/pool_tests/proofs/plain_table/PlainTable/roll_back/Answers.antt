@@ -8,7 +8,8 @@ loop-self-init g c = record {
   stands = c.requires.stands;
   others = LeavesOthers-refl _ _;
   entries = sym (take_all _ _ (omega arith));
-  objects = let n = length-objects c.args.pool.now c.args.self.now.entries in sym (take_all _ _ (omega (arith, n)));
+  objects =
+      let n = length-objects c.args.pool.now c.args.self.now.entries in sym (take_all _ _ (omega (arith, n)));
   committed = refl;
   within = c.committed_len-committed.ensures.within;
 }

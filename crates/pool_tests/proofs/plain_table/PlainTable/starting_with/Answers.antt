@@ -23,11 +23,13 @@ pub loop-id-preserved : goal.loop-id-preserved
 loop-id-preserved c = elim c.if-lies_between.branch [
   | then-lies_between+in-None w ↦
       w.found-is
-      ∙ walked_first _ _ _ _ _ c.loop-id-test.true c.loop-id-item.is (sym c.lies_between.ensures ∙ w.if-lies_between.true)
+      ∙ walked_first _ _ _ _ _ c.loop-id-test.true c.loop-id-item.is
+      (sym c.lies_between.ensures ∙ w.if-lies_between.true)
       (sym w.in-None.is ∙ c.loop-id.invariant)
   | else-lies_between w ↦
       w.found-is ∙ c.loop-id.invariant
-      ∙ walked_past _ _ _ _ _ c.loop-id-test.true c.loop-id-item.is (sym c.lies_between.ensures ∙ w.if-lies_between.false)
+      ∙ walked_past _ _ _ _ _ c.loop-id-test.true c.loop-id-item.is
+      (sym c.lies_between.ensures ∙ w.if-lies_between.false)
 ]
 
 pub returns : goal.returns

@@ -5,4 +5,5 @@ use Rattle.pool_tests.proofs.TablesInLists.{lies}
 use Rattle.pool_tests.proofs.plain_table.PlainTable.starting_with.Given as goal
 
 abbrev pub invariant-loop-id : goal.invariant-loop-id
-invariant-loop-id l = l.found ≡ only_of (filter (lies l.first l.last) (names (take l.id-index l.objects)))
+invariant-loop-id l =
+    l.found ≡ only_of (filter (lies l.first l.last) (names (take l.id-index l.objects)))

@@ -11,10 +11,12 @@ returns-in-Ok c =
     let sorted = true-T _ c.self.invariant.0 in
     let at = subst (λ l. IsPlaceOf l c.args.ref_name.now c.in-Ok.position) c.deref.ensures.value c.in-Ok.ensures.found in
     ap (λ e. Some e.1) (c.index.ensures ∙ entry-place _ sorted _ _ at c.index.result.now)
-    ∙ sym (get-place _ sorted _ _ at) ∙ ap (λ store. target_of store c.args.ref_name.now) c.self.view_is
+    ∙ sym (get-place _ sorted _ _ at)
+    ∙ ap (λ store. target_of store c.args.ref_name.now) c.self.view_is
 
 -- the ref is not there
 pub returns-in-Err : goal.returns-in-Err
 returns-in-Err c =
     let gap = subst (λ l. IsGapFor l c.args.ref_name.now c.in-Err.field-0) c.deref.ensures.value c.in-Err.ensures.absent in
-    sym (get-gap _ (true-T _ c.self.invariant.0) _ _ gap) ∙ ap (λ store. target_of store c.args.ref_name.now) c.self.view_is
+    sym (get-gap _ (true-T _ c.self.invariant.0) _ _ gap)
+    ∙ ap (λ store. target_of store c.args.ref_name.now) c.self.view_is

@@ -9,11 +9,15 @@ use Rattle.tenant_refs.proofs.refs.Refs.remove.Goals as goal
 -- the ref is there, and its entry goes
 module _ (c : goal.After-drop-remove) where
   at : IsPlaceOf c.self.inside.entries.items c.args.ref_name.now c.in-Ok.position
-  at = subst (λ l. IsPlaceOf l c.args.ref_name.now c.in-Ok.position) c.deref.ensures.value c.in-Ok.ensures.found
+  at =
+      subst
+      (λ l. IsPlaceOf l c.args.ref_name.now c.in-Ok.position) c.deref.ensures.value c.in-Ok.ensures.found
 
   removes : store_of c.remove.new.self.items (unwrap_or c.self.inside.head first_head) ≡ without_ref c.args.self.now c.args.ref_name.now
   removes = ap (λ l. store_of l (unwrap_or c.self.inside.head first_head)) c.remove.ensures.items
-      ∙ ap (λ m. let store : RefStore = record { refs = m; head = unwrap_or c.self.inside.head first_head } in store) (remove-place _ (true-T _ c.self.invariant.0) _ _ at).1
+      ∙ ap
+      (λ m. let store : RefStore = record { refs = m; head = unwrap_or c.self.inside.head first_head } in store)
+      (remove-place _ (true-T _ c.self.invariant.0) _ _ at).1
       ∙ ap (λ store. without_ref store c.args.ref_name.now) c.self.view_is
 
 pub invariant_of-self : goal.invariant_of-self
@@ -24,7 +28,9 @@ pub returns-in-Ok-clause-removed : goal.returns-in-Ok-clause-removed
 returns-in-Ok-clause-removed c = removes c
 
 pub returns-in-Ok-clause-changes : goal.returns-in-Ok-clause-changes
-returns-in-Ok-clause-changes c = subst (λ new. ChangesRef c.args.self.now new c.args.ref_name.now None) (sym (removes c)) (ChangesRef-without_ref _ _)
+returns-in-Ok-clause-changes c =
+    subst (λ new. ChangesRef c.args.self.now new c.args.ref_name.now None) (sym (removes c))
+    (ChangesRef-without_ref _ _)
 
 -- the ref is not there, and all stays
 module _ (c : goal.In-Err) where
@@ -32,10 +38,13 @@ module _ (c : goal.In-Err) where
   stays =
       let gap = subst (λ l. IsGapFor l c.args.ref_name.now c.in-Err.field-0) c.deref.ensures.value c.in-Err.ensures.absent in
       let none = sym (ap (λ s. target_of s c.args.ref_name.now) c.self.view_is) ∙ get-gap _ (true-T _ c.self.invariant.0) _ _ gap in
-      ap (λ m. let store : RefStore = record { refs = m; head = c.args.self.now.head } in store) (sym (remove-none c.args.self.now.refs c.args.ref_name.now none))
+      ap (λ m. let store : RefStore = record { refs = m; head = c.args.self.now.head } in store)
+      (sym (remove-none c.args.self.now.refs c.args.ref_name.now none))
 
 pub returns-in-Err-clause-removed : goal.returns-in-Err-clause-removed
 returns-in-Err-clause-removed c = stays c
 
 pub returns-in-Err-clause-changes : goal.returns-in-Err-clause-changes
-returns-in-Err-clause-changes c = subst (λ new. ChangesRef c.args.self.now new c.args.ref_name.now None) (sym (stays c)) (ChangesRef-without_ref _ _)
+returns-in-Err-clause-changes c =
+    subst (λ new. ChangesRef c.args.self.now new c.args.ref_name.now None) (sym (stays c))
+    (ChangesRef-without_ref _ _)

@@ -4,4 +4,5 @@ use Rattle.tenant_refs.proofs.Names.{is_tenant_name-Decides}
 use Rattle.tenant_refs.proofs.tenant_name.TenantName.as_bytes.Goals as goal
 
 pub returns-clause-well_formed : goal.returns-clause-well_formed
-returns-clause-well_formed c = subst IsTenantName c.self.view_is ((is_tenant_name-Decides _).0 c.self.invariant.1)
+returns-clause-well_formed c =
+    subst IsTenantName c.self.view_is ((is_tenant_name-Decides _).0 c.self.invariant.1)

@@ -3,7 +3,8 @@ use Rattle.tenant_tables.proofs.AddLemmas.{found_none, found_some, found_live, s
 use Rattle.tenant_tables.proofs.table.Table.has_content.Goals as goal
 
 pub returns-in_default : goal.returns-in_default
-returns-in_default g c = rw (found_none c.args.pool.now c.args.id.now c.args.self.now.entries c.in_default.ensures) refl
+returns-in_default g c =
+    rw (found_none c.args.pool.now c.args.id.now c.args.self.now.entries c.in_default.ensures) refl
 
 pub get-requires : goal.get-requires
 get-requires g c = found_live _ _ _ _ _ c.requires c.in-Some.ensures

@@ -5,4 +5,5 @@ use Rattle.tree_build.proofs.files.Files.are_files.Goals as goal
 
 pub returns : goal.returns
 returns c =
-    subst AreFiles (sym (listed-of c.self.inside.files.entries c.self.invariant) ∙ ap listed c.self.view_is) c.self.invariant
+    subst AreFiles
+    (sym (listed-of c.self.inside.files.entries c.self.invariant) ∙ ap listed c.self.view_is) c.self.invariant

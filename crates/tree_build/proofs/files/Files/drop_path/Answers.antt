@@ -9,7 +9,8 @@ use Rattle.tree_build.proofs.files.Files.drop_path.Goals as goal
 
 pub invariant_of-self : goal.invariant_of-self
 invariant_of-self g c =
-    subst AreFiles (sym c.drop_below.ensures) (AreFiles-filter (is_outside c.args.path.now) c.self.inside.files.entries c.self.invariant)
+    subst AreFiles (sym c.drop_below.ensures)
+    (AreFiles-filter (is_outside c.args.path.now) c.self.inside.files.entries c.self.invariant)
 
 pub returns : goal.returns
 returns g c = (

@@ -53,27 +53,35 @@ pub returns-in-Some : goal.returns-in-Some
 returns-in-Some g c =
     let held = sym (listed-of c.self.inside.files.entries c.self.invariant)
     ∙ ap listed c.self.view_is in
-    a_file g.N.Naming.digest_of c.args.self.now c.args.path.now (files_below c.in_ok-files.files.items)
+    a_file g.N.Naming.digest_of c.args.self.now c.args.path.now
+    (files_below c.in_ok-files.files.items)
     (files_are c.args.self.now c.self.inside.files.entries c.args.path.now c.in_ok-files.files.items c.in_ok-files.ensures held)
-    c.file_of.result c.in-Some.file (c.file_of.ensures ∙ ap (λ (l : List Below). file_of (files_below l)) c.deref.ensures.value) c.in-Some.is
+    c.file_of.result c.in-Some.file
+    (c.file_of.ensures ∙ ap (λ (l : List Below). file_of (files_below l)) c.deref.ensures.value) c.in-Some.is
 
 pub returns-then-is_nowhere : goal.returns-then-is_nowhere
 returns-then-is_nowhere g c =
     let held = sym (listed-of c.self.inside.files.entries c.self.invariant)
     ∙ ap listed c.self.view_is in
-    nothing g.N.Naming.digest_of c.args.self.now c.args.path.now (files_below c.in_ok-files.files.items)
+    nothing g.N.Naming.digest_of c.args.self.now c.args.path.now
+    (files_below c.in_ok-files.files.items)
     (files_are c.args.self.now c.self.inside.files.entries c.args.path.now c.in_ok-files.files.items c.in_ok-files.ensures held)
-    c.file_of.result c.is_nowhere.result (c.file_of.ensures ∙ ap (λ (l : List Below). file_of (files_below l)) c.deref.ensures.value) c.in-None.is
+    c.file_of.result c.is_nowhere.result
+    (c.file_of.ensures ∙ ap (λ (l : List Below). file_of (files_below l)) c.deref.ensures.value) c.in-None.is
     (c.is_nowhere.ensures ∙ ap (λ (l : List Below). is_empty (files_below l) && not (is_root c.args.path.now)) c.deref-in-None.ensures.value) c.if-is_nowhere.true
 
 pub returns : goal.returns
 returns g c =
     let held = sym (listed-of c.self.inside.files.entries c.self.invariant)
     ∙ ap listed c.self.view_is in
-    a_directory g.N.Naming.digest_of c.args.self.now c.args.path.now (files_below c.in_ok-files.files.items)
+    a_directory g.N.Naming.digest_of c.args.self.now c.args.path.now
+    (files_below c.in_ok-files.files.items)
     (files_are c.args.self.now c.self.inside.files.entries c.args.path.now c.in_ok-files.files.items c.in_ok-files.ensures held)
-    c.file_of.result c.is_nowhere.result c.in_ok-name-in-None.name (c.file_of.ensures ∙ ap (λ (l : List Below). file_of (files_below l)) c.deref.ensures.value) c.in-None.is
+    c.file_of.result c.is_nowhere.result c.in_ok-name-in-None.name
+    (c.file_of.ensures ∙ ap (λ (l : List Below). file_of (files_below l)) c.deref.ensures.value) c.in-None.is
     (c.is_nowhere.ensures ∙ ap (λ (l : List Below). is_empty (files_below l) && not (is_root c.args.path.now)) c.deref-in-None.ensures.value) c.if-is_nowhere.false
     (c.in_ok-name-in-None.ensures
-    ∙ ap (λ (n : ℕ). tree_name g.N.Naming.digest_of (entries_within g.N.Naming.digest_of n (files_below c.deref-in-None-3.result.now))) (c.depth_of.ensures ∙ ap (λ (l : List Below). depth_of (files_below l)) c.deref-in-None-2.ensures.value)
+    ∙ ap
+    (λ (n : ℕ). tree_name g.N.Naming.digest_of (entries_within g.N.Naming.digest_of n (files_below c.deref-in-None-3.result.now)))
+    (c.depth_of.ensures ∙ ap (λ (l : List Below). depth_of (files_below l)) c.deref-in-None-2.ensures.value)
     ∙ ap (λ (l : List Below). tree_name g.N.Naming.digest_of (entries_within g.N.Naming.digest_of (depth_of (files_below c.in_ok-files.files.items)) (files_below l))) c.deref-in-None-3.ensures.value)

@@ -19,11 +19,16 @@ returns-then-not-is_small g c =
     let t = tree-lists g.N.Naming.digest_of c.args.pool.now c.args.table.now.entries c.requires.stands c.args.name.now c.in_ok-tree_summary.field-0 summary in
     let sum = tree-summary g.N.Naming.digest_of c.args.pool.now c.args.table.now.entries c.requires.stands c.args.name.now c.in_ok-tree_summary.field-0 t.0 summary t.1 in
     let refusal =
-    too_large c.args.path.now c.self.inside.files.entries t.0 c.in_ok-tree_summary.field-0 c.self.invariant (tree-apart os c.args.name.now t.0 t.1) (tree-sound os c.args.name.now t.0 t.1) sum
+    too_large c.args.path.now c.self.inside.files.entries t.0 c.in_ok-tree_summary.field-0 c.self.invariant
+    (tree-apart os c.args.name.now t.0 t.1) (tree-sound os c.args.name.now t.0 t.1) sum
     (sym c.is_small.ensures ∙ c.if-not-is_small.true) in
-    grafts-edits os c.args.name.now c.args.path.now c.args.self.now (Err fault.Limit) c.args.self.now t.0 t.1
+    grafts-edits os c.args.name.now c.args.path.now c.args.self.now
+    (Err fault.Limit) c.args.self.now t.0 t.1
     (λ _. (
-      ap (λ (m : FileMap). put_fault (moved c.args.path.now t.0) (put_tree_at m c.args.path.now t.0)) (sym c.self.view_is) ∙ refusal,
+      ap
+          (λ (m : FileMap). put_fault (moved c.args.path.now t.0) (put_tree_at m c.args.path.now t.0))
+          (sym c.self.view_is)
+          ∙ refusal,
       λ i. c.args.self.now,
     ))
 
@@ -32,7 +37,9 @@ returns-in_err-gather g c =
     let os = objects c.args.pool.now c.args.table.now.entries in
     let failed = err_from_is_err_and c.from_residual-in_err-gather.result c.from_residual-in_err-gather.ensures.1 in
     let t = tree-lists g.N.Naming.digest_of c.args.pool.now c.args.table.now.entries c.requires.stands c.args.name.now c.in_ok-tree_summary.field-0 c.in_ok-tree_summary.ensures.tree in
-    subst (λ (r : Result (Unit {0}) Fault). Grafts r os c.args.name.now c.args.path.now c.args.self.now c.args.self.now) (sym (failed.1 ∙ ap (λ (e : Fault). Err e) failed.2))
+    subst
+    (λ (r : Result (Unit {0}) Fault). Grafts r os c.args.name.now c.args.path.now c.args.self.now c.args.self.now)
+    (sym (failed.1 ∙ ap (λ (e : Fault). Err e) failed.2))
     (grafts-memory os c.args.name.now c.args.path.now c.args.self.now c.args.self.now t.0 t.1)
 
 pub replace-requires-clause-below : goal.replace-requires-clause-below

@@ -13,7 +13,8 @@ add_tree-requires g c = record {
     record {
       writable = c.requires.writable;
       contents = c.as_slice.ensures.value ∙ c.in_ok-write_tree.ensures.written
-          ∙ ap (λ (xs : List ℕ). xs ++ tree_contents (entries_of c.args.entries.now)) c.new-contents.ensures.items;
+          ∙ ap
+          (λ (xs : List ℕ). xs ++ tree_contents (entries_of c.args.entries.now)) c.new-contents.ensures.items;
       directories = rw c.self.view_is c.requires.directories;
       sums = rw c.self.view_is c.requires.sums;
     },
@@ -21,7 +22,8 @@ add_tree-requires g c = record {
 }
 
 pub invariant_of-self : goal.invariant_of-self
-invariant_of-self g c = Share-first _ _ _ _ _ _ c.self.invariant c.add_tree.ensures.stands c.add_tree.ensures.others
+invariant_of-self g c =
+    Share-first _ _ _ _ _ _ c.self.invariant c.add_tree.ensures.stands c.add_tree.ensures.others
 
 pub returns : goal.returns
 returns g c = added_summary _ _ _ _ _ _ _ _ _ c.add_tree.ensures.answer c.add_tree.ensures.ok

@@ -9,4 +9,5 @@ add-requires g c = record {
 }
 
 pub invariant_of-self : goal.invariant_of-self
-invariant_of-self g c = Share-first _ _ _ _ _ _ c.self.invariant c.add.ensures.stands c.add.ensures.others
+invariant_of-self g c =
+    Share-first _ _ _ _ _ _ c.self.invariant c.add.ensures.stands c.add.ensures.others

@@ -2,4 +2,5 @@ use Rattle.pool_tests.proofs.TwoTables.{Share-nil}
 use Rattle.pool_tests.proofs.tables.two.Two.new.Goals as goal
 
 pub invariant_of-result : goal.invariant_of-result
-invariant_of-result g c = Share-nil _ _ _ _ c.new.ensures c.new-2.ensures.entries c.new-3.ensures.entries
+invariant_of-result g c =
+    Share-nil _ _ _ _ c.new.ensures c.new-2.ensures.entries c.new-3.ensures.entries

@@ -1,7 +1,7 @@
 use Rattle.std.proofs.Common.{◌≡◌, length}
 use Rattle.git_objects.specs.Device.{device_of, seen}
 use Rattle.gitpool.proofs.ImportLemmas.{SoFar}
-use Rattle.gitpool.proofs.import.import_one.Given as goal
+use Rattle.gitpool.proofs.import.Importer.read_all.Given as goal
 
 abbrev pub invariant-loop : goal.invariant-loop
 invariant-loop g l = (length l.block ≡ 65536) × SoFar g.N.Naming.digest_of
@@ -9,4 +9,4 @@ invariant-loop g l = (length l.block ≡ 65536) × SoFar g.N.Naming.digest_of
     (seen (g.R.Read.remaining (device_of l.reader)) l.reader)
     (seen (g.W.Write.contents (device_of l.fn.writer)) l.fn.writer)
     (seen (g.W.Write.contents (device_of l.writer)) l.writer)
-    l.importer l.counter
+    l.self l.counter
