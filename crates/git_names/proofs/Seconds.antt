@@ -45,7 +45,7 @@ unfolding is_date
 seconds-read date well =
     number-value (take (prefix_len is_ascii_digit date) date) (front_passes is_ascii_digit date) (and-first _ _ well)
 
--- What gives an ident behind a person is a date.
+-- What gives an ident after a person is a date.
 dated-tests : (b : Bool) (text : List ℕ) {E : Type 0} (e : E) → cond b (Ok text) (Err e) ≡ Ok text → b ≡ true
 dated-tests true text e well = refl
 dated-tests false text e well = cc
@@ -53,7 +53,7 @@ dated-tests false text e well = cc
 pub with_date-Ok : (text rest : List ℕ) → with_date text (Some rest) ≡ Ok (written_ident text) → is_date rest ≡ true
 with_date-Ok text rest well = dated-tests (is_date rest) (written_ident text) _ well
 
--- A date has seconds and what stands behind them.
+-- A date has seconds and what stands after them.
 pub is_date-some : (text : List ℕ) (o : Option ℕ) → is_some o ≡ true → o ≡ number_of (take (prefix_len is_ascii_digit text) text)
     → is_spaced_offset (drop (prefix_len is_ascii_digit text) text) ≡ is_date text
 unfolding is_date

@@ -10,10 +10,10 @@ use thiserror::Error;
 /// What is wrong with a text that is no ident, or that memory ran out.
 #[derive(Clone, Copy, Debug, PartialEq, Eq, Error)]
 pub enum IdentFault {
-    /// The name, the email or the space behind it.
+    /// The name, the email or the space after it.
     #[error("bad identity")]
     BadIdentity,
-    /// The seconds, or the offset behind them.
+    /// The seconds, or the offset after them.
     #[error("bad date")]
     BadDate,
     /// A growth was refused.

@@ -10,14 +10,14 @@ ghost use Rattle.numerals.specs.Numbers.{number_of};
 
 use numerals::read_number;
 
-// What stands behind the person at a text's front, where there is one: a date, in an ident.
+// What stands after the person at a text's front, where there is one: a date, in an ident.
 pub(crate) fn behind_person(text: &[u8]) -> Option<&[u8]>
     ensures { option_copied result ≡ reading.behind_person text.now }
 {
     behind_email(behind_name(text)?)
 }
 
-// What stands behind a name and its `<`.
+// What stands after a name and its `<`.
 #[tactic(auto, unfolding(git_model::specs::IdentReading::behind_name))]
 fn behind_name(text: &[u8]) -> Option<&[u8]>
     ensures { option_copied result ≡ reading.behind_name text.now }
@@ -30,7 +30,7 @@ fn behind_name(text: &[u8]) -> Option<&[u8]>
     }
 }
 
-// What stands behind an email, its `>` and the space.
+// What stands after an email, its `>` and the space.
 #[tactic(auto, unfolding(git_model::specs::IdentReading::behind_email))]
 fn behind_email(text: &[u8]) -> Option<&[u8]>
     ensures { option_copied result ≡ reading.behind_email text.now }

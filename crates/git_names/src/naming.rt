@@ -16,7 +16,7 @@ pub trait Naming: Drop {
     fn digest(&self, bytes: &[u8]) -> [u8; 20]
         ensures { result ≡ digest_of bytes.now };
 
-    /// The digest of a message that lies apart in two pieces, a header and the contents behind it.
+    /// The digest of a message that lies apart in two pieces, a header and the contents after it.
     ///
     /// This body copies both together, and answers `Memory` (90) where there is no room for that. A
     /// naming that digests piece by piece has a body of its own that takes no memory.

@@ -17,7 +17,7 @@ use git_names::{Memory, Name};
 use std::alloc::Global;
 
 /// What a commit says. Its texts are borrowed, as from the commit's contents.
-#[derive(Debug, Drop)]
+#[derive(Drop)]
 pub struct CommitParts<'a> {
     /// The name of the commit's tree.
     pub tree: Name,

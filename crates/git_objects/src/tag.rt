@@ -21,7 +21,7 @@ use git_names::{Memory, Name, is_ref_name, is_written_ident, kind_word};
 use std::alloc::Global;
 
 /// What a tag says. Its texts are borrowed, as from the tag's contents.
-#[derive(Clone, Copy, Debug)]
+#[derive(Clone, Copy)]
 pub struct TagParts<'a> {
     /// The name of the object that is tagged.
     pub target: Name,
@@ -121,7 +121,7 @@ fn take_tagger(bytes: &[u8]) -> Option<(Option<&[u8]>, &[u8])>
 ///
 /// `None` where the contents are no tag's that `write_tag` makes of parts that are right: a header
 /// line that is missing, repeated or out of its place, a name that is not 40 hexadecimal digits of
-/// lower case, `type tree`, a tag's name that makes no ref name behind `refs/tags/`, a tagger that
+/// lower case, `type tree`, a tag's name that makes no ref name after `refs/tags/`, a tagger that
 /// is no ident or begins with `<`. `Memory` (90) where there is no room to judge that ref name.
 pub fn read_tag(alloc: Global, contents: &[u8]) -> Result<Option<TagParts<'_>>, Memory>
     ensures found { IfOk result (λ r. IfSome r

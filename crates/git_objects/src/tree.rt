@@ -93,7 +93,7 @@ fn take_entry(contents: &[u8]) -> Option<(TreeEntry<'_>, &[u8])>
 }
 
 // A file of the directory's name stands elsewhere among the entries, since only a directory's name
-// is compared with a slash behind it. The entries are in order, so one search finds it.
+// is compared with a slash after it. The entries are in order, so one search finds it.
 fn has_twin(entries: &[TreeEntry<'_>], entry: &TreeEntry<'_>) -> bool
     ensures { AreInOrder (entries_of entries.now)
         → (IsTrue result ↔ HasTwin (entries_of entries.now) (entry_of entry.now)) }
