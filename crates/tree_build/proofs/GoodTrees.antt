@@ -1,5 +1,5 @@
 -- A good repository stays good where one more object is added.
-use Rattle.std.proofs.Common.{◌≡◌, ◌≢◌, ℕ, true, false, List, [], ◌∷◌, ◌++◌, Option, None, Some, refl, sym, ap, ◌∙◌, subst, inl, inr}
+use Rattle.std.proofs.Common.{◌≡◌, ℕ, List, [], ◌∷◌, ◌++◌, Option, None, Some, refl, sym, ap, ◌∙◌, subst, inl, inr}
 use Rattle.std.specs.Option.{option_map}
 use Rattle.std.specs.Str.{bytes_eq}
 use Rattle.std.proofs.lemmas.Bool.{cases_Bool}
@@ -17,7 +17,7 @@ use Rattle.git_model.proofs.Growing.{longer, after_prefix, one_more, none_are}
 use Rattle.git_model.proofs.GoodRefs.{refs_longer, no_refs_are}
 use Rattle.tree_build.specs.FileMap.{Listed}
 use Rattle.tree_build.specs.Trees.{tree_content}
-use Rattle.tree_build.specs.StoredTree.{HasTree, Lists, nothing, first_file, first_directory, ListsTree}
+use Rattle.tree_build.specs.StoredTree.{HasTree, Lists, nothing, first_file, first_directory}
 use Rattle.tree_build.specs.GoodTrees.{IsTreeOfFiles, IsRepository}
 
 -- ---- what a tree lists, among more objects
