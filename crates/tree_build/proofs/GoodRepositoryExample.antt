@@ -43,15 +43,22 @@ tree = record { id = id_of 116; content = content_from kind.Tree (tree_contents 
 is_entry_name : IsEntryName (codes "hello")
 is_entry_name = record {
   not_empty = λ e. cc e;
-  no_nul = All-from_recursion (λ b. b ≢ 0) (codes "hello") (λ e. omega arith, (λ e. omega arith, (λ e. omega arith, (λ e. omega arith, (λ e. omega arith, tt)))));
-  no_slash = All-from_recursion (λ b. b ≢ 47) (codes "hello") (λ e. omega arith, (λ e. omega arith, (λ e. omega arith, (λ e. omega arith, (λ e. omega arith, tt)))));
+  no_nul = All-from_recursion (λ b. b ≢ 0) (codes "hello") (
+    λ e. omega arith,
+    (λ e. omega arith, (λ e. omega arith, (λ e. omega arith, (λ e. omega arith, tt)))),
+  );
+  no_slash = All-from_recursion (λ b. b ≢ 47) (codes "hello") (
+    λ e. omega arith,
+    (λ e. omega arith, (λ e. omega arith, (λ e. omega arith, (λ e. omega arith, tt)))),
+  );
   not_dot = λ e. cc e;
   not_dot_dot = λ e. cc e;
 }
 
 can_write : CanWriteTree (entry ∷ [])
 can_write = record {
-  entries = All-cons CanWriteEntry entry [] (record { name = is_entry_name; id = is_name 98 (omega arith) }) (All-nil CanWriteEntry);
+  entries = All-cons CanWriteEntry entry []
+      (record { name = is_entry_name; id = is_name 98 (omega arith) }) (All-nil CanWriteEntry);
   names_are_distinct = λ i j d lt within. absurd (omega arith);
   in_order = λ k d low high. absurd (omega arith);
 }
@@ -62,7 +69,13 @@ blob_may : MayAdd digest [] blob
 unfolding object_named object_name
 blob_may = record {
   new = refl;
-  object = record { name = is_name 98 (omega arith); named = refl; valid = tt; short = omega arith };
+  object = record {
+    name = is_name 98
+        (omega arith);
+    named = refl;
+    valid = tt;
+    short = omega arith;
+  };
   connected = All-nil (StandsBefore [] 0);
   room = omega arith;
 }
@@ -78,11 +91,23 @@ tree_may = record {
   object = record {
     name = is_name 116 (omega arith);
     named = refl;
-    valid = (entry ∷ [], record { writable = can_write; contents = refl; none_empty = All-from_recursion (λ (e : TreeEntry). e.mode ≡ mode.Directory → (content_named e.id (blob ∷ [])).bytes ≢ []) (entry ∷ []) (λ is. absurd (cc is), tt) });
+    valid = (
+      entry ∷ [],
+      record {
+        writable = can_write;
+        contents = refl;
+        none_empty = All-from_recursion
+            (λ (e : TreeEntry). e.mode ≡ mode.Directory → (content_named e.id (blob ∷ [])).bytes ≢ [])
+            (entry ∷ []) (λ is. absurd (cc is), tt);
+      },
+    );
     short = omega arith;
   };
-  connected = subst (λ (es : List TreeEntry). All (StandsBefore (blob ∷ []) 1) (tree_references es)) (sym (tree_back (entry ∷ []) can_write))
-      (All-cons (StandsBefore (blob ∷ []) 1) (reference kind.Blob (id_of 98)) [] before_tree (All-nil (StandsBefore (blob ∷ []) 1)));
+  connected =
+      subst (λ (es : List TreeEntry). All (StandsBefore (blob ∷ []) 1) (tree_references es))
+      (sym (tree_back (entry ∷ []) can_write))
+      (All-cons (StandsBefore (blob ∷ []) 1) (reference kind.Blob (id_of 98)) [] before_tree
+      (All-nil (StandsBefore (blob ∷ []) 1)));
   room = omega arith;
 }
 
@@ -93,7 +118,8 @@ files = (codes "hello" ∷ [], record { mode = mode.Regular; name = id_of 98 }) 
 
 is_component : IsComponent (codes "hello")
 is_component = record {
-  of_bytes = All-from_recursion (λ b. b < 256) (codes "hello") (omega arith, (omega arith, (omega arith, (omega arith, (omega arith, tt)))));
+  of_bytes = All-from_recursion (λ b. b < 256) (codes "hello")
+      (omega arith, (omega arith, (omega arith, (omega arith, (omega arith, tt)))));
   entry_name = is_entry_name;
 }
 
