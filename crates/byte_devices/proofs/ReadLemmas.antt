@@ -35,7 +35,7 @@ one_well old new n buf size consumed passed faults = record {
   well = faults;
 }
 
--- One call failed, behind bytes that were read.
+-- One call failed, after bytes that were read.
 pub one_failed : (a b c : Device) (xs : List ℕ) → HasReadWell a b xs → Keeps b.known c.known → c.passed ≡ b.passed
     → c.faults ≡ counted_on b.faults 1 → HasFailed a c xs
 one_failed a b c xs had keeps passed faults = record {
@@ -57,7 +57,7 @@ small_front [] buf small i = omega arith
 small_front (x ∷ front) buf small zero = small 0
 small_front (x ∷ front) buf small (suc i) = small_front front buf (λ j. small (suc j)) i
 
--- The first bytes of a buffer were read behind the front of a room.
+-- The first bytes of a buffer were read after the front of a room.
 pub room_more : (a b c : Device) (room front buf : List ℕ) (filled n : ℕ) → front ≡ take filled room → length front ≡ filled
     → HasReadWell a b (take filled room) → HasReadWell b c (take n buf) → HasReadWell a c (take (filled + n) (front ++ buf))
 room_more a b c room front buf filled n is size first later =
@@ -65,7 +65,7 @@ room_more a b c room front buf filled n is size first later =
     (ap (λ (l : List ℕ). l ++ take n buf) (sym is) ∙ sym (front_more front buf n) ∙ ap (λ (m : ℕ). take (m + n) (front ++ buf)) size)
     (well_more a b c (take filled room) (take n buf) first later)
 
--- The reader was at its end behind the front of a room.
+-- The reader was at its end after the front of a room.
 pub room_ends : (a b c : Device) (room front buf : List ℕ) (filled : ℕ) → front ≡ take filled room
     → HasReadWell a b (take filled room) → HasReadWell b c (take 0 buf) → IsAtEnd c.known → HasReadAll a c front
 room_ends a b c room front buf filled is first later end = record {
@@ -74,7 +74,7 @@ room_ends a b c room front buf filled is first later end = record {
   end = end;
 }
 
--- A call failed behind the front of a room.
+-- A call failed after the front of a room.
 pub room_fails : (a b c : Device) (room front : List ℕ) (filled : ℕ) → front ≡ take filled room
     → HasReadWell a b (take filled room) → Keeps b.known c.known → c.passed ≡ b.passed
     → c.faults ≡ counted_on b.faults 1 → HasFailed a c front

@@ -1,10 +1,8 @@
 -- Live contents: what a pool stores, counted by distinct contents.
-use Rattle.std.specs.Prelude.{◌≡◌, ℕ, ◌-◌, ◌^◌, ◌&&◌, nat_lt, Bool, List, length, map, filter, min}
+use Rattle.std.specs.Prelude.{◌≡◌, ℕ, ◌-◌, ◌^◌, nat_lt, List, length, map, filter, min}
 use Rattle.std.specs.Prelude.{sum_by, Contains}
 use Rattle.std.specs.List.{filter_map}
-use Rattle.std.specs.Str.{bytes_eq}
 use Rattle.std.specs.Set.{unique_keys}
-use Rattle.git_model.specs.Kind.{kind_word}
 use Rattle.git_model.specs.Content.{Content, same_content}
 use Rattle.content_pool.specs.Pool.{Cells, content_of, content, IsLive}
 

@@ -31,51 +31,64 @@ pub record AreAlike (id : List ℕ) (xs ys : List Object) : Type 0 where
   pub place : place_of id xs ≡ place_of id ys
   pub object : object_named id xs ≡ object_named id ys
 
-alike_first : (id : List ℕ) (o : Object) (xs ys : List Object) → bytes_eq id o.id ≡ true → AreAlike id (o ∷ xs) (o ∷ ys)
+alike_first : (id : List ℕ) (o : Object) (xs ys : List Object) → bytes_eq id o.id ≡ true
+    → AreAlike id (o ∷ xs) (o ∷ ys)
 alike_first id o xs ys yea = record {
   place = first_place id o xs yea ∙ sym (first_place id o ys yea);
   object = first_named id o xs yea ∙ sym (first_named id o ys yea);
 }
 
-alike_later : (id : List ℕ) (o : Object) (xs ys : List Object) → bytes_eq id o.id ≡ false → AreAlike id xs ys → AreAlike id (o ∷ xs) (o ∷ ys)
+alike_later : (id : List ℕ) (o : Object) (xs ys : List Object) → bytes_eq id o.id ≡ false
+    → AreAlike id xs ys → AreAlike id (o ∷ xs) (o ∷ ys)
 alike_later id o xs ys nay h = record {
   place = later_place id o xs nay ∙ ap (λ (n : ℕ). suc n) h.place ∙ sym (later_place id o ys nay);
   object = later_named id o xs nay ∙ h.object ∙ sym (later_named id o ys nay);
 }
 
 -- a name that is there keeps its place and its object
-pub longer : (id : List ℕ) (xs ys : List Object) → place_of id xs < length xs → AreAlike id (xs ++ ys) xs
+pub longer : (id : List ℕ) (xs ys : List Object) → place_of id xs < length xs
+    → AreAlike id (xs ++ ys) xs
 longer id [] ys lt = absurd (omega arith)
 longer id (o ∷ xs) ys lt = elim (cases_Bool (bytes_eq id o.id)) [
   | inl yea ↦ alike_first id o (xs ++ ys) xs yea
-  | inr nay ↦ (let place = later_place id o xs nay in alike_later id o (xs ++ ys) xs nay (longer id xs ys (omega arith)))
+  | inr nay ↦
+      (let place = later_place id o xs nay in alike_later id o (xs ++ ys) xs nay
+      (longer id xs ys (omega arith)))
 ]
 
 -- and a name that stands in a prefix has them there
-shorter : (id : List ℕ) (xs ys : List Object) → place_of id (xs ++ ys) < length xs → AreAlike id xs (xs ++ ys)
+shorter : (id : List ℕ) (xs ys : List Object) → place_of id (xs ++ ys) < length xs
+    → AreAlike id xs (xs ++ ys)
 shorter id [] ys lt = absurd (omega arith)
 shorter id (o ∷ xs) ys lt = elim (cases_Bool (bytes_eq id o.id)) [
   | inl yea ↦ alike_first id o xs (xs ++ ys) yea
-  | inr nay ↦ (let place = later_place id o (xs ++ ys) nay in alike_later id o xs (xs ++ ys) nay (shorter id xs ys (omega arith)))
+  | inr nay ↦
+      (let place = later_place id o (xs ++ ys) nay in alike_later id o xs (xs ++ ys) nay
+      (shorter id xs ys (omega arith)))
 ]
 
 -- what is not in a prefix is what comes after it
-pub after_prefix : (id : List ℕ) (xs ys : List Object) → object_named id xs ≡ None → object_named id (xs ++ ys) ≡ object_named id ys
+pub after_prefix : (id : List ℕ) (xs ys : List Object) → object_named id xs ≡ None
+    → object_named id (xs ++ ys) ≡ object_named id ys
 after_prefix id [] ys e = refl
 after_prefix id (x ∷ xs) ys e = elim (cases_Bool (bytes_eq id x.id)) [
   | inl yea ↦ (let some = first_named id x xs yea in cc)
-  | inr nay ↦ later_named id x (xs ++ ys) nay ∙ after_prefix id xs ys (sym (later_named id x xs nay) ∙ e)
+  | inr nay ↦ later_named id x (xs ++ ys) nay
+      ∙ after_prefix id xs ys (sym (later_named id x xs nay) ∙ e)
 ]
 
 -- a new name stands at the end
-new_place : (o : Object) (xs : List Object) → object_named o.id xs ≡ None → place_of o.id (xs ++ o ∷ []) ≡ length xs
+new_place : (o : Object) (xs : List Object) → object_named o.id xs ≡ None
+    → place_of o.id (xs ++ o ∷ []) ≡ length xs
 new_place o [] e = first_place o.id o [] ((bytes_eq-Decides o.id o.id).1 refl)
 new_place o (x ∷ xs) e = elim (cases_Bool (bytes_eq o.id x.id)) [
   | inl yea ↦ (let some = first_named o.id x xs yea in cc)
-  | inr nay ↦ later_place o.id x (xs ++ o ∷ []) nay ∙ ap (λ (n : ℕ). suc n) (new_place o xs (sym (later_named o.id x xs nay) ∙ e))
+  | inr nay ↦ later_place o.id x (xs ++ o ∷ []) nay
+      ∙ ap (λ (n : ℕ). suc n) (new_place o xs (sym (later_named o.id x xs nay) ∙ e))
 ]
 
-same_object : (xs ys : List Object) (i : ℕ) → i < length xs → object_at i (xs ++ ys) ≡ object_at i xs
+same_object : (xs ys : List Object) (i : ℕ) → i < length xs
+    → object_at i (xs ++ ys) ≡ object_at i xs
 unfolding object_at
 same_object xs ys i lt = get_or-append xs ys _ i lt
 
@@ -85,67 +98,97 @@ last_object (x ∷ xs) o = later_object (length xs) x (xs ++ o ∷ []) ∙ last_
 
 -- ---- what is known of a name in one list is known in another
 
-still_before : (xs ys : List Object) (place : ℕ) (r : Reference) → AreAlike r.id ys xs → StandsBefore xs place r → StandsBefore ys place r
+still_before : (xs ys : List Object) (place : ℕ) (r : Reference) → AreAlike r.id ys xs
+    → StandsBefore xs place r → StandsBefore ys place r
 still_before xs ys place r alike h = record {
   before = let p = alike.place in let b = h.before in omega arith;
   kind = ap (λ (o : Option Content). option_map (λ (c : Content). c.kind) o) alike.object ∙ h.kind;
 }
 
-same_content : (id : List ℕ) (xs ys : List Object) → AreAlike id ys xs → content_named id ys ≡ content_named id xs
+same_content : (id : List ℕ) (xs ys : List Object) → AreAlike id ys xs
+    → content_named id ys ≡ content_named id xs
 same_content id xs ys alike = ap (λ (o : Option Content). unwrap_or o no_content) alike.object
 
-still_tree : (xs ys : List Object) (bytes : List ℕ) (es : List TreeEntry) → All (λ e. e.mode ≡ mode.Directory → (content_named e.id xs).bytes ≢ [] → AreAlike e.id ys xs) es → IsTree xs bytes es → IsTree ys bytes es
+still_tree : (xs ys : List Object) (bytes : List ℕ) (es : List TreeEntry)
+    → All (λ e. e.mode ≡ mode.Directory → (content_named e.id xs).bytes ≢ []
+    → AreAlike e.id ys xs) es → IsTree xs bytes es → IsTree ys bytes es
 still_tree xs ys bytes es alike t = record {
   writable = t.writable;
   contents = t.contents;
   none_empty = λ k d lt is.
       let some = t.none_empty k d lt is in
-      subst (λ (c : Content). c.bytes ≢ []) (sym (same_content _ xs ys (alike k d lt is some))) some;
+      subst (λ (c : Content). c.bytes ≢ [])
+      (sym (same_content _ xs ys (alike k d lt is some))) some;
 }
 
 -- ---- one more object
 
 -- what has bytes is there
-is_there : (xs : List Object) (o : Option Content) (id : List ℕ) → object_named id xs ≡ o → (unwrap_or o no_content).bytes ≢ [] → place_of id xs < length xs
+is_there : (xs : List Object) (o : Option Content) (id : List ℕ) → object_named id xs ≡ o
+    → (unwrap_or o no_content).bytes ≢ [] → place_of id xs < length xs
 is_there xs None id e some = absurd (some refl)
 is_there xs (Some c) id e some = (stands_at id xs c e).within
 
-valid_longer : (xs ys : List Object) (k : Kind) (bytes : List ℕ) → IsValid xs k bytes → IsValid (xs ++ ys) k bytes
+valid_longer : (xs ys : List Object) (k : Kind) (bytes : List ℕ) → IsValid xs k bytes
+    → IsValid (xs ++ ys) k bytes
 valid_longer xs ys kind.Blob bytes v = tt
-valid_longer xs ys kind.Tree bytes v =
-    (v.0, still_tree xs (xs ++ ys) bytes v.0 (λ k d lt is some. longer _ xs ys (is_there xs (object_named _ xs) _ refl some)) v.1)
+valid_longer xs ys kind.Tree bytes v = (
+  v.0,
+  still_tree xs (xs ++ ys) bytes v.0
+      (λ k d lt is some. longer _ xs ys (is_there xs (object_named _ xs) _ refl some)) v.1,
+)
 valid_longer xs ys kind.Commit bytes v = v
 valid_longer xs ys kind.Tag bytes v = v
 
-object_longer : (digest : List ℕ → List ℕ) (xs ys : List Object) (o : Object) → IsObject digest xs o → IsObject digest (xs ++ ys) o
+object_longer : (digest : List ℕ → List ℕ) (xs ys : List Object) (o : Object)
+    → IsObject digest xs o → IsObject digest (xs ++ ys) o
 object_longer digest xs ys o h =
-    record { name = h.name; named = h.named; valid = valid_longer xs ys o.content.kind o.content.bytes h.valid; short = h.short }
+    record {
+      name = h.name;
+      named = h.named;
+      valid = valid_longer xs ys o.content.kind o.content.bytes h.valid;
+      short = h.short;
+    }
 
-before_longer : (xs ys : List Object) (i : ℕ) → i ≤ length xs → (r : Reference) → StandsBefore xs i r → StandsBefore (xs ++ ys) i r
-before_longer xs ys i le r h = still_before xs (xs ++ ys) i r (longer r.id xs ys (let b = h.before in omega arith)) h
+before_longer : (xs ys : List Object) (i : ℕ) → i ≤ length xs → (r : Reference)
+    → StandsBefore xs i r → StandsBefore (xs ++ ys) i r
+before_longer xs ys i le r h =
+    still_before xs (xs ++ ys) i r (longer r.id xs ys (let b = h.before in omega arith)) h
 
-pub one_more : (digest : List ℕ → List ℕ) (os : List Object) (o : Object) → AreObjects digest os → MayAdd digest os o → AreObjects digest (os ++ o ∷ [])
+pub one_more : (digest : List ℕ → List ℕ) (os : List Object) (o : Object) → AreObjects digest os
+    → MayAdd digest os o → AreObjects digest (os ++ o ∷ [])
 one_more digest os o good add = record {
   each = All-append (IsObject digest more) os (o ∷ [])
-      (All-weaker (IsObject digest os) (IsObject digest more) (object_longer digest os (o ∷ [])) os good.each)
-      (All-cons (IsObject digest more) o [] (object_longer digest os (o ∷ []) o add.object) (All-nil (IsObject digest more)));
+      (All-weaker (IsObject digest os) (IsObject digest more)
+      (object_longer digest os (o ∷ [])) os good.each)
+      (All-cons (IsObject digest more) o [] (object_longer digest os (o ∷ []) o add.object)
+      (All-nil (IsObject digest more)));
   distinct = λ i lt. elim (cases_lt i (length os)) [
     | inl old ↦
         let at = good.distinct i old in
-        ap (λ (x : Object). place_of x.id more) (same_object os (o ∷ []) i old) ∙ (longer (object_at i os).id os (o ∷ []) (omega (arith, at))).place ∙ at
+        ap (λ (x : Object). place_of x.id more) (same_object os (o ∷ []) i old)
+        ∙ (longer (object_at i os).id os (o ∷ []) (omega (arith, at))).place ∙ at
     | inr end ↦
         let is : i ≡ length os = omega (arith, length-append os (o ∷ [])) in
-        ap (λ (n : ℕ). place_of (object_at n more).id more) is ∙ ap (λ (x : Object). place_of x.id more) (last_object os o) ∙ new_place o os add.new ∙ sym is
+        ap (λ (n : ℕ). place_of (object_at n more).id more) is
+        ∙ ap (λ (x : Object). place_of x.id more) (last_object os o) ∙ new_place o os add.new
+        ∙ sym is
   ];
   connected = λ i lt. elim (cases_lt i (length os)) [
     | inl old ↦
-        subst (λ (x : Object). All (StandsBefore more i) (references_in x.content)) (sym (same_object os (o ∷ []) i old))
-        (All-weaker (StandsBefore os i) (StandsBefore more i) (before_longer os (o ∷ []) i (omega arith)) (references_in (object_at i os).content) (good.connected i old))
+        subst (λ (x : Object). All (StandsBefore more i) (references_in x.content))
+        (sym (same_object os (o ∷ []) i old))
+        (All-weaker (StandsBefore os i) (StandsBefore more i)
+        (before_longer os (o ∷ []) i (omega arith)) (references_in (object_at i os).content)
+        (good.connected i old))
     | inr end ↦
         let is : length os ≡ i = omega (arith, length-append os (o ∷ [])) in
         subst (λ (n : ℕ). All (StandsBefore more n) (references_in (object_at n more).content)) is
-        (subst (λ (x : Object). All (StandsBefore more (length os)) (references_in x.content)) (sym (last_object os o))
-        (All-weaker (StandsBefore os (length os)) (StandsBefore more (length os)) (before_longer os (o ∷ []) (length os) (omega arith)) (references_in o.content) add.connected))
+        (subst (λ (x : Object). All (StandsBefore more (length os)) (references_in x.content))
+        (sym (last_object os o))
+        (All-weaker (StandsBefore os (length os)) (StandsBefore more (length os))
+        (before_longer os (o ∷ []) (length os) (omega arith))
+        (references_in o.content) add.connected))
   ];
   few = let room = add.room in omega (arith, length-append os (o ∷ []));
 }
@@ -155,52 +198,78 @@ one_more digest os o good add = record {
 
 -- ---- a prefix
 
-all_at : (P : Object → Type 0) (xs : List Object) → ((i : ℕ) → i < length xs → P (object_at i xs)) → All P xs
+all_at : (P : Object → Type 0) (xs : List Object) → ((i : ℕ) → i < length xs → P (object_at i xs))
+    → All P xs
 unfolding object_at
 all_at P xs h = All-from_get_or P xs no_object h
 
-before_shorter : (xs ys : List Object) (i : ℕ) → i ≤ length xs → (r : Reference) → StandsBefore (xs ++ ys) i r → StandsBefore xs i r
-before_shorter xs ys i le r h = still_before (xs ++ ys) xs i r (shorter r.id xs ys (let b = h.before in omega arith)) h
+before_shorter : (xs ys : List Object) (i : ℕ) → i ≤ length xs → (r : Reference)
+    → StandsBefore (xs ++ ys) i r → StandsBefore xs i r
+before_shorter xs ys i le r h =
+    still_before (xs ++ ys) xs i r (shorter r.id xs ys (let b = h.before in omega arith)) h
 
-valid_shorter : (xs ys : List Object) (i : ℕ) → i ≤ length xs → (k : Kind) (bytes : List ℕ) → All (StandsBefore (xs ++ ys) i) (references_of k bytes) → IsValid (xs ++ ys) k bytes → IsValid xs k bytes
+valid_shorter : (xs ys : List Object) (i : ℕ) → i ≤ length xs → (k : Kind) (bytes : List ℕ)
+    → All (StandsBefore (xs ++ ys) i) (references_of k bytes) → IsValid (xs ++ ys) k bytes
+    → IsValid xs k bytes
 valid_shorter xs ys i le kind.Blob bytes h v = tt
 valid_shorter xs ys i le kind.Tree bytes h v =
     let es = v.0 in
     let read = ap tree_read v.1.contents ∙ tree_back es v.1.writable in
-    let stand = All-from_recursion (λ (e : TreeEntry). e.mode ≡ mode.Directory → StandsBefore (xs ++ ys) i (reference kind.Tree e.id)) es
-    (of_entries (StandsBefore (xs ++ ys) i) es (subst (λ (ds : List TreeEntry). All (StandsBefore (xs ++ ys) i) (tree_references ds)) read h)) in
-    (es, still_tree (xs ++ ys) xs bytes es (λ k d lt is some. shorter _ xs ys (let b = (stand k d lt is).before in omega arith)) v.1)
+    let stand = All-from_recursion
+    (λ (e : TreeEntry). e.mode ≡ mode.Directory → StandsBefore (xs ++ ys) i
+    (reference kind.Tree e.id)) es
+    (of_entries (StandsBefore (xs ++ ys) i) es
+    (subst (λ (ds : List TreeEntry). All (StandsBefore (xs ++ ys) i)
+    (tree_references ds)) read h)) in (
+      es,
+      still_tree (xs ++ ys) xs bytes es
+          (λ k d lt is some. shorter _ xs ys (let b = (stand k d lt is).before in omega arith)) v.1,
+    )
 valid_shorter xs ys i le kind.Commit bytes h v = v
 valid_shorter xs ys i le kind.Tag bytes h v = v
 
-pub prefix_is : (digest : List ℕ → List ℕ) (xs ys : List Object) → AreObjects digest (xs ++ ys) → AreObjects digest xs
+pub prefix_is : (digest : List ℕ → List ℕ) (xs ys : List Object) → AreObjects digest (xs ++ ys)
+    → AreObjects digest xs
 prefix_is digest xs ys good = record {
-  each = all_at (IsObject digest xs) xs (λ i lt. short i lt (subst (IsObject digest (xs ++ ys)) (same_object xs ys i lt) (at_place (IsObject digest (xs ++ ys)) (xs ++ ys) i good.each (within i lt))));
+  each = all_at (IsObject digest xs) xs
+      (λ i lt. short i lt
+      (subst (IsObject digest (xs ++ ys)) (same_object xs ys i lt)
+      (at_place (IsObject digest (xs ++ ys)) (xs ++ ys) i good.each (within i lt))));
   distinct = λ i lt.
-      let at : place_of (object_at i xs).id (xs ++ ys) ≡ i = ap (λ (x : Object). place_of x.id (xs ++ ys)) (sym (same_object xs ys i lt)) ∙ good.distinct i (within i lt) in
+      let at : place_of (object_at i xs).id (xs ++ ys) ≡ i = ap
+      (λ (x : Object). place_of x.id (xs ++ ys)) (sym (same_object xs ys i lt))
+      ∙ good.distinct i (within i lt) in
       (shorter (object_at i xs).id xs ys (omega (arith, at))).place ∙ at;
   connected = λ i lt.
-      All-weaker (StandsBefore (xs ++ ys) i) (StandsBefore xs i) (before_shorter xs ys i (omega arith)) (references_in (object_at i xs).content) (refers i lt);
+      All-weaker (StandsBefore (xs ++ ys) i) (StandsBefore xs i)
+      (before_shorter xs ys i (omega arith)) (references_in (object_at i xs).content) (refers i lt);
   few = let few = good.few in omega (arith, length-append xs ys);
 }
   where
     within : (i : ℕ) → i < length xs → i < length (xs ++ ys)
     within i lt = omega (arith, length-append xs ys)
 
-    refers : (i : ℕ) → i < length xs → All (StandsBefore (xs ++ ys) i) (references_in (object_at i xs).content)
+    refers : (i : ℕ) → i < length xs
+        → All (StandsBefore (xs ++ ys) i) (references_in (object_at i xs).content)
     refers i lt =
-        subst (λ (x : Object). All (StandsBefore (xs ++ ys) i) (references_in x.content)) (same_object xs ys i lt) (good.connected i (within i lt))
+        subst (λ (x : Object). All (StandsBefore (xs ++ ys) i) (references_in x.content))
+        (same_object xs ys i lt) (good.connected i (within i lt))
 
-    short : (i : ℕ) → i < length xs → IsObject digest (xs ++ ys) (object_at i xs) → IsObject digest xs (object_at i xs)
+    short : (i : ℕ) → i < length xs → IsObject digest (xs ++ ys) (object_at i xs)
+        → IsObject digest xs (object_at i xs)
     short i lt h = record {
       name = h.name;
       named = h.named;
-      valid = valid_shorter xs ys i (omega arith) (object_at i xs).content.kind (object_at i xs).content.bytes (refers i lt) h.valid;
+      valid = valid_shorter xs ys i (omega arith) (object_at i xs).content.kind
+          (object_at i xs).content.bytes (refers i lt) h.valid;
       short = h.short;
     }
 
-pub taken_is : (digest : List ℕ → List ℕ) (os : List Object) (n : ℕ) → AreObjects digest os → AreObjects digest (take n os)
-taken_is digest os n good = prefix_is digest (take n os) (drop n os) (subst (AreObjects digest) (sym (take-append-drop n os)) good)
+pub taken_is : (digest : List ℕ → List ℕ) (os : List Object) (n : ℕ) → AreObjects digest os
+    → AreObjects digest (take n os)
+taken_is digest os n good =
+    prefix_is digest (take n os) (drop n os)
+    (subst (AreObjects digest) (sym (take-append-drop n os)) good)
 
 pub none_are : (digest : List ℕ → List ℕ) → AreObjects digest []
 none_are digest = record {

@@ -31,22 +31,27 @@ abbrev pub lines_text : List (List ℕ) → List ℕ → List ℕ
 lines_text texts message = flat_map ended texts ++ 10 ∷ message
 
 -- a line in front of others
-pub first_line_text : (t : List ℕ) (ts : List (List ℕ)) (m : List ℕ) → lines_text (t ∷ ts) m ≡ ended t ++ lines_text ts m
+pub first_line_text : (t : List ℕ) (ts : List (List ℕ)) (m : List ℕ)
+    → lines_text (t ∷ ts) m ≡ ended t ++ lines_text ts m
 first_line_text t ts m = append_assoc (ended t) (flat_map ended ts) (10 ∷ m)
 
-regroup : (t : List ℕ) (ts : List (List ℕ)) (m : List ℕ) → lines_text (t ∷ ts) m ≡ t ++ 10 ∷ lines_text ts m
+regroup : (t : List ℕ) (ts : List (List ℕ)) (m : List ℕ)
+    → lines_text (t ∷ ts) m ≡ t ++ 10 ∷ lines_text ts m
 regroup t ts m = first_line_text t ts m ∙ append_assoc t (10 ∷ []) (lines_text ts m)
 
-one_part : (t : List ℕ) (ts : List (List ℕ)) (m : List ℕ) → IsOneLine t → slice_split ends_line (lines_text (t ∷ ts) m) ≡ t ∷ slice_split ends_line (lines_text ts m)
+one_part : (t : List ℕ) (ts : List (List ℕ)) (m : List ℕ) → IsOneLine t
+    → slice_split ends_line (lines_text (t ∷ ts) m) ≡ t ∷ slice_split ends_line (lines_text ts m)
 one_part t ts m is =
     ap (slice_split ends_line) (regroup t ts m)
-    ∙ slice_split_at ends_line t 10 (lines_text ts m) (All-weaker (λ (b : ℕ). b ≢ 10) (λ b. ends_line b ≡ false) (λ b ne. ne_eqb b 10 ne) t is) refl
+    ∙ slice_split_at ends_line t 10 (lines_text ts m)
+    (All-weaker (λ (b : ℕ). b ≢ 10) (λ b. ends_line b ≡ false) (λ b ne. ne_eqb b 10 ne) t is) refl
 
 some_is : (t : List ℕ) → t ≢ [] → is_some_text t ≡ true
 some_is [] ne = absurd (ne refl)
 some_is (b ∷ bs) ne = refl
 
-pub lines_back : (ts : List (List ℕ)) (m : List ℕ) → AllByRecursion IsLine ts → header_lines (lines_text ts m) ≡ ts
+pub lines_back : (ts : List (List ℕ)) (m : List ℕ) → AllByRecursion IsLine ts
+    → header_lines (lines_text ts m) ≡ ts
 unfolding header_lines
 lines_back [] m h = refl
 lines_back (t ∷ ts) m h =
@@ -69,22 +74,30 @@ size_is (t ∷ ts) =
 
 message_at : (ts : List (List ℕ)) (m : List ℕ) → drop (sum_by size_of ts + 1) (lines_text ts m) ≡ m
 message_at ts m =
-    let size : length (flat_map ended ts ++ 10 ∷ []) ≡ sum_by size_of ts + 1 = let a = length-append (flat_map ended ts) (10 ∷ []) in let b = size_is ts in omega arith in
-    ap (drop (sum_by size_of ts + 1)) (sym (append_assoc (flat_map ended ts) (10 ∷ []) m)) ∙ drop_at (flat_map ended ts ++ 10 ∷ []) m (sum_by size_of ts + 1) size
+    let size : length
+    (flat_map ended ts ++ 10 ∷ []) ≡ sum_by size_of ts + 1 = let a = length-append
+    (flat_map ended ts) (10 ∷ []) in let b = size_is ts in omega arith in
+    ap (drop (sum_by size_of ts + 1)) (sym (append_assoc (flat_map ended ts) (10 ∷ []) m))
+    ∙ drop_at (flat_map ended ts ++ 10 ∷ []) m (sum_by size_of ts + 1) size
 
-pub message_back : (ts : List (List ℕ)) (m : List ℕ) → AllByRecursion IsLine ts → message_of (lines_text ts m) ≡ m
+pub message_back : (ts : List (List ℕ)) (m : List ℕ) → AllByRecursion IsLine ts
+    → message_of (lines_text ts m) ≡ m
 unfolding message_of
 message_back ts m h =
-    ap (λ (l : List (List ℕ)). drop (sum_by size_of l + 1) (lines_text ts m)) (lines_back ts m h) ∙ message_at ts m
+    ap (λ (l : List (List ℕ)). drop (sum_by size_of l + 1) (lines_text ts m)) (lines_back ts m h)
+    ∙ message_at ts m
 
-pub values_back : (word : List ℕ) (ts : List (List ℕ)) (m : List ℕ) → AllByRecursion IsLine ts → values_of word (lines_text ts m) ≡ filter_map (after_word word) ts
+pub values_back : (word : List ℕ) (ts : List (List ℕ)) (m : List ℕ) → AllByRecursion IsLine ts
+    → values_of word (lines_text ts m) ≡ filter_map (after_word word) ts
 unfolding values_of
 values_back word ts m h = ap (filter_map (after_word word)) (lines_back ts m h)
 
 -- a word and a text on one line
-pub worded : (word text : List ℕ) → word ≢ [] → list_all (λ byte. not (byte == 10)) word ≡ true → IsOneLine text → IsLine (word ++ text)
+pub worded : (word text : List ℕ) → word ≢ [] → list_all (λ byte. not (byte == 10)) word ≡ true
+    → IsOneLine text → IsLine (word ++ text)
 worded [] text some plain is = absurd (some refl)
-worded (b ∷ word) text some plain is = record { some = λ e. cc e; one_line = word_one_line (b ∷ word) text plain is }
+worded (b ∷ word) text some plain is =
+    record { some = λ e. cc e; one_line = word_one_line (b ∷ word) text plain is }
 
 -- the names that digits give
 pub named_back : (id : List ℕ) → IsObjectName id → id_of_digits (encode_lower id) ≡ id

@@ -36,10 +36,10 @@ pub no_email : read_ident (codes "A 0 +0000") ≡ Err BadIdentity
 unfolding read_ident behind_name behind_email is_date
 no_email = refl
 
--- a space stands behind the email
-pub no_space_behind_the_email : read_ident (codes "A <a@b>0 +0000") ≡ Err BadIdentity
+-- a space comes after the email
+pub no_space_after_the_email : read_ident (codes "A <a@b>0 +0000") ≡ Err BadIdentity
 unfolding read_ident behind_name behind_email is_date
-no_space_behind_the_email = refl
+no_space_after_the_email = refl
 
 pub no_date : read_ident (codes "A <a@b> ") ≡ Err BadDate
 unfolding read_ident behind_name behind_email is_date
@@ -88,9 +88,9 @@ pub no_sign : read_ident (codes "A <a@b> 0 0000") ≡ Err BadDate
 unfolding read_ident behind_name behind_email is_date
 no_sign = refl
 
-pub text_behind : read_ident (codes "A <a@b> 0 +0000 ") ≡ Err BadDate
+pub text_after : read_ident (codes "A <a@b> 0 +0000 ") ≡ Err BadDate
 unfolding read_ident behind_name behind_email is_date
-text_behind = refl
+text_after = refl
 
 -- the time is the value of the digits
 pub time_with_zeros : ident_time (codes "A <a@b> 0012 +0100") ≡ 12

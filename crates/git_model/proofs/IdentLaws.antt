@@ -18,21 +18,24 @@ read_ident-Ok text = elim (is_read text) [
 ]
 
 -- nothing else is read
-pub read_ident-Ok_only : (text ident : List ℕ) → read_ident text ≡ Ok ident → IsIdent text × (ident ≡ written_ident text)
+pub read_ident-Ok_only : (text ident : List ℕ) → read_ident text ≡ Ok ident
+    → IsIdent text × (ident ≡ written_ident text)
 read_ident-Ok_only text ident f = elim (is_read text) [
   | Whole well e ↦ (well, cc)
   | Unnamed nobody e ↦ cc
   | Undated named other e ↦ cc
 ]
 
-pub read_ident-BadIdentity : (text : List ℕ) → (read_ident text ≡ Err BadIdentity) ↔ ¬ NamesPerson text
+pub read_ident-BadIdentity : (text : List ℕ) → (read_ident text ≡ Err BadIdentity)
+    ↔ ¬ NamesPerson text
 read_ident-BadIdentity text = elim (is_read text) [
   | Whole ident e ↦ (λ f. cc, λ nobody. absurd (nobody (named_by text ident)))
   | Unnamed nobody e ↦ (λ _. nobody, λ _. e)
   | Undated named other e ↦ (λ f. cc, λ nobody. absurd (nobody named))
 ]
 
-pub read_ident-BadDate : (text : List ℕ) → (read_ident text ≡ Err BadDate) ↔ (NamesPerson text × ¬ IsIdent text)
+pub read_ident-BadDate : (text : List ℕ) → (read_ident text ≡ Err BadDate)
+    ↔ (NamesPerson text × ¬ IsIdent text)
 read_ident-BadDate text = elim (is_read text) [
   | Whole ident e ↦ (λ f. cc, λ h. absurd (h.1 ident))
   | Unnamed nobody e ↦ (λ f. cc, λ h. absurd (nobody h.0))
@@ -40,11 +43,13 @@ read_ident-BadDate text = elim (is_read text) [
 ]
 
 -- the time of an ident is the value of its seconds' digits
-pub ident_time-of : (person : Person) (date : Date) → IsPerson person → IsDate date → ident_time (person_text person ++ date_text date) ≡ digits_value 10 date.seconds
+pub ident_time-of : (person : Person) (date : Date) → IsPerson person → IsDate date
+    → ident_time (person_text person ++ date_text date) ≡ digits_value 10 date.seconds
 unfolding ident_time
 ident_time-of person date p d =
     ap seconds_at (behind_person_only person (date_text date) p)
-    ∙ ap (digits_value 10) (take_front is_ascii_digit date.seconds 32 date.offset d.seconds_are_digits refl)
+    ∙ ap (digits_value 10)
+    (take_front is_ascii_digit date.seconds 32 date.offset d.seconds_are_digits refl)
 
 -- ---- idents as they are written
 
@@ -63,20 +68,30 @@ head_is b c xs ys e = cc
 without_name : (email : List ℕ) (date : Date) → list_all is_person_byte email ≡ true → IsDate date
     → IsWrittenIdent (32 ∷ (person_text (record { name = []; email = email }) ++ date_text date))
 without_name email date plain d = (
-  (record { name = codes " "; email = email }, date, record { name = refl; name_ends_in_a_space = inr ([], refl); email = plain }, d, refl),
+  (
+    record { name = codes " "; email = email },
+    date,
+    record { name = refl; name_ends_in_a_space = inr ([], refl); email = plain },
+    d,
+    refl,
+  ),
   λ less. let never = head_is _ _ _ _ less.1 in cc,
 )
 
 -- a text that begins with a name's byte does not begin with `<`
-with_name : (b : ℕ) (name rest : List ℕ) → list_all is_person_byte (b ∷ name) ≡ true → ¬ BeginsWith (b ∷ rest) (codes "<")
-with_name b name rest plain less = let other = not_less b name plain in let is_less = eq-eqb b 60 (head_is _ _ _ _ less.1) in cc
+with_name : (b : ℕ) (name rest : List ℕ) → list_all is_person_byte (b ∷ name) ≡ true
+    → ¬ BeginsWith (b ∷ rest) (codes "<")
+with_name b name rest plain less =
+    let other = not_less b name plain in let is_less = eq-eqb b 60 (head_is _ _ _ _ less.1) in cc
 
 written_of : (b : ℕ) (rest : List ℕ) → (b == 60) ≡ false → written_ident (b ∷ rest) ≡ b ∷ rest
 written_of b rest e = rw e refl
 
-by_name : (name email : List ℕ) (date : Date) → list_all is_person_byte name ≡ true → list_all is_person_byte email ≡ true → IsDate date
+by_name : (name email : List ℕ) (date : Date) → list_all is_person_byte name ≡ true
+    → list_all is_person_byte email ≡ true → IsDate date
     → IsIdent (person_text (record { name = name; email = email }) ++ date_text date)
-    → IsWrittenIdent (written_ident (person_text (record { name = name; email = email }) ++ date_text date))
+    → IsWrittenIdent
+    (written_ident (person_text (record { name = name; email = email }) ++ date_text date))
 by_name [] email date n e d ident = without_name email date e d
 by_name (b ∷ name) email date n e d ident =
     subst IsWrittenIdent (sym (written_of b _ (not_less b name n))) (ident, with_name b name _ n)
@@ -85,7 +100,8 @@ by_name (b ∷ name) email date n e d ident =
 pub written_ident-IsWritten : (text : List ℕ) → IsIdent text → IsWrittenIdent (written_ident text)
 written_ident-IsWritten text ident =
     subst (λ t. IsWrittenIdent (written_ident t)) (sym ident.4)
-    (by_name ident.0.name ident.0.email ident.1 ident.2.name ident.2.email ident.3 (subst IsIdent ident.4 ident))
+    (by_name ident.0.name ident.0.email ident.1 ident.2.name ident.2.email ident.3
+    (subst IsIdent ident.4 ident))
 
 -- one that does not begin with `<` is written as it is
 pub written_ident-same : (text : List ℕ) → ¬ BeginsWith text (codes "<") → written_ident text ≡ text
@@ -99,4 +115,6 @@ written_ident-same (b ∷ rest) h = cases (b == 60) refl
 -- the time of an ident is below 2^64
 pub ident_time-fits : (text : List ℕ) → IsIdent text → ident_time text < 2 ^ 64
 ident_time-fits text ident =
-    subst (λ n. n < 2 ^ 64) (sym (ap ident_time ident.4 ∙ ident_time-of ident.0 ident.1 ident.2 ident.3)) ident.3.seconds_below_two_to_64
+    subst (λ n. n < 2 ^ 64)
+    (sym (ap ident_time ident.4
+    ∙ ident_time-of ident.0 ident.1 ident.2 ident.3)) ident.3.seconds_below_two_to_64

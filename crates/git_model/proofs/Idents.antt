@@ -24,7 +24,8 @@ behind_byte_found b (x ∷ xs) rest e = elim (cases_Bool (x == b)) [
 behind_byte_only : (b : ℕ) (rest : List ℕ) → behind_byte b (b ∷ rest) ≡ Some rest
 behind_byte_only b rest = rw (eq-eqb b b refl) refl
 
-then_step : {A B : Type 0} (f : A → Option B) (o : Option A) (r : B) → option_and_then f o ≡ Some r → (x : A) × (o ≡ Some x) × (f x ≡ Some r)
+then_step : {A B : Type 0} (f : A → Option B) (o : Option A) (r : B) → option_and_then f o ≡ Some r
+    → (x : A) × (o ≡ Some x) × (f x ≡ Some r)
 then_step f None r e = cc
 then_step f (Some x) r e = (x, refl, e)
 
@@ -38,21 +39,30 @@ name_only : (name : List ℕ) → (name ≡ []) ⊎ EndsWith name (codes " ") �
 name_only [] h = refl
 name_only (b ∷ r) h = elim h [ inl e ↦ cc | inr ends ↦ (ends_test (b ∷ r) (codes " ")).1 ends ]
 
-name_step : (front back rest : List ℕ) → (if is_name front then behind_byte 60 back else None) ≡ Some rest → (is_name front ≡ true) × (back ≡ 60 ∷ rest)
+name_step : (front back rest : List ℕ)
+    → (if is_name front then behind_byte 60 back else None) ≡ Some rest
+    → (is_name front ≡ true) × (back ≡ 60 ∷ rest)
 name_step front back rest e = elim (cases_Bool (is_name front)) [
   | inl passes ↦ (passes, behind_byte_found 60 back rest (rw passes at e))
   | inr fails ↦ (let none = rw fails at e in cc)
 ]
 
 behind_name_found : (text rest : List ℕ) → behind_name text ≡ Some rest
-    → (name : List ℕ) × (is_name name ≡ true) × (list_all is_person_byte name ≡ true) × (text ≡ name ++ 60 ∷ rest)
+    → (name : List ℕ) × (is_name name ≡ true) × (list_all is_person_byte name ≡ true) ×
+    (text ≡ name ++ 60 ∷ rest)
 unfolding behind_name
 behind_name_found text rest e =
     let n = prefix_len is_person_byte text in
-    let step = name_step (take n text) (drop n text) rest e in
-    (take n text, step.0, front_passes is_person_byte text, sym (take-append-drop n text) ∙ ap (λ l. take n text ++ l) step.1)
+    let step = name_step (take n text) (drop n text) rest e in (
+      take n text,
+      step.0,
+      front_passes is_person_byte text,
+      sym (take-append-drop n text) ∙ ap
+          (λ l. take n text ++ l) step.1,
+    )
 
-behind_name_only : (name rest : List ℕ) → is_name name ≡ true → list_all is_person_byte name ≡ true → behind_name (name ++ 60 ∷ rest) ≡ Some rest
+behind_name_only : (name rest : List ℕ) → is_name name ≡ true → list_all is_person_byte name ≡ true
+    → behind_name (name ++ 60 ∷ rest) ≡ Some rest
 unfolding behind_name
 behind_name_only name rest named plain =
     rw (take_front is_person_byte name 60 rest plain refl, drop_front is_person_byte name 60 rest plain refl, named) refl
@@ -63,18 +73,28 @@ unfolding behind_email
 behind_email_found text rest e =
     let n = prefix_len is_person_byte text in
     let step = then_step (behind_byte 32) (behind_byte 62 (drop n text)) rest e in
-    let back : drop n text ≡ 62 ∷ 32 ∷ rest = behind_byte_found 62 (drop n text) step.0 step.1 ∙ ap (λ l. 62 ∷ l) (behind_byte_found 32 step.0 rest step.2) in
-    (take n text, front_passes is_person_byte text, sym (take-append-drop n text) ∙ ap (λ l. take n text ++ l) back)
+    let back : drop n text ≡ 62 ∷ 32 ∷ rest = behind_byte_found 62 (drop n text) step.0 step.1
+    ∙ ap (λ l. 62 ∷ l) (behind_byte_found 32 step.0 rest step.2) in (
+      take n text,
+      front_passes is_person_byte text,
+      sym (take-append-drop n text) ∙ ap
+          (λ l. take n text ++ l) back,
+    )
 
-behind_email_only : (email rest : List ℕ) → list_all is_person_byte email ≡ true → behind_email (email ++ 62 ∷ 32 ∷ rest) ≡ Some rest
+behind_email_only : (email rest : List ℕ) → list_all is_person_byte email ≡ true
+    → behind_email (email ++ 62 ∷ 32 ∷ rest) ≡ Some rest
 unfolding behind_email
-behind_email_only email rest plain = rw (drop_front is_person_byte email 62 (32 ∷ rest) plain refl) refl
+behind_email_only email rest plain =
+    rw (drop_front is_person_byte email 62 (32 ∷ rest) plain refl) refl
 
-person_text-append : (person : Person) (rest : List ℕ) → person_text person ++ rest ≡ person.name ++ 60 ∷ (person.email ++ 62 ∷ 32 ∷ rest)
+person_text-append : (person : Person) (rest : List ℕ)
+    → person_text person ++ rest ≡ person.name ++ 60 ∷ (person.email ++ 62 ∷ 32 ∷ rest)
 person_text-append person rest =
-    append_assoc person.name (60 ∷ (person.email ++ codes "> ")) rest ∙ ap (λ l. person.name ++ 60 ∷ l) (append_assoc person.email (codes "> ") rest)
+    append_assoc person.name (60 ∷ (person.email ++ codes "> ")) rest
+    ∙ ap (λ l. person.name ++ 60 ∷ l) (append_assoc person.email (codes "> ") rest)
 
-pub behind_person_found : (text rest : List ℕ) → behind_person text ≡ Some rest → (person : Person) × IsPerson person × (text ≡ person_text person ++ rest)
+pub behind_person_found : (text rest : List ℕ) → behind_person text ≡ Some rest
+    → (person : Person) × IsPerson person × (text ≡ person_text person ++ rest)
 behind_person_found text rest e =
     let step = then_step behind_email (behind_name text) rest e in
     let name = behind_name_found text step.0 step.1 in
@@ -85,19 +105,25 @@ behind_person_found text rest e =
       name.3 ∙ ap (λ l. name.0 ++ 60 ∷ l) email.2 ∙ sym (person_text-append person rest),
     )
 
-pub behind_person_only : (person : Person) (rest : List ℕ) → IsPerson person → behind_person (person_text person ++ rest) ≡ Some rest
+pub behind_person_only : (person : Person) (rest : List ℕ) → IsPerson person
+    → behind_person (person_text person ++ rest) ≡ Some rest
 behind_person_only person rest h =
     ap behind_person (person_text-append person rest)
-    ∙ ap (option_and_then behind_email) (behind_name_only person.name (person.email ++ 62 ∷ 32 ∷ rest) (name_only person.name h.name_ends_in_a_space) h.name)
+    ∙ ap (option_and_then behind_email)
+    (behind_name_only person.name (person.email ++ 62 ∷ 32 ∷ rest)
+    (name_only person.name h.name_ends_in_a_space) h.name)
     ∙ behind_email_only person.email rest h.email
 
 -- ---- the date
 
-spaced_found : (xs : List ℕ) → is_spaced_offset xs ≡ true → (offset : List ℕ) × (xs ≡ 32 ∷ offset) × (is_offset offset ≡ true)
+spaced_found : (xs : List ℕ) → is_spaced_offset xs ≡ true
+    → (offset : List ℕ) × (xs ≡ 32 ∷ offset) × (is_offset offset ≡ true)
 spaced_found [] e = cc
-spaced_found (x ∷ xs) e = let parts = and_parts _ _ e in (xs, ap (λ b. b ∷ xs) (eqb-true x 32 parts.0), parts.1)
+spaced_found (x ∷ xs) e =
+    let parts = and_parts _ _ e in (xs, ap (λ b. b ∷ xs) (eqb-true x 32 parts.0), parts.1)
 
-pub is_date_found : (text : List ℕ) → is_date text ≡ true → (date : Date) × IsDate date × (text ≡ date_text date)
+pub is_date_found : (text : List ℕ) → is_date text ≡ true
+    → (date : Date) × IsDate date × (text ≡ date_text date)
 unfolding is_date
 is_date_found text e =
     let n = prefix_len is_ascii_digit text in
@@ -105,30 +131,37 @@ is_date_found text e =
     let parts = and_parts _ _ e in
     let seconds = and_parts _ _ parts.0 in
     let count = and_parts _ _ seconds.0 in
-    let behind = spaced_found (drop n text) parts.1 in (
-      record { seconds = digits; offset = behind.0 },
+    let after = spaced_found (drop n text) parts.1 in (
+      record { seconds = digits; offset = after.0 },
       record {
         seconds_are_digits = front_passes is_ascii_digit text;
         at_least_one_digit = ltb-true 0 (length digits) count.0;
         at_most_twenty_digits = leb-true (length digits) 20 count.1;
         seconds_below_two_to_64 = ltb-true (digits_value 10 digits) (2 ^ 64) seconds.1;
-        offset = behind.2;
+        offset = after.2;
       },
-      sym (take-append-drop n text) ∙ ap (λ l. digits ++ l) behind.1,
+      sym (take-append-drop n text) ∙ ap (λ l. digits ++ l) after.1,
     )
 
 pub is_date_only : (date : Date) → IsDate date → is_date (date_text date) ≡ true
 unfolding is_date
 is_date_only date h =
-    rw (take_front is_ascii_digit date.seconds 32 date.offset h.seconds_are_digits refl, drop_front is_ascii_digit date.seconds 32 date.offset h.seconds_are_digits refl)
-    (and_from _ _ (and_from _ _ (and_from _ _ (lt-ltb 0 (length date.seconds) h.at_least_one_digit) (le-leb (length date.seconds) 20 h.at_most_twenty_digits))
+    rw (
+      take_front is_ascii_digit date.seconds 32 date.offset h.seconds_are_digits refl,
+      drop_front is_ascii_digit date.seconds 32 date.offset h.seconds_are_digits refl,
+    )
+    (and_from _ _
+    (and_from _ _
+    (and_from _ _ (lt-ltb 0 (length date.seconds) h.at_least_one_digit)
+    (le-leb (length date.seconds) 20 h.at_most_twenty_digits))
     (lt-ltb (digits_value 10 date.seconds) (2 ^ 64) h.seconds_below_two_to_64)) h.offset)
 
 -- ---- the whole
 
--- what stands behind the person decides whether a text is an ident
+-- what comes after the person decides whether a text is an ident
 unnamed : (text : List ℕ) → behind_person text ≡ None → ¬ NamesPerson text
-unnamed text e named = let found = ap behind_person named.3 ∙ behind_person_only named.0 named.1 named.2 in cc
+unnamed text e named =
+    let found = ap behind_person named.3 ∙ behind_person_only named.0 named.1 named.2 in cc
 
 dated : (text rest : List ℕ) → behind_person text ≡ Some rest → is_date rest ≡ true → IsIdent text
 dated text rest e well =
@@ -136,9 +169,11 @@ dated text rest e well =
     let at = is_date_found rest well in
     (who.0, at.0, who.1, at.1, who.2 ∙ ap (λ l. person_text who.0 ++ l) at.2)
 
-date_behind : (text rest : List ℕ) → behind_person text ≡ Some rest → IsIdent text → is_date rest ≡ true
-date_behind text rest e ident =
-    let found : behind_person text ≡ Some (date_text ident.1) = ap behind_person ident.4 ∙ behind_person_only ident.0 (date_text ident.1) ident.2 in
+date_after : (text rest : List ℕ) → behind_person text ≡ Some rest → IsIdent text
+    → is_date rest ≡ true
+date_after text rest e ident =
+    let found : behind_person text ≡ Some (date_text ident.1) = ap behind_person ident.4
+    ∙ behind_person_only ident.0 (date_text ident.1) ident.2 in
     let same : rest ≡ date_text ident.1 = cc in
     ap is_date same ∙ is_date_only ident.1 ident.3
 
@@ -151,19 +186,24 @@ pub data IsRead (text : List ℕ) : Type 0 where
   Unnamed : ¬ NamesPerson text → read_ident text ≡ Err BadIdentity → IsRead text
   Undated : NamesPerson text → ¬ IsIdent text → read_ident text ≡ Err BadDate → IsRead text
 
-with_date_of : (text rest : List ℕ) (o : Option (List ℕ)) → o ≡ Some rest → (b : Bool) → is_date rest ≡ b → with_date text o ≡ (if b then Ok (written_ident text) else Err BadDate)
+with_date_of : (text rest : List ℕ) (o : Option (List ℕ)) → o ≡ Some rest → (b : Bool)
+    → is_date rest ≡ b → with_date text o ≡ (if b then Ok (written_ident text) else Err BadDate)
 with_date_of text rest o e b d = rw (e, d) refl
 
 pub is_read : (text : List ℕ) → IsRead text
 unfolding read_ident
-is_read text = behind (behind_person text) refl
+is_read text = after (behind_person text) refl
   where
-    date : (rest : List ℕ) → behind_person text ≡ Some rest → (b : Bool) → is_date rest ≡ b → IsRead text
-    date rest e true d = Whole (dated text rest e d) (with_date_of text rest (behind_person text) e true d)
+    date : (rest : List ℕ) → behind_person text ≡ Some rest → (b : Bool) → is_date rest ≡ b
+        → IsRead text
+    date rest e true d =
+        Whole (dated text rest e d) (with_date_of text rest (behind_person text) e true d)
     date rest e false d =
         let who = behind_person_found text rest e in
-        Undated (who.0, rest, who.1, who.2) (λ ident. let well = date_behind text rest e ident in cc) (with_date_of text rest (behind_person text) e false d)
+        Undated (who.0, rest, who.1, who.2)
+        (λ ident. let well = date_after text rest e ident in cc)
+        (with_date_of text rest (behind_person text) e false d)
 
-    behind : (o : Option (List ℕ)) → behind_person text ≡ o → IsRead text
-    behind None e = Unnamed (unnamed text e) (ap (with_date text) e)
-    behind (Some rest) e = date rest e (is_date rest) refl
+    after : (o : Option (List ℕ)) → behind_person text ≡ o → IsRead text
+    after None e = Unnamed (unnamed text e) (ap (with_date text) e)
+    after (Some rest) e = date rest e (is_date rest) refl

@@ -18,11 +18,13 @@ pub record StandsAt (os : List Object) (id : List ℕ) (c : Content) : Type 0 wh
   pub within : place_of id os < length os
   pub object : object_at (place_of id os) os ≡ record { id = id; content = c }
 
-pub first_place : (id : List ℕ) (o : Object) (os : List Object) → bytes_eq id o.id ≡ true → place_of id (o ∷ os) ≡ 0
+pub first_place : (id : List ℕ) (o : Object) (os : List Object) → bytes_eq id o.id ≡ true
+    → place_of id (o ∷ os) ≡ 0
 unfolding place_of
 first_place id o os e = rw e refl
 
-pub later_place : (id : List ℕ) (o : Object) (os : List Object) → bytes_eq id o.id ≡ false → place_of id (o ∷ os) ≡ suc (place_of id os)
+pub later_place : (id : List ℕ) (o : Object) (os : List Object) → bytes_eq id o.id ≡ false
+    → place_of id (o ∷ os) ≡ suc (place_of id os)
 unfolding place_of
 later_place id o os e = rw e (omega arith)
 
@@ -30,15 +32,18 @@ pub first_object : (o : Object) (os : List Object) → object_at 0 (o ∷ os) �
 unfolding object_at
 first_object o os = refl
 
-pub later_object : (n : ℕ) (o : Object) (os : List Object) → object_at (suc n) (o ∷ os) ≡ object_at n os
+pub later_object : (n : ℕ) (o : Object) (os : List Object)
+    → object_at (suc n) (o ∷ os) ≡ object_at n os
 unfolding object_at
 later_object n o os = refl
 
-pub first_named : (id : List ℕ) (o : Object) (os : List Object) → bytes_eq id o.id ≡ true → object_named id (o ∷ os) ≡ Some o.content
+pub first_named : (id : List ℕ) (o : Object) (os : List Object) → bytes_eq id o.id ≡ true
+    → object_named id (o ∷ os) ≡ Some o.content
 unfolding object_named
 first_named id o os e = rw e refl
 
-pub later_named : (id : List ℕ) (o : Object) (os : List Object) → bytes_eq id o.id ≡ false → object_named id (o ∷ os) ≡ object_named id os
+pub later_named : (id : List ℕ) (o : Object) (os : List Object) → bytes_eq id o.id ≡ false
+    → object_named id (o ∷ os) ≡ object_named id os
 unfolding object_named
 later_named id o os e = rw e refl
 
@@ -46,7 +51,8 @@ pub nothing_named : (id : List ℕ) → object_named id [] ≡ None
 unfolding object_named
 nothing_named id = refl
 
-pub stands_at : (id : List ℕ) (os : List Object) (c : Content) → object_named id os ≡ Some c → StandsAt os id c
+pub stands_at : (id : List ℕ) (os : List Object) (c : Content) → object_named id os ≡ Some c
+    → StandsAt os id c
 stands_at id [] c e = let none = nothing_named id in cc
 stands_at id (o ∷ os) c e = elim (cases_Bool (bytes_eq id o.id)) [
   | inl yea ↦
@@ -55,19 +61,22 @@ stands_at id (o ∷ os) c e = elim (cases_Bool (bytes_eq id o.id)) [
       let content : o.content ≡ c = let f = first_named id o os yea in cc in
       record {
         within = omega (arith, place);
-        object = ap (λ (n : ℕ). object_at n (o ∷ os)) place ∙ first_object o os ∙ (let back = sym same in λ i. record { id = back i; content = content i });
+        object = ap (λ (n : ℕ). object_at n (o ∷ os)) place ∙ first_object o os
+            ∙ (let back = sym same in λ i. record { id = back i; content = content i });
       }
   | inr nay ↦
       let place = later_place id o os nay in
       let rest = stands_at id os c (sym (later_named id o os nay) ∙ e) in
       record {
         within = let l = rest.within in omega (arith, place);
-        object = ap (λ (n : ℕ). object_at n (o ∷ os)) place ∙ later_object (place_of id os) o os ∙ rest.object;
+        object = ap (λ (n : ℕ). object_at n (o ∷ os)) place ∙ later_object (place_of id os) o os
+            ∙ rest.object;
       }
 ]
 
 -- what holds of each object holds at each place
-pub at_place : (P : Object → Type 0) (os : List Object) (i : ℕ) → All P os → i < length os → P (object_at i os)
+pub at_place : (P : Object → Type 0) (os : List Object) (i : ℕ) → All P os → i < length os
+    → P (object_at i os)
 unfolding object_at
 at_place P os i h lt = h i _ lt
 
@@ -81,7 +90,8 @@ of_entries P (e ∷ es) h = by_mode (of_entries P es) e.mode refl
     Of xs = AllByRecursion (λ x. x.mode ≡ mode.Directory → P (reference kind.Tree x.id)) xs
 
     by_mode : (All P (tree_references es) → Of es) → (m : FileMode) → e.mode ≡ m → Of (e ∷ es)
-    by_mode rest mode.Directory is = let all = rw is at h in (λ _. All-head P _ _ all, rest (All-tail P _ _ all))
+    by_mode rest mode.Directory is =
+        let all = rw is at h in (λ _. All-head P _ _ all, rest (All-tail P _ _ all))
     by_mode rest mode.Regular is = let all = rw is at h in (λ no. cc, rest (All-tail P _ _ all))
     by_mode rest mode.Executable is = let all = rw is at h in (λ no. cc, rest (All-tail P _ _ all))
     by_mode rest mode.Symlink is = let all = rw is at h in (λ no. cc, rest (All-tail P _ _ all))

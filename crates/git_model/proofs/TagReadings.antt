@@ -22,24 +22,31 @@ tagger_lines (Some text) = (codes "tagger " ++ text) ∷ []
 
 abbrev lines_of : Tag → List (List ℕ)
 lines_of t =
-    (codes "object " ++ encode_lower t.target) ∷ (codes "type " ++ kind_word t.kind) ∷ (codes "tag " ++ t.name) ∷ tagger_lines t.tagger
+    (codes "object " ++ encode_lower t.target) ∷ (codes "type " ++ kind_word t.kind) ∷
+    (codes "tag " ++ t.name) ∷ tagger_lines t.tagger
 
-tagger_text : (tagger : Option (List ℕ)) (m : List ℕ) → lines_text (tagger_lines tagger) m ≡ optional_line (codes "tagger ") tagger ++ 10 ∷ m
+tagger_text : (tagger : Option (List ℕ)) (m : List ℕ)
+    → lines_text (tagger_lines tagger) m ≡ optional_line (codes "tagger ") tagger ++ 10 ∷ m
 tagger_text None m = refl
 tagger_text (Some text) m = first_line_text (codes "tagger " ++ text) [] m
 
-regroup : (object type tag tagger message : List ℕ) → object ++ (type ++ (tag ++ (tagger ++ message))) ≡ object ++ type ++ tag ++ tagger ++ message
+regroup : (object type tag tagger message : List ℕ)
+    → object ++ (type ++ (tag ++ (tagger ++ message))) ≡ object ++ type ++ tag ++ tagger ++ message
 regroup object type tag tagger message = simp append_assoc
 
 text_is : (t : Tag) → tag_contents t ≡ lines_text (lines_of t) t.message
 text_is t = sym (
-    first_line_text (codes "object " ++ encode_lower t.target) ((codes "type " ++ kind_word t.kind) ∷ (codes "tag " ++ t.name) ∷ tagger_lines t.tagger) t.message
+    first_line_text (codes "object " ++ encode_lower t.target)
+    ((codes "type " ++ kind_word t.kind) ∷
+    (codes "tag " ++ t.name) ∷ tagger_lines t.tagger) t.message
     ∙ ap (λ (l : List ℕ). name_line (codes "object ") t.target ++ l)
-    (first_line_text (codes "type " ++ kind_word t.kind) ((codes "tag " ++ t.name) ∷ tagger_lines t.tagger) t.message
+    (first_line_text (codes "type " ++ kind_word t.kind)
+    ((codes "tag " ++ t.name) ∷ tagger_lines t.tagger) t.message
     ∙ ap (λ (l : List ℕ). line (codes "type ") (kind_word t.kind) ++ l)
     (first_line_text (codes "tag " ++ t.name) (tagger_lines t.tagger) t.message
     ∙ ap (λ (l : List ℕ). line (codes "tag ") t.name ++ l) (tagger_text t.tagger t.message)))
-    ∙ regroup (name_line (codes "object ") t.target) (line (codes "type ") (kind_word t.kind)) (line (codes "tag ") t.name) (optional_line (codes "tagger ") t.tagger) (10 ∷ t.message)
+    ∙ regroup (name_line (codes "object ") t.target) (line (codes "type ") (kind_word t.kind))
+    (line (codes "tag ") t.name) (optional_line (codes "tagger ") t.tagger) (10 ∷ t.message)
     )
 
 -- ---- they are lines
@@ -50,16 +57,23 @@ kind_one_line kind.Tree = all_from is_no_end refl (codes "tree") refl
 kind_one_line kind.Blob = all_from is_no_end refl (codes "blob") refl
 kind_one_line kind.Tag = all_from is_no_end refl (codes "tag") refl
 
-tagger_is : (tagger : Option (List ℕ)) → IfSome tagger IsWrittenIdent → AllByRecursion IsLine (tagger_lines tagger)
+tagger_is : (tagger : Option (List ℕ)) → IfSome tagger IsWrittenIdent
+    → AllByRecursion IsLine (tagger_lines tagger)
 tagger_is None h = tt
-tagger_is (Some text) h = (worded (codes "tagger ") text (λ e. cc e) refl (ident_one_line text h), tt)
+tagger_is (Some text) h =
+    (worded (codes "tagger ") text (λ e. cc e) refl (ident_one_line text h), tt)
 
 lines_are : (t : Tag) → CanWriteTag t → AllByRecursion IsLine (lines_of t)
 lines_are t h = (
-  worded (codes "object ") (encode_lower t.target) (λ e. cc e) refl (digits_one_line t.target h.target),
+  worded (codes "object ") (encode_lower t.target) (λ e. cc e) refl
+      (digits_one_line t.target h.target),
   (
     worded (codes "type ") (kind_word t.kind) (λ e. cc e) refl (kind_one_line t.kind),
-    (worded (codes "tag ") t.name (λ e. cc e) refl (tag_name_one_line t.name h.name), tagger_is t.tagger h.tagger),
+    (
+      worded (codes "tag ") t.name (λ e. cc e) refl
+          (tag_name_one_line t.name h.name),
+      tagger_is t.tagger h.tagger,
+    ),
   ),
 )
 
@@ -72,7 +86,8 @@ kind_back kind.Tree = refl
 kind_back kind.Blob = refl
 kind_back kind.Tag = refl
 
-tagger_back : (tagger : Option (List ℕ)) → slice_get (filter_map (after_word (codes "tagger ")) (tagger_lines tagger)) 0 ≡ tagger
+tagger_back : (tagger : Option (List ℕ))
+    → slice_get (filter_map (after_word (codes "tagger ")) (tagger_lines tagger)) 0 ≡ tagger
 tagger_back None = refl
 tagger_back (Some text) = refl
 
@@ -80,10 +95,21 @@ pub tag_back : (t : Tag) → CanWriteTag t → tag_read (tag_contents t) ≡ t
 unfolding tag_read
 tag_back t h =
     let lines = lines_are t h in
-    let values : (word : List ℕ) → values_of word (lines_text (lines_of t) t.message) ≡ filter_map (after_word word) (lines_of t) = λ word. values_back word (lines_of t) t.message lines in
-    let target = ap (λ (l : List (List ℕ)). unwrap_or (slice_get (map id_of_digits l) 0) []) (values (codes "object ")) ∙ named_back t.target h.target in
-    let type = ap (λ (l : List (List ℕ)). kind_named_by (unwrap_or (slice_get l 0) [])) (values (codes "type ")) ∙ kind_back t.kind in
+    let values : (word : List ℕ) → values_of word (lines_text (lines_of t) t.message) ≡ filter_map
+    (after_word word) (lines_of t) = λ word. values_back word (lines_of t) t.message lines in
+    let target = ap (λ (l : List (List ℕ)). unwrap_or (slice_get (map id_of_digits l) 0) [])
+    (values (codes "object ")) ∙ named_back t.target h.target in
+    let type = ap (λ (l : List (List ℕ)). kind_named_by (unwrap_or (slice_get l 0) []))
+    (values (codes "type ")) ∙ kind_back t.kind in
     let name = ap (λ (l : List (List ℕ)). unwrap_or (slice_get l 0) []) (values (codes "tag ")) in
-    let tagger = ap (λ (l : List (List ℕ)). slice_get l 0) (values (codes "tagger ")) ∙ tagger_back t.tagger in
+    let tagger = ap (λ (l : List (List ℕ)). slice_get l 0) (values (codes "tagger "))
+    ∙ tagger_back t.tagger in
     let message = message_back (lines_of t) t.message lines in
-    ap tag_read (text_is t) ∙ (λ i. record { target = target i; kind = type i; name = name i; tagger = tagger i; message = message i })
+    ap tag_read (text_is t)
+    ∙ (λ i. record {
+      target = target i;
+      kind = type i;
+      name = name i;
+      tagger = tagger i;
+      message = message i;
+    })

@@ -26,7 +26,8 @@ one_more n = omega arith
 one_more_at_end : (n : ℕ) → n + 1 ≡ suc n
 one_more_at_end n = omega arith
 
-place : (p : ℕ → Bool) (xs : List ℕ) (y : ℕ) (ys : List ℕ) → Fails p xs → p y ≡ true → position_or_len p (xs ++ y ∷ ys) ≡ length xs
+place : (p : ℕ → Bool) (xs : List ℕ) (y : ℕ) (ys : List ℕ) → Fails p xs → p y ≡ true
+    → position_or_len p (xs ++ y ∷ ys) ≡ length xs
 place p [] y ys h t = rw t refl
 place p (x ∷ xs) y ys h t =
     let one = h.0 in rw one (ap (λ (n : ℕ). 1 + n) (place p xs y ys h.1 t) ∙ one_more (length xs))
@@ -39,12 +40,16 @@ drop_front : (xs : List ℕ) (y : ℕ) (ys : List ℕ) → drop (suc (length xs)
 drop_front [] y ys = refl
 drop_front (x ∷ xs) y ys = drop_front xs y ys
 
-before : (p : ℕ → Bool) (xs : List ℕ) (y : ℕ) (ys : List ℕ) → Fails p xs → p y ≡ true → before_first p (xs ++ y ∷ ys) ≡ xs
-before p xs y ys h t = ap (λ (n : ℕ). take n (xs ++ y ∷ ys)) (place p xs y ys h t) ∙ take_front xs (y ∷ ys)
+before : (p : ℕ → Bool) (xs : List ℕ) (y : ℕ) (ys : List ℕ) → Fails p xs → p y ≡ true
+    → before_first p (xs ++ y ∷ ys) ≡ xs
+before p xs y ys h t =
+    ap (λ (n : ℕ). take n (xs ++ y ∷ ys)) (place p xs y ys h t) ∙ take_front xs (y ∷ ys)
 
-after : (p : ℕ → Bool) (xs : List ℕ) (y : ℕ) (ys : List ℕ) → Fails p xs → p y ≡ true → after_first p (xs ++ y ∷ ys) ≡ ys
+after : (p : ℕ → Bool) (xs : List ℕ) (y : ℕ) (ys : List ℕ) → Fails p xs → p y ≡ true
+    → after_first p (xs ++ y ∷ ys) ≡ ys
 after p xs y ys h t =
-    ap (λ (n : ℕ). drop n (xs ++ y ∷ ys)) (ap (λ (n : ℕ). n + 1) (place p xs y ys h t) ∙ one_more_at_end (length xs)) ∙ drop_front xs y ys
+    ap (λ (n : ℕ). drop n (xs ++ y ∷ ys))
+    (ap (λ (n : ℕ). n + 1) (place p xs y ys h t) ∙ one_more_at_end (length xs)) ∙ drop_front xs y ys
 
 -- ---- modes
 
@@ -85,23 +90,32 @@ front e = mode_digits e.mode ++ 32 ∷ e.name
 text : (e : TreeEntry) (rest : List ℕ) → entry_text e ++ rest ≡ front e ++ 0 ∷ (e.id ++ rest)
 text e rest =
     append_assoc (mode_digits e.mode ++ codes " " ++ e.name) (0 ∷ e.id) rest
-    ∙ ap (λ (f : List ℕ). f ++ 0 ∷ (e.id ++ rest)) (append_assoc (mode_digits e.mode) (codes " ") e.name)
+    ∙ ap (λ (f : List ℕ). f ++ 0 ∷ (e.id ++ rest))
+    (append_assoc (mode_digits e.mode) (codes " ") e.name)
 
 front_fails : (e : TreeEntry) → CanWriteEntry e → Fails is_nul (front e)
 front_fails e h =
-    all_append is_nul (mode_digits e.mode) (32 ∷ e.name) (no_nuls e.mode)
-    (refl, all_weaker (λ b ne. ne_eqb b 0 ne) e.name (recursion_from_All (λ (b : ℕ). b ≢ 0) e.name h.name.no_nul))
+    all_append is_nul (mode_digits e.mode) (32 ∷ e.name) (no_nuls e.mode) (
+      refl,
+      all_weaker (λ b ne. ne_eqb b 0 ne) e.name
+          (recursion_from_All (λ (b : ℕ). b ≢ 0) e.name h.name.no_nul),
+    )
 
 take_id : (id rest : List ℕ) → length id ≡ 20 → take 20 (id ++ rest) ≡ id
 take_id id rest size = ap (λ (n : ℕ). take n (id ++ rest)) (sym size) ∙ take_front id rest
 
-entry_back : (e : TreeEntry) (rest : List ℕ) → CanWriteEntry e → first_entry (front e ++ 0 ∷ (e.id ++ rest)) ≡ e
+entry_back : (e : TreeEntry) (rest : List ℕ) → CanWriteEntry e
+    → first_entry (front e ++ 0 ∷ (e.id ++ rest)) ≡ e
 unfolding first_entry
 entry_back e rest h =
     let head = before is_nul (front e) 0 (e.id ++ rest) (front_fails e h) refl in
-    let m = ap (λ (f : List ℕ). mode_named_by (before_first is_space f)) head ∙ ap mode_named_by (before is_space (mode_digits e.mode) 32 e.name (no_spaces e.mode) refl) ∙ mode_back e.mode in
-    let n = ap (after_first is_space) head ∙ after is_space (mode_digits e.mode) 32 e.name (no_spaces e.mode) refl in
-    let i = ap (take 20) (after is_nul (front e) 0 (e.id ++ rest) (front_fails e h) refl) ∙ take_id e.id rest h.id.size in
+    let m = ap (λ (f : List ℕ). mode_named_by (before_first is_space f)) head
+    ∙ ap mode_named_by (before is_space (mode_digits e.mode) 32 e.name (no_spaces e.mode) refl)
+    ∙ mode_back e.mode in
+    let n = ap (after_first is_space) head
+    ∙ after is_space (mode_digits e.mode) 32 e.name (no_spaces e.mode) refl in
+    let i = ap (take 20) (after is_nul (front e) 0 (e.id ++ rest) (front_fails e h) refl)
+    ∙ take_id e.id rest h.id.size in
     λ k. record { mode = m k; name = n k; id = i k }
 
 skip : (xs ys : List ℕ) → entries_after (length xs) (xs ++ ys) ≡ entries_after 0 ys
@@ -109,34 +123,44 @@ unfolding entries_after
 skip [] ys = refl
 skip (x ∷ xs) ys = skip xs ys
 
-first_of : (b : ℕ) (bs : List ℕ) → entries_after 0 (b ∷ bs) ≡ first_entry (b ∷ bs) ∷ entries_after (more_of_entry (b ∷ bs)) bs
+first_of : (b : ℕ) (bs : List ℕ)
+    → entries_after 0 (b ∷ bs) ≡ first_entry (b ∷ bs) ∷ entries_after (more_of_entry (b ∷ bs)) bs
 unfolding entries_after
 first_of b bs = refl
 
 -- an entry in front of others
-read_one : (e : TreeEntry) (rest : List ℕ) → CanWriteEntry e → tree_read (entry_text e ++ rest) ≡ e ∷ tree_read rest
+read_one : (e : TreeEntry) (rest : List ℕ) → CanWriteEntry e
+    → tree_read (entry_text e ++ rest) ≡ e ∷ tree_read rest
 read_one e rest h =
     let d = first_digit e.mode in
     let ds : List ℕ = d.1 ++ 32 ∷ e.name in
     let split : front e ≡ d.0 ∷ ds = ap (λ (l : List ℕ). l ++ 32 ∷ e.name) d.2 in
     let place_of : position_or_len is_nul (d.0 ∷ (ds ++ 0 ∷ (e.id ++ rest))) ≡ suc (length ds) =
-    ap (λ (f : List ℕ). position_or_len is_nul (f ++ 0 ∷ (e.id ++ rest))) (sym split) ∙ place is_nul (front e) 0 (e.id ++ rest) (front_fails e h) refl ∙ ap (λ (f : List ℕ). length f) split in
-    let size : suc (length ds) + 20 ≡ length (ds ++ 0 ∷ e.id) = let a = length-append ds (0 ∷ e.id) in let b = h.id.size in omega arith in
-    let whole : entry_text e ++ rest ≡ d.0 ∷ (ds ++ 0 ∷ (e.id ++ rest)) = text e rest ∙ ap (λ (f : List ℕ). f ++ 0 ∷ (e.id ++ rest)) split in
+    ap (λ (f : List ℕ). position_or_len is_nul (f ++ 0 ∷ (e.id ++ rest))) (sym split)
+    ∙ place is_nul (front e) 0 (e.id ++ rest) (front_fails e h) refl
+    ∙ ap (λ (f : List ℕ). length f) split in
+    let size : suc (length ds) + 20 ≡ length (ds ++ 0 ∷ e.id) = let a = length-append ds
+    (0 ∷ e.id) in let b = h.id.size in omega arith in
+    let whole : entry_text e ++ rest ≡ d.0 ∷ (ds ++ 0 ∷ (e.id ++ rest)) = text e rest
+    ∙ ap (λ (f : List ℕ). f ++ 0 ∷ (e.id ++ rest)) split in
     ap tree_read whole
     ∙ first_of d.0 (ds ++ 0 ∷ (e.id ++ rest))
-    ∙ ap (λ (t : TreeEntry). t ∷ entries_after (more_of_entry (d.0 ∷ (ds ++ 0 ∷ (e.id ++ rest)))) (ds ++ 0 ∷ (e.id ++ rest)))
+    ∙ ap (λ (t : TreeEntry). t ∷ entries_after (more_of_entry (d.0 ∷ (ds ++ 0 ∷ (e.id ++ rest))))
+    (ds ++ 0 ∷ (e.id ++ rest)))
     (ap (λ (f : List ℕ). first_entry (f ++ 0 ∷ (e.id ++ rest))) (sym split) ∙ entry_back e rest h)
     ∙ ap (λ (n : ℕ). e ∷ entries_after (n + 20) (ds ++ 0 ∷ (e.id ++ rest))) place_of
     ∙ ap (λ (n : ℕ). e ∷ entries_after n (ds ++ 0 ∷ (e.id ++ rest))) size
-    ∙ ap (λ (l : List ℕ). e ∷ entries_after (length (ds ++ 0 ∷ e.id)) l) (sym (append_assoc ds (0 ∷ e.id) rest))
+    ∙ ap (λ (l : List ℕ). e ∷ entries_after (length (ds ++ 0 ∷ e.id)) l)
+    (sym (append_assoc ds (0 ∷ e.id) rest))
     ∙ ap (λ (l : List TreeEntry). e ∷ l) (skip (ds ++ 0 ∷ e.id) rest)
 
 -- whether or not they make a tree
-pub entries_back : (es : List TreeEntry) → AllByRecursion CanWriteEntry es → tree_read (tree_contents es) ≡ es
+pub entries_back : (es : List TreeEntry) → AllByRecursion CanWriteEntry es
+    → tree_read (tree_contents es) ≡ es
 unfolding entries_after
 entries_back [] h = refl
-entries_back (e ∷ es) h = read_one e (tree_contents es) h.0 ∙ ap (λ (l : List TreeEntry). e ∷ l) (entries_back es h.1)
+entries_back (e ∷ es) h =
+    read_one e (tree_contents es) h.0 ∙ ap (λ (l : List TreeEntry). e ∷ l) (entries_back es h.1)
 
 pub tree_back : (es : List TreeEntry) → CanWriteTree es → tree_read (tree_contents es) ≡ es
 tree_back es h = entries_back es (recursion_from_All CanWriteEntry es h.entries)

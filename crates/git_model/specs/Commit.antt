@@ -16,7 +16,7 @@ pub record Commit : Type 0 where
   pub encoding : Option (List ℕ)
   pub message : List ℕ
 
--- A header line is a word with the space behind it, a text, and a line end.
+-- A header line is a word with the space after it, a text, and a line end.
 abbrev pub line : List ℕ → List ℕ → List ℕ
 line word text = word ++ text ++ 10 ∷ []
 

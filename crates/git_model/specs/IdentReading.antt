@@ -11,7 +11,7 @@ pub data BadIdent : Type 0 where
   BadIdentity : BadIdent
   BadDate : BadIdent
 
--- What stands behind a byte, where the text begins with it.
+-- What comes after a byte, where the text begins with it.
 abbrev pub behind_byte : ℕ → List ℕ → Option (List ℕ)
 behind_byte expected [] = None
 behind_byte expected (byte ∷ rest) = if byte == expected then Some rest else None
@@ -21,17 +21,17 @@ abbrev pub is_name : List ℕ → Bool
 is_name [] = true
 is_name (byte ∷ rest) = ends_with nat_eq (byte ∷ rest) (codes " ")
 
--- What stands behind a name and its `<`.
+-- What comes after a name and its `<`.
 unfoldable pub behind_name : List ℕ → Option (List ℕ)
 behind_name text = let n = prefix_len is_person_byte text in
     if is_name (take n text) then behind_byte 60 (drop n text) else None
 
--- What stands behind an email, its `>` and the space.
+-- What comes after an email, its `>` and the space.
 unfoldable pub behind_email : List ℕ → Option (List ℕ)
 behind_email text = let n = prefix_len is_person_byte text in
     option_and_then (behind_byte 32) (behind_byte 62 (drop n text))
 
--- What stands behind the person at a text's front, where there is one.
+-- What comes after the person at a text's front, where there is one.
 abbrev pub behind_person : List ℕ → Option (List ℕ)
 behind_person text = option_and_then behind_email (behind_name text)
 
@@ -59,7 +59,7 @@ with_date text (Some rest) = if is_date rest then Ok (written_ident text) else E
 unfoldable pub read_ident : List ℕ → Result (List ℕ) BadIdent
 read_ident text = with_date text (behind_person text)
 
--- The seconds that stand behind a person, and 0 where there is no person.
+-- The seconds that stand after a person, and 0 where there is no person.
 abbrev pub seconds_at : Option (List ℕ) → ℕ
 seconds_at None = 0
 seconds_at (Some rest) = digits_value 10 (take (prefix_len is_ascii_digit rest) rest)

@@ -24,7 +24,7 @@ object_named id (o ∷ os) = if bytes_eq id o.id then Some o.content else object
 abbrev pub has_object : List ℕ → Content → List Object → Bool
 has_object id c os = option_map_or (same_content c) (object_named id os) false
 
--- The objects with one more behind them, unless the name is there.
+-- The objects with one more after them, unless the name is there.
 abbrev pub with_object : List ℕ → Content → List Object → List Object
 with_object id c os =
     if is_some (object_named id os) then os else os ++ record { id = id; content = c } ∷ []

@@ -1,5 +1,5 @@
-//! Laws of what contents say, of good objects, of reach and of peeling: functions over the definitions
-//! alone, which run nothing.
+//! Laws of what contents say, of good objects, of reach and of peeling: functions over the
+//! definitions alone, which run nothing.
 
 ghost use Rattle.std.specs.Prelude.{◌≡◌, ◌↔◌, ℕ, List, [], ◌∷◌, ◌++◌, ◌≤◌, take, Option, Some, IsTrue};
 ghost use Rattle.std.specs.FinMap as map;

@@ -25,11 +25,18 @@ long_digits : (id : List ℕ) → IsObjectName id → length (encode_lower id) �
 long_digits id is = omega (arith, length-encode_with lower_digits id, is.size)
 
 -- lines of names at the front of one text are one
-same_line : (id other x y : List ℕ) → IsObjectName id → IsObjectName other → parent_line id ++ x ≡ parent_line other ++ y → (id ≡ other) × (x ≡ y)
+same_line : (id other x y : List ℕ) → IsObjectName id → IsObjectName other
+    → parent_line id ++ x ≡ parent_line other ++ y → (id ≡ other) × (x ≡ y)
 same_line id other x y p q e =
-    let behind : encode_lower id ++ (10 ∷ x) ≡ encode_lower other ++ (10 ∷ y) = append_cancel_left (codes "parent ") (encode_lower id ++ (10 ∷ x)) (encode_lower other ++ (10 ∷ y)) (sym (regroup id x) ∙ e ∙ regroup other y) in
-    let digits : encode_lower id ≡ encode_lower other = sym (take_at (encode_lower id) (10 ∷ x) 40 (long_digits id p)) ∙ ap (take 40) behind ∙ take_at (encode_lower other) (10 ∷ y) 40 (long_digits other q) in
-    let rests : ◌≡◌ {A = List ℕ} (10 ∷ x) (10 ∷ y) = sym (drop_at (encode_lower id) (10 ∷ x) 40 (long_digits id p)) ∙ ap (drop 40) behind ∙ drop_at (encode_lower other) (10 ∷ y) 40 (long_digits other q) in
+    let after : encode_lower id ++ (10 ∷ x) ≡ encode_lower other ++ (10 ∷ y) =
+    append_cancel_left (codes "parent ") (encode_lower id ++ (10 ∷ x)) (encode_lower other ++ (10 ∷ y))
+    (sym (regroup id x) ∙ e ∙ regroup other y) in
+    let digits : encode_lower id ≡ encode_lower other =
+    sym (take_at (encode_lower id) (10 ∷ x) 40 (long_digits id p)) ∙ ap (take 40) after
+    ∙ take_at (encode_lower other) (10 ∷ y) 40 (long_digits other q) in
+    let rests : ◌≡◌ {A = List ℕ} (10 ∷ x) (10 ∷ y) =
+    sym (drop_at (encode_lower id) (10 ∷ x) 40 (long_digits id p)) ∙ ap (drop 40) after
+    ∙ drop_at (encode_lower other) (10 ∷ y) 40 (long_digits other q) in
     (same_digits id other p q digits, ap (drop 1) rests)
   where
     regroup : (id x : List ℕ) → parent_line id ++ x ≡ codes "parent " ++ (encode_lower id ++ (10 ∷ x))
@@ -124,16 +131,75 @@ commit_only bytes h message f c is e =
     let same = some_pair_parts _ _ _ _ (f.only (head_of c) c.message (head_is c is) (e ∙ sym (whole_text c))) in
     ap (λ (p : Head × List ℕ). commit_from p.0 p.1) (λ i. (same.0 i, same.1 i))
 
+-- ---- line after line
+
+-- The line of a commit's tree and those of its parents were taken: these, and what stands after.
+pub record HasParents (bytes tree : List ℕ) (parents : List (List ℕ)) (rest : List ℕ) : Type 0 where
+  pub after_tree : List ℕ
+  pub tree_line : IsFront IsObjectName (name_line (codes "tree ")) bytes (Some (tree, after_tree))
+  pub parent_lines : AreParents after_tree parents rest
+
+-- The lines of its idents were taken, too.
+pub record HasIdents (bytes tree : List ℕ) (parents : List (List ℕ)) (who : List ℕ × List ℕ)
+    (rest : List ℕ) : Type 0 where
+  pub after_parents : List ℕ
+  pub has_parents : HasParents bytes tree parents after_parents
+  pub ident_lines : IsFront IsIdents idents_text after_parents (Some (who, rest))
+
+pub parents_taken : (bytes tree after_tree : List ℕ) (parents : List (List ℕ)) (rest : List ℕ)
+    → IsFront IsObjectName (name_line (codes "tree ")) bytes (Some (tree, after_tree))
+    → AreParents after_tree parents rest → HasParents bytes tree parents rest
+parents_taken bytes tree after_tree parents rest line lines =
+    record { after_tree = after_tree; tree_line = line; parent_lines = lines }
+
+pub idents_taken : (bytes tree : List ℕ) (parents : List (List ℕ)) (after_parents : List ℕ)
+    (who : List ℕ × List ℕ) (rest : List ℕ) → HasParents bytes tree parents after_parents
+    → IsFront IsIdents idents_text after_parents (Some (who, rest))
+    → HasIdents bytes tree parents who rest
+idents_taken bytes tree parents after_parents who rest has lines =
+    record { after_parents = after_parents; has_parents = has; ident_lines = lines }
+
 -- ---- what is missing
 
-pub tree_missing : (bytes : List ℕ) → IsFront IsObjectName (name_line (codes "tree ")) bytes None → IsFront IsHead head_text bytes None
-tree_missing bytes t = first_missing IsObjectName Lines (name_line (codes "tree ")) lines bytes t
+-- What follows the tree is missing.
+after_tree_missing : (bytes tree : List ℕ) (parents : List (List ℕ)) (rest : List ℕ)
+    → HasParents bytes tree parents rest → IsFront Tail tail rest None
+    → IsFront IsHead head_text bytes None
+after_tree_missing bytes tree parents rest h none =
+    second_missing IsObjectName Lines (name_line (codes "tree ")) lines bytes tree h.after_tree h.tree_line
+    (tail_missing h.after_tree parents rest h.parent_lines none)
 
-pub idents_missing : (bytes tree r : List ℕ) (ps : List (List ℕ)) (s : List ℕ) → IsFront IsObjectName (name_line (codes "tree ")) bytes (Some (tree, r)) → AreParents r ps s → IsFront IsIdents idents_text s None → IsFront IsHead head_text bytes None
-idents_missing bytes tree r ps s t p i = second_missing IsObjectName Lines (name_line (codes "tree ")) lines bytes tree r t (tail_missing r ps s p (first_missing IsIdents IsEncoded idents_text (end_lines (codes "encoding ")) s i))
+pub tree_missing : (bytes : List ℕ) → IsFront IsObjectName (name_line (codes "tree ")) bytes None
+    → IsFront IsHead head_text bytes None
+tree_missing bytes none =
+    first_missing IsObjectName Lines (name_line (codes "tree ")) lines bytes none
 
-pub encoding_missing : (bytes tree r : List ℕ) (ps : List (List ℕ)) (s : List ℕ) (who : List ℕ × List ℕ) (u : List ℕ) → IsFront IsObjectName (name_line (codes "tree ")) bytes (Some (tree, r)) → AreParents r ps s → IsFront IsIdents idents_text s (Some (who, u)) → IsFront IsEncoded (end_lines (codes "encoding ")) u None → IsFront IsHead head_text bytes None
-encoding_missing bytes tree r ps s who u t p i e = second_missing IsObjectName Lines (name_line (codes "tree ")) lines bytes tree r t (tail_missing r ps s p (second_missing IsIdents IsEncoded idents_text (end_lines (codes "encoding ")) s who u i e))
+pub idents_missing : (bytes tree : List ℕ) (parents : List (List ℕ)) (rest : List ℕ)
+    → HasParents bytes tree parents rest → IsFront IsIdents idents_text rest None
+    → IsFront IsHead head_text bytes None
+idents_missing bytes tree parents rest h none =
+    after_tree_missing bytes tree parents rest h
+    (first_missing IsIdents IsEncoded idents_text (end_lines (codes "encoding ")) rest none)
 
-pub head_there : (bytes tree r : List ℕ) (ps : List (List ℕ)) (s : List ℕ) (who : List ℕ × List ℕ) (u : List ℕ) (encoding : Option (List ℕ)) (message : List ℕ) → IsFront IsObjectName (name_line (codes "tree ")) bytes (Some (tree, r)) → AreParents r ps s → IsFront IsIdents idents_text s (Some (who, u)) → IsFront IsEncoded (end_lines (codes "encoding ")) u (Some (encoding, message)) → IsFront IsHead head_text bytes (Some ((tree, (ps, (who, encoding))), message))
-head_there bytes tree r ps s who u encoding message t p i e = both_there IsObjectName Lines (name_line (codes "tree ")) lines bytes tree r (ps, (who, encoding)) message t (tail_there r ps s (who, encoding) message p (both_there IsIdents IsEncoded idents_text (end_lines (codes "encoding ")) s who u encoding message i e))
+pub encoding_missing : (bytes tree : List ℕ) (parents : List (List ℕ)) (who : List ℕ × List ℕ)
+    (rest : List ℕ) → HasIdents bytes tree parents who rest
+    → IsFront IsEncoded (end_lines (codes "encoding ")) rest None
+    → IsFront IsHead head_text bytes None
+encoding_missing bytes tree parents who rest h none =
+    after_tree_missing bytes tree parents h.after_parents h.has_parents
+    (second_missing IsIdents IsEncoded idents_text (end_lines (codes "encoding "))
+    h.after_parents who rest h.ident_lines none)
+
+-- Nothing is missing.
+pub head_there : (bytes tree : List ℕ) (parents : List (List ℕ)) (who : List ℕ × List ℕ)
+    (rest : List ℕ) (encoding : Option (List ℕ)) (message : List ℕ)
+    → HasIdents bytes tree parents who rest
+    → IsFront IsEncoded (end_lines (codes "encoding ")) rest (Some (encoding, message))
+    → IsFront IsHead head_text bytes (Some ((tree, (parents, (who, encoding))), message))
+head_there bytes tree parents who rest encoding message h last =
+    let p = h.has_parents in
+    both_there IsObjectName Lines (name_line (codes "tree ")) lines
+    bytes tree p.after_tree (parents, (who, encoding)) message p.tree_line
+    (tail_there p.after_tree parents h.after_parents (who, encoding) message p.parent_lines
+    (both_there IsIdents IsEncoded idents_text (end_lines (codes "encoding "))
+    h.after_parents who rest encoding message h.ident_lines last))

@@ -1,4 +1,4 @@
--- Parts at the front of a text, one behind the other.
+-- Parts at the front of a text, one after the other.
 use Rattle.std.proofs.Common.{◌≡◌, ℕ, List, ◌++◌, refl, sym, ap, ◌∙◌, Option, Some, None}
 use Rattle.std.specs.Option.{option_map}
 use Rattle.std.proofs.lemmas.List.{append_assoc, append_cancel_left}
@@ -46,7 +46,7 @@ module _ {X Y : Type 0} {A : X → Type 0} {B : Y → Type 0} {a : X → List �
         rw (same.0, there y, same.1) refl;
   }
 
--- the same behind a front that each text has
+-- the same after a front that each text has
 pub prefixed : {X : Type 0} {Is : X → Type 0} {a b : X → List ℕ} (front bytes behind : List ℕ) (read : Option (X × List ℕ)) → ((x : X) → b x ≡ front ++ a x) → bytes ≡ front ++ behind → IsFront Is a behind read → IsFront Is b bytes read
 prefixed {X} {Is} {a} {b} front bytes behind read text e h = by_cases read h
   where

@@ -1,6 +1,4 @@
 pub use Rattle.byte_devices.proofs.KnownBytes
-pub mod Digits
-pub mod Idents
 pub mod Fronts
 pub mod Splits
 pub mod TreeFronts

@@ -8,7 +8,7 @@ use Rattle.std.proofs.lemmas.List.Elements.{All-from_get_or, All-head, All-tail}
 use Rattle.std.proofs.lemmas.List.Quantifiers.{position-Some}
 use Rattle.git_objects.specs.Fronts.{IsFront}
 
--- what stands before the place, the byte there, and what stands behind it
+-- what stands before the place, the byte there, and what stands after it
 parts_at : (end : ℕ) (xs : List ℕ) (i : ℕ) → position (λ byte. byte == end) xs ≡ Some i → xs ≡ (take i xs ++ end ∷ []) ++ drop (i + 1) xs
 parts_at end xs i h =
     let found = position-Some (λ byte. byte == end) xs i 0 h in

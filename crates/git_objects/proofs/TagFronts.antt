@@ -73,19 +73,82 @@ tag_only bytes h message f t is e =
 pub wrong_name : (bytes : List ℕ) (h : Head) (message : List ℕ) → IsFront IsHead head_text bytes (Some (h, message)) → (IsRefName (codes "refs/tags/" ++ h.1.1.0) → ⊥) → (t : Tag) → CanWriteTag t → bytes ≡ tag_contents t → ⊥
 wrong_name bytes h message f wrong t is e = wrong (subst (λ (x : Tag). IsRefName (codes "refs/tags/" ++ x.name)) (sym (tag_only bytes h message f t is e)) is.name)
 
+-- ---- line after line
+
+-- The lines of a tag's target and of its kind were taken: these, and what stands after them.
+pub record HasKind (bytes target : List ℕ) (kind : Kind) (rest : List ℕ) : Type 0 where
+  pub after_target : List ℕ
+  pub target_line : IsFront IsObjectName (name_line (codes "object ")) bytes (Some (target, after_target))
+  pub kind_is : IsFront IsTagged kind_line after_target (Some (kind, rest))
+
+-- The line of its name was taken, too.
+pub record HasName (bytes target : List ℕ) (kind : Kind) (name rest : List ℕ) : Type 0 where
+  pub after_kind : List ℕ
+  pub has_kind : HasKind bytes target kind after_kind
+  pub tag_line : IsFront IsOneLine (line (codes "tag ")) after_kind (Some (name, rest))
+
+pub kind_taken : (bytes target after_target : List ℕ) (kind : Kind) (rest : List ℕ)
+    → IsFront IsObjectName (name_line (codes "object ")) bytes (Some (target, after_target))
+    → IsFront IsTagged kind_line after_target (Some (kind, rest)) → HasKind bytes target kind rest
+kind_taken bytes target after_target kind rest line is =
+    record { after_target = after_target; target_line = line; kind_is = is }
+
+pub name_taken : (bytes target : List ℕ) (kind : Kind) (after_kind name rest : List ℕ)
+    → HasKind bytes target kind after_kind
+    → IsFront IsOneLine (line (codes "tag ")) after_kind (Some (name, rest))
+    → HasName bytes target kind name rest
+name_taken bytes target kind after_kind name rest has line =
+    record { after_kind = after_kind; has_kind = has; tag_line = line }
+
 -- ---- what is missing
 
-pub target_missing : (bytes : List ℕ) → IsFront IsObjectName (name_line (codes "object ")) bytes None → IsFront IsHead head_text bytes None
-target_missing bytes o = first_missing IsObjectName Lines (name_line (codes "object ")) lines bytes o
+-- What follows the kind is missing.
+after_kind_missing : (bytes target : List ℕ) (kind : Kind) (rest : List ℕ)
+    → HasKind bytes target kind rest → IsFront Named named rest None
+    → IsFront IsHead head_text bytes None
+after_kind_missing bytes target kind rest h none =
+    second_missing IsObjectName Lines (name_line (codes "object ")) lines
+    bytes target h.after_target h.target_line
+    (second_missing IsTagged Named kind_line named h.after_target kind rest h.kind_is none)
 
-pub kind_missing : (bytes target r : List ℕ) → IsFront IsObjectName (name_line (codes "object ")) bytes (Some (target, r)) → IsFront IsTagged kind_line r None → IsFront IsHead head_text bytes None
-kind_missing bytes target r o k = second_missing IsObjectName Lines (name_line (codes "object ")) lines bytes target r o (first_missing IsTagged Named kind_line named r k)
+pub target_missing : (bytes : List ℕ)
+    → IsFront IsObjectName (name_line (codes "object ")) bytes None
+    → IsFront IsHead head_text bytes None
+target_missing bytes none =
+    first_missing IsObjectName Lines (name_line (codes "object ")) lines bytes none
 
-pub name_missing : (bytes target r : List ℕ) (kind : Kind) (s : List ℕ) → IsFront IsObjectName (name_line (codes "object ")) bytes (Some (target, r)) → IsFront IsTagged kind_line r (Some (kind, s)) → IsFront IsOneLine (line (codes "tag ")) s None → IsFront IsHead head_text bytes None
-name_missing bytes target r kind s o k n = second_missing IsObjectName Lines (name_line (codes "object ")) lines bytes target r o (second_missing IsTagged Named kind_line named r kind s k (first_missing IsOneLine IsTagger (line (codes "tag ")) (end_lines (codes "tagger ")) s n))
+pub kind_missing : (bytes target rest : List ℕ)
+    → IsFront IsObjectName (name_line (codes "object ")) bytes (Some (target, rest))
+    → IsFront IsTagged kind_line rest None → IsFront IsHead head_text bytes None
+kind_missing bytes target rest line none =
+    second_missing IsObjectName Lines (name_line (codes "object ")) lines bytes target rest line
+    (first_missing IsTagged Named kind_line named rest none)
 
-pub tagger_missing : (bytes target r : List ℕ) (kind : Kind) (s name u : List ℕ) → IsFront IsObjectName (name_line (codes "object ")) bytes (Some (target, r)) → IsFront IsTagged kind_line r (Some (kind, s)) → IsFront IsOneLine (line (codes "tag ")) s (Some (name, u)) → IsFront IsTagger (end_lines (codes "tagger ")) u None → IsFront IsHead head_text bytes None
-tagger_missing bytes target r kind s name u o k n t = second_missing IsObjectName Lines (name_line (codes "object ")) lines bytes target r o (second_missing IsTagged Named kind_line named r kind s k (second_missing IsOneLine IsTagger (line (codes "tag ")) (end_lines (codes "tagger ")) s name u n t))
+pub name_missing : (bytes target : List ℕ) (kind : Kind) (rest : List ℕ)
+    → HasKind bytes target kind rest → IsFront IsOneLine (line (codes "tag ")) rest None
+    → IsFront IsHead head_text bytes None
+name_missing bytes target kind rest h none =
+    after_kind_missing bytes target kind rest h
+    (first_missing IsOneLine IsTagger (line (codes "tag ")) (end_lines (codes "tagger ")) rest none)
 
-pub head_there : (bytes target r : List ℕ) (kind : Kind) (s name u : List ℕ) (tagger : Option (List ℕ)) (message : List ℕ) → IsFront IsObjectName (name_line (codes "object ")) bytes (Some (target, r)) → IsFront IsTagged kind_line r (Some (kind, s)) → IsFront IsOneLine (line (codes "tag ")) s (Some (name, u)) → IsFront IsTagger (end_lines (codes "tagger ")) u (Some (tagger, message)) → IsFront IsHead head_text bytes (Some ((target, (kind, (name, tagger))), message))
-head_there bytes target r kind s name u tagger message o k n t = both_there IsObjectName Lines (name_line (codes "object ")) lines bytes target r (kind, (name, tagger)) message o (both_there IsTagged Named kind_line named r kind s (name, tagger) message k (both_there IsOneLine IsTagger (line (codes "tag ")) (end_lines (codes "tagger ")) s name u tagger message n t))
+pub tagger_missing : (bytes target : List ℕ) (kind : Kind) (name rest : List ℕ)
+    → HasName bytes target kind name rest → IsFront IsTagger (end_lines (codes "tagger ")) rest None
+    → IsFront IsHead head_text bytes None
+tagger_missing bytes target kind name rest h none =
+    after_kind_missing bytes target kind h.after_kind h.has_kind
+    (second_missing IsOneLine IsTagger (line (codes "tag ")) (end_lines (codes "tagger "))
+    h.after_kind name rest h.tag_line none)
+
+-- Nothing is missing.
+pub head_there : (bytes target : List ℕ) (kind : Kind) (name rest : List ℕ)
+    (tagger : Option (List ℕ)) (message : List ℕ) → HasName bytes target kind name rest
+    → IsFront IsTagger (end_lines (codes "tagger ")) rest (Some (tagger, message))
+    → IsFront IsHead head_text bytes (Some ((target, (kind, (name, tagger))), message))
+head_there bytes target kind name rest tagger message h last =
+    let k = h.has_kind in
+    both_there IsObjectName Lines (name_line (codes "object ")) lines
+    bytes target k.after_target (kind, (name, tagger)) message k.target_line
+    (both_there IsTagged Named kind_line named
+    k.after_target kind h.after_kind (name, tagger) message k.kind_is
+    (both_there IsOneLine IsTagger (line (codes "tag ")) (end_lines (codes "tagger "))
+    h.after_kind name rest tagger message h.tag_line last))

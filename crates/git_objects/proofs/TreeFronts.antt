@@ -1,4 +1,4 @@
--- A tree entry at the front of a text: its mode, its name and the name of its object, one behind the other.
+-- A tree entry at the front of a text: its mode, its name and the name of its object, one after the other.
 use Rattle.std.proofs.Common.{◌≡◌, ℕ, ◌<◌, ◌≤◌, List, [], ◌∷◌, ◌++◌, length, take, drop, refl, sym, ap, subst, ◌∙◌, ◌+◌, Option, Some, None, arith, Fits, w8, get_or}
 use Rattle.std.specs.Prelude.{⊤}
 use Rattle.std.specs.Option.{option_map}
@@ -32,7 +32,7 @@ id_there bytes fits long = record {
 pub id_missing : (bytes : List ℕ) → length bytes < 20 → IsFront IsObjectName (λ id. id) bytes None
 id_missing bytes short = no_front bytes (λ id rest is e. let long = ap length e ∙ length-append id rest in omega (arith, is.size))
 
--- bytes behind others are bytes
+-- bytes after others are bytes
 pub behind_fits : (xs ys zs : List ℕ) → xs ≡ ys ++ zs → ((i : ℕ) → Fits w8 (get_or xs i 0)) → (i : ℕ) → Fits w8 (get_or zs i 0)
 behind_fits xs ys zs e fits i = subst (λ b. Fits w8 b) (ap (λ l. get_or l (length ys + i) 0) e ∙ get_or-append-add ys zs i 0) (fits (length ys + i))
 

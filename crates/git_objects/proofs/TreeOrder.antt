@@ -19,7 +19,7 @@ use Rattle.git_objects.specs.TreeParts.{AreInOrder, HasTwin}
 tree_total : IsTotalOrder tree_cmp
 tree_total = on_texts order_key
 
--- a mode is that of a directory, and a slash goes behind the name, or it is another, and nothing does
+-- a mode is that of a directory, and a slash goes after the name, or it is another, and nothing does
 slash_cases : (m : FileMode) → ((m ≡ mode.Directory) × (slash_of m ≡ codes "/")) ⊎ ((m ≢ mode.Directory) × (slash_of m ≡ []))
 slash_cases mode.Regular = inr ((λ e. cc), refl)
 slash_cases mode.Executable = inr ((λ e. cc), refl)

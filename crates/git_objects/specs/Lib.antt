@@ -6,8 +6,8 @@ pub use Rattle.git_model.specs.ObjectName
 pub use Rattle.git_model.specs.Tree
 pub use Rattle.git_model.specs.Commit
 pub use Rattle.git_model.specs.Tag
-pub mod Naming
-pub mod Ident
+pub use Rattle.git_names.specs.Naming
+pub use Rattle.git_names.specs.Ident
 pub mod Parts
 pub mod Fronts
 pub mod TreeParts

@@ -13,12 +13,11 @@ ghost use Rattle.git_objects.specs.CommitParts.{AreParents, IsIdents, idents_tex
 use crate::header::{
     append_end, append_line, append_name_line, take_end, take_ident_line, take_name_line,
 };
-use crate::memory::Memory;
-use crate::name::Name;
+use git_names::{Memory, Name};
 use std::alloc::Global;
 
 /// What a commit says. Its texts are borrowed, as from the commit's contents.
-#[derive(Debug, Drop)]
+#[derive(Drop)]
 pub struct CommitParts<'a> {
     /// The name of the commit's tree.
     pub tree: Name,

@@ -11,7 +11,7 @@ fn index_of(bytes: &[u8], sought: u8) -> Option<usize>
     bytes.iter().position(|byte| *byte == sought)
 }
 
-/// Parts a text at the first byte that is `end`: what stands before it and what stands behind it.
+/// Parts a text at the first byte that is `end`: what stands before it and what stands after it.
 pub fn split_at_byte(bytes: &[u8], end: u8) -> Option<(&[u8], &[u8])>
     ensures { IsFront (All (λ byte. byte ≢ end)) (λ part. part ++ end ∷ []) bytes.now
         (option_map (λ x. (x.0.now, x.1.now)) result) }

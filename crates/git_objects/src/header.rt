@@ -1,4 +1,4 @@
-//! The header lines of commits and tags: a word with the space behind it, a text, and a line end.
+//! The header lines of commits and tags: a word with the space after it, a text, and a line end.
 
 ghost use Rattle.std.specs.Prelude.{◌≡◌, ◌≢◌, ℕ, List, ◌∷◌, ◌++◌, length, take, All, MatchOption, IfSome, OnOk};
 ghost use Rattle.std.specs.Option.{option_map, option_copied};
@@ -10,11 +10,9 @@ ghost use Rattle.git_objects.specs.Fronts.{IsFront};
 ghost use Rattle.git_objects.specs.HeaderParts.{end_lines};
 
 use crate::front::split_at_byte;
-use crate::ident::is_written_ident;
-use crate::memory::Memory;
-use crate::name::Name;
+use git_names::{Memory, Name, is_written_ident};
 
-/// Appends a line. After `Memory` (90) a piece of it may stand behind what stood there.
+/// Appends a line. After `Memory` (90) a piece of it may stand after what stood there.
 pub fn append_line(word: &[u8], text: &[u8], contents: &mut Vec<u8>) -> Result<(), Memory>
     ensures written { OnOk result (contents.new.items ≡ contents.old.items ++ line word.now text.now) }
     ensures kept { take (length contents.old.items) contents.new.items ≡ contents.old.items }
@@ -55,7 +53,7 @@ pub fn append_end(
     Ok(())
 }
 
-/// Takes a line with this word from the front of a text: what stands behind the word, and what
+/// Takes a line with this word from the front of a text: what stands after the word, and what
 /// follows the line.
 pub fn take_line<'a>(word: &[u8], bytes: &'a [u8]) -> Option<(&'a [u8], &'a [u8])>
     ensures { IsFront (All (λ byte. byte ≢ 10)) (line word.now) bytes.now
@@ -103,7 +101,7 @@ pub fn take_ident_line<'a>(word: &[u8], bytes: &'a [u8]) -> Option<(&'a [u8], &'
     }
 }
 
-/// Takes a line that may be missing and the empty line from the front of a text: what stands behind
+/// Takes a line that may be missing and the empty line from the front of a text: what stands after
 /// the word, if the line is there, and what follows the empty line.
 pub fn take_end<'a>(word: &[u8], bytes: &'a [u8]) -> Option<(Option<&'a [u8]>, &'a [u8])>
     requires { (text rest : List ℕ) → word.now ++ text ≢ 10 ∷ rest }

@@ -16,16 +16,12 @@ ghost use Rattle.git_objects.specs.TagParts.{IsTagged, IsTagger, kind_line};
 use crate::header::{
     append_end, append_line, append_name_line, take_end, take_line, take_name_line,
 };
-use crate::ident::is_written_ident;
-use crate::memory::Memory;
-use crate::name::Name;
-use crate::object_name::kind_word;
-use crate::ref_name::is_ref_name;
 use git_model::Kind;
+use git_names::{Memory, Name, is_ref_name, is_written_ident, kind_word};
 use std::alloc::Global;
 
 /// What a tag says. Its texts are borrowed, as from the tag's contents.
-#[derive(Clone, Copy, Debug)]
+#[derive(Clone, Copy)]
 pub struct TagParts<'a> {
     /// The name of the object that is tagged.
     pub target: Name,
@@ -125,7 +121,7 @@ fn take_tagger(bytes: &[u8]) -> Option<(Option<&[u8]>, &[u8])>
 ///
 /// `None` where the contents are no tag's that `write_tag` makes of parts that are right: a header
 /// line that is missing, repeated or out of its place, a name that is not 40 hexadecimal digits of
-/// lower case, `type tree`, a tag's name that makes no ref name behind `refs/tags/`, a tagger that
+/// lower case, `type tree`, a tag's name that makes no ref name after `refs/tags/`, a tagger that
 /// is no ident or begins with `<`. `Memory` (90) where there is no room to judge that ref name.
 pub fn read_tag(alloc: Global, contents: &[u8]) -> Result<Option<TagParts<'_>>, Memory>
     ensures found { IfOk result (λ r. IfSome r
@@ -158,30 +154,4 @@ pub fn read_tag(alloc: Global, contents: &[u8]) -> Result<Option<TagParts<'_>>, 
         tagger,
         message,
     }))
-}
-
-#[cfg(test)]
-mod tests {
-    use crate::{Memory, read_tag};
-    use std::alloc::Global;
-    use std::test::Fail;
-
-    fn is_read(alloc: Global, contents: &[u8]) -> Result<bool, Memory> {
-        match read_tag(alloc, contents) {
-            Ok(Some(_)) => Ok(true),
-            Ok(None) => Ok(false),
-            Err(memory) => Err(memory),
-        }
-    }
-
-    #[test]
-    fn refuses_tags_of_trees_and_names_of_no_ref(rt: HostRuntime) -> Result<(), Fail> {
-        let right = b"object ce013625030ba8dba906f756967f9e9ca394464a\ntype blob\ntag a.b\n\nx\n";
-        let dots = b"object ce013625030ba8dba906f756967f9e9ca394464a\ntype blob\ntag a..b\n\nx\n";
-        let tree = b"object ce013625030ba8dba906f756967f9e9ca394464a\ntype tree\ntag a.b\n\nx\n";
-        assert!(rt; is_read(rt.alloc(), right)?);
-        assert!(rt; !is_read(rt.alloc(), dots)?);
-        assert!(rt; !is_read(rt.alloc(), tree)?);
-        Ok(())
-    }
 }

@@ -9,11 +9,10 @@ ghost use Rattle.git_objects.specs.Fronts.{IsFront};
 ghost use Rattle.git_objects.specs.TreeParts.{mode_text, name_text, AreInOrder, HasTwin};
 
 use crate::front::split_at_byte;
-use crate::memory::Memory;
 use crate::mode::{mode_digits, read_mode};
-use crate::name::Name;
 use crate::tree_entry::{TreeEntry, is_entry_name};
 use git_model::FileMode;
+use git_names::{Memory, Name};
 use std::alloc::Global;
 
 fn append_entry(entry: &TreeEntry<'_>, contents: &mut Vec<u8>) -> Result<(), Memory>
@@ -94,7 +93,7 @@ fn take_entry(contents: &[u8]) -> Option<(TreeEntry<'_>, &[u8])>
 }
 
 // A file of the directory's name stands elsewhere among the entries, since only a directory's name
-// is compared with a slash behind it. The entries are in order, so one search finds it.
+// is compared with a slash after it. The entries are in order, so one search finds it.
 fn has_twin(entries: &[TreeEntry<'_>], entry: &TreeEntry<'_>) -> bool
     ensures { AreInOrder (entries_of entries.now)
         → (IsTrue result ↔ HasTwin (entries_of entries.now) (entry_of entry.now)) }
@@ -176,50 +175,5 @@ pub fn read_tree(alloc: Global, contents: &[u8]) -> Result<Option<Vec<TreeEntry<
         Ok(Some(entries))
     } else {
         Ok(None)
-    }
-}
-
-#[cfg(test)]
-mod tests {
-    use crate::{FileMode, Memory, is_entry_name, mode_digits, read_mode, read_tree};
-    use std::alloc::Global;
-    use std::cmp::Ordering;
-    use std::test::Fail;
-
-    fn is_read(alloc: Global, contents: &[u8]) -> Result<bool, Memory> {
-        Ok(read_tree(alloc, contents)?.is_some())
-    }
-
-    #[test]
-    fn refuses_a_mode_with_a_leading_zero(rt: HostRuntime) -> Result<(), Fail> {
-        assert!(rt; is_read(rt.alloc(), b"40000 x\0oooooooooooooooooooo")?);
-        assert!(rt; !is_read(rt.alloc(), b"040000 x\0oooooooooooooooooooo")?);
-        assert!(rt; mode_digits(FileMode::Executable) == b"100755".as_slice());
-        assert!(rt; read_mode(b"160000") == Some(FileMode::Gitlink));
-        Ok(())
-    }
-
-    // A file `a`, a file `a.txt` and a directory `a`, each with an object name of twenty letters.
-    const THREE: &[u8; 90] =
-        b"100644 a\0oooooooooooooooooooo100644 a.txt\0oooooooooooooooooooo40000 a\0oooooooooooooooooooo";
-
-    #[test]
-    fn refuses_a_file_and_a_directory_of_one_name(rt: HostRuntime) -> Result<(), Fail> {
-        let three = THREE.as_slice();
-        assert!(rt; !is_read(rt.alloc(), three)?);
-        assert!(rt; is_read(rt.alloc(), &three[..62])?);
-        assert!(rt; is_read(rt.alloc(), &three[29..])?);
-        Ok(())
-    }
-
-    // `.` is below the slash that a directory's name is compared with.
-    #[test]
-    fn puts_a_file_before_a_directory(rt: HostRuntime) -> Result<(), Fail> {
-        let three = THREE.as_slice();
-        let entries = read_tree(rt.alloc(), &three[29..])?.ok_or("no tree")?;
-        assert_eq!(rt; entries.len(), 2);
-        assert!(rt; entries[0].order(&entries[1]) == Ordering::Less);
-        assert!(rt; is_entry_name(entries[0].name) && !is_entry_name(b"a/b"));
-        Ok(())
     }
 }

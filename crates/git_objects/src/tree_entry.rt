@@ -4,8 +4,9 @@ ghost use Rattle.std.specs.Prelude.{◌≡◌, ◌↔◌, IsTrue};
 ghost use Rattle.git_model.specs.Tree.{IsEntryName, slash_of, tree_cmp};
 ghost use Rattle.git_objects.specs.Parts.{entry_of};
 
-use crate::name::Name;
 use git_model::FileMode;
+use git_names::Name;
+use git_paths::is_component;
 use std::cmp::Ordering;
 
 /// A direct entry of a tree. Its name is borrowed, as from the tree's contents.
@@ -24,10 +25,7 @@ pub struct TreeEntry<'a> {
 pub fn is_entry_name(name: &[u8]) -> bool
     ensures { IsTrue result ↔ IsEntryName name.now }
 {
-    match name {
-        [] | b"." | b".." => false,
-        _ => name.iter().all(|byte| *byte != 0 && *byte != b'/'),
-    }
+    is_component(name)
 }
 
 fn slash_of(mode: FileMode) -> &'static [u8]

@@ -62,7 +62,7 @@ impl<'a> Components<'a> {
         count_components(self.bytes)
     }
 
-    /// The first of these components and what is left behind it; `None` where none is left.
+    /// The first of these components and what is left after it; `None` where none is left.
     pub fn split_first(&self) -> Option<(&'a [u8], Components<'a>)>
         ensures { MatchOption result (self.now ≡ []) (λ r. self.now ≡ r.0.now ∷ r.1) }
     {

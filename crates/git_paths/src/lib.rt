@@ -19,6 +19,3 @@ pub use judging::is_component;
 pub use path::Path;
 pub use place::Place;
 pub use printing::quote_into;
-
-#[cfg(test)]
-mod tests;

@@ -56,12 +56,12 @@ impl Path {
         }
     }
 
-    /// Reads the path that a text begins with, and what stands behind it: git-fast-import(1), `M`,
+    /// Reads the path that a text begins with, and what stands after it: git-fast-import(1), `M`,
     /// `D`, `C` and `R`.
     ///
     /// A path that begins with a quote is quoted and ends at the next quote without a backslash.
     /// Any other ends at the first space, if it is a source, and else with the text. Behind a
-    /// source stands a space, which is not part of the rest; behind a last path stands nothing.
+    /// source stands a space, which is not part of the rest; after a last path stands nothing.
     /// `Fault::BadPath` (10) where that is broken, an escape is unknown or above 255, or a
     /// component is empty, `.` or `..` or holds NUL; else `Fault::Limit` (25) above 16,383 bytes or
     /// 256 components. Takes memory for the bytes; `Fault::Memory` (90) may stand in place of any
@@ -115,7 +115,7 @@ impl Path {
         are_few(&self.bytes)
     }
 
-    /// Prints the path behind what `out` holds, quoted where it must be: git-config(1),
+    /// Prints the path after what `out` holds, quoted where it must be: git-config(1),
     /// core.quotePath.
     ///
     /// The root prints nothing. Takes memory for the growth of `out`; after `AllocError` (90) its
@@ -162,8 +162,8 @@ impl Path {
         Components::of(&self.bytes)
     }
 
-    /// What the path has behind its prefix `top`, or `None` where `top` is no prefix of it; nothing
-    /// is left behind the path itself.
+    /// What the path has after its prefix `top`, or `None` where `top` is no prefix of it; nothing
+    /// is left after the path itself.
     pub fn behind(&self, top: &Path) -> Option<Components<'_>>
         ensures { result ≡ behind top.now self.now }
     {
@@ -178,7 +178,7 @@ impl Path {
         bytes_behind(&top.bytes, &self.bytes).is_some()
     }
 
-    /// This path and, behind it, the components of another. It knows no limits. Takes memory for
+    /// This path and, after it, the components of another. It knows no limits. Takes memory for
     /// the bytes.
     pub fn join(&self, alloc: Global, rest: &Components<'_>) -> Result<Path, AllocError>
         ensures { IfOk result (λ path. path ≡ self.now ++ rest.now) }
@@ -186,7 +186,7 @@ impl Path {
         Ok(Path::of(join_bytes(alloc, self.as_bytes(), rest.as_bytes())?))
     }
 
-    /// This path and, behind it, one component. It knows no limits. Takes memory for the bytes.
+    /// This path and, after it, one component. It knows no limits. Takes memory for the bytes.
     pub fn child(&self, alloc: Global, name: &[u8]) -> Result<Path, AllocError>
         requires { IsComponent name.now }
         ensures { IfOk result (λ path. path ≡ self.now ++ name.now ∷ []) }

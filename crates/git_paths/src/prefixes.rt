@@ -6,7 +6,7 @@ ghost use Rattle.git_paths.specs.Paths.{IsPath, components_of, behind, joined_bo
 
 use std::alloc::{AllocError, Global};
 
-/// The bytes of what a path has behind its prefix.
+/// The bytes of what a path has after its prefix.
 pub(crate) fn bytes_behind<'a>(top: &[u8], bytes: &'a [u8]) -> Option<&'a [u8]>
     requires top { IsPath (components_of top.now) }
     requires path { IsPath (components_of bytes.now) }
@@ -23,7 +23,7 @@ pub(crate) fn bytes_behind<'a>(top: &[u8], bytes: &'a [u8]) -> Option<&'a [u8]>
     }
 }
 
-/// The bytes of one path behind another.
+/// The bytes of one path after another.
 pub(crate) fn join_bytes(alloc: Global, top: &[u8], rest: &[u8]) -> Result<Vec<u8>, AllocError>
     ensures { IfOk result (λ v. v.items ≡ joined_both top.now rest.now) }
 {

@@ -59,7 +59,7 @@ fn write_quoted(bytes: &[u8], out: &mut Vec<u8>) -> Result<(), AllocError>
     Ok(())
 }
 
-/// Prints bytes of a path, or of an entry's name, behind what `out` holds: git-config(1),
+/// Prints bytes of a path, or of an entry's name, after what `out` holds: git-config(1),
 /// core.quotePath.
 ///
 /// They stand in quotes exactly where they hold a quote, a backslash, a byte below 0x20 or one from

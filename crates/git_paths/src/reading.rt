@@ -61,7 +61,7 @@ fn read_unquoted(alloc: Global, text: &[u8], place: Place) -> Result<(Vec<u8>, &
     Ok((Vec::from_slice(alloc, bytes)?, rest))
 }
 
-/// The bytes of the path that a text begins with, and what stands behind it.
+/// The bytes of the path that a text begins with, and what stands after it.
 pub(crate) fn read_bytes(
     alloc: Global,
     text: &[u8],

@@ -78,7 +78,7 @@ fn byte_at(first: u8, behind: &[u8]) -> Option<(u8, &[u8])>
     }
 }
 
-/// The bytes up to the closing quote, and what stands behind it.
+/// The bytes up to the closing quote, and what stands after it.
 pub(crate) fn unquote(alloc: Global, text: &[u8]) -> Result<(Vec<u8>, &[u8]), Fault>
     ensures { Gives (λ r. (r.0.items, r.1.now)) result (ok_or (unquoted text.now) BadPath) }
 {

@@ -1,5 +1,5 @@
 -- What an import has done so far.
-use Rattle.std.proofs.Common.{◌≡◌, ◌≢◌, ℕ, ◌+◌, ◌-◌, ◌*◌, ◌^◌, ◌<◌, ◌≤◌, ◌⊎◌, inl, inr, min, Bool, true, false, List, [], ◌∷◌, ◌++◌, length, take, Option, None, Some, Result, Ok, Err, refl, sym, ap, subst, ◌∙◌, append_assoc, append-nil, arith}
+use Rattle.std.proofs.Common.{◌≡◌, ◌≢◌, ℕ, ◌+◌, ◌-◌, ◌*◌, ◌^◌, ◌<◌, ◌≤◌, ◌⊎◌, inl, inr, min, Bool, true, false, cond, List, [], ◌∷◌, ◌++◌, length, take, Option, None, Some, Result, Ok, Err, refl, sym, ap, subst, ◌∙◌, append_assoc, append-nil, arith}
 use Rattle.std.specs.Io.KnownBytes.{Appends, Consumes, Keeps, IsAtEnd, ReadConsumes}
 use Rattle.git_model.specs.RefStore.{RefStore, no_refs}
 use Rattle.git_model.specs.Repository.{Object, Repository}
@@ -15,11 +15,10 @@ use Rattle.git_objects.proofs.KnownBytes.{Appends-nil, Appends-trans, Consumes-n
 use Rattle.stream_lex.specs.Items.{Item, Tail, Rest, Failed, behind_items}
 use Rattle.stream_lex.specs.Reading.{reading, walk}
 use Rattle.stream_lex.specs.Running.{extended, more_of, HasNoItem}
-use Rattle.import_session.specs.Stream.{Running, Outcome, Standing, End, begun, Runs, Refused, after_reply, carried, going_on, step, at_tail, tail_outcome, refused, finished, last_checkpoint}
-use Rattle.std.proofs.lemmas.List.{length-append}
-use Rattle.std.proofs.Math.Nat.{pos_of_ne-zero}
+use Rattle.import_session.specs.Stream.{Running, Outcome, Standing, End, begun, Runs, Refused, after_reply, carried, going_on, step, at_tail, tail_outcome, refused, finished, running_end, last_checkpoint, ended_well as import_ended}
 use Rattle.step_frames.specs.Reading.{HasReadWell}
 use Rattle.step_frames.proofs.ReadLemmas.{one_well}
+use Rattle.step_frames.proofs.WriteLemmas.{front_of_later}
 use Rattle.tenant_stream.proofs.StreamLemmas.{carried-done}
 use Rattle.tenant_stream.specs.declared.stop.Stop.{Stop}
 use Rattle.tenant_stream.specs.declared.stop.Stop.TheVariants as stop
@@ -27,10 +26,10 @@ use Rattle.gitpool.specs.declared.import_fault.ImportFault.{ImportFault}
 use Rattle.gitpool.specs.declared.import_fault.ImportFault.TheVariants as fault
 use Rattle.tenant_stream.specs.Carrying.{Between, Carries, Advances, Goes, Ends, EndsAs, Fails, Feeds, HasAmpleRoom, Stops, IsDrained, new_stream, outcome_behind, stream_in}
 use Rattle.gitpool.specs.ImportFaults.{as_import}
-use Rattle.gitpool.specs.Import.{IsImported, IsGivenUp, IsStopped, IsDevice, IsSettled, AsksForMore, Imports, outcome_of, end_fault}
+use Rattle.gitpool.specs.Import.{IsImported, IsGivenUp, IsStopped, IsDevice, IsSettled, AsksForMore, Imports, outcome_of, end_fault, printed_by}
 use Rattle.tenant_service.specs.Alone.{stream_of}
 use Rattle.tenant_service.specs.Holding.{empty_repository}
-use Rattle.gitpool.specs.Importing.{Importing, running_of, IsNewImport, IsReady, Passes, IsRefusedWith, IsWrittenFront, PassesOn, EndsImport}
+use Rattle.gitpool.specs.Importing.{Importing, running_of, IsNewImport, IsReady, Passes, IsRefusedWith, IsWrittenFront, PassesOn, IsReadThrough, end_of_import, IsEndWritten, EndsImport}
 
 -- where nothing whole is held, nothing more is printed yet
 has_no_item : (tail : Tail) → HasNoItem tail → more_of tail [] ≡ record { items = []; tail = tail }
@@ -48,7 +47,7 @@ drained_outcome : (digest : List ℕ → List ℕ) (now : Running) (tail : Tail)
 drained_outcome digest now tail running none =
     ap (λ r. carried digest now r.items r.tail) (has_no_item tail none) ∙ waiting digest now tail running none
 
--- what comes behind the items that were carried out
+-- what comes after the items that were carried out
 pub goes_on : (digest : List ℕ → List ℕ) (now : Running) (old : Tail) (items : List Item) (replies : List ℕ) (next : Running) (new : Tail)
     → Advances digest now old items replies next new → (more : List ℕ)
     → outcome_behind digest now old more ≡ after_reply replies (outcome_behind digest next new more)
@@ -115,7 +114,7 @@ after_replies a b o = ap (λ r. record { replies = r; standing = o.standing }) (
 pub record SoFar (digest : List ℕ → List ℕ) (r0 r w0 w : Device) (i : Importing) (count : ℕ) : Type 0 where
   pub bytes : List ℕ
   pub read : HasRead r0 r bytes
-  pub enough : count ≤ length bytes
+  pub calls : min (r0.calls + count) (2 ^ 64 - 1) ≤ r.calls
   pub replies : List ℕ
   pub goes : (more : List ℕ) → outcome_of digest (bytes ++ more)
       ≡ after_reply replies (outcome_behind digest (running_of i) i.between.tail more)
@@ -131,12 +130,7 @@ pub reads_piece : (old new : Device) (n : ℕ) (buf piece : List ℕ) → piece 
 reads_piece old new n buf piece is size consumed passed faults =
     subst (HasReadWell old new) (sym is) (one_well old new n buf size consumed passed faults)
 
-pub piece_some : (n : ℕ) (buf piece : List ℕ) → piece ≡ take n buf → n ≡ length (take n buf) → n ≢ 0 → 0 < length piece
-piece_some n buf piece is size some =
-    let e : length piece ≡ n = ap length is ∙ sym size in
-    let f : 0 < n = pos_of_ne-zero some in omega (arith, e, f)
-
--- all bytes so far, and what comes behind a piece
+-- all bytes so far, and what comes after a piece
 goes_behind : (digest : List ℕ → List ℕ) (r0 r w0 w : Device) (i : Importing) (count : ℕ) (s : SoFar digest r0 r w0 w i count)
     (piece more : List ℕ)
     → outcome_of digest ((s.bytes ++ piece) ++ more)
@@ -163,12 +157,12 @@ whole_so_far digest r0 r w0 w i count s =
 
 -- one piece more
 pub so_far_more : (digest : List ℕ → List ℕ) (r0 r w0 w : Device) (i : Importing) (count : ℕ) (r' w' : Device) (i' : Importing) (piece : List ℕ)
-    → SoFar digest r0 r w0 w i count → HasReadWell r r' piece → 0 < length piece → Passes digest i piece w i' w'
+    → SoFar digest r0 r w0 w i count → HasReadWell r r' piece → r'.calls ≡ counted_on r.calls 1 → Passes digest i piece w i' w'
     → i'.between.session.is_done ≡ false → SoFar digest r0 r' w0 w' i' (count + 1)
-so_far_more digest r0 r w0 w i count r' w' i' piece s reads some p running = record {
+so_far_more digest r0 r w0 w i count r' w' i' piece s reads called p running = record {
   bytes = s.bytes ++ piece;
   read = HasRead-trans r0 r r' s.bytes piece s.read reads.read;
-  enough = let n = length-append s.bytes piece in let m = s.enough in omega (arith, n, m, some);
+  calls = let m = s.calls in omega (arith, m, called);
   replies = s.replies ++ p.replies;
   goes = λ more. goes_behind digest r0 r w0 w i count s piece more
       ∙ ap (after_reply s.replies) (p.goes more)
@@ -181,18 +175,33 @@ so_far_more digest r0 r w0 w i count r' w' i' piece s reads some p running = rec
   ready = p.ready;
 }
 
+-- no end prints anything after `done`, nor after a refusal
+finished-done : (digest : List ℕ → List ℕ) (now : Running) (tail : Tail) → now.is_done ≡ true
+    → finished digest (Runs now tail) ≡ import_ended [] now.workspace
+finished-done digest now tail done =
+    ap (λ (b : Bool). cond b (import_ended [] now.workspace) (running_end digest now tail)) done
+
+printed-refused : (digest : List ℕ → List ℕ) (bytes replies : List ℕ) (code : ℕ) (left : Repository)
+    → outcome_of digest bytes ≡ record { replies = replies; standing = Refused code left }
+    → printed_by digest bytes ≡ replies
+printed-refused digest bytes replies code left whole =
+    ap (λ (o : Outcome). o.replies ++ (finished digest o.standing).reply) whole ∙ append-nil replies
+
 -- `done` was read
-pub imported_done : (digest : List ℕ → List ℕ) (r0 r w0 w : Device) (i : Importing) (count : ℕ) (r' w' : Device) (i' : Importing) (piece : List ℕ)
+pub through_done : (digest : List ℕ → List ℕ) (r0 r w0 w : Device) (i : Importing) (count : ℕ) (r' w' : Device) (i' : Importing) (piece : List ℕ)
     → SoFar digest r0 r w0 w i count → HasReadWell r r' piece → Passes digest i piece w i' w'
-    → i'.between.session.is_done ≡ true → IsImported digest r0 r' w0 w' None
-imported_done digest r0 r w0 w i count r' w' i' piece s reads p done = record {
+    → i'.between.session.is_done ≡ true → IsReadThrough digest r0 r' w0 i' w'
+through_done digest r0 r w0 w i count r' w' i' piece s reads p done = record {
   bytes = s.bytes ++ piece;
   read = HasRead-trans r0 r r' s.bytes piece s.read reads.read;
   written = subst (λ (l : List ℕ). Appends w0.known w'.known l) (sym (ap (λ (o : Outcome). o.replies) whole))
       (Appends-trans w0.known w.known w'.known s.replies p.replies s.written p.written);
-  ended = ap (λ (o : Outcome). (finished o.standing).fault) whole ∙ rw done refl;
+  ends = ap (λ (o : Outcome). finished digest o.standing) whole ∙ finished-done digest (running_of i') (Rest false []) done
+      ∙ sym (finished-done digest (running_of i') i'.between.tail done);
   last = inr (λ more. settled more ∙ sym whole);
-  well = reads.well ∙ s.faults;
+  faults = reads.well ∙ s.faults;
+  well = p.well ∙ s.well;
+  ready = p.ready;
 }
   where
     settled : (more : List ℕ) → outcome_of digest ((s.bytes ++ piece) ++ more)
@@ -216,9 +225,9 @@ pub imported_refused : (digest : List ℕ → List ℕ) (r0 r w0 w : Device) (i 
 imported_refused digest r0 r w0 w i count r' w' piece code s reads p = record {
   bytes = s.bytes ++ piece;
   read = HasRead-trans r0 r r' s.bytes piece s.read reads.read;
-  written = subst (λ (l : List ℕ). Appends w0.known w'.known l) (sym (ap (λ (o : Outcome). o.replies) whole))
+  written = subst (λ (l : List ℕ). Appends w0.known w'.known l) (sym (printed-refused digest (s.bytes ++ piece) _ code p.repository whole))
       (Appends-trans w0.known w.known w'.known s.replies p.replies s.written p.written);
-  ended = ap (λ (o : Outcome). (finished o.standing).fault) whole;
+  ended = ap (λ (o : Outcome). (finished digest o.standing).fault) whole;
   last = inr (λ more. settled more ∙ sym whole);
   well = reads.well ∙ s.faults;
 }
@@ -231,7 +240,7 @@ imported_refused digest r0 r w0 w i count r' w' piece code s reads p = record {
         ≡ record { replies = s.replies ++ p.replies; standing = Refused code p.repository }
     whole = ap (outcome_of digest) (sym (append-nil (s.bytes ++ piece))) ∙ settled []
 
--- a prefix of the replies to the piece stands behind all replies before it
+-- a prefix of the replies to the piece stands after all replies before it
 front_behind : (digest : List ℕ → List ℕ) (r0 r w0 w : Device) (i : Importing) (count : ℕ) (w' : Device) (piece : List ℕ)
     (s : SoFar digest r0 r w0 w i count) → IsWrittenFront digest i piece w w'
     → AppendsFront w0.known w'.known (outcome_of digest (s.bytes ++ piece)).replies
@@ -261,6 +270,8 @@ unwritten digest r0 r w0 w i count r' w' piece s reads f =
     record {
       bytes = s.bytes ++ piece;
       read = HasRead-trans r0 r r' s.bytes piece s.read reads.read;
+      at_end = false;
+      end = λ (none : false ≡ true). cc none;
       written = front_behind digest r0 r w0 w i count w' piece s f.0;
       whole = inl blamed;
       blamed = inr (inl blamed);
@@ -275,6 +286,8 @@ all_written digest r0 r w0 w i count r' s had blamed =
     record {
       bytes = s.bytes;
       read = had;
+      at_end = false;
+      end = λ (none : false ≡ true). cc none;
       written = record { front = s.replies; rest = []; parts = replies ∙ sym (append-nil s.replies); appends = s.written };
       whole = inr (subst (λ (l : List ℕ). Appends w0.known w.known l) (sym replies) s.written);
       blamed = blamed;
@@ -296,34 +309,68 @@ pub endless : (digest : List ℕ → List ℕ) (r0 r w0 w : Device) (i : Importi
     → SoFar digest r0 r w0 w i count → 2 ^ 32 ≤ count → IsGivenUp digest r0 r w0 w
 endless digest r0 r w0 w i count s all = all_written digest r0 r w0 w i count r s s.read (inr (inr bound))
   where
-    bound : min (r0.passed + 2 ^ 32) (2 ^ 64 - 1) ≤ r.passed
-    bound = let p = s.read.passed in let n = s.enough in omega (arith, p, n, all)
+    bound : min (r0.calls + 2 ^ 32) (2 ^ 64 - 1) ≤ r.calls
+    bound = let n = s.calls in omega (arith, n, all)
 
 -- the end of the input
-ends_as : (digest : List ℕ → List ℕ) (r0 r w0 w : Device) (i : Importing) (count : ℕ) (r' : Device) (end : Option ℕ)
+read_to_end : (digest : List ℕ → List ℕ) (r0 r w0 w : Device) (i : Importing) (count : ℕ) (r' : Device)
+    (s : SoFar digest r0 r w0 w i count) → Consumes r.known r'.known [] → r'.passed ≡ counted_on r.passed 0 → HasRead r0 r' s.bytes
+read_to_end digest r0 r w0 w i count r' s consumed passed =
+    subst (HasRead r0 r') (append-nil s.bytes)
+    (HasRead-trans r0 r r' s.bytes [] s.read (record { consumed = consumed; passed = passed }))
+
+pub through_end : (digest : List ℕ → List ℕ) (r0 r w0 w : Device) (i : Importing) (count : ℕ) (r' : Device)
     → SoFar digest r0 r w0 w i count → Consumes r.known r'.known [] → IsAtEnd r'.known → r'.passed ≡ counted_on r.passed 0 → r'.faults ≡ r.faults
-    → (finished (Runs (running_of i) i.between.tail)).fault ≡ end → IsImported digest r0 r' w0 w end
-ends_as digest r0 r w0 w i count r' end s consumed at_end passed well ended =
+    → IsReadThrough digest r0 r' w0 i w
+through_end digest r0 r w0 w i count r' s consumed at_end passed well =
     let whole = whole_so_far digest r0 r w0 w i count s in
     record {
       bytes = s.bytes;
-      read = subst (HasRead r0 r') (append-nil s.bytes)
-          (HasRead-trans r0 r r' s.bytes [] s.read (record { consumed = consumed; passed = passed }));
+      read = read_to_end digest r0 r w0 w i count r' s consumed passed;
       written = subst (λ (l : List ℕ). Appends w0.known w.known l) (sym (ap (λ (o : Outcome). o.replies) whole)) s.written;
-      ended = ap (λ (o : Outcome). (finished o.standing).fault) whole ∙ ended;
+      ends = ap (λ (o : Outcome). finished digest o.standing) whole;
       last = inl at_end;
-      well = well ∙ s.faults;
+      faults = well ∙ s.faults;
+      well = s.well;
+      ready = s.ready;
     }
 
-pub imported_end : (digest : List ℕ → List ℕ) (r0 r w0 w : Device) (i : Importing) (count : ℕ) (r' : Device) (result : Result Unit ImportFault)
-    → SoFar digest r0 r w0 w i count → Consumes r.known r'.known [] → IsAtEnd r'.known → r'.passed ≡ counted_on r.passed 0 → r'.faults ≡ r.faults
-    → EndsImport i result → Imports digest r0 r' w0 w result
-imported_end digest r0 r w0 w i count r' (Ok u) s consumed at_end passed well ended =
-    ends_as digest r0 r w0 w i count r' None s consumed at_end passed well ended
-imported_end digest r0 r w0 w i count r' (Err (fault.Stream code)) s consumed at_end passed well ended =
-    ends_as digest r0 r w0 w i count r' (Some code) s consumed at_end passed well ended
-imported_end digest r0 r w0 w i count r' (Err fault.Device) s consumed at_end passed well ended = absurd ended
-imported_end digest r0 r w0 w i count r' (Err fault.Memory) s consumed at_end passed well ended = absurd ended
+-- the end of what was read
+ends_as : (digest : List ℕ → List ℕ) (r0 r w0 w : Device) (i : Importing) (w' : Device) (end : Option ℕ)
+    → IsReadThrough digest r0 r w0 i w → IsEndWritten digest i end w w' → IsImported digest r0 r w0 w' end
+ends_as digest r0 r w0 w i w' end s e = record {
+  bytes = s.bytes;
+  read = s.read;
+  written = subst (λ (x : End). Appends w0.known w'.known ((outcome_of digest s.bytes).replies ++ x.reply)) (sym s.ends)
+      (Appends-trans w0.known w.known w'.known (outcome_of digest s.bytes).replies (end_of_import digest i).reply s.written e.written);
+  ended = ap (λ (x : End). x.fault) s.ends ∙ e.ended;
+  last = s.last;
+  well = s.faults;
+}
+
+-- the reply of the end could not be written
+end_unwritten : (digest : List ℕ → List ℕ) (r0 r w0 w : Device) (i : Importing) (w' : Device)
+    → IsReadThrough digest r0 r w0 i w → AppendsFront w.known w'.known (end_of_import digest i).reply → HasFault w.faults w'.faults
+    → IsGivenUp digest r0 r w0 w'
+end_unwritten digest r0 r w0 w i w' s front failed =
+    let blamed : HasFault w0.faults w'.faults = subst (λ (n : ℕ). HasFault n w'.faults) s.well failed in
+    record {
+      bytes = s.bytes;
+      read = s.read;
+      at_end = true;
+      end = λ (_ : true ≡ true). s.last;
+      written = subst (λ (x : End). AppendsFront w0.known w'.known ((outcome_of digest s.bytes).replies ++ x.reply)) (sym s.ends)
+          (front_of_later w0.known w.known w'.known (outcome_of digest s.bytes).replies (end_of_import digest i).reply s.written front);
+      whole = inl blamed;
+      blamed = inr (inl blamed);
+    }
+
+pub imported_end : (digest : List ℕ → List ℕ) (r0 r w0 w : Device) (i : Importing) (w' : Device) (result : Result Unit ImportFault)
+    → IsReadThrough digest r0 r w0 i w → EndsImport digest i w result w' → Imports digest r0 r w0 w' result
+imported_end digest r0 r w0 w i w' (Ok u) s e = ends_as digest r0 r w0 w i w' None s e
+imported_end digest r0 r w0 w i w' (Err (fault.Stream code)) s e = ends_as digest r0 r w0 w i w' (Some code) s e
+imported_end digest r0 r w0 w i w' (Err fault.Device) s e = end_unwritten digest r0 r w0 w i w' s e.0 e.1
+imported_end digest r0 r w0 w i w' (Err fault.Memory) s e = absurd e
 
 -- what came of a piece that did not pass
 pub imported_piece : (digest : List ℕ → List ℕ) (r0 r w0 w : Device) (i : Importing) (count : ℕ) (r' w' : Device) (i' : Importing) (piece : List ℕ)
@@ -371,7 +418,7 @@ pub so_far_new : (digest : List ℕ → List ℕ) (r w : Device) (i : Importing)
 so_far_new digest r w i new fits = record {
   bytes = [];
   read = record { consumed = Consumes-nil r.known; passed = omega (arith, fits) };
-  enough = omega arith;
+  calls = omega arith;
   replies = [];
   goes = λ more. sym (ap (λ (b : Between). outcome_behind digest (running_of i) b.tail more) new.between
       ∙ ap (λ (now : Running). outcome_behind digest now (Rest false []) more) (new_running i new.between new.table new.refs)
@@ -438,9 +485,34 @@ pub ready_then : (digest : List ℕ → List ℕ) (old new : Importing) → IsRe
     → LeavesOthers old.pool old.table.entries new.pool new.table.entries → new.out ≡ [] → IsReady digest new
 ready_then = still_ready
 
+-- what the end printed
+printed_at_end : (digest : List ℕ → List ℕ) (i : Importing) (result : Result Unit Stop) (left : Repository) (out' : List ℕ)
+    → IsReady digest i → EndsAs digest (running_of i) i.between.tail i.out result left out'
+    → ((count : ℕ) → result ≢ Err (stop.Memory count)) → out' ≡ (end_of_import digest i).reply
+printed_at_end digest i (Ok u) left out' ready e enough =
+    e.printed ∙ ap (λ (l : List ℕ). l ++ (end_of_import digest i).reply) ready.written
+printed_at_end digest i (Err (stop.Fault code)) left out' ready e enough =
+    e.printed ∙ ap (λ (l : List ℕ). l ++ (end_of_import digest i).reply) ready.written
+printed_at_end digest i (Err (stop.Memory count)) left out' ready e enough = absurd (enough count refl)
+
 -- the end, by its answer
-pub ends_import : (i : Importing) (result : Result Unit Stop) (left : Repository)
-    → EndsAs (finished (Runs (running_of i) i.between.tail)) result left → EndsImport i (as_import result)
-ends_import i (Ok u) left e = ap (λ (end : End). end.fault) e
-ends_import i (Err (stop.Fault code)) left e = ap (λ (end : End). end.fault) e
-ends_import i (Err (stop.Memory count)) left e = e
+pub ends_import : (digest : List ℕ → List ℕ) (i : Importing) (w w' : Device) (result : Result Unit Stop) (left : Repository) (out' : List ℕ)
+    → IsReady digest i → EndsAs digest (running_of i) i.between.tail i.out result left out'
+    → ((count : ℕ) → result ≢ Err (stop.Memory count)) → Appends w.known w'.known out' → EndsImport digest i w (as_import result) w'
+ends_import digest i w w' (Ok u) left out' ready e enough written = record {
+  ended = e.answered;
+  written = subst (λ (l : List ℕ). Appends w.known w'.known l) (printed_at_end digest i (Ok u) left out' ready e enough) written;
+}
+ends_import digest i w w' (Err (stop.Fault code)) left out' ready e enough written = record {
+  ended = e.answered;
+  written = subst (λ (l : List ℕ). Appends w.known w'.known l) (printed_at_end digest i (Err (stop.Fault code)) left out' ready e enough) written;
+}
+ends_import digest i w w' (Err (stop.Memory count)) left out' ready e enough written = absurd (enough count refl)
+
+-- its reply was not written
+pub end_fails : (digest : List ℕ → List ℕ) (i : Importing) (w w' : Device) (result : Result Unit Stop) (left : Repository) (out' : List ℕ)
+    → IsReady digest i → EndsAs digest (running_of i) i.between.tail i.out result left out'
+    → ((count : ℕ) → result ≢ Err (stop.Memory count)) → AppendsFront w.known w'.known out' → HasFault w.faults w'.faults
+    → EndsImport digest i w (Err fault.Device) w'
+end_fails digest i w w' result left out' ready e enough front failed =
+    (subst (λ (l : List ℕ). AppendsFront w.known w'.known l) (printed_at_end digest i result left out' ready e enough) front, failed)

@@ -44,7 +44,7 @@ so_far_new digest held r w fits = record {
   as_many = refl;
 }
 
--- What was read behind the frames.
+-- What was read after the frames.
 abbrev pub served_behind : (digest : List ℕ → List ℕ) (before after : Holdings) (r0 r w0 w : Device) (count : ℕ)
     → SoFar digest before after r0 r w0 w count → (r' : Device) (rest : List ℕ) → HasRead r r' rest → Served digest before after r0 r'
 served_behind digest before after r0 r w0 w count s r' rest read = record {

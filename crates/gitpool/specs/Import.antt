@@ -1,8 +1,8 @@
 -- One stream over an empty repository, from a reader to a writer: git-fast-import(1).
-use Rattle.std.specs.Prelude.{◌≡◌, ◌≤◌, ◌+◌, ◌-◌, ◌^◌, min, ℕ, false, List, ◌++◌, Option, None, Some, Result, Ok, Err, ◌⊎◌}
+use Rattle.std.specs.Prelude.{◌≡◌, ◌≤◌, ◌+◌, ◌-◌, ◌^◌, min, ℕ, Bool, true, false, List, ◌++◌, Option, None, Some, Result, Ok, Err, ◌⊎◌}
 use Rattle.std.specs.Io.KnownBytes.{Appends, IsAtEnd}
 use Rattle.git_objects.specs.Device.{Device, HasRead, HasFault, AppendsFront}
-use Rattle.import_session.specs.Stream.{Outcome, Standing, Runs, Refused, finished}
+use Rattle.import_session.specs.Stream.{Outcome, Standing, Runs, Refused, End, finished}
 use Rattle.gitpool.specs.declared.import_fault.ImportFault.{ImportFault}
 use Rattle.gitpool.specs.declared.import_fault.ImportFault.TheVariants as fault
 use Rattle.tenant_service.specs.Alone.{stream_of}
@@ -12,11 +12,24 @@ use Rattle.tenant_service.specs.Holding.{empty_repository}
 abbrev pub outcome_of : (List ℕ → List ℕ) → List ℕ → Outcome
 outcome_of digest bytes = stream_of digest empty_repository bytes
 
--- The number that refuses a stream which ends behind these bytes; none where it ends well.
-abbrev pub end_fault : (List ℕ → List ℕ) → List ℕ → Option ℕ
-end_fault digest bytes = (finished (outcome_of digest bytes).standing).fault
+-- How a stream over an empty repository ends after these bytes.
+abbrev pub end_of : (List ℕ → List ℕ) → List ℕ → End
+end_of digest bytes = finished digest (outcome_of digest bytes).standing
 
--- No byte behind these changes what is printed, nor how the stream ends.
+-- The number that refuses it then; none where it ends well.
+abbrev pub end_fault : (List ℕ → List ℕ) → List ℕ → Option ℕ
+end_fault digest bytes = (end_of digest bytes).fault
+
+-- All that it prints: the replies to its items, and then the reply of its end.
+abbrev pub printed_by : (List ℕ → List ℕ) → List ℕ → List ℕ
+printed_by digest bytes = (outcome_of digest bytes).replies ++ (end_of digest bytes).reply
+
+-- What it prints to the bytes read: the reply of its end too, where it came to its end.
+abbrev pub printed_so_far : (List ℕ → List ℕ) → List ℕ → Bool → List ℕ
+printed_so_far digest bytes true = printed_by digest bytes
+printed_so_far digest bytes false = (outcome_of digest bytes).replies
+
+-- No byte after these changes what is printed, nor how the stream ends.
 abbrev pub IsSettled : (List ℕ → List ℕ) → List ℕ → Type 0
 IsSettled digest bytes = (more : List ℕ)
     → outcome_of digest (bytes ++ more) ≡ outcome_of digest bytes
@@ -27,33 +40,35 @@ AsksForMore (Runs now tail) = now.is_done ≡ false
 AsksForMore (Refused code repository) = ⊥
 
 -- The whole stream was read and carried out, or as much of it as counts; it ended so, and exactly
--- its replies were written.
+-- its replies and that of its end were written.
 pub record IsImported (digest : List ℕ → List ℕ) (reader reader' writer writer' : Device)
     (end : Option ℕ) : Type 0 where
   pub bytes : List ℕ
   pub read : HasRead reader reader' bytes
-  pub written : Appends writer.known writer'.known (outcome_of digest bytes).replies
+  pub written : Appends writer.known writer'.known (printed_by digest bytes)
   pub ended : end_fault digest bytes ≡ end
   pub last : IsAtEnd reader'.known ⊎ IsSettled digest bytes
   pub well : reader'.faults ≡ reader.faults
 
--- A device is to blame: a read failed of a stream that asked for more, or a write failed, or so many
--- reads gave bytes as one import may make.
+-- A device is to blame: a read failed of a stream that asked for more, or a write failed, or the
+-- reader was called as often as one import may call it.
 abbrev pub IsDevice : (List ℕ → List ℕ) → List ℕ → Device → Device → Device → Device → Type 0
 IsDevice digest bytes reader reader' writer writer' =
     (HasFault reader.faults reader'.faults × AsksForMore (outcome_of digest bytes).standing)
     ⊎ (HasFault writer.faults writer'.faults
-    ⊎ (min (reader.passed + 2 ^ 32) (2 ^ 64 - 1) ≤ reader'.passed))
+    ⊎ (min (reader.calls + 2 ^ 32) (2 ^ 64 - 1) ≤ reader'.calls))
 
--- It was given up behind these bytes: a prefix of their replies was written, and all of them where
--- no write failed.
+-- It was given up after these bytes: a prefix of the replies was written, and all of them where no
+-- write failed.
 pub record IsGivenUp (digest : List ℕ → List ℕ)
     (reader reader' writer writer' : Device) : Type 0 where
   pub bytes : List ℕ
   pub read : HasRead reader reader' bytes
-  pub written : AppendsFront writer.known writer'.known (outcome_of digest bytes).replies
+  pub at_end : Bool
+  pub end : at_end ≡ true → IsAtEnd reader'.known ⊎ IsSettled digest bytes
+  pub written : AppendsFront writer.known writer'.known (printed_so_far digest bytes at_end)
   pub whole : HasFault writer.faults writer'.faults
-      ⊎ Appends writer.known writer'.known (outcome_of digest bytes).replies
+      ⊎ Appends writer.known writer'.known (printed_so_far digest bytes at_end)
   pub blamed : IsDevice digest bytes reader reader' writer writer'
 
 -- A prefix of the replies was written, and then memory ran out.

@@ -1,16 +1,17 @@
--- An import between two pieces, and what one more does to it.
-use Rattle.std.specs.Prelude.{◌≡◌, ℕ, false, List, [], Option, None, Some, Result, Ok, Err}
-use Rattle.std.specs.Io.KnownBytes.{Appends}
+-- An import between two pieces, what one more does to it, and how it ends.
+use Rattle.std.specs.Prelude.{◌≡◌, ℕ, false, List, [], Option, None, Some, Result, Ok, Err, ◌⊎◌}
+use Rattle.std.specs.Io.KnownBytes.{Appends, IsAtEnd}
 use Rattle.git_model.specs.RefStore.{RefStore, no_refs}
 use Rattle.git_model.specs.Repository.{Repository}
-use Rattle.git_objects.specs.Device.{Device, HasFault, AppendsFront}
+use Rattle.git_objects.specs.Device.{Device, HasRead, HasFault, AppendsFront}
 use Rattle.content_pool.specs.Pool.{Cells, holds}
 use Rattle.tenant_tables.specs.View.{View, held}
 use Rattle.tenant_tables.specs.StandsIn.{StandsIn}
 use Rattle.stream_lex.specs.Running.{extended}
-use Rattle.import_session.specs.Stream.{Running, Runs, Refused, after_reply, finished}
+use Rattle.import_session.specs.Stream.{Running, Runs, Refused, End, after_reply, finished}
 use Rattle.gitpool.specs.declared.import_fault.ImportFault.{ImportFault}
 use Rattle.gitpool.specs.declared.import_fault.ImportFault.TheVariants as fault
+use Rattle.gitpool.specs.Import.{IsSettled, Imports, outcome_of, end_of}
 use Rattle.tenant_stream.specs.Carrying.{Between, IsDrained, outcome_behind, new_stream, stream_in}
 
 -- The one stream, its repository, and the replies that were not written yet.
@@ -76,10 +77,43 @@ PassesOn digest old piece writer (Err fault.Device) new writer' =
 PassesOn digest old piece writer (Err fault.Memory) new writer' =
     IsWrittenFront digest old piece writer writer'
 
--- How the stream ended, by the answer.
-abbrev pub EndsImport : Importing → Result Unit ImportFault → Type 0
-EndsImport i (Ok u) = (finished (Runs (running_of i) i.between.tail)).fault ≡ None
-EndsImport i (Err (fault.Stream code)) =
-    (finished (Runs (running_of i) i.between.tail)).fault ≡ Some code
-EndsImport i (Err fault.Device) = ⊥
-EndsImport i (Err fault.Memory) = ⊥
+-- How the stream ends where no more bytes come.
+abbrev pub end_of_import : (List ℕ → List ℕ) → Importing → End
+end_of_import digest i = finished digest (Runs (running_of i) i.between.tail)
+
+-- It ended so, and the reply of its end was written.
+pub record IsEndWritten (digest : List ℕ → List ℕ) (i : Importing) (fault : Option ℕ)
+    (writer writer' : Device) : Type 0 where
+  pub ended : (end_of_import digest i).fault ≡ fault
+  pub written : Appends writer.known writer'.known (end_of_import digest i).reply
+
+-- What came of the end, by the answer. No end takes memory.
+abbrev pub EndsImport : (List ℕ → List ℕ) → Importing → Device → Result Unit ImportFault → Device
+    → Type 0
+EndsImport digest i writer (Ok u) writer' = IsEndWritten digest i None writer writer'
+EndsImport digest i writer (Err (fault.Stream code)) writer' =
+    IsEndWritten digest i (Some code) writer writer'
+EndsImport digest i writer (Err fault.Device) writer' =
+    AppendsFront writer.known writer'.known (end_of_import digest i).reply
+    × HasFault writer.faults writer'.faults
+EndsImport digest i writer (Err fault.Memory) writer' = ⊥
+
+-- All that counts was read, carried out and answered: the input ended, or `done` was read.
+pub record IsReadThrough (digest : List ℕ → List ℕ) (reader reader' writer : Device) (i : Importing)
+    (writer' : Device) : Type 0 where
+  pub bytes : List ℕ
+  pub read : HasRead reader reader' bytes
+  pub written : Appends writer.known writer'.known (outcome_of digest bytes).replies
+  pub ends : end_of digest bytes ≡ end_of_import digest i
+  pub last : IsAtEnd reader'.known ⊎ IsSettled digest bytes
+  pub faults : reader'.faults ≡ reader.faults
+  pub well : writer'.faults ≡ writer.faults
+  pub ready : IsReady digest i
+
+-- What came of reading, by the answer.
+abbrev pub ReadsAll : (List ℕ → List ℕ) → Device → Device → Device → Result Unit ImportFault
+    → Importing → Device → Type 0
+ReadsAll digest reader reader' writer (Ok u) i writer' =
+    IsReadThrough digest reader reader' writer i writer'
+ReadsAll digest reader reader' writer (Err e) i writer' =
+    Imports digest reader reader' writer writer' (Err e)

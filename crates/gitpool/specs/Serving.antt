@@ -16,7 +16,7 @@ steps_text run = flat_map (λ taken. step_text taken.0) run
 abbrev pub answers_text : Run → List ℕ
 answers_text run = flat_map (λ taken. answer_text taken.1.answer taken.1.reply) run
 
--- Good frames were read, and some bytes behind them, and the steps were taken in turn: to every
+-- Good frames were read, and some bytes after them, and the steps were taken in turn: to every
 -- tenant they were told what they are told in a repository of its own.
 pub record Served (digest : List ℕ → List ℕ) (before after : Holdings) (reader reader' : Device)
     : Type 0 where

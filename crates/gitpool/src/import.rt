@@ -7,7 +7,7 @@ ghost use Rattle.std.specs.Io.KnownBytes.{Appends};
 ghost use Rattle.git_objects.specs.Device.{device_of, faults_of, AppendsFront, HasFault, seen};
 ghost use Rattle.gitpool.specs.ImportFaults.{as_import};
 ghost use Rattle.gitpool.specs.Import.{Imports};
-ghost use Rattle.gitpool.specs.Importing.{IsReady, IsNewImport, PassesOn, EndsImport};
+ghost use Rattle.gitpool.specs.Importing.{IsReady, IsNewImport, PassesOn, ReadsAll, EndsImport};
 
 use crate::import_fault::ImportFault;
 use content_pool::Pool;
@@ -121,19 +121,54 @@ impl<N: Naming> Importer<N> {
         as_import(fed)
     }
 
-    // The end of the bytes.
-    fn end(self) -> Result<(), ImportFault>
+    // Reads pieces and passes them on, until the input ends or `done` was read.
+    fn read_all<R: Read, W: Write>(
+        &mut self,
+        reader: &mut Counted<R>,
+        writer: &mut Counted<W>,
+    ) -> Result<(), ImportFault>
+        requires { IsNewImport N.digest_of self.old }
+        ensures { ReadsAll N.digest_of
+            (seen (R.remaining (device_of reader.old)) reader.old)
+            (seen (R.remaining (device_of reader.new)) reader.new)
+            (seen (W.contents (device_of writer.old)) writer.old) result self.new
+            (seen (W.contents (device_of writer.new)) writer.new) }
+    {
+        let _passed = reader.passed();
+        let mut block = [0; BLOCK];
+        for _ in 0..READS_LIMIT {
+            let n = match reader.read(&mut block) {
+                Ok(n) => n,
+                Err(_) => return Err(ImportFault::Device),
+            };
+            if n == 0 {
+                return Ok(());
+            }
+            self.pass_on(block.split_at(n).0, writer)?;
+            if self.is_done() {
+                return Ok(());
+            }
+        }
+        Err(ImportFault::Device)
+    }
+
+    // The end of the bytes. Its reply is written.
+    fn end<W: Write>(self, writer: &mut Counted<W>) -> Result<(), ImportFault>
         requires { IsReady N.digest_of self }
-        ensures { EndsImport self result }
+        ensures { EndsImport N.digest_of self
+            (seen (W.contents (device_of writer.old)) writer.old) result
+            (seen (W.contents (device_of writer.new)) writer.new) }
     {
         let Importer {
             mut pool,
             mut table,
             mut refs,
             stream,
-            ..
+            mut out,
         } = self;
-        as_import(stream.finish(&mut pool, &mut table, &mut refs))
+        let ended = stream.finish(&mut pool, &mut table, &mut refs, &mut out);
+        write_replies(writer, &mut out)?;
+        as_import(ended)
     }
 }
 
@@ -143,9 +178,9 @@ impl<N: Naming> Importer<N> {
 ///
 /// `ImportFault::Stream` where the stream is refused, or its end; exactly the replies before that
 /// stand written. `ImportFault::Device` (68) where a call of the reader or the writer failed, or
-/// where 2^32 reads have not come to the end; then a prefix of the replies to what was read stands
-/// written, and all of them where no write failed. `ImportFault::Memory` (90) behind a prefix of
-/// them.
+/// where 2^32 reads have not come to the end; then a prefix of the replies to what was read, that
+/// of the end among them where the end was read, stands written, and all of them where no write
+/// failed. `ImportFault::Memory` (90) after a prefix of them.
 pub fn import_one<N: Naming, R: Read, W: Write>(
     alloc: Global,
     naming: N,
@@ -158,21 +193,9 @@ pub fn import_one<N: Naming, R: Read, W: Write>(
         (seen (W.contents (device_of writer.old)) writer.old)
         (seen (W.contents (device_of writer.new)) writer.new) result }
 {
-    let _passed = reader.passed();
     let mut importer = Importer::new(alloc, naming);
-    let mut block = [0; BLOCK];
-    for _ in 0..READS_LIMIT {
-        let n = match reader.read(&mut block) {
-            Ok(n) => n,
-            Err(_) => return Err(ImportFault::Device),
-        };
-        if n == 0 {
-            return importer.end();
-        }
-        importer.pass_on(block.split_at(n).0, writer)?;
-        if importer.is_done() {
-            return Ok(());
-        }
+    match importer.read_all(reader, writer) {
+        Ok(()) => importer.end(writer),
+        Err(fault) => Err(fault),
     }
-    Err(ImportFault::Device)
 }

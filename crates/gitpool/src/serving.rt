@@ -21,7 +21,7 @@ const FRAMES_LIMIT: u64 = 1 << 32;
 /// input ends inside a frame; the answers to all frames before it then stand written. `Device` (68)
 /// where a call of the reader or the writer failed, or 2^32 frames were taken; the answers then
 /// stand written up to the failure, and all of them where no write failed. `Memory` (90) where
-/// there was no room for a frame, behind the answers to all before it. In each case the service has
+/// there was no room for a frame, after the answers to all before it. In each case the service has
 /// taken the steps of all whole frames that were read.
 pub fn serve<N: Naming, R: Read, W: Write>(
     alloc: Global,

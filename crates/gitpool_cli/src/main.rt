@@ -25,7 +25,7 @@ fn status(fault: ImportFault) -> u8 {
     }
 }
 
-// Whether words stand behind the program's name; a word that is no text is one too.
+// Whether words stand after the program's name; a word that is no text is one too.
 fn has_words(rt: &HostRuntime) -> Result<bool, ImportFault> {
     match env::args(rt) {
         Ok(words) => Ok(words.len() > 1),

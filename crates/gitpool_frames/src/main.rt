@@ -41,7 +41,7 @@ fn named(word: &str) -> Option<Names> {
     }
 }
 
-// The one word behind the program's name; none where the words are others.
+// The one word after the program's name; none where the words are others.
 fn chosen(rt: &HostRuntime) -> Result<Option<Names>, FrameFault> {
     let mut words = match env::args(rt) {
         Ok(words) => words,

@@ -46,7 +46,7 @@ fn with_failing_writer(
     (ended, faults)
 }
 
-// The stream has 49 bytes, and the call behind them finds its end.
+// The stream has 49 bytes, and the call after them finds its end.
 #[test]
 fn tells_each_read_that_fails(rt: HostRuntime) -> Result<(), Fail> {
     for nth in 0..=49_u64 {
@@ -81,4 +81,30 @@ fn tells_each_write_that_fails(rt: HostRuntime) -> Result<(), Fail> {
     assert_eq!(rt; ended, (Ok(()), 0));
     assert_eq!(rt; out.as_slice(), REPLIES);
     Ok(())
+}
+
+// A stream that ends before its bytes do, its answer, and how many bytes that takes.
+const ENDED_EARLY: &[(&[u8], Result<(), ImportFault>, u64)] = &[
+    (b"progress x\ndone\nprogress y\n", Ok(()), 16),
+    (
+        b"progress x\nget-mark :9\nprogress y\n",
+        Err(ImportFault::Stream(13)),
+        23,
+    ),
+];
+
+// What an import answers that is given one byte a call, how many bytes it took, and by how many
+// calls.
+fn read_early(alloc: Global, bytes: &[u8]) -> (Result<(), ImportFault>, u64, u64) {
+    let mut reader = Counted::new(OneByte::new(bytes));
+    let mut writer = Counted::new(Vec::new(alloc));
+    let ended = import_one(alloc, Sha1Naming, &mut reader, &mut writer);
+    (ended, reader.passed(), reader.calls())
+}
+
+#[test]
+fn reads_no_further_after_done_or_a_fault(rt: HostRuntime) {
+    for (bytes, ended, passed) in ENDED_EARLY {
+        assert_eq!(rt; read_early(rt.alloc(), bytes), (*ended, *passed, *passed));
+    }
 }

@@ -52,7 +52,7 @@ fn answers_each_frame(rt: HostRuntime) {
 }
 
 #[test]
-fn ends_at_a_bad_frame_behind_the_answers(rt: HostRuntime) -> Result<(), Fail> {
+fn ends_at_a_bad_frame_after_the_answers(rt: HostRuntime) -> Result<(), Fail> {
     let ends = [
         (b"\x06".as_slice(), FrameFault::BadFrame),
         (b"\x01\0\x01t\0\0\0\x01", FrameFault::BadFrame),
@@ -99,7 +99,7 @@ fn tells_frames_that_are_cut_off(rt: HostRuntime) {
     }
 }
 
-// The frames have 47 bytes, and the call behind them finds their end.
+// The frames have 47 bytes, and the call after them finds their end.
 #[test]
 fn tells_each_read_that_fails(rt: HostRuntime) {
     for nth in 0..=47_u64 {

@@ -3,7 +3,7 @@
 mod cases;
 mod turn;
 
-use cases::{BY_NAME, CASES, TOLD, TOLD_STEPS};
+use cases::{BAD_NAMES, BY_NAME, CASES, TOLD, TOLD_STEPS, steps_of};
 use git_objects::{Memory, Naming, Sha1Naming, TailNaming};
 use gitpool::{Answer, Reply, Service, Step};
 use std::alloc::Global;
@@ -82,6 +82,29 @@ fn streams_go_as_alone(rt: HostRuntime) -> Result<(), Fail> {
             "{}",
             case.does
         );
+    }
+    Ok(())
+}
+
+// Whether each step under this name is refused with 32, and prints nothing.
+fn is_refused(
+    alloc: Global,
+    service: &mut Service<Sha1Naming>,
+    tenant: &[u8],
+) -> Result<bool, Memory> {
+    for step in steps_of(tenant) {
+        if !tells(alloc, service, step, 32, b"")? {
+            return Ok(false);
+        }
+    }
+    Ok(true)
+}
+
+#[test]
+fn refuses_each_step_under_a_bad_tenant_name(rt: HostRuntime) -> Result<(), Fail> {
+    let mut service = Service::new(rt.alloc(), Sha1Naming);
+    for tenant in BAD_NAMES {
+        assert!(rt; is_refused(rt.alloc(), &mut service, tenant)?, "{tenant:?}");
     }
     Ok(())
 }
@@ -224,7 +247,7 @@ fn stops_well(alloc: Global, service: &mut Service<Sha1Naming>) -> Result<bool, 
 // With the Nth allocation refused, for each N, the answers are those of a repository of its own
 // given the same stop.
 #[test]
-fn stops_behind_whole_items(rt: HostRuntime) -> Result<(), Fail> {
+fn stops_after_whole_items(rt: HostRuntime) -> Result<(), Fail> {
     let mut service = Service::new(rt.alloc(), Sha1Naming);
     let mut out = Vec::new(rt.alloc());
     match service.step(Step::Open { tenant: b"t" }, &mut out) {

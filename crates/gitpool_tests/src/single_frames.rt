@@ -6,7 +6,7 @@ use std::io::Read;
 use std::test::Fail;
 use step_frames::{Answer, FrameFault, Frames, Step, write_answer};
 
-// Each kind of frame, one behind the other.
+// Each kind of frame, one after the other.
 const FRAMES: &[u8] = b"\x01\0\x01t\0\0\0\0\
     \x02\0\x03a/b\0\0\0\x02x\n\
     \x03\0\0\0\0\0\0\
@@ -87,7 +87,7 @@ fn read_frames<R: Read>(
     Ok((6, None))
 }
 
-// Whether a front of the frames has the frames that end in it, and is cut off behind the last of
+// Whether a front of the frames has the frames that end in it, and is cut off after the last of
 // them or has no more bytes.
 fn is_read_to_its_end(alloc: Global, front: &[u8]) -> Result<bool, Fail> {
     let size = front.len();

@@ -1,5 +1,5 @@
 -- What a printed line leaves of a workspace.
-use Rattle.std.proofs.Common.{◌≡◌, ◌≢◌, ℕ, List, Result, Ok, Err, refl, sym, ap, subst, ◌∙◌, append_assoc, codes, Bool, true, false}
+use Rattle.std.proofs.Common.{◌≡◌, ◌≢◌, ℕ, List, Result, Ok, Err, refl, sym, ap, subst, ◌∙◌, append_assoc, append-nil, codes, Bool, true, false}
 use Rattle.import_session.specs.declared.fault.Fault.{Fault}
 use Rattle.import_session.specs.declared.fault.Fault.TheVariants as fault
 use Rattle.stream_lex.specs.Items.{Item}
@@ -16,7 +16,7 @@ use Rattle.import_session.specs.Workspace.{Workspace, checkpointed}
 use Rattle.import_session.specs.Stream.{Running, Step, session_end, step, taken, is_finish}
 use Rattle.import_session.specs.Meaning.{Effect, and_then, after_act, prints}
 use Rattle.import_session.specs.Printing.{Shows}
-use Rattle.import_session.specs.Session.{CarriesOut, Takes, Ends}
+use Rattle.import_session.specs.Session.{CarriesOut, Takes}
 
 -- the step that an effect makes
 abbrev pub stepped : Effect → Parsing → Bool → Step
@@ -40,11 +40,12 @@ pub named_carried : (id : Result (List ℕ) Fault) (line : List ℕ → Result (
 named_carried (Ok name) line w out out' result shown = line_carried (line name) w out out' result shown
 named_carried (Err refusal) line w out out' result shown = line_carried (Err refusal) w out out' result shown
 
--- a session that ends well leaves a checkpoint
-pub ends_well : (now : Running) (left : Workspace) (ends_commit : Bool) → now.is_done ≡ false → end_of now.parsing ≡ Ok ends_commit
-    → checkpointed now.workspace ≡ left → Ends (session_end now) left (Ok tt)
+-- a session that ends well leaves a checkpoint, and prints nothing
+pub ends_well : (digest : List ℕ → List ℕ) (now : Running) (left : Workspace) (ends_commit : Bool) (out : List ℕ)
+    → now.is_done ≡ false → end_of now.parsing ≡ Ok ends_commit → checkpointed now.workspace ≡ left
+    → CarriesOut (session_end digest now) left out out (Ok tt)
 unfolding session_end
-ends_well now left ends_commit running ended same = rw (running, ended) same
+ends_well digest now left ends_commit out running ended same = rw (running, ended) (same, sym (append-nil out))
 
 -- what a session that runs takes
 pub step_running : (digest : List ℕ → List ℕ) (now : Running) (item : Item) → now.is_done ≡ false

@@ -1,1 +1,2 @@
 mod ActLemmas
+pub mod LentLemmas

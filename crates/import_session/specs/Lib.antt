@@ -1,9 +1,11 @@
--- In reading order: the faults, what a stream keeps, what its commands do, which are known,
--- and the stream from end to end.
+-- In reading order: the faults, what a stream keeps, what its commands do, which are known, and the
+-- stream from end to end; then where its parts lie, what its calls keep, store and print.
 pub mod Faults
 pub mod Workspace
 pub mod Meaning
 pub mod Known
 pub mod Stream
 pub mod Session
+pub mod Lent
+pub mod Storing
 pub mod Printing

@@ -23,7 +23,11 @@ pub record Effect : Type 0 where
   pub workspace : Workspace
   pub reply : List ℕ
 
--- What comes behind a step that may be refused.
+-- What prints nothing leaves this.
+abbrev pub quiet : Workspace → Result Effect Fault
+quiet workspace = Ok (record { workspace = workspace; reply = [] })
+
+-- What comes after a step that may be refused.
 abbrev pub and_then : {A B : Type 0} → Result A Fault → (A → Result B Fault) → Result B Fault
 and_then (Ok value) next = next value
 and_then (Err e) next = Err e
@@ -92,7 +96,7 @@ blob_stored digest mark content workspace =
 abbrev pub prints : Workspace → List ℕ → Result Effect Fault
 prints workspace line = Ok (record { workspace = workspace; reply = line ++ codes "\n" })
 
--- 'cat-blob': the name, the kind and the size of a blob, and behind them its bytes. What the
+-- 'cat-blob': the name, the kind and the size of a blob, and after them its bytes. What the
 -- repository has not is missing, and what is no blob is refused.
 abbrev pub blob_text : List ℕ → List ℕ → List ℕ
 blob_text id bytes =
@@ -112,7 +116,7 @@ blob_shown workspace id =
 
 -- What each act leaves and prints, or the fault that refuses it.
 unfoldable pub after_act : (List ℕ → List ℕ) → Act → Workspace → Result Effect Fault
-after_act digest Wait workspace = Ok (record { workspace = workspace; reply = [] })
+after_act digest Wait workspace = quiet workspace
 after_act digest (StoreBlob mark bytes) workspace =
     blob_stored digest mark (content_from kind.Blob bytes) workspace
 after_act digest (ShowMark mark) workspace =
@@ -120,6 +124,6 @@ after_act digest (ShowMark mark) workspace =
 after_act digest (ShowObject object) workspace =
     and_then (referred_name workspace.marks object) (λ id. blob_shown workspace id)
 after_act digest (Progress line) workspace = prints workspace line
-after_act digest Finish workspace = Ok (record { workspace = checkpointed workspace; reply = [] })
+after_act digest Finish workspace = quiet (checkpointed workspace)
 -- No other act has a meaning here yet: none comes, for its command is unknown where it would begin.
 after_act digest _ workspace = Err (fault.Text text_fault.UnknownCommand)

@@ -1,6 +1,6 @@
 -- A session: the part of a running stream that lies neither in a table, nor in a pool, nor among
 -- refs.
-use Rattle.std.specs.Prelude.{◌≡◌, ◌≢◌, ℕ, List, [], ◌++◌, Result, Ok, Err, Bool, false}
+use Rattle.std.specs.Prelude.{◌≡◌, ◌≢◌, ℕ, List, [], ◌++◌, take, Result, Ok, Err, Bool, false}
 use Rattle.git_model.specs.RefStore.{RefStore}
 use Rattle.git_model.specs.Repository.{Repository}
 use Rattle.content_pool.specs.Pool.{Cells}
@@ -36,8 +36,8 @@ running_in session pool table refs = record {
   is_done = session.is_done;
 }
 
--- An act was carried out: it left this workspace, and its reply was printed; or what refuses it was
--- answered. `Memory` may stand in place of either.
+-- An act was carried out, or the end of the stream: it left this workspace, and its reply was
+-- printed; or what refuses it was answered. `Memory` may stand in place of either.
 abbrev pub CarriesOut : Result Effect Fault → Workspace → List ℕ → List ℕ → Result Unit Fault
     → Type 0
 CarriesOut (Ok effect) new out out' (Ok u) = (effect.workspace ≡ new) × (out' ≡ out ++ effect.reply)
@@ -56,13 +56,11 @@ Takes (Err refusal) new out out' (Err e) = e ≢ fault.Memory → e ≡ refusal
 abbrev pub new_session : Kept
 new_session = record { parsing = Ok top; marks = []; is_done = false }
 
--- The end of a session: the workspace that it leaves, or what refuses it.
-abbrev pub Ends : Result Workspace Fault → Workspace → Result Unit Fault → Type 0
-Ends (Ok workspace) new (Ok u) = workspace ≡ new
-Ends (Ok workspace) new (Err e) = ⊥
-Ends (Err refusal) new (Ok u) = ⊥
-Ends (Err refusal) new (Err e) = e ≡ refusal
-
 -- The repository whose objects stand in a table over a pool, all of them.
 abbrev pub repository_in : Cells → View → RefStore → Repository
 repository_in pool table refs = record { objects = objects pool table.entries; refs = refs }
+
+-- The repository at the last checkpoint: the committed objects, and the refs.
+abbrev pub last_in : Cells → View → RefStore → Repository
+last_in pool table refs =
+    record { objects = take table.committed (objects pool table.entries); refs = refs }

@@ -9,7 +9,7 @@ use Rattle.stream_grammar.specs.Parts.{part_of}
 use Rattle.import_session.specs.declared.fault.Fault.{Fault}
 use Rattle.import_session.specs.Faults.{code_of, text_first}
 use Rattle.import_session.specs.Workspace.{Workspace, checkpointed}
-use Rattle.import_session.specs.Meaning.{and_then, after_act}
+use Rattle.import_session.specs.Meaning.{Effect, quiet, and_then, after_act}
 use Rattle.import_session.specs.Known.{known, has_no_meaning}
 
 -- A running stream has its workspace, the command that is not whole yet, and whether `done` was
@@ -47,7 +47,7 @@ taken digest now item =
       reply = effect.reply;
     })))
 
--- Behind `done` an item is passed over.
+-- After `done` an item is passed over.
 unfoldable pub step : (List ℕ → List ℕ) → Running → Item → Result Step Fault
 step digest now item =
     if now.is_done then Ok (record { running = now; reply = [] }) else taken digest now item
@@ -83,7 +83,7 @@ tail_outcome now (Rest skips bytes) =
     record { replies = []; standing = Runs now (Rest skips bytes) }
 tail_outcome now (Failed fault) = refused (item_code fault) now.workspace
 
--- Behind `done` no bytes are looked at, and none are kept.
+-- After `done` no bytes are looked at, and none are kept.
 unfoldable pub at_tail : Running → Tail → Outcome
 at_tail now tail =
     if now.is_done then record { replies = []; standing = Runs now (Rest false []) }
@@ -99,42 +99,46 @@ carried digest now [] tail = at_tail now tail
 carried digest now (item ∷ items) tail =
     going_on now (step digest now item) (λ next. carried digest next items tail)
 
--- How a stream ended: well, or refused under a number; and the repository then.
+-- How a stream ended: well, or refused under a number; what its end printed; and the repository
+-- then.
 pub record End : Type 0 where
   pub fault : Option ℕ
+  pub reply : List ℕ
   pub repository : Repository
 
-abbrev pub ended_well : Workspace → End
-ended_well workspace = record { fault = None; repository = last_checkpoint workspace }
+abbrev pub ended_well : List ℕ → Workspace → End
+ended_well reply workspace =
+    record { fault = None; reply = reply; repository = last_checkpoint workspace }
 
-abbrev pub ended_by : ℕ → Workspace → End
-ended_by code workspace = record { fault = Some code; repository = last_checkpoint workspace }
+-- An end that is refused prints nothing.
+abbrev pub ended_by : ℕ → Repository → End
+ended_by code repository = record { fault = Some code; reply = []; repository = repository }
 
--- The end of the commands: a part may be missing, else the end is a checkpoint. Behind `done`
--- nothing is asked for.
-abbrev pub checkpoint_or : Workspace → Result Bool Fault → Result Workspace Fault
-checkpoint_or workspace (Ok ends_commit) = Ok (checkpointed workspace)
-checkpoint_or workspace (Err fault) = Err fault
+-- The end of the commands: a part may be missing, else the end is a checkpoint.
+abbrev pub commands_end : (List ℕ → List ℕ) → Running → Result Effect Fault
+commands_end digest now =
+    and_then (text_first (end_of now.parsing)) (λ ends_commit. quiet (checkpointed now.workspace))
 
-unfoldable pub session_end : Running → Result Workspace Fault
-session_end now =
-    if now.is_done then Ok now.workspace
-    else checkpoint_or now.workspace (text_first (end_of now.parsing))
+-- After `done` nothing is asked for, and nothing is printed.
+unfoldable pub session_end : (List ℕ → List ℕ) → Running → Result Effect Fault
+session_end digest now =
+    if now.is_done then quiet now.workspace else commands_end digest now
 
-abbrev pub command_end : Workspace → Result Workspace Fault → End
-command_end workspace (Ok left) = ended_well left
-command_end workspace (Err fault) = ended_by (code_of fault) workspace
+abbrev pub end_left : Workspace → Result Effect Fault → End
+end_left workspace (Ok effect) = ended_well effect.reply effect.workspace
+end_left workspace (Err fault) = ended_by (code_of fault) (last_checkpoint workspace)
 
 -- The end of the bytes: none may be left over.
-abbrev pub bytes_end : Running → List ℕ → End
-bytes_end now [] = command_end now.workspace (session_end now)
-bytes_end now (byte ∷ bytes) = ended_by 6 now.workspace
+abbrev pub bytes_end : (List ℕ → List ℕ) → Running → List ℕ → End
+bytes_end digest now [] = end_left now.workspace (session_end digest now)
+bytes_end digest now (byte ∷ bytes) = ended_by 6 (last_checkpoint now.workspace)
 
-abbrev pub running_end : Running → Tail → End
-running_end now (Rest skips bytes) = bytes_end now bytes
-running_end now (Failed fault) = ended_by (item_code fault) now.workspace
+abbrev pub running_end : (List ℕ → List ℕ) → Running → Tail → End
+running_end digest now (Rest skips bytes) = bytes_end digest now bytes
+running_end digest now (Failed fault) = ended_by (item_code fault) (last_checkpoint now.workspace)
 
--- The end of a stream. Behind `done` no bytes are left over.
-abbrev pub finished : Standing → End
-finished (Refused code repository) = record { fault = Some code; repository = repository }
-finished (Runs now tail) = if now.is_done then ended_well now.workspace else running_end now tail
+-- The end of a stream. After `done` no bytes are left over.
+abbrev pub finished : (List ℕ → List ℕ) → Standing → End
+finished digest (Refused code repository) = ended_by code repository
+finished digest (Runs now tail) =
+    if now.is_done then ended_well [] now.workspace else running_end digest now tail

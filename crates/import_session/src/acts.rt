@@ -7,9 +7,10 @@ ghost use Rattle.tenant_tables.specs.Objects.{objects};
 ghost use Rattle.stream_grammar.specs.Acts.{StoreBlob};
 ghost use Rattle.git_model.specs.RefStore.{RefStore};
 ghost use Rattle.content_pool.specs.Pool.{HasRoom};
-ghost use Rattle.tenant_tables.specs.StandsIn.{StandsIn, LeavesOthers};
+ghost use Rattle.tenant_tables.specs.StandsIn.{StandsIn};
 ghost use Rattle.stream_grammar.specs.Shown.{act_shown};
 ghost use Rattle.import_session.specs.Meaning.{after_act, and_then, marked_name, referred_name, shown_object};
+ghost use Rattle.import_session.specs.Lent.{IsUnchanged, Keeps};
 ghost use Rattle.import_session.specs.Printing.{Shows};
 ghost use Rattle.import_session.specs.Session.{workspace_in, CarriesOut};
 
@@ -33,14 +34,12 @@ fn store_marked<N: Naming>(
 ) -> Result<(), Fault>
     requires stands { StandsIn N.digest_of pool.old table.old.entries }
     requires room { HasRoom pool.old }
-    ensures stands { StandsIn N.digest_of pool.new table.new.entries }
-    ensures others { LeavesOthers pool.old table.old.entries pool.new table.new.entries }
+    ensures keeps { Keeps N.digest_of pool.old table.old pool.new table.new }
     ensures done { (refs : RefStore) (out : List ℕ) → CarriesOut
         (after_act N.digest_of (StoreBlob mark contents.now)
         (workspace_in marks.old.entries pool.old table.old refs))
         (workspace_in marks.new.entries pool.new table.new refs) out out result }
-    ensures same { OnErr result (table.new ≡ table.old) }
-    ensures same_pool { OnErr result (pool.new ≡ pool.old) }
+    ensures same { OnErr result (IsUnchanged pool.old table.old pool.new table.new) }
 {
     marks::make_room(marks, &mark)?;
     let id = store_blob(pool, table, contents)?;
@@ -93,15 +92,13 @@ pub fn carry_out<N: Naming>(
 ) -> Result<(), Fault>
     requires stands { StandsIn N.digest_of pool.old table.old.entries }
     requires room { HasRoom pool.old }
-    ensures stands { StandsIn N.digest_of pool.new table.new.entries }
-    ensures others { LeavesOthers pool.old table.old.entries pool.new table.new.entries }
+    ensures keeps { Keeps N.digest_of pool.old table.old pool.new table.new }
     ensures done { (refs : RefStore) → CarriesOut
         (after_act N.digest_of (act_shown act.now)
         (workspace_in marks.old.entries pool.old table.old refs))
         (workspace_in marks.new.entries pool.new table.new refs)
         out.old.items out.new.items result }
-    ensures same { OnErr result (table.new ≡ table.old) }
-    ensures same_pool { OnErr result (pool.new ≡ pool.old) }
+    ensures same { OnErr result (IsUnchanged pool.old table.old pool.new table.new) }
     ensures printed { OnErr result (out.new.items ≡ out.old.items) }
 {
     match act {

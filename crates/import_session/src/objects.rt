@@ -1,14 +1,16 @@
 //! What a stream does with objects: git-fast-import(1), "blob" and "cat-blob".
 
 ghost use Rattle.std.specs.Option.{option_map};
-ghost use Rattle.std.specs.Prelude.{◌≡◌, ◌≢◌, ◌++◌, Result, Ok, Err, MatchResult, IfOk, IfErr, OnOk, OnErr, codes};
-ghost use Rattle.git_model.specs.Content.{content_from, name_by};
+ghost use Rattle.std.specs.Prelude.{◌≡◌};
+ghost use Rattle.git_model.specs.Content.{content_from};
 ghost use Rattle.git_model.specs.Repository.{object_named};
 ghost use Rattle.content_pool.specs.Pool.{HasRoom};
 ghost use Rattle.tenant_tables.specs.Objects.{objects};
-ghost use Rattle.tenant_tables.specs.StandsIn.{StandsIn, LeavesOthers};
+ghost use Rattle.tenant_tables.specs.StandsIn.{StandsIn};
 ghost use Rattle.import_session.specs.Printing.{Shows};
-ghost use Rattle.import_session.specs.Meaning.{shown_object, storing_fault, with_content};
+ghost use Rattle.import_session.specs.Meaning.{shown_object, storing_fault};
+ghost use Rattle.import_session.specs.Lent.{Keeps};
+ghost use Rattle.import_session.specs.Storing.{Stores};
 
 use crate::fault::Fault;
 use crate::print::{print_blob, print_missing};
@@ -26,7 +28,7 @@ fn fault_of(fault: tenant_tables::Fault) -> Fault
     }
 }
 
-// Stores a blob behind the table's objects, unless it is there.
+// Stores a blob after the table's objects, unless it is there.
 pub fn store_blob<N: Naming>(
     pool: &mut Pool<N>,
     table: &mut Table,
@@ -34,17 +36,9 @@ pub fn store_blob<N: Naming>(
 ) -> Result<Name, Fault>
     requires stands { StandsIn N.digest_of pool.old table.old.entries }
     requires room { HasRoom pool.old }
-    ensures stands { StandsIn N.digest_of pool.new table.new.entries }
-    ensures others { LeavesOthers pool.old table.old.entries pool.new table.new.entries }
-    ensures name { IfOk result (λ id. id ≡ name_by N.digest_of (content_from Kind.Blob bytes.now)) }
-    ensures stored { OnOk result (with_content N.digest_of (content_from Kind.Blob bytes.now)
-        (objects pool.old table.old.entries) ≡ Ok (objects pool.new table.new.entries)) }
-    ensures committed { table.new.committed ≡ table.old.committed }
-    ensures refused { IfErr result (λ fault. fault ≢ Fault.Memory →
-        with_content N.digest_of (content_from Kind.Blob bytes.now)
-        (objects pool.old table.old.entries) ≡ Err fault) }
-    ensures same { OnErr result (table.new ≡ table.old) }
-    ensures same_pool { OnErr result (pool.new ≡ pool.old) }
+    ensures keeps { Keeps N.digest_of pool.old table.old pool.new table.new }
+    ensures stores { Stores N.digest_of (content_from Kind.Blob bytes.now) pool.old table.old
+        pool.new table.new result }
 {
     match table.add(pool, Kind::Blob, bytes) {
         Ok(id) => Ok(id),

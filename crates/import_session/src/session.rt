@@ -3,13 +3,14 @@
 //! The table, the refs and the pool are lent at each call; the objects behind the table's committed
 //! prefix are the stream's own, until a checkpoint.
 
-ghost use Rattle.std.specs.Prelude.{◌≡◌, [], OnErr};
+ghost use Rattle.std.specs.Prelude.{◌≡◌, ◌≢◌, Err, OnErr};
 ghost use Rattle.content_pool.specs.Pool.{HasRoom};
-ghost use Rattle.tenant_tables.specs.StandsIn.{StandsIn, LeavesOthers};
+ghost use Rattle.tenant_tables.specs.StandsIn.{StandsIn};
 ghost use Rattle.stream_grammar.specs.Shown.{act_shown};
 ghost use Rattle.stream_lex.specs.Looking.{item_of};
-ghost use Rattle.import_session.specs.Stream.{step, is_finish, session_end, last_checkpoint};
-ghost use Rattle.import_session.specs.Session.{running_in, workspace_in, repository_in, new_session, Takes, Ends};
+ghost use Rattle.import_session.specs.Lent.{Keeps};
+ghost use Rattle.import_session.specs.Stream.{step, is_finish, session_end};
+ghost use Rattle.import_session.specs.Session.{running_in, repository_in, last_in, new_session, Takes, CarriesOut};
 
 use crate::acts::carry_out;
 use crate::fault::Fault;
@@ -88,15 +89,13 @@ impl Session {
     ) -> Result<(), Fault>
         requires stands { StandsIn N.digest_of pool.old table.old.entries }
         requires room { HasRoom pool.old }
-        ensures stands { StandsIn N.digest_of pool.new table.new.entries }
-        ensures others { LeavesOthers pool.old table.old.entries pool.new table.new.entries }
+        ensures keeps { Keeps N.digest_of pool.old table.old pool.new table.new }
         ensures taken { Takes
             (step N.digest_of (running_in self.old pool.old table.old refs.old)
             (item_of item.entry))
             (running_in self.new pool.new table.new refs.new) out.old.items out.new.items result }
-        ensures checkpoint { OnErr result
-            (last_checkpoint (running_in self.new pool.new table.new refs.new).workspace
-            ≡ last_checkpoint (running_in self.old pool.old table.old refs.old).workspace) }
+        ensures checkpoint { OnErr result (last_in pool.new table.new refs.new
+            ≡ last_in pool.old table.old refs.old) }
         ensures printed { OnErr result (out.new.items ≡ out.old.items) }
         ensures refs { refs.new ≡ refs.old }
     {
@@ -112,46 +111,46 @@ impl Session {
         Ok(())
     }
 
-    /// The end of the stream, which is a checkpoint, unless `done` was read before. It prints
-    /// nothing and takes no memory.
+    /// The end of the stream, which is a checkpoint, unless `done` was read before. What it prints
+    /// is appended to `out`; no end prints anything yet, and none takes memory.
     ///
     /// `Fault::Text` (5) where a part of a command is missing; nothing has changed then.
     #[tactic(auto, unfolding(crate::specs::Stream::session_end))]
     pub fn finish<N: Naming>(
-        &self,
+        &mut self,
         pool: &mut Pool<N>,
         table: &mut Table,
         refs: &mut Refs,
+        out: &mut Vec<u8>,
     ) -> Result<(), Fault>
         requires stands { StandsIn N.digest_of pool.old table.old.entries }
-        ensures ended { Ends (session_end (running_in self.now pool.old table.old refs.old))
-            (running_in self.now pool.new table.new refs.new).workspace result }
-        ensures checkpoint { OnErr result
-            (last_checkpoint (running_in self.now pool.new table.new refs.new).workspace
-            ≡ last_checkpoint (running_in self.now pool.old table.old refs.old).workspace) }
-        ensures stands { StandsIn N.digest_of pool.new table.new.entries }
-        ensures others { LeavesOthers pool.old table.old.entries pool.new table.new.entries }
+        ensures keeps { Keeps N.digest_of pool.old table.old pool.new table.new }
+        ensures ended { CarriesOut
+            (session_end N.digest_of (running_in self.old pool.old table.old refs.old))
+            (running_in self.new pool.new table.new refs.new).workspace out.old.items out.new.items
+            result }
+        ensures checkpoint { OnErr result (last_in pool.new table.new refs.new
+            ≡ last_in pool.old table.old refs.old) }
+        ensures printed { OnErr result (out.new.items ≡ out.old.items) }
+        ensures enough { result ≢ Err Fault.Memory }
         ensures refs { refs.new ≡ refs.old }
     {
         if self.is_done {
             return Ok(());
         }
         match self.parser.end() {
-            Ok(_) => {
-                table.commit();
-                Ok(())
-            }
-            Err(text) => Err(Fault::Text(text)),
+            Ok(_) => table.commit(),
+            Err(text) => return Err(Fault::Text(text)),
         }
+        Ok(())
     }
 
     /// Gives the stream up: its table is rolled back to the last checkpoint. Takes no memory.
     pub fn abandon<N: Naming>(self, pool: &mut Pool<N>, table: &mut Table, refs: &mut Refs)
         requires { StandsIn N.digest_of pool.old table.old.entries }
-        ensures stands { StandsIn N.digest_of pool.new table.new.entries }
-        ensures others { LeavesOthers pool.old table.old.entries pool.new table.new.entries }
+        ensures keeps { Keeps N.digest_of pool.old table.old pool.new table.new }
         ensures left { repository_in pool.new table.new refs.new
-            ≡ last_checkpoint (workspace_in [] pool.old table.old refs.old) }
+            ≡ last_in pool.old table.old refs.old }
         ensures committed { table.new.committed ≡ table.old.committed }
         ensures refs { refs.new ≡ refs.old }
     {

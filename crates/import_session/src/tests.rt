@@ -257,7 +257,7 @@ fn walk<N: Naming>(
 {
     match step {
         Step::Take(item) => session.take(pool, table, refs, item, out),
-        Step::Finish => session.finish(pool, table, refs),
+        Step::Finish => session.finish(pool, table, refs, out),
     }
 }
 

@@ -11,8 +11,6 @@ mod pools;
 #[cfg(test)]
 mod refs;
 #[cfg(test)]
-mod sized;
-#[cfg(test)]
 mod tables;
 #[cfg(test)]
 mod tenant_names;

@@ -23,9 +23,8 @@ ghost use Rattle.tenant_tables.specs.StandsIn.{StandsIn, LeavesOthers};
 ghost use Rattle.tenant_tables.specs.Adding.{Answers, store_fault, Adds, Pushes};
 ghost use Rattle.tenant_tables.specs.Abbreviation.{found_among};
 
-use crate::sized::has_twenty_bytes;
 use content_pool::{Pool, Slot};
-use git_objects::{Kind, Memory, Name, Naming};
+use git_objects::{Kind, Memory, Name, Naming, has_twenty_bytes};
 use std::alloc::Global;
 use std::marker::Model;
 use tenant_tables::{CONTENTS_LIMIT, Fault, Found, OBJECTS_LIMIT, Sight, bounds};

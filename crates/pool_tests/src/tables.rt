@@ -5,11 +5,11 @@ mod beside;
 mod forest;
 mod two;
 
-use crate::sized::has_twenty_bytes;
 use beside::first_unlike;
 use forest::Forest;
 use git_objects::{
-    FileMode, Memory, Name, Naming, Sha1Naming, TailNaming, TreeEntry, is_entry_name,
+    FileMode, Memory, Name, Naming, Sha1Naming, TailNaming, TreeEntry, has_twenty_bytes,
+    is_entry_name,
 };
 use std::alloc::Global;
 use std::test::Fail;

@@ -1,8 +1,8 @@
 -- What reading a ref name gives, by the rules of ref names.
 use Rattle.std.proofs.Common.{◌≡◌, ◌≤◌, ◌<◌, ℕ, false, List, length, Ok, Err, refl}
 use Rattle.std.proofs.lemmas.Bool.{le-leb, lt-leb, false_from_ne_true}
-use Rattle.tenant_refs.specs.StoredName.{NamesRef, names_ref}
-use Rattle.tenant_refs.proofs.Names.{names_ref-Decides}
+use Rattle.git_names.specs.StoredName.{NamesRef, names_ref}
+use Rattle.git_names.proofs.StoredNames.{names_ref-Decides}
 use Rattle.stream_grammar.specs.declared.fault.Fault.TheVariants as fault
 use Rattle.stream_grammar.specs.Names.{ref_of}
 

@@ -1,7 +1,7 @@
 -- What words say is no fault of an item's place.
 use Rattle.std.proofs.Common.{◌==◌, ◌||◌, ◌++◌, nat_le, length, codes, ℕ, Bool, true, false, List, Option, Some, None, Result, Ok, Err}
 use Rattle.std.specs.Str.{bytes_eq}
-use Rattle.tenant_refs.specs.StoredName.{names_ref}
+use Rattle.git_names.specs.StoredName.{names_ref}
 use Rattle.hex.specs.declared.error.FromHexError.{FromHexError}
 use Rattle.hex.specs.Hex.{decode_sized}
 use Rattle.git_model.specs.declared.file_mode.FileMode.{FileMode}

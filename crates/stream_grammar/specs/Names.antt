@@ -1,7 +1,7 @@
 -- What a line names: refs, idents and commit-ishes; git-fast-import(1), "commit", "from", "tag".
 use Rattle.std.specs.Prelude.{ℕ, ◌++◌, nat_le, if◌then◌else◌, List, length, Option, Some, None, Result, Ok, Err, codes}
 use Rattle.git_model.specs.IdentReading.{BadIdent, BadIdentity, BadDate, read_ident}
-use Rattle.tenant_refs.specs.StoredName.{names_ref}
+use Rattle.git_names.specs.StoredName.{names_ref}
 use Rattle.stream_grammar.specs.declared.fault.Fault.{Fault}
 use Rattle.stream_grammar.specs.declared.fault.Fault.TheVariants as fault
 use Rattle.stream_grammar.specs.Texts.{read, after_colon, idnum_of}

@@ -6,9 +6,9 @@ use crate::fault::Fault;
 use crate::feature::Feature;
 use crate::mark::Mark;
 use git_model::FileMode;
+use git_names::RefName;
 use git_objects::Ident;
 use git_paths::Path;
-use tenant_refs::RefName;
 
 /// What an item asks for. It borrows the bytes of its item; refs, idents and paths are copies.
 ///

@@ -9,9 +9,9 @@ ghost use Rattle.stream_grammar.specs.Shown.{commit_shown};
 use crate::commit_ish::CommitIsh;
 use crate::fault::Fault;
 use crate::text::{after_colon, idnum_of};
+use git_names::{RefName, RefNameFault};
 use git_objects::Ident;
 use std::alloc::Global;
-use tenant_refs::{RefName, RefNameFault};
 
 /// Reads a ref: `Fault::BadRefName` (11) for what is neither a ref name nor `HEAD`, else
 /// `Fault::Limit` (25) above 1,024 bytes. Takes memory for the copy.

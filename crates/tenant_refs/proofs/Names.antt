@@ -1,27 +1,12 @@
 -- The tests of names decide their rules.
-use Rattle.std.proofs.Common.{◌≡◌, ℕ, ◌≤◌, List, [], ◌∷◌, Bool, true, nat_le, length, codes, refl, inl, inr}
+use Rattle.std.proofs.Common.{◌≡◌, ℕ, ◌≤◌, List, [], ◌∷◌, Bool, true, nat_le, length, codes, refl}
 use Rattle.std.specs.List.{AllByRecursion}
-use Rattle.std.specs.Cmp.Lexicographic.{bytes_decides}
 use Rattle.std.specs.Bool.{Decides}
 use borrow.Author.Tests.{leb-true, le-leb}
-use Rattle.std.proofs.lemmas.Bool.{or_cases, or_left, or_right}
-use Rattle.git_model.proofs.RefNames.{is_ref_name-Decides}
 use Rattle.git_model.specs.Bytes.{BeginsWith}
 use Rattle.git_model.proofs.Texts.{begins_test, not_test, and_test, all_test, all_weaker, all_three}
-use Rattle.tenant_refs.specs.StoredName.{NamesRef, names_ref}
 use Rattle.tenant_refs.specs.declared.tenant_name.TheConstants.{TENANT_NAME_LIMIT}
 use Rattle.tenant_refs.specs.TenantName.{IsTenantName, is_tenant_name, parts_of, is_part, is_part_byte}
-
-pub names_ref-Decides : (text : List ℕ) → Decides (names_ref text) (NamesRef text)
-names_ref-Decides text =
-    let name = is_ref_name-Decides text in
-    let head = bytes_decides text (codes "HEAD") in (
-      λ e. elim (or_cases _ _ e) [ inl h ↦ inl (name.0 h) | inr h ↦ inr (head.0 h) ],
-      λ h. elim h [ inl r ↦ or_left _ _ (name.1 r) | inr same ↦ or_right _ _ (head.1 same) ],
-    )
-
-pub names_ref-yes : (text : List ℕ) → names_ref text ≡ true → NamesRef text
-names_ref-yes text e = (names_ref-Decides text).0 e
 
 IsPart : List ℕ → Type 0
 IsPart part =

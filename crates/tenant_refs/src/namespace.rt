@@ -5,9 +5,8 @@ ghost use Rattle.std.specs.List.{flat_map};
 ghost use Rattle.tenant_refs.specs.TenantName.{parts_of};
 ghost use Rattle.tenant_refs.specs.FullName.{full_name, namespace_of, IsFullNameOfNoOther};
 
-use crate::ref_name::RefName;
 use crate::tenant_name::TenantName;
-use git_objects::Memory;
+use git_names::{Memory, RefName};
 use std::alloc::Global;
 
 /// The full name of a tenant's ref: `refs/namespaces/<part>/` for each part of the tenant's name,

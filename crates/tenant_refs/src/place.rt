@@ -5,8 +5,7 @@ ghost use Rattle.std.specs.Ordering.{nat_cmp};
 ghost use Rattle.std.specs.Cmp.Lexicographic.{slice_cmp};
 ghost use Rattle.tenant_refs.specs.Place.{IsInOrder, IsPlaceOf, IsGapFor};
 
-use crate::ref_name::RefName;
-use git_objects::Name;
+use git_names::{Name, RefName};
 use std::cmp::Ordering;
 
 /// `Ok` with the position of the ref among these, or `Err` with the one at which it would go in.

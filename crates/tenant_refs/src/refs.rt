@@ -10,8 +10,7 @@ ghost use Rattle.tenant_refs.specs.StoredName.{NamesRef};
 ghost use Rattle.git_model.specs.RefName.{IsRefName};
 
 use crate::place::place_of;
-use crate::ref_name::RefName;
-use git_objects::{Memory, Name};
+use git_names::{Memory, Name, RefName};
 use std::alloc::Global;
 use std::marker::Model;
 

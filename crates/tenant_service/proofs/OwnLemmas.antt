@@ -19,9 +19,9 @@ use Rattle.tenant_service.specs.Headline.{told_by}
 use Rattle.tenant_service.specs.Holding.{Holding, Idle, Busy, LeadsTo, standing_answer, gone_on, held_until, open_held, feed_held, fed_held, step_held}
 use Rattle.tenant_stream.proofs.StreamLemmas.{carried-done, carried-tail}
 
--- ---- items behind items
+-- ---- items after items
 
--- what is left of a stream behind its last item
+-- what is left of a stream after its last item
 at_end : (digest : List ℕ → List ℕ) (s now : Running) (tail kept : Tail) (replies : List ℕ)
     → carried digest s [] tail ≡ record { replies = replies; standing = Runs now kept }
     → (s ≡ now) × (replies ≡ []) × (now.is_done ≡ false → kept ≡ tail)
@@ -49,7 +49,7 @@ at_end digest s now tail kept replies h = by s.is_done refl tail h
         let st : _ ≡ Runs now kept = ap (λ (o : Outcome). o.standing) e' in
         cc st
 
--- items behind those that a stream has carried out are carried out behind them
+-- items after those that a stream has carried out are carried out after them
 pub carried-more : (digest : List ℕ → List ℕ) (s now : Running) (items later : List Item) (tail end kept : Tail) (replies : List ℕ)
     → carried digest s items tail ≡ record { replies = replies; standing = Runs now kept }
     → carried digest s (items ++ later) end ≡ after_reply replies (carried digest now later end)
@@ -97,7 +97,7 @@ carried-kept digest s now (item ∷ items) tail kept replies h running =
         let st : _ ≡ Runs now kept = ap (λ (o : Outcome). o.standing) e in
         cc st
 
--- ---- bytes behind bytes
+-- ---- bytes after bytes
 
 -- the bytes since Open, by where they led
 abbrev so_far : (List ℕ → List ℕ) → Repository → List ℕ → Running → Tail → Type 0
@@ -135,7 +135,7 @@ stream-more digest repository bytes piece now kept h =
 
 -- ---- stops
 
--- a stop whose replies stand behind others
+-- a stop whose replies stand after others
 abbrev behind_replies : List ℕ → Stopped → Stopped
 behind_replies replies stopped = record { replies = replies ++ stopped.replies; repository = stopped.repository }
 
@@ -148,7 +148,7 @@ stop_at-after replies rs (Runs now tail) = by now.is_done
     by false = refl
 stop_at-after replies rs (Refused code repository) = refl
 
--- a stop behind items that a stream has carried out is one of the stream from there
+-- a stop after items that a stream has carried out is one of the stream from there
 stop-more : (digest : List ℕ → List ℕ) (s now : Running) (items later : List Item) (tail kept : Tail) (replies : List ℕ) (count : ℕ)
     → carried digest s items tail ≡ record { replies = replies; standing = Runs now kept }
     → stop_behind digest s (items ++ later) (length items + count) ≡ option_map (behind_replies replies) (stop_behind digest now later count)
@@ -180,7 +180,7 @@ stop-more digest s now items later tail kept replies count h = by (leb count (le
         let beyond' : leb (length items + count) (length (items ++ later)) ≡ false = lt-leb _ _ (omega arith) in
         ap (λ (x : Bool). cond x (stop_at (carried digest s all (Rest false [])).replies (carried digest s all (Rest false [])).standing) None) beyond'
 
--- behind `done` there is no stop
+-- after `done` there is no stop
 stop-done : (digest : List ℕ → List ℕ) (now : Running) (items : List Item) (count : ℕ) → now.is_done ≡ true → stop_behind digest now items count ≡ None
 unfolding stop_behind
 stop-done digest now items count done = by (leb count (length items))
@@ -294,9 +294,9 @@ meets digest (Feed piece) stop (Dead code r) (Busy standing) h =
     subst (λ (x : Standing). Meets digest (feed_alone digest piece stop (Dead code r)) (feed_held digest piece stop (Busy x))) (sym h) (record { told = refl; leads = refl })
 meets digest End stop (Closed r) (Idle r') h = record { told = refl; leads = h }
 meets digest End stop (Streaming r bytes) (Busy (Runs now tail)) h =
-    subst (λ (x : Standing). Meets digest (closed Closed (ended stop x)) (closed Idle (ended stop (Runs now tail)))) (sym h) (ended-leads digest (ended stop (Runs now tail)))
+    subst (λ (x : Standing). Meets digest (closed Closed (ended digest stop x)) (closed Idle (ended digest stop (Runs now tail)))) (sym h) (ended-leads digest (ended digest stop (Runs now tail)))
 meets digest End stop (Dead code r) (Busy standing) h =
-    subst (λ (x : Standing). Meets digest (closed Closed (ended stop (Refused code r))) (closed Idle (ended stop x))) (sym h) (ended-leads digest (ended stop (Refused code r)))
+    subst (λ (x : Standing). Meets digest (closed Closed (ended digest stop (Refused code r))) (closed Idle (ended digest stop x))) (sym h) (ended-leads digest (ended digest stop (Refused code r)))
 meets digest (Ask query) stop state held h = record { told = refl; leads = h }
 meets digest Restart stop (Closed r) (Idle r') h = record { told = refl; leads = h }
 meets digest Restart stop (Streaming r bytes) (Busy (Runs now tail)) h = record { told = refl; leads = ap last_of h }

@@ -2,7 +2,7 @@
 use Rattle.std.proofs.Common.{◌≡◌, ℕ, zero, suc, ◌+◌, ◌<◌, ltb, Bool, cond, List, [], ◌∷◌, length, take, map, ◌==◌, None, Some, slice_get, refl, sym, ap, subst, ◌∙◌, arith, add-one, inl, inr, ◌⊎◌, get_or, Contains}
 use Rattle.std.specs.Prelude.{count_by}
 use Rattle.std.specs.List.{AllByRecursion}
-use Rattle.std.specs.Map.{lookup}
+use Rattle.std.specs.Map.{lookup, keys_of}
 use Rattle.std.specs.Str.{bytes_eq}
 use Rattle.git_model.specs.RefStore.{RefStore}
 use Rattle.std.proofs.lemmas.Bool.{cases_eq}
@@ -167,3 +167,8 @@ shows-found digest p name es t shown h got is =
 pub unseen-missing : (p : Cells) (name : List ℕ) (es : Tenants) (shown : Holdings) → lookup (bytes_eq name) es ≡ None → holdings p es ≡ shown
     → held_of name shown ≡ Idle empty_repository
 unseen-missing p name es shown none is = sym (ap (held_of name) is) ∙ held-missing p name es none
+
+-- the names are those of the tenants
+pub keys-holdings : (p : Cells) (es : Tenants) → keys_of (holdings p es) ≡ keys_of es
+keys-holdings p [] = refl
+keys-holdings p (e ∷ es) = ap (λ (names : List (List ℕ)). e.0 ∷ names) (keys-holdings p es)

@@ -24,7 +24,7 @@ GoesTo-goes digest now next tail rest piece out out' h = record {
   printed = h.printed;
 }
 
--- what stands behind the items refuses the stream
+-- what stands after the items refuses the stream
 pub GoesTo-fails : (digest : List ℕ → List ℕ) (now left : Running) (tail : Tail) (piece out out' : List ℕ) (code : ℕ)
     → Fails digest now (extended tail piece) out code left out'
     → GoesTo digest now tail piece out out' (Refused code (last_checkpoint left.workspace))
@@ -53,7 +53,7 @@ stop-first digest now last items later replies carries running =
     ap (λ (b : Bool). cond b (stop_at (carried digest now (take (length items) (items ++ later)) (Rest false [])).replies (carried digest now (take (length items) (items ++ later)) (Rest false [])).standing) None) within
     ∙ ap (λ (o : Outcome). stop_at o.replies o.standing) first ∙ test
 
--- memory ran out behind some items
+-- memory ran out after some items
 pub StopsBehind-stops : (digest : List ℕ → List ℕ) (now left : Running) (tail : Tail) (piece out out' : List ℕ) (count : ℕ)
     → Stops digest now (extended tail piece) out count left out'
     → StopsBehind digest now tail piece count out out' left

@@ -18,7 +18,7 @@ use Rattle.tenant_stream.specs.declared.stop.Stop.TheVariants as stop
 use Rattle.tenant_service.specs.declared.tenant.Phase.{Phase}
 use Rattle.tenant_service.specs.declared.tenant.Phase.TheVariants as phase
 use Rattle.tenant_service.specs.Alone.{Open, End as EndCall, Turn, Stopped, ended, ended_well, end_answer, closed}
-use Rattle.tenant_stream.specs.Carrying.{outcome_behind, Between, new_stream, stream_in, Carries, Feeds, Stays, EndsAs}
+use Rattle.tenant_stream.specs.Carrying.{outcome_behind, Between, new_stream, stream_in, Carries, Feeds, Stays, IsEnd}
 use Rattle.tenant_service.specs.Holding.{Idle, Busy, empty_repository, last_held, step_held, fed_held, held_until, gone_on, standing_answer, end_held}
 use Rattle.tenant_service.specs.Tenants.{held_in, standing_in, kept_tail, IsSettled}
 use Rattle.tenant_service.specs.OneStep.{Takes, GoesTo, StopsBehind, Fed}
@@ -140,7 +140,7 @@ took-refused digest now tail piece out out' code r left h same = record {
   leaves = ap (λ (o : Outcome). Busy o.standing) h.outcome ∙ ap (λ (x : Repository). Busy (Refused code x)) (sym same);
 }
 
--- and one behind some items of which memory ran out
+-- and one after some items of which memory ran out
 pub took-stopped : (digest : List ℕ → List ℕ) (now last : Running) (tail : Tail) (piece out out' : List ℕ) (count : ℕ) (left : Repository)
     → StopsBehind digest now tail piece count out out' last → left ≡ last_checkpoint last.workspace
     → Takes (fed_held digest piece (Some count) now tail) (answer.Memory count) out out' (Busy (Refused 90 left))
@@ -150,48 +150,41 @@ took-stopped digest now last tail piece out out' count left h same =
     (record { answered = refl; printed = h.printed; leaves = ap (λ (x : Repository). Busy (Refused 90 x)) (sym same) })
 
 -- a stream that ended
-ended-none : (now : Running) (tail : Tail) → ended None (Runs now tail) ≡ ended_well (Runs now tail)
-ended-none now tail = by now.is_done
+ended-none : (digest : List ℕ → List ℕ) (now : Running) (tail : Tail) → ended digest None (Runs now tail) ≡ ended_well digest (Runs now tail)
+ended-none digest now tail = by now.is_done
   where
-    by : (b : Bool) → cond b (ended_well (Runs now tail)) (ended_well (Runs now tail)) ≡ ended_well (Runs now tail)
+    by : (b : Bool) → cond b (ended_well digest (Runs now tail)) (ended_well digest (Runs now tail)) ≡ ended_well digest (Runs now tail)
     by true = refl
     by false = refl
 
-finished-kept : (s : Between) (p : Cells) (t : View) (r : RefStore)
-    → finished (Runs (stream_in s p t r) (kept_tail s)) ≡ finished (Runs (stream_in s p t r) s.tail)
-finished-kept s p t r = by s.session.is_done refl
+finished-kept : (digest : List ℕ → List ℕ) (s : Between) (p : Cells) (t : View) (r : RefStore)
+    → finished digest (Runs (stream_in s p t r) (kept_tail s)) ≡ finished digest (Runs (stream_in s p t r) s.tail)
+finished-kept digest s p t r = by s.session.is_done refl
   where
     by : (b : Bool) → s.session.is_done ≡ b
-        → cond b (import_ended (stream_in s p t r).workspace) (running_end (stream_in s p t r) (kept_tail s))
-        ≡ cond b (import_ended (stream_in s p t r).workspace) (running_end (stream_in s p t r) s.tail)
+        → cond b (import_ended [] (stream_in s p t r).workspace) (running_end digest (stream_in s p t r) (kept_tail s))
+        ≡ cond b (import_ended [] (stream_in s p t r).workspace) (running_end digest (stream_in s p t r) s.tail)
     by true done = refl
-    by false running = ap (λ (k : Tail). running_end (stream_in s p t r) k) (kept-running s running)
+    by false running = ap (λ (k : Tail). running_end digest (stream_in s p t r) k) (kept-running s running)
 
-took-ended : (s : Between) (p : Cells) (t : View) (r : RefStore) (end : End)
-    → finished (Runs (stream_in s p t r) s.tail) ≡ end
-    → Takes (end_held None (Busy (standing_in s p t r))) (end_answer end.fault) [] [] (Idle end.repository)
-took-ended s p t r end h =
-    subst (λ (x : Turn Repository). Takes (closed Idle x) (end_answer end.fault) [] [] (Idle end.repository))
-    (sym (ended-none (stream_in s p t r) (kept_tail s)))
-    (let e : finished (Runs (stream_in s p t r) (kept_tail s)) ≡ end = finished-kept s p t r ∙ h in record {
-      answered = ap (λ (x : End). end_answer x.fault) e;
-      printed = refl;
-      leaves = ap (λ (x : End). Idle x.repository) e;
+took-ended : (digest : List ℕ → List ℕ) (s : Between) (p : Cells) (t : View) (r : RefStore) (fault : Option ℕ) (out out' : List ℕ) (left : Repository)
+    → IsEnd (finished digest (Runs (stream_in s p t r) s.tail)) fault out left out'
+    → Takes (end_held digest None (Busy (standing_in s p t r))) (end_answer fault) out out' (Idle left)
+took-ended digest s p t r fault out out' left h =
+    subst (λ (x : Turn Repository). Takes (closed Idle x) (end_answer fault) out out' (Idle left))
+    (sym (ended-none digest (stream_in s p t r) (kept_tail s)))
+    (let e = finished-kept digest s p t r in record {
+      answered = ap (λ (x : End). end_answer x.fault) e ∙ ap end_answer h.answered;
+      printed = h.printed ∙ ap (λ (x : End). out ++ x.reply) (sym e);
+      leaves = ap (λ (x : End). Idle x.repository) e ∙ ap Idle h.stands;
     })
 
-pub took-ended_well : (digest : List ℕ → List ℕ) (ph new : Phase) (s : Between) (p q : Cells) (t u : View) (r v : RefStore) → ph ≡ phase.Running s
-    → new ≡ phase.Closed → EndsAs (finished (Runs (stream_in s p t r) s.tail)) (Ok tt) (repository_in q u v)
-    → Takes (step_held digest EndCall None (held_in ph p t r)) answer.Ok [] [] (held_in new q u v)
-took-ended_well digest ph new s p q t u r v is after h =
-    subst (λ (y : Phase). Takes (step_held digest EndCall None (held_in ph p t r)) answer.Ok [] [] (held_in y q u v)) (sym after)
-    (subst (λ (x : Phase). Takes (step_held digest EndCall None (held_in x p t r)) answer.Ok [] [] (Idle (repository_in q u v))) (sym is)
-    (took-ended s p t r (record { fault = None; repository = repository_in q u v }) h))
-
-pub took-ended_badly : (digest : List ℕ → List ℕ) (ph new : Phase) (s : Between) (p q : Cells) (t u : View) (r v : RefStore) (code : ℕ)
-    → ph ≡ phase.Running s → new ≡ phase.Closed
-    → EndsAs (finished (Runs (stream_in s p t r) s.tail)) (Err (stop.Fault code)) (repository_in q u v)
-    → Takes (step_held digest EndCall None (held_in ph p t r)) (answer.Fault code) [] [] (held_in new q u v)
-took-ended_badly digest ph new s p q t u r v code is after h =
-    subst (λ (y : Phase). Takes (step_held digest EndCall None (held_in ph p t r)) (answer.Fault code) [] [] (held_in y q u v)) (sym after)
-    (subst (λ (x : Phase). Takes (step_held digest EndCall None (held_in x p t r)) (answer.Fault code) [] [] (Idle (repository_in q u v))) (sym is)
-    (took-ended s p t r (record { fault = Some code; repository = repository_in q u v }) h))
+-- by the answer of its end
+pub took-ended_as : (digest : List ℕ → List ℕ) (ph new : Phase) (s : Between) (p q : Cells) (t u : View) (r v : RefStore) (fault : Option ℕ)
+    (out out' : List ℕ) → ph ≡ phase.Running s → new ≡ phase.Closed
+    → IsEnd (finished digest (Runs (stream_in s p t r) s.tail)) fault out (repository_in q u v) out'
+    → Takes (step_held digest EndCall None (held_in ph p t r)) (end_answer fault) out out' (held_in new q u v)
+took-ended_as digest ph new s p q t u r v fault out out' is after h =
+    subst (λ (y : Phase). Takes (step_held digest EndCall None (held_in ph p t r)) (end_answer fault) out out' (held_in y q u v)) (sym after)
+    (subst (λ (x : Phase). Takes (step_held digest EndCall None (held_in x p t r)) (end_answer fault) out out' (Idle (repository_in q u v))) (sym is)
+    (took-ended digest s p t r fault out out' (repository_in q u v) h))

@@ -67,8 +67,8 @@ stop_at replies (Runs now tail) =
     else Some (record { replies = replies; repository = last_checkpoint now.workspace })
 stop_at replies (Refused code repository) = None
 
--- The stop behind the first so many items: what they print, and the last checkpoint then. There is
--- none behind more items than there are, behind a fault, or behind `done`.
+-- The stop after the first so many items: what they print, and the last checkpoint then. There is
+-- none after more items than there are, after a fault, or after `done`.
 unfoldable pub stop_behind : (List ℕ → List ℕ) → Running → List Item → ℕ → Option Stopped
 stop_behind digest now items count =
     if nat_le count (length items) then
@@ -95,7 +95,7 @@ fed_well digest repository bytes piece =
     let all = stream_of digest repository (bytes ++ piece) in
     fed_by repository (bytes ++ piece) (added before.replies all.replies) all.standing
 
--- The stop of a Feed behind so many of the items that it completes.
+-- The stop of a Feed after so many of the items that it completes.
 abbrev pub feed_stop : (List ℕ → List ℕ) → Repository → List ℕ → List ℕ → ℕ → Option Stopped
 feed_stop digest repository bytes piece count =
     let before = (reading false bytes).items in
@@ -119,20 +119,22 @@ feed_alone digest piece stop (Closed repository) = refused_under 30 (Closed repo
 feed_alone digest piece stop (Streaming repository bytes) = fed digest stop repository bytes piece
 feed_alone digest piece stop (Dead code repository) = refused_under code (Dead code repository)
 
--- End: there is no stream then. Its fault is answered, and nothing is printed.
+-- End: there is no stream then. Its fault is answered, and the reply of the end is printed.
 abbrev pub end_answer : Option ℕ → Answer
 end_answer None = answer.Ok
 end_answer (Some code) = answer.Fault code
 
-abbrev pub ended_well : Standing → Turn Repository
-ended_well standing =
-    let end = finished standing in turn (end_answer end.fault) [] end.repository
+abbrev pub ended_well : (List ℕ → List ℕ) → Standing → Turn Repository
+ended_well digest standing =
+    let end = finished digest standing in turn (end_answer end.fault) end.reply end.repository
 
-abbrev pub ended : Option ℕ → Standing → Turn Repository
-ended stop (Refused code repository) = ended_well (Refused code repository)
-ended stop (Runs now tail) =
-    if now.is_done then ended_well (Runs now tail)
-    else unless_out_of_memory stop (last_checkpoint now.workspace) (ended_well (Runs now tail))
+-- After `done`, and after a refusal, an end takes no memory.
+abbrev pub ended : (List ℕ → List ℕ) → Option ℕ → Standing → Turn Repository
+ended digest stop (Refused code repository) = ended_well digest (Refused code repository)
+ended digest stop (Runs now tail) =
+    if now.is_done then ended_well digest (Runs now tail)
+    else unless_out_of_memory stop (last_checkpoint now.workspace)
+    (ended_well digest (Runs now tail))
 
 abbrev pub closed : {S : Type 0} → (Repository → S) → Turn Repository → Turn S
 closed close t = turn t.answer t.reply (close t.state)
@@ -140,9 +142,9 @@ closed close t = turn t.answer t.reply (close t.state)
 abbrev pub end_alone : (List ℕ → List ℕ) → Option ℕ → State → Turn State
 end_alone digest stop (Closed repository) = refused_under 30 (Closed repository)
 end_alone digest stop (Streaming repository bytes) =
-    closed Closed (ended stop (stream_of digest repository bytes).standing)
+    closed Closed (ended digest stop (stream_of digest repository bytes).standing)
 end_alone digest stop (Dead code repository) =
-    closed Closed (ended stop (Refused code repository))
+    closed Closed (ended digest stop (Refused code repository))
 
 -- Restart: there is no stream then, and the repository is that at the last checkpoint.
 abbrev pub last_alone : (List ℕ → List ℕ) → State → Repository
@@ -152,7 +154,7 @@ last_alone digest (Streaming repository bytes) =
 last_alone digest (Dead code repository) = repository
 
 -- What a call is answered and what it leaves, in a repository of its own, given whether the call
--- ran out of memory, and behind how many items. No query is known yet, so each Ask is refused.
+-- ran out of memory, and after how many items. No query is known yet, so each Ask is refused.
 abbrev pub run_alone : (List ℕ → List ℕ) → Call → Option ℕ → State → Turn State
 run_alone digest Open stop state = open_alone stop state
 run_alone digest (Feed piece) stop state = feed_alone digest piece stop state

@@ -77,7 +77,7 @@ standing_answer (Refused code repository) = answer.Fault code
 abbrev pub gone_on : Outcome → Turn Holding
 gone_on later = turn (standing_answer later.standing) later.replies (Busy later.standing)
 
--- A stop behind so many of the items that the bytes complete, where there is one.
+-- A stop after so many of the items that the bytes complete, where there is one.
 abbrev pub held_until : ℕ → Option Stopped → Turn Holding → Turn Holding
 held_until count (Some stopped) well =
     turn (answer.Memory count) stopped.replies (Busy (Refused 90 stopped.repository))
@@ -102,13 +102,13 @@ feed_held digest piece stop (Busy (Runs now tail)) = fed_held digest piece stop 
 feed_held digest piece stop (Busy (Refused code repository)) =
     refused_under code (Busy (Refused code repository))
 
-abbrev pub end_held : Option ℕ → Holding → Turn Holding
-end_held stop (Idle repository) = refused_under 30 (Idle repository)
-end_held stop (Busy standing) = closed Idle (ended stop standing)
+abbrev pub end_held : (List ℕ → List ℕ) → Option ℕ → Holding → Turn Holding
+end_held digest stop (Idle repository) = refused_under 30 (Idle repository)
+end_held digest stop (Busy standing) = closed Idle (ended digest stop standing)
 
 abbrev pub step_held : (List ℕ → List ℕ) → Call → Option ℕ → Holding → Turn Holding
 step_held digest Open stop held = open_held stop held
 step_held digest (Feed piece) stop held = feed_held digest piece stop held
-step_held digest End stop held = end_held stop held
+step_held digest End stop held = end_held digest stop held
 step_held digest (Ask query) stop held = refused_under 40 held
 step_held digest Restart stop held = turn answer.Ok [] (Idle (last_held held))

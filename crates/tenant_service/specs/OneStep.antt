@@ -33,7 +33,7 @@ pub record GoesTo (digest : List ℕ → List ℕ) (now : Running) (tail : Tail)
   pub outcome : outcome_behind digest now tail piece ≡ record { replies = replies; standing = left }
   pub printed : out' ≡ out ++ replies
 
--- Memory ran out behind so many items.
+-- Memory ran out after so many items.
 pub record StopsBehind (digest : List ℕ → List ℕ) (now : Running) (tail : Tail) (piece : List ℕ)
     (count : ℕ) (out out' : List ℕ) (left : Running) : Type 0 where
   pub replies : List ℕ

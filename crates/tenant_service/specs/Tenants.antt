@@ -18,7 +18,7 @@ use Rattle.tenant_service.specs.Alone.{State}
 use Rattle.tenant_stream.specs.Carrying.{Between, stream_in}
 use Rattle.tenant_service.specs.Holding.{Holding, Idle, Busy, Holdings, LeadsTo, held_of, held_objects, last_held}
 
--- Behind `done` no bytes are kept.
+-- After `done` no bytes are kept.
 unfoldable pub kept_tail : Between → Tail
 kept_tail stream = if stream.session.is_done then Rest false [] else stream.tail
 

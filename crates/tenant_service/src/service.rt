@@ -1,11 +1,22 @@
 //! A service of many tenants over one pool of contents.
 //!
 //! Each tenant has its own table, refs and stream; what they share is the pool, and no tenant is
-//! told anything of it. Steps come one at a time, and may cut a stream at any byte.
+//! told anything of it. Steps come one at a time, and may cut a stream at any byte:
+//!
+//! ```text
+//! let mut service = Service::new(alloc, Sha1Naming);
+//! service.step(Step::Open { tenant: b"a" }, &mut out);         a stream of the tenant `a`
+//! service.step(Step::Feed { tenant: b"a", bytes }, &mut out);  as often as bytes come
+//! service.step(Step::End { tenant: b"a" }, &mut out);          the last checkpoint, and no stream
+//! ```
+//!
+//! Each answers `Answer::Ok`, and `out` has what the stream prints: crates/two_tenants is a program.
 
 ghost use Rattle.std.specs.Prelude.{◌≡◌, ◌+◌, ◌++◌, ℕ, List, [], ◌∷◌, length, drop, count_by, IsNone, IfSome, OnErr, OnOk, ◌<◌};
 ghost use Rattle.content_pool.specs.LiveContents.{live_contents, stored_sizes};
-ghost use Rattle.std.specs.List.{AllByRecursion};
+ghost use Rattle.std.specs.List.{AllByRecursion, IsDistinct};
+ghost use Rattle.std.specs.Map.{keys_of};
+ghost use Rattle.std.specs.Str.{bytes_eq};
 ghost use Rattle.tenant_service.specs.Alone.{added, State};
 ghost use Rattle.tenant_service.specs.Headline.{IsItsOwn, IsRefused, told_in, told_since, run_of};
 ghost use Rattle.tenant_service.specs.Holding.{LeadsTo, Idle, empty_repository, held_of, held_contents, has_commit};
@@ -67,6 +78,13 @@ impl<N: Naming> Service<N> {
         let _pool = &self.pool;
     }
 
+    /// No name stands twice among the holdings: a fact for proofs. A call does nothing.
+    pub fn has_distinct_names(&self)
+        ensures { IsDistinct bytes_eq (keys_of self.now) }
+    {
+        let _many = self.tenants.len();
+    }
+
     /// How many distinct contents all tenants hold together, those of running streams included, and
     /// the sum of their sizes in bytes, 2^64 - 1 where it is more. For the operator: no step tells
     /// a tenant. Takes no memory.
@@ -86,7 +104,7 @@ impl<N: Naming> Service<N> {
     /// The pool of all tenants, and the table and refs of one, for the operator; `None` for a
     /// tenant that is as if never seen. Takes no memory.
     ///
-    /// Behind the table's committed prefix are the objects of the running stream.
+    /// After the table's committed prefix come the objects of the running stream.
     pub fn view(&self, tenant: &[u8]) -> Option<(&Pool<N>, &Table, &Refs)>
         ensures unseen { IsNone result → held_of tenant.now self.now ≡ Idle empty_repository }
         ensures shown { IfSome result (λ lent.
@@ -108,13 +126,13 @@ impl<N: Naming> Service<N> {
 
     /// Takes one step, and appends the bytes of its reply to `out`: git-fast-import(1) for streams.
     ///
-    /// A bad tenant name is 32; Open with a stream is 31, Feed or End without one is 30; an Ask is
-    /// 40, for no query is known yet. These change nothing and take no memory. A fault of the bytes
+    /// `ServiceFault`: a bad tenant name is 32; Open with a stream is 31, Feed or End without one is
+    /// 30; an Ask is 40, for no query is known yet. These change nothing and take no memory. A fault of the bytes
     /// of a Feed, or of an End, is answered under its number, and leaves the last checkpoint; each
     /// later Feed answers the number again, and so does the End, which always closes the stream.
     ///
     /// `Memory` tells that a growth was refused: in an Open, where nothing has changed then, or in
-    /// a Feed behind so many whole items of the call. `out` then has the replies of those, the
+    /// a Feed after so many whole items of the call. `out` then has the replies of those, the
     /// tenant stands at its last checkpoint, and its stream is dead under 90.
     pub fn step(&mut self, step: Step<'_>, out: &mut Vec<u8>) -> Answer
         ensures own { (tenant : List ℕ) → IsItsOwn N.digest_of tenant (held_of tenant self.old)

@@ -155,20 +155,21 @@ pub fn feed<N: Naming>(
     }
 }
 
-/// Ends the stream; 30 where there is none. Takes no memory.
-pub fn end<N: Naming>(pool: &mut Pool<N>, tenant: &mut Tenant) -> Answer
+/// Ends the stream, and appends the reply of its end to `out`; 30 where there is none. Takes no
+/// memory.
+pub fn end<N: Naming>(pool: &mut Pool<N>, tenant: &mut Tenant, out: &mut Vec<u8>) -> Answer
     requires stands { Stands N.digest_of pool.old tenant.old }
     ensures stands { Stands N.digest_of pool.new tenant.new }
     ensures others { LeavesOthers pool.old tenant.old.table.entries pool.new tenant.new.table.entries }
     ensures own { Takes
         (step_held N.digest_of End (stop_told result) (holding_in pool.old tenant.old)) result
-        [] [] (holding_in pool.new tenant.new) }
+        out.old.items out.new.items (holding_in pool.new tenant.new) }
 {
     match mem::replace(&mut tenant.phase, Phase::Closed) {
         Phase::Closed => ServiceFault::NoStream.answer(),
         Phase::Dead(code) => Answer::Fault(code),
         Phase::Running(stream) => {
-            match stream.finish(pool, &mut tenant.table, &mut tenant.refs) {
+            match stream.finish(pool, &mut tenant.table, &mut tenant.refs, out) {
                 Ok(()) => Answer::Ok,
                 Err(Stop::Fault(code)) => Answer::Fault(code),
                 Err(Stop::Memory(items)) => Answer::Memory(items),

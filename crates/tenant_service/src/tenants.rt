@@ -39,18 +39,20 @@ pub fn feed_one<N: Naming>(
     }
 }
 
-/// Ends the stream of the tenant of this name; 30 where there is none. Takes no memory.
+/// Ends the stream of the tenant of this name, and appends the reply of its end to `out`; 30 where
+/// there is none. Takes no memory.
 pub fn end_one<N: Naming>(
     pool: &mut Pool<N>,
     tenants: &mut IndexMap<TenantName, Tenant>,
     name: &TenantName,
+    out: &mut Vec<u8>,
 ) -> Answer
     requires { Accounts N.digest_of pool.old tenants.old.entries }
     ensures { Serves N.digest_of name.now End (store pool.old tenants.old.entries) result
-        [] [] (store pool.new tenants.new.entries) }
+        out.old.items out.new.items (store pool.new tenants.new.entries) }
 {
     match tenants.get_mut(name) {
-        Some(tenant) => end(pool, tenant),
+        Some(tenant) => end(pool, tenant, out),
         None => ServiceFault::NoStream.answer(),
     }
 }
@@ -160,7 +162,7 @@ pub fn take_step<N: Naming>(
             Err(fault) => fault.answer(),
         },
         Step::End { tenant } => match name_of(tenant) {
-            Ok(name) => end_one(pool, tenants, &name),
+            Ok(name) => end_one(pool, tenants, &name, out),
             Err(fault) => fault.answer(),
         },
         Step::Ask { tenant, .. } => match name_of(tenant) {

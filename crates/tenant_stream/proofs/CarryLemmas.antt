@@ -5,16 +5,14 @@ use Rattle.stream_lex.specs.Faults.{code_of as item_code}
 use Rattle.stream_lex.specs.declared.item.Item.{Item as Lent}
 use Rattle.stream_lex.specs.Looking.{item_of}
 use Rattle.stream_lex.specs.declared.fault.Fault.TheVariants as lex_fault
-use Rattle.stream_lex.specs.Lexer.{GivesFirst, ended as lex_ended}
+use Rattle.stream_lex.specs.Lexer.{GivesFirst}
 use Rattle.stream_lex.specs.Items.{Item, Tail, Rest, Failed, before, behind_items}
 use Rattle.stream_lex.specs.Running.{extended, more_of, Takes as TakesItem, ReadsAlike, HasNoItem}
 use Rattle.import_session.specs.declared.fault.Fault.{Fault}
 use Rattle.import_session.specs.declared.fault.Fault.TheVariants as fault
 use Rattle.import_session.specs.Faults.{code_of}
-use Rattle.git_model.specs.Repository.{Repository}
-use Rattle.import_session.specs.Workspace.{Workspace}
-use Rattle.import_session.specs.Session.{Takes, Ends as SessionEnds}
-use Rattle.import_session.specs.Stream.{Running, Step, Outcome, after_reply, carried, going_on, at_tail, tail_outcome, last_checkpoint, refused, step, Runs, finished, running_end, command_end, ended_by, session_end}
+use Rattle.import_session.specs.Session.{Takes}
+use Rattle.import_session.specs.Stream.{Running, Step, Outcome, after_reply, carried, going_on, at_tail, tail_outcome, last_checkpoint, refused, step}
 use Rattle.tenant_stream.specs.declared.stop.Stop.{Stop}
 use Rattle.tenant_stream.specs.Stopping.{stop_of, unfed}
 use Rattle.tenant_stream.specs.Carrying.{ReadsOn, CarriesOn, Advances, IsRefused, IsDrained, Goes, Ends, Fails, Stops, Carries, Feeds, outcome_behind}
@@ -260,22 +258,3 @@ unfed_feeds digest now tail piece out f stop next new running why is same =
     (subst (λ (s : Stop). Carries digest now (extended tail piece) out (Err s) next new out) (sym is)
     (subst (λ (r : Running). Carries digest now (extended tail piece) out (Err (unfed f)) r new out) (sym same)
     (unfed_carries digest now tail piece out f new running why)))
-
--- a session that has no end
-refused_command : (w : Workspace) (r : Result Workspace Fault) (left new : Workspace) (e : Fault) → SessionEnds r left (Err e)
-    → last_checkpoint new ≡ last_checkpoint w → command_end w r ≡ record { fault = Some (code_of e); repository = last_checkpoint new }
-refused_command w (Ok x) left new e ends same = absurd ends
-refused_command w (Err refusal) left new e ends same =
-    ap (λ (f : Fault). ended_by (code_of f) w) (sym ends)
-    ∙ ap (λ (repository : Repository). record { fault = Some (code_of e); repository = repository }) (sym same)
-
-finished_running : (now : Running) (tail : Tail) → now.is_done ≡ false → finished (Runs now tail) ≡ running_end now tail
-finished_running now tail running = rw running refl
-
-pub ends_refused : (now : Running) (tail : Tail) (left new : Workspace) (e : Fault) → now.is_done ≡ false
-    → Ok tt ≡ lex_ended tail → SessionEnds (session_end now) left (Err e) → last_checkpoint new ≡ last_checkpoint now.workspace
-    → finished (Runs now tail) ≡ record { fault = Some (code_of e); repository = last_checkpoint new }
-ends_refused now (Rest skips []) left new e running ended ends same =
-    finished_running now (Rest skips []) running ∙ refused_command now.workspace (session_end now) left new e ends same
-ends_refused now (Rest skips (b ∷ bs)) left new e running ended ends same = cc
-ends_refused now (Failed f) left new e running ended ends same = cc

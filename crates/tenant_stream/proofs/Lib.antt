@@ -1,4 +1,5 @@
 mod CarryLemmas
 mod CountLemmas
+mod EndLemmas
 mod RoomLemmas
 pub mod StreamLemmas

@@ -2,16 +2,16 @@
 use Rattle.std.proofs.Common.{◌≡◌, ℕ, ◌+◌, ◌^◌, ◌<◌, ◌≤◌, List, length, take, min, sym, ap, ◌∙◌, arith}
 use Rattle.std.proofs.lemmas.List.{length-take}
 use Rattle.content_pool.specs.Pool.{Cells, holds, HasRoom}
-use Rattle.tenant_tables.specs.View.{View, Entries, held}
+use Rattle.tenant_tables.specs.View.{View, held}
 use Rattle.tenant_tables.specs.Objects.{objects}
 use Rattle.tenant_tables.proofs.TableLemmas.{length-objects}
-use Rattle.tenant_tables.specs.StandsIn.{StandsIn, LeavesOthers}
+use Rattle.import_session.specs.Lent.{Keeps}
 use Rattle.tenant_stream.specs.Carrying.{HasAmpleRoom, IsCommitted}
 
 -- one table takes at most one hold of a slot, however often it is called
-pub room_left : (digest : List ℕ → List ℕ) (p q : Cells) (es fs : Entries) → HasAmpleRoom p → LeavesOthers p es q fs → StandsIn digest q fs → HasRoom q
-room_left digest p q es fs ample others stands s =
-    let a = ample s in let r = others.rest s in let o = stands.once s in
+pub room_left : (digest : List ℕ → List ℕ) (p : Cells) (t : View) (q : Cells) (u : View) → HasAmpleRoom p → Keeps digest p t q u → HasRoom q
+room_left digest p t q u ample keeps s =
+    let a = ample s in let r = keeps.others.rest s in let o = keeps.stands.once s in
     omega (arith, a, r, o)
 
 -- a table that was rolled back to its committed objects has no others

@@ -7,7 +7,7 @@ use Rattle.tenant_tables.specs.View.{View}
 use Rattle.stream_lex.specs.Items.{Item, Tail, Rest, behind_items}
 use Rattle.stream_lex.specs.Running.{extended, more_of, HasNoItem}
 use Rattle.import_session.specs.Session.{Kept, new_session, running_in}
-use Rattle.import_session.specs.Stream.{Running, Outcome, End, after_reply, carried, last_checkpoint, refused}
+use Rattle.import_session.specs.Stream.{Running, Runs, Outcome, End, after_reply, carried, finished, last_checkpoint, refused}
 use Rattle.tenant_stream.specs.declared.stop.Stop.{Stop}
 use Rattle.tenant_stream.specs.declared.stop.Stop.TheVariants as stop
 
@@ -118,11 +118,30 @@ Feeds digest true now old piece out result next new out' = Stays now old out res
 Feeds digest false now old piece out result next new out' =
     Carries digest now (extended old piece) out result next new out'
 
--- How a stream ended, and the repository that it left. Nothing here takes memory.
-abbrev pub EndsAs : End → Result Unit Stop → Repository → Type 0
-EndsAs end (Ok u) left = end ≡ record { fault = None; repository = left }
-EndsAs end (Err (stop.Fault code)) left = end ≡ record { fault = Some code; repository = left }
-EndsAs end (Err (stop.Memory count)) left = ⊥
+-- The end of a stream was answered: its reply stands after `out`, and its repository is left.
+pub record IsEnd (end : End) (fault : Option ℕ) (out : List ℕ) (left : Repository)
+    (out' : List ℕ) : Type 0 where
+  pub answered : end.fault ≡ fault
+  pub printed : out' ≡ out ++ end.reply
+  pub stands : end.repository ≡ left
+
+-- Memory ran out at the end of a stream that had not read `done`: nothing of its end took effect.
+pub record StopsAtEnd (now : Running) (out : List ℕ) (count : ℕ) (left : Repository)
+    (out' : List ℕ) : Type 0 where
+  pub running : now.is_done ≡ false
+  pub counted : count ≡ 0
+  pub printed : out' ≡ out
+  pub stands : last_checkpoint now.workspace ≡ left
+
+-- How a stream ended, by the answer.
+abbrev pub EndsAs : (List ℕ → List ℕ) → Running → Tail → List ℕ → Result Unit Stop → Repository
+    → List ℕ → Type 0
+EndsAs digest now tail out (Ok u) left out' =
+    IsEnd (finished digest (Runs now tail)) None out left out'
+EndsAs digest now tail out (Err (stop.Fault code)) left out' =
+    IsEnd (finished digest (Runs now tail)) (Some code) out left out'
+EndsAs digest now tail out (Err (stop.Memory count)) left out' =
+    StopsAtEnd now out count left out'
 
 -- All objects of a table are committed.
 abbrev pub IsCommitted : View → Type 0

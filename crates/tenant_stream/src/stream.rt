@@ -4,10 +4,10 @@
 //! last. Bytes may be cut anywhere; what is kept between two pieces is neither the repository nor
 //! the bytes that went before.
 
-ghost use Rattle.std.specs.Prelude.{◌≡◌, [], false};
-ghost use Rattle.tenant_tables.specs.StandsIn.{StandsIn, LeavesOthers};
-ghost use Rattle.import_session.specs.Session.{running_in, repository_in, workspace_in};
-ghost use Rattle.import_session.specs.Stream.{Runs, finished, last_checkpoint};
+ghost use Rattle.std.specs.Prelude.{◌≡◌, ◌≢◌, ℕ, false, Err, OnErr};
+ghost use Rattle.tenant_tables.specs.StandsIn.{StandsIn};
+ghost use Rattle.import_session.specs.Lent.{Keeps};
+ghost use Rattle.import_session.specs.Session.{running_in, repository_in, last_in};
 ghost use Rattle.tenant_stream.specs.Stopping.{unfed};
 ghost use Rattle.tenant_stream.specs.Carrying.{new_stream, stream_in, Carries, Feeds, EndsAs, HasAmpleRoom, IsCommitted};
 
@@ -33,8 +33,7 @@ fn carry<N: Naming>(
     requires stands { StandsIn N.digest_of pool.old table.old.entries }
     requires room { HasAmpleRoom pool.old }
     requires running { session.old.is_done ≡ false }
-    ensures stands { StandsIn N.digest_of pool.new table.new.entries }
-    ensures others { LeavesOthers pool.old table.old.entries pool.new table.new.entries }
+    ensures keeps { Keeps N.digest_of pool.old table.old pool.new table.new }
     ensures refs { refs.new ≡ refs.old }
     ensures carries { Carries N.digest_of
         (running_in session.old pool.old table.old refs.old) lexer.old.tail out.old.items result
@@ -72,18 +71,19 @@ fn unfed(fault: Fault) -> Stop
 // The end of the bytes, and then that of the commands.
 fn end<N: Naming>(
     lexer: &Lexer,
-    session: &Session,
+    session: &mut Session,
     pool: &mut Pool<N>,
     table: &mut Table,
     refs: &mut Refs,
+    out: &mut Vec<u8>,
 ) -> Result<(), Stop>
     requires stands { StandsIn N.digest_of pool.old table.old.entries }
-    ensures stands { StandsIn N.digest_of pool.new table.new.entries }
-    ensures others { LeavesOthers pool.old table.old.entries pool.new table.new.entries }
+    ensures keeps { Keeps N.digest_of pool.old table.old pool.new table.new }
     ensures refs { refs.new ≡ refs.old }
-    ensures ended { EndsAs
-        (finished (Runs (running_in session.now pool.old table.old refs.old) lexer.now.tail)) result
-        (last_checkpoint (running_in session.now pool.new table.new refs.new).workspace) }
+    ensures ended { EndsAs N.digest_of
+        (running_in session.old pool.old table.old refs.old) lexer.now.tail out.old.items result
+        (last_in pool.new table.new refs.new) out.new.items }
+    ensures enough { (count : ℕ) → result ≢ Err (Stop.Memory count) }
 {
     if session.is_done() {
         return Ok(());
@@ -91,10 +91,10 @@ fn end<N: Naming>(
     if let Err(fault) = lexer.end() {
         return Err(Stop::Fault(fault.code()));
     }
-    match session.finish(pool, table, refs) {
-        Ok(()) => Ok(()),
-        Err(fault) => Err(Stop::Fault(fault.code())),
+    if let Err(fault) = session.finish(pool, table, refs, out) {
+        return Err(stop_of(fault, 0));
     }
+    Ok(())
 }
 
 /// A running stream of one tenant.
@@ -147,8 +147,7 @@ impl Stream {
     ) -> Result<(), Stop>
         requires stands { StandsIn N.digest_of pool.old table.old.entries }
         requires room { HasAmpleRoom pool.old }
-        ensures stands { StandsIn N.digest_of pool.new table.new.entries }
-        ensures others { LeavesOthers pool.old table.old.entries pool.new table.new.entries }
+        ensures keeps { Keeps N.digest_of pool.old table.old pool.new table.new }
         ensures refs { refs.new ≡ refs.old }
         ensures feeds { Feeds N.digest_of self.old.session.is_done
             (stream_in self.old pool.old table.old refs.old) self.old.tail piece.now out.old.items
@@ -163,39 +162,41 @@ impl Stream {
         carry(&mut self.lexer, &mut self.session, pool, table, refs, out)
     }
 
-    /// Ends the stream, which is a checkpoint unless `done` was read before. It prints nothing and
-    /// takes no memory.
+    /// Ends the stream, which is a checkpoint unless `done` was read before. What it prints is
+    /// appended to `out`; no end prints anything yet, and none takes memory.
     ///
-    /// `Stop::Fault` where a line or a data is cut off (6), or a part of a command is missing (5).
-    /// The table then has the objects of the last checkpoint.
+    /// `Stop::Fault` where a line or a data is cut off (6), or a part of a command is missing (5);
+    /// `out` is unchanged then. The table has the objects of the last checkpoint.
     pub fn finish<N: Naming>(
         self,
         pool: &mut Pool<N>,
         table: &mut Table,
         refs: &mut Refs,
+        out: &mut Vec<u8>,
     ) -> Result<(), Stop>
         requires stands { StandsIn N.digest_of pool.old table.old.entries }
-        ensures stands { StandsIn N.digest_of pool.new table.new.entries }
-        ensures others { LeavesOthers pool.old table.old.entries pool.new table.new.entries }
+        ensures keeps { Keeps N.digest_of pool.old table.old pool.new table.new }
         ensures refs { refs.new ≡ refs.old }
-        ensures ended { EndsAs
-            (finished (Runs (stream_in self pool.old table.old refs.old) self.tail)) result
-            (repository_in pool.new table.new refs.new) }
+        ensures ended { EndsAs N.digest_of
+            (stream_in self pool.old table.old refs.old) self.tail out.old.items result
+            (repository_in pool.new table.new refs.new) out.new.items }
+        ensures printed { OnErr result (out.new.items ≡ out.old.items) }
+        ensures enough { (count : ℕ) → result ≢ Err (Stop.Memory count) }
         ensures committed { IsCommitted table.new }
     {
-        let ended = end(&self.lexer, &self.session, pool, table, refs);
-        self.abandon(pool, table, refs);
+        let mut stream = self;
+        let ended = end(&stream.lexer, &mut stream.session, pool, table, refs, out);
+        stream.abandon(pool, table, refs);
         ended
     }
 
     /// Gives the stream up: its table is rolled back to the last checkpoint. Takes no memory.
     pub fn abandon<N: Naming>(self, pool: &mut Pool<N>, table: &mut Table, refs: &mut Refs)
         requires stands { StandsIn N.digest_of pool.old table.old.entries }
-        ensures stands { StandsIn N.digest_of pool.new table.new.entries }
-        ensures others { LeavesOthers pool.old table.old.entries pool.new table.new.entries }
+        ensures keeps { Keeps N.digest_of pool.old table.old pool.new table.new }
         ensures refs { refs.new ≡ refs.old }
         ensures left { repository_in pool.new table.new refs.new
-            ≡ last_checkpoint (workspace_in [] pool.old table.old refs.old) }
+            ≡ last_in pool.old table.old refs.old }
         ensures committed { IsCommitted table.new }
     {
         let Stream { session, .. } = self;

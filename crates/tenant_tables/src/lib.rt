@@ -10,7 +10,6 @@ mod entry;
 mod fault;
 mod found;
 mod sight;
-mod sized;
 mod summary;
 mod table;
 

@@ -28,5 +28,6 @@ pub mod StoredFiles
 pub mod StoredTable
 pub mod GoodObjects
 pub mod GoodTrees
+mod GoodRepositoryExample
 pub mod StoringHeld
 pub mod ListedLater

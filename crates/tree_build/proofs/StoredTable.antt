@@ -23,25 +23,34 @@ use Rattle.tree_build.proofs.StandingGood.{trees-good}
 use Rattle.tree_build.proofs.StoredAgain.{stored-already}
 use Rattle.tree_build.proofs.StoredFiles.{RanksBelow, tree-within}
 
-module _ (digest : List ℕ → List ℕ) (pool : Cells) (entries : Entries) (stands : StandsIn digest pool entries) where
+module _ (digest : List ℕ → List ℕ) (pool : Cells) (entries : Entries)
+    (stands : StandsIn digest pool entries) where
   -- what stands below a tree stands before it
-  falls : (id : List ℕ) (es : List TreeEntry) → HasTree (objects pool entries) id es → RanksBelow (λ k. position_of k entries) (position_of id entries) es
+  falls : (id : List ℕ) (es : List TreeEntry) → HasTree (objects pool entries) id es
+      → RanksBelow (λ k. position_of k entries) (position_of id entries) es
   falls id es has =
       let p = tree-placed digest pool entries stands id es has in
-      all-weaker (DirectoryStands (take (position_of id entries) entries)) (λ (e : TreeEntry). e.mode ≡ mode.Directory → position_of e.id entries < position_of id entries)
+      all-weaker (DirectoryStands (take (position_of id entries) entries))
+      (λ (e : TreeEntry). e.mode ≡ mode.Directory
+      → position_of e.id entries < position_of id entries)
       (λ e d is.
-      stands-before e.id (position_of id entries) entries (some_of (summary_of e.id (take (position_of id entries) entries)) (λ s. s.files ≢ 0) (d is)))
+      stands-before e.id (position_of id entries) entries
+      (some_of (summary_of e.id (take (position_of id entries) entries)) (λ s. s.files ≢ 0) (d is)))
       es p.1.directories
 
-  stored-listed : (id : List ℕ) (fs : Listed) → ListsTree (objects pool entries) id fs → stored_files (objects pool entries) id ≡ fs
+  stored-listed : (id : List ℕ) (fs : Listed) → ListsTree (objects pool entries) id fs
+      → stored_files (objects pool entries) id ≡ fs
   stored-listed id fs t =
       let p = tree-placed digest pool entries stands id t.direct t.tree in
-      let all : take (length entries) entries ≡ entries = take_all (length entries) entries (omega arith) in
+      let all : take (length entries) entries ≡ entries = take_all (length entries) entries
+      (omega arith) in
       let some : IsSome (summary_of id (take (length entries) entries)) =
-      subst (λ (xs : Entries). IsSome (summary_of id xs)) (sym all) (subst (λ (o : Option Summary). IsSome o) (sym p.1.summary) refl) in
+      subst (λ (xs : Entries). IsSome (summary_of id xs)) (sym all)
+      (subst (λ (o : Option Summary). IsSome o) (sym p.1.summary) refl) in
       let within = stands-before id (length entries) entries some in
       let size = length-objects pool entries in
-      tree-within (objects pool entries) (λ k. position_of k entries) falls id fs t (length (objects pool entries)) (omega arith)
+      tree-within (objects pool entries) (λ k. position_of k entries) falls id fs t
+      (length (objects pool entries)) (omega arith)
 
   files-listed : (id : List ℕ) (es : List TreeEntry) → HasTree (objects pool entries) id es
       → ListsTree (objects pool entries) id (stored_files (objects pool entries) id)
@@ -53,9 +62,13 @@ module _ (digest : List ℕ → List ℕ) (pool : Cells) (entries : Entries) (st
   pub table-stored : (id : List ℕ) (es : List TreeEntry) → HasTree (objects pool entries) id es
       → IsStoredAlready digest (objects pool entries) id (stored_files (objects pool entries) id)
   table-stored id es has =
-      stored-already digest (objects pool entries) (trees-good digest pool entries stands) id (stored_files (objects pool entries) id) (files-listed id es has)
+      stored-already digest (objects pool entries) (trees-good digest pool entries stands) id
+      (stored_files (objects pool entries) id) (files-listed id es has)
 
-  pub table-summary : (id : List ℕ) (fs : Listed) → ListsTree (objects pool entries) id fs → summary_of id entries ≡ Some (files_summary fs)
+  pub table-summary : (id : List ℕ) (fs : Listed) → ListsTree (objects pool entries) id fs
+      → summary_of id entries ≡ Some (files_summary fs)
   table-summary id fs t =
       let p = tree-placed digest pool entries stands id t.direct t.tree in
-      p.1.summary ∙ ap (λ (s : Summary). Some s) (tree-summary digest pool entries stands id p.0 fs p.1.summary t)
+      p.1.summary
+      ∙ ap (λ (s : Summary). Some s)
+      (tree-summary digest pool entries stands id p.0 fs p.1.summary t)

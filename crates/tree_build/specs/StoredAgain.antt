@@ -1,4 +1,5 @@
--- Trees that are those of file maps, so that storing their files again adds nothing: git-write-tree(1).
+-- Trees that are those of file maps, so that storing their files again adds nothing:
+-- git-write-tree(1).
 use Rattle.std.specs.Prelude.{◌≡◌, ◌≢◌, ℕ, ◌≤◌, List, [], length, All, None}
 use Rattle.git_model.specs.declared.file_mode.FileMode.TheVariants as mode
 use Rattle.git_model.specs.Repository.{Object}

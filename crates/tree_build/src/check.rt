@@ -2,14 +2,12 @@
 
 ghost use Rattle.std.specs.Prelude.{◌≡◌, ◌≤◌, ◌+◌, length, nat_le};
 ghost use Rattle.std.specs.List.{list_any, list_all};
-ghost use Rattle.git_model.specs.ObjectName.{IsObjectName};
 ghost use Rattle.git_paths.specs.Paths.{IsPath, is_within_limits};
 ghost use Rattle.tree_build.specs.Edits.{is_root, is_empty};
 ghost use Rattle.tree_build.specs.Kept.{refusal_beside};
 
 use crate::entry::Entry;
 use crate::fault::Fault;
-use git_objects::Name;
 use git_paths::Path;
 
 /// How many files a branch may have.
@@ -68,20 +66,6 @@ pub(crate) fn refusal_beside(staying: usize, files: &[(Path, Entry)]) -> Option<
         Some(Fault::Limit)
     }
 }
-
-/// A name has twenty bytes: a fact for proofs. A call does nothing.
-pub(crate) fn has_twenty_bytes(id: &Name)
-    ensures { IsObjectName id.now }
-{
-    let bytes: &[u8] = id.as_bytes();
-    prove!(bytes.len() == 20);
-    are_bytes(bytes);
-}
-
-fn are_bytes(bytes: &[u8])
-    requires { length bytes.now ≡ 20 }
-    ensures { IsObjectName bytes.now }
-{}
 
 /// What a path holds are components: a fact for proofs. A call does nothing.
 pub(crate) fn has_components(path: &Path)

@@ -22,7 +22,7 @@ ghost use Rattle.tenant_tables.specs.Objects.{objects};
 ghost use Rattle.tenant_tables.specs.StandsIn.{StandsIn, LeavesOthers};
 
 use crate::below::{depth_of, file_of, files_at, is_nowhere};
-use crate::check::{are_none, has_components, has_twenty_bytes, refusal_beside};
+use crate::check::{are_none, has_components, refusal_beside};
 use crate::entry::Entry;
 use crate::fault::Fault;
 use crate::grafted::{gather, is_small, tree_summary};
@@ -30,7 +30,7 @@ use crate::map::{Entries, count_staying, drop_below, insert_all, moved, one_file
 use crate::naming::tree_id;
 use crate::storing::store_trees;
 use content_pool::Pool;
-use git_objects::{FileMode, Memory, Name, Naming};
+use git_objects::{FileMode, Memory, Name, Naming, has_twenty_bytes};
 use git_paths::Path;
 use std::alloc::Global;
 use std::collections::BTreeMap;

@@ -72,7 +72,8 @@ pub fn table_summaries_are_of_files()
 /// In a good repository each tree has files, those that the function gives, and no others.
 pub fn good_trees_have_files()
     ensures { (digest : List ℕ → List ℕ) (os : List Object) → AreObjects digest os
-        → (id : List ℕ) → kind_named id os ≡ Some kind.Tree → AreFilesOf os id (stored_files os id) }
+        → (id : List ℕ) → kind_named id os ≡ Some kind.Tree
+        → AreFilesOf os id (stored_files os id) }
 {}
 
 /// So whatever files a tree has, the function gives them.

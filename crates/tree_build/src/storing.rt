@@ -13,11 +13,10 @@ ghost use Rattle.tree_build.specs.Storing.{StoresTrees, HasRoomBeside, as_fault}
 ghost use Rattle.tree_build.specs.Storable.{files_summary, longest_of, AreStorable, IsStorableGroup, IsKnownGroup};
 
 use crate::below::{Below, Group, file_of, grouped};
-use crate::check::has_twenty_bytes;
 use crate::fault::Fault;
 use crate::naming::{contents_of, entry_by};
 use content_pool::Pool;
-use git_objects::{Name, Naming, TreeEntry};
+use git_objects::{Name, Naming, TreeEntry, has_twenty_bytes};
 use std::alloc::Global;
 use tenant_tables::{Fault as TableFault, Summary, Table};
 

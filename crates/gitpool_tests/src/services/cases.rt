@@ -5,102 +5,26 @@ use super::turn::{Case, Turn};
 use super::{HELLO, HELLO_MISSING, HELLO_NAME, HELLO_SHOWN, SHOW_HELLO};
 use gitpool::{Answer, Step};
 
+/// Names that no tenant can have.
+pub const BAD_NAMES: &[&[u8]] = &[b"a/", b"/a", b"a//b", b"-a", b""];
+
+/// Each step of a tenant.
+pub fn steps_of(tenant: &[u8]) -> [Step<'_>; 4] {
+    [
+        Step::Open { tenant },
+        Step::Feed {
+            tenant,
+            bytes: b"\n",
+        },
+        Step::End { tenant },
+        Step::Ask {
+            tenant,
+            query: b"refs",
+        },
+    ]
+}
+
 pub const CASES: &[Case] = &[
-    Case {
-        does: "refuses each step under a bad tenant name",
-        turns: &[
-            Turn::Takes(Step::Open { tenant: b"a/" }, 32, b""),
-            Turn::Takes(
-                Step::Feed {
-                    tenant: b"a/",
-                    bytes: b"\n",
-                },
-                32,
-                b"",
-            ),
-            Turn::Takes(Step::End { tenant: b"a/" }, 32, b""),
-            Turn::Takes(
-                Step::Ask {
-                    tenant: b"a/",
-                    query: b"refs",
-                },
-                32,
-                b"",
-            ),
-            Turn::Takes(Step::Open { tenant: b"/a" }, 32, b""),
-            Turn::Takes(
-                Step::Feed {
-                    tenant: b"/a",
-                    bytes: b"\n",
-                },
-                32,
-                b"",
-            ),
-            Turn::Takes(Step::End { tenant: b"/a" }, 32, b""),
-            Turn::Takes(
-                Step::Ask {
-                    tenant: b"/a",
-                    query: b"refs",
-                },
-                32,
-                b"",
-            ),
-            Turn::Takes(Step::Open { tenant: b"a//b" }, 32, b""),
-            Turn::Takes(
-                Step::Feed {
-                    tenant: b"a//b",
-                    bytes: b"\n",
-                },
-                32,
-                b"",
-            ),
-            Turn::Takes(Step::End { tenant: b"a//b" }, 32, b""),
-            Turn::Takes(
-                Step::Ask {
-                    tenant: b"a//b",
-                    query: b"refs",
-                },
-                32,
-                b"",
-            ),
-            Turn::Takes(Step::Open { tenant: b"-a" }, 32, b""),
-            Turn::Takes(
-                Step::Feed {
-                    tenant: b"-a",
-                    bytes: b"\n",
-                },
-                32,
-                b"",
-            ),
-            Turn::Takes(Step::End { tenant: b"-a" }, 32, b""),
-            Turn::Takes(
-                Step::Ask {
-                    tenant: b"-a",
-                    query: b"refs",
-                },
-                32,
-                b"",
-            ),
-            Turn::Takes(Step::Open { tenant: b"" }, 32, b""),
-            Turn::Takes(
-                Step::Feed {
-                    tenant: b"",
-                    bytes: b"\n",
-                },
-                32,
-                b"",
-            ),
-            Turn::Takes(Step::End { tenant: b"" }, 32, b""),
-            Turn::Takes(
-                Step::Ask {
-                    tenant: b"",
-                    query: b"refs",
-                },
-                32,
-                b"",
-            ),
-        ],
-    },
     Case {
         does: "refuses steps without their stream, and a second stream",
         turns: &[
@@ -228,7 +152,7 @@ pub const CASES: &[Case] = &[
         ],
     },
     Case {
-        does: "ignores what stands behind done",
+        does: "ignores what stands after done",
         turns: &[
             Turn::Takes(Step::Open { tenant: b"t" }, 0, b""),
             Turn::Takes(

@@ -6,4 +6,5 @@ use Rattle.git_model.proofs.laws.parents_reach_the_least_set.Goals as goal
 
 pub returns : goal.returns
 returns c digest os good from to =
-    least (parents_of os) (λ id. place_of id os) (parents_fall digest os good) (length os) from to (place_within from os)
+    least (parents_of os) (λ id. place_of id os) (parents_fall digest os good) (length os) from to
+    (place_within from os)

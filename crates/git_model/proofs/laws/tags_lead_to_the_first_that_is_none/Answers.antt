@@ -9,4 +9,5 @@ use Rattle.git_model.proofs.laws.tags_lead_to_the_first_that_is_none.Goals as go
 pub returns : goal.returns
 unfolding without_tags
 returns c digest os good id found =
-    first_is (is_there_untagged os) (next_to os kind.Blob) (λ k. place_of k os) (next_falls digest os good kind.Blob) (length os) id found (place_within id os)
+    first_is (is_there_untagged os) (next_to os kind.Blob) (λ k. place_of k os)
+    (next_falls digest os good kind.Blob) (length os) id found (place_within id os)

@@ -1,63 +1,11 @@
-use Rattle.std.proofs.Common.{◌≡◌, ◌≤◌, ◌<◌, ◌-◌, ◌^◌, ℕ, length, take, false, true, sym, ap, subst, refl, ◌∙◌, arith}
-use Rattle.std.proofs.lemmas.Bool.Decides.{nat_tests}
-use Rattle.std.proofs.lemmas.Result.{err_from_is_err_and}
-use Rattle.std.specs.Io.KnownBytes.{Consumes}
-use Rattle.git_objects.specs.Device.{device_of, passed_of, counted_on, seen}
-use Rattle.gitpool.proofs.ImportLemmas.{reads_piece, piece_some, so_far_new, so_far_more, imported_done, imported_piece, imported_end, unread, endless}
+use Rattle.gitpool.proofs.ImportLemmas.{imported_end}
 use Rattle.gitpool.proofs.import.import_one.Goals as goal
 
-pub loop-init : goal.loop-init
-loop-init g c = (
-  refl,
-  so_far_new _ _ _ _ c.new-importer.ensures
-      (let a = c.passed-passed.type_inv in let b = c.passed-passed.ensures in omega (arith, a, b)),
-)
-
-pub returns-in-Err : goal.returns-in-Err
-returns-in-Err g c =
-    unread _ _ _ _ _ _ _ _ c.loop.invariant.1 c.in-Err.ensures.bytes c.in-Err.ensures.passed c.in-Err.ensures.faults
+pub read_all-requires : goal.read_all-requires
+read_all-requires g c = c.new-importer.ensures
 
 pub end-requires : goal.end-requires
-end-requires g c = c.loop.invariant.1.ready
+end-requires g c = c.in-Ok.ensures.ready
 
-pub returns-then-n-eq0 : goal.returns-then-n-eq0
-returns-then-n-eq0 g c =
-    let none : c.in-Ok.n ≡ 0 = c.if-n-eq0.true in
-    imported_end _ _ _ _ _ _ _ _ _ c.loop.invariant.1
-    (subst (λ (n : ℕ). Consumes (g.R.Read.remaining (device_of c.loop.reader)) (g.R.Read.remaining (device_of c.read.new.self)) (take n c.read.new.buf))
-    none c.in-Ok.ensures.bytes.0)
-    (c.in-Ok.ensures.bytes.1 none (let a = c.read.auto.buf in let b = c.loop.invariant.0 in omega (arith, a, b)))
-    (c.in-Ok.ensures.passed ∙ ap (counted_on (passed_of c.loop.reader)) none) c.in-Ok.ensures.faults c.end.ensures
-
-pub pass_on-requires-clause-ready : goal.pass_on-requires-clause-ready
-pass_on-requires-clause-ready g c = c.loop.invariant.1.ready
-
-pub pass_on-requires-clause-running : goal.pass_on-requires-clause-running
-pass_on-requires-clause-running g c = c.loop.invariant.1.running
-
-pub returns-in_err-pass_on : goal.returns-in_err-pass_on
-returns-in_err-pass_on g c =
-    let p = err_from_is_err_and c.from_residual.result c.from_residual.ensures.1 in
-    rw (p.1, p.2)
-    (imported_piece _ _ _ _ _ _ _ _ _ c.pass_on.new.self _ c.in_err-pass_on.field-0.0 c.loop.invariant.1
-    (reads_piece _ _ c.in-Ok.n c.read.new.buf _ c.split_at.ensures.front c.in-Ok.ensures.bound.1 c.in-Ok.ensures.bytes.0
-    c.in-Ok.ensures.passed c.in-Ok.ensures.faults) c.in_err-pass_on.ensures)
-
-pub returns-then-is_done : goal.returns-then-is_done
-returns-then-is_done g c =
-    imported_done _ _ _ _ _ _ _ _ _ _ _ c.loop.invariant.1
-    (reads_piece _ _ c.in-Ok.n c.read.new.buf _ c.split_at.ensures.front c.in-Ok.ensures.bound.1 c.in-Ok.ensures.bytes.0
-    c.in-Ok.ensures.passed c.in-Ok.ensures.faults) c.in_ok-pass_on.ensures (sym c.is_done.ensures ∙ c.if-is_done.true)
-
-pub loop-preserved : goal.loop-preserved
-loop-preserved g c = (
-  c.read.auto.buf ∙ c.loop.invariant.0,
-  so_far_more _ _ _ _ _ _ _ _ _ _ _ c.loop.invariant.1
-      (reads_piece _ _ c.in-Ok.n c.read.new.buf _ c.split_at.ensures.front c.in-Ok.ensures.bound.1 c.in-Ok.ensures.bytes.0
-      c.in-Ok.ensures.passed c.in-Ok.ensures.faults)
-      (piece_some c.in-Ok.n c.read.new.buf _ c.split_at.ensures.front c.in-Ok.ensures.bound.1 c.if-n-eq0.false)
-      c.in_ok-pass_on.ensures (sym c.is_done.ensures ∙ c.if-is_done.false),
-)
-
-pub returns : goal.returns
-returns g c = endless _ _ _ _ _ _ _ c.loop.invariant.1 c.loop-test.false
+pub returns-in-Ok : goal.returns-in-Ok
+returns-in-Ok g c = imported_end _ _ _ _ _ _ _ _ c.in-Ok.ensures c.end.ensures

@@ -14,10 +14,11 @@ pub returns-in-Some : goal.returns-in-Some
 returns-in-Some g c =
     rw (c.get_mut.follows.holds c.end.new.tenant).0
     (serves-found g.N.Naming.digest_of c.args.name.now End c.args.pool.now c.end.new.pool c.args.tenants.now.entries c.in-Some.tenant.now
-    c.end.new.tenant c.end.result [] [] c.requires (sym c.in-Some.ensures.value) c.end.ensures.stands c.end.ensures.others c.end.ensures.own)
+    c.end.new.tenant c.end.result c.args.out.now.items c.end.new.out.items c.requires (sym c.in-Some.ensures.value) c.end.ensures.stands
+    c.end.ensures.others c.end.ensures.own)
 
 pub returns-in-None : goal.returns-in-None
 returns-in-None g c =
-    serves-missing g.N.Naming.digest_of c.args.name.now End c.args.pool.now c.args.tenants.now.entries _ _ []
+    serves-missing g.N.Naming.digest_of c.args.name.now End c.args.pool.now c.args.tenants.now.entries _ _ c.args.out.now.items
     c.requires (sym c.in-None.ensures.value) (rw c.get_mut.follows.holds-at-none refl)
     (ap (λ (a : Answer). turn a [] (Idle empty_repository)) (sym c.answer.ensures))

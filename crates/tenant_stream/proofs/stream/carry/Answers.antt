@@ -1,11 +1,10 @@
 use Rattle.std.proofs.Common.{◌≡◌, ℕ, ◌+◌, List, [], ◌∷◌, ◌++◌, Err, Some, Ok, None, refl, sym, ap, ◌∙◌, append-nil, append_assoc, arith, subst}
 use Rattle.std.proofs.lemmas.Bool.{false≢true}
 use Rattle.std.proofs.lemmas.List.{length-append}
-use Rattle.tenant_tables.proofs.TableLemmas.{LeavesOthers-refl, LeavesOthers-then}
 use Rattle.stream_lex.specs.Looking.{item_of}
 use Rattle.import_session.specs.Session.{running_in, Takes}
 use Rattle.import_session.specs.Stream.{step}
-use Rattle.tenant_stream.specs.Carrying.{Carries}
+use Rattle.import_session.proofs.LentLemmas.{Keeps-refl, Keeps-then}
 use Rattle.tenant_stream.proofs.CarryLemmas.{Advances-refl, Advances-read, item_stops, tail_stops, ends_at, goes, take_on, took_item, gave_none, gave_fault}
 use Rattle.tenant_stream.proofs.CountLemmas.{taken_at_most, left_falls}
 use Rattle.tenant_stream.proofs.RoomLemmas.{room_left}
@@ -13,8 +12,7 @@ use Rattle.tenant_stream.proofs.stream.carry.Goals as goal
 
 pub items-init : goal.items-init
 items-init g c = record {
-  stands = c.requires.stands;
-  others = LeavesOthers-refl c.args.pool.now c.args.table.now.entries;
+  keeps = Keeps-refl _ c.args.pool.now c.args.table.now c.requires.stands;
   refs = refl;
   items = [];
   replies = [];
@@ -30,7 +28,7 @@ returns-then-is_done-clause-carries g c =
 
 pub take-requires-clause-room : goal.take-requires-clause-room
 take-requires-clause-room g c =
-    room_left _ _ _ _ _ c.requires.room c.items.invariant.others c.items.invariant.stands
+    room_left _ _ _ _ _ c.requires.room c.items.invariant.keeps
 
 pub returns-in-Err-take-clause-carries : goal.returns-in-Err-take-clause-carries
 returns-in-Err-take-clause-carries g c =
@@ -61,8 +59,7 @@ items-preserved g c =
     (took_item _ _ _ _ _ c.in-Ok-Some.is c.in-Ok-Some.field-0-is c.next.follows.holds-at-none.first)
     c.items.invariant.printed c.in_default.ensures.taken in
     record {
-      stands = c.take.ensures.stands;
-      others = LeavesOthers-then _ _ _ _ _ _ c.items.invariant.others c.take.ensures.others;
+      keeps = Keeps-then _ _ _ _ _ _ _ c.items.invariant.keeps c.take.ensures.keeps;
       refs = c.take.ensures.refs ∙ c.items.invariant.refs;
       items = c.items.invariant.items ++ item_of c.in-Ok-Some.item ∷ [];
       replies = next.replies;

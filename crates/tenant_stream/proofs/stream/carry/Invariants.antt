@@ -1,15 +1,14 @@
 use Rattle.std.proofs.Common.{◌≡◌, ◌++◌, ℕ, List, [], length}
-use Rattle.tenant_tables.specs.StandsIn.{StandsIn, LeavesOthers}
 use Rattle.stream_lex.specs.Items.{Item}
 use Rattle.stream_lex.specs.Running.{more_of}
+use Rattle.import_session.specs.Lent.{Keeps}
 use Rattle.import_session.specs.Session.{running_in}
 use Rattle.tenant_stream.specs.Carrying.{Advances}
 use Rattle.tenant_stream.proofs.stream.carry.Given as goal
 
 abbrev pub invariant-items : goal.invariant-items
 invariant-items g l = record {
-  stands : StandsIn g.N.Naming.digest_of l.pool l.table.entries;
-  others : LeavesOthers l.fn.pool l.fn.table.entries l.pool l.table.entries;
+  keeps : Keeps g.N.Naming.digest_of l.fn.pool l.fn.table l.pool l.table;
   refs : l.refs ≡ l.fn.refs;
   items : List Item;
   replies : List ℕ;

@@ -1,4 +1,4 @@
--- Each side of the comparison runs through a name and the slash behind it.
+-- Each side of the comparison runs through a name and the slash after it.
 use Rattle.std.specs.Ordering.{nat_cmp}
 use Rattle.std.proofs.Common.{refl, ◌≡◌}
 use Rattle.std.proofs.lemmas.Iterator.{YieldsList-from_slice}

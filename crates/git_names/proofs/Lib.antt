@@ -1,0 +1,3 @@
+pub mod Seconds
+pub mod Idents
+pub mod StoredNames

@@ -1,0 +1,9 @@
+-- In reading order. What the definitions below speak of is passed on first.
+pub use Rattle.git_model.specs.Bytes
+pub use Rattle.git_model.specs.Kind
+pub use Rattle.git_model.specs.ObjectName
+pub use Rattle.git_model.specs.RefName
+pub mod Naming
+pub mod Ident
+pub mod StoredName
+pub mod Faults

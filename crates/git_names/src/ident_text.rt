@@ -1,0 +1,123 @@
+//! The parts of an ident's text, found from left to right. Nothing here takes memory.
+
+ghost use Rattle.std.specs.Prelude.{◌≡◌, ◌≤◌, length, take};
+ghost use Rattle.std.specs.Option.{option_copied};
+ghost use Rattle.std.specs.List.{prefix_len, list_all};
+ghost use Rattle.std.specs.Char.{is_ascii_digit};
+ghost use Rattle.git_model.specs.Ident.{is_person_byte as person_byte, is_offset as offset};
+ghost use Rattle.git_model.specs.IdentReading as reading;
+ghost use Rattle.numerals.specs.Numbers.{number_of};
+
+use numerals::read_number;
+
+// What stands after the person at a text's front, where there is one: a date, in an ident.
+pub(crate) fn behind_person(text: &[u8]) -> Option<&[u8]>
+    ensures { option_copied result ≡ reading.behind_person text.now }
+{
+    behind_email(behind_name(text)?)
+}
+
+// What stands after a name and its `<`.
+#[tactic(auto, unfolding(git_model::specs::IdentReading::behind_name))]
+fn behind_name(text: &[u8]) -> Option<&[u8]>
+    ensures { option_copied result ≡ reading.behind_name text.now }
+{
+    let (name, rest) = text.split_at(person_len(text));
+    if is_name(name) {
+        behind_byte(b'<', rest)
+    } else {
+        None
+    }
+}
+
+// What stands after an email, its `>` and the space.
+#[tactic(auto, unfolding(git_model::specs::IdentReading::behind_email))]
+fn behind_email(text: &[u8]) -> Option<&[u8]>
+    ensures { option_copied result ≡ reading.behind_email text.now }
+{
+    let (_, rest) = text.split_at(person_len(text));
+    behind_byte(b' ', behind_byte(b'>', rest)?)
+}
+
+// How many bytes a text begins with that a name or an email may hold.
+fn person_len(text: &[u8]) -> usize
+    ensures len { result ≡ prefix_len person_byte text.now }
+    ensures within { result ≤ length text.now }
+{
+    text.iter()
+        .take_while(|byte| is_person_byte(**byte))
+        .count()
+}
+
+fn is_person_byte(byte: u8) -> bool
+    ensures { result ≡ person_byte byte }
+{
+    !matches!(byte, b'<' | b'>' | b'\n')
+}
+
+// Whether a name ends in a space, or is none.
+fn is_name(name: &[u8]) -> bool
+    ensures { result ≡ reading.is_name name.now }
+{
+    name.is_empty() || name.ends_with(b" ")
+}
+
+fn behind_byte(expected: u8, text: &[u8]) -> Option<&[u8]>
+    ensures { option_copied result ≡ reading.behind_byte expected text.now }
+{
+    match text {
+        [byte, rest @ ..] if *byte == expected => Some(rest),
+        _ => None,
+    }
+}
+
+// Whether a text is a date.
+pub(crate) fn is_date(text: &[u8]) -> bool
+    ensures { result ≡ reading.is_date text.now }
+{
+    let (_, rest) = text.split_at(digits_len(text));
+    seconds_of(text).is_some() && is_spaced_offset(rest)
+}
+
+// The seconds that a date begins with, where they are 1 to 20 digits and below 2^64.
+pub(crate) fn seconds_of(date: &[u8]) -> Option<u64>
+    ensures { result ≡ number_of (take (prefix_len is_ascii_digit date.now) date.now) }
+{
+    let (seconds, _) = date.split_at(digits_len(date));
+    read_number(seconds)
+}
+
+// How many digits a text begins with.
+fn digits_len(text: &[u8]) -> usize
+    ensures len { result ≡ prefix_len is_ascii_digit text.now }
+    ensures within { result ≤ length text.now }
+{
+    text.iter().take_while(|byte| byte.is_ascii_digit()).count()
+}
+
+fn is_spaced_offset(text: &[u8]) -> bool
+    ensures { result ≡ reading.is_spaced_offset text.now }
+{
+    match text {
+        [b' ', rest @ ..] => is_offset(rest),
+        _ => false,
+    }
+}
+
+// Whether a text is a sign and four digits.
+fn is_offset(text: &[u8]) -> bool
+    ensures { result ≡ offset text.now }
+{
+    match text {
+        [sign, digits @ ..] => {
+            (*sign == b'+' || *sign == b'-') && digits.len() == 4 && are_digits(digits)
+        }
+        [] => false,
+    }
+}
+
+fn are_digits(digits: &[u8]) -> bool
+    ensures { result ≡ list_all is_ascii_digit digits.now }
+{
+    digits.iter().all(|digit| digit.is_ascii_digit())
+}

@@ -1,0 +1,90 @@
+//! Object names: gitglossary(7), "object name".
+
+ghost use Rattle.std.specs.Prelude.{◌≡◌, ◌≢◌, ℕ, List, MatchOption, Result, take, length, [], ◌∷◌};
+ghost use Rattle.std.specs.Cmp.Rules.{comparing, hashing};
+ghost use Rattle.std.proofs.Common.{rules};
+ghost use Rattle.git_model.specs.ObjectName.{IsObjectName};
+ghost use Rattle.hex.specs.Hex.{encode_lower, decode_sized};
+
+use hex::FromHex;
+use std::hash::{Hash, Hasher};
+use std::marker::Model;
+
+/// The name of an object: the 20 bytes of its digest, in order of bytes.
+#[derive(Clone, Copy, Debug, PartialEq, Eq, PartialOrd, Ord)]
+pub struct Name {
+    bytes: [u8; 20],
+}
+
+impl Model for Name {
+    ghost use Rattle.std.specs.Prelude.{ℕ, List};
+
+    ghost Value = { List ℕ };
+
+    ghost view = { λ id. id.bytes };
+
+    ghost inverse = { λ bytes. record { bytes = bytes } };
+}
+
+impl Hash for Name {
+    ghost hash_input = { λ id. take 8 id ∷ [] };
+
+    ghost respects_eq = { Prim.search (hashing, rules) };
+
+    // The bytes of a digest are spread evenly already: eight of them decide a bucket.
+    fn hash<H: Hasher>(&self, state: &mut H) {
+        let (first, _) = self.bytes.split_at(8);
+        state.write(first);
+    }
+}
+
+impl Name {
+    /// The name with these bytes.
+    pub fn from_bytes(bytes: [u8; 20]) -> Name
+        ensures { result ≡ bytes }
+    {
+        Name { bytes }
+    }
+
+    /// The 20 bytes of the name.
+    pub fn as_bytes(&self) -> &[u8; 20]
+        ensures { result.now ≡ self.now }
+    {
+        &self.bytes
+    }
+
+    /// The name in 40 hexadecimal digits of lower case. Takes no memory.
+    pub fn to_hex(&self) -> [u8; 40]
+        ensures { result ≡ encode_lower self.now }
+    {
+        let mut digits = [0; 40];
+        let _ = hex::encode_to_slice(self.bytes, &mut digits);
+        digits
+    }
+
+    /// Reads a name from exactly 40 hexadecimal digits of either case; `None` for every other text.
+    /// Takes no memory.
+    pub fn from_hex(digits: &[u8]) -> Option<Name>
+        ensures { MatchOption result ((bytes : List ℕ) → decode_sized digits.now 20 ≢ Ok bytes)
+            (λ id. decode_sized digits.now 20 ≡ Ok id) }
+    {
+        match <[u8; 20]>::from_hex(digits) {
+            Ok(bytes) => Some(Name::from_bytes(bytes)),
+            Err(_) => None,
+        }
+    }
+}
+
+/// A name has twenty bytes: a fact for proofs. A call does nothing.
+pub fn has_twenty_bytes(id: &Name)
+    ensures { IsObjectName id.now }
+{
+    let bytes: &[u8] = id.as_bytes();
+    prove!(bytes.len() == 20);
+    are_bytes(bytes);
+}
+
+fn are_bytes(bytes: &[u8])
+    requires { length bytes.now ≡ 20 }
+    ensures { IsObjectName bytes.now }
+{}

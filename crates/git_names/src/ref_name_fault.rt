@@ -1,0 +1,44 @@
+//! Why a ref name could not be read.
+
+ghost use Rattle.std.specs.Prelude.{◌≡◌};
+ghost use Rattle.git_names.specs.declared.ref_name_fault.RefNameFault.TheVariants.{Memory};
+
+use std::alloc::AllocError;
+use thiserror::Error;
+
+/// Why a ref name could not be read.
+#[derive(Clone, Copy, Debug, PartialEq, Eq, Error)]
+pub enum RefNameFault {
+    /// The text is no ref name, and is not `HEAD`.
+    #[error("bad ref name")]
+    BadRefName,
+    /// The text has more than 1,024 bytes.
+    #[error("ref name too long")]
+    Limit,
+    /// A growth was refused.
+    #[error("out of memory")]
+    Memory,
+}
+
+impl From<AllocError> for RefNameFault {
+    ghost from_gives = { λ _ fault. fault ≡ Memory };
+
+    fn from(_refused: AllocError) -> RefNameFault {
+        RefNameFault::Memory
+    }
+}
+
+impl RefNameFault {
+    ghost use Rattle.git_names.specs.Faults.{ref_name_code};
+
+    /// The number of the fault: 11 bad ref name, 25 limit, 90 out of memory.
+    pub fn code(&self) -> u16
+        ensures { result ≡ ref_name_code self.now }
+    {
+        match self {
+            RefNameFault::BadRefName => 11,
+            RefNameFault::Limit => 25,
+            RefNameFault::Memory => 90,
+        }
+    }
+}

@@ -1,5 +1,0 @@
-use Rattle.git_objects.proofs.Idents.{faultless}
-use Rattle.git_objects.proofs.ident.is_ident.Goals as goal
-
-pub returns : goal.returns
-returns c = faultless c.args.text.now c.fault_of.result c.is_none.result c.fault_of.ensures c.is_none.ensures

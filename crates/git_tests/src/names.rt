@@ -1,0 +1,81 @@
+//! Object names, beside `git hash-object` and the examples of FIPS 180-4.
+
+use git_names::{Kind, Memory, Name, Naming, Sha1Naming, TailNaming, name_of};
+use std::alloc::Global;
+
+// A tree of one entry, `100644 test.txt`, whose blob is `version 1 LF`.
+const ONE_ENTRY: &[u8; 36] =
+    b"100644 test.txt\0\x83\xba\xae\x61\x80\x4e\x65\xcc\x73\xa7\x20\x1a\x72\x52\x75\x0c\x76\x06\x6a\x30";
+
+// Contents, and the digits that `git hash-object` gave.
+const NAMED: &[(Kind, &[u8], &[u8; 40])] = &[
+    (Kind::Blob, b"", b"e69de29bb2d1d6434b8b29ae775ad8c2e48c5391"),
+    (Kind::Tree, b"", b"4b825dc642cb6eb9a060e54bf8d69288fbee4904"),
+    (
+        Kind::Blob,
+        b"hello\n",
+        b"ce013625030ba8dba906f756967f9e9ca394464a",
+    ),
+    (
+        Kind::Blob,
+        b"version 1\n",
+        b"83baae61804e65cc73a7201a7252750c76066a30",
+    ),
+    (
+        Kind::Tree,
+        ONE_ENTRY,
+        b"d8329fc1cc938780ffdd9f94e0d364e0ea74f579",
+    ),
+];
+
+// FIPS 180-4's examples of one block and of two.
+const DIGESTED: &[(&[u8], &[u8; 40])] = &[
+    (b"abc", b"a9993e364706816aba3e25717850c26c9cd0d89d"),
+    (
+        b"abcdbcdecdefdefgefghfghighijhijkijkljklmklmnlmnomnopnopq",
+        b"84983e441c3bd26ebaae4aa1f95129e5e54670f1",
+    ),
+];
+
+fn name_in_digits<N: Naming>(
+    alloc: Global,
+    naming: &N,
+    kind: Kind,
+    contents: &[u8],
+) -> Result<[u8; 40], Memory> {
+    Ok(name_of(alloc, naming, kind, contents)?.to_hex())
+}
+
+#[test]
+fn names_objects_as_git_does(rt: HostRuntime) {
+    for (kind, contents, digits) in NAMED {
+        let found = name_in_digits(rt.alloc(), &Sha1Naming, *kind, contents);
+        assert!(rt; found == Ok(**digits), "{contents:?}");
+    }
+}
+
+#[test]
+fn digests_as_the_standard_does(rt: HostRuntime) {
+    for (message, digits) in DIGESTED {
+        let digest = Name::from_bytes(Sha1Naming.digest(message)).to_hex();
+        assert!(rt; digest == **digits, "{message:?}");
+    }
+}
+
+// `blob 2 NUL ab` has the sum 692, which is 0xb4 modulo 256.
+#[test]
+fn gives_two_contents_one_name_by_their_tail(rt: HostRuntime) {
+    let ab = name_in_digits(rt.alloc(), &TailNaming, Kind::Blob, b"ab");
+    let ba = name_in_digits(rt.alloc(), &TailNaming, Kind::Blob, b"ba");
+    assert!(rt; ab == Ok(*b"abababababababababababababababababababb4"));
+    assert!(rt; ba == ab);
+}
+
+#[test]
+fn reads_a_name_from_digits_of_either_case(rt: HostRuntime) {
+    let lower = Name::from_hex(b"ce013625030ba8dba906f756967f9e9ca394464a");
+    let upper = Name::from_hex(b"CE013625030BA8DBA906F756967F9E9CA394464A");
+    assert!(rt; lower.is_some() && lower == upper);
+    assert!(rt; Name::from_hex(b"ce013625").is_none());
+    assert!(rt; Name::from_hex(b"ze013625030ba8dba906f756967f9e9ca394464a").is_none());
+}

@@ -1,0 +1,93 @@
+//! Trees and tags that are refused, beside those that are read.
+
+use git_names::Memory;
+use git_objects::{
+    FileMode, TreeEntry, is_entry_name, mode_digits, read_mode, read_tag, read_tree,
+};
+use std::alloc::Global;
+use std::cmp::Ordering;
+use std::test::Fail;
+
+// A file `a`, a file `a.txt` and a directory `a`, each with an object name of twenty letters.
+const THREE: &[u8; 90] =
+    b"100644 a\0oooooooooooooooooooo100644 a.txt\0oooooooooooooooooooo40000 a\0oooooooooooooooooooo";
+
+// The last two of them: `.` is below the slash that a directory's name is compared with.
+const FILE_FIRST: &[u8] = b"100644 a.txt\0oooooooooooooooooooo40000 a\0oooooooooooooooooooo";
+
+// Which texts are trees.
+const TREES: &[(&[u8], bool)] = &[
+    (b"40000 x\0oooooooooooooooooooo", true),
+    (b"040000 x\0oooooooooooooooooooo", false),
+    (THREE, false),
+    (
+        b"100644 a\0oooooooooooooooooooo100644 a.txt\0oooooooooooooooooooo",
+        true,
+    ),
+    (FILE_FIRST, true),
+];
+
+const TAGS: &[(&[u8], bool)] = &[
+    (
+        b"object ce013625030ba8dba906f756967f9e9ca394464a\ntype blob\ntag a.b\n\nx\n",
+        true,
+    ),
+    (
+        b"object ce013625030ba8dba906f756967f9e9ca394464a\ntype blob\ntag a..b\n\nx\n",
+        false,
+    ),
+    (
+        b"object ce013625030ba8dba906f756967f9e9ca394464a\ntype tree\ntag a.b\n\nx\n",
+        false,
+    ),
+];
+
+fn is_tree(alloc: Global, contents: &[u8]) -> Result<bool, Memory> {
+    Ok(read_tree(alloc, contents)?.is_some())
+}
+
+fn is_tag(alloc: Global, contents: &[u8]) -> Result<bool, Memory> {
+    match read_tag(alloc, contents) {
+        Ok(Some(_)) => Ok(true),
+        Ok(None) => Ok(false),
+        Err(memory) => Err(memory),
+    }
+}
+
+fn are_in_order(entries: &[TreeEntry<'_>]) -> bool {
+    match entries {
+        [file, directory] => {
+            file.order(directory) == Ordering::Less
+                && is_entry_name(file.name)
+                && !is_entry_name(b"a/b")
+        }
+        _ => false,
+    }
+}
+
+// Whether a file comes before a directory whose name it begins with.
+fn has_the_file_first(alloc: Global) -> Result<bool, Memory> {
+    match read_tree(alloc, FILE_FIRST)? {
+        Some(entries) => Ok(are_in_order(&entries)),
+        None => Ok(false),
+    }
+}
+
+#[test]
+fn reads_trees_alone(rt: HostRuntime) -> Result<(), Fail> {
+    for (contents, is_well) in TREES {
+        assert!(rt; is_tree(rt.alloc(), contents)? == *is_well, "{contents:?}");
+    }
+    assert!(rt; has_the_file_first(rt.alloc())?);
+    assert!(rt; mode_digits(FileMode::Executable) == b"100755".as_slice());
+    assert!(rt; read_mode(b"160000") == Some(FileMode::Gitlink));
+    Ok(())
+}
+
+#[test]
+fn refuses_tags_of_trees_and_names_of_no_ref(rt: HostRuntime) -> Result<(), Fail> {
+    for (contents, is_well) in TAGS {
+        assert!(rt; is_tag(rt.alloc(), contents)? == *is_well, "{contents:?}");
+    }
+    Ok(())
+}
