@@ -3,7 +3,8 @@ use Rattle.std.proofs.Common.{◌≡◌, ℕ, ◌<◌, sym, ap, ◌∙◌, arith
 use Rattle.std.proofs.lemmas.Bool.{cases_eq}
 use Rattle.content_pool.specs.Pool.{Cells, holds, content, IsLive, HoldsEachOnce, Puts, Releases}
 
--- Contents that are held once each are so in any pool that has no other live slot and the same contents there.
+-- Contents that are held once each are so in any pool that has no other live slot and the same
+-- contents there.
 pub HoldsEachOnce-within : (old new : Cells) → HoldsEachOnce old
     → ((s : ℕ) → IsLive new s → IsLive old s × (content new s ≡ content old s)) → HoldsEachOnce new
 HoldsEachOnce-within old new once before s t live_s live_t same =
@@ -20,7 +21,8 @@ HoldsEachOnce-held old new slot once live puts = HoldsEachOnce-within old new on
     before s live_s =
         elim (cases_eq s slot) [
           | inl same ↦ rw same (live, puts.has)
-          | inr apart ↦ (subst (λ n. 0 < n) (puts.others s apart) live_s, puts.other_contents s apart)
+          | inr apart ↦
+              (subst (λ n. 0 < n) (puts.others s apart) live_s, puts.other_contents s apart)
         ]
 
 -- A live slot after a release was live before it.

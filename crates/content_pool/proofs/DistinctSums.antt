@@ -80,7 +80,8 @@ module _ {K : Type 0} {eq : K → K → Bool} (same : (a b : K) → Decides (eq 
     where
       by : (b c : Bool) → is_member eq xs x ≡ b → eq q x ≡ c
           → is_member eq (unique_keys eq xs) q ≡ is_member eq xs q
-          → is_member eq (cond b (unique_keys eq xs) (x ∷ unique_keys eq xs)) q ≡ (c || is_member eq xs q)
+          → is_member eq (cond b (unique_keys eq xs) (x ∷ unique_keys eq xs)) q
+          ≡ (c || is_member eq xs q)
       by true true m t r = r ∙ ap (is_member eq xs) ((same q x).0 t) ∙ m
       by true false m t r = r
       by false c m t r = rw t (ap (λ v. c || v) r)

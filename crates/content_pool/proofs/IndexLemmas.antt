@@ -54,13 +54,15 @@ times_at_place slots k within =
     let split = sum_by-remove (λ t. cond (t == s) 1 0) slots k 0 within in
     grind (arith, nat_tests, split)
 
-module _ (old new : Buckets) (id : List ℕ) (o : Option (List ℕ)) (updates : (n : List ℕ) → lookup (bytes_eq n) new ≡ cond (bytes_eq id n) o (lookup (bytes_eq n) old)) where
+module _ (old new : Buckets) (id : List ℕ) (o : Option (List ℕ))
+    (updates : (n : List ℕ) → lookup (bytes_eq n) new ≡ cond (bytes_eq id n) o (lookup (bytes_eq n) old)) where
   -- Where one bucket is replaced, every other stays.
   bucket-update : (n : List ℕ) → bucket new n ≡ cond (bytes_eq id n) (unwrap_or o []) (bucket old n)
   bucket-update n = rw updates (by (bytes_eq id n))
     where
       by : (b : Bool)
-          → unwrap_or (cond b o (lookup (bytes_eq n) old)) [] ≡ cond b (unwrap_or o []) (bucket old n)
+          → unwrap_or (cond b o (lookup (bytes_eq n) old)) []
+          ≡ cond b (unwrap_or o []) (bucket old n)
       by true = refl
       by false = refl
 
@@ -69,7 +71,9 @@ module _ (old new : Buckets) (id : List ℕ) (o : Option (List ℕ)) (updates : 
       → ((bytes_eq id n ≡ true) × (times (bucket new n) s ≡ times (unwrap_or o []) s) × (bucket old n ≡ bucket old id)) ⊎ ((bytes_eq id n ≡ false) × (bucket new n ≡ bucket old n))
   times-update n s =
       elim (cases_Bool (bytes_eq id n)) [
-        | inl here ↦ inl (here, ap (λ l. times l s) (bucket-update n ∙ cond-true _ _ _ here), ap (bucket old) (sym ((bytes_decides id n).0 here)))
+        | inl here ↦
+            inl
+            (here, ap (λ l. times l s) (bucket-update n ∙ cond-true _ _ _ here), ap (bucket old) (sym ((bytes_decides id n).0 here)))
         | inr apart ↦ inr (apart, bucket-update n ∙ cond-false _ _ _ apart)
       ]
 
@@ -101,11 +105,14 @@ module _ (old new : Buckets) (id : List ℕ) (o : Option (List ℕ)) (updates : 
   pub SameBuckets-update : unwrap_or o [] ≡ bucket old id → SameBuckets old new
   SameBuckets-update same n =
       elim (cases_Bool (bytes_eq id n)) [
-        | inl here ↦ bucket-update n ∙ cond-true _ _ _ here ∙ same ∙ ap (bucket old) ((bytes_decides id n).0 here)
+        | inl here ↦
+            bucket-update n ∙ cond-true _ _ _ here ∙ same
+            ∙ ap (bucket old) ((bytes_decides id n).0 here)
         | inr apart ↦ bucket-update n ∙ cond-false _ _ _ apart
       ]
 
-module _ (old new : Buckets) (id w : List ℕ) (slot : ℕ) (updates : (n : List ℕ) → lookup (bytes_eq n) new ≡ cond (bytes_eq id n) (Some w) (lookup (bytes_eq n) old)) where
+module _ (old new : Buckets) (id w : List ℕ) (slot : ℕ)
+    (updates : (n : List ℕ) → lookup (bytes_eq n) new ≡ cond (bytes_eq id n) (Some w) (lookup (bytes_eq n) old)) where
   -- A slot put after the others of its bucket is noted.
   pub Notes-push : (b : List ℕ) → Some b ≡ lookup (bytes_eq id) old → w ≡ b ++ slot ∷ []
       → Notes old new id slot

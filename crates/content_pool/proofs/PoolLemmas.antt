@@ -1,4 +1,5 @@
--- Lemmas on the pool's own invariant: what stays true when a count changes, a content is given up or a new one is stored.
+-- Lemmas on the pool's own invariant: what stays true when a count changes, a content is given up
+-- or a new one is stored.
 use Rattle.std.proofs.Common.{◌≡◌, ◌≢◌, ◌⊎◌, ℕ, ◌+◌, ◌<◌, ◌==◌, if◌then◌else◌, false, List, length, get_or, Option, Some, None, IsSome, refl, sym, ap, ◌∙◌, arith, inl, inr, subst, slice_set}
 use Rattle.std.specs.Str.{bytes_eq}
 use Rattle.std.specs.Cmp.Lexicographic.{bytes_decides}
@@ -90,7 +91,8 @@ IsPool-once digest p sound s t live_s live_t same =
     sound.distinct s t e.0 f.0 e.1 f.1
     (sym (content-at p s e.0 e.1) ∙ same ∙ content-at p t f.0 f.1)
 
--- A pool stays sound where each slot that stores something stored the same content before, and is held.
+-- A pool stays sound where each slot that stores something stored the same content before, and is
+-- held.
 pub IsPool-within : (digest : List ℕ → List ℕ) (p q : Cells) → IsPool digest p
     → ((s : ℕ) (e : Stored) → cell q s ≡ Some e → (f : Stored) × (cell p s ≡ Some f) × (content_of e ≡ content_of f) × (e.id ≡ f.id) × (0 < e.holds))
     → IsPool digest q
@@ -104,7 +106,8 @@ IsPool-within digest p q sound before =
           sound.distinct s t b.0 d.0 b.1 d.1 (sym b.2 ∙ same ∙ d.2);
     }
 
-module _ (p q : Cells) (k : ℕ) (e : Stored) (n : ℕ) (was : cell p k ≡ Some e) (w : Writes p q k (Some (record e { holds = n }))) where
+module _ (p q : Cells) (k : ℕ) (e : Stored) (n : ℕ) (was : cell p k ≡ Some e)
+    (w : Writes p q k (Some (record e { holds = n }))) where
   -- A new count that is not 0 keeps a pool sound.
   pub IsPool-recounted : (digest : List ℕ → List ℕ) → IsPool digest p → 0 < n → IsPool digest q
   IsPool-recounted digest sound positive = IsPool-within digest p q sound before
@@ -114,7 +117,8 @@ module _ (p q : Cells) (k : ℕ) (e : Stored) (n : ℕ) (was : cell p k ≡ Some
       before s f is =
           elim (cases_eq s k) [
             | inl same ↦
-                let now : record e { holds = n } ≡ f = same_Some _ _ (sym w.here ∙ ap (cell q) (sym same) ∙ is) in
+                let now : record e { holds = n } ≡ f =
+                same_Some _ _ (sym w.here ∙ ap (cell q) (sym same) ∙ is) in
                 (e, ap (cell p) same ∙ was, sym (ap content_of now), sym (ap (λ (x : Stored). x.id) now), subst (λ (x : Stored). 0 < x.holds) now positive)
             | inr apart ↦
                 let old : cell p s ≡ Some f = sym (w.others s apart) ∙ is in
@@ -173,8 +177,10 @@ module _ (p q : Cells) (k : ℕ) (e : Stored) (was : cell p k ≡ Some e) (w : W
   pub IsIndexed-given_up : (m m' : Buckets) → IsIndexed p m → Forgets m m' e.id k → IsIndexed q m'
   IsIndexed-given_up m m' indexed forgets name s =
       elim (cases_eq s k) [
-        | inl same ↦ rw (same, w.here) (omega (arith, one_at-here e.id name k, forgets.taken name k, at_k))
-        | inr apart ↦ rw (w.others s apart) (omega (arith, one_at-apart e.id name k s apart, forgets.taken name s, indexed name s))
+        | inl same ↦
+            rw (same, w.here) (omega (arith, one_at-here e.id name k, forgets.taken name k, at_k))
+        | inr apart ↦
+            rw (w.others s apart) (omega (arith, one_at-apart e.id name k s apart, forgets.taken name s, indexed name s))
       ]
     where
       at_k : times (bucket m name) k ≡ (if bytes_eq e.id name then 1 else 0)
@@ -192,7 +198,8 @@ module _ (p q : Cells) (k : ℕ) (e : Stored) (was : cell p k ≡ Some e) (w : W
             ];
       }
 
-module _ (p q : Cells) (k : ℕ) (e : Stored) (was : cell p k ≡ None) (w : Writes p q k (Some e)) where
+module _ (p q : Cells) (k : ℕ) (e : Stored) (was : cell p k ≡ None)
+    (w : Writes p q k (Some e)) where
   -- A content that was not held is stored.
   pub IsPool-stored : (digest : List ℕ → List ℕ) → IsPool digest p
       → e.id ≡ name_by digest (content_of e) → e.holds ≡ 1
@@ -214,7 +221,8 @@ module _ (p q : Cells) (k : ℕ) (e : Stored) (was : cell p k ≡ None) (w : Wri
               | inl new_f ↦
                   elim (source t g is_g) [
                     | inl new_g ↦ new_f.0 ∙ sym new_g.0
-                    | inr old_g ↦ absurd (no_other t g old_g (sym same ∙ sym (ap content_of new_f.1)))
+                    | inr old_g ↦
+                        absurd (no_other t g old_g (sym same ∙ sym (ap content_of new_f.1)))
                   ]
               | inr old_f ↦
                   elim (source t g is_g) [
@@ -239,8 +247,10 @@ module _ (p q : Cells) (k : ℕ) (e : Stored) (was : cell p k ≡ None) (w : Wri
   pub IsIndexed-stored : (m m' : Buckets) → IsIndexed p m → Notes m m' e.id k → IsIndexed q m'
   IsIndexed-stored m m' indexed notes name s =
       elim (cases_eq s k) [
-        | inl same ↦ rw (same, w.here) (omega (arith, one_at-here e.id name k, notes.added name k, at_k))
-        | inr apart ↦ rw (w.others s apart) (omega (arith, one_at-apart e.id name k s apart, notes.added name s, indexed name s))
+        | inl same ↦
+            rw (same, w.here) (omega (arith, one_at-here e.id name k, notes.added name k, at_k))
+        | inr apart ↦
+            rw (w.others s apart) (omega (arith, one_at-apart e.id name k s apart, notes.added name s, indexed name s))
       ]
     where
       at_k : times (bucket m name) k ≡ 0
@@ -260,7 +270,8 @@ module _ (p q : Cells) (k : ℕ) (e : Stored) (was : cell p k ≡ None) (w : Wri
 pub times-at : (p : Cells) (m : Buckets) (s : ℕ) (e : Stored) → cell p s ≡ Some e → IsIndexed p m
     → 0 < times (bucket m e.id) s
 times-at p m s e is indexed =
-    let once : times (bucket m e.id) s ≡ (if bytes_eq e.id e.id then 1 else 0) = indexed e.id s ∙ rw is in
+    let once : times (bucket m e.id) s ≡ (if bytes_eq e.id e.id then 1 else 0) =
+    indexed e.id s ∙ rw is in
     omega (arith, rw ((bytes_decides e.id e.id).1 refl) at once)
 
 -- A slot in a bucket stores something.
@@ -285,7 +296,8 @@ held_nowhere digest p m id c sound indexed named nowhere s live same =
     let e = stored_at p s live in
     let is : content_of e.0 ≡ c = sym (content-at p s e.0 e.1) ∙ same in
     let id_is : e.0.id ≡ id = sound.named s e.0 e.1 ∙ ap (name_by digest) is ∙ sym named in
-    let stands : 0 < times (bucket m id) s = subst (λ n. 0 < times (bucket m n) s) id_is (times-at p m s e.0 e.1 indexed) in
+    let stands : 0 < times (bucket m id) s =
+    subst (λ n. 0 < times (bucket m n) s) id_is (times-at p m s e.0 e.1 indexed) in
     let place = place_from_times (bucket m id) s stands in
     nowhere place.0 place.1 (rw place.2 (record { stored = e.0; there = e.1; same = is }))
 

@@ -67,7 +67,8 @@ stored_sizes-same_members cs ds into back =
 
 -- The sizes of a slab's entries are those of its values.
 pub entries-sizes : (key : ℕ) (slots : Cells)
-    → sum_by (λ e. length e.1.bytes) (entries_from key slots) ≡ sum_by (λ e. length e.bytes) (filter_map (λ o. o) slots)
+    → sum_by (λ e. length e.1.bytes) (entries_from key slots)
+    ≡ sum_by (λ e. length e.bytes) (filter_map (λ o. o) slots)
 entries-sizes key [] = refl
 entries-sizes key (None ∷ rest) = entries-sizes (key + 1) rest
 entries-sizes key (Some e ∷ rest) =
@@ -169,7 +170,9 @@ IsDistinct-live_contents (Some e ∷ rest) once =
         let new : is_member same_content (live_contents rest) (content_of e) ≡ false =
         elim (cases_Bool (is_member same_content (live_contents rest) (content_of e))) [
           | inl member ↦
-              let at = listed_live rest (content_of e) ((is_member-Decides same_content-decides (live_contents rest) (content_of e)).0 member) in
+              let at =
+              listed_live rest (content_of e)
+              ((is_member-Decides same_content-decides (live_contents rest) (content_of e)).0 member) in
               absurd
               (omega (arith, once zero (suc at.0) (ltb-true 0 e.holds positive) at.1 (sym at.2)))
           | inr absent ↦ absent
@@ -180,7 +183,8 @@ IsDistinct-live_contents (Some e ∷ rest) once =
 -- What a sound pool stores: the number of its contents, and the sum of their sizes.
 pub stored_sizes-live_contents : (p : Cells)
     → ((s : ℕ) (e : Stored) → cell p s ≡ Some e → 0 < e.holds) → HoldsEachOnce p
-    → stored_sizes (live_contents p) ≡ (count_by is_some p, min (sum_by (λ e. length e.bytes) (filter_map (λ o. o) p)) (2 ^ 64 - 1))
+    → stored_sizes (live_contents p)
+    ≡ (count_by is_some p, min (sum_by (λ e. length e.bytes) (filter_map (λ o. o) p)) (2 ^ 64 - 1))
 unfolding stored_sizes
 stored_sizes-live_contents p counted once =
     let all : unique_keys same_content (live_contents p) ≡ map content_of (filter_map (λ o. o) p) =

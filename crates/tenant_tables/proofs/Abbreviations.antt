@@ -129,7 +129,8 @@ is_digit d k h = by (hex_digit_value d) h
 
 -- one digit, and any other after it, stand for the bytes between two
 one_digit : (d b : ℕ) (X Y : Ordering) → is_hex_digit d ≡ true → within X Y ≡ true
-    → within (ordering_then (nat_cmp (half d * 16 + 0) b) X) (ordering_then (nat_cmp (half d * 16 + 15) b) Y) ≡ stands d (b / 16)
+    → within (ordering_then (nat_cmp (half d * 16 + 0) b) X) (ordering_then (nat_cmp (half d * 16 + 15) b) Y)
+    ≡ stands d (b / 16)
 one_digit d b X Y h rest =
     rw (stands-half d (b / 16) h)
     (elim (cases_eq (half d) (b / 16)) [
@@ -140,8 +141,10 @@ one_digit d b X Y h rest =
       | inr other ↦
           let no_test : nat_eq (half d) (b / 16) ≡ false = grind (arith, nat_tests) in
           elim (cases_lt (half d) (b / 16)) [
-            | inl above ↦ outside (half d * 16 + 0) (half d * 16 + 15) b X Y (inr (omega arith)) ∙ sym no_test
-            | inr below ↦ outside (half d * 16 + 0) (half d * 16 + 15) b X Y (inl (omega arith)) ∙ sym no_test
+            | inl above ↦
+                outside (half d * 16 + 0) (half d * 16 + 15) b X Y (inr (omega arith)) ∙ sym no_test
+            | inr below ↦
+                outside (half d * 16 + 0) (half d * 16 + 15) b X Y (inl (omega arith)) ∙ sym no_test
           ]
     ])
 
@@ -174,13 +177,17 @@ two_digits d e b X Y h g =
               rw high refl
         ] in
         elim (cases_lt (half d * 16 + half e) b) [
-          | inl under ↦ outside (half d * 16 + half e) (half d * 16 + half e) b X Y (inr under) ∙ sym missed
-          | inr over ↦ outside (half d * 16 + half e) (half d * 16 + half e) b X Y (inl (omega arith)) ∙ sym missed
+          | inl under ↦
+              outside (half d * 16 + half e) (half d * 16 + half e) b X Y (inr under) ∙ sym missed
+          | inr over ↦
+              outside (half d * 16 + half e) (half d * 16 + half e) b X Y (inl (omega arith))
+              ∙ sym missed
         ]
 
 -- ---- the two names
 
--- the names between that of the least and that of the greatest digits after the given ones are those that these begin
+-- the names between that of the least and that of the greatest digits after the given ones are
+-- those that these begin
 between : (ds q : List ℕ) → AllPass is_hex_digit ds → All (λ byte. byte < 256) q
     → length ds ≤ 2 * length q
     → lies (bytes_of (padded 48 q ds)) (bytes_of (padded 102 q ds)) q ≡ begins ds q
@@ -192,11 +199,15 @@ between [] (b ∷ q) h bs n =
     let rest = between [] q h (All-tail (λ byte. byte < 256) b q bs) (omega arith) in
     inside 0 255 b _ _ (omega arith) (omega arith) rest
 between (d ∷ []) (b ∷ q) h bs n =
-    let rest = between [] q (All-nil (λ x. is_hex_digit x ≡ true)) (All-tail (λ byte. byte < 256) b q bs) (omega arith) in
+    let rest =
+    between [] q (All-nil (λ x. is_hex_digit x ≡ true)) (All-tail (λ byte. byte < 256) b q bs)
+    (omega arith) in
     one_digit d b _ _ (All-head (λ x. is_hex_digit x ≡ true) d [] h) rest ∙ sym (and_true _)
 between (d ∷ e ∷ ds) (b ∷ q) h bs n =
     let others = All-tail (λ x. is_hex_digit x ≡ true) d (e ∷ ds) h in
-    let rest = between ds q (All-tail (λ x. is_hex_digit x ≡ true) e ds others) (All-tail (λ byte. byte < 256) b q bs) (omega arith) in
+    let rest =
+    between ds q (All-tail (λ x. is_hex_digit x ≡ true) e ds others)
+    (All-tail (λ byte. byte < 256) b q bs) (omega arith) in
     two_digits d e b _ _ (All-head (λ x. is_hex_digit x ≡ true) d (e ∷ ds) h)
     (All-head (λ x. is_hex_digit x ≡ true) e ds others)
     ∙ ap (λ (t : Bool). stands d (b / 16) && (stands e (b % 16) && t)) rest
@@ -208,7 +219,8 @@ unfolding bytes_of padded half
 ascend ds [] n = by ds n
   where
     by : (es : List ℕ) → length es ≤ 0
-        → is_gt (slice_cmp nat_cmp (bytes_of (padded 48 [] es)) (bytes_of (padded 102 [] es))) ≡ false
+        → is_gt (slice_cmp nat_cmp (bytes_of (padded 48 [] es)) (bytes_of (padded 102 [] es)))
+        ≡ false
     by es m = refl
 ascend [] (b ∷ q) n = refl
 ascend (d ∷ []) (b ∷ q) n = rw (less (half d * 16 + 0) (half d * 16 + 15) (omega arith)) refl
@@ -228,7 +240,8 @@ begins-digits (d ∷ e ∷ ds) (b ∷ q) h =
     let parts =
     and_parts (option_eq nat_eq (hex_digit_value d) (Some (b / 16)))
     (option_eq nat_eq (hex_digit_value e) (Some (b % 16)) && begins ds q) h in
-    let more = and_parts (option_eq nat_eq (hex_digit_value e) (Some (b % 16))) (begins ds q) parts.1 in
+    let more =
+    and_parts (option_eq nat_eq (hex_digit_value e) (Some (b % 16))) (begins ds q) parts.1 in
     let rest = begins-digits ds q more.1 in
     let n = rest.1 in (
       All-cons (λ x. is_hex_digit x ≡ true) d (e ∷ ds) (is_digit d (b / 16) parts.0)
@@ -256,7 +269,9 @@ decoded i (a ∷ b ∷ rest) bytes h e =
     let pair =
     paired i a b (All-head (λ x. is_hex_digit x ≡ true) a (b ∷ rest) h)
     (All-head (λ x. is_hex_digit x ≡ true) b rest others) in
-    let more = consed (half a * 16 + half b) (decode_pairs (i + 2) rest) bytes (sym (decode_pairs-ok_pair i a b (half a * 16 + half b) rest pair) ∙ e) in
+    let more =
+    consed (half a * 16 + half b) (decode_pairs (i + 2) rest) bytes
+    (sym (decode_pairs-ok_pair i a b (half a * 16 + half b) rest pair) ∙ e) in
     sym more.2
     ∙ ap (λ (bs : List ℕ). (half a * 16 + half b) ∷ bs)
     (decoded (i + 2) rest more.0 (All-tail (λ x. is_hex_digit x ≡ true) b rest others) more.1)
@@ -299,7 +314,8 @@ text_of c ds bytes e =
     let long = length-append ds (replicate (40 - length ds) c) in
     let more = length-replicate (40 - length ds) c in
     let short : length ds ≤ 40 = omega (arith, len, long, more) in
-    let whole : decode_of (forty c ds) ≡ Ok bytes = sym (decode_sized-twice (forty c ds) 20 len) ∙ e in
+    let whole : decode_of (forty c ds) ≡ Ok bytes =
+    sym (decode_sized-twice (forty c ds) 20 len) ∙ e in
     let ok = decode_of-ok (forty c ds) bytes whole in
     let pairs : decode_pairs 0 (forty c ds) ≡ Ok bytes = sym (decode_of-even (forty c ds) ok.0) ∙ whole in record {
       digits = All-left (λ x. is_hex_digit x ≡ true) ds (replicate (40 - length ds) c) ok.1;

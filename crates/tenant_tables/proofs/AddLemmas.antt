@@ -96,7 +96,8 @@ same_kind Tag Tag = refl
 
 -- ---- the answer
 
--- the fault by the three tests: the contents are too long; whether the object of the name has this content; the table is full
+-- the fault by the three tests: the contents are too long; whether the object of the name has this
+-- content; the table is full
 abbrev pub fault_by : Bool → Option Bool → Bool → Option Fault
 fault_by long there full =
     if long then Some Limit else if unwrap_or there false then None else if full then Some Limit
@@ -104,7 +105,8 @@ fault_by long there full =
 
 pub store_fault-by : (id : List ℕ) (c : Content) (os : List Object) (there : Option Bool)
     → there ≡ option_map (same_content c) (object_named id os)
-    → store_fault id c os ≡ fault_by (nat_lt CONTENTS_LIMIT (length c.bytes)) there (nat_le OBJECTS_LIMIT (length os))
+    → store_fault id c os
+    ≡ fault_by (nat_lt CONTENTS_LIMIT (length c.bytes)) there (nat_le OBJECTS_LIMIT (length os))
 unfolding store_fault
 store_fault-by id c os there is = rw is (by (object_named id os))
   where
@@ -116,7 +118,8 @@ store_fault-by id c os there is = rw is (by (object_named id os))
     by None = refl
     by (Some d) = refl
 
-module _ (id : List ℕ) (c : Content) (os : List Object) (there : Option Bool) (is : there ≡ option_map (same_content c) (object_named id os)) where
+module _ (id : List ℕ) (c : Content) (os : List Object) (there : Option Bool)
+    (is : there ≡ option_map (same_content c) (object_named id os)) where
   by_tests : length c.bytes ≤ CONTENTS_LIMIT
       → store_fault id c os ≡ fault_by false there (nat_le OBJECTS_LIMIT (length os))
   by_tests fits =
@@ -174,7 +177,8 @@ no_entry p id es h = by (entry_named id es) (sym (object_named-objects p id es) 
     by (Some f) e = cc e
 
 objects-push : (p : Cells) (es : Entries) (id : List ℕ) (e : Entry)
-    → objects p (es ++ (id, e) ∷ []) ≡ objects p es ++ record { id = id; content = content p e.slot } ∷ []
+    → objects p (es ++ (id, e) ∷ [])
+    ≡ objects p es ++ record { id = id; content = content p e.slot } ∷ []
 unfolding objects
 objects-push p [] id e = refl
 objects-push p (x ∷ es) id e =
@@ -191,16 +195,19 @@ summary_of-push q es id e none =
     at same = let is : q ≡ id = (bytes_eq-Decides q id).0 same in rw is none
 
     by : (b : Bool) → bytes_eq q id ≡ b
-        → option_and_then (λ f. f.summary) (later (entry_named q es) (cond b (Some e) None)) ≡ cond b e.summary (option_and_then (λ f. f.summary) (entry_named q es))
+        → option_and_then (λ f. f.summary) (later (entry_named q es) (cond b (Some e) None))
+        ≡ cond b e.summary (option_and_then (λ f. f.summary) (entry_named q es))
     by true same = rw (at same) refl
     by false other = ap (option_and_then (λ (f : Entry). f.summary)) (later-none (entry_named q es))
 
-pub record Pushed (digest : List ℕ → List ℕ) (c : Content) (summary : Option Summary) (p : Cells) (old : View) (q : Cells) (new : View) : Type 0 where
+pub record Pushed (digest : List ℕ → List ℕ) (c : Content) (summary : Option Summary) (p : Cells)
+    (old : View) (q : Cells) (new : View) : Type 0 where
   pub stands : StandsIn digest q new.entries
   pub others : LeavesOthers p old.entries q new.entries
   pub adds : Adds digest c summary p old q new
 
-pub pushed : (digest : List ℕ → List ℕ) (id : List ℕ) (c : Content) (summary : Option Summary) (p : Cells) (old : View) (q : Cells) (new : View) (slot : ℕ)
+pub pushed : (digest : List ℕ → List ℕ) (id : List ℕ) (c : Content) (summary : Option Summary)
+    (p : Cells) (old : View) (q : Cells) (new : View) (slot : ℕ)
     → PushesAt id c summary p old q new slot → id ≡ name_by digest c
     → entry_named id old.entries ≡ None → StandsIn digest p old.entries
     → SummedBehind old.entries c summary → length c.bytes ≤ CONTENTS_LIMIT
@@ -231,7 +238,8 @@ pushed digest id c summary p old q new slot h named none stands summed within = 
 
     same : objects q old.entries ++ record { id = id; content = content q slot } ∷ [] ≡ objects p old.entries ++ record { id = id; content = c } ∷ []
     same =
-        let kept = objects-kept p q old.entries (Keeps-put p q slot c old.entries h.puts stands.counted) in
+        let kept =
+        objects-kept p q old.entries (Keeps-put p q slot c old.entries h.puts stands.counted) in
         λ i. kept i ++ record { id = id; content = h.puts.has i } ∷ []
 
 -- ---- an object that is there
@@ -256,7 +264,8 @@ kinds Tag Tag h = refl
 
 contents : (c d : Content) → same_content c d ≡ true → c ≡ d
 contents c d h =
-    let parts = and_parts (bytes_eq (kind_word c.kind) (kind_word d.kind)) (bytes_eq c.bytes d.bytes) h in
+    let parts =
+    and_parts (bytes_eq (kind_word c.kind) (kind_word d.kind)) (bytes_eq c.bytes d.bytes) h in
     let kind = kinds c.kind d.kind parts.0 in
     let bytes = (bytes_eq-Decides c.bytes d.bytes).0 parts.1 in
     λ i. record { kind = kind i; bytes = bytes i }
@@ -270,12 +279,14 @@ there_is p id es c there is h =
     (sym (ap (λ (o : Option Bool). unwrap_or o false) (is ∙ ap (option_map (same_content c)) (object_named-objects p id es))) ∙ h)
   where
     by : (o : Option Entry) → entry_named id es ≡ o
-        → unwrap_or (option_map (same_content c) (option_map (λ e. content p e.slot) o)) false ≡ true
+        → unwrap_or (option_map (same_content c) (option_map (λ e. content p e.slot) o)) false
+        ≡ true
         → (e : Entry) × (entry_named id es ≡ Some e) × (c ≡ content p e.slot)
     by None at lost = cc lost
     by (Some e) at same = (e, at, contents c (content p e.slot) same)
 
-pub found_adds : (digest : List ℕ → List ℕ) (id : List ℕ) (c : Content) (summary : Option Summary) (p : Cells) (old : View) (there : Option Bool)
+pub found_adds : (digest : List ℕ → List ℕ) (id : List ℕ) (c : Content) (summary : Option Summary)
+    (p : Cells) (old : View) (there : Option Bool)
     → there ≡ option_map (same_content c) (object_named id (objects p old.entries))
     → unwrap_or there false ≡ true → id ≡ name_by digest c
     → StandsIn digest p old.entries → SummedBehind old.entries c summary

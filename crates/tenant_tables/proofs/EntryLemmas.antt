@@ -10,14 +10,16 @@ none_either false = refl
 
 -- the first n entries have a key exactly where its position is below n
 pub lookup-take : {K X : Type 0} (test : K → Bool) (n : ℕ) (es : List (K × X))
-    → lookup test (take n es) ≡ cond (nat_lt (position_or_len test (keys_of es)) n) (lookup test es) None
+    → lookup test (take n es)
+    ≡ cond (nat_lt (position_or_len test (keys_of es)) n) (lookup test es) None
 lookup-take test zero es = grind (arith, nat_tests)
 lookup-take {K} {X} test (suc n) [] =
     sym (none_either {X = X} (nat_lt (position_or_len test (keys_of {K = K} {X = X} [])) (suc n)))
 lookup-take test (suc n) (e ∷ es) = by (test e.0) (lookup-take test n es)
   where
     by : (b : Bool)
-        → lookup test (take n es) ≡ cond (nat_lt (position_or_len test (keys_of es)) n) (lookup test es) None
+        → lookup test (take n es)
+        ≡ cond (nat_lt (position_or_len test (keys_of es)) n) (lookup test es) None
         → cond b (Some e.1) (lookup test (take n es))
         ≡ cond (nat_lt (cond (not b) (1 + position_or_len test (keys_of es)) 0) (suc n))
         (cond b (Some e.1) (lookup test es)) None

@@ -119,7 +119,8 @@ any-names q [] = refl
 any-names q (x ∷ es) = by (bytes_eq q x.0) (any-names q es)
   where
     by : (b : Bool) → list_any (bytes_eq q) (names es) ≡ is_some (lookup (bytes_eq q) es)
-        → (b || list_any (bytes_eq q) (names es)) ≡ is_some (cond b (Some x.1) (lookup (bytes_eq q) es))
+        → (b || list_any (bytes_eq q) (names es))
+        ≡ is_some (cond b (Some x.1) (lookup (bytes_eq q) es))
     by true h = refl
     by false h = h
 
@@ -156,7 +157,8 @@ in_all Committed table q h =
     (lookup-take (bytes_eq q) table.committed table.entries) h
   where
     by : (b : Bool)
-        → lookup (bytes_eq q) (take table.committed table.entries) ≡ cond b (lookup (bytes_eq q) table.entries) None
+        → lookup (bytes_eq q) (take table.committed table.entries)
+        ≡ cond b (lookup (bytes_eq q) table.entries) None
         → is_some (lookup (bytes_eq q) (take table.committed table.entries)) ≡ true
         → is_some (lookup (bytes_eq q) table.entries) ≡ true
     by true e g = sym (ap is_some e) ∙ g
@@ -206,7 +208,8 @@ found_by_index ds first last sight table index indexed sorted bounds =
     range = filter lies index.keys
 
     left : (q : List ℕ)
-        → list_any (bytes_eq q) (filter (is_seen sight table) range) ≡ (is_seen sight table q && (lies q && is_some (entry_named q table.entries)))
+        → list_any (bytes_eq q) (filter (is_seen sight table) range)
+        ≡ (is_seen sight table q && (lies q && is_some (entry_named q table.entries)))
     left q =
         any-filter q (is_seen sight table) range
         ∙ ap (λ (t : Bool). is_seen sight table q && t)
@@ -214,7 +217,8 @@ found_by_index ds first last sight table index indexed sorted bounds =
         ∙ ap (λ (t : Bool). lies q && t) (sym (ap (λ (test : List ℕ → Bool). list_any test index.keys) (is_name q)) ∙ indexed.same q))
 
     right : (q : List ℕ)
-        → list_any (bytes_eq q) (filter (begins ds) (names (in_sight sight table))) ≡ (begins ds q && is_seen sight table q)
+        → list_any (bytes_eq q) (filter (begins ds) (names (in_sight sight table)))
+        ≡ (begins ds q && is_seen sight table q)
     right q =
         any-filter q (begins ds) (names (in_sight sight table))
         ∙ ap (λ (t : Bool). begins ds q && t) (any-names q (in_sight sight table))
@@ -229,7 +233,8 @@ found_by_index ds first last sight table index indexed sorted bounds =
         (bounds.between q (named_at table.entries q indexed.named there))
 
     same : (q : List ℕ)
-        → list_any (bytes_eq q) (filter (is_seen sight table) range) ≡ list_any (bytes_eq q) (filter (begins ds) (names (in_sight sight table)))
+        → list_any (bytes_eq q) (filter (is_seen sight table) range)
+        ≡ list_any (bytes_eq q) (filter (begins ds) (names (in_sight sight table)))
     same q =
         left q ∙ ap (λ (t : Bool). t && (lies q && is_some (entry_named q table.entries))) refl
         ∙ by q (is_seen sight table q) refl ∙ sym (right q)

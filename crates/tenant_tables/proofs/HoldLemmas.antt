@@ -112,11 +112,15 @@ pub held-absent : (digest : List ℕ → List ℕ) (p : Cells) (es : Entries) (i
     → entry_named id es ≡ None → id ≡ name_by digest (content p s) → held es s ≡ 0
 held-absent digest p [] id s h none e = held-nil s
 held-absent digest p (x ∷ es) id s h none e =
-    let rest = held-absent digest p es id s (All-tail (IsNamed digest p) x es h) (named_later id x es none) e in
+    let rest =
+    held-absent digest p es id s (All-tail (IsNamed digest p) x es h)
+    (named_later id x es none) e in
     elim (cases_eq x.1.slot s) [
       | inl here ↦
-          let named : x.0 ≡ name_by digest (content p x.1.slot) = All-head (IsNamed digest p) x es h in
-          let there : id ≡ x.0 = e ∙ ap (λ (t : ℕ). name_by digest (content p t)) (sym here) ∙ sym named in
+          let named : x.0 ≡ name_by digest (content p x.1.slot) =
+          All-head (IsNamed digest p) x es h in
+          let there : id ≡ x.0 =
+          e ∙ ap (λ (t : ℕ). name_by digest (content p t)) (sym here) ∙ sym named in
           let some = named_first id x es there in
           let no : Some x.1 ≡ None = sym some ∙ none in
           cc no
@@ -132,6 +136,7 @@ object_named-objects p id (x ∷ es) = by (bytes_eq id x.0) (object_named-object
   where
     by : (b : Bool)
         → object_named id (objects p es) ≡ option_map (λ e. content p e.slot) (entry_named id es)
-        → cond b (Some (content p x.1.slot)) (object_named id (objects p es)) ≡ option_map (λ e. content p e.slot) (cond b (Some x.1) (lookup (bytes_eq id) es))
+        → cond b (Some (content p x.1.slot)) (object_named id (objects p es))
+        ≡ option_map (λ e. content p e.slot) (cond b (Some x.1) (lookup (bytes_eq id) es))
     by true h = refl
     by false h = h

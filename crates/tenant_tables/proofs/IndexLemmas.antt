@@ -34,13 +34,15 @@ later (Some x) o = Some x
 later None o = o
 
 pub entry_named-push : (q : List ℕ) (es : Entries) (id : List ℕ) (e : Entry)
-    → entry_named q (es ++ (id, e) ∷ []) ≡ later (entry_named q es) (cond (bytes_eq q id) (Some e) None)
+    → entry_named q (es ++ (id, e) ∷ [])
+    ≡ later (entry_named q es) (cond (bytes_eq q id) (Some e) None)
 unfolding entry_named
 entry_named-push q [] id e = refl
 entry_named-push q (x ∷ es) id e = by (bytes_eq q x.0) (entry_named-push q es id e)
   where
     by : (b : Bool)
-        → lookup (bytes_eq q) (es ++ (id, e) ∷ []) ≡ later (lookup (bytes_eq q) es) (cond (bytes_eq q id) (Some e) None)
+        → lookup (bytes_eq q) (es ++ (id, e) ∷ [])
+        ≡ later (lookup (bytes_eq q) es) (cond (bytes_eq q id) (Some e) None)
         → cond b (Some x.1) (lookup (bytes_eq q) (es ++ (id, e) ∷ []))
         ≡ later (cond b (Some x.1) (lookup (bytes_eq q) es)) (cond (bytes_eq q id) (Some e) None)
     by true h = refl
@@ -54,7 +56,8 @@ is_some-later None true x = refl
 is_some-later None false x = refl
 
 pub is_some-push : (q : List ℕ) (es : Entries) (id : List ℕ) (e : Entry)
-    → is_some (entry_named q (es ++ (id, e) ∷ [])) ≡ cond (bytes_eq q id) true (is_some (entry_named q es))
+    → is_some (entry_named q (es ++ (id, e) ∷ []))
+    ≡ cond (bytes_eq q id) true (is_some (entry_named q es))
 is_some-push q es id e =
     ap is_some (entry_named-push q es id e) ∙ is_some-later (entry_named q es) (bytes_eq q id) e
 
@@ -66,7 +69,8 @@ at_name id q = is_eq-slice_cmp id q ∙ nat_list_eq_equiv.symm id q
 changed : (b : Bool) (id : List ℕ) (old new : BTreeSet (List ℕ))
     → UpdatesBy (slice_cmp nat_cmp) (slice_cmp nat_cmp id) old new b
     → (q : List ℕ)
-    → contains (slice_cmp nat_cmp) new q ≡ cond (bytes_eq q id) b (contains (slice_cmp nat_cmp) old q)
+    → contains (slice_cmp nat_cmp) new q
+    ≡ cond (bytes_eq q id) b (contains (slice_cmp nat_cmp) old q)
 changed b id old new h q =
     h.0 q ∙ ap (λ (t : Bool). cond t b (contains (slice_cmp nat_cmp) old q)) (at_name id q)
 

@@ -71,7 +71,9 @@ IsSummed-push p es id e h new i jd f at =
       | inr past ↦
           elim (cases_eq i (length es)) [
             | inl last ↦
-                let same : (id, e) ≡ (jd, f) = cc (sym (slice_get-pushed es (id, e)) ∙ ap (slice_get (es ++ (id, e) ∷ [])) (sym last) ∙ at) in
+                let same : (id, e) ≡ (jd, f) =
+                cc
+                (sym (slice_get-pushed es (id, e)) ∙ ap (slice_get (es ++ (id, e) ∷ [])) (sym last) ∙ at) in
                 subst (λ (front : Entries). SummedBehind front (content p f.slot) f.summary)
                 (sym (ap (λ (n : ℕ). take n (es ++ (id, e) ∷ [])) last ∙ take-append_seam es ((id, e) ∷ [])))
                 (subst (λ (y : List ℕ × Entry). SummedBehind es (content p y.1.slot) y.1.summary) same new)
@@ -128,7 +130,9 @@ summaries-take n es (r ∷ rows) h =
 FitsTree-same : (n : ℕ) (es : Entries) (bytes : List ℕ) (s t : Summary)
     → FitsTree (take n es) bytes s → FitsTree es bytes t → s ≡ t
 FitsTree-same n es bytes s t f g =
-    let rows : f.0 ≡ g.0 = tree_contents-injective f.0 g.0 f.1.writable g.1.writable (sym f.1.contents ∙ g.1.contents) in
+    let rows : f.0 ≡ g.0 =
+    tree_contents-injective f.0 g.0 f.1.writable g.1.writable
+    (sym f.1.contents ∙ g.1.contents) in
     f.1.sums ∙ ap (fold both no_files) (summaries-take n es f.0 f.1.directories)
     ∙ ap (tree_summary es) rows ∙ sym g.1.sums
 

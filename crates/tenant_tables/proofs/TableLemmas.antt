@@ -74,7 +74,8 @@ Keeps-release p q slot es h counted =
 
 -- ---- one entry more
 
-pub StandsIn-put : (digest : List ℕ → List ℕ) (p q : Cells) (es : Entries) (id : List ℕ) (e : Entry) (c : Content)
+pub StandsIn-put : (digest : List ℕ → List ℕ) (p q : Cells) (es : Entries) (id : List ℕ) (e : Entry)
+    (c : Content)
     → StandsIn digest p es → Puts p q e.slot c → id ≡ name_by digest c → entry_named id es ≡ None
     → SummedBehind es c e.summary → length c.bytes ≤ CONTENTS_LIMIT
     → StandsIn digest q (es ++ (id, e) ∷ [])
@@ -108,7 +109,8 @@ StandsIn-put digest p q es id e c h puts named none summed within =
     once : (s : ℕ) → held (es ++ (id, e) ∷ []) s ≤ 1
     once s =
         elim (cases_eq e.slot s) [
-          | inl here ↦ let z = rw here at fresh in rw (held-push es id e s) (grind (arith, nat_tests, z))
+          | inl here ↦
+              let z = rw here at fresh in rw (held-push es id e s) (grind (arith, nat_tests, z))
           | inr other ↦ let n = h.once s in rw (held-push es id e s) (grind (arith, nat_tests, n))
         ]
 
@@ -116,8 +118,10 @@ StandsIn-put digest p q es id e c h puts named none summed within =
     counted s =
         let n = h.counted s in
         elim (cases_eq s e.slot) [
-          | inl here ↦ let m = puts.held in rw (held-push es id e s) (grind (arith, nat_tests, n, m))
-          | inr other ↦ let m = puts.others s other in rw (held-push es id e s) (grind (arith, nat_tests, n, m))
+          | inl here ↦
+              let m = puts.held in rw (held-push es id e s) (grind (arith, nat_tests, n, m))
+          | inr other ↦
+              let m = puts.others s other in rw (held-push es id e s) (grind (arith, nat_tests, n, m))
         ]
 
 pub LeavesOthers-put : (p q : Cells) (es : Entries) (id : List ℕ) (e : Entry) (c : Content)
@@ -129,19 +133,22 @@ LeavesOthers-put p q es id e c puts = record { rest = rest; kept = kept }
     rest s =
         elim (cases_eq s e.slot) [
           | inl here ↦ let m = puts.held in rw (held-push es id e s) (grind (arith, nat_tests, m))
-          | inr other ↦ let m = puts.others s other in rw (held-push es id e s) (grind (arith, nat_tests, m))
+          | inr other ↦
+              let m = puts.others s other in rw (held-push es id e s) (grind (arith, nat_tests, m))
         ]
 
     kept : (s : ℕ) → held es s < holds p s → content q s ≡ content p s
     kept s more =
         elim (cases_eq s e.slot) [
-          | inl here ↦ let live = live_here p e.slot s here (omega arith) in rw here (puts.has ∙ sym (puts.had live))
+          | inl here ↦
+              let live = live_here p e.slot s here (omega arith) in rw here (puts.has ∙ sym (puts.had live))
           | inr other ↦ puts.other_contents s other
         ]
 
 -- ---- one entry less
 
-pub StandsIn-release : (digest : List ℕ → List ℕ) (p q : Cells) (es : Entries) (id : List ℕ) (e : Entry)
+pub StandsIn-release : (digest : List ℕ → List ℕ) (p q : Cells) (es : Entries) (id : List ℕ)
+    (e : Entry)
     → StandsIn digest p (es ++ (id, e) ∷ []) → Releases p q e.slot → StandsIn digest q es
 StandsIn-release digest p q es id e h releases =
     let k = Keeps-release p q e.slot es releases counted in record {
@@ -169,8 +176,10 @@ LeavesOthers-release p q es id e releases = record { rest = rest; kept = kept }
     rest : (s : ℕ) → holds q s + held (es ++ (id, e) ∷ []) s ≡ holds p s + held es s
     rest s =
         elim (cases_eq s e.slot) [
-          | inl here ↦ let m = releases.held in rw (held-push es id e s) (grind (arith, nat_tests, m))
-          | inr other ↦ let m = releases.others s other in rw (held-push es id e s) (grind (arith, nat_tests, m))
+          | inl here ↦
+              let m = releases.held in rw (held-push es id e s) (grind (arith, nat_tests, m))
+          | inr other ↦
+              let m = releases.others s other in rw (held-push es id e s) (grind (arith, nat_tests, m))
         ]
 
     kept : (s : ℕ) → held (es ++ (id, e) ∷ []) s < holds p s → content q s ≡ content p s
@@ -225,7 +234,8 @@ last_live digest p es fs id e is h =
     grind (arith, nat_tests, n, m)
 
 -- without it the others stand
-pub last_given_up : (digest : List ℕ → List ℕ) (p q : Cells) (es fs : Entries) (id : List ℕ) (e : Entry)
+pub last_given_up : (digest : List ℕ → List ℕ) (p q : Cells) (es fs : Entries) (id : List ℕ)
+    (e : Entry)
     → es ≡ fs ++ (id, e) ∷ []
     → StandsIn digest p es → Releases p q e.slot → StandsIn digest q fs × LeavesOthers p es q fs
 last_given_up digest p q es fs id e is h releases = (
@@ -249,7 +259,8 @@ objects-take p n es =
     sym (take-map (λ (e : List ℕ × Entry). record { id = e.0; content = content p e.1.slot }) n es)
 
 -- and they stay the same
-pub last_objects : (digest : List ℕ → List ℕ) (p q : Cells) (es fs : Entries) (id : List ℕ) (e : Entry)
+pub last_objects : (digest : List ℕ → List ℕ) (p q : Cells) (es fs : Entries) (id : List ℕ)
+    (e : Entry)
     → es ≡ fs ++ (id, e) ∷ []
     → StandsIn digest p es → Releases p q e.slot
     → objects q fs ≡ take (length es - 1) (objects p es)

@@ -22,7 +22,9 @@ same_before end (x ∷ xs) [] rs ss h g e =
 same_before end (x ∷ xs) (y ∷ ys) rs ss h g e =
     let first : x ≡ y = cc e in
     let others : xs ++ end ∷ rs ≡ ys ++ end ∷ ss = cc e in
-    let rest = same_before end xs ys rs ss (All-tail (λ x. x ≢ end) x xs h) (All-tail (λ y. y ≢ end) y ys g) others in
+    let rest =
+    same_before end xs ys rs ss (All-tail (λ x. x ≢ end) x xs h)
+    (All-tail (λ y. y ≢ end) y ys g) others in
     (λ i. first i ∷ rest.0 i, rest.1)
 
 -- two texts of one length
@@ -100,7 +102,9 @@ text_then e rest =
 entries : (e f : TreeEntry) (rs ss : List ℕ) → CanWriteEntry e → CanWriteEntry f
     → entry_text e ++ rs ≡ entry_text f ++ ss → (e ≡ f) × (rs ≡ ss)
 entries e f rs ss h g eq =
-    let a = modes e.mode f.mode (e.name ++ 0 ∷ (e.id ++ rs)) (f.name ++ 0 ∷ (f.id ++ ss)) (sym (text_then e rs) ∙ eq ∙ text_then f ss) in
+    let a =
+    modes e.mode f.mode (e.name ++ 0 ∷ (e.id ++ rs)) (f.name ++ 0 ∷ (f.id ++ ss))
+    (sym (text_then e rs) ∙ eq ∙ text_then f ss) in
     let b = same_before 0 e.name f.name (e.id ++ rs) (f.id ++ ss) h.name.no_nul g.name.no_nul a.1 in
     let c = same_long e.id f.id rs ss (h.id.size ∙ sym g.id.size) b.1 in
     (λ i. record { mode = a.0 i; name = b.0 i; id = c.0 i }, c.1)
@@ -123,8 +127,11 @@ same_entries [] [] h g eq = refl
 same_entries [] (f ∷ fs) h g eq = absurd (text_there f (tree_contents fs) eq)
 same_entries (e ∷ es) [] h g eq = absurd (text_there e (tree_contents es) (sym eq))
 same_entries (e ∷ es) (f ∷ fs) h g eq =
-    let a = entries e f (tree_contents es) (tree_contents fs) (All-head CanWriteEntry e es h) (All-head CanWriteEntry f fs g) eq in
-    let b = same_entries es fs (All-tail CanWriteEntry e es h) (All-tail CanWriteEntry f fs g) a.1 in
+    let a =
+    entries e f (tree_contents es) (tree_contents fs) (All-head CanWriteEntry e es h)
+    (All-head CanWriteEntry f fs g) eq in
+    let b =
+    same_entries es fs (All-tail CanWriteEntry e es h) (All-tail CanWriteEntry f fs g) a.1 in
     λ i. a.0 i ∷ b i
 
 pub tree_contents-injective : (es fs : List TreeEntry) → CanWriteTree es → CanWriteTree fs

@@ -9,5 +9,6 @@ returns-in-Some c = λ s.
 
 pub returns-in_default : goal.returns-in_default
 returns-in_default c =
-    let none : times c.args.self.now c.args.slot ≡ 0 = rw (← c.self.view_is) (times_from_absent c.self.inside.slots.items c.args.slot (sym (rw c.as_slice.ensures at c.index_of.ensures) ∙ c.in_default.is)) in
+    let none : times c.args.self.now c.args.slot ≡ 0 =
+    rw (← c.self.view_is) (times_from_absent c.self.inside.slots.items c.args.slot (sym (rw c.as_slice.ensures at c.index_of.ensures) ∙ c.in_default.is)) in
     absurd (omega (arith, c.requires))

@@ -5,7 +5,8 @@ use Rattle.content_pool.proofs.pool.Pool.get.Goals as goal
 
 pub index-stored-requires : goal.index-stored-requires
 index-stored-requires g c =
-    let live : IsLive c.self.inside.cells.slots c.slot.inside.key = rw (c.self.view_is, c.slot.view_is) c.requires in
+    let live : IsLive c.self.inside.cells.slots c.slot.inside.key =
+    rw (c.self.view_is, c.slot.view_is) c.requires in
     let e = stored_at c.self.inside.cells.slots c.slot.inside.key live in
     subst (λ o. IsSome o) (sym e.1) refl
 

@@ -17,8 +17,10 @@ pub invariant_of-self-2 : goal.invariant_of-self-2
 invariant_of-self-2 g c =
     let same = ap (λ s. s.slots) c.reserve.ensures.rest_kept in
     let told = c.insert_reserved.ensures.key ∙ sym c.vacant_key-key.ensures.value in
-    let w = Writes-behind c.self.inside.cells _ _ _ _ _ same told c.insert_reserved.ensures.updates in
-    let was = ap (λ p. cell p c.vacant_key-key.result) (sym same) ∙ c.vacant_key-key.ensures.vacant in
+    let w =
+    Writes-behind c.self.inside.cells _ _ _ _ _ same told c.insert_reserved.ensures.updates in
+    let was =
+    ap (λ p. cell p c.vacant_key-key.result) (sym same) ∙ c.vacant_key-key.ensures.vacant in
     let absent = rw (← c.self.view_is) at c.requires.absent in (
       IsPool-stored _ _ _ _ was w _ c.self.invariant.0 c.requires.named refl absent,
       IsIndexed-stored _ _ _ _ was w _ _ c.self.invariant.1 c.in_ok-note.ensures.ok,
@@ -28,15 +30,19 @@ pub returns-clause-puts : goal.returns-clause-puts
 returns-clause-puts g c =
     let same = ap (λ s. s.slots) c.reserve.ensures.rest_kept in
     let told = c.insert_reserved.ensures.key ∙ sym c.vacant_key-key.ensures.value in
-    let w = Writes-behind c.self.inside.cells _ _ _ _ _ same told c.insert_reserved.ensures.updates in
-    let was = ap (λ p. cell p c.vacant_key-key.result) (sym same) ∙ c.vacant_key-key.ensures.vacant in
+    let w =
+    Writes-behind c.self.inside.cells _ _ _ _ _ same told c.insert_reserved.ensures.updates in
+    let was =
+    ap (λ p. cell p c.vacant_key-key.result) (sym same) ∙ c.vacant_key-key.ensures.vacant in
     rw (← c.self.view_is) (Puts-stored _ _ _ _ was w refl)
 
 pub returns-clause-once : goal.returns-clause-once
 returns-clause-once g c =
     let same = ap (λ s. s.slots) c.reserve.ensures.rest_kept in
     let told = c.insert_reserved.ensures.key ∙ sym c.vacant_key-key.ensures.value in
-    let w = Writes-behind c.self.inside.cells _ _ _ _ _ same told c.insert_reserved.ensures.updates in
-    let was = ap (λ p. cell p c.vacant_key-key.result) (sym same) ∙ c.vacant_key-key.ensures.vacant in
+    let w =
+    Writes-behind c.self.inside.cells _ _ _ _ _ same told c.insert_reserved.ensures.updates in
+    let was =
+    ap (λ p. cell p c.vacant_key-key.result) (sym same) ∙ c.vacant_key-key.ensures.vacant in
     let absent = rw (← c.self.view_is) at c.requires.absent in
     IsPool-once _ _ (IsPool-stored _ _ _ _ was w _ c.self.invariant.0 c.requires.named refl absent)

@@ -13,9 +13,12 @@ pub invariant_of-self-2 : goal.invariant_of-self-2
 unfolding entry_named
 invariant_of-self-2 g c =
     let is = c.in-Some.ensures.entries in
-    let seen : c.self.inside.objects.entries ≡ c.args.self.now.entries = ap (λ (v : View). v.entries) c.self.view_is in
-    let prefix : c.self.inside.committed ≡ c.args.self.now.committed = ap (λ (v : View). v.committed) c.self.view_is in
-    let beyond : c.self.inside.committed < length c.self.inside.objects.entries = rw (prefix, seen) c.requires.open in
+    let seen : c.self.inside.objects.entries ≡ c.args.self.now.entries =
+    ap (λ (v : View). v.entries) c.self.view_is in
+    let prefix : c.self.inside.committed ≡ c.args.self.now.committed =
+    ap (λ (v : View). v.committed) c.self.view_is in
+    let beyond : c.self.inside.committed < length c.self.inside.objects.entries =
+    rw (prefix, seen) c.requires.open in
     IsTable-pop _ _ _ _ _ _ (rw is at c.self.invariant)
     (rw is at beyond) c.in-Some.ensures.updates.1 c.remove.ensures.updates c.in-Some.ensures.unique
 

@@ -13,7 +13,8 @@ unfolding entry_named
 grown g c =
     let added : Entry = record { slot = c.in-Ok.slot; summary = c.args.summary } in
     let same = c.in_ok-reserve.ensures.entries in
-    let seen : c.self.inside.objects.entries ≡ c.args.self.now.entries = ap (λ (v : View). v.entries) c.self.view_is in
+    let seen : c.self.inside.objects.entries ≡ c.args.self.now.entries =
+    ap (λ (v : View). v.entries) c.self.view_is in
     let put = rw c.unwrap.ensures at c.insert-in-Ok.ensures.entries in
     let none = rw (sym (same ∙ seen)) at c.requires.new in
     put ∙ insert_entry-new _ c.reserve.new.self c.args.id added none
@@ -21,14 +22,16 @@ grown g c =
 
 pub invariant_of-self-in-Ok : goal.invariant_of-self-in-Ok
 invariant_of-self-in-Ok g c =
-    let seen : c.self.inside.objects.entries ≡ c.args.self.now.entries = ap (λ (v : View). v.entries) c.self.view_is in
+    let seen : c.self.inside.objects.entries ≡ c.args.self.now.entries =
+    ap (λ (v : View). v.entries) c.self.view_is in
     rw (grown g c)
     (IsTable-push _ _ _ _ _ _ c.self.invariant (rw seen c.requires.spare) c.has_twenty_bytes.ensures c.in_ok-insert.ensures.updates
     (rw (grown g c) at c.insert-in-Ok.ensures.unique))
 
 pub invariant_of-self-in-Err : goal.invariant_of-self-in-Err
 invariant_of-self-in-Err g c =
-    let seen : c.self.inside.objects.entries ≡ c.args.self.now.entries = ap (λ (v : View). v.entries) c.self.view_is in
+    let seen : c.self.inside.objects.entries ≡ c.args.self.now.entries =
+    ap (λ (v : View). v.entries) c.self.view_is in
     rw c.in_ok-reserve.ensures.entries
     (IsTable-put_back _ _ _ _ _ _ c.self.invariant (rw seen c.requires.new) c.in_ok-insert.ensures.updates c.remove.ensures.updates)
 
