@@ -26,19 +26,25 @@ refusals text (Err Memory) a =
     ((λ e. cc, λ h. let other = (read_ident-BadIdentity text).1 h in let well = a.1 in cc), (λ e. cc, λ h. let other = (read_ident-BadDate text).1 h in let well = a.1 in cc))
 
 -- no fault is found where, and only where, the text is an ident
-pub faultless : (text : List ℕ) (o : Option IdentFault) (b : Bool) → IsFaultOf text o → is_some o ≡ not b → (IsTrue b → IsIdent text) × (IsIdent text → IsTrue b)
+pub faultless : (text : List ℕ) (o : Option IdentFault) (b : Bool) → IsFaultOf text o
+    → is_some o ≡ not b → (IsTrue b → IsIdent text) × (IsIdent text → IsTrue b)
 faultless text None b well e = (λ _. (read_ident-Ok text).0 well, λ _. not-false b (sym e))
-faultless text (Some BadIdentity) b bad e = (λ t. let f = not-true b (sym e) in cc, λ ident. let well = (read_ident-Ok text).1 ident in cc)
-faultless text (Some BadDate) b bad e = (λ t. let f = not-true b (sym e) in cc, λ ident. let well = (read_ident-Ok text).1 ident in cc)
+faultless text (Some BadIdentity) b bad e =
+    (λ t. let f = not-true b (sym e) in cc, λ ident. let well = (read_ident-Ok text).1 ident in cc)
+faultless text (Some BadDate) b bad e =
+    (λ t. let f = not-true b (sym e) in cc, λ ident. let well = (read_ident-Ok text).1 ident in cc)
 faultless text (Some Memory) b bad e = absurd bad
 
 -- the seconds of an ident are a number
-pub time_is : (text rest : List ℕ) (o : Option ℕ) (n : ℕ) → IsIdent text → Some rest ≡ behind_person text
-    → o ≡ number_of (take (prefix_len is_ascii_digit rest) rest) → n ≡ unwrap_or o 0 → n ≡ ident_time text
+pub time_is : (text rest : List ℕ) (o : Option ℕ) (n : ℕ) → IsIdent text
+    → Some rest ≡ behind_person text
+    → o ≡ number_of (take (prefix_len is_ascii_digit rest) rest) → n ≡ unwrap_or o 0
+    → n ≡ ident_time text
 unfolding ident_time read_ident
 time_is text rest o n ident behind read e =
     let date : is_date rest ≡ true = dated (sym behind) ((read_ident-Ok text).1 ident) in
     e ∙ ap (λ (s : Option ℕ). unwrap_or s 0) (read ∙ seconds-read rest date) ∙ ap seconds_at behind
   where
-    dated : behind_person text ≡ Some rest → read_ident text ≡ Ok (written_ident text) → is_date rest ≡ true
+    dated : behind_person text ≡ Some rest → read_ident text ≡ Ok (written_ident text)
+        → is_date rest ≡ true
     dated found well = with_date-Ok text rest (ap (with_date text) (sym found) ∙ well)
