@@ -12,7 +12,8 @@ some_is x y h = cc
 abbrev pub parts : List ℕ → List ℕ → Option (List ℕ × List ℕ)
 parts bytes rest = Some (bytes, rest)
 
-pub parts_are : (bytes rest others end : List ℕ) → parts bytes rest ≡ parts others end → (bytes ≡ others) × (rest ≡ end)
+pub parts_are : (bytes rest others end : List ℕ) → parts bytes rest ≡ parts others end
+    → (bytes ≡ others) × (rest ≡ end)
 parts_are bytes rest others end h =
     let both : ◌≡◌ {A = List ℕ × List ℕ} (bytes, rest) (others, end) = some_is _ _ h in
     (ap (λ (p : List ℕ × List ℕ). p.0) both, ap (λ (p : List ℕ × List ℕ). p.1) both)

@@ -15,16 +15,23 @@ cut : (b : ℕ) (bytes : List ℕ) → components_of (b ∷ bytes) ≡ slice_spl
 cut b bytes = refl
 
 -- bytes without a slash are one component
-pub one_component : (bytes : List ℕ) → 0 < length bytes → All (λ b. b ≢ 47) bytes → components_of bytes ≡ bytes ∷ []
+pub one_component : (bytes : List ℕ) → 0 < length bytes → All (λ b. b ≢ 47) bytes
+    → components_of bytes ≡ bytes ∷ []
 one_component [] some none = absurd (omega arith)
-one_component (b ∷ bytes) some none = slice_split_none is_slash (b ∷ bytes) (no_test (b ∷ bytes) none)
+one_component (b ∷ bytes) some none =
+    slice_split_none is_slash (b ∷ bytes) (no_test (b ∷ bytes) none)
 
 -- what stands behind a slash of a path has its components by cutting
-behind_slash : (name rest : List ℕ) → IsPath (name ∷ slice_split is_slash rest) → slice_split is_slash rest ≡ components_of rest
-behind_slash name [] h = absurd ((All-head IsComponent [] [] (All-tail IsComponent name ([] ∷ []) h)).entry_name.not_empty refl)
+behind_slash : (name rest : List ℕ) → IsPath (name ∷ slice_split is_slash rest)
+    → slice_split is_slash rest ≡ components_of rest
+behind_slash name [] h =
+    absurd
+    ((All-head IsComponent [] [] (All-tail IsComponent name ([] ∷ []) h)).entry_name.not_empty refl)
 behind_slash name (b ∷ rest) h = refl
 
-cut_bytes : (name rest : List ℕ) → All (λ b. b ≢ 47) name → IsPath (slice_split is_slash (name ++ 47 ∷ rest)) → slice_split is_slash (name ++ 47 ∷ rest) ≡ name ∷ components_of rest
+cut_bytes : (name rest : List ℕ) → All (λ b. b ≢ 47) name
+    → IsPath (slice_split is_slash (name ++ 47 ∷ rest))
+    → slice_split is_slash (name ++ 47 ∷ rest) ≡ name ∷ components_of rest
 cut_bytes name rest none h =
     let at = slice_split_at is_slash name 47 rest (no_test name none) refl in
     at ∙ ap (λ (others : List (List ℕ)). name ∷ others) (behind_slash name rest (subst IsPath at h))
@@ -35,17 +42,22 @@ cut_some [] some = absurd (omega arith)
 cut_some (b ∷ bytes) some = refl
 
 -- the component before the first slash, and those behind it
-pub first_component : (bytes : List ℕ) (at : ℕ) → at < length bytes → get_or bytes at 0 ≡ 47 → ((k : ℕ) → k < at → get_or bytes k 0 ≢ 47) → IsPath (components_of bytes)
+pub first_component : (bytes : List ℕ) (at : ℕ) → at < length bytes → get_or bytes at 0 ≡ 47
+    → ((k : ℕ) → k < at → get_or bytes k 0 ≢ 47) → IsPath (components_of bytes)
     → components_of bytes ≡ take at bytes ∷ components_of (drop (at + 1) bytes)
 first_component bytes at within slash first is =
     let whole : bytes ≡ take at bytes ++ 47 ∷ drop (at + 1) bytes =
-    sym (take-append-drop at bytes) ∙ ap (λ (t : List ℕ). take at bytes ++ t) (drop-cons bytes at 0 within)
+    sym (take-append-drop at bytes)
+    ∙ ap (λ (t : List ℕ). take at bytes ++ t) (drop-cons bytes at 0 within)
     ∙ rw (add-one, slash) refl in
     let none : All (λ b. b ≢ 47) (take at bytes) =
-    All-from_get_or (λ b. b ≢ 47) (take at bytes) 0 (λ k lt. let below : k < at = omega (arith, length-take at bytes) in rw (get_or-take at bytes k 0 below) (first k below)) in
+    All-from_get_or (λ b. b ≢ 47) (take at bytes) 0
+    (λ k lt. let below : k < at = omega (arith, length-take at bytes) in rw (get_or-take at bytes k 0 below) (first k below)) in
     let parts = cut_some bytes (omega arith) in
-    let split : slice_split is_slash bytes ≡ slice_split is_slash (take at bytes ++ 47 ∷ drop (at + 1) bytes) = ap (slice_split is_slash) whole in
-    parts ∙ split ∙ cut_bytes (take at bytes) (drop (at + 1) bytes) none (subst IsPath (parts ∙ split) is)
+    let split : slice_split is_slash bytes ≡ slice_split is_slash (take at bytes ++ 47 ∷ drop (at + 1) bytes) =
+    ap (slice_split is_slash) whole in
+    parts ∙ split
+    ∙ cut_bytes (take at bytes) (drop (at + 1) bytes) none (subst IsPath (parts ∙ split) is)
 
 -- a component is a path of its own
 pub name_alone : (name : List ℕ) → IsComponent name → components_of name ≡ name ∷ []
@@ -53,4 +65,5 @@ name_alone [] h = absurd (h.entry_name.not_empty refl)
 name_alone (b ∷ name) h = one_component (b ∷ name) (omega arith) h.entry_name.no_slash
 
 pub IsPath-name : (name : List ℕ) → IsComponent name → IsPath (components_of name)
-IsPath-name name h = subst IsPath (sym (name_alone name h)) (All-cons IsComponent name [] h (All-nil IsComponent))
+IsPath-name name h =
+    subst IsPath (sym (name_alone name h)) (All-cons IsComponent name [] h (All-nil IsComponent))

@@ -12,23 +12,31 @@ joined-components_of [] = refl
 joined-components_of (b ∷ bytes) = join_with_byte-slice_split 47 (b ∷ bytes)
 
 -- bytes that are there have one component more than slashes
-pub length-components_of : (bytes : List ℕ) → eqb (length bytes) 0 ≡ false → length (components_of bytes) ≡ count_by is_slash bytes + 1
+pub length-components_of : (bytes : List ℕ) → eqb (length bytes) 0 ≡ false
+    → length (components_of bytes) ≡ count_by is_slash bytes + 1
 length-components_of [] some = absurd cc
 length-components_of (b ∷ bytes) some = length-slice_split is_slash (b ∷ bytes)
 
 -- they are components where the parts between the slashes are
-pub is_path-components_of : (bytes : List ℕ) → eqb (length bytes) 0 ≡ false → is_path (components_of bytes) ≡ list_all is_component (slice_split is_slash bytes)
+pub is_path-components_of : (bytes : List ℕ) → eqb (length bytes) 0 ≡ false
+    → is_path (components_of bytes) ≡ list_all is_component (slice_split is_slash bytes)
 is_path-components_of [] some = absurd cc
 is_path-components_of (b ∷ bytes) some = refl
 
 no_slash : (name : List ℕ) → IsComponent name → All (λ b. is_slash b ≡ false) name
-no_slash name h = All-weaker (λ b. b ≢ 47) (λ b. is_slash b ≡ false) (λ b ne. ne_eqb b 47 ne) name h.entry_name.no_slash
+no_slash name h =
+    All-weaker (λ b. b ≢ 47) (λ b. is_slash b ≡ false)
+    (λ b ne. ne_eqb b 47 ne) name h.entry_name.no_slash
 
-split-joined : (name : List ℕ) (path : List (List ℕ)) → IsPath (name ∷ path) → slice_split is_slash (joined (name ∷ path)) ≡ name ∷ path
-split-joined name [] h = slice_split_none is_slash name (no_slash name (All-head IsComponent name [] h))
+split-joined : (name : List ℕ) (path : List (List ℕ)) → IsPath (name ∷ path)
+    → slice_split is_slash (joined (name ∷ path)) ≡ name ∷ path
+split-joined name [] h =
+    slice_split_none is_slash name (no_slash name (All-head IsComponent name [] h))
 split-joined name (next ∷ path) h =
-    slice_split_at is_slash name 47 (joined (next ∷ path)) (no_slash name (All-head IsComponent name (next ∷ path) h)) refl
-    ∙ ap (λ (rest : List (List ℕ)). name ∷ rest) (split-joined next path (All-tail IsComponent name (next ∷ path) h))
+    slice_split_at is_slash name 47 (joined (next ∷ path))
+    (no_slash name (All-head IsComponent name (next ∷ path) h)) refl
+    ∙ ap (λ (rest : List (List ℕ)). name ∷ rest)
+    (split-joined next path (All-tail IsComponent name (next ∷ path) h))
 
 -- bytes that are there have components by cutting
 cut : (bytes : List ℕ) → bytes ≢ [] → components_of bytes ≡ slice_split is_slash bytes
@@ -44,4 +52,6 @@ some_joined (b ∷ name) (next ∷ path) some e = cc
 pub components_of-joined : (path : List (List ℕ)) → IsPath path → components_of (joined path) ≡ path
 components_of-joined [] h = refl
 components_of-joined (name ∷ path) h =
-    cut (joined (name ∷ path)) (some_joined name path (All-head IsComponent name path h).entry_name.not_empty) ∙ split-joined name path h
+    cut (joined (name ∷ path))
+    (some_joined name path (All-head IsComponent name path h).entry_name.not_empty)
+    ∙ split-joined name path h

@@ -12,14 +12,16 @@ use Rattle.git_paths.specs.Order.{path_cmp}
 use Rattle.git_paths.proofs.Joined.{components_of-joined}
 
 same_path : (p q : List (List ℕ)) → IsPath p → IsPath q → joined p ≡ joined q → p ≡ q
-same_path p q is_p is_q e = sym (components_of-joined p is_p) ∙ ap components_of e ∙ components_of-joined q is_q
+same_path p q is_p is_q e =
+    sym (components_of-joined p is_p) ∙ ap components_of e ∙ components_of-joined q is_q
 
 same_from : (a b : Bool) → (a ≡ true → b ≡ true) → (b ≡ true → a ≡ true) → a ≡ b
 same_from true b to from = sym (to refl)
 same_from false true to from = from refl
 same_from false false to from = refl
 
-pub same_test : (p q : List (List ℕ)) → IsPath p → IsPath q → pointwise nat_eq (joined p) (joined q) ≡ pointwise (pointwise nat_eq) p q
+pub same_test : (p q : List (List ℕ)) → IsPath p → IsPath q
+    → pointwise nat_eq (joined p) (joined q) ≡ pointwise (pointwise nat_eq) p q
 same_test p q is_p is_q =
     same_from _ _
     (λ h. (pointwise_decides bytes_decides p q).1 (same_path p q is_p is_q ((bytes_decides (joined p) (joined q)).0 h)))
@@ -30,9 +32,12 @@ then_tied Less s tied = refl
 then_tied Equal s tied = sym (tied refl)
 then_tied Greater s tied = refl
 
-pub same_order : (p q : List (List ℕ)) → IsPath p → IsPath q → slice_cmp nat_cmp (joined p) (joined q) ≡ path_cmp p q
+pub same_order : (p q : List (List ℕ)) → IsPath p → IsPath q
+    → slice_cmp nat_cmp (joined p) (joined q) ≡ path_cmp p q
 same_order p q is_p is_q =
     then_tied (slice_cmp nat_cmp (joined p) (joined q)) (slice_cmp (slice_cmp nat_cmp) p q)
     (λ h.
-    let same = same_path p q is_p is_q (slice_cmp-IsAntisymmetric nat_cmp-IsAntisymmetric (joined p) (joined q) h) in
+    let same =
+    same_path p q is_p is_q
+    (slice_cmp-IsAntisymmetric nat_cmp-IsAntisymmetric (joined p) (joined q) h) in
     ap (slice_cmp (slice_cmp nat_cmp) p) (sym same) ∙ tied_itself (lists_total nat_list_cmp_total) p)

@@ -21,7 +21,8 @@ quoted-plain bytes none = rw none refl
 
 -- ---- a letter that is printed means its byte
 
-found_at : (b : ℕ) (es : List (ℕ × ℕ)) → AllByRecursion (λ e. byte_of_letter e.0 ≡ Some e.1) es → (e : ℕ × ℕ) → find (λ e. eqb e.1 b) es ≡ Some e → (e.1 ≡ b) × (byte_of_letter e.0 ≡ Some e.1)
+found_at : (b : ℕ) (es : List (ℕ × ℕ)) → AllByRecursion (λ e. byte_of_letter e.0 ≡ Some e.1) es
+    → (e : ℕ × ℕ) → find (λ e. eqb e.1 b) es ≡ Some e → (e.1 ≡ b) × (byte_of_letter e.0 ≡ Some e.1)
 found_at b [] h e is = absurd cc
 found_at b (x ∷ es) h e is =
     by_cases (eqb x.1 b)
@@ -32,7 +33,8 @@ each_letter : AllByRecursion (λ e. byte_of_letter e.0 ≡ Some e.1) letters
 unfolding byte_of_letter
 each_letter = (refl, (refl, (refl, (refl, (refl, (refl, (refl, (refl, (refl, tt)))))))))
 
-letter_found : (b l : ℕ) (o : Option (ℕ × ℕ)) → find (λ e. eqb e.1 b) letters ≡ o → option_map (λ e. e.0) o ≡ Some l → byte_of_letter l ≡ Some b
+letter_found : (b l : ℕ) (o : Option (ℕ × ℕ)) → find (λ e. eqb e.1 b) letters ≡ o
+    → option_map (λ e. e.0) o ≡ Some l → byte_of_letter l ≡ Some b
 letter_found b l None is h = absurd cc
 letter_found b l (Some e) is h =
     let m = found_at b letters each_letter e is in
@@ -56,42 +58,52 @@ plain_byte b h =
     let each = or_false (eqb b 34) (eqb b 92) both in
     (eqb-false b 34 each.0, eqb-false b 92 each.1)
 
-digits_of : (b : ℕ) → b < 256 → (octal_value (48 + b / 64) (48 + b / 8 % 8) (48 + b % 8) ≡ b) × (b / 64 < 8)
+digits_of : (b : ℕ) → b < 256
+    → (octal_value (48 + b / 64) (48 + b / 8 % 8) (48 + b % 8) ≡ b) × (b / 64 < 8)
 digits_of b lt =
     let eighths : b / 8 / 8 ≡ b / 64 = div-div-eq-div-mul b 8 8 in
     (omega (arith, eighths), omega arith)
 
-octal_means : (b : ℕ) (inside bytes : List ℕ) → b < 256 → Quotes inside bytes → Quotes (92 ∷ (48 + b / 64) ∷ (48 + b / 8 % 8) ∷ (48 + b % 8) ∷ inside) (b ∷ bytes)
+octal_means : (b : ℕ) (inside bytes : List ℕ) → b < 256 → Quotes inside bytes
+    → Quotes (92 ∷ (48 + b / 64) ∷ (48 + b / 8 % 8) ∷ (48 + b % 8) ∷ inside) (b ∷ bytes)
 octal_means b inside bytes lt q =
     let d = digits_of b lt in
     let x : IsOctal (48 + b / 64) = record { from_zero = omega arith; to_seven = omega (arith, d.1) } in
     let y : IsOctal (48 + b / 8 % 8) = record { from_zero = omega arith; to_seven = omega arith } in
     let z : IsOctal (48 + b % 8) = record { from_zero = omega arith; to_seven = omega arith } in
-    subst (λ (n : ℕ). Quotes (92 ∷ (48 + b / 64) ∷ (48 + b / 8 % 8) ∷ (48 + b % 8) ∷ inside) (n ∷ bytes)) d.0
+    subst
+    (λ (n : ℕ). Quotes (92 ∷ (48 + b / 64) ∷ (48 + b / 8 % 8) ∷ (48 + b % 8) ∷ inside) (n ∷ bytes)) d.0
     (octal (48 + b / 64) (48 + b / 8 % 8) (48 + b % 8) inside bytes x y z (omega (arith, d.0)) q)
 
-escape_by_means : (b : ℕ) (inside bytes : List ℕ) → b < 256 → Quotes inside bytes → (o : Option ℕ) → letter_of_byte b ≡ o → Quotes (escape_by b o ++ inside) (b ∷ bytes)
-escape_by_means b inside bytes lt q (Some l) is = letter l b inside bytes (byte_of_letter-letter_of_byte b l is) q
+escape_by_means : (b : ℕ) (inside bytes : List ℕ) → b < 256 → Quotes inside bytes → (o : Option ℕ)
+    → letter_of_byte b ≡ o → Quotes (escape_by b o ++ inside) (b ∷ bytes)
+escape_by_means b inside bytes lt q (Some l) is =
+    letter l b inside bytes (byte_of_letter-letter_of_byte b l is) q
 escape_by_means b inside bytes lt q None is =
     by_cases (is_special b)
     (λ yea. rw yea (octal_means b inside bytes lt q))
     (λ nay. let p = plain_byte b nay in rw nay (itself b inside bytes p.0 p.1 q))
 
-escape_means : (b : ℕ) (inside bytes : List ℕ) → b < 256 → Quotes inside bytes → Quotes (escape b ++ inside) (b ∷ bytes)
+escape_means : (b : ℕ) (inside bytes : List ℕ) → b < 256 → Quotes inside bytes
+    → Quotes (escape b ++ inside) (b ∷ bytes)
 unfolding escape
 escape_means b inside bytes lt q = escape_by_means b inside bytes lt q (letter_of_byte b) refl
 
-Quotes-printed : (bytes : List ℕ) → AllByRecursion (λ b. b < 256) bytes → Quotes (flat_map escape bytes) bytes
+Quotes-printed : (bytes : List ℕ) → AllByRecursion (λ b. b < 256) bytes
+    → Quotes (flat_map escape bytes) bytes
 Quotes-printed [] h = nothing
-Quotes-printed (b ∷ bytes) h = escape_means b (flat_map escape bytes) bytes h.0 (Quotes-printed bytes h.1)
+Quotes-printed (b ∷ bytes) h =
+    escape_means b (flat_map escape bytes) bytes h.0 (Quotes-printed bytes h.1)
 
 -- ---- the printed bytes are written as the last path
 
 first_plain : (bytes : List ℕ) → list_any is_special bytes ≡ false → IsUnquoted bytes
 first_plain [] h = tt
-first_plain (b ∷ bytes) h = (plain_byte b (or_false (is_special b) (list_any is_special bytes) h).0).0
+first_plain (b ∷ bytes) h =
+    (plain_byte b (or_false (is_special b) (list_any is_special bytes) h).0).0
 
-pub Writes-quoted : (bytes : List ℕ) → All (λ b. b < 256) bytes → Writes Last (quoted bytes) bytes []
+pub Writes-quoted : (bytes : List ℕ) → All (λ b. b < 256) bytes
+    → Writes Last (quoted bytes) bytes []
 unfolding quoted
 Writes-quoted bytes are_bytes =
     by_cases (list_any is_special bytes)
@@ -103,9 +115,13 @@ pub joined_bytes : (path : List (List ℕ)) → IsPath path → All (λ b. b < 2
 joined_bytes [] h = All-nil (λ b. b < 256)
 joined_bytes (name ∷ []) h = (All-head IsComponent name [] h).of_bytes
 joined_bytes (name ∷ next ∷ path) h =
-    All-append (λ b. b < 256) name (47 ∷ joined (next ∷ path)) (All-head IsComponent name (next ∷ path) h).of_bytes
+    All-append (λ b. b < 256) name (47 ∷ joined (next ∷ path))
+    (All-head IsComponent name (next ∷ path) h).of_bytes
     (All-cons (λ b. b < 256) 47 (joined (next ∷ path)) (lit< tt) (joined_bytes (next ∷ path) (All-tail IsComponent name (next ∷ path) h)))
 
 -- a path that is printed is read as the same path
-pub printed_is_read : (path : List (List ℕ)) → IsPath path → IsWithinLimits path → path_at Last (quoted (joined path)) ≡ Ok (path, [])
-printed_is_read path is limits = path_at-Writes Last (quoted (joined path)) path [] is limits (Writes-quoted (joined path) (joined_bytes path is))
+pub printed_is_read : (path : List (List ℕ)) → IsPath path → IsWithinLimits path
+    → path_at Last (quoted (joined path)) ≡ Ok (path, [])
+printed_is_read path is limits =
+    path_at-Writes Last (quoted (joined path)) path [] is limits
+    (Writes-quoted (joined path) (joined_bytes path is))

@@ -13,4 +13,5 @@ returns-else-is_empty c =
     all_from_yields_List is_component _ _ _ c.all.ensures.ran
     (YieldsList-from_slice_split _ is_slash c.args.bytes.now c.split.ensures.rest c.split.ensures.done c.split.ensures.closure (λ x r q k. search (rules, tests)))
     (λ x r q k. search (rules, tests)) in
-    parts ∙ sym (is_path-components_of c.args.bytes.now (sym c.is_empty.ensures ∙ c.if-is_empty.false))
+    parts
+    ∙ sym (is_path-components_of c.args.bytes.now (sym c.is_empty.ensures ∙ c.if-is_empty.false))

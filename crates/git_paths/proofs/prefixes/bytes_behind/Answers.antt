@@ -10,7 +10,8 @@ returns-in_err-rest c =
 pub returns-in-empty : goal.returns-in-empty
 returns-in-empty c =
     let cases = c.in_ok-rest.ensures.cases in
-    sym (same_as c.args.top.now c.args.bytes.now c.in_ok-rest.rest.now c.requires.top c.requires.path cases.0 cases.1 c.in-empty.len_below)
+    sym
+    (same_as c.args.top.now c.args.bytes.now c.in_ok-rest.rest.now c.requires.top c.requires.path cases.0 cases.1 c.in-empty.len_below)
 
 pub returns-then-first-eq47 : goal.returns-then-first-eq47
 returns-then-first-eq47 c =
@@ -21,4 +22,5 @@ returns-then-first-eq47 c =
 pub returns-else-first-eq47 : goal.returns-else-first-eq47
 returns-else-first-eq47 c =
     let cases = c.in_ok-rest.ensures.cases in
-    sym (beside c.args.top.now c.args.bytes.now c.in_ok-rest.rest.now (sym c.is_empty.ensures ∙ c.if-is_empty.false) cases.0 cases.1 c.in-len1-up.len_at_least c.if-first-eq47.false)
+    sym
+    (beside c.args.top.now c.args.bytes.now c.in_ok-rest.rest.now (sym c.is_empty.ensures ∙ c.if-is_empty.false) cases.0 cases.1 c.in-len1-up.len_at_least c.if-first-eq47.false)

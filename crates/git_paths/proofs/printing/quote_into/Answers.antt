@@ -10,5 +10,7 @@ use Rattle.git_paths.proofs.printing.quote_into.Goals as goal
 pub returns-then-not-any-clause-ok : goal.returns-then-not-any-clause-ok
 returns-then-not-any-clause-ok c =
     let special : c.any.result ≡ list_any is_special c.args.bytes.now =
-    any_from_yields_List is_special _ _ c.any.result c.any.ensures.ran (YieldsList-from_slice c.args.bytes.now c.iter.ensures.rest) (λ x b q k. search (rules, tests)) in
+    any_from_yields_List is_special _ _ c.any.result c.any.ensures.ran
+    (YieldsList-from_slice c.args.bytes.now c.iter.ensures.rest)
+    (λ x b q k. search (rules, tests)) in
     rw (quoted-plain c.args.bytes.now (sym special ∙ c.if-not-any.true)) (search rules)

@@ -13,4 +13,5 @@ returns-then-first-eq34 c =
     rw (bytes_at-quote c.args.place c.args.text.now c.in-len1-up.len_at_least c.if-first-eq34.true) (rw (rest_of 1 c.args.text.now) at c.read_quoted.ensures)
 
 pub returns-else-first-eq34 : goal.returns-else-first-eq34
-returns-else-first-eq34 c = rw (bytes_at-other c.args.place c.args.text.now c.if-first-eq34.false) c.read_unquoted-else-first-eq34.ensures
+returns-else-first-eq34 c =
+    rw (bytes_at-other c.args.place c.args.text.now c.if-first-eq34.false) c.read_unquoted-else-first-eq34.ensures

@@ -4,5 +4,7 @@ use Rattle.git_paths.proofs.path.Path.behind.Goals as goal
 
 pub of-requires : goal.of-requires
 of-requires c =
-    let path : IsPath (components_of c.deref-2.result.now) = rw c.deref-2.ensures.value c.self.invariant in
-    IsPath-behind (components_of c.deref.result.now) (components_of c.deref-2.result.now) (components_of c.in_ok-rest.rest.now) path c.in_ok-rest.ensures
+    let path : IsPath (components_of c.deref-2.result.now) =
+    rw c.deref-2.ensures.value c.self.invariant in
+    IsPath-behind (components_of c.deref.result.now) (components_of c.deref-2.result.now)
+    (components_of c.in_ok-rest.rest.now) path c.in_ok-rest.ensures

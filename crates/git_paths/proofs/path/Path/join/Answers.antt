@@ -15,4 +15,5 @@ returns c =
     let bytes = c.in_ok-join_bytes.field-0.items in
     let is : bytes ≡ joined_both (joined c.args.self.now) (joined c.args.rest.now) =
     rw (← c.as_bytes.ensures.bytes, ← c.as_bytes-2.ensures.bytes) c.in_ok-join_bytes.ensures in
-    c.of.ensures.value ∙ components_of-both bytes c.args.self.now c.args.rest.now c.as_bytes.ensures.path c.as_bytes-2.ensures.path is
+    c.of.ensures.value
+    ∙ components_of-both bytes c.args.self.now c.args.rest.now c.as_bytes.ensures.path c.as_bytes-2.ensures.path is

@@ -5,7 +5,8 @@ use Rattle.git_paths.proofs.Found.{found, path_at-Writes}
 use Rattle.git_paths.proofs.path.Path.read.Goals as goal
 
 pub returns-clause-found : goal.returns-clause-found
-returns-clause-found c = found c.args.place c.args.text.now c.read_from.result c.read_from.ensures.exact c.read_from.ensures.path
+returns-clause-found c =
+    found c.args.place c.args.text.now c.read_from.result c.read_from.ensures.exact c.read_from.ensures.path
 
 pub returns-clause-only : goal.returns-clause-only
 returns-clause-only c = λ path rest begins.
