@@ -15,16 +15,20 @@ pub nothing_written : (old : Option (List ℕ)) (bytes : List ℕ) → IsWritten
 nothing_written old bytes = record { front = []; parts = refl; appends = Appends-nil old }
 
 -- A call took the first n of the bytes that were left.
-pub more_written : (old mid new : Option (List ℕ)) (bytes left : List ℕ) (n : ℕ) → IsWrittenSoFar old mid bytes left
+pub more_written : (old mid new : Option (List ℕ)) (bytes left : List ℕ) (n : ℕ)
+    → IsWrittenSoFar old mid bytes left
     → Appends mid new (take n left) → IsWrittenSoFar old new bytes (drop n left)
 more_written old mid new bytes left n w a = record {
   front = w.front ++ take n left;
-  parts = w.parts ∙ ap (λ l. w.front ++ l) (sym (take-append-drop n left)) ∙ sym (append_assoc w.front (take n left) (drop n left));
+  parts =
+      w.parts ∙ ap (λ l. w.front ++ l) (sym (take-append-drop n left))
+      ∙ sym (append_assoc w.front (take n left) (drop n left));
   appends = Appends-trans old mid new w.front (take n left) w.appends a;
 }
 
 -- A call took nothing of the bytes that were left.
-pub none_written : (old mid new : Option (List ℕ)) (bytes left : List ℕ) → IsWrittenSoFar old mid bytes left
+pub none_written : (old mid new : Option (List ℕ)) (bytes left : List ℕ)
+    → IsWrittenSoFar old mid bytes left
     → Keeps mid new → AppendsFront old new bytes
 none_written old mid new bytes left w k = record {
   front = w.front;
@@ -40,17 +44,21 @@ Keeps-Appends (Some x) None a = absurd a
 Keeps-Appends (Some x) (Some y) a = a ∙ append-nil x
 
 -- Nothing is left.
-pub all_written : (old new : Option (List ℕ)) (bytes left : List ℕ) → IsWrittenSoFar old new bytes left → left ≡ []
+pub all_written : (old new : Option (List ℕ)) (bytes left : List ℕ)
+    → IsWrittenSoFar old new bytes left → left ≡ []
     → Appends old new bytes
 all_written old new bytes left w none =
-    subst (λ bs. Appends old new bs) (sym (w.parts ∙ ap (λ l. w.front ++ l) none ∙ append-nil w.front)) w.appends
+    subst (λ bs. Appends old new bs)
+    (sym (w.parts ∙ ap (λ l. w.front ++ l) none ∙ append-nil w.front)) w.appends
 
 -- A write that took something is no fault.
-some_taken : (E : Type 0) (faults : ℕ) (left : List ℕ) (n : ℕ) → (n ≡ 0 → ⊥) → faults_after_write {E = E} faults left (Ok n) ≡ faults
+some_taken : (E : Type 0) (faults : ℕ) (left : List ℕ) (n : ℕ) → (n ≡ 0 → ⊥)
+    → faults_after_write {E = E} faults left (Ok n) ≡ faults
 some_taken E faults [] n some = refl
 some_taken E faults (byte ∷ bytes) zero some = absurd (some refl)
 some_taken E faults (byte ∷ bytes) (suc n) some = refl
 
-pub taken_is_well : {E : Type 0} (faults : ℕ) (left : List ℕ) (r : Result ℕ E) (n : ℕ) → r ≡ Ok n → (n ≡ 0 → ⊥)
+pub taken_is_well : {E : Type 0} (faults : ℕ) (left : List ℕ) (r : Result ℕ E) (n : ℕ) → r ≡ Ok n
+    → (n ≡ 0 → ⊥)
     → faults_after_write faults left r ≡ faults
 taken_is_well {E} faults left r n is some = rw is (some_taken E faults left n some)

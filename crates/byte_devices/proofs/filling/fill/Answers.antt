@@ -8,7 +8,8 @@ pub loop-filled-init : goal.loop-filled-init
 loop-filled-init g c = (
   omega arith,
   refl,
-  well_none _ (let a = c.passed-passed.type_inv in let b = c.passed-passed.ensures in omega (arith, a, b)),
+  well_none _
+      (let a = c.passed-passed.type_inv in let b = c.passed-passed.ensures in omega (arith, a, b)),
   (λ i. let t = c.type_inv.room i in omega (arith, t)),
 )
 
@@ -18,11 +19,16 @@ returns-in-Ok-eq0-clause-fills g c =
     let front = c.split_at_mut.result.0.now in (
       front,
       record {
-        lacks = let a = length-append front c.read.new.buf in let b = c.read.auto.buf in let d = c.loop-filled-test.true in
+        lacks =
+            let a =
+            length-append front c.read.new.buf in let b =
+            c.read.auto.buf in let d = c.loop-filled-test.true in
             let e = c.split_at_mut.ensures.front_len in let f = c.split_at_mut.ensures.back_len in omega (arith, a, b, d, e, f);
-        small = small_front front c.read.new.buf (λ i. let t = c.type_inv.room i in omega (arith, t));
+        small =
+            small_front front c.read.new.buf (λ i. let t = c.type_inv.room i in omega (arith, t));
       },
-      room_ends _ (seen (g.R.Read.remaining (device_of c.loop-filled.reader)) c.loop-filled.reader) _ c.loop-filled.room front c.read.new.buf c.loop-filled.filled
+      room_ends _
+          (seen (g.R.Read.remaining (device_of c.loop-filled.reader)) c.loop-filled.reader) _ c.loop-filled.room front c.read.new.buf c.loop-filled.filled
           c.split_at_mut.ensures.front c.loop-filled.invariant.2
           (one_empty _ _ c.in-Ok-eq0.field-0 c.read.new.buf none c.in-Ok-eq0.ensures.bytes.0 c.in-Ok-eq0.ensures.passed c.in-Ok-eq0.ensures.faults)
           (c.in-Ok-eq0.ensures.bytes.1 none
@@ -37,7 +43,8 @@ loop-filled-preserved g c =
     let h = c.in-Ok.ensures.bound.0 in let i = c.loop-filled.invariant.0 in let j = c.loop-filled.invariant.1 in (
       omega (arith, a, b, e, f, h, i, j),
       omega (arith, a, b, e, f, i, j),
-      room_more _ (seen (g.R.Read.remaining (device_of c.loop-filled.reader)) c.loop-filled.reader) _ c.loop-filled.room front c.read.new.buf
+      room_more _
+          (seen (g.R.Read.remaining (device_of c.loop-filled.reader)) c.loop-filled.reader) _ c.loop-filled.room front c.read.new.buf
           c.loop-filled.filled c.in-Ok.n c.split_at_mut.ensures.front e c.loop-filled.invariant.2
           (one_well _ _ c.in-Ok.n c.read.new.buf c.in-Ok.ensures.bound.1 c.in-Ok.ensures.bytes.0 c.in-Ok.ensures.passed c.in-Ok.ensures.faults),
       (λ i. let t = c.type_inv.room i in omega (arith, t)),
@@ -48,11 +55,16 @@ returns-in-Err-clause-fills g c =
     let front = c.split_at_mut.result.0.now in (
       front,
       record {
-        lacks = let a = length-append front c.read.new.buf in let b = c.read.auto.buf in let d = c.loop-filled-test.true in
+        lacks =
+            let a =
+            length-append front c.read.new.buf in let b =
+            c.read.auto.buf in let d = c.loop-filled-test.true in
             let e = c.split_at_mut.ensures.front_len in let f = c.split_at_mut.ensures.back_len in omega (arith, a, b, d, e, f);
-        small = small_front front c.read.new.buf (λ i. let t = c.type_inv.room i in omega (arith, t));
+        small =
+            small_front front c.read.new.buf (λ i. let t = c.type_inv.room i in omega (arith, t));
       },
-      room_fails _ (seen (g.R.Read.remaining (device_of c.loop-filled.reader)) c.loop-filled.reader) _ c.loop-filled.room front c.loop-filled.filled
+      room_fails _
+          (seen (g.R.Read.remaining (device_of c.loop-filled.reader)) c.loop-filled.reader) _ c.loop-filled.room front c.loop-filled.filled
           c.split_at_mut.ensures.front c.loop-filled.invariant.2 c.in-Err.ensures.bytes c.in-Err.ensures.passed c.in-Err.ensures.faults,
     )
 

@@ -8,6 +8,7 @@ loop-left-preserved g c = (
   rw c.split_at.ensures.back
       (more_written _ _ _ _ _ _ c.loop-left.invariant.0 c.in-Ok.ensures.bytes),
   c.write.ensures.faults
-      ∙ taken_is_well (faults_of c.loop-left.writer) c.loop-left.left.now c.write.result c.in-Ok.taken c.in-Ok.is c.in-Ok.taken-test.1
+      ∙ taken_is_well
+      (faults_of c.loop-left.writer) c.loop-left.left.now c.write.result c.in-Ok.taken c.in-Ok.is c.in-Ok.taken-test.1
       ∙ c.loop-left.invariant.1,
 )

@@ -10,5 +10,6 @@ decreases-loop-left g l = length l.left
 -- What stands before `left` is written, and no call failed.
 abbrev pub invariant-loop-left : goal.invariant-loop-left
 invariant-loop-left g l =
-    IsWrittenSoFar (g.W.Write.contents (device_of l.fn.writer)) (g.W.Write.contents (device_of l.writer)) l.fn.bytes l.left
+    IsWrittenSoFar (g.W.Write.contents (device_of l.fn.writer))
+    (g.W.Write.contents (device_of l.writer)) l.fn.bytes l.left
     × (faults_of l.writer ≡ faults_of l.fn.writer)
