@@ -9,14 +9,18 @@ use Rattle.std.proofs.lemmas.List.Quantifiers.{position-Some}
 use Rattle.git_objects.specs.Fronts.{IsFront}
 
 -- what stands before the place, the byte there, and what stands after it
-parts_at : (end : ℕ) (xs : List ℕ) (i : ℕ) → position (λ byte. byte == end) xs ≡ Some i → xs ≡ (take i xs ++ end ∷ []) ++ drop (i + 1) xs
+parts_at : (end : ℕ) (xs : List ℕ) (i : ℕ) → position (λ byte. byte == end) xs ≡ Some i
+    → xs ≡ (take i xs ++ end ∷ []) ++ drop (i + 1) xs
 parts_at end xs i h =
     let found = position-Some (λ byte. byte == end) xs i 0 h in
     let within : i < length xs = found.0 in
     let is : get_or xs i 0 ≡ end = eqb-true (get_or xs i 0) end found.1 in
-    sym (take-append-drop i xs) ∙ ap (λ rest. take i xs ++ rest) (drop_more xs i 0 within ∙ ap (λ b. b ∷ drop (i + 1) xs) is) ∙ sym (append_assoc (take i xs) (end ∷ []) (drop (i + 1) xs))
+    sym (take-append-drop i xs)
+    ∙ ap (λ rest. take i xs ++ rest) (drop_more xs i 0 within ∙ ap (λ b. b ∷ drop (i + 1) xs) is)
+    ∙ sym (append_assoc (take i xs) (end ∷ []) (drop (i + 1) xs))
 
-none_before : (end : ℕ) (xs : List ℕ) (i : ℕ) → position (λ byte. byte == end) xs ≡ Some i → All (λ byte. byte ≢ end) (take i xs)
+none_before : (end : ℕ) (xs : List ℕ) (i : ℕ) → position (λ byte. byte == end) xs ≡ Some i
+    → All (λ byte. byte ≢ end) (take i xs)
 none_before end xs i h =
     let found = position-Some (λ byte. byte == end) xs i 0 h in
     All-from_get_or (λ byte. byte ≢ end) (take i xs) 0 (λ k lt e.
@@ -25,31 +29,41 @@ none_before end xs i h =
     let here : (get_or xs k 0 == end) ≡ true = eq-eqb (get_or xs k 0) end (sym (get_or-take i xs k 0 below) ∙ e) in
     cc)
 
-place_behind : (end : ℕ) (part rest : List ℕ) → All (λ byte. byte ≢ end) part → position_or_len (λ byte. byte == end) ((part ++ end ∷ []) ++ rest) ≡ length part
+place_behind : (end : ℕ) (part rest : List ℕ) → All (λ byte. byte ≢ end) part
+    → position_or_len (λ byte. byte == end) ((part ++ end ∷ []) ++ rest) ≡ length part
 place_behind end [] rest h = rw (eq-eqb end end refl) refl
 place_behind end (b ∷ bs) rest h =
     let ne : (b == end) ≡ false = ne_eqb b end (All-head (λ byte. byte ≢ end) b bs h) in
     let more = place_behind end bs rest (All-tail (λ byte. byte ≢ end) b bs h) in
     rw (ne, more) (omega arith)
 
-position_behind : (end : ℕ) (part rest : List ℕ) → All (λ byte. byte ≢ end) part → position (λ byte. byte == end) ((part ++ end ∷ []) ++ rest) ≡ Some (length part)
+position_behind : (end : ℕ) (part rest : List ℕ) → All (λ byte. byte ≢ end) part
+    → position (λ byte. byte == end) ((part ++ end ∷ []) ++ rest) ≡ Some (length part)
 position_behind end part rest h =
-    let within = lt-ltb (length part) (length ((part ++ end ∷ []) ++ rest)) (omega (arith, length-append (part ++ end ∷ []) rest, length-append part (end ∷ []))) in
+    let within =
+    lt-ltb (length part) (length ((part ++ end ∷ []) ++ rest))
+    (omega (arith, length-append (part ++ end ∷ []) rest, length-append part (end ∷ []))) in
     rw (place_behind end part rest h, within) refl
 
 -- a text parted there
 abbrev pub parted_at : List ℕ → ℕ → List ℕ × List ℕ
 parted_at bytes i = (take i bytes, drop (i + 1) bytes)
 
-pub split_front : (end : ℕ) (bytes : List ℕ) (at : Option ℕ) → at ≡ position (λ byte. byte == end) bytes → IsFront (All (λ byte. byte ≢ end)) (λ part. part ++ end ∷ []) bytes (option_map (parted_at bytes) at)
+pub split_front : (end : ℕ) (bytes : List ℕ) (at : Option ℕ)
+    → at ≡ position (λ byte. byte == end) bytes
+    → IsFront (All (λ byte. byte ≢ end)) (λ part. part ++ end ∷ []) bytes (option_map (parted_at bytes) at)
 split_front end bytes None h = record { found = tt; only = λ part rest none e. absurd (let here = position_behind end part rest none in let there : position (λ byte. byte == end) ((part ++ end ∷ []) ++ rest) ≡ None = rw (← e) (sym h) in cc) }
 split_front end bytes (Some i) h = record {
   found = (none_before end bytes i (sym h), parts_at end bytes i (sym h));
   only = λ part rest none e.
-      let there : ◌≡◌ {A = Option ℕ} (Some i) (Some (length part)) = h ∙ ap (position (λ byte. byte == end)) e ∙ position_behind end part rest none in
+      let there : ◌≡◌ {A = Option ℕ} (Some i) (Some (length part)) =
+      h ∙ ap (position (λ byte. byte == end)) e ∙ position_behind end part rest none in
       let same : i ≡ length part = cc in
-      let before : take i bytes ≡ part = ap (take i) (e ∙ append_assoc part (end ∷ []) rest) ∙ take_at part ((end ∷ []) ++ rest) i (sym same) in
+      let before : take i bytes ≡ part =
+      ap (take i) (e ∙ append_assoc part (end ∷ []) rest)
+      ∙ take_at part ((end ∷ []) ++ rest) i (sym same) in
       let long : length (part ++ end ∷ []) ≡ i + 1 = omega (arith, length_push part end) in
-      let behind : drop (i + 1) bytes ≡ rest = ap (drop (i + 1)) e ∙ drop_at (part ++ end ∷ []) rest (i + 1) long in
+      let behind : drop (i + 1) bytes ≡ rest =
+      ap (drop (i + 1)) e ∙ drop_at (part ++ end ∷ []) rest (i + 1) long in
       rw (before, behind) refl;
 }

@@ -43,35 +43,55 @@ tag_from h message = record { target = h.0; kind = h.1.0; name = h.1.1.0; tagger
 abbrev head_of : Tag → Head
 head_of t = (t.target, (t.kind, (t.name, t.tagger)))
 
-regroup : (object type tag tagger message : List ℕ) → (object ++ (type ++ (tag ++ (tagger ++ 10 ∷ [])))) ++ message ≡ object ++ type ++ tag ++ tagger ++ 10 ∷ message
+regroup : (object type tag tagger message : List ℕ)
+    → (object ++ (type ++ (tag ++ (tagger ++ 10 ∷ [])))) ++ message
+    ≡ object ++ type ++ tag ++ tagger ++ 10 ∷ message
 regroup object type tag tagger message = simp append_assoc
 
 whole_text : (t : Tag) → head_text (head_of t) ++ t.message ≡ tag_contents t
-whole_text t = regroup (name_line (codes "object ") t.target) (kind_line t.kind) (line (codes "tag ") t.name) (optional_line (codes "tagger ") t.tagger) t.message
+whole_text t =
+    regroup (name_line (codes "object ") t.target) (kind_line t.kind) (line (codes "tag ") t.name)
+    (optional_line (codes "tagger ") t.tagger) t.message
 
 head_is : (t : Tag) → CanWriteTag t → IsHead (head_of t)
 head_is t is = (is.target, (is.kind, (tag_name_one_line t.name is.name, is.tagger)))
 
-pub no_tag : (bytes : List ℕ) → IsFront IsHead head_text bytes None → (t : Tag) → CanWriteTag t → bytes ≡ tag_contents t → ⊥
-no_tag bytes f t is e = none-some _ (f.only (head_of t) t.message (head_is t is) (e ∙ sym (whole_text t)))
+pub no_tag : (bytes : List ℕ) → IsFront IsHead head_text bytes None → (t : Tag) → CanWriteTag t
+    → bytes ≡ tag_contents t → ⊥
+no_tag bytes f t is e =
+    none-some _ (f.only (head_of t) t.message (head_is t is) (e ∙ sym (whole_text t)))
 
-pub tag_found : (bytes : List ℕ) (h : Head) (message : List ℕ) → IsFront IsHead head_text bytes (Some (h, message)) → IsRefName (codes "refs/tags/" ++ h.1.1.0) → CanWriteTag (tag_from h message) × (bytes ≡ tag_contents (tag_from h message))
+pub tag_found : (bytes : List ℕ) (h : Head) (message : List ℕ)
+    → IsFront IsHead head_text bytes (Some (h, message)) → IsRefName (codes "refs/tags/" ++ h.1.1.0)
+    → CanWriteTag (tag_from h message) × (bytes ≡ tag_contents (tag_from h message))
 tag_found bytes h message f name = (
   record { target = f.found.0.0; kind = f.found.0.1.0; name = name; tagger = f.found.0.1.1.1 },
   f.found.1 ∙ whole_text (tag_from h message),
 )
 
-pub tag_reads : (bytes : List ℕ) (h : Head) (message : List ℕ) → IsFront IsHead head_text bytes (Some (h, message)) → IsRefName (codes "refs/tags/" ++ h.1.1.0) → tag_from h message ≡ tag_read bytes
-tag_reads bytes h message f name = let found = tag_found bytes h message f name in sym (ap tag_read found.1 ∙ tag_back (tag_from h message) found.0)
+pub tag_reads : (bytes : List ℕ) (h : Head) (message : List ℕ)
+    → IsFront IsHead head_text bytes (Some (h, message)) → IsRefName (codes "refs/tags/" ++ h.1.1.0)
+    → tag_from h message ≡ tag_read bytes
+tag_reads bytes h message f name =
+    let found = tag_found bytes h message f name in sym (ap tag_read found.1 ∙ tag_back (tag_from h message) found.0)
 
-pub tag_only : (bytes : List ℕ) (h : Head) (message : List ℕ) → IsFront IsHead head_text bytes (Some (h, message)) → (t : Tag) → CanWriteTag t → bytes ≡ tag_contents t → tag_from h message ≡ t
+pub tag_only : (bytes : List ℕ) (h : Head) (message : List ℕ)
+    → IsFront IsHead head_text bytes (Some (h, message)) → (t : Tag) → CanWriteTag t
+    → bytes ≡ tag_contents t → tag_from h message ≡ t
 tag_only bytes h message f t is e =
-    let same = some_pair_parts _ _ _ _ (f.only (head_of t) t.message (head_is t is) (e ∙ sym (whole_text t))) in
+    let same =
+    some_pair_parts _ _ _ _
+    (f.only (head_of t) t.message (head_is t is) (e ∙ sym (whole_text t))) in
     ap (λ (p : Head × List ℕ). tag_from p.0 p.1) (λ i. (same.0 i, same.1 i))
 
 -- the header is there, but no ref may have this name
-pub wrong_name : (bytes : List ℕ) (h : Head) (message : List ℕ) → IsFront IsHead head_text bytes (Some (h, message)) → (IsRefName (codes "refs/tags/" ++ h.1.1.0) → ⊥) → (t : Tag) → CanWriteTag t → bytes ≡ tag_contents t → ⊥
-wrong_name bytes h message f wrong t is e = wrong (subst (λ (x : Tag). IsRefName (codes "refs/tags/" ++ x.name)) (sym (tag_only bytes h message f t is e)) is.name)
+pub wrong_name : (bytes : List ℕ) (h : Head) (message : List ℕ)
+    → IsFront IsHead head_text bytes (Some (h, message))
+    → (IsRefName (codes "refs/tags/" ++ h.1.1.0) → ⊥) → (t : Tag) → CanWriteTag t
+    → bytes ≡ tag_contents t → ⊥
+wrong_name bytes h message f wrong t is e =
+    wrong
+    (subst (λ (x : Tag). IsRefName (codes "refs/tags/" ++ x.name)) (sym (tag_only bytes h message f t is e)) is.name)
 
 -- ---- line after line
 

@@ -1,4 +1,5 @@
--- A tree entry at the front of a text: its mode, its name and the name of its object, one after the other.
+-- A tree entry at the front of a text: its mode, its name and the name of its object, one after the
+-- other.
 use Rattle.std.proofs.Common.{◌≡◌, ℕ, ◌<◌, ◌≤◌, List, [], ◌∷◌, ◌++◌, length, take, drop, refl, sym, ap, subst, ◌∙◌, ◌+◌, Option, Some, None, arith, Fits, w8, get_or}
 use Rattle.std.specs.Prelude.{⊤}
 use Rattle.std.specs.Option.{option_map}
@@ -12,7 +13,8 @@ use Rattle.git_objects.specs.TreeParts.{mode_text, name_text}
 use Rattle.git_objects.proofs.Fronts.{no_front, Both, both, first_missing, second_missing, both_there, renamed}
 
 -- twenty bytes are an object name
-pub id_there : (bytes : List ℕ) → ((i : ℕ) → Fits w8 (get_or bytes i 0)) → 20 ≤ length bytes → IsFront IsObjectName (λ id. id) bytes (Some (take 20 bytes, drop 20 bytes))
+pub id_there : (bytes : List ℕ) → ((i : ℕ) → Fits w8 (get_or bytes i 0)) → 20 ≤ length bytes
+    → IsFront IsObjectName (λ id. id) bytes (Some (take 20 bytes, drop 20 bytes))
 id_there bytes fits long = record {
   found = (
     record {
@@ -30,11 +32,16 @@ id_there bytes fits long = record {
 }
 
 pub id_missing : (bytes : List ℕ) → length bytes < 20 → IsFront IsObjectName (λ id. id) bytes None
-id_missing bytes short = no_front bytes (λ id rest is e. let long = ap length e ∙ length-append id rest in omega (arith, is.size))
+id_missing bytes short =
+    no_front bytes
+    (λ id rest is e. let long = ap length e ∙ length-append id rest in omega (arith, is.size))
 
 -- bytes after others are bytes
-pub behind_fits : (xs ys zs : List ℕ) → xs ≡ ys ++ zs → ((i : ℕ) → Fits w8 (get_or xs i 0)) → (i : ℕ) → Fits w8 (get_or zs i 0)
-behind_fits xs ys zs e fits i = subst (λ b. Fits w8 b) (ap (λ l. get_or l (length ys + i) 0) e ∙ get_or-append-add ys zs i 0) (fits (length ys + i))
+pub behind_fits : (xs ys zs : List ℕ) → xs ≡ ys ++ zs → ((i : ℕ) → Fits w8 (get_or xs i 0))
+    → (i : ℕ) → Fits w8 (get_or zs i 0)
+behind_fits xs ys zs e fits i =
+    subst (λ b. Fits w8 b) (ap (λ l. get_or l (length ys + i) 0) e ∙ get_or-append-add ys zs i 0)
+    (fits (length ys + i))
 
 abbrev Name_is : (List ℕ × List ℕ) → Type 0
 Name_is = Both IsEntryName IsObjectName name_text (λ id. id)
@@ -54,17 +61,35 @@ same_text e = simp append_assoc
 entry_front : (bytes : List ℕ) (read : Option ((FileMode × (List ℕ × List ℕ)) × List ℕ))
     → IsFront (Both (λ _. ⊤) Name_is mode_text name_and_id) (both (λ _. ⊤) Name_is mode_text name_and_id) bytes read
     → IsFront CanWriteEntry entry_text bytes (option_map (λ (r : (FileMode × (List ℕ × List ℕ)) × List ℕ). (entry_from r.0, r.1)) read)
-entry_front bytes read h = renamed entry_from parts_of bytes read (λ e. refl) (λ p is. record { name = is.1.0; id = is.1.1 }) (λ e is. (tt, (is.name, is.id))) (λ p. same_text (entry_from p)) (λ e. sym (same_text e)) h
+entry_front bytes read h =
+    renamed entry_from parts_of bytes read (λ e. refl)
+    (λ p is. record { name = is.1.0; id = is.1.1 }) (λ e is. (tt, (is.name, is.id)))
+    (λ p. same_text (entry_from p)) (λ e. sym (same_text e)) h
 
-pub mode_missing : (bytes : List ℕ) → IsFront (λ _. ⊤) mode_text bytes None → IsFront CanWriteEntry entry_text bytes None
-mode_missing bytes m = entry_front bytes None (first_missing (λ _. ⊤) Name_is mode_text name_and_id bytes m)
+pub mode_missing : (bytes : List ℕ) → IsFront (λ _. ⊤) mode_text bytes None
+    → IsFront CanWriteEntry entry_text bytes None
+mode_missing bytes m =
+    entry_front bytes None (first_missing (λ _. ⊤) Name_is mode_text name_and_id bytes m)
 
-pub name_missing : (bytes : List ℕ) (mode : FileMode) (r : List ℕ) → IsFront (λ _. ⊤) mode_text bytes (Some (mode, r)) → IsFront IsEntryName name_text r None → IsFront CanWriteEntry entry_text bytes None
-name_missing bytes mode r m n = entry_front bytes None (second_missing (λ _. ⊤) Name_is mode_text name_and_id bytes mode r m (first_missing IsEntryName IsObjectName name_text (λ id. id) r n))
+pub name_missing : (bytes : List ℕ) (mode : FileMode) (r : List ℕ)
+    → IsFront (λ _. ⊤) mode_text bytes (Some (mode, r)) → IsFront IsEntryName name_text r None
+    → IsFront CanWriteEntry entry_text bytes None
+name_missing bytes mode r m n =
+    entry_front bytes None
+    (second_missing (λ _. ⊤) Name_is mode_text name_and_id bytes mode r m (first_missing IsEntryName IsObjectName name_text (λ id. id) r n))
 
-pub short_of_id : (bytes : List ℕ) (mode : FileMode) (r name s : List ℕ) → IsFront (λ _. ⊤) mode_text bytes (Some (mode, r)) → IsFront IsEntryName name_text r (Some (name, s)) → length s < 20 → IsFront CanWriteEntry entry_text bytes None
-short_of_id bytes mode r name s m n short = entry_front bytes None (second_missing (λ _. ⊤) Name_is mode_text name_and_id bytes mode r m (second_missing IsEntryName IsObjectName name_text (λ id. id) r name s n (id_missing s short)))
+pub short_of_id : (bytes : List ℕ) (mode : FileMode) (r name s : List ℕ)
+    → IsFront (λ _. ⊤) mode_text bytes (Some (mode, r))
+    → IsFront IsEntryName name_text r (Some (name, s)) → length s < 20
+    → IsFront CanWriteEntry entry_text bytes None
+short_of_id bytes mode r name s m n short =
+    entry_front bytes None
+    (second_missing (λ _. ⊤) Name_is mode_text name_and_id bytes mode r m (second_missing IsEntryName IsObjectName name_text (λ id. id) r name s n (id_missing s short)))
 
-pub entry_there : (bytes : List ℕ) (mode : FileMode) (r name s : List ℕ) → ((i : ℕ) → Fits w8 (get_or s i 0)) → IsFront (λ _. ⊤) mode_text bytes (Some (mode, r)) → IsFront IsEntryName name_text r (Some (name, s)) → 20 ≤ length s
+pub entry_there : (bytes : List ℕ) (mode : FileMode) (r name s : List ℕ)
+    → ((i : ℕ) → Fits w8 (get_or s i 0)) → IsFront (λ _. ⊤) mode_text bytes (Some (mode, r))
+    → IsFront IsEntryName name_text r (Some (name, s)) → 20 ≤ length s
     → IsFront CanWriteEntry entry_text bytes (Some (record { mode = mode; name = name; id = take 20 s }, drop 20 s))
-entry_there bytes mode r name s fits m n long = entry_front bytes (Some ((mode, (name, take 20 s)), drop 20 s)) (both_there (λ _. ⊤) Name_is mode_text name_and_id bytes mode r (name, take 20 s) (drop 20 s) m (both_there IsEntryName IsObjectName name_text (λ id. id) r name s (take 20 s) (drop 20 s) n (id_there s fits long)))
+entry_there bytes mode r name s fits m n long =
+    entry_front bytes (Some ((mode, (name, take 20 s)), drop 20 s))
+    (both_there (λ _. ⊤) Name_is mode_text name_and_id bytes mode r (name, take 20 s) (drop 20 s) m (both_there IsEntryName IsObjectName name_text (λ id. id) r name s (take 20 s) (drop 20 s) n (id_there s fits long)))

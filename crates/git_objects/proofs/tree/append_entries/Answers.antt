@@ -2,4 +2,5 @@ use Rattle.git_objects.proofs.Kept.{kept_front}
 use Rattle.git_objects.proofs.tree.append_entries.Goals as goal
 
 pub returns-in_err-append_entry-clause-kept : goal.returns-in_err-append_entry-clause-kept
-returns-in_err-append_entry-clause-kept c = kept_front c.args.contents.now.items c.loop-entry.contents.items c.append_entry.new.contents.items _ c.loop-entry.invariant c.in_err-append_entry.ensures.kept
+returns-in_err-append_entry-clause-kept c =
+    kept_front c.args.contents.now.items c.loop-entry.contents.items c.append_entry.new.contents.items _ c.loop-entry.invariant c.in_err-append_entry.ensures.kept

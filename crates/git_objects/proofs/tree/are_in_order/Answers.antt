@@ -7,4 +7,6 @@ use Rattle.git_objects.proofs.TreeOrder.{order_answer}
 use Rattle.git_objects.proofs.tree.are_in_order.Goals as goal
 
 pub returns : goal.returns
-returns c = order_answer entry_of c.args.entries.now c.is_sorted_by.result (c.is_sorted_by.ensures.cases (λ a b. is_lt (tree_cmp (entry_of a) (entry_of b))) (answers_always _ _ _ (λ f a r g h. search rules)))
+returns c =
+    order_answer entry_of c.args.entries.now c.is_sorted_by.result
+    (c.is_sorted_by.ensures.cases (λ a b. is_lt (tree_cmp (entry_of a) (entry_of b))) (answers_always _ _ _ (λ f a r g h. search rules)))

@@ -7,5 +7,8 @@ use Rattle.git_objects.proofs.tree.has_twin.Goals as goal
 
 pub returns-in-Directory : goal.returns-in-Directory
 returns-in-Directory c o =
-    let answer = twin_answer entry_of c.args.entries.now (entry_of c.args.entry.now) c.binary_search_by.result c.in-Directory.is c.binary_search_by.ensures.bound (c.binary_search_by.ensures.position (λ y. tree_cmp (entry_of y) (file_of (entry_of c.args.entry.now))) (always_returns_same _ _ _ (λ a r f h. (search rules, search rules)))) o in
+    let answer =
+    twin_answer entry_of c.args.entries.now
+    (entry_of c.args.entry.now) c.binary_search_by.result c.in-Directory.is c.binary_search_by.ensures.bound
+    (c.binary_search_by.ensures.position (λ y. tree_cmp (entry_of y) (file_of (entry_of c.args.entry.now))) (always_returns_same _ _ _ (λ a r f h. (search rules, search rules)))) o in
     rw c.is_ok.ensures.value answer

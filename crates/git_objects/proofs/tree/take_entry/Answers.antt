@@ -6,7 +6,8 @@ pub returns-in_default-take_name : goal.returns-in_default-take_name
 returns-in_default-take_name c = name_missing _ _ _ c.in-Some.ensures c.in_default-take_name.ensures
 
 pub returns-in_default-split_first_chunk : goal.returns-in_default-split_first_chunk
-returns-in_default-split_first_chunk c = short_of_id _ _ _ _ _ c.in-Some.ensures c.in-Some-take_name.ensures c.in_default-split_first_chunk.ensures.cases
+returns-in_default-split_first_chunk c =
+    short_of_id _ _ _ _ _ c.in-Some.ensures c.in-Some-take_name.ensures c.in_default-split_first_chunk.ensures.cases
 
 pub returns : goal.returns
 returns c =
