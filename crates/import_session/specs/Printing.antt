@@ -3,7 +3,7 @@ use Rattle.std.specs.Prelude.{◌≡◌, ◌≢◌, ℕ, List, ◌++◌, Result,
 use Rattle.import_session.specs.declared.fault.Fault.{Fault}
 use Rattle.import_session.specs.declared.fault.Fault.TheVariants as fault
 
--- The line that was to be printed stands behind the text, with its line end; or what refuses it was
+-- The line that was to be printed stands after the text, with its line end; or what refuses it was
 -- answered, and the text stayed. `Memory` may stand in place of either.
 abbrev pub Shows : Result (List ℕ) Fault → List ℕ → List ℕ → Result Unit Fault → Type 0
 Shows (Ok line) old new (Ok u) = new ≡ old ++ line ++ codes "\n"

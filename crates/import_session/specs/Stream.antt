@@ -59,7 +59,7 @@ last_checkpoint workspace = record {
   refs = workspace.refs;
 }
 
--- How a stream stands: it runs, and behind its items stands a tail; or it was refused under a
+-- How a stream stands: it runs, and after its items stands a tail; or it was refused under a
 -- number, and then the repository at the last checkpoint is all that is left.
 pub data Standing : Type 0 where
   Runs : Running → Tail → Standing

@@ -12,8 +12,6 @@ mod marks;
 mod objects;
 mod print;
 mod session;
-#[cfg(test)]
-mod tests;
 
 pub use fault::Fault;
 pub use session::Session;

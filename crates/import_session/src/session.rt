@@ -1,6 +1,6 @@
 //! A session: what a stream keeps between its items.
 //!
-//! The table, the refs and the pool are lent at each call; the objects behind the table's committed
+//! The table, the refs and the pool are lent at each call; the objects after the table's committed
 //! prefix are the stream's own, until a checkpoint.
 
 ghost use Rattle.std.specs.Prelude.{◌≡◌, ◌≢◌, Err, OnErr};
@@ -64,7 +64,7 @@ impl Session {
         }
     }
 
-    /// Whether `done` was read, so that nothing behind it is looked at. Takes no memory.
+    /// Whether `done` was read, so that nothing after it is looked at. Takes no memory.
     pub fn is_done(&self) -> bool
         ensures { result ≡ self.now.is_done }
     {
@@ -77,7 +77,7 @@ impl Session {
     /// (13), `WrongKind` (15), `Limit` (25) and `NameCollision` (24). A command without a meaning
     /// here yet is unknown (2). `Memory` (90) may stand in place of any answer. After a refusal
     /// `out` is unchanged, the committed objects and the refs are those of the last checkpoint, and
-    /// only `abandon` may follow. Behind `done` an item is passed over.
+    /// only `abandon` may follow. After `done` an item is passed over.
     #[tactic(auto, unfolding(crate::specs::Stream::step))]
     pub fn take<N: Naming>(
         &mut self,

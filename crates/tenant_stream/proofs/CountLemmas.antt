@@ -16,11 +16,11 @@ either_at_most : (b : Bool) (x y : Reading) (n : ℕ) → HasAtMost x n → HasA
 either_at_most true x y n here there = here
 either_at_most false x y n here there = there
 
-behind_at_most : (f : First) (later : ℕ → Bool → Reading) (n : ℕ) → ((k : ℕ) (skips : Bool) → HasAtMost (later k skips) n)
+first_at_most : (f : First) (later : ℕ → Bool → Reading) (n : ℕ) → ((k : ℕ) (skips : Bool) → HasAtMost (later k skips) n)
     → HasAtMost (behind f later) (suc n)
-behind_at_most (Stops tail) later n at_most = omega arith
-behind_at_most (Skips k) later n at_most = let here = at_most (k - 1) false in omega (arith, here)
-behind_at_most (Gives item k) later n at_most = let here = at_most (k - 1) (is_data item) in omega (arith, here)
+first_at_most (Stops tail) later n at_most = omega arith
+first_at_most (Skips k) later n at_most = let here = at_most (k - 1) false in omega (arith, here)
+first_at_most (Gives item k) later n at_most = let here = at_most (k - 1) (is_data item) in omega (arith, here)
 
 walk_at_most : (bytes : List ℕ) (k : ℕ) (skips : Bool) → HasAtMost (walk bytes k skips) (length bytes)
 unfolding walk
@@ -30,7 +30,7 @@ walk_at_most (byte ∷ bytes) zero skips =
     either_at_most (skips && is_line_end byte) (walk bytes 0 false)
     (behind (first_of (byte ∷ bytes)) (λ k data_next. walk bytes k data_next)) (suc (length bytes))
     (let here = walk_at_most bytes 0 false in omega (arith, here))
-    (behind_at_most (first_of (byte ∷ bytes)) (λ k data_next. walk bytes k data_next) (length bytes)
+    (first_at_most (first_of (byte ∷ bytes)) (λ k data_next. walk bytes k data_next) (length bytes)
     (λ k data_next. walk_at_most bytes k data_next))
 
 -- no more than the bytes that are held

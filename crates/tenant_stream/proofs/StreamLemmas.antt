@@ -7,7 +7,7 @@ use Rattle.import_session.specs.declared.fault.Fault.{Fault}
 use Rattle.import_session.specs.Stream.{Running, Step, Standing, Runs, Refused, Outcome, after_reply, carried, going_on, step, taken, at_tail, tail_outcome}
 use Rattle.tenant_stream.specs.Carrying.{IsDrained, outcome_behind}
 
--- behind `done` nothing is carried out
+-- after `done` nothing is carried out
 at_tail-done : (now : Running) (tail : Tail) → now.is_done ≡ true → at_tail now tail ≡ record { replies = []; standing = Runs now (Rest false []) }
 unfolding at_tail
 at_tail-done now tail done =
@@ -37,7 +37,7 @@ pub carried-tail : (digest : List ℕ → List ℕ) (now : Running) (tail : Tail
 unfolding carried
 carried-tail digest now tail running = at_tail-running now tail running
 
--- a tail with a piece behind it reads as the tail does with that piece
+-- a tail with a piece after it reads as the tail does with that piece
 pub more-extended : (tail : Tail) (piece : List ℕ) → more_of (extended tail piece) [] ≡ more_of tail piece
 more-extended (Rest skips bytes) piece = ap (λ all. reading skips all) (append-nil (bytes ++ piece))
 more-extended (Failed fault) piece = refl

@@ -25,7 +25,7 @@ new_stream = record { session = new_session; tail = Rest false [] }
 abbrev pub stream_in : Between → Cells → View → RefStore → Running
 stream_in stream pool table refs = running_in stream.session pool table refs
 
--- All that a running stream will print, and how it will stand, where more bytes come behind a tail.
+-- All that a running stream will print, and how it will stand, where more bytes come after a tail.
 abbrev pub outcome_behind : (List ℕ → List ℕ) → Running → Tail → List ℕ → Outcome
 outcome_behind digest now tail more =
     carried digest now (more_of tail more).items (more_of tail more).tail
@@ -34,7 +34,7 @@ outcome_behind digest now tail more =
 abbrev pub ReadsOn : Tail → List Item → Tail → Type 0
 ReadsOn old items new = (more : List ℕ) → more_of old more ≡ behind_items items (more_of new more)
 
--- Items were carried out: these replies stand first, whatever comes behind the items.
+-- Items were carried out: these replies stand first, whatever comes after the items.
 abbrev pub CarriesOn : (List ℕ → List ℕ) → Running → List Item → List ℕ → Running → Type 0
 CarriesOn digest now items replies next = (later : List Item) (tail : Tail)
     → carried digest now (items ++ later) tail
@@ -65,7 +65,7 @@ pub record Goes (digest : List ℕ → List ℕ) (now : Running) (old : Tail) (o
   pub printed : out' ≡ out ++ replies
   pub drained : IsDrained next.is_done new
 
--- A stream has gone on by some items, and no further: what it printed stands behind `out`, and what
+-- A stream has gone on by some items, and no further: what it printed stands after `out`, and what
 -- is left has the same last checkpoint.
 pub record Ends (digest : List ℕ → List ℕ) (now : Running) (old : Tail) (out : List ℕ)
     (items : List Item) (last : Running) (rest : Tail) (left : Running)
@@ -76,7 +76,7 @@ pub record Ends (digest : List ℕ → List ℕ) (now : Running) (old : Tail) (o
   pub running : last.is_done ≡ false
   pub checkpoint : last_checkpoint left.workspace ≡ last_checkpoint last.workspace
 
--- Some items were carried out, and what stands behind them refuses the stream.
+-- Some items were carried out, and what stands after them refuses the stream.
 pub record Fails (digest : List ℕ → List ℕ) (now : Running) (old : Tail) (out : List ℕ) (code : ℕ)
     (left : Running) (out' : List ℕ) : Type 0 where
   pub items : List Item
@@ -111,7 +111,7 @@ pub record Stays (now : Running) (old : Tail) (out : List ℕ) (result : Result 
   pub tail : new ≡ old
   pub printed : out' ≡ out
 
--- What came of a piece. Behind `done` bytes are ignored.
+-- What came of a piece. After `done` bytes are ignored.
 abbrev pub Feeds : (List ℕ → List ℕ) → Bool → Running → Tail → List ℕ → List ℕ → Result Unit Stop
     → Running → Tail → List ℕ → Type 0
 Feeds digest true now old piece out result next new out' = Stays now old out result next new out'

@@ -9,7 +9,7 @@ use Rattle.stream_lex.specs.Faults.{code_of as item_code}
 use Rattle.tenant_stream.specs.declared.stop.Stop.{Stop}
 use Rattle.tenant_stream.specs.declared.stop.Stop.TheVariants as stop
 
--- What a refusal of an item is to the stream, behind so many items.
+-- What a refusal of an item is to the stream, after so many items.
 abbrev pub stop_of : Fault → ℕ → Stop
 stop_of fault.Memory count = stop.Memory count
 stop_of (fault.Text text) count = stop.Fault (code_of (fault.Text text))

@@ -6,15 +6,15 @@ ghost use Rattle.tenant_stream.specs.Stopping.{stop_of};
 use import_session::Fault;
 
 /// Why a stream does not go on.
-#[derive(Clone, Copy, Debug, PartialEq, Eq)]
+#[derive(Clone, Copy, PartialEq, Eq)]
 pub enum Stop {
     /// The stream was refused, under this number.
     Fault(u16),
-    /// Memory ran out behind so many whole items of this call, which took effect.
+    /// Memory ran out after so many whole items of this call, which took effect.
     Memory(u64),
 }
 
-// What a refusal of an item is to the stream, behind so many items.
+// What a refusal of an item is to the stream, after so many items.
 pub fn stop_of(fault: Fault, count: u64) -> Stop
     ensures { result ≡ stop_of fault count }
 {

@@ -123,7 +123,7 @@ impl Stream {
         }
     }
 
-    /// Whether `done` was read, so that no byte behind it is looked at. Takes no memory.
+    /// Whether `done` was read, so that no byte after it is looked at. Takes no memory.
     pub fn is_done(&self) -> bool
         ensures { result ≡ self.now.session.is_done }
     {
@@ -136,7 +136,7 @@ impl Stream {
     /// `Stop::Fault` where the bytes, the text of an item or its meaning are refused;
     /// `Stop::Memory` (90) with the number of items of this call that took effect. `out` has the
     /// replies of the items before it, the objects and refs of the last checkpoint are unchanged,
-    /// and only `abandon` may follow. Behind `done` nothing is read, and no memory is taken.
+    /// and only `abandon` may follow. After `done` nothing is read, and no memory is taken.
     pub fn feed<N: Naming>(
         &mut self,
         pool: &mut Pool<N>,

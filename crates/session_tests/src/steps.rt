@@ -5,9 +5,9 @@ ghost use Rattle.content_pool.specs.Pool.{holds};
 ghost use Rattle.tenant_tables.specs.View.{held};
 ghost use Rattle.tenant_tables.specs.StandsIn.{StandsIn};
 
-use crate::{Fault, Session};
 use content_pool::Pool;
 use git_objects::{Naming, Sha1Naming, TailNaming};
+use import_session::{Fault, Session};
 use std::alloc::Global;
 use std::test::Fail;
 use stream_lex::Item;
@@ -23,7 +23,7 @@ enum Step<'a> {
 
 // How the steps ended: the number of the last answer (0 where it was no refusal), whether `done`
 // was read, what the pool stored then, and what it stored once the stream was given up.
-#[derive(Clone, Copy, Debug, PartialEq, Eq)]
+#[derive(Clone, Copy, PartialEq, Eq)]
 struct Left {
     number: u16,
     is_done: bool,
@@ -121,7 +121,7 @@ const CASES: &[Case] = &[
         left: NOTHING,
     },
     Case {
-        does: "passes items over behind done",
+        does: "passes items over after done",
         steps: &[
             DONE,
             BLOB,
@@ -286,25 +286,45 @@ fn run<N: Naming>(alloc: Global, naming: N, steps: &[Step<'_>], out: &mut Vec<u8
     }
 }
 
+fn does_so(alloc: Global, case: &Case) -> bool {
+    let mut out = Vec::new(alloc);
+    let left = run(alloc, Sha1Naming, case.steps, &mut out);
+    left == case.left && out.as_slice() == case.printed
+}
+
+// Whether the last answer has the number, and nothing is printed or kept.
+fn is_refused(alloc: Global, refusal: &Refusal) -> bool {
+    let mut out = Vec::new(alloc);
+    let left = run(alloc, TailNaming, refusal.steps, &mut out);
+    left.number == refusal.number && left.given_up == (0, 0) && out.is_empty()
+}
+
+fn first_wrong_case(alloc: Global) -> Option<&'static str> {
+    for case in CASES {
+        if !does_so(alloc, case) {
+            return Some(case.does);
+        }
+    }
+    None
+}
+
+fn first_wrong_refusal(alloc: Global) -> Option<&'static str> {
+    for refusal in REFUSALS {
+        if !is_refused(alloc, refusal) {
+            return Some(refusal.refuses);
+        }
+    }
+    None
+}
+
 #[test]
 fn prints_and_keeps_what_git_does(rt: HostRuntime) -> Result<(), Fail> {
-    for case in CASES {
-        let mut out = Vec::new(rt.alloc());
-        let left = run(rt.alloc(), Sha1Naming, case.steps, &mut out);
-        assert_eq!(rt; left, case.left, "{}", case.does);
-        assert_eq!(rt; out.as_slice(), case.printed, "{}", case.does);
-    }
+    assert_eq!(rt; first_wrong_case(rt.alloc()), None);
     Ok(())
 }
 
 #[test]
 fn refuses_by_number_and_prints_nothing(rt: HostRuntime) -> Result<(), Fail> {
-    for refusal in REFUSALS {
-        let mut out = Vec::new(rt.alloc());
-        let left = run(rt.alloc(), TailNaming, refusal.steps, &mut out);
-        let ended = (left.number, left.given_up);
-        assert_eq!(rt; ended, (refusal.number, (0, 0)), "{}", refusal.refuses);
-        assert_eq!(rt; out.as_slice(), b"".as_slice(), "{}", refusal.refuses);
-    }
+    assert_eq!(rt; first_wrong_refusal(rt.alloc()), None);
     Ok(())
 }

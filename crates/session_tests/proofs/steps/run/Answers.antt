@@ -1,7 +1,7 @@
 use Rattle.std.proofs.Common.{sym, ◌∙◌}
 use Rattle.tenant_tables.proofs.HoldLemmas.{held-nil}
 use Rattle.tenant_tables.proofs.TableLemmas.{StandsIn-nil}
-use Rattle.import_session.proofs.tests.run.Goals as goal
+use Rattle.session_tests.proofs.steps.run.Goals as goal
 
 pub loop-step-init : goal.loop-step-init
 loop-step-init g c = record {

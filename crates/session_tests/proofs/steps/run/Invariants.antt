@@ -2,7 +2,7 @@ use Rattle.std.proofs.Common.{◌≡◌, ℕ}
 use Rattle.content_pool.specs.Pool.{holds}
 use Rattle.tenant_tables.specs.View.{held}
 use Rattle.tenant_tables.specs.StandsIn.{StandsIn}
-use Rattle.import_session.proofs.tests.run.Given as goal
+use Rattle.session_tests.proofs.steps.run.Given as goal
 
 -- the table stands in the pool, and nothing else does
 abbrev pub invariant-loop-step : goal.invariant-loop-step
