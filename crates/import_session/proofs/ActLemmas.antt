@@ -26,26 +26,34 @@ stepped effect p b = record {
 }
 
 -- a line that was printed, or that was refused
-pub line_carried : (line : Result (List ℕ) Fault) (w : Workspace) (out out' : List ℕ) (result : Result Unit Fault)
-    → Shows line out out' result → CarriesOut (and_then line (λ text. prints w text)) w out out' result
+pub line_carried : (line : Result (List ℕ) Fault) (w : Workspace) (out out' : List ℕ)
+    (result : Result Unit Fault)
+    → Shows line out out' result → CarriesOut (and_then line (λ text. prints w text)) w out out'
+    result
 line_carried (Ok text) w out out' (Ok u) shown = (refl, shown ∙ append_assoc out text (codes "\n"))
 line_carried (Ok text) w out out' (Err e) shown = shown.0
 line_carried (Err refusal) w out out' (Ok u) shown = shown
 line_carried (Err refusal) w out out' (Err e) shown = shown.0
 
 -- the same of a line that is made of a name
-pub named_carried : (id : Result (List ℕ) Fault) (line : List ℕ → Result (List ℕ) Fault) (w : Workspace) (out out' : List ℕ)
+pub named_carried : (id : Result (List ℕ) Fault) (line : List ℕ → Result (List ℕ) Fault)
+    (w : Workspace) (out out' : List ℕ)
     (result : Result Unit Fault) → Shows (and_then id line) out out' result
-    → CarriesOut (and_then id (λ name. and_then (line name) (λ text. prints w text))) w out out' result
-named_carried (Ok name) line w out out' result shown = line_carried (line name) w out out' result shown
-named_carried (Err refusal) line w out out' result shown = line_carried (Err refusal) w out out' result shown
+    → CarriesOut (and_then id (λ name. and_then (line name) (λ text. prints w text))) w out out'
+    result
+named_carried (Ok name) line w out out' result shown = line_carried
+    (line name) w out out' result shown
+named_carried (Err refusal) line w out out' result shown = line_carried
+    (Err refusal) w out out' result shown
 
 -- a session that ends well leaves a checkpoint, and prints nothing
-pub ends_well : (digest : List ℕ → List ℕ) (now : Running) (left : Workspace) (ends_commit : Bool) (out : List ℕ)
+pub ends_well : (digest : List ℕ → List ℕ) (now : Running) (left : Workspace) (ends_commit : Bool)
+    (out : List ℕ)
     → now.is_done ≡ false → end_of now.parsing ≡ Ok ends_commit → checkpointed now.workspace ≡ left
     → CarriesOut (session_end digest now) left out out (Ok tt)
 unfolding session_end
-ends_well digest now left ends_commit out running ended same = rw (running, ended) (same, sym (append-nil out))
+ends_well digest now left ends_commit out running ended same = rw (running, ended)
+    (same, sym (append-nil out))
 
 -- what a session that runs takes
 pub step_running : (digest : List ℕ → List ℕ) (now : Running) (item : Item) → now.is_done ≡ false
@@ -54,59 +62,78 @@ unfolding step
 step_running digest now item running = rw running refl
 
 -- want of memory may stand in place of any answer
-memory_taken : (r : Result Step Fault) (next : Running) (out out' : List ℕ) (e : Fault) → e ≡ fault.Memory
+memory_taken : (r : Result Step Fault) (next : Running) (out out' : List ℕ) (e : Fault)
+    → e ≡ fault.Memory
     → Takes r next out out' (Err e)
 memory_taken (Ok s) next out out' e memory = memory
 memory_taken (Err refusal) next out out' e memory = λ other. absurd (other memory)
 
 -- an item that gave no act
-pub no_act : (k : Result Done TextFault) (later : Done → Result Step Fault) (next : Running) (out out' : List ℕ) (e : Fault)
+pub no_act : (k : Result Done TextFault) (later : Done → Result Step Fault) (next : Running)
+    (out out' : List ℕ) (e : Fault)
     → Gives (Err e) k → Takes (and_then (text_first k) later) next out out' (Err e)
 no_act (Ok done) later next out out' e memory = memory_taken (later done) next out out' e memory
 no_act (Err refusal) later next out out' e refused = refused
 
 -- an act that was refused
-refused_effect : (r : Result Effect Fault) (p : Parsing) (b : Bool) (new : Workspace) (next : Running) (out out' : List ℕ) (e : Fault)
-    → CarriesOut r new out out' (Err e) → Takes (and_then r (λ effect. Ok (stepped effect p b))) next out out' (Err e)
+refused_effect : (r : Result Effect Fault) (p : Parsing) (b : Bool) (new : Workspace)
+    (next : Running) (out out' : List ℕ) (e : Fault)
+    → CarriesOut r new out out' (Err e) → Takes (and_then r (λ effect. Ok (stepped effect p b)))
+    next out out' (Err e)
 refused_effect (Ok effect) p b new next out out' e carried = carried
 refused_effect (Err refusal) p b new next out out' e carried = carried
 
-pub act_refused : (digest : List ℕ → List ℕ) (w : Workspace) (p : Parsing) (k : Result Done TextFault) (act : LentAct) (new : Workspace)
+pub act_refused : (digest : List ℕ → List ℕ) (w : Workspace) (p : Parsing)
+    (k : Result Done TextFault) (act : LentAct) (new : Workspace)
     (next : Running) (out out' : List ℕ) (e : Fault)
     → Gives (Ok act) k → CarriesOut (after_act digest (act_shown act) w) new out out' (Err e)
-    → Takes (and_then (text_first k) (λ done. and_then (after_act digest done.act w) (λ effect. Ok (stepped effect p (is_finish done.act)))))
+    → Takes (and_then (text_first k) (λ done. and_then (after_act digest done.act w)
+    (λ effect. Ok (stepped effect p (is_finish done.act)))))
     next out out' (Err e)
 act_refused digest w p (Ok done) act new next out out' e given carried =
-    subst (λ (a : Act). Takes (and_then (after_act digest a w) (λ effect. Ok (stepped effect p (is_finish a)))) next out out' (Err e))
-    (sym given) (refused_effect (after_act digest (act_shown act) w) p (is_finish (act_shown act)) new next out out' e carried)
+    subst (λ (a : Act). Takes (and_then (after_act digest a w)
+    (λ effect. Ok (stepped effect p (is_finish a)))) next out out' (Err e))
+    (sym given) (refused_effect (after_act digest (act_shown act) w) p
+    (is_finish (act_shown act)) new next out out' e carried)
 act_refused digest w p (Err refusal) act new next out out' e given carried = absurd given
 
 -- an act that was carried out
-done_effect : (r : Result Effect Fault) (p : Parsing) (b : Bool) (new : Workspace) (out out' : List ℕ) (u : Unit {0})
+done_effect : (r : Result Effect Fault) (p : Parsing) (b : Bool) (new : Workspace)
+    (out out' : List ℕ) (u : Unit {0})
     → CarriesOut r new out out' (Ok u)
-    → Takes (and_then r (λ effect. Ok (stepped effect p b))) (record { workspace = new; parsing = p; is_done = b }) out out' (Ok u)
-done_effect (Ok effect) p b new out out' u carried =
-    (ap (λ (w : Workspace). record { workspace = w; parsing = p; is_done = b }) carried.0, carried.1)
+    → Takes (and_then r (λ effect. Ok (stepped effect p b)))
+    (record { workspace = new; parsing = p; is_done = b }) out out' (Ok u)
+done_effect (Ok effect) p b new out out' u carried = (
+  ap (λ (w : Workspace). record { workspace = w; parsing = p; is_done = b }) carried.0,
+  carried.1,
+)
 done_effect (Err refusal) p b new out out' u carried = absurd carried
 
-pub act_done : (digest : List ℕ → List ℕ) (w : Workspace) (p : Parsing) (k : Result Done TextFault) (act : LentAct) (new : Workspace)
+pub act_done : (digest : List ℕ → List ℕ) (w : Workspace) (p : Parsing) (k : Result Done TextFault)
+    (act : LentAct) (new : Workspace)
     (out out' : List ℕ) (u : Unit {0})
     → Gives (Ok act) k → CarriesOut (after_act digest (act_shown act) w) new out out' (Ok u)
-    → Takes (and_then (text_first k) (λ done. and_then (after_act digest done.act w) (λ effect. Ok (stepped effect p (is_finish done.act)))))
+    → Takes (and_then (text_first k) (λ done. and_then (after_act digest done.act w)
+    (λ effect. Ok (stepped effect p (is_finish done.act)))))
     (record { workspace = new; parsing = p; is_done = is_finish (act_shown act) }) out out' (Ok u)
 act_done digest w p (Ok done) act new out out' u given carried =
-    subst (λ (a : Act). Takes (and_then (after_act digest a w) (λ effect. Ok (stepped effect p (is_finish a))))
+    subst (λ (a : Act). Takes (and_then (after_act digest a w)
+    (λ effect. Ok (stepped effect p (is_finish a))))
     (record { workspace = new; parsing = p; is_done = is_finish (act_shown act) }) out out' (Ok u))
-    (sym given) (done_effect (after_act digest (act_shown act) w) p (is_finish (act_shown act)) new out out' u carried)
+    (sym given) (done_effect (after_act digest (act_shown act) w) p
+    (is_finish (act_shown act)) new out out' u carried)
 act_done digest w p (Err refusal) act new out out' u given carried = absurd given
 
 -- an act was given, so memory did not run out
-gives_unknown : (act : LentAct) (b : Bool) → Gives (Ok act) (known b (Err text_fault.UnknownCommand)) → ⊥
+gives_unknown : (act : LentAct) (b : Bool) → Gives (Ok act)
+    (known b (Err text_fault.UnknownCommand)) → ⊥
 gives_unknown act true gives = gives
 gives_unknown act false gives = gives
 
 pub no_memory : (given : Result LentDone TextFault) (act : LentAct) (b : Bool)
-    → ((by : Result Done TextFault) → Answers given by → Gives (Ok act) (known b by)) → given ≢ Err text_fault.Memory
+    → ((by : Result Done TextFault) → Answers given by → Gives (Ok act) (known b by))
+    → given ≢ Err text_fault.Memory
 no_memory given act b gives memory =
     gives_unknown act b (gives (Err text_fault.UnknownCommand)
-    (subst (λ (g : Result LentDone TextFault). Answers g (Err text_fault.UnknownCommand)) (sym memory) (λ other. absurd (other refl))))
+    (subst (λ (g : Result LentDone TextFault). Answers g (Err text_fault.UnknownCommand))
+    (sym memory) (λ other. absurd (other refl))))

@@ -7,11 +7,13 @@ use Rattle.tenant_tables.proofs.TableLemmas.{LeavesOthers-refl, LeavesOthers-the
 use Rattle.import_session.specs.Lent.{Keeps}
 
 -- a call that does nothing
-pub Keeps-refl : (digest : List ℕ → List ℕ) (p : Cells) (t : View) → StandsIn digest p t.entries → Keeps digest p t p t
+pub Keeps-refl : (digest : List ℕ → List ℕ) (p : Cells) (t : View) → StandsIn digest p t.entries
+    → Keeps digest p t p t
 Keeps-refl digest p t stands = record { stands = stands; others = LeavesOthers-refl p t.entries }
 
 -- a call after another
-pub Keeps-then : (digest : List ℕ → List ℕ) (p : Cells) (t : View) (q : Cells) (u : View) (r : Cells) (v : View)
+pub Keeps-then : (digest : List ℕ → List ℕ) (p : Cells) (t : View) (q : Cells) (u : View)
+    (r : Cells) (v : View)
     → Keeps digest p t q u → Keeps digest q u r v → Keeps digest p t r v
 Keeps-then digest p t q u r v first second = record {
   stands = second.stands;

@@ -9,18 +9,21 @@ use Rattle.import_session.specs.Lent.{Keeps}
 use Rattle.tenant_stream.specs.Carrying.{HasAmpleRoom, IsCommitted}
 
 -- one table takes at most one hold of a slot, however often it is called
-pub room_left : (digest : List ℕ → List ℕ) (p : Cells) (t : View) (q : Cells) (u : View) → HasAmpleRoom p → Keeps digest p t q u → HasRoom q
+pub room_left : (digest : List ℕ → List ℕ) (p : Cells) (t : View) (q : Cells) (u : View)
+    → HasAmpleRoom p → Keeps digest p t q u → HasRoom q
 room_left digest p t q u ample keeps s =
     let a = ample s in let r = keeps.others.rest s in let o = keeps.stands.once s in
     omega (arith, a, r, o)
 
 -- a table that was rolled back to its committed objects has no others
-pub all_committed : (p q : Cells) (old new : View) → old.committed ≤ length old.entries → new.committed ≡ old.committed
+pub all_committed : (p q : Cells) (old new : View) → old.committed ≤ length old.entries
+    → new.committed ≡ old.committed
     → objects q new.entries ≡ take old.committed (objects p old.entries) → IsCommitted new
 all_committed p q old new within same left =
     let n : length new.entries ≡ length (take old.committed (objects p old.entries)) =
     sym (length-objects q new.entries) ∙ ap length left in
-    let m : length (take old.committed (objects p old.entries)) ≡ min old.committed (length (objects p old.entries)) =
+    let m : length (take old.committed (objects p old.entries)) ≡ min old.committed
+    (length (objects p old.entries)) =
     length-take old.committed (objects p old.entries) in
     let k = length-objects p old.entries in
     omega (arith, n, m, k, within, same)

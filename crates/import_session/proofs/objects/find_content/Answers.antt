@@ -8,7 +8,9 @@ get-requires g c = found_live _ _ _ _ _ c.requires c.in-Some.ensures
 pub returns-in-Some : goal.returns-in-Some
 returns-in-Some g c =
     ap Some c.get.ensures
-    ∙ sym (found_some c.args.pool.now c.args.id c.args.table.now.entries c.in-Some.slot c.in-Some.ensures)
+    ∙ sym (found_some c.args.pool.now c.args.id c.args.table.now.entries c.in-Some.slot
+    c.in-Some.ensures)
 
 pub returns-in-None : goal.returns-in-None
-returns-in-None g c = sym (found_none c.args.pool.now c.args.id c.args.table.now.entries c.in-None.ensures)
+returns-in-None g c = sym (found_none c.args.pool.now c.args.id c.args.table.now.entries
+    c.in-None.ensures)

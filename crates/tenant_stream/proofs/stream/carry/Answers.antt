@@ -35,7 +35,8 @@ returns-in-Err-take-clause-carries g c =
     rw c.stop_of.ensures
     (item_stops _ _ _ _ _ _ _ _ _ _ _ _ _ _
     (ends_at _ _ _ _ _ _ _ _ _ _ _ c.items.invariant.advances c.items.invariant.printed
-    c.in-Err-take.ensures.printed (sym c.is_done.ensures ∙ c.if-is_done.false) c.in-Err-take.ensures.checkpoint)
+    c.in-Err-take.ensures.printed (sym c.is_done.ensures ∙ c.if-is_done.false)
+    c.in-Err-take.ensures.checkpoint)
     c.items.invariant.counted
     (took_item _ _ _ _ _ c.in-Ok-Some.is c.in-Ok-Some.field-0-is c.next.follows.holds-at-none.first)
     c.in-Err-take.ensures.taken)
@@ -43,7 +44,8 @@ returns-in-Err-take-clause-carries g c =
 pub overflow_add-count : goal.overflow_add-count
 overflow_add-count g c =
     let most = taken_at_most _ _ _ _ _ c.items.invariant.advances.reads
-    (took_item _ _ _ _ _ c.in-Ok-Some.is c.in-Ok-Some.field-0-is c.next.follows.holds-at-none.first) in
+    (took_item _ _ _ _ _ c.in-Ok-Some.is c.in-Ok-Some.field-0-is c.next.follows.holds-at-none.first)
+    in
     let counted = c.items.invariant.counted in
     let bound = c.held-most.type_inv in
     let same = c.held-most.ensures in
@@ -51,7 +53,8 @@ overflow_add-count g c =
 
 pub items-smaller : goal.items-smaller
 items-smaller g c =
-    left_falls _ _ _ (took_item _ _ _ _ _ c.in-Ok-Some.is c.in-Ok-Some.field-0-is c.next.follows.holds-at-none.first)
+    left_falls _ _ _ (took_item _ _ _ _ _ c.in-Ok-Some.is c.in-Ok-Some.field-0-is
+    c.next.follows.holds-at-none.first)
 
 pub items-preserved : goal.items-preserved
 items-preserved g c =
@@ -65,12 +68,14 @@ items-preserved g c =
       replies = next.replies;
       advances = next.advances;
       printed = next.printed;
-      counted = length-append c.items.invariant.items (item_of c.in-Ok-Some.item ∷ []) ∙ ap (λ n. n + 1) c.items.invariant.counted;
+      counted = length-append c.items.invariant.items (item_of c.in-Ok-Some.item ∷ [])
+          ∙ ap (λ n. n + 1) c.items.invariant.counted;
     }
 
 pub returns-in-Ok-None-clause-carries : goal.returns-in-Ok-None-clause-carries
 returns-in-Ok-None-clause-carries g c =
-    let none = gave_none _ _ _ _ c.in-Ok-None.is c.in-Ok-None.field-0-is c.next.follows.holds-at-none.first in
+    let none = gave_none _ _ _ _ c.in-Ok-None.is c.in-Ok-None.field-0-is
+    c.next.follows.holds-at-none.first in
     goes _ _ _ _ _ _ _ _ _
     (Advances-read _ _ _ _ _ _ _ _ c.items.invariant.advances none.0)
     c.items.invariant.printed (λ _. none.1)

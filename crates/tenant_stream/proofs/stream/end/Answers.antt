@@ -14,7 +14,8 @@ returns-in-Err-clause-ended g c =
     rw c.code.ensures
     (ends_cut g.N.Naming.digest_of
     (running_in c.args.session.now c.args.pool.now c.args.table.now c.args.refs.now)
-    c.args.lexer.now.tail c.args.out.now.items c.in-Err.fault (sym c.is_done.ensures ∙ c.if-is_done.false)
+    c.args.lexer.now.tail c.args.out.now.items c.in-Err.fault
+    (sym c.is_done.ensures ∙ c.if-is_done.false)
     (sym c.end.ensures ∙ c.in-Err.is))
 
 pub returns-in-Err-finish-clause-ended : goal.returns-in-Err-finish-clause-ended
@@ -24,11 +25,13 @@ returns-in-Err-finish-clause-ended g c =
     (running_in c.args.session.now c.args.pool.now c.args.table.now c.args.refs.now)
     c.args.lexer.now.tail _ c.args.out.now.items _ c.in-Err-finish.fault _ _
     (sym c.is_done.ensures ∙ c.if-is_done.false) (sym c.in_default.is ∙ c.end.ensures)
-    c.in-Err-finish.ensures.ended c.in-Err-finish.ensures.checkpoint c.in-Err-finish.ensures.printed)
+    c.in-Err-finish.ensures.ended c.in-Err-finish.ensures.checkpoint
+    c.in-Err-finish.ensures.printed)
 
 pub returns-in-Err-finish-clause-enough : goal.returns-in-Err-finish-clause-enough
 returns-in-Err-finish-clause-enough g c count =
-    not_stopped c.in-Err-finish.fault count c.stop_of.result c.stop_of.ensures c.in-Err-finish.ensures.enough
+    not_stopped c.in-Err-finish.fault count c.stop_of.result c.stop_of.ensures
+    c.in-Err-finish.ensures.enough
 
 pub returns-clause-ended : goal.returns-clause-ended
 returns-clause-ended g c =
