@@ -3,7 +3,10 @@
 //! tagger.
 
 use git_names::{Kind, Memory, Sha1Naming, name_of};
-use git_objects::{read_commit, read_tag, read_tree, write_commit, write_tag, write_tree};
+use git_objects::{
+    CommitParts, TagParts, TreeEntry, read_commit, read_tag, read_tree, write_commit, write_tag,
+    write_tree,
+};
 use std::alloc::Global;
 use std::test::Fail;
 
@@ -213,56 +216,59 @@ fn is_named_so(alloc: Global, kind: Kind, made: &Made) -> Result<bool, Memory> {
     Ok(id.to_hex() == *made.id)
 }
 
-fn is_same_commit(alloc: Global, made: &Made) -> Result<bool, Memory> {
-    let Some(parts) = read_commit(alloc, made.contents)? else {
-        return Ok(false);
-    };
+fn is_commit(alloc: Global, parts: &CommitParts<'_>, made: &Made) -> Result<bool, Memory> {
     let mut contents = Vec::new(alloc);
-    write_commit(&parts, &mut contents)?;
+    write_commit(parts, &mut contents)?;
+    Ok(contents.as_slice() == made.contents)
+}
+
+fn is_same_commit(alloc: Global, made: &Made) -> Result<bool, Memory> {
+    match read_commit(alloc, made.contents)? {
+        Some(parts) => is_commit(alloc, &parts, made),
+        None => Ok(false),
+    }
+}
+
+fn is_tree(alloc: Global, entries: &[TreeEntry<'_>], made: &Made) -> Result<bool, Memory> {
+    let mut contents = Vec::new(alloc);
+    write_tree(entries, &mut contents)?;
     Ok(contents.as_slice() == made.contents)
 }
 
 fn is_same_tree(alloc: Global, made: &Made) -> Result<bool, Memory> {
-    let Some(entries) = read_tree(alloc, made.contents)? else {
-        return Ok(false);
-    };
+    match read_tree(alloc, made.contents)? {
+        Some(entries) => is_tree(alloc, &entries, made),
+        None => Ok(false),
+    }
+}
+
+fn is_tag(alloc: Global, parts: &TagParts<'_>, made: &Made) -> Result<bool, Memory> {
     let mut contents = Vec::new(alloc);
-    write_tree(&entries, &mut contents)?;
+    write_tag(parts, &mut contents)?;
     Ok(contents.as_slice() == made.contents)
 }
 
 fn is_same_tag(alloc: Global, made: &Made) -> Result<bool, Memory> {
-    let mut contents = Vec::new(alloc);
     match read_tag(alloc, made.contents) {
-        Ok(Some(parts)) => write_tag(&parts, &mut contents)?,
-        Ok(None) => return Ok(false),
-        Err(memory) => return Err(memory),
+        Ok(Some(parts)) => is_tag(alloc, &parts, made),
+        Ok(None) => Ok(false),
+        Err(memory) => Err(memory),
     }
-    Ok(contents.as_slice() == made.contents)
 }
 
-// Whether each commit is read, written again to the same bytes, and named as Git names it.
-fn are_commits(alloc: Global) -> Result<bool, Memory> {
-    for made in &COMMITS {
-        if !is_same_commit(alloc, made)? || !is_named_so(alloc, Kind::Commit, made)? {
-            return Ok(false);
-        }
+fn is_same(alloc: Global, kind: Kind, made: &Made) -> Result<bool, Memory> {
+    match kind {
+        Kind::Commit => is_same_commit(alloc, made),
+        Kind::Tree => is_same_tree(alloc, made),
+        Kind::Tag => is_same_tag(alloc, made),
+        Kind::Blob => Ok(false),
     }
-    Ok(true)
 }
 
-fn are_trees(alloc: Global) -> Result<bool, Memory> {
-    for made in &TREES {
-        if !is_same_tree(alloc, made)? || !is_named_so(alloc, Kind::Tree, made)? {
-            return Ok(false);
-        }
-    }
-    Ok(true)
-}
-
-fn are_tags(alloc: Global) -> Result<bool, Memory> {
-    for made in &TAGS {
-        if !is_same_tag(alloc, made)? || !is_named_so(alloc, Kind::Tag, made)? {
+// Whether each object is read, written again to the same bytes, and named as Git names it.
+fn are_same(alloc: Global, kind: Kind, all: &[Made]) -> Result<bool, Memory> {
+    for made in all {
+        if !is_same(alloc, kind, made)? || !is_named_so(alloc, kind, made)? {
             return Ok(false);
         }
     }
@@ -271,8 +277,8 @@ fn are_tags(alloc: Global) -> Result<bool, Memory> {
 
 #[test]
 fn reads_and_writes_what_git_made(rt: HostRuntime) -> Result<(), Fail> {
-    assert!(rt; are_commits(rt.alloc())?);
-    assert!(rt; are_trees(rt.alloc())?);
-    assert!(rt; are_tags(rt.alloc())?);
+    assert!(rt; are_same(rt.alloc(), Kind::Commit, &COMMITS)?);
+    assert!(rt; are_same(rt.alloc(), Kind::Tree, &TREES)?);
+    assert!(rt; are_same(rt.alloc(), Kind::Tag, &TAGS)?);
     Ok(())
 }

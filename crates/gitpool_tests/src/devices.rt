@@ -4,7 +4,6 @@ use crate::one_byte::OneByte;
 use git_objects::{Counted, FailingReader, FailingWriter, Sha1Naming};
 use gitpool::{ImportFault, import_one};
 use std::alloc::Global;
-use std::test::Fail;
 
 // The line of `get-mark` ends with its 38th byte, and that of `progress` with its 49th.
 pub const STREAM: &[u8] = b"blob\nmark :1\ndata 6\nhello\nget-mark :1\nprogress x\n";
@@ -46,41 +45,50 @@ fn with_failing_writer(
     (ended, faults)
 }
 
+// Whether an import is told of its reader's nth call, once the replies to all before are written.
+fn tells_read(alloc: Global, nth: u64) -> bool {
+    let mut out = Vec::new(alloc);
+    let ended = with_failing_reader(alloc, nth, &mut out);
+    let wanted = REPLIES.get(..replied(nth as usize));
+    ended == (Err(ImportFault::Device), 1) && Some(out.as_slice()) == wanted
+}
+
+fn reads_all(alloc: Global, nth: u64) -> bool {
+    let mut out = Vec::new(alloc);
+    let ended = with_failing_reader(alloc, nth, &mut out);
+    ended == (Ok(()), 0) && out.as_slice() == REPLIES
+}
+
 // The stream has 49 bytes, and the call after them finds its end.
 #[test]
-fn tells_each_read_that_fails(rt: HostRuntime) -> Result<(), Fail> {
+fn tells_each_read_that_fails(rt: HostRuntime) {
     for nth in 0..=49_u64 {
-        let mut out = Vec::new(rt.alloc());
-        let ended = with_failing_reader(rt.alloc(), nth, &mut out);
-        let wanted = REPLIES.get(..replied(nth as usize));
-        assert_eq!(rt; ended, (Err(ImportFault::Device), 1), "at {nth}");
-        assert_eq!(rt; Some(out.as_slice()), wanted, "at {nth}");
+        assert!(rt; tells_read(rt.alloc(), nth), "at {nth}");
     }
-    let mut out = Vec::new(rt.alloc());
-    let ended = with_failing_reader(rt.alloc(), 50, &mut out);
-    assert_eq!(rt; ended, (Ok(()), 0));
-    assert_eq!(rt; out.as_slice(), REPLIES);
-    Ok(())
+    assert!(rt; reads_all(rt.alloc(), 50));
+}
+
+// Whether an import is told of its writer's nth call, once the bytes before stand written.
+fn tells_write(alloc: Global, nth: u64) -> bool {
+    let mut out = Vec::new(alloc);
+    let ended = with_failing_writer(alloc, nth, &mut out);
+    let wanted = REPLIES.get(..nth as usize);
+    ended == (Err(ImportFault::Device), 1) && Some(out.as_slice()) == wanted
+}
+
+fn writes_all(alloc: Global, nth: u64) -> bool {
+    let mut out = Vec::new(alloc);
+    let ended = with_failing_writer(alloc, nth, &mut out);
+    ended == (Ok(()), 0) && out.as_slice() == REPLIES
 }
 
 // The replies have 52 bytes, each of which is a call.
 #[test]
-fn tells_each_write_that_fails(rt: HostRuntime) -> Result<(), Fail> {
+fn tells_each_write_that_fails(rt: HostRuntime) {
     for nth in 0..52_u64 {
-        let mut out = Vec::new(rt.alloc());
-        let ended = with_failing_writer(rt.alloc(), nth, &mut out);
-        assert_eq!(rt; ended, (Err(ImportFault::Device), 1), "at {nth}");
-        assert_eq!(rt;
-            Some(out.as_slice()),
-            REPLIES.get(..nth as usize),
-            "at {nth}"
-        );
+        assert!(rt; tells_write(rt.alloc(), nth), "at {nth}");
     }
-    let mut out = Vec::new(rt.alloc());
-    let ended = with_failing_writer(rt.alloc(), 52, &mut out);
-    assert_eq!(rt; ended, (Ok(()), 0));
-    assert_eq!(rt; out.as_slice(), REPLIES);
-    Ok(())
+    assert!(rt; writes_all(rt.alloc(), 52));
 }
 
 // A stream that ends before its bytes do, its answer, and how many bytes that takes.

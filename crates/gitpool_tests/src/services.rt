@@ -50,26 +50,32 @@ fn first_wrong<N: Naming>(
     turns: &[Turn],
 ) -> Result<Option<usize>, Memory> {
     let mut service = Service::new(alloc, naming);
+    first_wrong_of(alloc, &mut service, turns)
+}
+
+// The same of a service that stands.
+fn first_wrong_of<N: Naming>(
+    alloc: Global,
+    service: &mut Service<N>,
+    turns: &[Turn],
+) -> Result<Option<usize>, Memory> {
     for (place, turn) in turns.iter().enumerate() {
-        if !goes(alloc, &mut service, turn)? {
+        if !goes(alloc, service, turn)? {
             return Ok(Some(place));
         }
     }
     Ok(None)
 }
 
+// Whether a new service prints a line of progress.
+fn prints_progress(alloc: Global) -> Result<bool, Memory> {
+    let mut service = Service::new(alloc, Sha1Naming);
+    prints(alloc, &mut service, b"t", b"progress x\n", b"progress x\n")
+}
+
 #[test]
 fn prints_a_line_of_progress(rt: HostRuntime) -> Result<(), Fail> {
-    let mut service = Service::new(rt.alloc(), Sha1Naming);
-    assert!(rt;
-        prints(
-            rt.alloc(),
-            &mut service,
-            b"t",
-            b"progress x\n",
-            b"progress x\n"
-        )?
-    );
+    assert!(rt; prints_progress(rt.alloc())?);
     Ok(())
 }
 
@@ -100,12 +106,24 @@ fn is_refused(
     Ok(true)
 }
 
+// The first of the bad names, by its place, under which a step is taken.
+fn first_taken(alloc: Global, service: &mut Service<Sha1Naming>) -> Result<Option<usize>, Memory> {
+    for (place, tenant) in BAD_NAMES.iter().enumerate() {
+        if !is_refused(alloc, service, tenant)? {
+            return Ok(Some(place));
+        }
+    }
+    Ok(None)
+}
+
+fn first_taken_when_new(alloc: Global) -> Result<Option<usize>, Memory> {
+    let mut service = Service::new(alloc, Sha1Naming);
+    first_taken(alloc, &mut service)
+}
+
 #[test]
 fn refuses_each_step_under_a_bad_tenant_name(rt: HostRuntime) -> Result<(), Fail> {
-    let mut service = Service::new(rt.alloc(), Sha1Naming);
-    for tenant in BAD_NAMES {
-        assert!(rt; is_refused(rt.alloc(), &mut service, tenant)?, "{tenant:?}");
-    }
+    assert_eq!(rt; first_taken_when_new(rt.alloc())?, None);
     Ok(())
 }
 
@@ -118,24 +136,45 @@ fn keeps_two_contents_of_one_name_apart(rt: HostRuntime) -> Result<(), Fail> {
 // Whether a stream that is fed in two pieces, with a query between them, prints the name.
 fn names_hello(alloc: Global, first: &[u8], later: &[u8]) -> Result<bool, Memory> {
     let mut service = Service::new(alloc, Sha1Naming);
-    let opened = tells(alloc, &mut service, Step::Open { tenant: b"t" }, 0, b"")?;
-    let printed = printed_in_two(alloc, &mut service, first, later)?;
-    let ended = tells(alloc, &mut service, Step::End { tenant: b"t" }, 0, b"")?;
-    Ok(opened && ended && printed.as_slice() == HELLO_NAME && service.stored() == (1, 6))
+    names_hello_over(alloc, &mut service, first, later)
 }
 
-fn printed_in_two<N: Naming>(
+fn names_hello_over(
     alloc: Global,
-    service: &mut Service<N>,
+    service: &mut Service<Sha1Naming>,
     first: &[u8],
     later: &[u8],
-) -> Result<Vec<u8>, Memory> {
+) -> Result<bool, Memory> {
+    let opened = tells(alloc, service, Step::Open { tenant: b"t" }, 0, b"")?;
+    let named = prints_in_two(alloc, service, first, later)?;
+    let ended = tells(alloc, service, Step::End { tenant: b"t" }, 0, b"")?;
+    Ok(opened && named && ended && service.stored() == (1, 6))
+}
+
+fn prints_in_two(
+    alloc: Global,
+    service: &mut Service<Sha1Naming>,
+    first: &[u8],
+    later: &[u8],
+) -> Result<bool, Memory> {
     let mut out = Vec::new(alloc);
-    feed_well(service, first, &mut out)?;
+    feed_in_two(alloc, service, first, later, &mut out)?;
+    Ok(out.as_slice() == HELLO_NAME)
+}
+
+// Feeds two pieces, with a query between them.
+fn feed_in_two(
+    alloc: Global,
+    service: &mut Service<Sha1Naming>,
+    first: &[u8],
+    later: &[u8],
+    out: &mut Vec<u8>,
+) -> Result<(), Memory> {
+    feed_well(service, first, out)?;
     if tells(alloc, service, ASK, 40, b"")? {
-        feed_well(service, later, &mut out)?;
+        feed_well(service, later, out)?;
     }
-    Ok(out)
+    Ok(())
 }
 
 // Feeds a piece, and prints a mark of its own where that is refused.
@@ -160,36 +199,63 @@ fn prints_the_same_however_the_stream_is_cut(rt: HostRuntime) -> Result<(), Fail
     Ok(())
 }
 
+fn feed_by_bytes(service: &mut Service<Sha1Naming>, out: &mut Vec<u8>) -> Result<(), Memory> {
+    for byte in HELLO_AND_MARK {
+        feed_well(service, &[*byte], out)?;
+    }
+    Ok(())
+}
+
+fn prints_by_bytes(alloc: Global, service: &mut Service<Sha1Naming>) -> Result<bool, Memory> {
+    let opened = tells(alloc, service, Step::Open { tenant: b"t" }, 0, b"")?;
+    let mut out = Vec::new(alloc);
+    feed_by_bytes(service, &mut out)?;
+    Ok(opened && out.as_slice() == HELLO_NAME)
+}
+
+fn names_hello_by_bytes(alloc: Global) -> Result<bool, Memory> {
+    let mut service = Service::new(alloc, Sha1Naming);
+    prints_by_bytes(alloc, &mut service)
+}
+
 #[test]
 fn prints_the_same_byte_by_byte(rt: HostRuntime) -> Result<(), Fail> {
-    let mut service = Service::new(rt.alloc(), Sha1Naming);
-    let mut out = Vec::new(rt.alloc());
-    assert!(rt;
-        tells(
-            rt.alloc(),
-            &mut service,
-            Step::Open { tenant: b"t" },
-            0,
-            b""
-        )?
-    );
-    for byte in HELLO_AND_MARK {
-        feed_well(&mut service, &[*byte], &mut out)?;
-    }
-    assert!(rt; out.as_slice() == HELLO_NAME);
+    assert!(rt; names_hello_by_bytes(rt.alloc())?);
     Ok(())
+}
+
+// Whether the tenant of this number stores the blob.
+fn stores_hello(
+    alloc: Global,
+    service: &mut Service<Sha1Naming>,
+    number: usize,
+) -> Result<bool, Memory> {
+    let tenant = format!(in alloc; "tenant{number}")?;
+    prints(alloc, service, tenant.as_bytes(), HELLO, b"")
+}
+
+// Whether a thousand tenants store the blob.
+fn a_thousand_store(alloc: Global, service: &mut Service<Sha1Naming>) -> Result<bool, Memory> {
+    for number in 0..1000 {
+        if !stores_hello(alloc, service, number)? {
+            return Ok(false);
+        }
+    }
+    Ok(true)
+}
+
+fn goes_after_a_thousand(alloc: Global, service: &mut Service<Sha1Naming>) -> Result<bool, Memory> {
+    Ok(a_thousand_store(alloc, service)? && first_wrong_of(alloc, service, ONE_MORE)?.is_none())
+}
+
+fn is_one_more(alloc: Global) -> Result<bool, Memory> {
+    let mut service = Service::new(alloc, Sha1Naming);
+    goes_after_a_thousand(alloc, &mut service)
 }
 
 #[test]
 fn serves_one_more_after_a_thousand(rt: HostRuntime) -> Result<(), Fail> {
-    let mut service = Service::new(rt.alloc(), Sha1Naming);
-    for number in 0..1000 {
-        let tenant = format!(in rt.alloc(); "tenant{number}")?;
-        assert!(rt; prints(rt.alloc(), &mut service, tenant.as_bytes(), HELLO, b"")?);
-    }
-    for turn in ONE_MORE {
-        assert!(rt; goes(rt.alloc(), &mut service, turn)?);
-    }
+    assert!(rt; is_one_more(rt.alloc())?);
     Ok(())
 }
 
@@ -206,12 +272,20 @@ fn are_told(replies: &[Reply], told: &[(Answer, &[u8])]) -> Result<bool, Memory>
     Ok(replies.len() == told.len())
 }
 
+fn run_tells(alloc: Global, service: &mut Service<Sha1Naming>) -> Result<bool, Memory> {
+    let mut replies = Vec::new(alloc);
+    service.run(TOLD_STEPS, &mut replies)?;
+    are_told(&replies, TOLD)
+}
+
+fn replies_as_told(alloc: Global) -> Result<bool, Memory> {
+    let mut service = Service::new(alloc, Sha1Naming);
+    run_tells(alloc, &mut service)
+}
+
 #[test]
 fn has_a_reply_for_each_step(rt: HostRuntime) -> Result<(), Fail> {
-    let mut service = Service::new(rt.alloc(), Sha1Naming);
-    let mut replies = Vec::new(rt.alloc());
-    service.run(TOLD_STEPS, &mut replies)?;
-    assert!(rt; are_told(&replies, TOLD)?);
+    assert!(rt; replies_as_told(rt.alloc())?);
     Ok(())
 }
 
@@ -244,18 +318,24 @@ fn stops_well(alloc: Global, service: &mut Service<Sha1Naming>) -> Result<bool, 
     )
 }
 
+// The same after an Open, which may stop too and then leaves no tenant.
+fn opens_and_stops_well(alloc: Global, service: &mut Service<Sha1Naming>) -> Result<bool, Memory> {
+    let mut out = Vec::new(alloc);
+    match service.step(Step::Open { tenant: b"t" }, &mut out) {
+        Answer::Ok => stops_well(alloc, service),
+        told => Ok(told == Answer::Memory(0) && service.view(b"t").is_none()),
+    }
+}
+
+fn stops_as_alone(alloc: Global) -> Result<bool, Memory> {
+    let mut service = Service::new(alloc, Sha1Naming);
+    opens_and_stops_well(alloc, &mut service)
+}
+
 // With the Nth allocation refused, for each N, the answers are those of a repository of its own
 // given the same stop.
 #[test]
 fn stops_after_whole_items(rt: HostRuntime) -> Result<(), Fail> {
-    let mut service = Service::new(rt.alloc(), Sha1Naming);
-    let mut out = Vec::new(rt.alloc());
-    match service.step(Step::Open { tenant: b"t" }, &mut out) {
-        Answer::Ok => assert!(rt; stops_well(rt.alloc(), &mut service)?),
-        told => {
-            assert_eq!(rt; told, Answer::Memory(0));
-            assert!(rt; service.view(b"t").is_none());
-        }
-    }
+    assert!(rt; stops_as_alone(rt.alloc())?);
     Ok(())
 }

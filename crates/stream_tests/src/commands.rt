@@ -14,7 +14,7 @@ mod texts;
 
 use std::alloc::{AllocError, Global};
 use std::test::Fail;
-use stream_grammar::{Act, CommitIsh, DataRef, Fault, Feature, FileMode, Mark, Parser, Path};
+use stream_grammar::{Act, CommitIsh, DataRef, Done, Fault, Feature, FileMode, Mark, Parser, Path};
 use stream_lex::Item;
 
 /// What a parser does, in words and as rows.
@@ -87,10 +87,7 @@ impl Reading {
     fn put_line_act(&mut self, act: &Act<'_>) -> Result<(), AllocError> {
         match act {
             Act::Checkpoint => self.put(b"checkpoint"),
-            Act::Progress(line) => {
-                self.put(b"progress ")?;
-                self.put(line)
-            }
+            Act::Progress(line) => self.put_both(b"progress ", line),
             Act::ShowMark(mark) => {
                 self.put(b"name ")?;
                 self.put_mark(*mark)
@@ -106,10 +103,7 @@ impl Reading {
             }
             Act::Finish => self.put(b"finish"),
             Act::Require(feature) => self.put(feature_text(*feature)),
-            Act::SetHead(name) => {
-                self.put(b"head ")?;
-                self.put(name.as_bytes())
-            }
+            Act::SetHead(name) => self.put_both(b"head ", name.as_bytes()),
             _ => self.put(b"wait"),
         }
     }
@@ -121,26 +115,17 @@ impl Reading {
                 self.put(b"blob ")?;
                 self.put_contents(*mark, contents)
             }
-            Act::BeginTag(name) => {
-                self.put(b"tag ")?;
-                self.put(name.as_bytes())
-            }
+            Act::BeginTag(name) => self.put_both(b"tag ", name.as_bytes()),
             Act::TagTarget(commit) => {
                 self.put(b"target ")?;
                 self.put_commit(commit)
             }
-            Act::Tagger(ident) => {
-                self.put(b"tagger ")?;
-                self.put(ident.as_bytes())
-            }
+            Act::Tagger(ident) => self.put_both(b"tagger ", ident.as_bytes()),
             Act::StoreTag { mark, message } => {
                 self.put(b"store-tag ")?;
                 self.put_contents(*mark, message)
             }
-            Act::Reset(name) => {
-                self.put(b"reset ")?;
-                self.put(name.as_bytes())
-            }
+            Act::Reset(name) => self.put_both(b"reset ", name.as_bytes()),
             Act::ResetTo(commit) => {
                 self.put(b"reset-to ")?;
                 self.put_commit(commit)
@@ -158,22 +143,10 @@ impl Reading {
     // An act of a commit, up to its merges.
     fn put_commit_act(&mut self, act: &Act<'_>) -> Result<(), AllocError> {
         match act {
-            Act::BeginCommit(name) => {
-                self.put(b"commit ")?;
-                self.put(name.as_bytes())
-            }
-            Act::Author(ident) => {
-                self.put(b"author ")?;
-                self.put(ident.as_bytes())
-            }
-            Act::Committer(ident) => {
-                self.put(b"committer ")?;
-                self.put(ident.as_bytes())
-            }
-            Act::Encoding(encoding) => {
-                self.put(b"encoding ")?;
-                self.put(encoding)
-            }
+            Act::BeginCommit(name) => self.put_both(b"commit ", name.as_bytes()),
+            Act::Author(ident) => self.put_both(b"author ", ident.as_bytes()),
+            Act::Committer(ident) => self.put_both(b"committer ", ident.as_bytes()),
+            Act::Encoding(encoding) => self.put_both(b"encoding ", encoding),
             Act::OpenCommit { mark, message } => {
                 self.put(b"open ")?;
                 self.put_contents(*mark, message)
@@ -191,42 +164,43 @@ impl Reading {
     }
 
     // An act that changes the files of a commit.
+    fn put_both(&mut self, word: &[u8], text: &[u8]) -> Result<(), AllocError> {
+        self.put(word)?;
+        self.put(text)
+    }
+
+    fn put_at(&mut self, word: &[u8], path: &Path) -> Result<(), AllocError> {
+        self.put(word)?;
+        self.put_path(path)
+    }
+
+    fn put_paths(&mut self, word: &[u8], source: &Path, path: &Path) -> Result<(), AllocError> {
+        self.put(word)?;
+        self.put_path(source)?;
+        self.put_path(path)
+    }
+
+    fn put_file(&mut self, mode: FileMode, object: DataRef, path: &Path) -> Result<(), AllocError> {
+        self.put_both(b"modify ", mode_text(mode))?;
+        self.put_object(object)?;
+        self.put_path(path)
+    }
+
+    fn put_inline(&mut self, mode: FileMode, path: &Path) -> Result<(), AllocError> {
+        self.put_both(b"inline ", mode_text(mode))?;
+        self.put_path(path)
+    }
+
     fn put_change(&mut self, act: &Act<'_>) -> Result<(), AllocError> {
         match act {
-            Act::Modify { mode, object, path } => {
-                self.put(b"modify ")?;
-                self.put(mode_text(*mode))?;
-                self.put_object(*object)?;
-                self.put_path(path)
-            }
-            Act::ModifyInline { mode, path } => {
-                self.put(b"inline ")?;
-                self.put(mode_text(*mode))?;
-                self.put_path(path)
-            }
-            Act::PutContents(contents) => {
-                self.put(b"contents ")?;
-                self.put(contents)
-            }
-            Act::Delete(path) => {
-                self.put(b"delete")?;
-                self.put_path(path)
-            }
-            Act::Copy { source, path } => {
-                self.put(b"copy")?;
-                self.put_path(source)?;
-                self.put_path(path)
-            }
-            Act::Rename { source, path } => {
-                self.put(b"rename")?;
-                self.put_path(source)?;
-                self.put_path(path)
-            }
+            Act::Modify { mode, object, path } => self.put_file(*mode, *object, path),
+            Act::ModifyInline { mode, path } => self.put_inline(*mode, path),
+            Act::PutContents(contents) => self.put_both(b"contents ", contents),
+            Act::Delete(path) => self.put_at(b"delete", path),
+            Act::Copy { source, path } => self.put_paths(b"copy", source, path),
+            Act::Rename { source, path } => self.put_paths(b"rename", source, path),
             Act::DeleteAll => self.put(b"deleteall"),
-            Act::ShowBranchEntry(path) => {
-                self.put(b"branch entry")?;
-                self.put_path(path)
-            }
+            Act::ShowBranchEntry(path) => self.put_at(b"branch entry", path),
             _ => self.put_line_act(act),
         }
     }
@@ -241,14 +215,16 @@ impl Reading {
     fn take(&mut self, item: Item<'_>) -> Result<(), AllocError> {
         self.bytes.clear();
         match self.parser.take(item) {
-            Ok(done) => {
-                if done.ends_commit {
-                    self.put(b"ends commit, ")?;
-                }
-                self.put_act(&done.act)
-            }
+            Ok(done) => self.put_done(&done),
             Err(fault) => self.put_fault(fault),
         }
+    }
+
+    fn put_done(&mut self, done: &Done<'_>) -> Result<(), AllocError> {
+        if done.ends_commit {
+            self.put(b"ends commit, ")?;
+        }
+        self.put_act(&done.act)
     }
 
     // Writes what the end of the stream is answered with.

@@ -34,6 +34,35 @@ const STREAMS: &[(&str, &str)] = &[
     ("blob\ndata -1\nblob\n", "blob|fault 4"),
 ];
 
+// Writes an item, and a bar after it.
+fn put(shown: &mut Vec<u8>, item: Item<'_>) -> Result<(), AllocError> {
+    match item {
+        Item::Line(text) => put_in(b"", text, b"|", shown),
+        Item::Data(raw) => put_in(b"<", raw, b">|", shown),
+        Item::Blank => shown.extend_from_slice(b"blank|"),
+    }
+}
+
+fn put_in(before: &[u8], text: &[u8], after: &[u8], shown: &mut Vec<u8>) -> Result<(), AllocError> {
+    shown.extend_from_slice(before)?;
+    shown.extend_from_slice(text)?;
+    shown.extend_from_slice(after)
+}
+
+// How the stream ends.
+fn end_of(lexer: &Lexer) -> &'static [u8] {
+    match lexer.end() {
+        Ok(()) => b"end",
+        Err(fault) => match fault.code() {
+            1 => b"fault 1",
+            4 => b"fault 4",
+            6 => b"fault 6",
+            25 => b"fault 25",
+            _ => b"fault 90",
+        },
+    }
+}
+
 // A lexer, and what it gave so far.
 #[derive(Drop)]
 struct Reading {
@@ -47,16 +76,9 @@ impl Reading {
         let _ = self.lexer.feed(piece);
         for _ in 0..u64::MAX {
             match self.lexer.next() {
-                Ok(Some(Item::Line(text))) => self.shown.extend_from_slice(text)?,
-                Ok(Some(Item::Data(raw))) => {
-                    self.shown.push(b'<')?;
-                    self.shown.extend_from_slice(raw)?;
-                    self.shown.push(b'>')?;
-                }
-                Ok(Some(Item::Blank)) => self.shown.extend_from_slice(b"blank")?,
+                Ok(Some(item)) => put(&mut self.shown, item)?,
                 _ => return Ok(()),
             }
-            self.shown.push(b'|')?;
         }
         Ok(())
     }
@@ -71,17 +93,7 @@ impl Reading {
 
     // Writes how the stream ends, and compares all that was written.
     fn ends_with(&mut self, items: &[u8]) -> Result<bool, AllocError> {
-        let end: &[u8] = match self.lexer.end() {
-            Ok(()) => b"end",
-            Err(fault) => match fault.code() {
-                1 => b"fault 1",
-                4 => b"fault 4",
-                6 => b"fault 6",
-                25 => b"fault 25",
-                _ => b"fault 90",
-            },
-        };
-        self.shown.extend_from_slice(end)?;
+        self.shown.extend_from_slice(end_of(&self.lexer))?;
         Ok(self.shown.as_slice() == items)
     }
 

@@ -14,17 +14,24 @@ const IMPORT: &[u8] = b"blob\nmark :1\ndata 6\nhello\nget-mark :1\n";
 const ASK: &[u8] = b"cat-blob ce013625030ba8dba906f756967f9e9ca394464a\n";
 
 // One stream of a tenant, from its Open to its End; what it prints is appended to `out`. Whether
-// each step was answered well.
+// each step was answered well: the first that is not ends it.
 fn carry_out(
     service: &mut Service<Sha1Naming>,
     tenant: &[u8],
     bytes: &[u8],
     out: &mut Vec<u8>,
 ) -> bool {
-    let opened = service.step(Step::Open { tenant }, out);
-    let fed = service.step(Step::Feed { tenant, bytes }, out);
-    let ended = service.step(Step::End { tenant }, out);
-    opened == Answer::Ok && fed == Answer::Ok && ended == Answer::Ok
+    let steps = [
+        Step::Open { tenant },
+        Step::Feed { tenant, bytes },
+        Step::End { tenant },
+    ];
+    for step in &steps {
+        if service.step(*step, out) != Answer::Ok {
+            return false;
+        }
+    }
+    true
 }
 
 fn print(rt: &HostRuntime, tenant: &str, out: &[u8]) -> io::Result<()> {
@@ -32,14 +39,18 @@ fn print(rt: &HostRuntime, tenant: &str, out: &[u8]) -> io::Result<()> {
     print!(rt; "{tenant} is told: {text}")
 }
 
+// Carries out a tenant's stream, and prints what the tenant is told. Whether both went well.
+fn tell(rt: &HostRuntime, service: &mut Service<Sha1Naming>, tenant: &str, bytes: &[u8]) -> bool {
+    let mut out = Vec::new(rt.alloc());
+    let carried = carry_out(service, tenant.as_bytes(), bytes, &mut out);
+    carried && print(rt, tenant, &out).is_ok()
+}
+
 fn main(rt: HostRuntime) -> ExitCode {
     let mut service = Service::new(rt.alloc(), Sha1Naming);
-    let mut alice = Vec::new(rt.alloc());
-    let mut bob = Vec::new(rt.alloc());
-    let imported = carry_out(&mut service, b"alice", IMPORT, &mut alice);
-    let asked = carry_out(&mut service, b"bob", ASK, &mut bob);
-    let printed = print(&rt, "alice", &alice).is_ok() && print(&rt, "bob", &bob).is_ok();
-    if imported && asked && printed {
+    let imported = tell(&rt, &mut service, "alice", IMPORT);
+    let asked = tell(&rt, &mut service, "bob", ASK);
+    if imported && asked {
         ExitCode::SUCCESS
     } else {
         ExitCode::FAILURE

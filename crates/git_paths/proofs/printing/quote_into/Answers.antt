@@ -14,3 +14,6 @@ returns-then-not-any-clause-ok c =
     (YieldsList-from_slice c.args.bytes.now c.iter.ensures.rest)
     (λ x b q k. search (rules, tests)) in
     rw (quoted-plain c.args.bytes.now (sym special ∙ c.if-not-any.true)) (search rules)
+
+pub returns-then-is_err-clause-err : goal.returns-then-is_err-clause-err
+returns-then-is_err-clause-err c = search rules
