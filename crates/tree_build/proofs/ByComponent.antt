@@ -1,7 +1,7 @@
 -- Files by their first components are the files at or below each one.
-use Rattle.std.proofs.Common.{◌≡◌, ◌≢◌, ℕ, suc, ◌<◌, true, false, cond, length, List, [], ◌∷◌, ◌++◌}
+use Rattle.std.proofs.Common.{◌≡◌, ◌≢◌, ℕ, List, [], ◌∷◌, ◌++◌}
 use Rattle.std.proofs.Common.{refl, sym, ap, ◌∙◌, subst, arith}
-use Rattle.std.specs.Prelude.{AllPairs, Contains, Option, Some, None, if◌then◌else◌}
+use Rattle.std.specs.Prelude.{AllPairs, Contains, if◌then◌else◌}
 use Rattle.std.specs.List.{AllByRecursion}
 use Rattle.std.specs.Str.{bytes_eq}
 use Rattle.std.proofs.lemmas.Bool.{true≢false}
@@ -18,7 +18,6 @@ use Rattle.tree_build.specs.Edits.{cut, cut_one, files_at}
 use Rattle.tree_build.specs.Trees.{Groups, grouped, add_path, add_file}
 use Rattle.tree_build.specs.ByComponent.{IsByFirstComponent}
 use Rattle.tree_build.proofs.Apart.{cut-all, all-weaker, all-both}
-use Rattle.tree_build.proofs.Groups.{itself}
 use Rattle.tree_build.proofs.Rising.{Rises, GroupsRise, OfFirst, grouped-first, groups-rise}
 use Rattle.tree_build.proofs.Fits.{order-of, apart-of}
 use Rattle.tree_build.proofs.Cutting.{turns-cut}

@@ -283,7 +283,7 @@ listed-with (f ∷ fs) h =
     entries-insert path_cmp-total (with_files finmap.empty fs) f.0 f.1
     ∙ ap (put path_cmp f.0 f.1) (listed-with fs h.1) ∙ put-first f fs h.0
 
-cut-root : (fs : Listed) → cut [] fs ≡ fs
+pub cut-root : (fs : Listed) → cut [] fs ≡ fs
 cut-root [] = refl
 cut-root (f ∷ fs) = ap (λ (r : Listed). f ∷ r) (cut-root fs)
 

@@ -52,18 +52,18 @@ free id c os h short =
     rw (fits, h, (same_content-decides c c).1 refl) refl
 
 module _ (digest : List ℕ → List ℕ) (os : List Object) (good : AreTreesGood digest os) where
-  filled-in : (id : List ℕ) (es : List TreeEntry) → HasTree os id es
+  pub filled-in : (id : List ℕ) (es : List TreeEntry) → HasTree os id es
       → AllByRecursion (IsFilled os) es
   filled-in id es h = recursion_from_All (IsFilled os) es (good.filled id es h)
 
-  inside-some : (e : TreeEntry) (inside : List TreeEntry) → IsFilled os e → e.mode ≡ mode.Directory
+  pub inside-some : (e : TreeEntry) (inside : List TreeEntry) → IsFilled os e → e.mode ≡ mode.Directory
       → HasTree os e.id inside → inside ≢ []
   inside-some e inside h is has =
       let t = h is in subst (λ (x : List TreeEntry). x ≢ [])
       (has-only os e.id t.inside inside t.tree has) t.some
 
   -- entries list files
-  lists-some : {es : List TreeEntry} {fs : Listed} → Lists os es fs
+  pub lists-some : {es : List TreeEntry} {fs : Listed} → Lists os es fs
       → AllByRecursion (IsFilled os) es → es ≢ [] → fs ≢ []
   lists-some nothing h ne = absurd (ne refl)
   lists-some (first_file e es files file l) h ne = λ x. cc x

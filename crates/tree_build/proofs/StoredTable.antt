@@ -38,7 +38,7 @@ module _ (digest : List ℕ → List ℕ) (pool : Cells) (entries : Entries)
       (some_of (summary_of e.id (take (position_of id entries) entries)) (λ s. s.files ≢ 0) (d is)))
       es p.1.directories
 
-  stored-listed : (id : List ℕ) (fs : Listed) → ListsTree (objects pool entries) id fs
+  pub stored-listed : (id : List ℕ) (fs : Listed) → ListsTree (objects pool entries) id fs
       → stored_files (objects pool entries) id ≡ fs
   stored-listed id fs t =
       let p = tree-placed digest pool entries stands id t.direct t.tree in

@@ -186,28 +186,34 @@ module _ (digest : List ℕ → List ℕ) (deep : ℕ) where
         one (c, (((d ∷ q), e) ∷ fs)) a b =
             λ is. subst (λ (o : Option Summary). IsSomeAnd o (λ s. s.files ≢ 0)) (sym (b refl)) (λ none. cc none)
 
-    -- the contents fit the table
+    -- the contents are those of a tree whose directories stand in the table
+    pub is-tree : (fs : Listed) (bytes : List ℕ) → bound ≡ depth_of fs → AreStorable fs
+        → AllByRecursion (IsKnown held) (grouped fs)
+        → AllByRecursion (λ e. IsObjectName e.id) (map (direct_of digest deep) (grouped fs))
+        → bytes ≡ tree_contents (map (direct_of digest deep) (grouped fs))
+        → table.IsTreeOf held bytes (files_summary fs) (map (direct_of digest deep) (grouped fs))
+    is-tree fs bytes is h known ids contents =
+        let groups = subst (λ (n : ℕ). AllByRecursion (IsGroup n) (grouped fs)) (sym is) (groups-are fs h) in record {
+          writable =
+              can_write_tree digest deep bound (grouped fs) groups
+              (groups-rise fs (all-weaker IsFile (λ f. IsPath f.0) (λ f k. k.path) fs h.each) h.in_order h.apart) ids;
+          contents = contents;
+          directories =
+              All-from_recursion (table.DirectoryStands held)
+              (map (direct_of digest deep) (grouped fs)) (stand (grouped fs) groups known);
+          sums =
+              sym
+              (groups-sum fs (all-weaker IsFile (λ f. f.0 ≢ []) (λ f k. k.below_the_root) fs h.each) h.apart)
+              ∙ sym (none-both (groups_sum (grouped fs)))
+              ∙ sym (fold-sums table.no_files (map group_sum (grouped fs)))
+              ∙ ap (fold table.both table.no_files) (sym (entries-sum (grouped fs) groups known));
+        }
+
+    -- so they fit it
     pub fits-tree : (fs : Listed) (bytes : List ℕ) → bound ≡ depth_of fs → AreStorable fs
         → AllByRecursion (IsKnown held) (grouped fs)
         → AllByRecursion (λ e. IsObjectName e.id) (map (direct_of digest deep) (grouped fs))
         → bytes ≡ tree_contents (map (direct_of digest deep) (grouped fs))
         → table.FitsTree held bytes (files_summary fs)
     fits-tree fs bytes is h known ids contents =
-        let groups = subst (λ (n : ℕ). AllByRecursion (IsGroup n) (grouped fs)) (sym is) (groups-are fs h) in (
-          map (direct_of digest deep) (grouped fs),
-          record {
-            writable =
-                can_write_tree digest deep bound (grouped fs) groups
-                (groups-rise fs (all-weaker IsFile (λ f. IsPath f.0) (λ f k. k.path) fs h.each) h.in_order h.apart) ids;
-            contents = contents;
-            directories =
-                All-from_recursion (table.DirectoryStands held)
-                (map (direct_of digest deep) (grouped fs)) (stand (grouped fs) groups known);
-            sums =
-                sym
-                (groups-sum fs (all-weaker IsFile (λ f. f.0 ≢ []) (λ f k. k.below_the_root) fs h.each) h.apart)
-                ∙ sym (none-both (groups_sum (grouped fs)))
-                ∙ sym (fold-sums table.no_files (map group_sum (grouped fs)))
-                ∙ ap (fold table.both table.no_files) (sym (entries-sum (grouped fs) groups known));
-          },
-        )
+        (map (direct_of digest deep) (grouped fs), is-tree fs bytes is h known ids contents)

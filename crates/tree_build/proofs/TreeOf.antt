@@ -1,10 +1,9 @@
 -- The tree of a path lists what stands one component below it.
-use Rattle.std.proofs.Common.{◌≡◌, ◌≢◌, ℕ, zero, suc, ◌-◌, ◌<◌, ◌≤◌, false, length, List, [], ◌∷◌}
+use Rattle.std.proofs.Common.{◌≡◌, ◌≢◌, ℕ, zero, suc, ◌≤◌, false, length, List, [], ◌∷◌}
 use Rattle.std.proofs.Common.{◌++◌, map, refl, sym, ap, ◌∙◌, subst, arith}
 use Rattle.std.specs.Prelude.{AllPairs, Contains, IsSorted, Option, Some, None}
 use Rattle.std.specs.List.{AllByRecursion}
 use Rattle.std.proofs.lemmas.List.Elements.{All-contains, All-from_recursion, Contains-append_right}
-use Rattle.git_model.specs.declared.file_mode.FileMode.{FileMode}
 use Rattle.git_model.specs.Tree.{TreeEntry, tree_cmp}
 use Rattle.git_paths.proofs.Cases.{some_is}
 use Rattle.tree_build.specs.declared.entry.Entry.{Entry}
@@ -26,7 +25,7 @@ depth_within : (fs : Listed) (n : ℕ) → AllByRecursion (λ f. suc (length f.0
 depth_within [] n h = omega arith
 depth_within (f ∷ fs) n h = let one = h.0 in let rest = depth_within fs n h.1 in omega arith
 
-depth-groups : (fs : Listed) (n : ℕ) → depth_of fs ≤ suc n
+pub depth-groups : (fs : Listed) (n : ℕ) → depth_of fs ≤ suc n
     → AllByRecursion (λ g. depth_of g.1 ≤ n) (grouped fs)
 depth-groups fs n h =
     all-weaker (λ (g : List ℕ × Listed). AllByRecursion (λ f. suc (length f.0) ≤ suc n) g.1)
@@ -34,12 +33,12 @@ depth-groups fs n h =
     (λ g k. depth_within g.1 n k) (grouped fs)
     (grouped-all (λ (f : File). length f.0 ≤ suc n) fs (depth_each fs (suc n) h))
 
-no_groups : (fs : Listed) → depth_of fs ≤ 0 → grouped fs ≡ []
+pub no_groups : (fs : Listed) → depth_of fs ≤ 0 → grouped fs ≡ []
 no_groups [] h = refl
 no_groups (([], e) ∷ fs) h = no_groups fs (omega arith)
 no_groups (((c ∷ q), e) ∷ fs) h = absurd (omega arith)
 
-map-all : {A B : Type 0} (f g : A → B) (xs : List A) → AllByRecursion (λ x. f x ≡ g x) xs
+pub map-all : {A B : Type 0} (f g : A → B) (xs : List A) → AllByRecursion (λ x. f x ≡ g x) xs
     → map f xs ≡ map g xs
 map-all f g [] h = refl
 map-all f g (x ∷ xs) h = let rest = map-all f g xs h.1 in λ i. h.0 i ∷ rest i
@@ -56,7 +55,7 @@ same_each digest n k same (g ∷ gs) p q = (
   same_each digest n k same gs p.1 q.1,
 )
 
-deeper : (digest : List ℕ → List ℕ) (n k : ℕ) (fs : Listed) → depth_of fs ≤ n → depth_of fs ≤ k
+pub deeper : (digest : List ℕ → List ℕ) (n k : ℕ) (fs : Listed) → depth_of fs ≤ n → depth_of fs ≤ k
     → entries_within digest n fs ≡ entries_within digest k fs
 unfolding entries_within
 deeper digest zero zero fs a b = refl
@@ -69,7 +68,7 @@ deeper digest (suc n) (suc k) fs a b =
 -- ---- the entry of a group
 
 module _ (digest : List ℕ → List ℕ) where
-  abbrev entry_of : List ℕ × Listed → TreeEntry
+  abbrev pub entry_of : List ℕ × Listed → TreeEntry
   entry_of g = direct g.0 (file_of g.1) (tree_id digest g.1)
 
   own_depth : (n : ℕ) (gs : Groups) → AllByRecursion (λ g. depth_of g.1 ≤ n) gs
@@ -81,7 +80,7 @@ module _ (digest : List ℕ → List ℕ) where
     own_depth n gs h.1,
   )
 
-  within-groups : (n : ℕ) (fs : Listed) → depth_of fs ≤ n
+  pub within-groups : (n : ℕ) (fs : Listed) → depth_of fs ≤ n
       → entries_within digest n fs ≡ map entry_of (grouped fs)
   unfolding entries_within
   within-groups zero fs h = rw (no_groups fs h) refl

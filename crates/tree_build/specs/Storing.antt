@@ -1,13 +1,13 @@
 -- Storing trees one after another: git-write-tree(1).
-use Rattle.std.specs.Prelude.{◌≡◌, ◌≢◌, ℕ, ◌+◌, ◌-◌, ◌^◌, ◌<◌, List, [], ◌∷◌, ◌++◌, Option, None}
+use Rattle.std.specs.Prelude.{◌≡◌, ◌≢◌, ℕ, List, [], ◌∷◌, ◌++◌, Option, None}
 use Rattle.std.specs.Prelude.{Some, Result, Ok, Err}
 use Rattle.git_model.specs.Repository.{Object, with_object}
 use Rattle.git_model.specs.Tree.{TreeEntry}
-use Rattle.content_pool.specs.Pool.{Cells, holds}
+use Rattle.content_pool.specs.Pool.{Cells}
 use Rattle.tenant_tables.specs.declared.fault.Fault.{Fault as TableFault}
 use Rattle.tenant_tables.specs.declared.fault.Fault.TheVariants as table
 use Rattle.tenant_tables.specs.declared.summary.Summary.{Summary}
-use Rattle.tenant_tables.specs.View.{View, Entries, held, summary_of}
+use Rattle.tenant_tables.specs.View.{View, summary_of}
 use Rattle.tenant_tables.specs.Objects.{objects}
 use Rattle.tenant_tables.specs.StandsIn.{StandsIn, LeavesOthers}
 pub use Rattle.tenant_tables.specs.Room.{HasRoomBeside}

@@ -60,7 +60,10 @@ fn has_none(table: &Table, id: &Name) -> bool
     }
 }
 
-fn read_entries<'a, N: Naming>(
+/// The entries of the stored tree of this name. `Memory` (90) is the only refusal.
+///
+/// The pool is the one that the table stands in.
+pub fn read_entries<'a, N: Naming>(
     alloc: Global,
     pool: &'a Pool<N>,
     table: &Table,

@@ -15,3 +15,6 @@ mod storing;
 pub use entry::Entry;
 pub use fault::Fault;
 pub use files::Files;
+pub use grafted::read_entries;
+pub use naming::contents_of;
+pub use storing::add_entries;

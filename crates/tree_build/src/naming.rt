@@ -30,8 +30,8 @@ pub(crate) fn entry_by<'a>(group: &Group<'a>, id: Name) -> TreeEntry<'a>
     }
 }
 
-/// The contents of the tree with these entries.
-pub(crate) fn contents_of(alloc: Global, entries: &[TreeEntry<'_>]) -> Result<Vec<u8>, Memory>
+/// The contents of the tree with these entries, in this order. `Memory` (90) is the only refusal.
+pub fn contents_of(alloc: Global, entries: &[TreeEntry<'_>]) -> Result<Vec<u8>, Memory>
     ensures { IfOk result (λ v. v.items ≡ tree_contents (entries_of entries.now)) }
 {
     let mut contents = Vec::new(alloc);

@@ -57,8 +57,15 @@ fn summary_of(files: &[Below<'_>]) -> Summary
     }
 }
 
-// Adds the tree with these entries.
-fn add_entries<N: Naming>(
+/// Adds the tree with these entries to a table, and answers its name: git-mktree(1).
+///
+/// The entries make a tree whose directories stand in the table, and the summary is that of its
+/// files. A tree that is there is found. `Fault::Limit` (25) where the contents are too long or the
+/// table is full, else `Fault::NameCollision` (24) where the table has another object of its name;
+/// `Fault::Memory` (90) where a growth was refused. Nothing has changed after these.
+///
+/// The pool is the one that the table stands in.
+pub fn add_entries<N: Naming>(
     alloc: Global,
     pool: &mut Pool<N>,
     table: &mut Table,

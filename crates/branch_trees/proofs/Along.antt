@@ -1,0 +1,103 @@
+-- Directories that are opened on the way to a path: what they mean stays, and few texts are read.
+use Rattle.std.proofs.Common.{◌≡◌, ◌≢◌, ℕ, ◌+◌, ◌≤◌, Bool, cond, List, [], ◌∷◌, ◌++◌, refl, sym, ap, ◌∙◌, subst, arith}
+use Rattle.std.specs.Prelude.{Option, Some, length}
+use Rattle.std.specs.Str.{bytes_eq}
+use Rattle.git_model.specs.Repository.{Object}
+use Rattle.git_paths.proofs.Cases.{by_cases}
+use Rattle.tree_build.specs.FileMap.{Path, Listed}
+use Rattle.tree_build.specs.Edits.{moved}
+use Rattle.tree_build.specs.StoredFiles.{stored_files}
+use Rattle.branch_trees.specs.Shape.{What, file, unopened, opened, Shape, none, row, Held, Directory, Known, what_files, shape_files, held_files}
+use Rattle.branch_trees.specs.Branch.{IsShape, IsHeld, closed_by, closed_along, closed_from}
+use Rattle.branch_trees.specs.Editing.{child, changed}
+use Rattle.branch_trees.specs.Opened.{OpensHeld, OpensAlong, ReadsMore}
+use Rattle.branch_trees.proofs.Beside.{child_changed, shape_changed}
+use Rattle.branch_trees.proofs.Entries.{one_held, closed_child, closed_at, entry_at}
+
+pub closed_bound : (s : Shape) (c : List ℕ) (p : Path) → closed_along s (c ∷ p) ≤ length p
+closed_bound none c p = omega arith
+closed_bound (row d w inside rest) c p =
+    by_cases (bytes_eq d c) (λ yea. rw yea (by w p (λ x q. closed_bound inside x q)))
+    (λ nay. rw nay (closed_bound rest c p))
+  where
+    by : (w : What) (p : Path) → ((x : List ℕ) (q : Path) → closed_along inside (x ∷ q) ≤ length q)
+        → closed_by w (closed_along inside p) (length p) ≤ length p
+    by (file e) p h = omega arith
+    by (unopened id) p h = omega arith
+    by (opened tree) [] h = let n = closed_root inside in omega arith
+      where
+        closed_root : (s : Shape) → closed_along s [] ≡ 0
+        closed_root none = refl
+        closed_root (row d w inner rest) = refl
+    by (opened tree) (x ∷ q) h = let n = h x q in omega arith
+
+-- another in its place that means the same
+pub changed_files : (known : Known) (s : Shape) (c : List ℕ) (h k : Held) → child s c ≡ Some k
+    → held_files known h ≡ held_files known k
+    → shape_files known (changed s c h) ≡ shape_files known s
+changed_files known none c h k there same = refl
+changed_files known (row d w inside rest) c h k there same =
+    by_cases (bytes_eq d c)
+    (λ yea.
+    let one = one_held (record { what = w; inside = inside }) k (subst (λ (b : Bool). cond b (Some (record { what = w; inside = inside })) (child rest c) ≡ Some k) yea there) in
+    rw yea (ap (λ (fs : Listed). moved (d ∷ []) fs ++ shape_files known rest)
+    (same ∙ ap (held_files known) (sym one))))
+    (λ nay.
+    let later : child rest c ≡ Some k = subst (λ (b : Bool). cond b (Some (record { what = w; inside = inside })) (child rest c) ≡ Some k) nay there in
+    rw nay (ap (λ (fs : Listed). moved (d ∷ []) (what_files known w (shape_files known inside)) ++ fs)
+    (changed_files known rest c h k later same)))
+
+module _ (os : List Object) where
+  pub opens_entry : (s : Shape) → IsShape os s → (c : List ℕ) (rest : Path) (k h : Held) → child s c ≡ Some k
+      → OpensHeld os rest k h → (d : Directory) (tree : Option (List ℕ)) → d.tree ≡ tree → d.entries ≡ changed s c h
+      → (old : Directory) → old.tree ≡ tree → old.entries ≡ s → (path : Path) → path ≡ c ∷ rest
+      → OpensAlong os path old d
+  opens_entry s sound c rest k h there opens d tree is it old was had path split =
+      let e = entry_at os s sound c k there in
+      record {
+        tree = is ∙ sym was;
+        sound = subst (IsShape os) (sym it) (shape_changed os s sound c h k there opens.order
+            (record { name = e.0.name; sound = opens.sound.0; some = λ no. e.0.some (sym opens.files ∙ no) }, opens.sound.1));
+        files = ap (shape_files (stored_files os)) it
+            ∙ changed_files (stored_files os) s c h k there opens.files
+            ∙ ap (shape_files (stored_files os)) (sym had);
+        shut = ap (closed_along d.entries) split ∙ ap (λ (x : Shape). closed_along x (c ∷ rest)) it ∙ closed_at (changed s c h) c rest
+            ∙ ap (λ (o : Option Held). closed_child o rest) (child_changed s c h k there) ∙ opens.shut;
+      }
+
+pub closed_root : (s : Shape) → closed_along s [] ≡ 0
+closed_root none = refl
+closed_root (row d w inner rest) = refl
+
+pub closed_here : (h : Held) → closed_from h [] ≡ 0
+closed_here h = by h.what
+  where
+    by : (w : What) → closed_by w (closed_along h.inside []) 0 ≡ 0
+    by (file e) = refl
+    by (unopened id) = refl
+    by (opened tree) = closed_root h.inside
+
+pub no_more : (p : Path) → length p ≡ 0 → p ≡ []
+no_more [] h = refl
+no_more (c ∷ p) h = absurd (omega arith)
+
+pub opens_none : (os : List Object) (d : Directory) → IsShape os d.entries → (path : Path)
+    → closed_along d.entries path ≡ 0 → OpensAlong os path d d
+opens_none os d sound path shut = record { tree = refl; sound = sound; files = refl; shut = shut }
+
+pub opens_here : (os : List Object) (h : Held) → IsHeld os h → (rest : Path) → length rest ≡ 0
+    → OpensHeld os rest h h
+opens_here os h sound rest ended = record {
+  sound = sound;
+  order = refl;
+  files = refl;
+  shut = ap (closed_from h) (no_more rest ended) ∙ closed_here h;
+}
+
+pub one_more : (a m b : ℕ) (s : Shape) (rest : Path) → rest ≢ [] → a ≤ m → m ≤ a + 1
+    → ReadsMore m b (closed_along s rest) → ReadsMore a b (length rest)
+one_more a m b s [] ne low high r = absurd (ne refl)
+one_more a m b s (c ∷ rest) ne low high r =
+    let n = closed_bound s c rest in
+    let x = r.counted in
+    let y = r.bounded in record { counted = omega arith; bounded = omega arith }

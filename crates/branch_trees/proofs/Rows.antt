@@ -1,0 +1,104 @@
+-- Entries whose directories are stored make a tree that lists their files.
+use Rattle.std.proofs.Common.{◌≡◌, ℕ, Bool, true, false, List, [], ◌∷◌, ◌++◌, length, map, Option, Some, None, refl, sym, ap, ◌∙◌, arith}
+use Rattle.std.specs.Prelude.{is_some, nat_lt, nat_le, cond}
+use Rattle.std.specs.Option.{option_map_or}
+use Rattle.std.specs.Str.{bytes_eq}
+use Rattle.std.proofs.lemmas.Slice.Eq.{bytes_eq-Decides}
+use Rattle.git_paths.proofs.Cases.{by_cases}
+use Rattle.git_model.specs.Content.{Content, same_content}
+use Rattle.git_model.specs.Repository.{Object, object_named, with_object}
+use Rattle.git_model.specs.Tree.{TreeEntry}
+use Rattle.content_pool.proofs.StoredLemmas.{same_content-decides}
+use Rattle.tenant_tables.specs.declared.fault.Fault.TheVariants as table
+use Rattle.tenant_tables.specs.declared.table.TheConstants.{CONTENTS_LIMIT, OBJECTS_LIMIT}
+use Rattle.tenant_tables.specs.Adding.{store_fault}
+use Rattle.tree_build.specs.declared.entry.Entry.{Entry}
+use Rattle.tree_build.specs.FileMap.{Listed}
+use Rattle.tree_build.specs.Trees.{Groups, file_of, direct, depth_of, tree_name, tree_id}
+use Rattle.tree_build.specs.StoredTree.{Lists, nothing, first_file, first_directory, ListsTree}
+use Rattle.tree_build.specs.StoredAgain.{AreTreesGood}
+use Rattle.tree_build.proofs.Listing.{tree-sound}
+use Rattle.tree_build.proofs.TreeOf.{entry_of}
+use Rattle.tree_build.proofs.StoredAgain.{entries-again}
+use Rattle.branch_trees.specs.Parts.{spread}
+use Rattle.branch_trees.specs.Rows.{IsPart, a_file, a_directory, HaveParts}
+
+-- what entries list is their parts in a row
+pub lists-parts : (os : List Object) (es : List TreeEntry) (parts : Groups) → HaveParts os es parts
+    → Lists os es (spread parts)
+lists-parts os [] [] h = nothing
+lists-parts os [] (g ∷ parts) h = absurd h
+lists-parts os (e ∷ es) [] h = absurd h
+lists-parts os (e ∷ es) (g ∷ parts) h = one h.0 (lists-parts os es parts h.1)
+  where
+    one : {x : TreeEntry} {p : List ℕ × Listed} → IsPart os x p → Lists os es (spread parts)
+        → Lists os (x ∷ es) (spread (p ∷ parts))
+    one (a_file x ne) l = first_file x es (spread parts) ne l
+    one (a_directory x files is t some) l =
+        first_directory x es t.direct files (spread parts) is t.tree t.lists l
+
+pub no_file : (os : List Object) (id : List ℕ) (fs : Listed) → ListsTree os id fs
+    → file_of fs ≡ None
+no_file os id [] t = refl
+no_file os id (([], x) ∷ fs) t = absurd ((tree-sound os id (([], x) ∷ fs) t).0.below_the_root refl)
+no_file os id (((c ∷ q), x) ∷ fs) t = refl
+
+module _ (digest : List ℕ → List ℕ) (os : List Object) (good : AreTreesGood digest os) where
+  -- the name of a stored tree is that of its files
+  pub id-again : (id : List ℕ) (fs : Listed) → ListsTree os id fs → tree_id digest fs ≡ id
+  id-again id fs t =
+      ap (tree_name digest) (entries-again digest os good id fs t (depth_of fs) (omega arith))
+      ∙ sym (good.named id t.direct t.tree)
+
+  entry-again : {e : TreeEntry} {g : List ℕ × Listed} → IsPart os e g → entry_of digest g ≡ e
+  entry-again (a_file e ne) = refl
+  entry-again (a_directory e fs is t some) =
+      ap (λ (o : Option Entry). direct e.name o (tree_id digest fs)) (no_file os e.id fs t)
+      ∙ (let name = id-again e.id fs t in let back = sym is in
+      λ i. record { mode = back i; name = e.name; id = name i })
+
+  -- the direct entries of their files are these entries
+  pub rows-again : (es : List TreeEntry) (parts : Groups) → HaveParts os es parts
+      → map (entry_of digest) parts ≡ es
+  rows-again [] [] h = refl
+  rows-again [] (g ∷ parts) h = absurd h
+  rows-again (e ∷ es) [] h = absurd h
+  rows-again (e ∷ es) (g ∷ parts) h =
+      let one = entry-again h.0 in let rest = rows-again es parts h.1 in λ i. one i ∷ rest i
+
+-- ---- an object that was added
+
+named_last : (id : List ℕ) (c : Content) (os : List Object) → object_named id os ≡ None
+    → object_named id (os ++ record { id = id; content = c } ∷ []) ≡ Some c
+unfolding object_named
+named_last id c [] h = rw ((bytes_eq-Decides id id).1 refl) refl
+named_last id c (o ∷ os) h =
+    by_cases (bytes_eq id o.id)
+    (λ yea. let no : Some o.content ≡ None =
+    ap (λ (b : Bool). cond b (Some o.content) (object_named id os)) (sym yea) ∙ h in cc no)
+    (λ nay. rw nay (named_last id c os
+    (ap (λ (b : Bool). cond b (Some o.content) (object_named id os)) (sym nay) ∙ h)))
+
+pub named-added : (id : List ℕ) (c : Content) (os : List Object) → store_fault id c os ≡ None
+    → object_named id (with_object id c os) ≡ Some c
+unfolding store_fault
+named-added id c os h =
+    by (nat_lt CONTENTS_LIMIT (length c.bytes)) (object_named id os) (nat_le OBJECTS_LIMIT (length os)) refl h
+  where
+    same : (d : Content) (full : Bool) → object_named id os ≡ Some d → (b : Bool)
+        → same_content c d ≡ b
+        → cond b None (cond full (Some table.Limit) (Some table.NameCollision)) ≡ None
+        → object_named id (with_object id c os) ≡ Some c
+    same d full is true at k =
+        rw is (is ∙ ap (λ (x : Content). Some x) (sym ((same_content-decides c d).0 at)))
+    same d true is false at k = cc k
+    same d false is false at k = cc k
+
+    by : (long : Bool) (o : Option Content) (full : Bool) → object_named id os ≡ o
+        → cond long (Some table.Limit) (cond (option_map_or (same_content c) o false) None
+        (cond full (Some table.Limit) (cond (is_some o) (Some table.NameCollision) None))) ≡ None
+        → object_named id (with_object id c os) ≡ Some c
+    by true o full is k = cc k
+    by false None true is k = cc k
+    by false None false is k = rw is (named_last id c os is)
+    by false (Some d) full is k = same d full is (same_content c d) refl k

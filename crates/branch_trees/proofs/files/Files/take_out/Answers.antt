@@ -1,0 +1,69 @@
+use Rattle.std.proofs.Common.{◌≡◌, ◌≤◌, ◌-◌, ℕ, length, sym, ap, ◌∙◌, subst}
+use Rattle.std.specs.FinMap as finmap
+use Rattle.tenant_tables.specs.Objects.{objects}
+use Rattle.tree_build.specs.StoredFiles.{stored_files}
+use Rattle.branch_trees.specs.declared.dir.Node.{Node}
+use Rattle.branch_trees.specs.declared.dir.Node.TheVariants.{Opened}
+use Rattle.branch_trees.specs.Shape.{opened, Held, Directory, shape_files, held_files}
+use Rattle.branch_trees.specs.Branch.{Branch, IsBranch, root_files, files_in, closed_from}
+use Rattle.branch_trees.specs.Editing.{new_directory, dropped, taken}
+use Rattle.branch_trees.specs.Nodes.{held, shape_of}
+use Rattle.branch_trees.specs.Opened.{is_kept}
+use Rattle.branch_trees.proofs.Named.{Rows}
+use Rattle.branch_trees.proofs.Branches.{branch_few, drop_files, drop_branch, drop_few}
+use Rattle.branch_trees.proofs.files.Files.take_out.Goals as goal
+
+pub taken-gone-requires-clause-few : goal.taken-gone-requires-clause-few
+taken-gone-requires-clause-few g c =
+    let os = objects c.args.pool.now c.args.table.now.entries in
+    subst (λ (xs : Rows). length (shape_files (stored_files os) (shape_of xs)) ≤ 1048576) (sym c.deref.ensures.value)
+    (subst (λ (d : Directory). length (shape_files (stored_files os) d.entries) ≤ 1048576) (sym c.dir.view_is)
+    (subst (λ (n : Node). length (held_files (stored_files os) (held n)) ≤ 1048576) c.in-Opened.is
+    (subst (λ (b : Branch). length (root_files os b) ≤ 1048576) (sym c.self.view_is)
+    (branch_few os c.args.self.now c.requires.branch))))
+
+pub overflow_sub-self : goal.overflow_sub-self
+overflow_sub-self g c =
+    let os = objects c.args.pool.now c.args.table.now.entries in
+    let b = subst (IsBranch os) (sym c.self.view_is) c.requires.branch in
+    let shut = subst (λ (n : Node). closed_from (held n) c.args.path.now ≡ 0) c.in-Opened.is
+    (subst (λ (x : Branch). closed_from x.root c.args.path.now ≡ 0) (sym c.self.view_is) c.requires.shut) in
+    let gone = c.taken-gone.ensures
+    ∙ ap (λ (xs : Rows). taken (stored_files os) c.args.clear c.args.path.now (shape_of xs)) c.deref.ensures.value
+    ∙ ap (λ (d : Directory). taken (stored_files os) c.args.clear c.args.path.now d.entries) c.dir.view_is in
+    subst (λ (n : ℕ). n ≤ c.self.inside.files) (sym gone)
+    (drop_few os c.args.clear c.args.path.now c.requires.some c.in-Opened.dir.entries c.in-Opened.dir.tree
+    _ (ap held c.in-Opened.is) b shut)
+
+pub returns-in-Opened-clause-branch : goal.returns-in-Opened-clause-branch
+returns-in-Opened-clause-branch g c =
+    let os = objects c.args.pool.now c.args.table.now.entries in
+    let b = subst (IsBranch os) (sym c.self.view_is) c.requires.branch in
+    let shut = subst (λ (n : Node). closed_from (held n) c.args.path.now ≡ 0) c.in-Opened.is
+    (subst (λ (x : Branch). closed_from x.root c.args.path.now ≡ 0) (sym c.self.view_is) c.requires.shut) in
+    let gone = c.taken-gone.ensures
+    ∙ ap (λ (xs : Rows). taken (stored_files os) c.args.clear c.args.path.now (shape_of xs)) c.deref.ensures.value
+    ∙ ap (λ (d : Directory). taken (stored_files os) c.args.clear c.args.path.now d.entries) c.dir.view_is in
+    let tree = c.drop_at.ensures.tree c.requires.some in
+    let entries = c.drop_at.ensures.entries in
+    let root : held (Opened c.drop_at.new.dir) ≡ new_directory (dropped c.args.clear c.args.path.now c.in-Opened.dir.entries) =
+    λ i. record { what = opened (tree i); inside = entries i } in
+    subst (λ (h : Held). IsBranch os (record { root = h; files = c.self.inside.files - c.taken-gone.result; reads = c.self.inside.reads }))
+    (sym root)
+    (drop_branch os c.args.clear c.args.path.now c.requires.some c.in-Opened.dir.entries c.in-Opened.dir.tree
+    _ (ap held c.in-Opened.is) b shut _ _ (ap (λ (n : ℕ). c.self.inside.files - n) gone))
+
+pub returns-in-Opened-clause-files : goal.returns-in-Opened-clause-files
+returns-in-Opened-clause-files g c =
+    let os = objects c.args.pool.now c.args.table.now.entries in
+    let b = subst (IsBranch os) (sym c.self.view_is) c.requires.branch in
+    let shut = subst (λ (n : Node). closed_from (held n) c.args.path.now ≡ 0) c.in-Opened.is
+    (subst (λ (x : Branch). closed_from x.root c.args.path.now ≡ 0) (sym c.self.view_is) c.requires.shut) in
+    let tree = c.drop_at.ensures.tree c.requires.some in
+    let entries = c.drop_at.ensures.entries in
+    let root : held (Opened c.drop_at.new.dir) ≡ new_directory (dropped c.args.clear c.args.path.now c.in-Opened.dir.entries) =
+    λ i. record { what = opened (tree i); inside = entries i } in
+    ap (λ (h : Held). files_in os (record { root = h; files = c.self.inside.files - c.taken-gone.result; reads = c.self.inside.reads })) root
+    ∙ drop_files os c.args.clear c.args.path.now c.requires.some c.in-Opened.dir.entries c.in-Opened.dir.tree
+    _ (ap held c.in-Opened.is) b shut _ _
+    ∙ ap (λ (x : Branch). finmap.retain_keys (files_in os x) (is_kept c.args.clear c.args.path.now)) c.self.view_is

@@ -1,0 +1,75 @@
+use Rattle.std.proofs.Common.{◌≡◌, ℕ, List, [], ◌∷◌, ◌++◌, map, IfOk, sym, ap, ◌∙◌, subst, rules, arith}
+use Rattle.std.proofs.lemmas.List.{map-append, take_all}
+use Rattle.git_model.specs.declared.kind.Kind.TheVariants as kind
+use Rattle.git_model.specs.ObjectName.{object_name}
+use Rattle.git_model.specs.Tree.{TreeEntry, tree_contents}
+use Rattle.git_objects.specs.declared.tree_entry.TreeEntry as declared
+use Rattle.git_objects.specs.Parts.{entry_of, entries_of}
+use Rattle.tree_build.specs.StoredFiles.{stored_files}
+use Rattle.tree_build.proofs.Nested.{pushed}
+use Rattle.tree_build.proofs.TreeOf
+use Rattle.branch_trees.specs.Stores.{parts_of}
+use Rattle.branch_trees.proofs.Inside.{entries-inside}
+use Rattle.tenant_tables.specs.Objects.{objects}
+use Rattle.branch_trees.specs.Shape.{Directory}
+use Rattle.branch_trees.specs.Nodes.{shape_of}
+use Rattle.branch_trees.proofs.Here.{here-unopened, here-opened, tree-known, some-at, one-row}
+use Rattle.branch_trees.proofs.Places.{Entries, sound-at, size-at}
+use Rattle.branch_trees.proofs.naming.+naming.Goals as goal
+
+pub entry_here-returns-in-Unopened : goal.entry_here-returns-in-Unopened
+entry_here-returns-in-Unopened g t c =
+    here-unopened g.N.Naming.digest_of c.args.pool.now c.args.table.now.entries c.requires.stands c.args.node.now c.in-Unopened.name c.directory.result
+    c.in-Unopened.is c.requires.sound c.requires.some c.directory.ensures
+
+pub entry_here-returns-in_ok-tree_of-in-Opened : goal.entry_here-returns-in_ok-tree_of-in-Opened
+entry_here-returns-in_ok-tree_of-in-Opened g t c =
+    here-opened g.N.Naming.digest_of c.args.pool.now c.args.table.now.entries c.requires.stands c.args.node.now c.in-Opened.dir c.in_ok-tree_of-in-Opened.field-0 c.directory-in-Opened.result
+    c.in-Opened.is c.requires.some c.in_ok-tree_of-in-Opened.ensures c.directory-in-Opened.ensures
+
+pub tree_of-returns-in-Some : goal.tree_of-returns-in-Some
+tree_of-returns-in-Some g t c =
+    tree-known g.N.Naming.digest_of c.args.pool.now c.args.table.now.entries c.requires.stands c.args.dir.now c.in-Some.name
+    (sym (ap (λ (d : Directory). d.tree) c.dir.view_is) ∙ c.in-Some.is)
+    c.requires.sound
+
+pub tree_of_entries-entry_here-requires : goal.tree_of_entries-entry_here-requires
+tree_of_entries-entry_here-requires g t c κs within =
+    let os = objects c.args.pool.now c.args.table.now.entries in
+    let size = size-at c.args.entries.now c.loop-entry.entry-index c.entry-item.result c.loop-entry-test.true c.entry-item.is in (
+      omega (arith, c.decreases, size),
+      (
+        search (rules, within),
+        (
+          c.requires.stands,
+          (
+            sound-at os c.args.entries.now c.loop-entry.entry-index c.entry-item.result c.loop-entry-test.true c.entry-item.is c.requires.sound,
+            some-at os c.args.entries.now c.loop-entry.entry-index c.entry-item.result c.loop-entry-test.true c.entry-item.is c.requires.sound,
+          ),
+        ),
+      ),
+    )
+
+pub tree_of_entries-loop-entry-preserved : goal.tree_of_entries-loop-entry-preserved
+tree_of_entries-loop-entry-preserved g t c =
+    let os = objects c.args.pool.now c.args.table.now.entries in
+    let one = pushed c.push.result c.is_err.result c.push.new.self.items c.loop-entry.rows.items c.row_of.result c.is_err.ensures.negation c.if-is_err.false c.push.ensures.items in
+    ap entries_of one ∙ map-append entry_of c.loop-entry.rows.items (c.row_of.result ∷ [])
+    ∙ ap (λ (l : List TreeEntry). l ++ entry_of c.row_of.result ∷ []) c.loop-entry.invariant
+    ∙ sym
+    (one-row g.N.Naming.digest_of (stored_files os) c.args.entries.now c.loop-entry.entry-index c.entry-item.result c.in_ok-held.held (entry_of c.row_of.result)
+    c.loop-entry-test.true c.entry-item.is
+    (some-at os c.args.entries.now c.loop-entry.entry-index c.entry-item.result c.loop-entry-test.true c.entry-item.is c.requires.sound)
+    c.in_ok-held.ensures c.row_of.ensures)
+
+pub tree_of_entries-returns : goal.tree_of_entries-returns
+tree_of_entries-returns g t c =
+    let os = objects c.args.pool.now c.args.table.now.entries in
+    let all = take_all c.loop-entry.entry-index c.args.entries.now c.loop-entry-test.false in
+    let rows = c.loop-entry.invariant
+    ∙ ap (λ (l : Entries). map (TreeOf.entry_of g.N.Naming.digest_of) (parts_of (stored_files os) (shape_of l))) all
+    ∙ sym (entries-inside g.N.Naming.digest_of os (shape_of c.args.entries.now) c.requires.sound) in
+    subst
+    (λ (b : List ℕ). IfOk c.name_of.result (λ id. id ≡ object_name g.N.Naming.digest_of kind.Tree b))
+    (c.deref-2.ensures.value ∙ c.in_ok-contents.ensures ∙ ap (λ (l : List declared.TreeEntry). tree_contents (entries_of l)) c.deref.ensures.value ∙ ap tree_contents rows)
+    c.name_of.ensures

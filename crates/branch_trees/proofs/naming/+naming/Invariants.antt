@@ -1,0 +1,22 @@
+use Rattle.std.proofs.Common.{◌≡◌, ◌+◌, ◌*◌, map, take}
+use Rattle.git_objects.specs.Parts.{entries_of}
+use Rattle.tenant_tables.specs.Objects.{objects}
+use Rattle.tree_build.specs.StoredFiles.{stored_files}
+use Rattle.tree_build.proofs.TreeOf.{entry_of}
+use Rattle.branch_trees.specs.Nodes.{held, shape_of}
+use Rattle.branch_trees.specs.ShapeCode.{shape_size}
+use Rattle.branch_trees.specs.Stores.{parts_of}
+use Rattle.branch_trees.proofs.naming.+naming.Given as goal
+
+abbrev pub decreases-tree_of : goal.decreases-tree_of
+decreases-tree_of g l = 3 * shape_size l.dir.now.entries + 2
+
+abbrev pub decreases-tree_of_entries : goal.decreases-tree_of_entries
+decreases-tree_of_entries g l = 3 * shape_size (shape_of l.entries.now) + 1
+
+abbrev pub decreases-entry_here : goal.decreases-entry_here
+decreases-entry_here g l = 3 * shape_size (held l.node.now).inside + 3
+
+abbrev pub invariant-tree_of_entries-loop-entry : goal.invariant-tree_of_entries-loop-entry
+invariant-tree_of_entries-loop-entry g l =
+    entries_of l.rows.items ≡ map (entry_of g.N.Naming.digest_of) (parts_of (stored_files (objects l.pool l.table.entries)) (shape_of (take l.entry-index l.entries)))

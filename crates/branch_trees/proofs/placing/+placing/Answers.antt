@@ -1,0 +1,62 @@
+use Rattle.std.proofs.Common.{◌≡◌, ℕ, List, [], ◌∷◌, sym, ap, ◌∙◌, subst, arith}
+use Rattle.std.specs.Prelude.{length}
+use Rattle.std.proofs.lemmas.List.Elements.{All-head}
+use Rattle.std.proofs.lemmas.Result.{on_ok_weaker}
+use Rattle.std.specs.List.{position}
+use Rattle.git_paths.specs.Paths.{IsComponent, IsPath}
+use Rattle.tenant_tables.proofs.EntryLemmas.{position-found}
+use Rattle.branch_trees.specs.Nodes.{held, shape_of, has_name}
+use Rattle.branch_trees.specs.Editing.{child, changed, has_opened}
+use Rattle.branch_trees.proofs.Named.{Rows, shape_found, found_within, put_in_place}
+use Rattle.tree_build.specs.FileMap.{Path}
+use Rattle.branch_trees.proofs.placing.+placing.Goals as goal
+
+not_empty : {c : List ℕ} {p : Path} → [] ≡ c ∷ p → ⊥
+not_empty e = cc e
+
+pub place-place_below-requires : goal.place-place_below-requires
+place-place_below-requires t c =
+    let d = c.decreases in
+    let n = ap (λ (p : List (List ℕ)). length p) c.in-Some.ensures in (
+      omega arith,
+      (
+        All-head IsComponent c.in-Some.name.now c.in-Some.rest
+            (subst IsPath c.in-Some.ensures c.has_components.ensures),
+        λ e. not_empty (sym e ∙ c.in-Some-split_first.ensures),
+      ),
+    )
+
+pub place-put_entry-requires : goal.place-put_entry-requires
+place-put_entry-requires t c =
+    All-head IsComponent c.in-Some.name.now c.in-Some.rest (subst IsPath c.in-Some.ensures c.has_components.ensures)
+
+pub place_below-place_inside-requires : goal.place_below-place_inside-requires
+place_below-place_inside-requires t c =
+    let d = c.decreases in
+    let at = ap (position (has_name c.args.name.now)) (sym c.deref.ensures.value) ∙ c.in-Some.ensures.0 in
+    let opened = ap (λ (xs : Rows). has_opened (child (shape_of xs) c.args.name.now)) (sym c.deref.ensures.value) ∙ c.in-Some.ensures.1 in
+    let found = shape_found c.args.name.now c.args.entries.now.items c.in-Some.at
+    (position-found (has_name c.args.name.now) c.args.entries.now.items c.in-Some.at at)
+    (found_within (has_name c.args.name.now) c.args.entries.now.items c.in-Some.at at)
+    c.index_mut.result.now (sym c.index_mut.ensures.value) in (
+      omega arith,
+      (sym (ap has_opened found.0) ∙ opened, c.requires.rest),
+    )
+
+pub place_below-place-requires : goal.place_below-place-requires
+place_below-place-requires t c = let d = c.decreases in (omega arith, tt)
+
+pub place_below-returns-in-Some : goal.place_below-returns-in-Some
+place_below-returns-in-Some t c =
+    let at = ap (position (has_name c.args.name.now)) (sym c.deref.ensures.value) ∙ c.in-Some.ensures.0 in
+    let opened = ap (λ (xs : Rows). has_opened (child (shape_of xs) c.args.name.now)) (sym c.deref.ensures.value) ∙ c.in-Some.ensures.1 in
+    let found = shape_found c.args.name.now c.args.entries.now.items c.in-Some.at
+    (position-found (has_name c.args.name.now) c.args.entries.now.items c.in-Some.at at)
+    (found_within (has_name c.args.name.now) c.args.entries.now.items c.in-Some.at at)
+    c.index_mut.result.now (sym c.index_mut.ensures.value) in
+    on_ok_weaker c.place_inside.result
+    (λ is. found.1 c.place_inside.new.at
+    ∙ ap (changed (shape_of c.args.entries.now.items) c.args.name.now) is
+    ∙ put_in_place (shape_of c.args.entries.now.items) c.args.name.now c.args.rest.now (held c.args.node)
+    (held c.index_mut.result.now.1) c.requires.rest found.0 opened)
+    c.place_inside.ensures

@@ -1,0 +1,13 @@
+-- In reading order.
+pub mod Shape
+pub mod Branch
+pub mod Editing
+pub mod ShapeCode
+pub mod Nodes
+pub mod Falls
+pub mod Opened
+pub mod Parts
+pub mod Rows
+pub mod Stores
+pub mod Sums
+pub mod Standing

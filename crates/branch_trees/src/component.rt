@@ -1,0 +1,53 @@
+//! The name of a direct entry.
+
+ghost use Rattle.std.specs.Prelude.{◌≡◌, IfOk};
+ghost use Rattle.git_model.specs.Tree.{IsEntryName};
+ghost use Rattle.git_paths.specs.Paths.{IsComponent, IsPath};
+
+use git_paths::Components;
+use std::alloc::{AllocError, Global};
+use std::marker::Model;
+
+/// One component of a path.
+#[derive(Drop)]
+pub(crate) struct Component {
+    bytes: Vec<u8>,
+}
+
+impl Model for Component {
+    ghost use Rattle.std.specs.Prelude.{List, ℕ};
+    ghost use Rattle.git_paths.specs.Paths.{IsComponent};
+
+    ghost Value = { List ℕ };
+
+    ghost view = { λ c. c.bytes.items };
+
+    ghost invariant = { λ c. IsComponent c.bytes.items };
+}
+
+impl Component {
+    /// A component of these bytes. Takes memory for them.
+    pub(crate) fn new(alloc: Global, name: &[u8]) -> Result<Component, AllocError>
+        requires { IsEntryName name.now }
+        ensures { IfOk result (λ c. c ≡ name.now) }
+    {
+        Ok(Component {
+            bytes: Vec::from_slice(alloc, name)?,
+        })
+    }
+
+    /// The bytes.
+    pub(crate) fn as_bytes(&self) -> &[u8]
+        ensures bytes { result.now ≡ self.now }
+        ensures component { IsComponent self.now }
+    {
+        self.bytes.as_slice()
+    }
+}
+
+/// What a path holds are components: a fact for proofs. A call does nothing.
+pub(crate) fn has_components(path: &Components<'_>)
+    ensures { IsPath path.now }
+{
+    let _bytes = path.as_bytes();
+}

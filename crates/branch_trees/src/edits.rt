@@ -1,0 +1,210 @@
+//! Edits of a branch whose directories on the way to a path are opened.
+
+ghost use Rattle.std.specs.Prelude.{◌≡◌, ◌≢◌, ◌≤◌, [], ◌∷◌, length, None, Err, OnOk};
+ghost use Rattle.std.specs.FinMap as finmap;
+ghost use Rattle.tenant_tables.specs.Objects.{objects};
+ghost use Rattle.tenant_tables.specs.StandsIn.{StandsIn};
+ghost use Rattle.tree_build.specs.declared.fault.Fault.TheVariants as fault;
+ghost use Rattle.tree_build.specs.Edits.{without, moved, put_at, put_tree_at, put_fault};
+ghost use Rattle.git_model.specs.declared.file_mode.FileMode.TheVariants as mode;
+ghost use Rattle.git_paths.specs.Paths.{is_within_limits};
+ghost use Rattle.tree_build.specs.FileMap.{AreFiles, listed};
+ghost use Rattle.tree_build.specs.StoredFiles.{stored_files};
+ghost use Rattle.branch_trees.specs.Shape.{held_files};
+ghost use Rattle.branch_trees.specs.Nodes.{held};
+ghost use Rattle.tree_build.specs.Calls.{Edits};
+ghost use Rattle.branch_trees.specs.Branch.{files_in, IsHeld, IsBranch, Reads, closed_from};
+ghost use Rattle.branch_trees.specs.Opened.{is_kept, too_many};
+
+use crate::component::has_components;
+use crate::counting::taken;
+use crate::dir::Node;
+use crate::dropping::drop_at;
+use crate::files::Files;
+use crate::opening::open_below;
+use crate::placing::place;
+use content_pool::Pool;
+use git_objects::{Memory, Naming, has_twenty_bytes};
+use git_paths::{Components, Path};
+use tenant_tables::Table;
+use tree_build::{Entry, Fault};
+
+// How many files a branch may have.
+const FILES_LIMIT: usize = 1_048_576;
+
+impl Files {
+    /// Opens the directories on the way to a path.
+    pub(crate) fn open_to<N: Naming>(
+        &mut self,
+        pool: &Pool<N>,
+        table: &Table,
+        path: &Components<'_>,
+    ) -> Result<(), Memory>
+        requires stands { StandsIn N.digest_of pool.now table.now.entries }
+        requires branch { IsBranch (objects pool.now table.now.entries) self.old }
+        ensures branch { OnOk result (IsBranch (objects pool.now table.now.entries) self.new) }
+        ensures files { OnOk result (files_in (objects pool.now table.now.entries) self.new
+            ≡ files_in (objects pool.now table.now.entries) self.old) }
+        ensures shut { OnOk result (closed_from self.new.root path.now ≡ 0) }
+        ensures reads { Reads self.old self.new (closed_from self.old.root path.now) }
+    {
+        open_below(
+            self.alloc,
+            pool,
+            table,
+            &mut self.root,
+            path,
+            &mut self.reads,
+        )
+    }
+
+    /// Drops what stands at or below a path, and, where the way is to be clear, a file on the way.
+    pub(crate) fn take_out<N: Naming>(
+        &mut self,
+        pool: &Pool<N>,
+        table: &Table,
+        path: &Components<'_>,
+        clear: bool,
+    )
+        requires stands { StandsIn N.digest_of pool.now table.now.entries }
+        requires branch { IsBranch (objects pool.now table.now.entries) self.old }
+        requires shut { closed_from self.old.root path.now ≡ 0 }
+        requires some { path.now ≢ [] }
+        ensures branch { IsBranch (objects pool.now table.now.entries) self.new }
+        ensures files { files_in (objects pool.now table.now.entries) self.new
+            ≡ finmap.retain_keys (files_in (objects pool.now table.now.entries) self.old)
+            (is_kept clear path.now) }
+        ensures reads { self.new.reads ≡ self.old.reads }
+    {
+        match &mut self.root {
+            Node::Opened(dir) => {
+                let gone = taken(pool, table, &dir.entries, path, clear);
+                drop_at(dir, path, clear);
+                self.files -= gone;
+            }
+            _ => {}
+        }
+    }
+
+    /// Takes out the files at or below a path; at the root, all. Where there is none, nothing
+    /// changes: git-fast-import(1), "filedelete".
+    ///
+    /// Answers want of memory, 90, alone; the value may then only be cleared or dropped. The pool
+    /// and the table are those of the value.
+    pub fn drop_path<N: Naming>(
+        &mut self,
+        pool: &Pool<N>,
+        table: &Table,
+        path: &Path,
+    ) -> Result<(), Fault>
+        requires stands { StandsIn N.digest_of pool.now table.now.entries }
+        requires branch { IsBranch (objects pool.now table.now.entries) self.old }
+        ensures edits { let os = objects pool.now table.now.entries in
+            let m = files_in os self.old in
+            Edits result m (files_in os self.new) None (without m path.now) }
+        ensures branch { result ≢ Err fault.Memory
+            → IsBranch (objects pool.now table.now.entries) self.new }
+        ensures reads { Reads self.old self.new (closed_from self.old.root path.now) }
+    {
+        if path.is_root() {
+            self.clear();
+            return Ok(());
+        }
+        let path = path.components();
+        self.open_to(pool, table, &path)?;
+        self.take_out(pool, table, &path, false);
+        Ok(())
+    }
+
+    /// Puts a node with so many files at a path, in place of what stands there, below it, or on the
+    /// way to it.
+    pub(crate) fn put_node<N: Naming>(
+        &mut self,
+        pool: &Pool<N>,
+        table: &Table,
+        path: &Components<'_>,
+        node: Node,
+        added: usize,
+    ) -> Result<(), Fault>
+        requires stands { StandsIn N.digest_of pool.now table.now.entries }
+        requires branch { IsBranch (objects pool.now table.now.entries) self.old }
+        requires shut { closed_from self.old.root path.now ≡ 0 }
+        requires some { path.now ≢ [] }
+        requires held { IsHeld (objects pool.now table.now.entries) (held node) }
+        requires full { held_files (stored_files (objects pool.now table.now.entries)) (held node) ≢ [] }
+        requires added { added ≡ length (held_files (stored_files (objects pool.now table.now.entries))
+            (held node)) }
+        requires few { added ≤ 1048576 }
+        requires good { let os = objects pool.now table.now.entries in
+            let after = put_tree_at (files_in os self.old) path.now
+            (held_files (stored_files os) (held node)) in
+            finmap.len after ≤ 1048576 → AreFiles (listed after) }
+        ensures edits { let os = objects pool.now table.now.entries in
+            let m = files_in os self.old in
+            let after = put_tree_at m path.now (held_files (stored_files os) (held node)) in
+            Edits result m (files_in os self.new) (too_many (finmap.len after)) after }
+        ensures branch { result ≢ Err fault.Memory
+            → IsBranch (objects pool.now table.now.entries) self.new }
+        ensures reads { self.new.reads ≡ self.old.reads }
+    {
+        has_components(path);
+        match &mut self.root {
+            Node::Opened(dir) => {
+                let files = self.files - taken(pool, table, &dir.entries, path, true) + added;
+                if files > FILES_LIMIT {
+                    return Err(Fault::Limit);
+                }
+                place(self.alloc, dir, path, node)?;
+                self.files = files;
+                Ok(())
+            }
+            _ => Ok(()),
+        }
+    }
+
+    /// Puts a file at a path, in place of what stands there, below it, or on a prefix of it:
+    /// git-fast-import(1), "filemodify".
+    ///
+    /// The entry is no directory. `Fault::RootNotDirectory` (20) at the root; else `Fault::Limit`
+    /// (25) where the path has more than 16,383 bytes or 256 components, or there would be more
+    /// than 1,048,576 files. The files have not changed after these. Takes memory for the path and
+    /// for the entries of the trees that it reads; after `Fault::Memory` (90) the value may only be
+    /// cleared or dropped. The pool and the table are those of the value.
+    pub fn put<N: Naming>(
+        &mut self,
+        pool: &Pool<N>,
+        table: &Table,
+        path: &Path,
+        entry: Entry,
+    ) -> Result<(), Fault>
+        requires file { entry.mode ≢ mode.Directory }
+        requires stands { StandsIn N.digest_of pool.now table.now.entries }
+        requires branch { IsBranch (objects pool.now table.now.entries) self.old }
+        ensures edits { let os = objects pool.now table.now.entries in
+            let m = files_in os self.old in
+            let after = put_at m path.now entry in
+            Edits result m (files_in os self.new)
+            (put_fault (moved path.now (([], entry) ∷ [])) after) after }
+        ensures branch { result ≢ Err fault.Memory
+            → IsBranch (objects pool.now table.now.entries) self.new }
+        ensures reads { Reads self.old self.new (closed_from self.old.root path.now) }
+    {
+        has_twenty_bytes(&entry.name);
+        if path.is_root() {
+            return Err(Fault::RootNotDirectory);
+        }
+        if !is_short(path) {
+            return Err(Fault::Limit);
+        }
+        let path = path.components();
+        has_components(&path);
+        self.open_to(pool, table, &path)?;
+        self.put_node(pool, table, &path, Node::File(entry), 1)
+    }
+}
+
+fn is_short(path: &Path) -> bool
+    ensures { result ≡ is_within_limits path.now }
+{
+    path.is_within_limits()
+}

@@ -1,0 +1,103 @@
+//! The names of the trees of opened directories, without storing them.
+
+ghost use Rattle.std.specs.Prelude.{◌≡◌, ◌≢◌, [], Some, IfOk};
+ghost use Rattle.git_model.specs.declared.file_mode.FileMode.TheVariants as mode;
+ghost use Rattle.git_objects.specs.Parts.{entry_of};
+ghost use Rattle.tenant_tables.specs.Objects.{objects};
+ghost use Rattle.tenant_tables.specs.StandsIn.{StandsIn};
+ghost use Rattle.tree_build.specs.StoredFiles.{stored_files};
+ghost use Rattle.tree_build.specs.Trees.{tree_id};
+ghost use Rattle.branch_trees.specs.Shape.{opened, shape_files, held_files};
+ghost use Rattle.branch_trees.specs.Branch.{IsShape, IsHeld};
+ghost use Rattle.branch_trees.specs.Nodes.{held, shape_of};
+ghost use Rattle.branch_trees.specs.Standing.{stands_at};
+
+use crate::component::Component;
+use crate::dir::{Dir, Node};
+use content_pool::Pool;
+use git_objects::{FileMode, Kind, Memory, Name, Naming, TreeEntry};
+use std::alloc::Global;
+use tenant_tables::Table;
+use tree_build::{Entry, contents_of};
+
+/// The name of the tree of an opened directory.
+#[cycle(naming)]
+pub(crate) fn tree_of<N: Naming>(
+    alloc: Global,
+    pool: &Pool<N>,
+    table: &Table,
+    dir: &Dir,
+) -> Result<Name, Memory>
+    requires stands { StandsIn N.digest_of pool.now table.now.entries }
+    requires sound { IsHeld (objects pool.now table.now.entries)
+        (record { what = opened dir.now.tree; inside = dir.now.entries }) }
+    ensures { IfOk result (λ id. id ≡ tree_id N.digest_of
+        (shape_files (stored_files (objects pool.now table.now.entries)) dir.now.entries)) }
+{
+    match dir.tree {
+        Some(name) => Ok(name),
+        None => tree_of_entries(alloc, pool, table, &dir.entries),
+    }
+}
+
+#[cycle(naming)]
+fn tree_of_entries<N: Naming>(
+    alloc: Global,
+    pool: &Pool<N>,
+    table: &Table,
+    entries: &[(Component, Node)],
+) -> Result<Name, Memory>
+    requires stands { StandsIn N.digest_of pool.now table.now.entries }
+    requires sound { IsShape (objects pool.now table.now.entries) (shape_of entries.now) }
+    ensures { IfOk result (λ id. id ≡ tree_id N.digest_of
+        (shape_files (stored_files (objects pool.now table.now.entries)) (shape_of entries.now))) }
+{
+    let mut rows = Vec::new(alloc);
+    for entry in entries {
+        let held = entry_here(alloc, pool, table, &entry.1)?;
+        if rows.push(row_of(entry, held)).is_err() {
+            return Err(Memory);
+        }
+    }
+    let contents = contents_of(alloc, &rows)?;
+    pool.name_of(Kind::Tree, &contents)
+}
+
+fn row_of<'a>(entry: &'a (Component, Node), held: Entry) -> TreeEntry<'a>
+    ensures { entry_of result ≡ record { mode = held.mode; name = entry.now.0; id = held.name } }
+{
+    TreeEntry {
+        mode: held.mode,
+        name: entry.0.as_bytes(),
+        id: held.name,
+    }
+}
+
+fn directory(name: Name) -> Entry
+    ensures { result ≡ record { mode = mode.Directory; name = name } }
+{
+    let mode = FileMode::Directory;
+    Entry { mode, name }
+}
+
+/// What is held at an entry: a file, or a directory with the name of its tree.
+#[cycle(naming)]
+pub(crate) fn entry_here<N: Naming>(
+    alloc: Global,
+    pool: &Pool<N>,
+    table: &Table,
+    node: &Node,
+) -> Result<Entry, Memory>
+    requires stands { StandsIn N.digest_of pool.now table.now.entries }
+    requires sound { IsHeld (objects pool.now table.now.entries) (held node.now) }
+    requires some { held_files (stored_files (objects pool.now table.now.entries)) (held node.now)
+        ≢ [] }
+    ensures { IfOk result (λ e. Some e ≡ stands_at N.digest_of
+        (held_files (stored_files (objects pool.now table.now.entries)) (held node.now)) []) }
+{
+    match node {
+        Node::File(file) => Ok(*file),
+        Node::Unopened(name) => Ok(directory(*name)),
+        Node::Opened(dir) => Ok(directory(tree_of(alloc, pool, table, dir)?)),
+    }
+}

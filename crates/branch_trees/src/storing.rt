@@ -1,0 +1,229 @@
+//! Storing the trees of directories that were opened, children first.
+
+ghost use Rattle.std.specs.Prelude.{◌≡◌, ◌≢◌, ◌<◌, ◌≤◌, ◌+◌, length, [], ◌∷◌, None, Some, IfOk, OnOk, get_or, fold, map, take};
+ghost use Rattle.git_model.specs.declared.file_mode.FileMode.TheVariants as mode;
+ghost use Rattle.git_model.specs.ObjectName.{IsObjectName};
+ghost use Rattle.git_objects.specs.Parts.{entry_of, entries_of};
+ghost use Rattle.std.specs.List.{AllByRecursion};
+ghost use Rattle.tenant_tables.specs.Objects.{objects};
+ghost use Rattle.tenant_tables.specs.StandsIn.{StandsIn};
+ghost use Rattle.tree_build.specs.Trees.{nested_trees, tree_id, tree_name, file_of, unless_file};
+ghost use Rattle.tree_build.specs.Storable.{AreStorable};
+ghost use Rattle.tree_build.specs.StoredFiles.{stored_files};
+ghost use Rattle.tree_build.specs.StoredTree.{ListsTree};
+ghost use Rattle.tree_build.specs.Storing.{StoresTrees, HasRoomBeside};
+ghost use Rattle.branch_trees.specs.Shape.{opened, shape_files, held_files};
+ghost use Rattle.branch_trees.specs.Branch.{IsShape, IsHeld};
+ghost use Rattle.branch_trees.specs.Nodes.{held, shape_of};
+ghost use Rattle.branch_trees.specs.Stores.{bare, bare_held, IsNamed, AreNamed, entry_of_what, entries_of_shape, parts_of, trees_below, trees_of_parts};
+
+use crate::component::Component;
+use crate::dir::{Dir, Node};
+use crate::sums::summary_of;
+use content_pool::Pool;
+use git_objects::{FileMode, Memory, Name, Naming, TreeEntry, has_twenty_bytes};
+use std::alloc::Global;
+use tenant_tables::Table;
+use tree_build::{Fault, add_entries};
+
+/// Stores the trees of an opened directory that were not stored, and answers the name of its tree.
+#[cycle(storing)]
+pub(crate) fn store_dir<N: Naming>(
+    alloc: Global,
+    pool: &mut Pool<N>,
+    table: &mut Table,
+    dir: &mut Dir,
+) -> Result<Name, Fault>
+    requires stands { StandsIn N.digest_of pool.old table.old.entries }
+    requires room { HasRoomBeside pool.old table.old.entries }
+    requires sound { IsHeld (objects pool.old table.old.entries)
+        (record { what = opened dir.old.tree; inside = dir.old.entries }) }
+    requires storable { AreStorable (shape_files (stored_files
+        (objects pool.old table.old.entries)) dir.old.entries) }
+    ensures stores { let files = shape_files (stored_files (objects pool.old table.old.entries))
+        dir.old.entries in
+        StoresTrees result N.digest_of pool.old table.old pool.new table.new
+        (nested_trees N.digest_of files) (tree_id N.digest_of files) }
+    ensures same { bare dir.new.entries ≡ bare dir.old.entries }
+    ensures sound { IsHeld (objects pool.new table.new.entries)
+        (record { what = opened dir.new.tree; inside = dir.new.entries }) }
+    ensures named { IfOk result (λ id. dir.new.tree ≡ Some id) }
+{
+    match dir.tree {
+        Some(name) => Ok(name),
+        None => {
+            match store_inside(alloc, pool, table, &mut dir.entries) {
+                Ok(()) => {}
+                Err(refusal) => return Err(refusal),
+            }
+            let added = add_tree(alloc, pool, table, &dir.entries);
+            match added {
+                Ok(name) => dir.tree = Some(name),
+                Err(_) => {}
+            }
+            added
+        }
+    }
+}
+
+// Stores the trees of what stands in a directory.
+#[cycle(storing)]
+fn store_inside<N: Naming>(
+    alloc: Global,
+    pool: &mut Pool<N>,
+    table: &mut Table,
+    entries: &mut Vec<(Component, Node)>,
+) -> Result<(), Fault>
+    requires stands { StandsIn N.digest_of pool.old table.old.entries }
+    requires room { HasRoomBeside pool.old table.old.entries }
+    requires sound { IsShape (objects pool.old table.old.entries) (shape_of entries.old.items) }
+    requires storable { AreStorable (shape_files (stored_files
+        (objects pool.old table.old.entries)) (shape_of entries.old.items)) }
+    ensures stores { let parts = parts_of (stored_files (objects pool.old table.old.entries))
+        (shape_of entries.old.items) in
+        StoresTrees result N.digest_of pool.old table.old pool.new table.new
+        (trees_of_parts N.digest_of parts) tt }
+    ensures same { bare (shape_of entries.new.items) ≡ bare (shape_of entries.old.items) }
+    ensures sound { IsShape (objects pool.new table.new.entries) (shape_of entries.new.items) }
+    ensures named { OnOk result (AreNamed (shape_of entries.new.items)) }
+{
+    for place in 0..entries.len() {
+        match store_at(alloc, pool, table, entries, place) {
+            Ok(()) => {}
+            Err(refusal) => return Err(refusal),
+        }
+    }
+    Ok(())
+}
+
+// Stores the trees of what stands at one entry.
+#[cycle(storing)]
+fn store_at<N: Naming>(
+    alloc: Global,
+    pool: &mut Pool<N>,
+    table: &mut Table,
+    entries: &mut Vec<(Component, Node)>,
+    place: usize,
+) -> Result<(), Fault>
+    requires place { place < length entries.old.items }
+    requires stands { StandsIn N.digest_of pool.old table.old.entries }
+    requires room { HasRoomBeside pool.old table.old.entries }
+    requires sound { IsShape (objects pool.old table.old.entries) (shape_of entries.old.items) }
+    requires storable { AreStorable (shape_files (stored_files
+        (objects pool.old table.old.entries)) (shape_of entries.old.items)) }
+    ensures stores { let parts = parts_of (stored_files (objects pool.old table.old.entries))
+        (shape_of entries.old.items) in
+        StoresTrees result N.digest_of pool.old table.old pool.new table.new
+        (trees_below N.digest_of (get_or parts place ([], [])).1) tt }
+    ensures same { bare (shape_of entries.new.items) ≡ bare (shape_of entries.old.items) }
+    ensures sound { IsShape (objects pool.new table.new.entries) (shape_of entries.new.items) }
+    ensures named { OnOk result (AreNamed (shape_of (take place entries.old.items)) → AreNamed
+        (shape_of (take (place + 1) entries.new.items))) }
+{
+    store_node(alloc, pool, table, &mut entries[place].1)
+}
+
+// Stores the trees of what is held at an entry, if it is a directory.
+#[cycle(storing)]
+fn store_node<N: Naming>(
+    alloc: Global,
+    pool: &mut Pool<N>,
+    table: &mut Table,
+    node: &mut Node,
+) -> Result<(), Fault>
+    requires stands { StandsIn N.digest_of pool.old table.old.entries }
+    requires room { HasRoomBeside pool.old table.old.entries }
+    requires sound { IsHeld (objects pool.old table.old.entries) (held node.old) }
+    requires storable { let files = held_files (stored_files (objects pool.old table.old.entries))
+        (held node.old) in
+        file_of files ≡ None → AreStorable files }
+    ensures stores { let files = held_files (stored_files (objects pool.old table.old.entries))
+        (held node.old) in
+        StoresTrees result N.digest_of pool.old table.old pool.new table.new
+        (trees_below N.digest_of files) tt }
+    ensures same { bare_held (held node.new) ≡ bare_held (held node.old) }
+    ensures sound { IsHeld (objects pool.new table.new.entries) (held node.new) }
+    ensures named { OnOk result (IsNamed (held node.new).what) }
+{
+    match node {
+        Node::File(_) => Ok(()),
+        Node::Unopened(_) => Ok(()),
+        Node::Opened(dir) => match store_dir(alloc, pool, table, dir) {
+            Ok(_) => Ok(()),
+            Err(refusal) => Err(refusal),
+        },
+    }
+}
+
+// Adds the tree of a directory in which each directory is stored.
+fn add_tree<N: Naming>(
+    alloc: Global,
+    pool: &mut Pool<N>,
+    table: &mut Table,
+    entries: &[(Component, Node)],
+) -> Result<Name, Fault>
+    requires stands { StandsIn N.digest_of pool.old table.old.entries }
+    requires room { HasRoomBeside pool.old table.old.entries }
+    requires sound { IsShape (objects pool.old table.old.entries) (shape_of entries.now) }
+    requires named { AreNamed (shape_of entries.now) }
+    requires storable { AreStorable (shape_files (stored_files
+        (objects pool.old table.old.entries)) (shape_of entries.now)) }
+    ensures stores { StoresTrees result N.digest_of pool.old table.old pool.new table.new
+        (entries_of_shape (shape_of entries.now) ∷ [])
+        (tree_name N.digest_of (entries_of_shape (shape_of entries.now))) }
+    ensures lists { IfOk result (λ id. ListsTree (objects pool.new table.new.entries) id
+        (shape_files (stored_files (objects pool.old table.old.entries)) (shape_of entries.now))) }
+{
+    let rows = rows_of(alloc, entries)?;
+    let summary = summary_of(table, &rows);
+    add_entries(alloc, pool, table, &rows, summary)
+}
+
+// What stands at an entry as a tree has it.
+fn row_of<'a>(entry: &'a (Component, Node)) -> TreeEntry<'a>
+    requires { IsNamed (held entry.now.1).what }
+    ensures { entry_of result ≡ entry_of_what entry.now.0 (held entry.now.1).what }
+{
+    let name = entry.0.as_bytes();
+    match &entry.1 {
+        Node::File(file) => TreeEntry {
+            mode: file.mode,
+            name,
+            id: file.name,
+        },
+        Node::Unopened(id) => directory(name, *id),
+        Node::Opened(dir) => directory(name, dir.tree.unwrap()),
+    }
+}
+
+fn directory<'a>(name: &'a [u8], id: Name) -> TreeEntry<'a>
+    ensures { entry_of result ≡ record { mode = mode.Directory; name = name.now; id = id } }
+{
+    TreeEntry {
+        mode: FileMode::Directory,
+        name,
+        id,
+    }
+}
+
+// What stands in a directory as a tree has it.
+fn rows_of<'a>(
+    alloc: Global,
+    entries: &'a [(Component, Node)],
+) -> Result<Vec<TreeEntry<'a>>, Memory>
+    requires { AreNamed (shape_of entries.now) }
+    ensures rows { IfOk result (λ rows. entries_of rows.items ≡ entries_of_shape
+        (shape_of entries.now)) }
+    ensures ids { IfOk result (λ rows. AllByRecursion (λ e. IsObjectName e.id)
+        (entries_of rows.items)) }
+{
+    let mut rows = Vec::new(alloc);
+    for entry in entries {
+        let row = row_of(entry);
+        has_twenty_bytes(&row.id);
+        if rows.push(row).is_err() {
+            return Err(Memory);
+        }
+    }
+    Ok(rows)
+}
