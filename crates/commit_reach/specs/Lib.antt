@@ -1,0 +1,3 @@
+-- In reading order.
+pub mod Marks
+pub mod Logs

@@ -1,0 +1,40 @@
+-- Marks of objects by their places, and when they are what a commit reaches.
+use Rattle.std.specs.Prelude.{◌≡◌, ◌⊎◌, ℕ, ◌+◌, ◌-◌, ◌<◌, ◌≤◌, ◌&&◌, nat_le, Bool, false, IsTrue, List, length, All, slice_index_or}
+use Rattle.std.specs.List.{Contains}
+use Rattle.git_model.specs.Repository.{Object}
+use Rattle.git_model.specs.References.{place_of, object_at, parents_of}
+use Rattle.git_model.specs.Reach.{Reaches}
+
+-- There is a flag for each place from a floor on.
+abbrev pub is_marked : ℕ → List Bool → ℕ → Bool
+is_marked floor flags place = nat_le floor place && slice_index_or flags (place - floor) false
+
+-- The object of this name, if there is one, is marked, if its place has a flag.
+abbrev pub IsMarkedName : List Object → ℕ → List Bool → List ℕ → Type 0
+IsMarkedName os floor flags id = floor ≤ place_of id os → place_of id os < length os
+    → place_of id os < floor + length flags
+    → IsTrue (is_marked floor flags (place_of id os))
+
+-- A place is that of one of some names.
+pub record IsPlaceOfOne (os : List Object) (ids : List (List ℕ)) (place : ℕ) : Type 0 where
+  pub id : List ℕ
+  pub among : Contains ids id
+  pub place_is : place_of id os ≡ place
+  pub within : place < length os
+
+-- The objects of some names are marked beside those that were, and no others.
+pub record Marks (os : List Object) (floor : ℕ) (old new : List Bool)
+    (ids : List (List ℕ)) : Type 0 where
+  pub size : length new ≡ length old
+  pub kept : (p : ℕ) → IsTrue (is_marked floor old p) → IsTrue (is_marked floor new p)
+  pub added : (p : ℕ) → IsTrue (is_marked floor new p)
+      → IsTrue (is_marked floor old p) ⊎ IsPlaceOfOne os ids p
+  pub all : All (IsMarkedName os floor new) ids
+
+-- What is marked is what a commit reaches, as far as it stands at the floor or above.
+pub record IsReached (os : List Object) (tip : List ℕ) (floor : ℕ)
+    (flags : List Bool) : Type 0 where
+  pub only : (p : ℕ) → IsTrue (is_marked floor flags p)
+      → Reaches (parents_of os) tip (object_at p os).id
+  pub every : (id : List ℕ) → floor ≤ place_of id os → Reaches (parents_of os) tip id
+      → IsTrue (is_marked floor flags (place_of id os))

@@ -1,0 +1,59 @@
+//! Commits among objects, and their parents.
+
+ghost use Rattle.std.specs.Prelude.{◌≡◌, ◌<◌, length, true, false, MatchOption, IfOk};
+ghost use Rattle.git_model.specs.References.{place_of, object_at, parents_of};
+ghost use Rattle.git_model.specs.GoodRepository.{AreObjects};
+ghost use Rattle.git_model.specs.Peeling.{is_of};
+ghost use Rattle.git_model.specs.Commit.{Commit, CanWriteCommit, commit_contents};
+
+use git_objects::{Kind, Memory, Name, Naming, read_commit};
+use objects_in_sight::Objects;
+use std::alloc::Global;
+
+/// The position of a commit; `None` where the name is no commit's. Takes no memory.
+pub fn commit_place<N: Naming>(objects: &Objects<'_, N>, id: &Name) -> Option<usize>
+    ensures { MatchOption result (is_of objects.now Kind.Commit id.now ≡ false)
+        (λ place. (is_of objects.now Kind.Commit id.now ≡ true)
+        × (place_of id.now objects.now ≡ place) × (place < length objects.now)) }
+{
+    let place = objects.place(id)?;
+    let Some((_, kind, _)) = objects.at(place) else {
+        return None;
+    };
+    if kind == Kind::Commit {
+        Some(place)
+    } else {
+        None
+    }
+}
+
+/// The names of the parents of the object at a position. Only a commit has any.
+pub fn parents_at<N: Naming>(
+    alloc: Global,
+    objects: &Objects<'_, N>,
+    place: usize,
+) -> Result<Vec<Name>, Memory>
+    requires { place < length objects.now }
+    ensures { AreObjects N.digest_of objects.now → IfOk result
+        (λ parents. parents.items ≡ parents_of objects.now (object_at place objects.now).id) }
+{
+    let Some((_, kind, contents)) = objects.at(place) else {
+        return Ok(Vec::new(alloc));
+    };
+    if kind != Kind::Commit {
+        return Ok(Vec::new(alloc));
+    }
+    let parents = parents_in(alloc, contents)?;
+    Ok(parents)
+}
+
+// The names of the parents that a commit's contents give.
+fn parents_in(alloc: Global, contents: &[u8]) -> Result<Vec<Name>, Memory>
+    ensures { (c : Commit) → CanWriteCommit c → contents.now ≡ commit_contents c
+        → IfOk result (λ parents. parents.items ≡ c.parents) }
+{
+    match read_commit(alloc, contents)? {
+        Some(parts) => Ok(parts.ancestors),
+        None => Ok(Vec::new(alloc)),
+    }
+}

@@ -1,0 +1,121 @@
+//! The log of a set of commits: git-log(1), from new to old.
+
+ghost use Rattle.std.specs.Prelude.{◌≡◌, ◌++◌, ◌∷◌, [], ℕ, ◌<◌, ◌↔◌, List, Bool, length, map, filter, true, IfOk, OnOk, IsTrue};
+ghost use Rattle.git_model.specs.Commit.{Commit, CanWriteCommit, commit_contents};
+ghost use Rattle.git_model.specs.CommitReading.{commit_time};
+ghost use Rattle.git_model.specs.Repository.{Object};
+ghost use Rattle.git_model.specs.References.{object_at};
+ghost use Rattle.git_model.specs.GoodRepository.{AreObjects};
+ghost use Rattle.git_model.specs.Peeling.{is_of};
+ghost use Rattle.commit_reach.specs.Logs.{log_key, log_of, in_log_order, IsLogOf};
+
+use crate::log_key::LogKey;
+use git_objects::{Ident, Kind, Memory, Name, Naming, read_commit};
+use objects_in_sight::Objects;
+use std::alloc::Global;
+use std::cmp::Reverse;
+
+/// The log of the commits that have a flag, of which there is one for each object, the oldest
+/// object first: their names by the committer's time from new to old, and of one time by rising
+/// name.
+///
+/// `Memory` (90) where there is no room for it.
+pub fn log_of<N: Naming>(
+    alloc: Global,
+    objects: &Objects<'_, N>,
+    flags: &[bool],
+) -> Result<Vec<Name>, Memory>
+    ensures { (set : List ℕ → Bool) → AreObjects N.digest_of objects.now
+        → flags.now ≡ map (λ o. set o.id) objects.now
+        → ((id : List ℕ) → IsTrue (set id) → IsTrue (is_of objects.now Kind.Commit id))
+        → IfOk result (λ ids. ids.items ≡ log_of objects.now set) }
+{
+    let mut keys = keys_of(alloc, objects, flags)?;
+    keys.sort_unstable();
+    keys.dedup();
+    let ids = ids_of(alloc, &keys)?;
+    Ok(ids)
+}
+
+fn ids_of(alloc: Global, keys: &[LogKey]) -> Result<Vec<Name>, Memory>
+    ensures { IfOk result (λ ids. ids.items ≡ map (λ k. k.id) keys.now) }
+{
+    let ids = keys.iter().map(|key| key.id).collect(alloc)?;
+    Ok(ids)
+}
+
+// The keys of the commits that have a flag.
+fn keys_of<N: Naming>(
+    alloc: Global,
+    objects: &Objects<'_, N>,
+    flags: &[bool],
+) -> Result<Vec<LogKey>, Memory>
+    ensures { (set : List ℕ → Bool) → AreObjects N.digest_of objects.now
+        → flags.now ≡ map (λ o. set o.id) objects.now
+        → ((id : List ℕ) → IsTrue (set id) → IsTrue (is_of objects.now Kind.Commit id))
+        → IfOk result (λ keys. keys.items
+        ≡ map (λ o. log_key objects.now o.id) (filter (λ o. set o.id) objects.now)) }
+{
+    let count = flags.iter().filter(|flag| **flag).count();
+    let mut keys = Vec::with_capacity(alloc, count)?;
+    for (place, flag) in flags.iter().enumerate() {
+        if *flag {
+            push_key(alloc, objects, place, &mut keys)?;
+        }
+    }
+    Ok(keys)
+}
+
+// Appends the key of the commit at a position.
+fn push_key<N: Naming>(
+    alloc: Global,
+    objects: &Objects<'_, N>,
+    place: usize,
+    keys: &mut Vec<LogKey>,
+) -> Result<(), Memory>
+    ensures { AreObjects N.digest_of objects.now → place < length objects.now
+        → IsTrue (is_of objects.now Kind.Commit (object_at place objects.now).id)
+        → OnOk result (keys.new.items
+        ≡ keys.old.items ++ log_key objects.now (object_at place objects.now).id ∷ []) }
+{
+    let Some(found) = objects.at(place) else {
+        return Ok(());
+    };
+    let (id, _, contents) = found;
+    let key = key_in(alloc, id, contents)?;
+    keys.push(key)?;
+    Ok(())
+}
+
+// The key of the commit with this name and these contents.
+fn key_in(alloc: Global, id: Name, contents: &[u8]) -> Result<LogKey, Memory>
+    ensures { (c : Commit) → CanWriteCommit c → contents.now ≡ commit_contents c
+        → IfOk result (λ key. key ≡ record { time = commit_time c; id = id }) }
+{
+    let time = time_in(alloc, contents)?;
+    Ok(LogKey {
+        newest: Reverse(time),
+        id,
+    })
+}
+
+// When the commit with these contents was made.
+fn time_in(alloc: Global, contents: &[u8]) -> Result<u64, Memory>
+    ensures { (c : Commit) → CanWriteCommit c → contents.now ≡ commit_contents c
+        → IfOk result (λ time. time ≡ commit_time c) }
+{
+    let Some(parts) = read_commit(alloc, contents)? else {
+        return Ok(0);
+    };
+    let Some(committer) = Ident::from_written(alloc, parts.committer)? else {
+        return Ok(0);
+    };
+    Ok(committer.time())
+}
+
+/// The log of a set of commits is one list and no other: each list that has the set's members, each
+/// before all later ones, is the one that `log_of` answers.
+pub fn a_log_is_one_list()
+    ensures { (os : List Object) (set : List ℕ → Bool) (log : List (List ℕ))
+        → IsLogOf os set log ↔ (log ≡ log_of os set) }
+{}

@@ -1,0 +1,2 @@
+pub mod InSight
+pub mod Positions

@@ -1,0 +1,12 @@
+pub mod Ancestors
+pub mod Bases
+pub mod Cuts
+mod ExpressionExamples
+pub mod Parting
+pub mod PathSteps
+pub mod ReadingSteps
+pub mod Steppings
+pub mod Steps
+pub mod Suffixes
+pub mod Valid
+pub mod Differences

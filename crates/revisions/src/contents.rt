@@ -1,0 +1,79 @@
+//! What the contents of an object lead to. Contents that are no object's of their kind, which stand
+//! in no good repository, lead to something harmless.
+
+ghost use Rattle.std.specs.Prelude.{◌≡◌, List, find, slice_get, Some, IfOk};
+ghost use Rattle.std.specs.Option.{option_map};
+ghost use Rattle.std.specs.Str.{bytes_eq};
+ghost use Rattle.git_model.specs.Commit.{Commit, CanWriteCommit, commit_contents};
+ghost use Rattle.git_model.specs.CommitReading.{commit_read};
+ghost use Rattle.git_model.specs.Tag.{Tag, CanWriteTag, tag_contents};
+ghost use Rattle.git_model.specs.TagReading.{tag_read};
+ghost use Rattle.git_model.specs.Tree.{TreeEntry as Entry, CanWriteTree, tree_contents};
+ghost use Rattle.git_model.specs.TreeReading.{tree_read};
+ghost use Rattle.git_objects.specs.Parts.{entry_of, entries_of};
+
+use git_objects::{Memory, Name, TreeEntry, read_commit, read_tag, read_tree};
+use std::alloc::Global;
+
+/// The object that a tag is of. `Memory` (90) where there is no room to read the tag.
+pub(crate) fn target_in(alloc: Global, contents: &[u8]) -> Result<Option<Name>, Memory>
+    ensures { (t : Tag) → CanWriteTag t → contents.now ≡ tag_contents t
+        → IfOk result (λ r. r ≡ Some (tag_read contents.now).target) }
+{
+    match read_tag(alloc, contents) {
+        Ok(Some(parts)) => Ok(Some(parts.target)),
+        Ok(None) => Ok(None),
+        Err(refused) => Err(refused),
+    }
+}
+
+/// The tree of a commit. `Memory` (90) where there is no room to read the commit.
+pub(crate) fn tree_in(alloc: Global, contents: &[u8]) -> Result<Option<Name>, Memory>
+    ensures { (c : Commit) → CanWriteCommit c → contents.now ≡ commit_contents c
+        → IfOk result (λ r. r ≡ Some (commit_read contents.now).tree) }
+{
+    match read_commit(alloc, contents)? {
+        Some(parts) => Ok(Some(parts.tree)),
+        None => Ok(None),
+    }
+}
+
+/// The parent of a commit at a position, counted from 0; `None` from the number of its parents on.
+/// `Memory` (90) where there is no room to read the commit.
+pub(crate) fn parent_in(
+    alloc: Global,
+    contents: &[u8],
+    position: usize,
+) -> Result<Option<Name>, Memory>
+    ensures { (c : Commit) → CanWriteCommit c → contents.now ≡ commit_contents c
+        → IfOk result (λ r. r ≡ slice_get (commit_read contents.now).parents position) }
+{
+    match read_commit(alloc, contents)? {
+        Some(parts) => Ok(parts.ancestors.get(position).copied()),
+        None => Ok(None),
+    }
+}
+
+fn entry_named<'a>(entries: &[TreeEntry<'a>], name: &[u8]) -> Option<TreeEntry<'a>>
+    ensures { option_map entry_of result
+        ≡ find (λ inner. bytes_eq inner.name name.now) (entries_of entries.now) }
+{
+    entries.iter().find(|entry| entry.name == name).copied()
+}
+
+/// The direct entry of a tree that has this name. `Memory` (90) where there is no room to read the
+/// tree.
+pub(crate) fn entry_in<'a>(
+    alloc: Global,
+    contents: &'a [u8],
+    name: &[u8],
+) -> Result<Option<TreeEntry<'a>>, Memory>
+    ensures { (es : List Entry) → CanWriteTree es → contents.now ≡ tree_contents es
+        → IfOk result (λ r. option_map entry_of r
+        ≡ find (λ inner. bytes_eq inner.name name.now) (tree_read contents.now)) }
+{
+    match read_tree(alloc, contents)? {
+        Some(entries) => Ok(entry_named(&entries, name)),
+        None => Ok(None),
+    }
+}

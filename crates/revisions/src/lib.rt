@@ -1,0 +1,30 @@
+//! Revision expressions and ranges of gitrevisions(7), over a list of objects and refs.
+#![tactic(auto)]
+
+mod base;
+mod commit_range;
+mod contents;
+mod cutting;
+mod expression;
+mod expression_reading;
+mod fault;
+pub mod laws;
+mod parents;
+mod peeling;
+mod range_log;
+mod range_reading;
+mod resolving;
+mod stored_path;
+mod suffix;
+mod suffix_reading;
+
+pub use commit_range::Range;
+pub use expression::Expression;
+pub use fault::Fault;
+pub use objects_in_sight::Objects;
+pub use peeling::{peel, peel_tags};
+pub use range_log::range;
+pub use range_reading::read_range;
+pub use resolving::{resolve, resolve_commit, resolve_expression};
+pub use stored_path::entry_below;
+pub use suffix::Suffix;

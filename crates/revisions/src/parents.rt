@@ -1,0 +1,85 @@
+//! Parents of commits: gitrevisions(7), `<rev>^<n>` and `<rev>~<n>`.
+
+ghost use Rattle.std.specs.Prelude.{◌≡◌, List, IfOk, slice_get};
+ghost use Rattle.git_model.specs.Repository.{Object};
+ghost use Rattle.git_model.specs.References.{parents_in, parents_of};
+ghost use Rattle.git_model.specs.GoodRepository.{AreObjects, IsValid};
+ghost use Rattle.revisions.specs.Faults.{Gives};
+ghost use Rattle.revisions.specs.Resolution.{nth_parent, nth_ancestor};
+
+use crate::contents::parent_in;
+use crate::fault::Fault;
+use git_objects::{Kind, Memory, Name, Naming};
+use objects_in_sight::Objects;
+use std::alloc::Global;
+
+// The parent at a position of an object of this kind with these contents.
+fn parent_from(
+    alloc: Global,
+    kind: Kind,
+    contents: &[u8],
+    position: usize,
+) -> Result<Option<Name>, Memory>
+    ensures { (os : List Object) → IsValid os kind contents.now
+        → IfOk result (λ parent. parent ≡ slice_get (parents_in kind contents.now) position) }
+{
+    match kind {
+        Kind::Commit => parent_in(alloc, contents, position),
+        _ => Ok(None),
+    }
+}
+
+// The parent at a position, counted from 0; no other object than a commit has any.
+fn parent_at<N: Naming>(
+    alloc: Global,
+    objects: &Objects<'_, N>,
+    id: &Name,
+    position: usize,
+) -> Result<Option<Name>, Memory>
+    ensures { AreObjects N.digest_of objects.now
+        → IfOk result (λ parent. parent ≡ slice_get (parents_of objects.now id.now) position) }
+{
+    match objects.get(id) {
+        Some((kind, contents)) => parent_from(alloc, kind, contents, position),
+        None => Ok(None),
+    }
+}
+
+/// The nth parent of a commit, counted from 1; the commit itself where n is 0.
+///
+/// `Fault::UnknownRevision` (16) where it has fewer parents; `Fault::Memory` (90) where there is no
+/// room to read the commit.
+pub(crate) fn nth_parent<N: Naming>(
+    alloc: Global,
+    objects: &Objects<'_, N>,
+    n: u32,
+    commit: Name,
+) -> Result<Name, Fault>
+    ensures { AreObjects N.digest_of objects.now → Gives result (nth_parent objects.now n commit) }
+{
+    if n == 0 {
+        return Ok(commit);
+    }
+    match parent_at(alloc, objects, &commit, (n - 1) as usize)? {
+        Some(parent) => Ok(parent),
+        None => Err(Fault::UnknownRevision),
+    }
+}
+
+/// The commit that n steps to the first parent lead to. The refusals are those of `nth_parent`.
+pub(crate) fn nth_ancestor<N: Naming>(
+    alloc: Global,
+    objects: &Objects<'_, N>,
+    n: u32,
+    commit: Name,
+) -> Result<Name, Fault>
+    ensures { AreObjects N.digest_of objects.now → Gives result (nth_ancestor objects.now n commit) }
+{
+    let mut at = commit;
+    let mut steps = n;
+    'way: while steps > 0 {
+        at = nth_parent(alloc, objects, 1, at)?;
+        steps -= 1;
+    }
+    Ok(at)
+}

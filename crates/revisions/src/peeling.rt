@@ -1,0 +1,141 @@
+//! Peeling: gitrevisions(7), `<rev>^{<type>}` and `<rev>^{}`.
+
+ghost use Rattle.std.specs.Prelude.{◌≡◌, List, IfOk};
+ghost use Rattle.git_model.specs.Repository.{Object};
+ghost use Rattle.git_model.specs.GoodRepository.{AreObjects, IsValid};
+ghost use Rattle.git_model.specs.Peeling.{is_of, is_there_untagged, next_from, next_to};
+ghost use Rattle.revisions.specs.declared.fault.Fault.TheVariants as fault;
+ghost use Rattle.revisions.specs.Faults.{Gives, or_fault};
+ghost use Rattle.revisions.specs.Ways.{is_end, first_end};
+ghost use Rattle.revisions.specs.Resolution.{peeled, peeled_untagged};
+
+use crate::contents::{target_in, tree_in};
+use crate::fault::Fault;
+use git_objects::{Kind, Memory, Name, Naming};
+use objects_in_sight::Objects;
+use std::alloc::Global;
+
+// Whether there is an object of this name and of this kind.
+fn is_of<N: Naming>(objects: &Objects<'_, N>, wanted: Kind, id: &Name) -> bool
+    ensures { result ≡ is_of objects.now wanted id.now }
+{
+    match objects.get(id) {
+        Some((kind, _)) => kind == wanted,
+        None => false,
+    }
+}
+
+// Whether there is an object of this name that is no tag.
+fn is_there_untagged<N: Naming>(objects: &Objects<'_, N>, id: &Name) -> bool
+    ensures { result ≡ is_there_untagged objects.now id.now }
+{
+    match objects.get(id) {
+        Some((kind, _)) => kind != Kind::Tag,
+        None => false,
+    }
+}
+
+// What an object of this kind with these contents leads to on the way to another kind.
+fn next_from(
+    alloc: Global,
+    wanted: Kind,
+    kind: Kind,
+    contents: &[u8],
+) -> Result<Option<Name>, Memory>
+    ensures { (os : List Object) → IsValid os kind contents.now
+        → IfOk result (λ next. next ≡ next_from wanted kind contents.now) }
+{
+    match (kind, wanted) {
+        (Kind::Tag, _) => target_in(alloc, contents),
+        (Kind::Commit, Kind::Tree) => tree_in(alloc, contents),
+        _ => Ok(None),
+    }
+}
+
+// The object that one leads to on the way to a kind.
+fn next_to<N: Naming>(
+    alloc: Global,
+    objects: &Objects<'_, N>,
+    wanted: Kind,
+    id: &Name,
+) -> Result<Option<Name>, Memory>
+    ensures { AreObjects N.digest_of objects.now
+        → IfOk result (λ next. next ≡ next_to objects.now wanted id.now) }
+{
+    match objects.get(id) {
+        Some((kind, contents)) => next_from(alloc, wanted, kind, contents),
+        None => Ok(None),
+    }
+}
+
+// Whether a way ends at this object: where it is of the wanted kind, or, where no kind is wanted,
+// where it is there and no tag.
+fn is_end<N: Naming>(objects: &Objects<'_, N>, wanted: Option<Kind>, id: &Name) -> bool
+    ensures { result ≡ is_end objects.now wanted id.now }
+{
+    match wanted {
+        Some(kind) => is_of(objects, kind, id),
+        None => is_there_untagged(objects, id),
+    }
+}
+
+// The first object on the way from this one that the way ends at. The way is given up after as many
+// steps as there are objects: among good objects none is longer.
+fn first_end<N: Naming>(
+    alloc: Global,
+    objects: &Objects<'_, N>,
+    wanted: Option<Kind>,
+    id: Name,
+) -> Result<Option<Name>, Memory>
+    ensures { AreObjects N.digest_of objects.now
+        → IfOk result (λ end. end ≡ first_end objects.now wanted id) }
+{
+    let kind = wanted.unwrap_or(Kind::Blob);
+    let mut at = id;
+    let mut steps = objects.len();
+    'way: while !is_end(objects, wanted, &at) {
+        if steps == 0 {
+            return Ok(None);
+        }
+        let Some(next) = next_to(alloc, objects, kind, &at)? else {
+            return Ok(None);
+        };
+        at = next;
+        steps -= 1;
+    }
+    Ok(Some(at))
+}
+
+/// The object of this kind that one is peeled to: while the kind differs, a tag gives its target
+/// and, where a tree is wanted, a commit its tree. A tag is itself a tag.
+///
+/// `Fault::WrongKind` (15) where no such object is on the way, which is also where there is no
+/// object of this name; `Fault::Memory` (90) where there is no room to read a commit or a tag. The
+/// objects are those of a good repository; among others the answer is any.
+pub fn peel<N: Naming>(
+    alloc: Global,
+    objects: &Objects<'_, N>,
+    wanted: Kind,
+    id: Name,
+) -> Result<Name, Fault>
+    ensures { AreObjects N.digest_of objects.now → Gives result (peeled objects.now wanted id) }
+{
+    match first_end(alloc, objects, Some(wanted), id)? {
+        Some(end) => Ok(end),
+        None => Err(Fault::WrongKind),
+    }
+}
+
+/// The first object on the way from this one that is no tag. The refusals are those of `peel`.
+pub fn peel_tags<N: Naming>(
+    alloc: Global,
+    objects: &Objects<'_, N>,
+    id: Name,
+) -> Result<Name, Fault>
+    ensures { AreObjects N.digest_of objects.now → Gives result (peeled_untagged objects.now id) }
+{
+    match first_end(alloc, objects, None, id)? {
+        Some(end) => Ok(end),
+        None => Err(Fault::WrongKind),
+    }
+}
