@@ -24,7 +24,7 @@ use Rattle.tenant_stream.specs.declared.stop.Stop.{Stop}
 use Rattle.tenant_stream.specs.declared.stop.Stop.TheVariants as stop
 use Rattle.gitpool.specs.declared.import_fault.ImportFault.{ImportFault}
 use Rattle.gitpool.specs.declared.import_fault.ImportFault.TheVariants as fault
-use Rattle.tenant_stream.specs.Carrying.{Between, Carries, Advances, Goes, Ends, EndsAs, Fails, Feeds, HasAmpleRoom, Stops, IsDrained, new_stream, outcome_behind, stream_in}
+use Rattle.tenant_stream.specs.Carrying.{Between, Carries, Advances, Goes, Ends, EndsAs, IsEnd, Fails, Feeds, HasAmpleRoom, Stops, IsDrained, new_stream, outcome_behind, stream_in}
 use Rattle.gitpool.specs.ImportFaults.{as_import}
 use Rattle.gitpool.specs.Import.{IsImported, IsGivenUp, IsStopped, IsDevice, IsSettled, AsksForMore, Imports, outcome_of, end_fault, printed_by}
 use Rattle.tenant_service.specs.Alone.{stream_of}
@@ -370,7 +370,16 @@ pub imported_end : (digest : List ℕ → List ℕ) (r0 r w0 w : Device) (i : Im
 imported_end digest r0 r w0 w i w' (Ok u) s e = ends_as digest r0 r w0 w i w' None s e
 imported_end digest r0 r w0 w i w' (Err (fault.Stream code)) s e = ends_as digest r0 r w0 w i w' (Some code) s e
 imported_end digest r0 r w0 w i w' (Err fault.Device) s e = end_unwritten digest r0 r w0 w i w' s e.0 e.1
-imported_end digest r0 r w0 w i w' (Err fault.Memory) s e = absurd e
+imported_end digest r0 r w0 w i w' (Err fault.Memory) s e = let replies = (outcome_of digest s.bytes).replies in record {
+  bytes = s.bytes;
+  read = s.read;
+  written = record {
+    front = replies ++ [];
+    rest = [];
+    parts = sym (append-nil (replies ++ []) ∙ append-nil replies);
+    appends = Appends-trans w0.known w.known w'.known replies [] s.written e;
+  };
+}
 
 -- what came of a piece that did not pass
 pub imported_piece : (digest : List ℕ → List ℕ) (r0 r w0 w : Device) (i : Importing) (count : ℕ) (r' w' : Device) (i' : Importing) (piece : List ℕ)
@@ -396,7 +405,7 @@ first_item = refl
 first_running : (i : Importing) (pool : Cells)
     → running_in new_session pool (record { entries = []; committed = 0 }) no_refs ≡ begun (opened empty_repository)
 first_running i pool =
-    ap (λ (os : List Object). record { workspace = record { objects = os; committed = 0; refs = no_refs; marks = [] }; parsing = Ok top; is_done = false })
+    ap (λ (os : List Object). begun (record (opened empty_repository) { objects = os }))
     (objects_none pool)
 
 new_running : (i : Importing) → i.between ≡ new_stream → i.table ≡ record { entries = []; committed = 0 } → i.refs ≡ no_refs
@@ -486,33 +495,40 @@ pub ready_then : (digest : List ℕ → List ℕ) (old new : Importing) → IsRe
 ready_then = still_ready
 
 -- what the end printed
-printed_at_end : (digest : List ℕ → List ℕ) (i : Importing) (result : Result Unit Stop) (left : Repository) (out' : List ℕ)
-    → IsReady digest i → EndsAs digest (running_of i) i.between.tail i.out result left out'
-    → ((count : ℕ) → result ≢ Err (stop.Memory count)) → out' ≡ (end_of_import digest i).reply
-printed_at_end digest i (Ok u) left out' ready e enough =
+printed_at_end : (digest : List ℕ → List ℕ) (i : Importing) (fault : Option ℕ) (left : Repository) (out' : List ℕ)
+    → IsReady digest i → IsEnd (end_of_import digest i) fault i.out left out' → out' ≡ (end_of_import digest i).reply
+printed_at_end digest i fault left out' ready e =
     e.printed ∙ ap (λ (l : List ℕ). l ++ (end_of_import digest i).reply) ready.written
-printed_at_end digest i (Err (stop.Fault code)) left out' ready e enough =
-    e.printed ∙ ap (λ (l : List ℕ). l ++ (end_of_import digest i).reply) ready.written
-printed_at_end digest i (Err (stop.Memory count)) left out' ready e enough = absurd (enough count refl)
+
+end_front : (digest : List ℕ → List ℕ) (i : Importing) (result : Result Unit Stop) (left : Repository) (out' : List ℕ)
+    → IsReady digest i → EndsAs digest (running_of i) i.between.tail i.out result left out' → IsFront (end_of_import digest i).reply out'
+end_front digest i (Ok u) left out' ready e =
+    record { rest = []; parts = sym (append-nil out' ∙ printed_at_end digest i None left out' ready e) }
+end_front digest i (Err (stop.Fault code)) left out' ready e =
+    record { rest = []; parts = sym (append-nil out' ∙ printed_at_end digest i (Some code) left out' ready e) }
+end_front digest i (Err (stop.Memory count)) left out' ready e = record {
+  rest = (end_of_import digest i).reply;
+  parts = ap (λ (l : List ℕ). l ++ (end_of_import digest i).reply) (sym (e.printed ∙ ready.written));
+}
 
 -- the end, by its answer
 pub ends_import : (digest : List ℕ → List ℕ) (i : Importing) (w w' : Device) (result : Result Unit Stop) (left : Repository) (out' : List ℕ)
     → IsReady digest i → EndsAs digest (running_of i) i.between.tail i.out result left out'
-    → ((count : ℕ) → result ≢ Err (stop.Memory count)) → Appends w.known w'.known out' → EndsImport digest i w (as_import result) w'
-ends_import digest i w w' (Ok u) left out' ready e enough written = record {
+    → Appends w.known w'.known out' → EndsImport digest i w (as_import result) w'
+ends_import digest i w w' (Ok u) left out' ready e written = record {
   ended = e.answered;
-  written = subst (λ (l : List ℕ). Appends w.known w'.known l) (printed_at_end digest i (Ok u) left out' ready e enough) written;
+  written = subst (λ (l : List ℕ). Appends w.known w'.known l) (printed_at_end digest i None left out' ready e) written;
 }
-ends_import digest i w w' (Err (stop.Fault code)) left out' ready e enough written = record {
+ends_import digest i w w' (Err (stop.Fault code)) left out' ready e written = record {
   ended = e.answered;
-  written = subst (λ (l : List ℕ). Appends w.known w'.known l) (printed_at_end digest i (Err (stop.Fault code)) left out' ready e enough) written;
+  written = subst (λ (l : List ℕ). Appends w.known w'.known l) (printed_at_end digest i (Some code) left out' ready e) written;
 }
-ends_import digest i w w' (Err (stop.Memory count)) left out' ready e enough written = absurd (enough count refl)
+ends_import digest i w w' (Err (stop.Memory count)) left out' ready e written =
+    subst (λ (l : List ℕ). Appends w.known w'.known l) (e.printed ∙ ready.written) written
 
 -- its reply was not written
 pub end_fails : (digest : List ℕ → List ℕ) (i : Importing) (w w' : Device) (result : Result Unit Stop) (left : Repository) (out' : List ℕ)
     → IsReady digest i → EndsAs digest (running_of i) i.between.tail i.out result left out'
-    → ((count : ℕ) → result ≢ Err (stop.Memory count)) → AppendsFront w.known w'.known out' → HasFault w.faults w'.faults
-    → EndsImport digest i w (Err fault.Device) w'
-end_fails digest i w w' result left out' ready e enough front failed =
-    (subst (λ (l : List ℕ). AppendsFront w.known w'.known l) (printed_at_end digest i result left out' ready e enough) front, failed)
+    → AppendsFront w.known w'.known out' → HasFault w.faults w'.faults → EndsImport digest i w (Err fault.Device) w'
+end_fails digest i w w' result left out' ready e front failed =
+    (front_of_front w.known w'.known out' _ front (end_front digest i result left out' ready e), failed)

@@ -87,7 +87,7 @@ pub record IsEndWritten (digest : List ℕ → List ℕ) (i : Importing) (fault 
   pub ended : (end_of_import digest i).fault ≡ fault
   pub written : Appends writer.known writer'.known (end_of_import digest i).reply
 
--- What came of the end, by the answer. No end takes memory.
+-- What came of the end, by the answer. Where memory ran out nothing was written for it.
 abbrev pub EndsImport : (List ℕ → List ℕ) → Importing → Device → Result Unit ImportFault → Device
     → Type 0
 EndsImport digest i writer (Ok u) writer' = IsEndWritten digest i None writer writer'
@@ -96,7 +96,8 @@ EndsImport digest i writer (Err (fault.Stream code)) writer' =
 EndsImport digest i writer (Err fault.Device) writer' =
     AppendsFront writer.known writer'.known (end_of_import digest i).reply
     × HasFault writer.faults writer'.faults
-EndsImport digest i writer (Err fault.Memory) writer' = ⊥
+EndsImport digest i writer (Err fault.Memory) writer' =
+    Appends writer.known writer'.known []
 
 -- All that counts was read, carried out and answered: the input ended, or `done` was read.
 pub record IsReadThrough (digest : List ℕ → List ℕ) (reader reader' writer : Device) (i : Importing)

@@ -1,20 +1,22 @@
 -- What a printed line leaves of a workspace.
-use Rattle.std.proofs.Common.{◌≡◌, ◌≢◌, ℕ, List, Result, Ok, Err, refl, sym, ap, subst, ◌∙◌, append_assoc, append-nil, codes, Bool, true, false}
+use Rattle.std.proofs.Common.{◌≡◌, ◌≢◌, ◌⊎◌, inl, inr, ℕ, List, Result, Ok, Err, refl, sym, ap, subst, ◌∙◌, append_assoc, codes, Bool, true, false}
 use Rattle.import_session.specs.declared.fault.Fault.{Fault}
 use Rattle.import_session.specs.declared.fault.Fault.TheVariants as fault
 use Rattle.stream_lex.specs.Items.{Item}
 use Rattle.stream_grammar.specs.declared.act.Act.{Act as LentAct}
+use Rattle.stream_grammar.specs.declared.act.Act.TheVariants as lent
 use Rattle.stream_grammar.specs.declared.fault.Fault.{Fault as TextFault}
 use Rattle.stream_grammar.specs.declared.act.Done.{Done as LentDone}
 use Rattle.stream_grammar.specs.declared.fault.Fault.TheVariants as text_fault
 use Rattle.stream_grammar.specs.Acts.{Act}
 use Rattle.stream_grammar.specs.Shown.{Answers, act_shown}
-use Rattle.stream_grammar.specs.Commands.{Done, Parsing, end_of}
-use Rattle.import_session.specs.Faults.{text_first}
+use Rattle.stream_grammar.specs.Commands.{Done, Parsing}
+use Rattle.import_session.specs.Faults.{text_first, and_then}
 use Rattle.import_session.specs.Known.{Gives, known}
-use Rattle.import_session.specs.Workspace.{Workspace, checkpointed}
-use Rattle.import_session.specs.Stream.{Running, Step, session_end, step, taken, is_finish}
-use Rattle.import_session.specs.Meaning.{Effect, and_then, after_act, prints}
+use Rattle.import_session.specs.Workspace.{Workspace, Effect}
+use Rattle.import_session.specs.Checkpoints.{checkpoint}
+use Rattle.import_session.specs.Stream.{Running, Step, step, taken, is_finish}
+use Rattle.import_session.specs.Meaning.{after_act, prints}
 use Rattle.import_session.specs.Printing.{Shows}
 use Rattle.import_session.specs.Session.{CarriesOut, Takes}
 
@@ -46,14 +48,13 @@ named_carried (Ok name) line w out out' result shown = line_carried
 named_carried (Err refusal) line w out out' result shown = line_carried
     (Err refusal) w out out' result shown
 
--- a session that ends well leaves a checkpoint, and prints nothing
-pub ends_well : (digest : List ℕ → List ℕ) (now : Running) (left : Workspace) (ends_commit : Bool)
-    (out : List ℕ)
-    → now.is_done ≡ false → end_of now.parsing ≡ Ok ends_commit → checkpointed now.workspace ≡ left
-    → CarriesOut (session_end digest now) left out out (Ok tt)
-unfolding session_end
-ends_well digest now left ends_commit out running ended same = rw (running, ended)
-    (same, sym (append-nil out))
+-- what saves is a checkpoint
+pub saves : (digest : List ℕ → List ℕ) (act : LentAct) (w : Workspace)
+    → (act ≡ lent.Checkpoint) ⊎ (act ≡ lent.Finish)
+    → after_act digest (act_shown act) w ≡ checkpoint w
+unfolding after_act
+saves digest act w (inl is) = rw is refl
+saves digest act w (inr is) = rw is refl
 
 -- what a session that runs takes
 pub step_running : (digest : List ℕ → List ℕ) (now : Running) (item : Item) → now.is_done ≡ false

@@ -1,2 +1,3 @@
 mod ActLemmas
+mod CheckpointLemmas
 pub mod LentLemmas

@@ -2,10 +2,15 @@
 -- stream from end to end; then where its parts lie, what its calls keep, store and print.
 pub mod Faults
 pub mod Workspace
+pub mod Marks
+pub mod Branches
+pub mod Storing
+pub mod Tags
+pub mod Checkpoints
 pub mod Meaning
 pub mod Known
 pub mod Stream
 pub mod Session
 pub mod Lent
-pub mod Storing
+pub mod Stored
 pub mod Printing

@@ -1,95 +1,33 @@
 -- What each command does: git-fast-import(1), "Commands".
-use Rattle.std.specs.Prelude.{ℕ, ◌||◌, Bool, nat_eq, nat_lt, if◌then◌else◌, List, [], ◌++◌, length, Option, None, Some, is_some, Result, Ok, Err, codes, decimal}
-use Rattle.std.specs.Map.{lookup}
+use Rattle.std.specs.Prelude.{ℕ, true, if◌then◌else◌, List, ◌++◌, length, Option, None, Some, Result, Ok, Err, codes, decimal}
+use Rattle.std.specs.Str.{bytes_eq}
 use Rattle.hex.specs.Hex.{encode_lower}
-use Rattle.indexmap.specs.IndexMap.{insert_entry}
 use Rattle.git_model.specs.declared.kind.Kind.{Kind}
 use Rattle.git_model.specs.declared.kind.Kind.TheVariants as kind
 use Rattle.git_model.specs.Content.{Content, content_from, name_by}
-use Rattle.git_model.specs.Repository.{Object, object_named, with_object}
-use Rattle.tenant_tables.specs.declared.fault.Fault.{Fault as TableFault}
-use Rattle.tenant_tables.specs.declared.fault.Fault.TheVariants as table_fault
-use Rattle.tenant_tables.specs.Adding.{store_fault}
-use Rattle.stream_grammar.specs.declared.data_ref.DataRef.{DataRef}
-use Rattle.stream_grammar.specs.declared.data_ref.DataRef.TheVariants as data_ref
+use Rattle.git_model.specs.Repository.{object_named}
 use Rattle.stream_grammar.specs.declared.fault.Fault.TheVariants as text_fault
-use Rattle.stream_grammar.specs.Acts.{Act, Wait, StoreBlob, ShowMark, ShowObject, Progress, Finish}
+use Rattle.stream_grammar.specs.declared.feature.Feature.{Feature}
+use Rattle.stream_grammar.specs.declared.feature.Feature.TheVariants as feature
+use Rattle.stream_grammar.specs.Acts.{Act, Wait, StoreBlob, BeginTag, TagTarget, Tagger, StoreTag, Reset, ResetTo, Checkpoint, Progress, ShowMark, ShowObject, Finish, Require, SetHead}
 use Rattle.import_session.specs.declared.fault.Fault.{Fault}
 use Rattle.import_session.specs.declared.fault.Fault.TheVariants as fault
-use Rattle.import_session.specs.Workspace.{Marks, Workspace, checkpointed}
-
--- What an act leaves, and what it prints.
-pub record Effect : Type 0 where
-  pub workspace : Workspace
-  pub reply : List ℕ
-
--- What prints nothing leaves this.
-abbrev pub quiet : Workspace → Result Effect Fault
-quiet workspace = Ok (record { workspace = workspace; reply = [] })
-
--- What comes after a step that may be refused.
-abbrev pub and_then : {A B : Type 0} → Result A Fault → (A → Result B Fault) → Result B Fault
-and_then (Ok value) next = next value
-and_then (Err e) next = Err e
-
--- A stream has at most so many marks.
-abbrev pub mark_limit : ℕ
-mark_limit = 4194304
-
--- The name that a mark stands for.
-abbrev pub found_mark : Option (List ℕ) → Result (List ℕ) Fault
-found_mark None = Err fault.MarkUnknown
-found_mark (Some id) = Ok id
-
-abbrev pub marked_name : Marks → ℕ → Result (List ℕ) Fault
-marked_name marks mark = found_mark (lookup (nat_eq mark) marks)
-
--- The name that a dataref stands for.
-abbrev pub referred_name : Marks → DataRef → Result (List ℕ) Fault
-referred_name marks (data_ref.Mark mark) = marked_name marks mark
-referred_name marks (data_ref.Name id) = Ok id
-
--- Another mark finds no room where there are as many as there may be. Setting one again needs none.
-unfoldable pub has_room : Marks → ℕ → Bool
-has_room marks mark = is_some (lookup (nat_eq mark) marks) || nat_lt (length marks) mark_limit
-
-abbrev pub room_for : Marks → Option ℕ → Result Unit Fault
-room_for marks None = Ok tt
-room_for marks (Some mark) = if has_room marks mark then Ok tt else Err fault.Limit
-
--- The marks where one is set, perhaps again.
-abbrev pub with_mark : Marks → Option ℕ → List ℕ → Marks
-with_mark marks None id = marks
-with_mark marks (Some mark) id = insert_entry nat_eq marks mark id
-
--- What refuses a content of a repository: a limit, or another content of its name.
-abbrev pub storing_fault : TableFault → Fault
-storing_fault table_fault.Limit = fault.Limit
-storing_fault table_fault.NameCollision = fault.NameCollision
-storing_fault table_fault.Memory = fault.Memory
-
--- The objects where one is stored. What is there already is not stored again.
-abbrev pub stored_or : List ℕ → Content → List Object → Option TableFault
-    → Result (List Object) Fault
-stored_or id content objects None = Ok (with_object id content objects)
-stored_or id content objects (Some refusal) = Err (storing_fault refusal)
-
-abbrev pub with_content : (List ℕ → List ℕ) → Content → List Object → Result (List Object) Fault
-with_content digest content objects =
-    stored_or (name_by digest content) content objects
-    (store_fault (name_by digest content) content objects)
+use Rattle.import_session.specs.Faults.{and_then}
+use Rattle.import_session.specs.Workspace.{Workspace, Effect, quiet}
+use Rattle.import_session.specs.Marks.{marked_name, referred_name, room_for, with_mark}
+use Rattle.import_session.specs.Branches.{branch_reset, branch_reset_to}
+use Rattle.import_session.specs.Storing.{with_content}
+use Rattle.import_session.specs.Tags.{tag_begun, target_said, tagger_said, tag_stored}
+use Rattle.import_session.specs.Checkpoints.{checkpoint}
 
 -- 'blob': its contents are stored, and then its mark is set. The limit on marks is judged first.
 abbrev pub blob_stored : (List ℕ → List ℕ) → Option ℕ → Content → Workspace → Result Effect Fault
 blob_stored digest mark content workspace =
     and_then (room_for workspace.marks mark) (λ _.
     and_then (with_content digest content workspace.objects) (λ objects.
-    Ok (record {
-      workspace = record workspace {
-        objects = objects;
-        marks = with_mark workspace.marks mark (name_by digest content);
-      };
-      reply = [];
+    quiet (record workspace {
+      objects = objects;
+      marks = with_mark workspace.marks mark (name_by digest content);
     })))
 
 -- What changes nothing prints its line.
@@ -114,16 +52,47 @@ abbrev pub blob_shown : Workspace → List ℕ → Result Effect Fault
 blob_shown workspace id =
     and_then (shown_object id (object_named id workspace.objects)) (λ line. prints workspace line)
 
+-- 'feature': a switch, or a promise of what is always there.
+abbrev pub feature_set : Feature → Workspace → Workspace
+feature_set feature.Done workspace = record workspace { needs_done = true }
+feature_set feature.Force workspace = record workspace { forces = true }
+feature_set _ workspace = workspace
+
+-- 'option gitpool head': what HEAD is to name from the next checkpoint on, and for this stream at
+-- once. It does not name itself.
+abbrev pub head_set : List ℕ → Workspace → Result Effect Fault
+head_set ref workspace =
+    if bytes_eq ref (codes "HEAD") then Err (fault.Text text_fault.BadRefName)
+    else quiet (record workspace { head = Some ref })
+
+-- What an act does that stores nothing, prints nothing and saves nothing.
+unfoldable pub set_by : Act → Workspace → Result Effect Fault
+set_by Wait workspace = quiet workspace
+set_by (BeginTag ref) workspace = tag_begun ref workspace
+set_by (TagTarget target) workspace = target_said target workspace
+set_by (Tagger ident) workspace = tagger_said ident workspace
+set_by (Reset ref) workspace = branch_reset ref workspace
+set_by (ResetTo from) workspace = branch_reset_to from workspace
+set_by (Require feature) workspace = quiet (feature_set feature workspace)
+set_by (SetHead ref) workspace = head_set ref workspace
+-- No other act has a meaning here yet: none comes, for its command is unknown where it would begin.
+set_by _ workspace = Err (fault.Text text_fault.UnknownCommand)
+
+-- What an act prints, which leaves the workspace.
+unfoldable pub shown_by : Act → Workspace → Result Effect Fault
+shown_by (ShowMark mark) workspace =
+    and_then (marked_name workspace.marks mark) (λ id. prints workspace (encode_lower id))
+shown_by (ShowObject object) workspace =
+    and_then (referred_name workspace.marks object) (λ id. blob_shown workspace id)
+shown_by (Progress line) workspace = prints workspace line
+shown_by act workspace = set_by act workspace
+
 -- What each act leaves and prints, or the fault that refuses it.
 unfoldable pub after_act : (List ℕ → List ℕ) → Act → Workspace → Result Effect Fault
-after_act digest Wait workspace = quiet workspace
 after_act digest (StoreBlob mark bytes) workspace =
     blob_stored digest mark (content_from kind.Blob bytes) workspace
-after_act digest (ShowMark mark) workspace =
-    and_then (marked_name workspace.marks mark) (λ id. prints workspace (encode_lower id))
-after_act digest (ShowObject object) workspace =
-    and_then (referred_name workspace.marks object) (λ id. blob_shown workspace id)
-after_act digest (Progress line) workspace = prints workspace line
-after_act digest Finish workspace = quiet (checkpointed workspace)
--- No other act has a meaning here yet: none comes, for its command is unknown where it would begin.
-after_act digest _ workspace = Err (fault.Text text_fault.UnknownCommand)
+after_act digest (StoreTag mark message) workspace =
+    tag_stored digest mark message workspace.said workspace
+after_act digest Checkpoint workspace = checkpoint workspace
+after_act digest Finish workspace = checkpoint workspace
+after_act digest act workspace = shown_by act workspace

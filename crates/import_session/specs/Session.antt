@@ -1,6 +1,6 @@
 -- A session: the part of a running stream that lies neither in a table, nor in a pool, nor among
 -- refs.
-use Rattle.std.specs.Prelude.{◌≡◌, ◌≢◌, ℕ, List, [], ◌++◌, take, Result, Ok, Err, Bool, false}
+use Rattle.std.specs.Prelude.{◌≡◌, ◌≢◌, ℕ, List, [], ◌++◌, take, Option, None, Result, Ok, Err, Bool, false}
 use Rattle.git_model.specs.RefStore.{RefStore}
 use Rattle.git_model.specs.Repository.{Repository}
 use Rattle.content_pool.specs.Pool.{Cells}
@@ -9,29 +9,70 @@ use Rattle.tenant_tables.specs.View.{View}
 use Rattle.stream_grammar.specs.Commands.{Parsing, top}
 use Rattle.import_session.specs.declared.fault.Fault.{Fault}
 use Rattle.import_session.specs.declared.fault.Fault.TheVariants as fault
-use Rattle.import_session.specs.Workspace.{Workspace, Marks}
-use Rattle.import_session.specs.Meaning.{Effect}
+use Rattle.import_session.specs.declared.own.Own.{Own as LentOwn}
+use Rattle.import_session.specs.declared.said.Said.{Said}
+use Rattle.import_session.specs.Workspace.{Workspace, Marks, Branches, PendingTags, Effect}
 use Rattle.import_session.specs.Stream.{Running, Step}
+
+-- What a stream has of its own, beside its objects.
+pub record Own : Type 0 where
+  pub marks : Marks
+  pub branches : Branches
+  pub tags : PendingTags
+  pub said : Option Said
+  pub head : Option (List ℕ)
+  pub forces : Bool
+  pub needs_done : Bool
+
+-- The same without where it lies.
+abbrev pub own_shown : LentOwn → Own
+own_shown own = record {
+  marks = own.marks.entries;
+  branches = own.branches.entries;
+  tags = own.tags.items;
+  said = own.said;
+  head = own.head;
+  forces = own.forces;
+  needs_done = own.needs_done;
+}
+
+-- Nothing yet.
+abbrev pub nothing_own : Own
+nothing_own = record {
+  marks = [];
+  branches = [];
+  tags = [];
+  said = None;
+  head = None;
+  forces = false;
+  needs_done = false;
+}
 
 -- What a session keeps between items.
 pub record Kept : Type 0 where
   pub parsing : Parsing
-  pub marks : Marks
+  pub own : Own
   pub is_done : Bool
 
 -- The workspace of a stream whose objects stand in a table over a pool.
-abbrev pub workspace_in : Marks → Cells → View → RefStore → Workspace
-workspace_in marks pool table refs = record {
+abbrev pub workspace_in : Own → Cells → View → RefStore → Workspace
+workspace_in own pool table refs = record {
   objects = objects pool table.entries;
   committed = table.committed;
   refs = refs;
-  marks = marks;
+  marks = own.marks;
+  branches = own.branches;
+  tags = own.tags;
+  said = own.said;
+  head = own.head;
+  forces = own.forces;
+  needs_done = own.needs_done;
 }
 
 -- The running stream that a session is part of.
 abbrev pub running_in : Kept → Cells → View → RefStore → Running
 running_in session pool table refs = record {
-  workspace = workspace_in session.marks pool table refs;
+  workspace = workspace_in session.own pool table refs;
   parsing = session.parsing;
   is_done = session.is_done;
 }
@@ -54,7 +95,7 @@ Takes (Err refusal) new out out' (Err e) = e ≢ fault.Memory → e ≡ refusal
 
 -- Before a session's first item.
 abbrev pub new_session : Kept
-new_session = record { parsing = Ok top; marks = []; is_done = false }
+new_session = record { parsing = Ok top; own = nothing_own; is_done = false }
 
 -- The repository whose objects stand in a table over a pool, all of them.
 abbrev pub repository_in : Cells → View → RefStore → Repository

@@ -1,32 +1,26 @@
--- What a call that stores a content did: git-hash-object(1), "-w".
-use Rattle.std.specs.Prelude.{◌≡◌, ◌≢◌, ℕ, List, Result, Ok, Err}
+-- Storing objects: git-hash-object(1), "-w".
+use Rattle.std.specs.Prelude.{ℕ, List, Option, None, Some, Result, Ok, Err}
 use Rattle.git_model.specs.Content.{Content, name_by}
-use Rattle.content_pool.specs.Pool.{Cells}
-use Rattle.tenant_tables.specs.View.{View}
-use Rattle.tenant_tables.specs.Objects.{objects}
+use Rattle.git_model.specs.Repository.{Object, with_object}
+use Rattle.tenant_tables.specs.declared.fault.Fault.{Fault as TableFault}
+use Rattle.tenant_tables.specs.declared.fault.Fault.TheVariants as table_fault
+use Rattle.tenant_tables.specs.Adding.{store_fault}
 use Rattle.import_session.specs.declared.fault.Fault.{Fault}
 use Rattle.import_session.specs.declared.fault.Fault.TheVariants as fault
-use Rattle.import_session.specs.Meaning.{with_content}
-use Rattle.import_session.specs.Lent.{IsUnchanged}
 
--- A content stands among the objects, last unless it was there, and its name was answered.
-pub record IsStored (digest : List ℕ → List ℕ) (content : Content) (before : Cells) (old : View)
-    (after : Cells) (new : View) (id : List ℕ) : Type 0 where
-  pub name : id ≡ name_by digest content
-  pub objects : with_content digest content (objects before old.entries)
-      ≡ Ok (objects after new.entries)
-  pub committed : new.committed ≡ old.committed
+-- What refuses a content of a repository: a limit, or another content of its name.
+abbrev pub storing_fault : TableFault → Fault
+storing_fault table_fault.Limit = fault.Limit
+storing_fault table_fault.NameCollision = fault.NameCollision
+storing_fault table_fault.Memory = fault.Memory
 
--- It was refused, and nothing has changed. `Memory` may stand in place of any answer.
-pub record IsNotStored (digest : List ℕ → List ℕ) (content : Content) (before : Cells) (old : View)
-    (after : Cells) (new : View) (e : Fault) : Type 0 where
-  pub refused : e ≢ fault.Memory → with_content digest content (objects before old.entries) ≡ Err e
-  pub same : IsUnchanged before old after new
+-- The objects where one is stored. What is there already is not stored again.
+abbrev pub stored_or : List ℕ → Content → List Object → Option TableFault
+    → Result (List Object) Fault
+stored_or id content objects None = Ok (with_object id content objects)
+stored_or id content objects (Some refusal) = Err (storing_fault refusal)
 
--- What came of it, by the answer.
-abbrev pub Stores : (List ℕ → List ℕ) → Content → Cells → View → Cells → View
-    → Result (List ℕ) Fault → Type 0
-Stores digest content before old after new (Ok id) =
-    IsStored digest content before old after new id
-Stores digest content before old after new (Err e) =
-    IsNotStored digest content before old after new e
+abbrev pub with_content : (List ℕ → List ℕ) → Content → List Object → Result (List Object) Fault
+with_content digest content objects =
+    stored_or (name_by digest content) content objects
+    (store_fault (name_by digest content) content objects)

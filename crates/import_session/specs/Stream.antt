@@ -7,9 +7,11 @@ use Rattle.stream_grammar.specs.Acts.{Act, Finish}
 use Rattle.stream_grammar.specs.Commands.{Parsing, top, done_by, after, end_of}
 use Rattle.stream_grammar.specs.Parts.{part_of}
 use Rattle.import_session.specs.declared.fault.Fault.{Fault}
-use Rattle.import_session.specs.Faults.{code_of, text_first}
-use Rattle.import_session.specs.Workspace.{Workspace, checkpointed}
-use Rattle.import_session.specs.Meaning.{Effect, quiet, and_then, after_act}
+use Rattle.import_session.specs.declared.fault.Fault.TheVariants as fault
+use Rattle.import_session.specs.Faults.{code_of, text_first, and_then}
+use Rattle.import_session.specs.Workspace.{Workspace, Effect, quiet}
+use Rattle.import_session.specs.Checkpoints.{checkpoint}
+use Rattle.import_session.specs.Meaning.{after_act}
 use Rattle.import_session.specs.Known.{known, has_no_meaning}
 
 -- A running stream has its workspace, the command that is not whole yet, and whether `done` was
@@ -114,10 +116,15 @@ ended_well reply workspace =
 abbrev pub ended_by : ℕ → Repository → End
 ended_by code repository = record { fault = Some code; reply = []; repository = repository }
 
--- The end of the commands: a part may be missing, else the end is a checkpoint.
+-- The end of the commands: a part may be missing, and then `done`; else the end is a checkpoint.
+abbrev pub unless_done_missing : Workspace → Result Unit Fault
+unless_done_missing workspace =
+    if workspace.needs_done then Err fault.DoneMissing else Ok tt
+
 abbrev pub commands_end : (List ℕ → List ℕ) → Running → Result Effect Fault
 commands_end digest now =
-    and_then (text_first (end_of now.parsing)) (λ ends_commit. quiet (checkpointed now.workspace))
+    and_then (text_first (end_of now.parsing)) (λ ends_commit.
+    and_then (unless_done_missing now.workspace) (λ _. checkpoint now.workspace))
 
 -- After `done` nothing is asked for, and nothing is printed.
 unfoldable pub session_end : (List ℕ → List ℕ) → Running → Result Effect Fault

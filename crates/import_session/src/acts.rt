@@ -2,26 +2,32 @@
 
 ghost use Rattle.std.specs.Prelude.{◌≡◌, OnErr, Ok, List, ℕ};
 ghost use Rattle.hex.specs.Hex.{encode_lower};
-ghost use Rattle.git_model.specs.Repository.{object_named};
-ghost use Rattle.tenant_tables.specs.Objects.{objects};
-ghost use Rattle.stream_grammar.specs.Acts.{StoreBlob};
 ghost use Rattle.git_model.specs.RefStore.{RefStore};
+ghost use Rattle.git_model.specs.Repository.{object_named};
 ghost use Rattle.content_pool.specs.Pool.{HasRoom};
+ghost use Rattle.tenant_tables.specs.Objects.{objects};
 ghost use Rattle.tenant_tables.specs.StandsIn.{StandsIn};
+ghost use Rattle.stream_grammar.specs.Acts.{StoreBlob};
 ghost use Rattle.stream_grammar.specs.Shown.{act_shown};
-ghost use Rattle.import_session.specs.Meaning.{after_act, and_then, marked_name, referred_name, shown_object};
+ghost use Rattle.import_session.specs.Faults.{and_then};
+ghost use Rattle.import_session.specs.Marks.{marked_name, referred_name};
+ghost use Rattle.import_session.specs.Meaning.{after_act, shown_by, shown_object};
 ghost use Rattle.import_session.specs.Lent.{IsUnchanged, Keeps};
 ghost use Rattle.import_session.specs.Printing.{Shows};
-ghost use Rattle.import_session.specs.Session.{workspace_in, CarriesOut};
+ghost use Rattle.import_session.specs.Session.{own_shown, workspace_in, CarriesOut, Own as OwnShown};
 
+use crate::checkpoint::save;
 use crate::fault::Fault;
 use crate::marks;
-use crate::objects::{print_object, store_blob};
+use crate::objects::{print_object, store};
+use crate::own::{self, Own};
 use crate::print::{print_line, print_name};
+use crate::tags::store_tag;
 use content_pool::Pool;
-use git_objects::{Name, Naming};
+use git_objects::{Kind, Name, Naming};
 use indexmap::IndexMap;
 use stream_grammar::{Act, DataRef, Mark};
+use tenant_refs::Refs;
 use tenant_tables::Table;
 
 #[tactic(auto, unfolding(crate::specs::Meaning::after_act))]
@@ -35,14 +41,15 @@ fn store_marked<N: Naming>(
     requires stands { StandsIn N.digest_of pool.old table.old.entries }
     requires room { HasRoom pool.old }
     ensures keeps { Keeps N.digest_of pool.old table.old pool.new table.new }
-    ensures done { (refs : RefStore) (out : List ℕ) → CarriesOut
+    ensures done { (own : OwnShown) (refs : RefStore) (out : List ℕ) → CarriesOut
         (after_act N.digest_of (StoreBlob mark contents.now)
-        (workspace_in marks.old.entries pool.old table.old refs))
-        (workspace_in marks.new.entries pool.new table.new refs) out out result }
+        (workspace_in (record own { marks = marks.old.entries }) pool.old table.old refs))
+        (workspace_in (record own { marks = marks.new.entries }) pool.new table.new refs)
+        out out result }
     ensures same { OnErr result (IsUnchanged pool.old table.old pool.new table.new) }
 {
     marks::make_room(marks, &mark)?;
-    let id = store_blob(pool, table, contents)?;
+    let id = store(pool, table, Kind::Blob, contents)?;
     marks::set(marks, mark, id);
     Ok(())
 }
@@ -81,37 +88,60 @@ fn print_marked(marks: &IndexMap<Mark, Name>, mark: Mark, out: &mut Vec<u8>) -> 
     Ok(())
 }
 
+// Carries out an act that prints, or one that stores, prints and saves nothing.
+#[tactic(auto, unfolding(crate::specs::Meaning::shown_by))]
+fn show<N: Naming>(
+    pool: &Pool<N>,
+    table: &Table,
+    refs: &Refs,
+    own: &mut Own,
+    act: &Act<'_>,
+    out: &mut Vec<u8>,
+) -> Result<(), Fault>
+    requires stands { StandsIn N.digest_of pool.now table.now.entries }
+    ensures done { CarriesOut
+        (shown_by (act_shown act.now)
+        (workspace_in (own_shown own.old) pool.now table.now refs.now))
+        (workspace_in (own_shown own.new) pool.now table.now refs.now)
+        out.old.items out.new.items result }
+    ensures printed { OnErr result (out.new.items ≡ out.old.items) }
+{
+    match act {
+        Act::ShowMark(mark) => print_marked(&own.marks, *mark, out),
+        Act::ShowObject(object) => print_referred(pool, table, &own.marks, *object, out),
+        Act::Progress(line) => Ok(print_line(line, out)?),
+        _ => own::set(own, refs, act),
+    }
+}
+
 // Carries an act out, and appends what it prints to `out`.
 #[tactic(auto, unfolding(crate::specs::Meaning::after_act))]
 pub fn carry_out<N: Naming>(
     pool: &mut Pool<N>,
     table: &mut Table,
-    marks: &mut IndexMap<Mark, Name>,
+    refs: &mut Refs,
+    own: &mut Own,
     act: &Act<'_>,
     out: &mut Vec<u8>,
 ) -> Result<(), Fault>
     requires stands { StandsIn N.digest_of pool.old table.old.entries }
     requires room { HasRoom pool.old }
     ensures keeps { Keeps N.digest_of pool.old table.old pool.new table.new }
-    ensures done { (refs : RefStore) → CarriesOut
+    ensures done { CarriesOut
         (after_act N.digest_of (act_shown act.now)
-        (workspace_in marks.old.entries pool.old table.old refs))
-        (workspace_in marks.new.entries pool.new table.new refs)
+        (workspace_in (own_shown own.old) pool.old table.old refs.old))
+        (workspace_in (own_shown own.new) pool.new table.new refs.new)
         out.old.items out.new.items result }
     ensures same { OnErr result (IsUnchanged pool.old table.old pool.new table.new) }
+    ensures refs { OnErr result (refs.new ≡ refs.old) }
     ensures printed { OnErr result (out.new.items ≡ out.old.items) }
 {
     match act {
-        Act::Wait => Ok(()),
-        Act::StoreBlob { mark, contents } => store_marked(pool, table, marks, *mark, contents),
-        Act::ShowMark(mark) => print_marked(marks, *mark, out),
-        Act::ShowObject(object) => print_referred(pool, table, marks, *object, out),
-        Act::Progress(line) => Ok(print_line(line, out)?),
-        Act::Finish => {
-            table.commit();
-            Ok(())
+        Act::StoreBlob { mark, contents } => {
+            store_marked(pool, table, &mut own.marks, *mark, contents)
         }
-        // No other act comes: its command is refused where it would begin.
-        _ => Err(Fault::Text(stream_grammar::Fault::UnknownCommand)),
+        Act::StoreTag { mark, message } => store_tag(pool, table, own, *mark, message),
+        Act::Checkpoint | Act::Finish => save(table, refs, own),
+        _ => show(pool, table, refs, own, act, out),
     }
 }

@@ -13,12 +13,18 @@ pub enum Fault {
     /// The text of the item, or its place: a fault of the grammar, under its number.
     #[error("{0}")]
     Text(stream_grammar::Fault),
+    /// The stream asked for `done` and ended without it, 7.
+    #[error("done missing")]
+    DoneMissing,
     /// No object has this mark, 13.
     #[error("no object has this mark")]
     MarkUnknown,
     /// The object is of another kind than the command asks for, 15.
     #[error("the object is of another kind")]
     WrongKind,
+    /// What is to be tagged is no object of the repository, 16.
+    #[error("unknown revision")]
+    UnknownRevision,
     /// Another content of this repository has the name of the new one, 24.
     #[error("another content has this object name")]
     NameCollision,
@@ -37,8 +43,10 @@ impl Fault {
     {
         match self {
             Fault::Text(text) => text.code(),
+            Fault::DoneMissing => 7,
             Fault::MarkUnknown => 13,
             Fault::WrongKind => 15,
+            Fault::UnknownRevision => 16,
             Fault::NameCollision => 24,
             Fault::Limit => 25,
             Fault::Memory => 90,

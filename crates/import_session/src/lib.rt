@@ -6,12 +6,18 @@
 #![tactic(auto)]
 
 mod acts;
+mod branches;
+mod checkpoint;
 mod fault;
+mod head;
 mod known;
 mod marks;
 mod objects;
+mod own;
 mod print;
+mod said;
 mod session;
+mod tags;
 
 pub use fault::Fault;
 pub use session::Session;

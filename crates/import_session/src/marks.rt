@@ -2,7 +2,7 @@
 
 ghost use Rattle.std.specs.Prelude.{◌≡◌, ◌≢◌, ◌<◌, Result, Ok, Err, MatchResult, OnOk};
 ghost use Rattle.indexmap.specs.IndexMap.{spare};
-ghost use Rattle.import_session.specs.Meaning.{has_room, marked_name, room_for, with_mark};
+ghost use Rattle.import_session.specs.Marks.{has_room, marked_name, room_for, with_mark};
 
 use crate::fault::Fault;
 use git_objects::Name;
@@ -13,7 +13,7 @@ use stream_grammar::Mark;
 pub const MARKS_LIMIT: usize = 4_194_304;
 
 // Whether a mark may be set: it is there already, or there are fewer than there may be.
-#[tactic(auto, unfolding(crate::specs::Meaning::has_room))]
+#[tactic(auto, unfolding(crate::specs::Marks::has_room))]
 fn has_room(marks: &IndexMap<Mark, Name>, mark: Mark) -> bool
     ensures { result ≡ has_room marks.now.entries mark }
 {

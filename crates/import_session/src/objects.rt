@@ -1,16 +1,17 @@
 //! What a stream does with objects: git-fast-import(1), "blob" and "cat-blob".
 
 ghost use Rattle.std.specs.Option.{option_map};
-ghost use Rattle.std.specs.Prelude.{◌≡◌};
+ghost use Rattle.std.specs.Prelude.{◌≡◌, ◌≢◌};
 ghost use Rattle.git_model.specs.Content.{content_from};
 ghost use Rattle.git_model.specs.Repository.{object_named};
 ghost use Rattle.content_pool.specs.Pool.{HasRoom};
 ghost use Rattle.tenant_tables.specs.Objects.{objects};
 ghost use Rattle.tenant_tables.specs.StandsIn.{StandsIn};
 ghost use Rattle.import_session.specs.Printing.{Shows};
-ghost use Rattle.import_session.specs.Meaning.{shown_object, storing_fault};
+ghost use Rattle.import_session.specs.Meaning.{shown_object};
+ghost use Rattle.import_session.specs.Storing.{storing_fault};
 ghost use Rattle.import_session.specs.Lent.{Keeps};
-ghost use Rattle.import_session.specs.Storing.{Stores};
+ghost use Rattle.import_session.specs.Stored.{Stores};
 
 use crate::fault::Fault;
 use crate::print::{print_blob, print_missing};
@@ -28,26 +29,28 @@ fn fault_of(fault: tenant_tables::Fault) -> Fault
     }
 }
 
-// Stores a blob after the table's objects, unless it is there.
-pub fn store_blob<N: Naming>(
+// Stores an object after the table's objects, unless it is there.
+pub fn store<N: Naming>(
     pool: &mut Pool<N>,
     table: &mut Table,
+    kind: Kind,
     bytes: &[u8],
 ) -> Result<Name, Fault>
     requires stands { StandsIn N.digest_of pool.old table.old.entries }
     requires room { HasRoom pool.old }
+    requires no_tree { kind ≢ Kind.Tree }
     ensures keeps { Keeps N.digest_of pool.old table.old pool.new table.new }
-    ensures stores { Stores N.digest_of (content_from Kind.Blob bytes.now) pool.old table.old
+    ensures stores { Stores N.digest_of (content_from kind bytes.now) pool.old table.old
         pool.new table.new result }
 {
-    match table.add(pool, Kind::Blob, bytes) {
+    match table.add(pool, kind, bytes) {
         Ok(id) => Ok(id),
         Err(fault) => Err(fault_of(fault)),
     }
 }
 
 // The content of the object of this name; `None` where the table has no such object.
-fn find_content<'a, N: Naming>(
+pub fn find_content<'a, N: Naming>(
     pool: &'a Pool<N>,
     table: &Table,
     id: Name,

@@ -13,37 +13,38 @@ ghost use Rattle.import_session.specs.Stream.{step, is_finish, session_end};
 ghost use Rattle.import_session.specs.Session.{running_in, repository_in, last_in, new_session, Takes, CarriesOut};
 
 use crate::acts::carry_out;
+use crate::checkpoint::save;
 use crate::fault::Fault;
 use crate::known::act_of;
+use crate::own::{Own, new_own};
 use content_pool::Pool;
-use git_objects::{Name, Naming};
-use indexmap::IndexMap;
+use git_objects::Naming;
 use std::alloc::Global;
 use std::marker::Model;
-use stream_grammar::{Act, Mark, Parser, part_of};
+use stream_grammar::{Act, Parser, part_of};
 use stream_lex::Item;
 use tenant_refs::Refs;
 use tenant_tables::Table;
 
-/// One stream of a tenant: the command that is not whole yet, the marks, and whether `done` was
-/// read.
+/// One stream of a tenant: the command that is not whole yet, what the stream has of its own, and
+/// whether `done` was read.
 ///
 /// Each call is lent the pool, the tenant's table and its refs, the same ones from the first to the
 /// last.
 #[derive(Drop)]
 pub struct Session {
     parser: Parser,
-    marks: IndexMap<Mark, Name>,
+    own: Own,
     is_done: bool,
 }
 
 impl Model for Session {
-    ghost use Rattle.import_session.specs.Session.{Kept};
+    ghost use Rattle.import_session.specs.Session.{Kept, own_shown};
 
     ghost Value = { Kept };
 
     ghost view = { λ s.
-        record { parsing = s.parser; marks = s.marks.entries; is_done = s.is_done } };
+        record { parsing = s.parser; own = own_shown s.own; is_done = s.is_done } };
 }
 
 fn is_finish(act: &Act<'_>) -> bool
@@ -59,7 +60,7 @@ impl Session {
     {
         Session {
             parser: Parser::new(alloc),
-            marks: IndexMap::new(alloc),
+            own: new_own(alloc),
             is_done: false,
         }
     }
@@ -73,11 +74,12 @@ impl Session {
 
     /// Takes the next item, and appends what it prints to `out`: git-fast-import(1), "Commands".
     ///
-    /// The fault of the item's text (2, 3, 5, 12) comes before that of its meaning: `MarkUnknown`
-    /// (13), `WrongKind` (15), `Limit` (25) and `NameCollision` (24). A command without a meaning
-    /// here yet is unknown (2). `Memory` (90) may stand in place of any answer. After a refusal
-    /// `out` is unchanged, the committed objects and the refs are those of the last checkpoint, and
-    /// only `abandon` may follow. After `done` an item is passed over.
+    /// The fault of the item's text (2, 3, 5, 8, 9, 11, 12, 21, 22, 25) comes before that of its
+    /// meaning: `MarkUnknown` (13), `WrongKind` (15), `UnknownRevision` (16), `Limit` (25) and
+    /// `NameCollision` (24). A command without a meaning here yet is unknown (2). `Memory` (90) may
+    /// stand in place of any answer. After a refusal `out` is unchanged, the committed objects and
+    /// the refs are those of the last checkpoint, and only `abandon` may follow. After `done` an
+    /// item is passed over.
     #[tactic(auto, unfolding(crate::specs::Stream::step))]
     pub fn take<N: Naming>(
         &mut self,
@@ -97,7 +99,6 @@ impl Session {
         ensures checkpoint { OnErr result (last_in pool.new table.new refs.new
             ≡ last_in pool.old table.old refs.old) }
         ensures printed { OnErr result (out.new.items ≡ out.old.items) }
-        ensures refs { refs.new ≡ refs.old }
     {
         if self.is_done() {
             return Ok(());
@@ -106,15 +107,18 @@ impl Session {
             Ok(act) => act,
             Err(fault) => return Err(fault),
         };
-        carry_out(pool, table, &mut self.marks, &act, out)?;
+        carry_out(pool, table, refs, &mut self.own, &act, out)?;
         self.is_done = is_finish(&act);
         Ok(())
     }
 
     /// The end of the stream, which is a checkpoint, unless `done` was read before. What it prints
-    /// is appended to `out`; no end prints anything yet, and none takes memory.
+    /// is appended to `out`; no end prints anything yet.
     ///
-    /// `Fault::Text` (5) where a part of a command is missing; nothing has changed then.
+    /// `Fault::Text` (5) where a part of a command is missing, else `Fault::DoneMissing` (7) where
+    /// the stream asked for `done`, else `Fault::Limit` (25) where the refs would be too many;
+    /// `Memory` (90) may stand in place of any answer. After a refusal `out`, the committed objects
+    /// and the refs are as before, and only `abandon` may follow.
     #[tactic(auto, unfolding(crate::specs::Stream::session_end))]
     pub fn finish<N: Naming>(
         &mut self,
@@ -132,17 +136,17 @@ impl Session {
         ensures checkpoint { OnErr result (last_in pool.new table.new refs.new
             ≡ last_in pool.old table.old refs.old) }
         ensures printed { OnErr result (out.new.items ≡ out.old.items) }
-        ensures enough { result ≢ Err Fault.Memory }
-        ensures refs { refs.new ≡ refs.old }
     {
         if self.is_done {
             return Ok(());
         }
-        match self.parser.end() {
-            Ok(_) => table.commit(),
-            Err(text) => return Err(Fault::Text(text)),
+        if let Err(text) = self.parser.end() {
+            return Err(Fault::Text(text));
         }
-        Ok(())
+        if self.own.needs_done {
+            return Err(Fault::DoneMissing);
+        }
+        save(table, refs, &mut self.own)
     }
 
     /// Gives the stream up: its table is rolled back to the last checkpoint. Takes no memory.

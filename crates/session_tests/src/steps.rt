@@ -6,12 +6,12 @@ ghost use Rattle.tenant_tables.specs.View.{held};
 ghost use Rattle.tenant_tables.specs.StandsIn.{StandsIn};
 
 use content_pool::Pool;
-use git_objects::{Naming, Sha1Naming, TailNaming};
+use git_objects::{Name, Naming, Sha1Naming, TailNaming};
 use import_session::{Fault, Session};
 use std::alloc::Global;
 use std::test::Fail;
 use stream_lex::Item;
-use tenant_refs::Refs;
+use tenant_refs::{RefName, Refs};
 use tenant_tables::Table;
 
 // What a test does next with its stream.
@@ -46,6 +46,21 @@ struct Refusal {
     number: u16,
 }
 
+// What a stream of steps leaves of HEAD, and of the ref `refs/heads/m`, which is there before it.
+struct RefCase {
+    leaves: &'static str,
+    steps: &'static [Step<'static>],
+    head: &'static [u8],
+    has_ref: bool,
+}
+
+// What a stream of steps leaves of the ref `refs/tags/v`, as the digits of what it holds.
+struct TagCase {
+    leaves: &'static str,
+    steps: &'static [Step<'static>],
+    holds: Option<&'static [u8; 40]>,
+}
+
 const BLOB: Step<'static> = Step::Take(Item::Line(b"blob"));
 
 const MARK: Step<'static> = Step::Take(Item::Line(b"mark :1"));
@@ -55,6 +70,41 @@ const HELLO: Step<'static> = Step::Take(Item::Data(b"hello\n"));
 const OTHER: Step<'static> = Step::Take(Item::Data(b"other"));
 
 const DONE: Step<'static> = Step::Take(Item::Line(b"done"));
+
+const CHECKPOINT: Step<'static> = Step::Take(Item::Line(b"checkpoint"));
+
+const WRONG: Step<'static> = Step::Take(Item::Line(b"no command"));
+
+const FEATURE_DONE: Step<'static> = Step::Take(Item::Line(b"feature done"));
+
+const OTHER_HEAD: Step<'static> = Step::Take(Item::Line(b"option gitpool head refs/heads/x"));
+
+const HEAD_AT_M: Step<'static> = Step::Take(Item::Line(b"option gitpool head refs/heads/m"));
+
+const RESET: Step<'static> = Step::Take(Item::Line(b"reset refs/heads/m"));
+
+const RESET_HEAD: Step<'static> = Step::Take(Item::Line(b"reset HEAD"));
+
+const FROM_ZEROS: Step<'static> = Step::Take(Item::Line(
+    b"from 0000000000000000000000000000000000000000",
+));
+
+const TAG: Step<'static> = Step::Take(Item::Line(b"tag v"));
+
+const OTHER_TAG: Step<'static> = Step::Take(Item::Line(b"tag w"));
+
+const FROM_MARK: Step<'static> = Step::Take(Item::Line(b"from :1"));
+
+const TAGGER: Step<'static> = Step::Take(Item::Line(
+    b"tagger A U Thor <author@example.com> 1700000000 +0100",
+));
+
+const MESSAGE: Step<'static> = Step::Take(Item::Data(b"first\n"));
+
+// The bytes of the message in another order, so that they have the same sum.
+const MESSAGE_TURNED: Step<'static> = Step::Take(Item::Data(b"tsrif\n"));
+
+const SECOND_MARK: Step<'static> = Step::Take(Item::Line(b"mark :2"));
 
 // How a stream ends that asks for nothing to be kept.
 const NOTHING: Left = Left {
@@ -122,13 +172,7 @@ const CASES: &[Case] = &[
     },
     Case {
         does: "passes items over after done",
-        steps: &[
-            DONE,
-            BLOB,
-            HELLO,
-            Step::Take(Item::Line(b"no command")),
-            Step::Finish,
-        ],
+        steps: &[DONE, BLOB, HELLO, WRONG, Step::Finish],
         printed: b"",
         left: Left {
             number: 0,
@@ -161,6 +205,65 @@ const CASES: &[Case] = &[
         },
     },
     Case {
+        does: "keeps what was checkpointed at a checkpoint",
+        steps: &[BLOB, HELLO, CHECKPOINT, BLOB, OTHER],
+        printed: b"",
+        left: Left {
+            number: 0,
+            is_done: false,
+            stored: (2, 11),
+            given_up: (1, 6),
+        },
+    },
+    Case {
+        does: "stores tags of a blob and of a tag under the names that git gives them",
+        steps: &[
+            BLOB,
+            MARK,
+            HELLO,
+            TAG,
+            SECOND_MARK,
+            FROM_MARK,
+            TAGGER,
+            MESSAGE,
+            Step::Take(Item::Line(b"get-mark :2")),
+            OTHER_TAG,
+            Step::Take(Item::Line(b"mark :3")),
+            Step::Take(Item::Line(b"from :2")),
+            MESSAGE,
+            Step::Take(Item::Line(b"get-mark :3")),
+            DONE,
+        ],
+        printed: b"952cdcc8475363092ec0361133bb58070500a563\n4c39ad1f24f4ef86507078029968107ec512d77f\n",
+        left: Left {
+            number: 0,
+            is_done: true,
+            stored: (3, 201),
+            given_up: (3, 201),
+        },
+    },
+    Case {
+        does: "takes features and options",
+        steps: &[
+            FEATURE_DONE,
+            Step::Take(Item::Line(b"feature force")),
+            Step::Take(Item::Line(b"feature get-mark")),
+            Step::Take(Item::Line(b"feature cat-blob")),
+            Step::Take(Item::Line(b"feature ls")),
+            Step::Take(Item::Line(b"feature date-format=raw")),
+            Step::Take(Item::Line(b"option git quiet")),
+            Step::Take(Item::Line(b"option of another system")),
+            DONE,
+        ],
+        printed: b"",
+        left: Left {
+            number: 0,
+            is_done: true,
+            stored: (0, 0),
+            given_up: (0, 0),
+        },
+    },
+    Case {
         does: "keeps what was checkpointed alone",
         steps: &[BLOB, HELLO, Step::Finish, BLOB, OTHER],
         printed: b"",
@@ -180,34 +283,127 @@ const REFUSALS: &[Refusal] = &[
         number: 2,
     },
     Refusal {
-        refuses: "a reset",
-        steps: &[Step::Take(Item::Line(b"reset refs/heads/m"))],
-        number: 2,
-    },
-    Refusal {
-        refuses: "a checkpoint",
-        steps: &[Step::Take(Item::Line(b"checkpoint"))],
-        number: 2,
-    },
-    Refusal {
-        refuses: "a feature",
-        steps: &[Step::Take(Item::Line(b"feature done"))],
-        number: 2,
-    },
-    Refusal {
-        refuses: "a tag",
+        refuses: "a tag of a bad name",
         steps: &[Step::Take(Item::Line(b"tag .v"))],
+        number: 11,
+    },
+    Refusal {
+        refuses: "an alias",
+        steps: &[Step::Take(Item::Line(b"alias"))],
         number: 2,
     },
     Refusal {
-        refuses: "an option",
-        steps: &[Step::Take(Item::Line(b"option git quiet"))],
+        refuses: "an ls",
+        steps: &[Step::Take(Item::Line(b"ls :1 a"))],
         number: 2,
     },
     Refusal {
-        refuses: "a feature in the place of data",
-        steps: &[BLOB, Step::Take(Item::Line(b"feature done"))],
+        refuses: "a tag in the place of data",
+        steps: &[BLOB, Step::Take(Item::Line(b"tag .v"))],
         number: 5,
+    },
+    Refusal {
+        refuses: "a tag of a mark that is not there",
+        steps: &[TAG, FROM_MARK, MESSAGE],
+        number: 13,
+    },
+    Refusal {
+        refuses: "a tag of an expression, which has no meaning yet",
+        steps: &[
+            BLOB,
+            MARK,
+            HELLO,
+            TAG,
+            Step::Take(Item::Line(b"from refs/heads/m")),
+        ],
+        number: 2,
+    },
+    Refusal {
+        refuses: "a tag without what it is of",
+        steps: &[BLOB, MARK, HELLO, TAG, MESSAGE],
+        number: 5,
+    },
+    Refusal {
+        refuses: "a tagger without a date",
+        steps: &[
+            BLOB,
+            MARK,
+            HELLO,
+            TAG,
+            FROM_MARK,
+            Step::Take(Item::Line(b"tagger A <a@b> x")),
+        ],
+        number: 22,
+    },
+    Refusal {
+        refuses: "a tag whose name is that of another content",
+        steps: &[
+            BLOB,
+            MARK,
+            HELLO,
+            TAG,
+            FROM_MARK,
+            MESSAGE,
+            TAG,
+            FROM_MARK,
+            MESSAGE_TURNED,
+        ],
+        number: 24,
+    },
+    Refusal {
+        refuses: "an end without done",
+        steps: &[FEATURE_DONE, Step::Finish],
+        number: 7,
+    },
+    Refusal {
+        refuses: "an end in the place of data before one without done",
+        steps: &[FEATURE_DONE, BLOB, Step::Finish],
+        number: 5,
+    },
+    Refusal {
+        refuses: "a feature after a blob",
+        steps: &[BLOB, HELLO, FEATURE_DONE],
+        number: 9,
+    },
+    Refusal {
+        refuses: "an option after a blob",
+        steps: &[BLOB, HELLO, OTHER_HEAD],
+        number: 9,
+    },
+    Refusal {
+        refuses: "a feature after a reset",
+        steps: &[RESET, FEATURE_DONE],
+        number: 9,
+    },
+    Refusal {
+        refuses: "an unknown feature",
+        steps: &[Step::Take(Item::Line(b"feature undo"))],
+        number: 8,
+    },
+    Refusal {
+        refuses: "an unknown option of Git",
+        steps: &[Step::Take(Item::Line(b"option git loud"))],
+        number: 8,
+    },
+    Refusal {
+        refuses: "HEAD as the ref that HEAD names",
+        steps: &[Step::Take(Item::Line(b"option gitpool head HEAD"))],
+        number: 11,
+    },
+    Refusal {
+        refuses: "a reset of a bad ref name",
+        steps: &[Step::Take(Item::Line(b"reset refs/heads/.."))],
+        number: 11,
+    },
+    Refusal {
+        refuses: "a reset to a commit",
+        steps: &[RESET, Step::Take(Item::Line(b"from refs/heads/n"))],
+        number: 2,
+    },
+    Refusal {
+        refuses: "a from outside a reset",
+        steps: &[Step::Take(Item::Line(b"from refs/heads/n"))],
+        number: 2,
     },
     Refusal {
         refuses: "the name of a mark that is not there",
@@ -241,6 +437,151 @@ const REFUSALS: &[Refusal] = &[
     },
 ];
 
+const REF_CASES: &[RefCase] = &[
+    RefCase {
+        leaves: "HEAD and refs where nothing is said of them",
+        steps: &[BLOB, HELLO, CHECKPOINT, DONE],
+        head: b"refs/heads/main",
+        has_ref: true,
+    },
+    RefCase {
+        leaves: "a HEAD of an option, saved at done",
+        steps: &[OTHER_HEAD, DONE],
+        head: b"refs/heads/x",
+        has_ref: true,
+    },
+    RefCase {
+        leaves: "a HEAD of an option, saved at the end",
+        steps: &[OTHER_HEAD, Step::Finish],
+        head: b"refs/heads/x",
+        has_ref: true,
+    },
+    RefCase {
+        leaves: "a HEAD of an option, saved at a checkpoint before a fault",
+        steps: &[OTHER_HEAD, CHECKPOINT, WRONG],
+        head: b"refs/heads/x",
+        has_ref: true,
+    },
+    RefCase {
+        leaves: "the HEAD before, where a fault loses that of an option",
+        steps: &[OTHER_HEAD, WRONG],
+        head: b"refs/heads/main",
+        has_ref: true,
+    },
+    RefCase {
+        leaves: "the HEAD of the last option",
+        steps: &[OTHER_HEAD, HEAD_AT_M, DONE],
+        head: b"refs/heads/m",
+        has_ref: true,
+    },
+    RefCase {
+        leaves: "the ref of a branch that is unborn",
+        steps: &[RESET, DONE],
+        head: b"refs/heads/main",
+        has_ref: true,
+    },
+    RefCase {
+        leaves: "no ref of a branch that is deleted",
+        steps: &[RESET, FROM_ZEROS, Step::Take(Item::Blank), DONE],
+        head: b"refs/heads/main",
+        has_ref: false,
+    },
+    RefCase {
+        leaves: "the ref of a branch that was deleted and then reset",
+        steps: &[RESET, FROM_ZEROS, RESET, DONE],
+        head: b"refs/heads/main",
+        has_ref: true,
+    },
+    RefCase {
+        leaves: "the ref of a branch whose deletion a fault loses",
+        steps: &[RESET, FROM_ZEROS, WRONG],
+        head: b"refs/heads/main",
+        has_ref: true,
+    },
+    RefCase {
+        leaves: "no ref of the branch that HEAD names for the stream, which is deleted",
+        steps: &[HEAD_AT_M, RESET_HEAD, FROM_ZEROS, DONE],
+        head: b"refs/heads/m",
+        has_ref: false,
+    },
+    RefCase {
+        leaves: "no ref of the branch that the saved HEAD names, which is deleted",
+        steps: &[HEAD_AT_M, CHECKPOINT, RESET_HEAD, FROM_ZEROS, DONE],
+        head: b"refs/heads/m",
+        has_ref: false,
+    },
+];
+
+const TAG_OF_HELLO: &[u8; 40] = b"952cdcc8475363092ec0361133bb58070500a563";
+
+const TAG_CASES: &[TagCase] = &[
+    TagCase {
+        leaves: "a tag at done",
+        steps: &[BLOB, MARK, HELLO, TAG, FROM_MARK, TAGGER, MESSAGE, DONE],
+        holds: Some(TAG_OF_HELLO),
+    },
+    TagCase {
+        leaves: "a tag at the end",
+        steps: &[
+            BLOB,
+            MARK,
+            HELLO,
+            TAG,
+            FROM_MARK,
+            TAGGER,
+            MESSAGE,
+            Step::Finish,
+        ],
+        holds: Some(TAG_OF_HELLO),
+    },
+    TagCase {
+        leaves: "the last of two tags of one name",
+        steps: &[
+            BLOB, MARK, HELLO, TAG, FROM_MARK, MESSAGE, TAG, FROM_MARK, TAGGER, MESSAGE,
+            CHECKPOINT, WRONG,
+        ],
+        holds: Some(TAG_OF_HELLO),
+    },
+    TagCase {
+        leaves: "a tag whose branch was deleted after it, for branches are saved before tags",
+        steps: &[
+            BLOB,
+            MARK,
+            HELLO,
+            TAG,
+            FROM_MARK,
+            TAGGER,
+            MESSAGE,
+            Step::Take(Item::Line(b"reset refs/tags/v")),
+            FROM_ZEROS,
+            DONE,
+        ],
+        holds: Some(TAG_OF_HELLO),
+    },
+    TagCase {
+        leaves: "no tag where its branch is deleted and the tag was saved before",
+        steps: &[
+            BLOB,
+            MARK,
+            HELLO,
+            TAG,
+            FROM_MARK,
+            TAGGER,
+            MESSAGE,
+            CHECKPOINT,
+            Step::Take(Item::Line(b"reset refs/tags/v")),
+            FROM_ZEROS,
+            DONE,
+        ],
+        holds: None,
+    },
+    TagCase {
+        leaves: "no tag that a fault loses",
+        steps: &[BLOB, MARK, HELLO, TAG, FROM_MARK, TAGGER, MESSAGE, WRONG],
+        holds: None,
+    },
+];
+
 // One step of the only stream over this pool.
 fn walk<N: Naming>(
     session: &mut Session,
@@ -262,21 +603,26 @@ fn walk<N: Naming>(
 }
 
 // Takes the steps in turn, up to the first refusal, and then gives the stream up.
-fn run<N: Naming>(alloc: Global, naming: N, steps: &[Step<'_>], out: &mut Vec<u8>) -> Left {
+fn run<N: Naming>(
+    alloc: Global,
+    naming: N,
+    refs: &mut Refs,
+    steps: &[Step<'_>],
+    out: &mut Vec<u8>,
+) -> Left {
     let mut pool = Pool::new(alloc, naming);
     let mut table = Table::new(alloc);
-    let mut refs = Refs::new(alloc);
     let mut session = Session::new(alloc);
     let mut number = 0;
     for step in steps {
-        if let Err(fault) = walk(&mut session, &mut pool, &mut table, &mut refs, *step, out) {
+        if let Err(fault) = walk(&mut session, &mut pool, &mut table, refs, *step, out) {
             number = fault.code();
             break;
         }
     }
     let is_done = session.is_done();
     let stored = pool.stored();
-    session.abandon(&mut pool, &mut table, &mut refs);
+    session.abandon(&mut pool, &mut table, refs);
     let given_up = pool.stored();
     Left {
         number,
@@ -288,15 +634,45 @@ fn run<N: Naming>(alloc: Global, naming: N, steps: &[Step<'_>], out: &mut Vec<u8
 
 fn does_so(alloc: Global, case: &Case) -> bool {
     let mut out = Vec::new(alloc);
-    let left = run(alloc, Sha1Naming, case.steps, &mut out);
+    let mut refs = Refs::new(alloc);
+    let left = run(alloc, Sha1Naming, &mut refs, case.steps, &mut out);
     left == case.left && out.as_slice() == case.printed
 }
 
 // Whether the last answer has the number, and nothing is printed or kept.
 fn is_refused(alloc: Global, refusal: &Refusal) -> bool {
     let mut out = Vec::new(alloc);
-    let left = run(alloc, TailNaming, refusal.steps, &mut out);
+    let mut refs = Refs::new(alloc);
+    let left = run(alloc, TailNaming, &mut refs, refusal.steps, &mut out);
     left.number == refusal.number && left.given_up == (0, 0) && out.is_empty()
+}
+
+// Refs with the ref `refs/heads/m`, where memory is left.
+fn refs_with_m(alloc: Global) -> Refs {
+    let mut refs = Refs::new(alloc);
+    if let Ok(name) = RefName::read(alloc, b"refs/heads/m") {
+        let _set = refs.set(&name, Name::from_bytes([7; 20]));
+    }
+    refs
+}
+
+fn leaves_so(alloc: Global, case: &RefCase) -> bool {
+    let mut out = Vec::new(alloc);
+    let mut refs = refs_with_m(alloc);
+    run(alloc, Sha1Naming, &mut refs, case.steps, &mut out);
+    refs.head() == case.head && refs.get(b"refs/heads/m").is_some() == case.has_ref
+}
+
+fn leaves_tag(alloc: Global, case: &TagCase) -> bool {
+    let mut out = Vec::new(alloc);
+    let mut refs = Refs::new(alloc);
+    run(alloc, Sha1Naming, &mut refs, case.steps, &mut out);
+    let held = refs.get(b"refs/tags/v").map(|id| id.to_hex());
+    match (held, case.holds) {
+        (Some(held), Some(holds)) => held == *holds,
+        (None, None) => true,
+        _ => false,
+    }
 }
 
 fn first_wrong_case(alloc: Global) -> Option<&'static str> {
@@ -317,6 +693,24 @@ fn first_wrong_refusal(alloc: Global) -> Option<&'static str> {
     None
 }
 
+fn first_wrong_refs(alloc: Global) -> Option<&'static str> {
+    for case in REF_CASES {
+        if !leaves_so(alloc, case) {
+            return Some(case.leaves);
+        }
+    }
+    None
+}
+
+fn first_wrong_tag(alloc: Global) -> Option<&'static str> {
+    for case in TAG_CASES {
+        if !leaves_tag(alloc, case) {
+            return Some(case.leaves);
+        }
+    }
+    None
+}
+
 #[test]
 fn prints_and_keeps_what_git_does(rt: HostRuntime) -> Result<(), Fail> {
     assert_eq!(rt; first_wrong_case(rt.alloc()), None);
@@ -326,5 +720,17 @@ fn prints_and_keeps_what_git_does(rt: HostRuntime) -> Result<(), Fail> {
 #[test]
 fn refuses_by_number_and_prints_nothing(rt: HostRuntime) -> Result<(), Fail> {
     assert_eq!(rt; first_wrong_refusal(rt.alloc()), None);
+    Ok(())
+}
+
+#[test]
+fn leaves_head_and_refs(rt: HostRuntime) -> Result<(), Fail> {
+    assert_eq!(rt; first_wrong_refs(rt.alloc()), None);
+    Ok(())
+}
+
+#[test]
+fn leaves_tags(rt: HostRuntime) -> Result<(), Fail> {
+    assert_eq!(rt; first_wrong_tag(rt.alloc()), None);
     Ok(())
 }

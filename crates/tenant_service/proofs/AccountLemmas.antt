@@ -16,6 +16,7 @@ use Rattle.tenant_tables.specs.Objects.{objects}
 use Rattle.tenant_tables.specs.StandsIn.{LeavesOthers, AreCounted}
 use Rattle.tenant_tables.proofs.HoldLemmas.{held-nil}
 use Rattle.tenant_tables.proofs.TableLemmas.{LeavesOthers-refl, other_stands, other_objects}
+use Rattle.import_session.specs.Session.{workspace_in}
 use Rattle.import_session.specs.Stream.{Runs, Refused}
 use Rattle.service_steps.specs.declared.answer.Answer.{Answer}
 use Rattle.tenant_service.specs.declared.tenant.Phase.{Phase}
@@ -34,7 +35,7 @@ held_in-other : (ph : Phase) (p q : Cells) (t : View) (r : RefStore) → objects
 held_in-other phase.Closed p q t r same = ap (λ (os : List Object). Idle (record { objects = os; refs = r })) same
 held_in-other (phase.Running stream) p q t r same =
     ap (λ (os : List Object). Busy (Runs (record {
-      workspace = record { objects = os; committed = t.committed; refs = r; marks = stream.session.marks };
+      workspace = record (workspace_in stream.session.own p t r) { objects = os };
       parsing = stream.session.parsing;
       is_done = stream.session.is_done;
     }) (kept_tail stream))) same

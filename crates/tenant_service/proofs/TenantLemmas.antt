@@ -10,15 +10,15 @@ use Rattle.tenant_tables.proofs.TableLemmas.{length-objects}
 use Rattle.stream_lex.specs.Items.{Tail, Rest}
 use Rattle.stream_lex.specs.Running.{more_of, extended}
 use Rattle.stream_grammar.specs.Commands.{top}
-use Rattle.import_session.specs.Session.{repository_in}
+use Rattle.import_session.specs.Session.{nothing_own, repository_in, workspace_in}
 use Rattle.import_session.specs.Stream.{Running, Runs, Refused, Outcome, End, finished, running_end, last_checkpoint, ended_well as import_ended}
 use Rattle.service_steps.specs.declared.answer.Answer.TheVariants as answer
 use Rattle.tenant_stream.specs.declared.stop.Stop.{Stop}
 use Rattle.tenant_stream.specs.declared.stop.Stop.TheVariants as stop
 use Rattle.tenant_service.specs.declared.tenant.Phase.{Phase}
 use Rattle.tenant_service.specs.declared.tenant.Phase.TheVariants as phase
-use Rattle.tenant_service.specs.Alone.{Open, End as EndCall, Turn, Stopped, ended, ended_well, end_answer, closed}
-use Rattle.tenant_stream.specs.Carrying.{outcome_behind, Between, new_stream, stream_in, Carries, Feeds, Stays, IsEnd}
+use Rattle.tenant_service.specs.Alone.{Open, End as EndCall, Turn, turn, Stopped, ended, ended_well, end_answer, closed}
+use Rattle.tenant_stream.specs.Carrying.{outcome_behind, Between, new_stream, stream_in, Carries, Feeds, Stays, IsEnd, StopsAtEnd}
 use Rattle.tenant_service.specs.Holding.{Idle, Busy, empty_repository, last_held, step_held, fed_held, held_until, gone_on, standing_answer, end_held}
 use Rattle.tenant_service.specs.Tenants.{held_in, standing_in, kept_tail, IsSettled}
 use Rattle.tenant_service.specs.OneStep.{Takes, GoesTo, StopsBehind, Fed}
@@ -59,7 +59,7 @@ took-opened digest phase.Closed pool table refs stream closed settled new = reco
   leaves =
       rw new
       (ap (λ (n : ℕ). Busy (Runs (record {
-        workspace = record { objects = objects pool table.entries; committed = n; refs = refs; marks = [] };
+        workspace = record (workspace_in nothing_own pool table refs) { committed = n };
         parsing = Ok top;
         is_done = false;
       }) (Rest false []))) (length-objects pool table.entries ∙ sym settled));
@@ -188,3 +188,26 @@ took-ended_as digest ph new s p q t u r v fault out out' is after h =
     subst (λ (y : Phase). Takes (step_held digest EndCall None (held_in ph p t r)) (end_answer fault) out out' (held_in y q u v)) (sym after)
     (subst (λ (x : Phase). Takes (step_held digest EndCall None (held_in x p t r)) (end_answer fault) out out' (Idle (repository_in q u v))) (sym is)
     (took-ended digest s p t r fault out out' (repository_in q u v) h))
+
+-- a stream whose end ran out of memory
+ended-stopped : (digest : List ℕ → List ℕ) (now : Running) (tail : Tail) → now.is_done ≡ false
+    → ended digest (Some 0) (Runs now tail) ≡ turn (answer.Memory 0) [] (last_checkpoint now.workspace)
+ended-stopped digest now tail running = rw running refl
+
+took-end_stopped : (digest : List ℕ → List ℕ) (s : Between) (p : Cells) (t : View) (r : RefStore) (count : ℕ) (out out' : List ℕ) (left : Repository)
+    → StopsAtEnd (stream_in s p t r) out count left out'
+    → Takes (end_held digest (Some count) (Busy (standing_in s p t r))) (answer.Memory count) out out' (Idle left)
+took-end_stopped digest s p t r count out out' left h =
+    subst (λ (n : ℕ). Takes (end_held digest (Some n) (Busy (standing_in s p t r))) (answer.Memory n) out out' (Idle left)) (sym h.counted)
+    (subst (λ (x : Turn Repository). Takes (closed Idle x) (answer.Memory 0) out out' (Idle left))
+    (sym (ended-stopped digest (stream_in s p t r) (kept_tail s) h.running))
+    (record { answered = refl; printed = h.printed ∙ sym (append-nil out); leaves = ap Idle h.stands }))
+
+pub took-stopped_at_end : (digest : List ℕ → List ℕ) (ph new : Phase) (s : Between) (p q : Cells) (t u : View) (r v : RefStore) (count : ℕ)
+    (out out' : List ℕ) → ph ≡ phase.Running s → new ≡ phase.Closed
+    → StopsAtEnd (stream_in s p t r) out count (repository_in q u v) out'
+    → Takes (step_held digest EndCall (Some count) (held_in ph p t r)) (answer.Memory count) out out' (held_in new q u v)
+took-stopped_at_end digest ph new s p q t u r v count out out' is after h =
+    subst (λ (y : Phase). Takes (step_held digest EndCall (Some count) (held_in ph p t r)) (answer.Memory count) out out' (held_in y q u v)) (sym after)
+    (subst (λ (x : Phase). Takes (step_held digest EndCall (Some count) (held_in x p t r)) (answer.Memory count) out out' (Idle (repository_in q u v))) (sym is)
+    (took-end_stopped digest s p t r count out out' (repository_in q u v) h))

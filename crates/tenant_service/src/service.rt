@@ -131,9 +131,10 @@ impl<N: Naming> Service<N> {
     /// of a Feed, or of an End, is answered under its number, and leaves the last checkpoint; each
     /// later Feed answers the number again, and so does the End, which always closes the stream.
     ///
-    /// `Memory` tells that a growth was refused: in an Open, where nothing has changed then, or in
-    /// a Feed after so many whole items of the call. `out` then has the replies of those, the
-    /// tenant stands at its last checkpoint, and its stream is dead under 90.
+    /// `Memory` tells that a growth was refused: in an Open, where nothing has changed then; in an
+    /// End, which leaves the last checkpoint and no stream; or in a Feed after so many whole items
+    /// of the call. `out` then has the replies of those, the tenant stands at its last checkpoint,
+    /// and its stream is dead under 90.
     pub fn step(&mut self, step: Step<'_>, out: &mut Vec<u8>) -> Answer
         ensures own { (tenant : List ℕ) → IsItsOwn N.digest_of tenant (held_of tenant self.old)
             ((step.entry, told_in result out.old.items out.new.items) ∷ [])

@@ -155,8 +155,10 @@ pub fn feed<N: Naming>(
     }
 }
 
-/// Ends the stream, and appends the reply of its end to `out`; 30 where there is none. Takes no
-/// memory.
+/// Ends the stream, and appends the reply of its end to `out`; 30 where there is none.
+///
+/// A fault of the end, and `Memory(0)` where memory ran out, leave the last checkpoint and no
+/// stream.
 pub fn end<N: Naming>(pool: &mut Pool<N>, tenant: &mut Tenant, out: &mut Vec<u8>) -> Answer
     requires stands { Stands N.digest_of pool.old tenant.old }
     ensures stands { Stands N.digest_of pool.new tenant.new }

@@ -40,7 +40,7 @@ pub fn feed_one<N: Naming>(
 }
 
 /// Ends the stream of the tenant of this name, and appends the reply of its end to `out`; 30 where
-/// there is none. Takes no memory.
+/// there is none.
 pub fn end_one<N: Naming>(
     pool: &mut Pool<N>,
     tenants: &mut IndexMap<TenantName, Tenant>,

@@ -1,21 +1,21 @@
 -- How streams go on, item by item.
-use Rattle.std.proofs.Common.{◌≡◌, ◌≢◌, ℕ, suc, ◌+◌, ◌≤◌, ◌<◌, ◌⊎◌, inl, inr, Bool, true, false, List, [], ◌∷◌, ◌++◌, length, Option, None, Some, Result, Ok, Err, refl, sym, ap, subst, ◌∙◌, append_assoc, append-nil, arith}
+use Rattle.std.proofs.Common.{◌≡◌, ◌≢◌, ℕ, ◌⊎◌, inl, inr, Bool, true, false, List, [], ◌∷◌, ◌++◌, length, Option, None, Some, Result, Ok, Err, refl, sym, ap, subst, ◌∙◌, append_assoc, append-nil}
 use Rattle.stream_lex.specs.declared.fault.Fault.{Fault as LexFault}
 use Rattle.stream_lex.specs.Faults.{code_of as item_code}
 use Rattle.stream_lex.specs.declared.item.Item.{Item as Lent}
 use Rattle.stream_lex.specs.Looking.{item_of}
 use Rattle.stream_lex.specs.declared.fault.Fault.TheVariants as lex_fault
 use Rattle.stream_lex.specs.Lexer.{GivesFirst}
-use Rattle.stream_lex.specs.Items.{Item, Tail, Rest, Failed, before, behind_items}
+use Rattle.stream_lex.specs.Items.{Item, Tail, Failed, behind_items}
 use Rattle.stream_lex.specs.Running.{extended, more_of, Takes as TakesItem, ReadsAlike, HasNoItem}
 use Rattle.import_session.specs.declared.fault.Fault.{Fault}
 use Rattle.import_session.specs.declared.fault.Fault.TheVariants as fault
 use Rattle.import_session.specs.Faults.{code_of}
 use Rattle.import_session.specs.Session.{Takes}
-use Rattle.import_session.specs.Stream.{Running, Step, Outcome, after_reply, carried, going_on, at_tail, tail_outcome, last_checkpoint, refused, step}
+use Rattle.import_session.specs.Stream.{Running, Step, Outcome, after_reply, carried, going_on, at_tail, last_checkpoint, refused, step}
 use Rattle.tenant_stream.specs.declared.stop.Stop.{Stop}
 use Rattle.tenant_stream.specs.Stopping.{stop_of, unfed}
-use Rattle.tenant_stream.specs.Carrying.{ReadsOn, CarriesOn, Advances, IsRefused, IsDrained, Goes, Ends, Fails, Stops, Carries, Feeds, outcome_behind}
+use Rattle.tenant_stream.specs.Carrying.{Advances, IsRefused, IsDrained, Goes, Ends, Fails, Carries, Feeds}
 
 -- an item that was carried out stands first
 carried_first : (digest : List ℕ → List ℕ) (now : Running) (item : Item) (s : Step)
@@ -147,6 +147,10 @@ item_stops digest now old out items mid rest item new left at out' count
     (fault.Text t) ends counted takes taken =
     fails digest now old out items mid rest item new left at out' (fault.Text t) ends takes
     (λ e. cc) taken
+item_stops digest now old out items mid rest item new left at out' count fault.DoneMissing ends
+    counted takes taken =
+    fails digest now old out items mid rest item new left at out' fault.DoneMissing ends takes
+    (λ e. cc) taken
 item_stops digest now old out items mid rest item new left at out' count fault.MarkUnknown ends
     counted takes taken =
     fails digest now old out items mid rest item new left at out' fault.MarkUnknown ends takes
@@ -154,6 +158,10 @@ item_stops digest now old out items mid rest item new left at out' count fault.M
 item_stops digest now old out items mid rest item new left at out' count fault.WrongKind ends
     counted takes taken =
     fails digest now old out items mid rest item new left at out' fault.WrongKind ends takes
+    (λ e. cc) taken
+item_stops digest now old out items mid rest item new left at out' count fault.UnknownRevision ends
+    counted takes taken =
+    fails digest now old out items mid rest item new left at out' fault.UnknownRevision ends takes
     (λ e. cc) taken
 item_stops digest now old out items mid rest item new left at out' count fault.NameCollision ends
     counted takes taken =

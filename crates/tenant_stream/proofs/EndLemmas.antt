@@ -9,11 +9,9 @@ use Rattle.stream_lex.specs.Lexer.{ended as lex_ended}
 use Rattle.import_session.specs.declared.fault.Fault.{Fault}
 use Rattle.import_session.specs.declared.fault.Fault.TheVariants as fault
 use Rattle.import_session.specs.Faults.{code_of}
-use Rattle.import_session.specs.Workspace.{Workspace}
-use Rattle.import_session.specs.Meaning.{Effect}
+use Rattle.import_session.specs.Workspace.{Workspace, Effect}
 use Rattle.import_session.specs.Session.{CarriesOut}
 use Rattle.import_session.specs.Stream.{Running, Runs, End, ended_well, ended_by, end_left, running_end, finished, session_end, last_checkpoint}
-use Rattle.tenant_stream.specs.declared.stop.Stop.{Stop}
 use Rattle.tenant_stream.specs.declared.stop.Stop.TheVariants as stop
 use Rattle.tenant_stream.specs.Stopping.{stop_of}
 use Rattle.tenant_stream.specs.Carrying.{IsEnd, EndsAs}
@@ -124,10 +122,14 @@ refuses digest now tail left out out' fault.Memory running ended carried =
     record { running = running; counted = refl; printed = refl; stands = refl }
 refuses digest now tail left out out' (fault.Text t) running ended carried =
     faults digest now tail left out out' (fault.Text t) running ended (λ e. cc) carried
+refuses digest now tail left out out' fault.DoneMissing running ended carried =
+    faults digest now tail left out out' fault.DoneMissing running ended (λ e. cc) carried
 refuses digest now tail left out out' fault.MarkUnknown running ended carried =
     faults digest now tail left out out' fault.MarkUnknown running ended (λ e. cc) carried
 refuses digest now tail left out out' fault.WrongKind running ended carried =
     faults digest now tail left out out' fault.WrongKind running ended (λ e. cc) carried
+refuses digest now tail left out out' fault.UnknownRevision running ended carried =
+    faults digest now tail left out out' fault.UnknownRevision running ended (λ e. cc) carried
 refuses digest now tail left out out' fault.NameCollision running ended carried =
     faults digest now tail left out out' fault.NameCollision running ended (λ e. cc) carried
 refuses digest now tail left out out' fault.Limit running ended carried =
@@ -144,19 +146,3 @@ ends_refused digest now tail left out at e repository out' running ended carried
     (subst (λ (o : List ℕ). EndsAs digest now tail out (Err (stop_of e 0))
     (last_checkpoint now.workspace) o) (sym printed)
     (refuses digest now tail left out at e running ended carried))
-
--- a refusal that is no want of memory stops the stream by its number
-not_memory : (e : Fault) (count : ℕ) → e ≢ fault.Memory → stop_of e 0 ≢ stop.Memory count
-not_memory fault.Memory count other is = other refl
-not_memory (fault.Text t) count other is = cc
-not_memory fault.MarkUnknown count other is = cc
-not_memory fault.WrongKind count other is = cc
-not_memory fault.NameCollision count other is = cc
-not_memory fault.Limit count other is = cc
-
-pub not_stopped : (e : Fault) (count : ℕ) (stopped : Stop) → stopped ≡ stop_of e 0
-    → ◌≢◌ {A = Result Unit Fault} (Err e) (Err fault.Memory)
-    → ◌≢◌ {A = Result Unit Stop} (Err stopped) (Err (stop.Memory count))
-not_stopped e count stopped is other memory =
-    let same : stop_of e 0 ≡ stop.Memory count = sym is ∙ cc in
-    not_memory e count (λ (m : e ≡ fault.Memory). other (ap (λ (f : Fault). Err f) m)) same

@@ -1,8 +1,8 @@
 -- How often slots are held while one table takes and gives up holds.
-use Rattle.std.proofs.Common.{◌≡◌, ℕ, ◌+◌, ◌^◌, ◌<◌, ◌≤◌, List, length, take, min, sym, ap, ◌∙◌, arith}
+use Rattle.std.proofs.Common.{◌≡◌, ℕ, ◌≤◌, List, length, take, min, sym, ap, ◌∙◌, arith}
 use Rattle.std.proofs.lemmas.List.{length-take}
-use Rattle.content_pool.specs.Pool.{Cells, holds, HasRoom}
-use Rattle.tenant_tables.specs.View.{View, held}
+use Rattle.content_pool.specs.Pool.{Cells, HasRoom}
+use Rattle.tenant_tables.specs.View.{View}
 use Rattle.tenant_tables.specs.Objects.{objects}
 use Rattle.tenant_tables.proofs.TableLemmas.{length-objects}
 use Rattle.import_session.specs.Lent.{Keeps}

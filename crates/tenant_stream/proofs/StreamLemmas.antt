@@ -4,7 +4,7 @@ use Rattle.stream_lex.specs.Items.{Item, Tail, Rest, Failed, Reading, behind_ite
 use Rattle.stream_lex.specs.Reading.{reading}
 use Rattle.stream_lex.specs.Running.{more_of, extended}
 use Rattle.import_session.specs.declared.fault.Fault.{Fault}
-use Rattle.import_session.specs.Stream.{Running, Step, Standing, Runs, Refused, Outcome, after_reply, carried, going_on, step, taken, at_tail, tail_outcome}
+use Rattle.import_session.specs.Stream.{Running, Step, Standing, Runs, after_reply, carried, going_on, step, taken, at_tail, tail_outcome}
 use Rattle.tenant_stream.specs.Carrying.{IsDrained, outcome_behind}
 
 -- after `done` nothing is carried out

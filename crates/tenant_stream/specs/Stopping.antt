@@ -13,8 +13,10 @@ use Rattle.tenant_stream.specs.declared.stop.Stop.TheVariants as stop
 abbrev pub stop_of : Fault → ℕ → Stop
 stop_of fault.Memory count = stop.Memory count
 stop_of (fault.Text text) count = stop.Fault (code_of (fault.Text text))
+stop_of fault.DoneMissing count = stop.Fault (code_of fault.DoneMissing)
 stop_of fault.MarkUnknown count = stop.Fault (code_of fault.MarkUnknown)
 stop_of fault.WrongKind count = stop.Fault (code_of fault.WrongKind)
+stop_of fault.UnknownRevision count = stop.Fault (code_of fault.UnknownRevision)
 stop_of fault.NameCollision count = stop.Fault (code_of fault.NameCollision)
 stop_of fault.Limit count = stop.Fault (code_of fault.Limit)
 

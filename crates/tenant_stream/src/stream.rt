@@ -4,7 +4,7 @@
 //! last. Bytes may be cut anywhere; what is kept between two pieces is neither the repository nor
 //! the bytes that went before.
 
-ghost use Rattle.std.specs.Prelude.{◌≡◌, ◌≢◌, ℕ, false, Err, OnErr};
+ghost use Rattle.std.specs.Prelude.{◌≡◌, false, OnErr};
 ghost use Rattle.tenant_tables.specs.StandsIn.{StandsIn};
 ghost use Rattle.import_session.specs.Lent.{Keeps};
 ghost use Rattle.import_session.specs.Session.{running_in, repository_in, last_in};
@@ -34,7 +34,6 @@ fn carry<N: Naming>(
     requires room { HasAmpleRoom pool.old }
     requires running { session.old.is_done ≡ false }
     ensures keeps { Keeps N.digest_of pool.old table.old pool.new table.new }
-    ensures refs { refs.new ≡ refs.old }
     ensures carries { Carries N.digest_of
         (running_in session.old pool.old table.old refs.old) lexer.old.tail out.old.items result
         (running_in session.new pool.new table.new refs.new) lexer.new.tail out.new.items }
@@ -79,11 +78,9 @@ fn end<N: Naming>(
 ) -> Result<(), Stop>
     requires stands { StandsIn N.digest_of pool.old table.old.entries }
     ensures keeps { Keeps N.digest_of pool.old table.old pool.new table.new }
-    ensures refs { refs.new ≡ refs.old }
     ensures ended { EndsAs N.digest_of
         (running_in session.old pool.old table.old refs.old) lexer.now.tail out.old.items result
         (last_in pool.new table.new refs.new) out.new.items }
-    ensures enough { (count : ℕ) → result ≢ Err (Stop.Memory count) }
 {
     if session.is_done() {
         return Ok(());
@@ -148,7 +145,6 @@ impl Stream {
         requires stands { StandsIn N.digest_of pool.old table.old.entries }
         requires room { HasAmpleRoom pool.old }
         ensures keeps { Keeps N.digest_of pool.old table.old pool.new table.new }
-        ensures refs { refs.new ≡ refs.old }
         ensures feeds { Feeds N.digest_of self.old.session.is_done
             (stream_in self.old pool.old table.old refs.old) self.old.tail piece.now out.old.items
             result (stream_in self.new pool.new table.new refs.new) self.new.tail out.new.items }
@@ -163,9 +159,10 @@ impl Stream {
     }
 
     /// Ends the stream, which is a checkpoint unless `done` was read before. What it prints is
-    /// appended to `out`; no end prints anything yet, and none takes memory.
+    /// appended to `out`; no end prints anything yet.
     ///
-    /// `Stop::Fault` where a line or a data is cut off (6), or a part of a command is missing (5);
+    /// `Stop::Fault` where a line or a data is cut off (6), a part of a command is missing (5), or
+    /// `done` (7), or the refs then would be too many (25); `Stop::Memory(0)` where memory ran out.
     /// `out` is unchanged then. The table has the objects of the last checkpoint.
     pub fn finish<N: Naming>(
         self,
@@ -176,12 +173,10 @@ impl Stream {
     ) -> Result<(), Stop>
         requires stands { StandsIn N.digest_of pool.old table.old.entries }
         ensures keeps { Keeps N.digest_of pool.old table.old pool.new table.new }
-        ensures refs { refs.new ≡ refs.old }
         ensures ended { EndsAs N.digest_of
             (stream_in self pool.old table.old refs.old) self.tail out.old.items result
             (repository_in pool.new table.new refs.new) out.new.items }
         ensures printed { OnErr result (out.new.items ≡ out.old.items) }
-        ensures enough { (count : ℕ) → result ≢ Err (Stop.Memory count) }
         ensures committed { IsCommitted table.new }
     {
         let mut stream = self;

@@ -1,9 +1,7 @@
-use Rattle.std.proofs.Common.{◌≡◌, ℕ, ◌+◌, List, [], ◌∷◌, ◌++◌, Err, Some, Ok, None, refl, sym, ap, ◌∙◌, append-nil, append_assoc, arith, subst}
+use Rattle.std.proofs.Common.{◌+◌, [], ◌∷◌, ◌++◌, refl, sym, ap, ◌∙◌, append-nil, arith}
 use Rattle.std.proofs.lemmas.Bool.{false≢true}
 use Rattle.std.proofs.lemmas.List.{length-append}
 use Rattle.stream_lex.specs.Looking.{item_of}
-use Rattle.import_session.specs.Session.{running_in, Takes}
-use Rattle.import_session.specs.Stream.{step}
 use Rattle.import_session.proofs.LentLemmas.{Keeps-refl, Keeps-then}
 use Rattle.tenant_stream.proofs.CarryLemmas.{Advances-refl, Advances-read, item_stops, tail_stops, ends_at, goes, take_on, took_item, gave_none, gave_fault}
 use Rattle.tenant_stream.proofs.CountLemmas.{taken_at_most, left_falls}
@@ -13,7 +11,6 @@ use Rattle.tenant_stream.proofs.stream.carry.Goals as goal
 pub items-init : goal.items-init
 items-init g c = record {
   keeps = Keeps-refl _ c.args.pool.now c.args.table.now c.requires.stands;
-  refs = refl;
   items = [];
   replies = [];
   advances = Advances-refl _ _ _;
@@ -63,7 +60,6 @@ items-preserved g c =
     c.items.invariant.printed c.in_default.ensures.taken in
     record {
       keeps = Keeps-then _ _ _ _ _ _ _ c.items.invariant.keeps c.take.ensures.keeps;
-      refs = c.take.ensures.refs ∙ c.items.invariant.refs;
       items = c.items.invariant.items ++ item_of c.in-Ok-Some.item ∷ [];
       replies = next.replies;
       advances = next.advances;

@@ -9,7 +9,6 @@ use Rattle.tenant_stream.proofs.stream.carry.Given as goal
 abbrev pub invariant-items : goal.invariant-items
 invariant-items g l = record {
   keeps : Keeps g.N.Naming.digest_of l.fn.pool l.fn.table l.pool l.table;
-  refs : l.refs ≡ l.fn.refs;
   items : List Item;
   replies : List ℕ;
   advances : Advances g.N.Naming.digest_of

@@ -1,6 +1,6 @@
 use Rattle.std.proofs.Common.{sym, ◌∙◌}
 use Rattle.import_session.specs.Session.{running_in, workspace_in}
-use Rattle.tenant_stream.proofs.EndLemmas.{ends_done, ends_cut, ends_well, ends_refused, not_stopped}
+use Rattle.tenant_stream.proofs.EndLemmas.{ends_done, ends_cut, ends_well, ends_refused}
 use Rattle.tenant_stream.proofs.stream.end.Goals as goal
 
 pub returns-then-is_done-clause-ended : goal.returns-then-is_done-clause-ended
@@ -28,16 +28,11 @@ returns-in-Err-finish-clause-ended g c =
     c.in-Err-finish.ensures.ended c.in-Err-finish.ensures.checkpoint
     c.in-Err-finish.ensures.printed)
 
-pub returns-in-Err-finish-clause-enough : goal.returns-in-Err-finish-clause-enough
-returns-in-Err-finish-clause-enough g c count =
-    not_stopped c.in-Err-finish.fault count c.stop_of.result c.stop_of.ensures
-    c.in-Err-finish.ensures.enough
-
 pub returns-clause-ended : goal.returns-clause-ended
 returns-clause-ended g c =
     ends_well g.N.Naming.digest_of
     (running_in c.args.session.now c.args.pool.now c.args.table.now c.args.refs.now)
     c.args.lexer.now.tail
-    (workspace_in c.finish.new.self.marks c.finish.new.pool c.finish.new.table c.finish.new.refs)
+    (workspace_in c.finish.new.self.own c.finish.new.pool c.finish.new.table c.finish.new.refs)
     c.args.out.now.items c.finish.new.out.items (sym c.is_done.ensures ∙ c.if-is_done.false)
     (sym c.in_default.is ∙ c.end.ensures) c.in_default-finish.ensures.ended

@@ -1,4 +1,4 @@
-use Rattle.std.proofs.Common.{◌≡◌, ℕ, List, Bool, false, Result, Ok, Err, sym, ap, subst, ◌∙◌}
+use Rattle.std.proofs.Common.{◌≡◌, Bool, false, Result, Ok, Err, sym, ap, subst, ◌∙◌}
 use Rattle.std.proofs.lemmas.Result.{err_from_is_err_and}
 use Rattle.stream_lex.specs.Looking.{item_of}
 use Rattle.stream_grammar.specs.declared.part.Part.{Part}
@@ -6,9 +6,10 @@ use Rattle.stream_grammar.specs.Parts.{part_of}
 use Rattle.stream_grammar.specs.Commands.{Done, Parsing, done_by, after}
 use Rattle.import_session.specs.declared.fault.Fault.{Fault}
 use Rattle.import_session.specs.Known.{Gives, known, has_no_meaning}
-use Rattle.import_session.specs.Meaning.{and_then, after_act}
-use Rattle.import_session.specs.Stream.{Running, Step, is_finish, step, taken}
-use Rattle.import_session.specs.Session.{Kept, Takes, running_in, workspace_in}
+use Rattle.import_session.specs.Faults.{and_then}
+use Rattle.import_session.specs.Meaning.{after_act}
+use Rattle.import_session.specs.Stream.{Step, is_finish, step, taken}
+use Rattle.import_session.specs.Session.{Kept, Takes, own_shown, running_in, workspace_in}
 use Rattle.import_session.proofs.ActLemmas.{stepped, step_running, no_act, act_refused, act_done, no_memory}
 use Rattle.import_session.proofs.session.Session.take.Goals as goal
 
@@ -18,7 +19,7 @@ returns-in-Err-clause-taken g c =
     let item = item_of c.args.item in
     let kept : Kept = record {
       parsing = c.self.inside.parser;
-      marks = c.self.inside.marks.entries;
+      own = own_shown c.self.inside.own;
       is_done = c.self.inside.is_done;
     } in
     let now = running_in kept c.args.pool.now c.args.table.now c.args.refs.now in
@@ -26,7 +27,7 @@ returns-in-Err-clause-taken g c =
     ap (λ (k : Kept). k.is_done) c.self.view_is ∙ sym c.is_done.ensures ∙ c.if-is_done.false in
     let next_kept : Kept = record {
       parsing = c.take.new.self;
-      marks = c.self.inside.marks.entries;
+      own = own_shown c.self.inside.own;
       is_done = c.self.inside.is_done;
     } in
     let next = running_in next_kept c.args.pool.now c.args.table.now c.args.refs.now in
@@ -53,7 +54,7 @@ returns-in_err-carry_out-clause-taken g c =
     let item = item_of c.args.item in
     let kept : Kept = record {
       parsing = c.self.inside.parser;
-      marks = c.self.inside.marks.entries;
+      own = own_shown c.self.inside.own;
       is_done = c.self.inside.is_done;
     } in
     let now = running_in kept c.args.pool.now c.args.table.now c.args.refs.now in
@@ -61,11 +62,10 @@ returns-in_err-carry_out-clause-taken g c =
     ap (λ (k : Kept). k.is_done) c.self.view_is ∙ sym c.is_done.ensures ∙ c.if-is_done.false in
     let next_kept : Kept = record {
       parsing = c.take.new.self;
-      marks =
-          c.carry_out.new.marks.entries;
+      own = own_shown c.carry_out.new.own;
       is_done = c.self.inside.is_done;
     } in
-    let next = running_in next_kept c.carry_out.new.pool c.carry_out.new.table c.args.refs.now in
+    let next = running_in next_kept c.carry_out.new.pool c.carry_out.new.table c.carry_out.new.refs in
     let by = done_by c.self.inside.parser item in
     let gives = subst (λ (p : Part). Gives (Ok c.in-Ok.act) (known (has_no_meaning p) by))
     c.part_of.ensures
@@ -84,7 +84,7 @@ returns-in_err-carry_out-clause-taken g c =
     (act_refused digest now.workspace (after c.self.inside.parser item)
     (known (has_no_meaning (part_of item)) by) c.in-Ok.act _ next
     c.args.out.now.items c.carry_out.new.out.items fault gives
-    (c.in_err-carry_out.ensures.done c.args.refs.now))))
+    c.in_err-carry_out.ensures.done)))
 
 pub returns-clause-taken : goal.returns-clause-taken
 returns-clause-taken g c =
@@ -92,7 +92,7 @@ returns-clause-taken g c =
     let item = item_of c.args.item in
     let kept : Kept = record {
       parsing = c.self.inside.parser;
-      marks = c.self.inside.marks.entries;
+      own = own_shown c.self.inside.own;
       is_done = c.self.inside.is_done;
     } in
     let now = running_in kept c.args.pool.now c.args.table.now c.args.refs.now in
@@ -100,17 +100,16 @@ returns-clause-taken g c =
     ap (λ (k : Kept). k.is_done) c.self.view_is ∙ sym c.is_done.ensures ∙ c.if-is_done.false in
     let next_kept : Kept = record {
       parsing = c.take.new.self;
-      marks =
-          c.carry_out.new.marks.entries;
+      own = own_shown c.carry_out.new.own;
       is_done = c.is_finish-self-inside.result;
     } in
-    let next = running_in next_kept c.carry_out.new.pool c.carry_out.new.table c.args.refs.now in
+    let next = running_in next_kept c.carry_out.new.pool c.carry_out.new.table c.carry_out.new.refs in
     let by = done_by c.self.inside.parser item in
     let gives = subst (λ (p : Part). Gives (Ok c.in-Ok.act) (known (has_no_meaning p) by))
     c.part_of.ensures
     (c.in-Ok.ensures by c.take.ensures.answers) in
-    let new = workspace_in c.carry_out.new.marks.entries c.carry_out.new.pool c.carry_out.new.table
-    c.args.refs.now in
+    let new = workspace_in (own_shown c.carry_out.new.own) c.carry_out.new.pool
+    c.carry_out.new.table c.carry_out.new.refs in
     let parsing = c.take.ensures.leaves (no_memory _ _ _ c.in-Ok.ensures) in
     subst
     (λ (k : Kept). Takes (step digest (running_in k c.args.pool.now c.args.table.now
@@ -133,4 +132,4 @@ returns-clause-taken g c =
     (act_done digest now.workspace (after c.self.inside.parser item)
     (known (has_no_meaning (part_of item)) by) c.in-Ok.act new
     c.args.out.now.items c.carry_out.new.out.items tt gives
-    (c.in_ok-carry_out.ensures.done c.args.refs.now)))))
+    c.in_ok-carry_out.ensures.done))))

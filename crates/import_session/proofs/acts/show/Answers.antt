@@ -1,0 +1,35 @@
+use Rattle.std.proofs.Common.{Ok, refl, ◌∙◌, append_assoc, codes}
+use Rattle.hex.specs.Hex.{encode_lower}
+use Rattle.git_model.specs.Repository.{object_named}
+use Rattle.tenant_tables.specs.Objects.{objects}
+use Rattle.import_session.specs.Marks.{marked_name, referred_name}
+use Rattle.import_session.specs.Meaning.{shown_by, shown_object}
+use Rattle.import_session.proofs.ActLemmas.{named_carried}
+use Rattle.import_session.proofs.acts.show.Goals as goal
+
+pub returns-in-ShowMark-clause-done : goal.returns-in-ShowMark-clause-done
+unfolding shown_by
+returns-in-ShowMark-clause-done g c =
+    rw c.in-ShowMark.is (named_carried (marked_name c.args.own.now.marks.entries c.in-ShowMark.mark)
+    (λ id. Ok (encode_lower id))
+    _ c.args.out.now.items c.print_marked.new.out.items c.print_marked.result
+    c.print_marked.ensures)
+
+pub returns-in-ShowObject-clause-done : goal.returns-in-ShowObject-clause-done
+unfolding shown_by
+returns-in-ShowObject-clause-done g c =
+    rw c.in-ShowObject.is (named_carried (referred_name c.args.own.now.marks.entries
+    c.in-ShowObject.object)
+    (λ id. shown_object id (object_named id (objects c.args.pool.now c.args.table.now.entries)))
+    _ c.args.out.now.items c.print_referred.new.out.items c.print_referred.result
+    c.print_referred.ensures)
+
+pub returns-in_ok-print_line-in-Progress-clause-done :
+    goal.returns-in_ok-print_line-in-Progress-clause-done
+unfolding shown_by
+returns-in_ok-print_line-in-Progress-clause-done g c =
+    rw c.in-Progress.is (
+      refl,
+      c.in_ok-print_line-in-Progress.ensures.written
+          ∙ append_assoc c.args.out.now.items c.in-Progress.line.now (codes "\n"),
+    )
