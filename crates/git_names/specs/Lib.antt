@@ -4,6 +4,7 @@ pub use Rattle.git_model.specs.Kind
 pub use Rattle.git_model.specs.ObjectName
 pub use Rattle.git_model.specs.RefName
 pub mod Naming
+pub mod Digests
 pub mod Ident
 pub mod StoredName
 pub mod Faults

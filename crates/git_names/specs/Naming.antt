@@ -1,5 +1,10 @@
--- A digest under which collisions are easy to find.
+-- What a digest answers; and one under which collisions are easy to find.
 use Rattle.std.specs.Prelude.{ℕ, List, [], ◌∷◌, ◌++◌, ◌%◌, sum, replicate}
+use Rattle.git_model.specs.ObjectName.{IsObjectName}
+
+-- Whatever the message is, the digest of it is an object name.
+abbrev pub AnswersNames : (List ℕ → List ℕ) → Type 0
+AnswersNames digest = (message : List ℕ) → IsObjectName (digest message)
 
 -- Nineteen bytes 0xab, and the sum of all bytes modulo 256.
 abbrev pub tail_digest : List ℕ → List ℕ

@@ -1,6 +1,7 @@
 //! What gives objects their names: any fixed digest of 20 bytes.
 
 ghost use Rattle.std.specs.Prelude.{◌≡◌, ℕ, List, ◌++◌, IfOk};
+ghost use Rattle.git_names.specs.Naming.{AnswersNames};
 
 use crate::memory::Memory;
 use std::alloc::Global;
@@ -32,4 +33,7 @@ pub trait Naming: Drop {
         message.extend_from_slice(contents)?;
         Ok(self.digest(message.as_slice()))
     }
+
+    // The digest of any message is an object name.
+    ghost answers_names: { AnswersNames digest_of };
 }

@@ -2,6 +2,7 @@
 
 ghost use Rattle.std.specs.Prelude.{◌++◌};
 ghost use Rattle.sha1.specs.Sha1.{sha1};
+ghost use Rattle.git_names.specs.Digests.{sha1_answers_names};
 
 use crate::memory::Memory;
 use crate::naming::Naming;
@@ -15,6 +16,8 @@ pub struct Sha1Naming;
 
 impl Naming for Sha1Naming {
     ghost digest_of = { sha1 };
+
+    ghost answers_names = { sha1_answers_names };
 
     fn digest(&self, bytes: &[u8]) -> [u8; 20] {
         Sha1::digest(bytes)

@@ -1,6 +1,7 @@
 //! A naming under which collisions are easy to find, for tests.
 
 ghost use Rattle.std.specs.Prelude.{◌≡◌, ◌%◌, sum};
+ghost use Rattle.git_names.specs.Digests.{tail_answers_names};
 ghost use Rattle.git_names.specs.Naming.{tail_digest};
 
 use crate::naming::Naming;
@@ -12,6 +13,8 @@ pub struct TailNaming;
 
 impl Naming for TailNaming {
     ghost digest_of = { tail_digest };
+
+    ghost answers_names = { tail_answers_names };
 
     fn digest(&self, bytes: &[u8]) -> [u8; 20] {
         let mut digest = [0xab; 20];

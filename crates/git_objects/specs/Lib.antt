@@ -14,3 +14,4 @@ pub mod TreeParts
 pub mod HeaderParts
 pub mod CommitParts
 pub mod TagParts
+pub mod Listing

@@ -7,7 +7,9 @@
 mod commit;
 mod front;
 mod header;
+mod listing;
 mod mode;
+mod parts;
 mod tag;
 mod tree;
 mod tree_entry;
@@ -19,7 +21,9 @@ pub use git_names::{
     Ident, IdentFault as Fault, Memory, Name, Naming, Sha1Naming, TailNaming, has_twenty_bytes,
     is_ref_name, is_written_ident, kind_word, name_of,
 };
+pub use listing::{append_listing, kind_of_mode, six_digits};
 pub use mode::{mode_digits, read_mode};
+pub use parts::append_parts;
 pub use tag::{TagParts, read_tag, write_tag};
 pub use tree::{read_tree, write_tree};
 pub use tree_entry::{TreeEntry, is_entry_name};

@@ -52,7 +52,7 @@ joined-append c (d ∷ p) r =
 no_test : (c : List ℕ) → IsComponent c → All (λ b. is_slash b ≡ false) c
 no_test c h =
     All-weaker (λ b. b ≢ 47) (λ b. is_slash b ≡ false)
-    (λ b ne. ne_eqb b 47 ne) c h.entry_name.no_slash
+    (λ b ne. ne_eqb b 47 ne) c h.no_slash
 
 pub split-append : (c : List ℕ) (p : List (List ℕ)) (t : List ℕ) → IsPath (c ∷ p)
     → slice_split is_slash (joined (c ∷ p) ++ 47 ∷ t) ≡ (c ∷ p) ++ slice_split is_slash t
@@ -101,7 +101,7 @@ cut_middle (b ∷ a) t = refl
 -- the parts behind a prefix, in a path, are those of a path
 last_parts : (p : List (List ℕ)) (t : List ℕ) → IsPath (p ++ slice_split is_slash t)
     → slice_split is_slash t ≡ components_of t
-last_parts [] [] is = absurd ((All-head IsComponent [] [] is).entry_name.not_empty refl)
+last_parts [] [] is = absurd ((All-head IsComponent [] [] is).not_empty refl)
 last_parts [] (b ∷ t) is = refl
 last_parts (c ∷ p) t is = last_parts p t (All-tail IsComponent c (p ++ slice_split is_slash t) is)
 
@@ -213,8 +213,8 @@ joined_both-joined (c ∷ p) [] is_p is_r =
     joined_alone (joined (c ∷ p)) ∙ ap joined (sym (append-nil (c ∷ p)))
 joined_both-joined (c ∷ p) (d ∷ r) is_p is_r =
     joined_more (joined (c ∷ p)) d r
-    (name_joined c p (All-head IsComponent c p is_p).entry_name.not_empty)
-    (name_joined d r (All-head IsComponent d r is_r).entry_name.not_empty)
+    (name_joined c p (All-head IsComponent c p is_p).not_empty)
+    (name_joined d r (All-head IsComponent d r is_r).not_empty)
     ∙ sym (joined-append c p (d ∷ r))
 
 -- and have their components

@@ -1,15 +1,15 @@
 -- The tests of components, of paths and of limits say what they are named for.
-use Rattle.std.proofs.Common.{◌≡◌, ◌≢◌, ℕ, ◌<◌, Bool, true, false, not, List, [], ◌∷◌, All, refl, sym, ◌∙◌, eqb}
+use Rattle.std.proofs.Common.{◌≡◌, ◌≢◌, ℕ, Bool, true, false, not, List, [], ◌∷◌, All, refl, sym, ◌∙◌, eqb}
 use Rattle.std.specs.Prelude.{codes}
-use Rattle.std.specs.List.{list_any, slice_split, onto_first, AllByRecursion}
+use Rattle.std.specs.List.{list_any}
 use Rattle.std.specs.Str.{bytes_eq}
 use Rattle.std.specs.Cmp.{first_so, second_so}
 use Rattle.std.proofs.lemmas.Bool.{not-true, false_from_ne_true, false≢true, true≢false, eqb-false, ne_eqb, le-leb, leb-true}
 use Rattle.std.proofs.lemmas.Slice.Eq.{bytes_eq-Decides}
 use Rattle.std.proofs.lemmas.List.Folds.{list_any_none}
 use Rattle.std.proofs.lemmas.List.Sums.{AllPass-from_list_all, list_all-from_AllPass}
-use Rattle.std.proofs.lemmas.List.Elements.{All-nil, All-cons, All-weaker, All-head, All-tail, All-from_recursion}
-use Rattle.git_paths.specs.Paths.{IsComponent, IsPath, IsWithinLimits, is_slash, components_of, is_component, is_path, is_within_limits}
+use Rattle.std.proofs.lemmas.List.Elements.{All-nil, All-cons, All-weaker}
+use Rattle.git_paths.specs.Paths.{IsComponent, IsPath, IsWithinLimits, is_slash, is_component, is_path, is_within_limits}
 use Rattle.git_paths.proofs.Cases.{by_cases}
 
 -- no element passes a test that is not passed by any
@@ -28,26 +28,22 @@ same_not xs ys h = false_from_ne_true (bytes_eq xs ys) (λ e. h ((bytes_eq-Decid
 
 -- ---- a component
 
-pub IsComponent-from_test : (name : List ℕ) → All (λ b. b < 256) name → is_component name ≡ true
-    → IsComponent name
+pub IsComponent-from_test : (name : List ℕ) → is_component name ≡ true → IsComponent name
 unfolding is_component
-IsComponent-from_test name bytes h =
+IsComponent-from_test name h =
     let a = first_so _ (not (list_any is_slash name)) h in
     let b = first_so _ (not (list_any (λ b. eqb b 0) name)) a in
     let c = first_so _ (not (bytes_eq name (codes ".."))) b in
     record {
-      of_bytes = bytes;
-      entry_name = record {
-        no_nul =
-            All-weaker _ (λ b. b ≢ 0) (λ x t. eqb-false x 0 t) name
-            (none_pass (λ b. eqb b 0) name (not-true _ (second_so _ _ a)));
-        no_slash =
-            All-weaker _ (λ b. b ≢ 47) (λ x t. eqb-false x 47 t) name
-            (none_pass is_slash name (not-true _ (second_so _ _ h)));
-        not_empty = differs name [] (not-true _ (first_so _ _ c));
-        not_dot = differs name (codes ".") (not-true _ (second_so _ _ c));
-        not_dot_dot = differs name (codes "..") (not-true _ (second_so _ _ b));
-      };
+      no_nul =
+          All-weaker _ (λ b. b ≢ 0) (λ x t. eqb-false x 0 t) name
+          (none_pass (λ b. eqb b 0) name (not-true _ (second_so _ _ a)));
+      no_slash =
+          All-weaker _ (λ b. b ≢ 47) (λ x t. eqb-false x 47 t) name
+          (none_pass is_slash name (not-true _ (second_so _ _ h)));
+      not_empty = differs name [] (not-true _ (first_so _ _ c));
+      not_dot = differs name (codes ".") (not-true _ (second_so _ _ c));
+      not_dot_dot = differs name (codes "..") (not-true _ (second_so _ _ b));
     }
 
 pub test-from_IsComponent : (name : List ℕ) → IsComponent name → is_component name ≡ true
@@ -55,40 +51,18 @@ unfolding is_component
 test-from_IsComponent name h =
     let nul : list_any (λ b. eqb b 0) name ≡ false =
     list_any_none _ name
-    (All-weaker (λ b. b ≢ 0) _ (λ x t. ne_eqb x 0 t) name h.entry_name.no_nul) in
+    (All-weaker (λ b. b ≢ 0) _ (λ x t. ne_eqb x 0 t) name h.no_nul) in
     let slash : list_any is_slash name ≡ false =
     list_any_none _ name
-    (All-weaker (λ b. b ≢ 47) _ (λ x t. ne_eqb x 47 t) name h.entry_name.no_slash) in
-    rw (same_not name [] h.entry_name.not_empty, same_not name (codes ".") h.entry_name.not_dot, same_not name (codes "..") h.entry_name.not_dot_dot, nul, slash) refl
-
--- ---- the parts of bytes are bytes
-
-onto_all : (P : ℕ → Type 0) (b : ℕ) (parts : List (List ℕ)) → P b → AllByRecursion (All P) parts
-    → AllByRecursion (All P) (onto_first b parts)
-onto_all P b [] pb h = (All-cons P b [] pb (All-nil P), tt)
-onto_all P b (part ∷ parts) pb h = (All-cons P b part pb h.0, h.1)
-
-parts_all : (P : ℕ → Type 0) (bytes : List ℕ) → All P bytes
-    → AllByRecursion (All P) (slice_split is_slash bytes)
-parts_all P [] h = (All-nil P, tt)
-parts_all P (b ∷ bytes) h =
-    let rest = parts_all P bytes (All-tail P b bytes h) in
-    by_cases (is_slash b) (λ yea. rw yea (All-nil P, rest))
-    (λ nay. rw nay (onto_all P b (slice_split is_slash bytes) (All-head P b bytes h) rest))
-
-components_all : (P : ℕ → Type 0) (bytes : List ℕ) → All P bytes → All (All P) (components_of bytes)
-components_all P [] h = All-nil (All P)
-components_all P (b ∷ bytes) h =
-    All-from_recursion (All P) (slice_split is_slash (b ∷ bytes)) (parts_all P (b ∷ bytes) h)
+    (All-weaker (λ b. b ≢ 47) _ (λ x t. ne_eqb x 47 t) name h.no_slash) in
+    rw (same_not name [] h.not_empty, same_not name (codes ".") h.not_dot, same_not name (codes "..") h.not_dot_dot, nul, slash) refl
 
 -- ---- a path
 
-pub IsPath-from_test : (bytes : List ℕ) → All (λ b. b < 256) bytes
-    → is_path (components_of bytes) ≡ true → IsPath (components_of bytes)
-IsPath-from_test bytes are_bytes test =
-    let pass = AllPass-from_list_all is_component (components_of bytes) test in
-    let parts = components_all (λ b. b < 256) bytes are_bytes in
-    λ k d lt. IsComponent-from_test _ (parts k d lt) (pass k d lt)
+pub IsPath-from_test : (path : List (List ℕ)) → is_path path ≡ true → IsPath path
+IsPath-from_test path test =
+    let pass = AllPass-from_list_all is_component path test in
+    λ k d lt. IsComponent-from_test _ (pass k d lt)
 
 pub test-from_IsPath : (path : List (List ℕ)) → IsPath path → is_path path ≡ true
 test-from_IsPath path h =

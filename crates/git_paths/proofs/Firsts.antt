@@ -26,7 +26,7 @@ behind_slash : (name rest : List ℕ) → IsPath (name ∷ slice_split is_slash 
     → slice_split is_slash rest ≡ components_of rest
 behind_slash name [] h =
     absurd
-    ((All-head IsComponent [] [] (All-tail IsComponent name ([] ∷ []) h)).entry_name.not_empty refl)
+    ((All-head IsComponent [] [] (All-tail IsComponent name ([] ∷ []) h)).not_empty refl)
 behind_slash name (b ∷ rest) h = refl
 
 cut_bytes : (name rest : List ℕ) → All (λ b. b ≢ 47) name
@@ -61,8 +61,8 @@ first_component bytes at within slash first is =
 
 -- a component is a path of its own
 pub name_alone : (name : List ℕ) → IsComponent name → components_of name ≡ name ∷ []
-name_alone [] h = absurd (h.entry_name.not_empty refl)
-name_alone (b ∷ name) h = one_component (b ∷ name) (omega arith) h.entry_name.no_slash
+name_alone [] h = absurd (h.not_empty refl)
+name_alone (b ∷ name) h = one_component (b ∷ name) (omega arith) h.no_slash
 
 pub IsPath-name : (name : List ℕ) → IsComponent name → IsPath (components_of name)
 IsPath-name name h =

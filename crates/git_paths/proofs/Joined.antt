@@ -26,7 +26,7 @@ is_path-components_of (b ∷ bytes) some = refl
 no_slash : (name : List ℕ) → IsComponent name → All (λ b. is_slash b ≡ false) name
 no_slash name h =
     All-weaker (λ b. b ≢ 47) (λ b. is_slash b ≡ false)
-    (λ b ne. ne_eqb b 47 ne) name h.entry_name.no_slash
+    (λ b ne. ne_eqb b 47 ne) name h.no_slash
 
 split-joined : (name : List ℕ) (path : List (List ℕ)) → IsPath (name ∷ path)
     → slice_split is_slash (joined (name ∷ path)) ≡ name ∷ path
@@ -53,5 +53,5 @@ pub components_of-joined : (path : List (List ℕ)) → IsPath path → componen
 components_of-joined [] h = refl
 components_of-joined (name ∷ path) h =
     cut (joined (name ∷ path))
-    (some_joined name path (All-head IsComponent name path h).entry_name.not_empty)
+    (some_joined name path (All-head IsComponent name path h).not_empty)
     ∙ split-joined name path h

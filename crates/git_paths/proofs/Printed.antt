@@ -7,7 +7,7 @@ use Rattle.std.proofs.Math.Nat.{div-div-eq-div-mul}
 use Rattle.std.proofs.lemmas.Bool.{eqb-true, eqb-false}
 use Rattle.std.proofs.lemmas.List.Elements.{All-nil, All-cons, All-head, All-tail, All-append, recursion_from_All}
 use Rattle.git_paths.specs.declared.place.Place.TheVariants.{Last}
-use Rattle.git_paths.specs.Paths.{IsComponent, IsPath, IsWithinLimits, joined}
+use Rattle.git_paths.specs.Paths.{AreOfBytes, IsPath, IsWithinLimits, joined}
 use Rattle.git_paths.specs.Quoting.{letters, byte_of_letter, letter_of_byte, is_special, escape_by, escape, quoted, octal_value, IsOctal, Quotes, nothing, itself, letter, octal}
 use Rattle.git_paths.specs.Written.{IsUnquoted, Writes, unquoted_last, quoted_last}
 use Rattle.git_paths.specs.Reading.{path_at}
@@ -111,17 +111,18 @@ Writes-quoted bytes are_bytes =
     (λ nay. rw nay (unquoted_last bytes (first_plain bytes nay)))
 
 -- the bytes of a path are bytes
-pub joined_bytes : (path : List (List ℕ)) → IsPath path → All (λ b. b < 256) (joined path)
+pub joined_bytes : (path : List (List ℕ)) → AreOfBytes path → All (λ b. b < 256) (joined path)
 joined_bytes [] h = All-nil (λ b. b < 256)
-joined_bytes (name ∷ []) h = (All-head IsComponent name [] h).of_bytes
+joined_bytes (name ∷ []) h = All-head (All (λ b. b < 256)) name [] h
 joined_bytes (name ∷ next ∷ path) h =
     All-append (λ b. b < 256) name (47 ∷ joined (next ∷ path))
-    (All-head IsComponent name (next ∷ path) h).of_bytes
-    (All-cons (λ b. b < 256) 47 (joined (next ∷ path)) (lit< tt) (joined_bytes (next ∷ path) (All-tail IsComponent name (next ∷ path) h)))
+    (All-head (All (λ b. b < 256)) name (next ∷ path) h)
+    (All-cons (λ b. b < 256) 47 (joined (next ∷ path)) (lit< tt)
+    (joined_bytes (next ∷ path) (All-tail (All (λ b. b < 256)) name (next ∷ path) h)))
 
 -- a path that is printed is read as the same path
-pub printed_is_read : (path : List (List ℕ)) → IsPath path → IsWithinLimits path
+pub printed_is_read : (path : List (List ℕ)) → IsPath path → AreOfBytes path → IsWithinLimits path
     → path_at Last (quoted (joined path)) ≡ Ok (path, [])
-printed_is_read path is limits =
+printed_is_read path is bytes limits =
     path_at-Writes Last (quoted (joined path)) path [] is limits
-    (Writes-quoted (joined path) (joined_bytes path is))
+    (Writes-quoted (joined path) (joined_bytes path bytes))

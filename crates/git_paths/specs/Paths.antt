@@ -1,19 +1,22 @@
 -- Paths: git-fast-import(1), `M`, on the canonical form of a path.
 -- A path is the list of its components from the root down, each a list of bytes; the root has none.
-use Rattle.std.specs.Prelude.{◌≢◌, ℕ, ◌<◌, ◌≤◌, Bool, ◌&&◌, not, ◌==◌, nat_le, if◌then◌else◌, List, [], ◌∷◌, ◌++◌, length, All, Option, Some, None, codes}
+use Rattle.std.specs.Prelude.{ℕ, ◌<◌, ◌≤◌, Bool, ◌&&◌, not, ◌==◌, nat_le, if◌then◌else◌, List, [], ◌∷◌, ◌++◌, length, All, Option, Some, None, codes}
 use Rattle.std.specs.List.{join_with_byte, slice_split, list_any, list_all}
 use Rattle.std.specs.Str.{bytes_eq}
 use Rattle.git_model.specs.Tree.{IsEntryName}
 
--- A component is bytes, and a tree entry may have it as its name: it has no NUL and no `/`, and is
--- not empty, `.` or `..`.
-pub record IsComponent (name : List ℕ) : Type 0 where
-  pub of_bytes : All (λ b. b < 256) name
-  pub entry_name : IsEntryName name
+-- A tree entry may have a component as its name: it has no NUL and no `/`, and is not empty, `.` or
+-- `..`.
+abbrev pub IsComponent : List ℕ → Type 0
+IsComponent name = IsEntryName name
 
 -- Each component of a path is one.
 abbrev pub IsPath : List (List ℕ) → Type 0
 IsPath path = All IsComponent path
+
+-- Each component of a path is made of bytes.
+abbrev pub AreOfBytes : List (List ℕ) → Type 0
+AreOfBytes path = All (All (λ b. b < 256)) path
 
 -- the bytes of a path: its components with `/` between them
 abbrev pub joined : List (List ℕ) → List ℕ

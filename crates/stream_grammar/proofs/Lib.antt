@@ -7,4 +7,5 @@ pub mod Refused
 pub mod Rows
 pub mod Streams
 pub mod Taken
+pub mod WellFormedActs
 pub mod Words

@@ -1,5 +1,6 @@
 -- What a change says: modes, datarefs and paths; git-fast-import(1), "filemodify" and what follows.
-use Rattle.std.specs.Prelude.{ℕ, Bool, false, ◌||◌, ◌==◌, nat_lt, if◌then◌else◌, List, [], ◌∷◌, length, Result, Ok, Err, codes}
+use Rattle.std.specs.Prelude.{ℕ, Bool, false, ◌||◌, ◌&&◌, not, ◌==◌, nat_lt, if◌then◌else◌, List, [], ◌∷◌, length, Result, Ok, Err, codes}
+use Rattle.std.specs.List.{list_all}
 use Rattle.std.specs.Str.{bytes_eq}
 use Rattle.git_model.specs.declared.file_mode.FileMode.{FileMode}
 use Rattle.git_model.specs.declared.file_mode.FileMode.TheVariants as mode
@@ -83,9 +84,9 @@ abbrev pub is_quoted : List ℕ → Bool
 is_quoted [] = false
 is_quoted (byte ∷ bytes) = byte == 34
 
--- An encoding is at least one byte.
+-- An encoding is at least one byte, and none is a line end.
 abbrev pub is_encoding : List ℕ → Bool
-is_encoding text = nat_lt 0 (length text)
+is_encoding text = nat_lt 0 (length text) && list_all (λ byte. not (byte == 10)) text
 
 abbrev pub encoding_of : List ℕ → Result (List ℕ) Fault
 encoding_of text = if is_encoding text then Ok text else Err fault.Malformed

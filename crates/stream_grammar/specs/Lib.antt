@@ -10,8 +10,9 @@ pub mod Acts
 pub mod Lines
 pub mod Commands
 pub mod Faults
--- What the productions say, in another way:
+-- What the productions say, in another way, and what the words of each act are:
 pub mod Whole
+pub mod WellFormed
 -- The parser's values as these definitions:
 pub mod Stages
 pub mod Shown

@@ -6,10 +6,11 @@ ghost use Rattle.hex.specs.Hex.{IsBytes, encode_lower};
 ghost use Rattle.stream_lex.specs.Items as items;
 ghost use Rattle.stream_grammar.specs.declared.fault.Fault.{Fault};
 ghost use Rattle.stream_grammar.specs.declared.part.Part.{Part};
-ghost use Rattle.stream_grammar.specs.Commands.{Commands, Parsing, given_before, commands, end_of, top};
+ghost use Rattle.stream_grammar.specs.Commands.{Commands, Done, Parsing, given_before, commands, done_by, end_of, top};
 ghost use Rattle.stream_grammar.specs.Grammar.{Term, production_of};
 ghost use Rattle.stream_grammar.specs.Parts.{part_of};
 ghost use Rattle.stream_grammar.specs.Texts.{dataref_of, mark_of};
+ghost use Rattle.stream_grammar.specs.WellFormed.{IsWellFormed};
 ghost use Rattle.stream_grammar.specs.Whole.{AreCommands, ArePlaced, AreTaken, Fills, FindsPlace};
 
 use crate::data_ref::DataRef;
@@ -60,4 +61,12 @@ pub fn written_marks()
 pub fn written_names()
     ensures { (id : List ℕ) → IsBytes id → length id ≡ 20
         → dataref_of (encode_lower id) ≡ Ok (DataRef.Name id) }
+{}
+
+/// What an item asks for is well formed: its refs are ref names of at most 1,024 bytes, or `HEAD`
+/// where that may stand; its idents can be written, and its encoding is on one line; a tree may have
+/// its paths, which are within the limits; and its object names are names.
+pub fn acts_are_well_formed()
+    ensures { (parsing : Parsing) (item : items.Item) (done : Done) → done_by parsing item ≡ Ok done
+        → IsWellFormed done.act }
 {}

@@ -1,13 +1,14 @@
 //! What the words of an item ask for, in its place.
 
-ghost use Rattle.std.specs.Prelude.{◌≡◌, OnErr, Ok};
+ghost use Rattle.std.specs.List.{list_all};
+ghost use Rattle.std.specs.Prelude.{◌==◌, not, ◌≡◌, OnErr, Ok};
 ghost use Rattle.stream_lex.specs.Looking.{item_of};
 ghost use Rattle.stream_grammar.specs.Faults.{Gives};
 ghost use Rattle.stream_grammar.specs.Features as features;
 ghost use Rattle.stream_grammar.specs.Lines as lines;
 ghost use Rattle.stream_grammar.specs.Names.{commit_ish_of};
 ghost use Rattle.stream_grammar.specs.Acts.{Encoding, Merge};
-ghost use Rattle.stream_grammar.specs.Changes.{encoding_of, is_quoted};
+ghost use Rattle.stream_grammar.specs.Changes.{encoding_of, is_encoding, is_quoted};
 ghost use Rattle.stream_grammar.specs.Texts.{read};
 ghost use Rattle.stream_grammar.specs.Shown.{act_shown, Brings};
 
@@ -97,15 +98,29 @@ fn change_act(alloc: Global, part: Part, line: &[u8]) -> Result<Act<'_>, Fault>
     }
 }
 
-// An encoding, which is at least one byte.
+// Whether no byte of a text is a line end.
+fn is_one_line(text: &[u8]) -> bool
+    ensures { result ≡ list_all (λ byte. not (byte == 10)) text.now }
+{
+    text.iter().all(|byte| *byte != b'\n')
+}
+
+// Whether a text is at least one byte, and none is a line end.
+fn is_encoding(text: &[u8]) -> bool
+    ensures { result ≡ is_encoding text.now }
+{
+    !text.is_empty() && is_one_line(text)
+}
+
+// An encoding.
 fn encoding_act(text: &[u8]) -> Result<Act<'_>, Fault>
     ensures { Gives act_shown result
         (read (encoding_of text.now) (λ encoding. Ok (Encoding encoding))) }
 {
-    if text.is_empty() {
-        Err(Fault::Malformed)
-    } else {
+    if is_encoding(text) {
         Ok(Act::Encoding(text))
+    } else {
+        Err(Fault::Malformed)
     }
 }
 

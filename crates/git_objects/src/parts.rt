@@ -1,0 +1,18 @@
+//! How a text is appended part by part.
+
+ghost use Rattle.std.specs.Prelude.{◌≡◌, ◌++◌, length, take, OnOk};
+ghost use Rattle.std.specs.List.{flat_map};
+
+use git_names::Memory;
+
+/// Appends the parts in turn. After `Memory` (90) a piece of them may stand after what stood there.
+pub fn append_parts(parts: &[&[u8]], out: &mut Vec<u8>) -> Result<(), Memory>
+    ensures written { OnOk result (out.new.items
+        ≡ out.old.items ++ flat_map (λ part. part.now) parts.now) }
+    ensures kept { take (length out.old.items) out.new.items ≡ out.old.items }
+{
+    for part in parts {
+        out.extend_from_slice(part)?;
+    }
+    Ok(())
+}
