@@ -7,3 +7,4 @@ pub mod Faults
 pub mod TenantName
 pub mod FullName
 pub mod Place
+pub mod Changes

@@ -4,12 +4,15 @@
 //! such an object is its caller's to know.
 #![tactic(auto)]
 
+mod changed_entries;
+mod changes;
 mod namespace;
 mod place;
 mod refs;
 mod tenant_name;
 mod tenant_name_fault;
 
+pub use changes::{ChangesFault, RefChange};
 pub use git_names::{Memory, Name, REF_NAME_LIMIT, RefName, RefNameFault};
 pub use namespace::full_name;
 pub use refs::{FIRST_HEAD, Refs};

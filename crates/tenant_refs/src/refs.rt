@@ -21,7 +21,7 @@ pub const FIRST_HEAD: &[u8] = b"refs/heads/main";
 #[derive(Debug, Drop)]
 pub struct Refs {
     alloc: Global,
-    entries: Vec<(RefName, Name)>,
+    pub(crate) entries: Vec<(RefName, Name)>,
     // `None` stands for the first HEAD, so that no refs take no memory.
     head: Option<RefName>,
 }
@@ -135,6 +135,7 @@ impl Refs {
     pub fn head(&self) -> &[u8]
         ensures head { result.now ≡ self.now.head }
         ensures well_formed { IsRefName self.now.head }
+        ensures short { length self.now.head ≤ 1024 }
     {
         match &self.head {
             Some(ref_name) => ref_name.as_bytes(),

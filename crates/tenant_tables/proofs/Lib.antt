@@ -2,9 +2,11 @@ pub mod EntryLemmas
 pub mod HoldLemmas
 pub mod SummaryLemmas
 pub mod TableLemmas
+pub mod LentLemmas
 pub mod RoomLemmas
 pub mod IndexLemmas
 pub mod TreeTexts
 pub mod AddLemmas
 pub mod Abbreviations
 pub mod FoundLemmas
+pub mod StoredGood

@@ -3,6 +3,7 @@ pub mod Fault
 pub mod View
 pub mod Objects
 pub mod StandsIn
+pub mod Lent
 pub mod Room
 pub mod Adding
 pub mod Trees
