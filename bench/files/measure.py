@@ -1,5 +1,6 @@
 """Puts files into a branch and stores its trees, by the program and by git, in one run: first all files, then one
-more edit. Prints the times and the most memory of each, and checks that both name the same trees."""
+more edit; then a thousand edits of one directory of 2,000 files, each with its store. Prints the times and the most
+memory of each, and checks that both name the same trees."""
 import os
 import subprocess
 import sys
@@ -12,6 +13,17 @@ folder = tempfile.mkdtemp()
 
 def line(number, path):
     return "100644 blob %040x\td%02d/s%02d/f%02d\n" % (number, path // 2500, path // 50 % 50, path % 50)
+
+
+WIDE, EDITS = 2000, 1000
+
+
+def wide(number, file):
+    return "100644 blob %040x\twide/f%04d\n" % (number, file)
+
+
+def wide_edit(number):
+    return wide(WIDE + number + 1, number * 7 % WIDE)
 
 
 def write(name, *parts):
@@ -28,6 +40,11 @@ edit = [line(count + 1, 0)]
 write("every", every())
 write("edit", edit)
 write("both", every(), ["\n"], edit)
+wide_files = [wide(number + 1, number) for number in range(WIDE)]
+write("wide", wide_files)
+write("wide_edits", wide_files, ["\n"], (wide_edit(number) + "\n" for number in range(EDITS)))
+for number in range(EDITS):
+    write("wide_%d" % number, [wide_edit(number)])
 
 
 def once(words, source):
@@ -46,7 +63,7 @@ def by_program():
     names = []
     for stage, text in zip(("all files", "one edit"), said.splitlines()):
         puts, store, name = text.split()
-        print("  %s: put %.4f s, store %.4f s" % (stage, int(puts) / 1e6, int(store) / 1e6))
+        print("  %s: put %.6f s, store %.6f s" % (stage, int(puts) / 1e6, int(store) / 1e6))
         names.append(name)
     return names
 
@@ -64,6 +81,29 @@ def by_git():
     return names
 
 
+def wide_by_program():
+    _, memory, said = once([program], "wide_edits")
+    rows = [row.split() for row in said.splitlines()][1 : EDITS + 1]
+    puts, stores = (sum(int(row[at]) for row in rows) / 1e6 for at in (0, 1))
+    words = "the program, %d edits of %d files: put %.4f s, store %.4f s, most memory %.0f MB"
+    print(words % (len(rows), WIDE, puts, stores, memory))
+    return rows[-1][2]
+
+
+def wide_by_git():
+    subprocess.run(["rm", "-rf", os.path.join(folder, ".git")], check=True)
+    subprocess.run(["git", "init", "-q", folder], check=True)
+    once(["git", "update-index", "--index-info"], "wide")
+    puts = stores = 0
+    for number in range(EDITS):
+        puts += once(["git", "update-index", "--index-info"], "wide_%d" % number)[0]
+        took, _, said = once(["git", "write-tree", "--missing-ok"], "wide")
+        stores += took
+    print("git, the same: update-index %.4f s, write-tree %.4f s" % (puts, stores))
+    return said.strip()
+
+
 for _ in range(rounds):
+    assert wide_by_program() == wide_by_git(), "the names differ"
     assert by_program() == by_git(), "the names differ"
 subprocess.run(["rm", "-rf", folder], check=True)

@@ -7,12 +7,19 @@ use Rattle.git_paths.proofs.Cases.{by_cases}
 use Rattle.tree_build.specs.FileMap.{Path, Listed}
 use Rattle.tree_build.specs.Edits.{moved}
 use Rattle.tree_build.specs.StoredFiles.{stored_files}
+use Rattle.tree_build.specs.StoredTree.{ListsTree}
 use Rattle.branch_trees.specs.Shape.{What, file, unopened, opened, Shape, none, row, Held, Directory, Known, what_files, shape_files, held_files}
-use Rattle.branch_trees.specs.Branch.{IsShape, IsHeld, closed_by, closed_along, closed_from}
+use Rattle.branch_trees.specs.Branch.{IsWhat, IsShape, IsHeld, closed_by, closed_along, closed_from}
 use Rattle.branch_trees.specs.Editing.{child, changed}
-use Rattle.branch_trees.specs.Opened.{OpensHeld, OpensAlong, ReadsMore}
-use Rattle.branch_trees.proofs.Beside.{child_changed, shape_changed}
+use Rattle.branch_trees.specs.Opened.{IsOpening, OpensHeld, OpensAlong, ReadsMore}
+use Rattle.branch_trees.proofs.Look.{is_bytes}
+use Rattle.branch_trees.proofs.Walks.{walk-few}
+use Rattle.branch_trees.proofs.Beside.{child_changed, beside_changed, shape_changed}
 use Rattle.branch_trees.proofs.Entries.{one_held, closed_child, closed_at, entry_at}
+
+pub closed_root : (s : Shape) → closed_along s [] ≡ 0
+closed_root none = refl
+closed_root (row d w inner rest) = refl
 
 pub closed_bound : (s : Shape) (c : List ℕ) (p : Path) → closed_along s (c ∷ p) ≤ length p
 closed_bound none c p = omega arith
@@ -25,10 +32,6 @@ closed_bound (row d w inside rest) c p =
     by (file e) p h = omega arith
     by (unopened id) p h = omega arith
     by (opened tree) [] h = let n = closed_root inside in omega arith
-      where
-        closed_root : (s : Shape) → closed_along s [] ≡ 0
-        closed_root none = refl
-        closed_root (row d w inner rest) = refl
     by (opened tree) (x ∷ q) h = let n = h x q in omega arith
 
 -- another in its place that means the same
@@ -47,6 +50,23 @@ changed_files known (row d w inside rest) c h k there same =
     rw nay (ap (λ (fs : Listed). moved (d ∷ []) (what_files known w (shape_files known inside)) ++ fs)
     (changed_files known rest c h k later same)))
 
+-- what stands under each name is as open as it was
+pub open_rows : (s t : Shape) → ((c : List ℕ) (q : Path) → closed_child (child t c) q ≤ closed_child (child s c) q)
+    → (q : Path) → closed_along t q ≤ closed_along s q
+open_rows s t h [] = let a = closed_root s in let b = closed_root t in omega arith
+open_rows s t h (c ∷ q) =
+    let a = closed_at s c q in let b = closed_at t c q in let n = h c q in omega arith
+
+-- one entry in place of another
+pub open_changed : (s : Shape) (c : List ℕ) (k h : Held) → child s c ≡ Some k
+    → ((q : Path) → closed_from h q ≤ closed_from k q) → (q : Path) → closed_along (changed s c h) q ≤ closed_along s q
+open_changed s c k h there less = open_rows s (changed s c h) (λ x q.
+    by_cases (bytes_eq c x)
+    (λ yea. subst (λ (y : List ℕ). closed_child (child (changed s c h) y) q ≤ closed_child (child s y) q) (is_bytes c x yea)
+    (let a = ap (λ (o : Option Held). closed_child o q) (child_changed s c h k there) in
+    let b = ap (λ (o : Option Held). closed_child o q) there in let n = less q in omega arith))
+    (λ nay. let a = ap (λ (o : Option Held). closed_child o q) (beside_changed s c h x nay) in omega arith))
+
 module _ (os : List Object) where
   pub opens_entry : (s : Shape) → IsShape os s → (c : List ℕ) (rest : Path) (k h : Held) → child s c ≡ Some k
       → OpensHeld os rest k h → (d : Directory) (tree : Option (List ℕ)) → d.tree ≡ tree → d.entries ≡ changed s c h
@@ -63,11 +83,11 @@ module _ (os : List Object) where
             ∙ ap (shape_files (stored_files os)) (sym had);
         shut = ap (closed_along d.entries) split ∙ ap (λ (x : Shape). closed_along x (c ∷ rest)) it ∙ closed_at (changed s c h) c rest
             ∙ ap (λ (o : Option Held). closed_child o rest) (child_changed s c h k there) ∙ opens.shut;
+        stays = λ q.
+            let less = open_changed s c k h there opens.stays q in
+            let a = ap (λ (x : Shape). closed_along x q) it in
+            let b = ap (λ (x : Shape). closed_along x q) had in omega arith;
       }
-
-pub closed_root : (s : Shape) → closed_along s [] ≡ 0
-closed_root none = refl
-closed_root (row d w inner rest) = refl
 
 pub closed_here : (h : Held) → closed_from h [] ≡ 0
 closed_here h = by h.what
@@ -83,7 +103,8 @@ no_more (c ∷ p) h = absurd (omega arith)
 
 pub opens_none : (os : List Object) (d : Directory) → IsShape os d.entries → (path : Path)
     → closed_along d.entries path ≡ 0 → OpensAlong os path d d
-opens_none os d sound path shut = record { tree = refl; sound = sound; files = refl; shut = shut }
+opens_none os d sound path shut =
+    record { tree = refl; sound = sound; files = refl; shut = shut; stays = λ q. omega arith }
 
 pub opens_here : (os : List Object) (h : Held) → IsHeld os h → (rest : Path) → length rest ≡ 0
     → OpensHeld os rest h h
@@ -92,7 +113,23 @@ opens_here os h sound rest ended = record {
   order = refl;
   files = refl;
   shut = ap (closed_from h) (no_more rest ended) ∙ closed_here h;
+  stays = λ q. omega arith;
 }
+
+-- a stored tree that was opened, and then along a path
+pub opens_unopened : (os : List Object) (rest : Path) (id : List ℕ) (first last : Directory) → IsOpening os id first
+    → OpensAlong os rest first last → ListsTree os id (stored_files os id)
+    → OpensHeld os rest (record { what = unopened id; inside = none }) (record { what = opened last.tree; inside = last.entries })
+opens_unopened os rest id first last o a lists =
+    let files = a.files ∙ o.files in
+    let known : IsWhat os (opened (Some id)) (shape_files (stored_files os) last.entries) = subst (ListsTree os id) (sym files) lists in
+    record {
+      sound = (subst (λ (t : Option (List ℕ)). IsWhat os (opened t) (shape_files (stored_files os) last.entries)) (sym (a.tree ∙ o.tree)) known, a.sound);
+      order = refl;
+      files = files;
+      shut = a.shut;
+      stays = λ q. walk-few (record { what = opened last.tree; inside = last.entries }) q;
+    }
 
 pub one_more : (a m b : ℕ) (s : Shape) (rest : Path) → rest ≢ [] → a ≤ m → m ≤ a + 1
     → ReadsMore m b (closed_along s rest) → ReadsMore a b (length rest)

@@ -1,6 +1,6 @@
 -- What a branch means stays while objects are added.
 use Rattle.std.proofs.Common.{◌≡◌, ◌≢◌, ℕ, zero, suc, ◌≤◌, Bool, true, false, cond, List, [], ◌∷◌, ◌++◌, refl, sym, ap, ◌∙◌, subst, arith}
-use Rattle.std.specs.Prelude.{None, Some, length, take, drop, is_some}
+use Rattle.std.specs.Prelude.{length, take, drop, is_some}
 use Rattle.std.specs.FinMap as finmap
 use Rattle.std.specs.List.{flat_map}
 use Rattle.std.proofs.Math.Seq.{take-append_seam, drop-append_seam}
@@ -17,8 +17,9 @@ use Rattle.tree_build.specs.StoredFiles.{listed_by, listed_within, stored_files}
 use Rattle.tree_build.specs.StoredTree.{HasTree, file_from, Lists, nothing, first_file, first_directory, ListsTree}
 use Rattle.tree_build.proofs.ListedLater.{has-later, lists-later}
 use Rattle.tree_build.proofs.StoredFiles.{entries-at}
-use Rattle.branch_trees.specs.Shape.{What, file, unopened, opened, Shape, none, row, Held, what_files, shape_files, held_files}
-use Rattle.branch_trees.specs.Branch.{Branch, files_in, IsWhat, IsShape, IsHeld, IsBranch}
+use Rattle.branch_trees.proofs.Later.{held-later}
+use Rattle.branch_trees.specs.Shape.{Held, held_files}
+use Rattle.branch_trees.specs.Branch.{Branch, files_in, IsHeld, IsBranch}
 
 -- ---- lists
 
@@ -188,7 +189,7 @@ module _ (key : List ℕ) (c : Content) where
     }
 
     -- the files of a tree, as the function gives them
-    pub stored_stay : (id : List ℕ) → ListsTree os id (stored_files os id)
+    stored_stay : (id : List ℕ) → ListsTree os id (stored_files os id)
         → stored_files more id ≡ stored_files os id
     stored_stay id t = by (is_some (object_named key os)) refl
       where
@@ -203,50 +204,13 @@ module _ (key : List ℕ) (c : Content) where
 
     -- ---- what is held
 
-    pub what_stays : (w : What) (inside inside' : Listed) → inside' ≡ inside → IsWhat os w inside
-        → IsWhat more w inside' × (what_files (stored_files more) w inside' ≡ what_files (stored_files os) w inside)
-    what_stays (file e) inside inside' same h = (h, refl)
-    what_stays (unopened id) inside inside' same h = (
-      subst (ListsTree more id) (sym (stored_stay id h)) (later_tree id (stored_files os id) h),
-      stored_stay id h,
-    )
-    what_stays (opened None) inside inside' same h = (tt, same)
-    what_stays (opened (Some id)) inside inside' same h =
-        (subst (ListsTree more id) (sym same) (later_tree id inside h), same)
-
-    pub shape_stays : (s : Shape) → IsShape os s
-        → IsShape more s × (shape_files (stored_files more) s ≡ shape_files (stored_files os) s)
-    shape_stays none h = (tt, refl)
-    shape_stays (row d w inside rest) h =
-        let below = shape_stays inside h.2 in
-        let beside = shape_stays rest h.3 in
-        let here = what_stays w (shape_files (stored_files os) inside)
-        (shape_files (stored_files more) inside) below.1 h.0.sound in (
-          (
-            record {
-              name = h.0.name;
-              sound = here.0;
-              some = λ no. h.0.some (sym here.1 ∙ no);
-            },
-            h.1,
-            below.0,
-            beside.0,
-          ),
-          ap (λ (fs : Listed). moved (d ∷ []) fs ++ shape_files (stored_files more) rest) here.1
-              ∙ ap (λ (fs : Listed). moved (d ∷ []) (what_files (stored_files os) w (shape_files (stored_files os) inside)) ++ fs) beside.1,
-        )
-
-    pub held_stays : (h : Held) → IsHeld os h
-        → IsHeld more h × (held_files (stored_files more) h ≡ held_files (stored_files os) h)
-    held_stays h k =
-        let below = shape_stays h.inside k.1 in
-        let here = what_stays h.what (shape_files (stored_files os) h.inside)
-        (shape_files (stored_files more) h.inside) below.1 k.0 in
-        ((here.0, below.0), here.1)
+    held_stays : (h : Held) → IsHeld os h
+        → (held_files (stored_files more) h ≡ held_files (stored_files os) h) × IsHeld more h
+    held_stays h k = held-later os more (record { stays = later_tree; known = stored_stay }) h k
 
     pub files_stay : (b : Branch) → IsHeld os b.root → files_in more b ≡ files_in os b
     unfolding files_in
-    files_stay b h = ap (with_files finmap.empty) (held_stays b.root h).1
+    files_stay b h = ap (with_files finmap.empty) (held_stays b.root h).0
 
     pub branch_stays : (b : Branch) → IsBranch os b
         → IsBranch more b × (files_in more b ≡ files_in os b)
@@ -254,8 +218,8 @@ module _ (key : List ℕ) (c : Content) where
         let same = files_stay b h.held in (
           record {
             directory = h.directory;
-            held = (held_stays b.root h.held).0;
-            counted = h.counted ∙ ap (λ (fs : Listed). length fs) (sym (held_stays b.root h.held).1);
+            held = (held_stays b.root h.held).1;
+            counted = h.counted ∙ ap (λ (fs : Listed). length fs) (sym (held_stays b.root h.held).0);
             files = subst (λ (m : FileMap). AreFiles (listed m)) (sym same) h.files;
           },
           same,

@@ -20,20 +20,20 @@ use Rattle.branch_trees.specs.Stores.{parts_of}
 -- stored trees stay, with their files
 pub record Grows (os after : List Object) : Type 0 where
   pub stays : (id : List ℕ) (fs : Listed) → ListsTree os id fs → ListsTree after id fs
-  pub known : (id : List ℕ) (fs : Listed) → ListsTree os id fs → stored_files after id ≡ fs
+  pub known : (id : List ℕ) → ListsTree os id (stored_files os id) → stored_files after id ≡ stored_files os id
 
 module _ (os after : List Object) (grows : Grows os after) where
   what-later : (w : What) (inside new : Listed) → IsWhat os w inside → new ≡ inside
       → what_files (stored_files after) w new ≡ what_files (stored_files os) w inside
   what-later (file e) inside new h same = refl
-  what-later (unopened id) inside new h same = grows.known id (stored_files os id) h
+  what-later (unopened id) inside new h same = grows.known id h
   what-later (opened tree) inside new h same = same
 
   sound-later : (w : What) (inside new : Listed) → IsWhat os w inside → new ≡ inside
       → IsWhat after w new
   sound-later (file e) inside new h same = h
   sound-later (unopened id) inside new h same =
-      subst (ListsTree after id) (sym (grows.known id (stored_files os id) h))
+      subst (ListsTree after id) (sym (grows.known id h))
       (grows.stays id (stored_files os id) h)
   sound-later (opened None) inside new h same = tt
   sound-later (opened (Some id)) inside new h same =
@@ -84,7 +84,9 @@ adds-grow digest p q u v trees adds =
     λ id fs t. subst (λ (os : List Object). ListsTree os id fs) (sym adds.objects)
     (tree-later digest trees (objects p u.entries) id fs t) in record {
       stays = stays;
-      known = λ id fs t. stored-listed digest q v.entries adds.stands id fs (stays id fs t);
+      known = λ id t.
+          stored-listed digest q v.entries adds.stands id (stored_files (objects p u.entries) id)
+          (stays id (stored_files (objects p u.entries) id) t);
     }
 
 -- whatever storing trees answered

@@ -24,7 +24,16 @@ pub mod Counted
 pub mod Mapped
 pub mod Branches
 pub mod Puts
+pub mod Limits
+pub mod Grafted
 pub mod Here
 pub mod Looked
 pub mod StoredAt
 pub mod Walks
+pub mod Measured
+pub mod FitsBelow
+pub mod Copies
+pub mod OpenStays
+pub mod Stands
+pub mod Moves
+pub mod Moved

@@ -89,7 +89,7 @@ module _ (os : List Object) where
       each [] = tt
       each (f ∷ fs) = ((λ e. cc e), each fs)
 
-  tree_below : (id : List ℕ) (fs : Listed) → ListsTree os id fs → AllByRecursion IsBelow fs
+  pub tree_below : (id : List ℕ) (fs : Listed) → ListsTree os id fs → AllByRecursion IsBelow fs
   tree_below id fs t =
       all-weaker IsSound IsBelow (λ f s. s.below_the_root) fs (tree-sound os id fs t)
 

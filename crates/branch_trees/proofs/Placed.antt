@@ -54,12 +54,12 @@ module _ (os : List Object) (h : Held) (held : IsHeld os h)
       → IsShape os (placed (c ∷ path) h s)
   placed_shape [] c p s k =
       put_shape os s k c [] h (placed [] h (entries_in (child s c)))
-      (record { name = (All-head IsComponent c [] p).entry_name; sound = held.0; some = some }, held.1)
+      (record { name = (All-head IsComponent c [] p); sound = held.0; some = some }, held.1)
   placed_shape (d ∷ path) c p s k =
       let inner = entries_at os s k c in
       put_shape os s k c (d ∷ path) h (placed (d ∷ path) h (entries_in (child s c))) (
         record {
-          name = (All-head IsComponent c (d ∷ path) p).entry_name;
+          name = (All-head IsComponent c (d ∷ path) p);
           sound = tt;
           some = some_files (files (placed (d ∷ path) h (entries_in (child s c)))) (placed_some path d (entries_in (child s c)) inner);
         },

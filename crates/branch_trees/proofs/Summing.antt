@@ -8,7 +8,7 @@ use Rattle.tenant_tables.specs.Trees.{both, entry_summary}
 use Rattle.tree_build.proofs.Sums.{sums, fold-sums}
 use Rattle.branch_trees.specs.Sums.{IsSmall}
 
-first-small : (a b : Summary) → IsSmall (both a b) → IsSmall a
+pub first-small : (a b : Summary) → IsSmall (both a b) → IsSmall a
 first-small a b h =
     let f = h.files in let d = h.depth in let l = h.longest in
     record { files = omega arith; depth = omega arith; longest = omega arith }

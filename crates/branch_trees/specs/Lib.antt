@@ -11,3 +11,5 @@ pub mod Rows
 pub mod Stores
 pub mod Sums
 pub mod Standing
+pub mod Moving
+pub mod Limits

@@ -54,12 +54,14 @@ pub record OpensHeld (os : List Object) (path : Path) (old new : Held) : Type 0 
   pub order : slash_after new.what ≡ slash_after old.what
   pub files : held_files (stored_files os) new ≡ held_files (stored_files os) old
   pub shut : closed_from new path ≡ 0
+  pub stays : (q : Path) → closed_from new q ≤ closed_from old q
 
 pub record OpensAlong (os : List Object) (path : Path) (old new : Directory) : Type 0 where
   pub tree : new.tree ≡ old.tree
   pub sound : IsShape os new.entries
   pub files : shape_files (stored_files os) new.entries ≡ shape_files (stored_files os) old.entries
   pub shut : closed_along new.entries path ≡ 0
+  pub stays : (q : Path) → closed_along new.entries q ≤ closed_along old.entries q
 
 -- So many texts were read at most.
 pub record ReadsMore (old new most : ℕ) : Type 0 where

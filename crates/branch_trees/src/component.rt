@@ -36,6 +36,15 @@ impl Component {
         })
     }
 
+    /// The same component again. Takes memory for its bytes.
+    pub(crate) fn copied(&self, alloc: Global) -> Result<Component, AllocError>
+        ensures { IfOk result (λ c. c ≡ self.now) }
+    {
+        Ok(Component {
+            bytes: Vec::from_slice(alloc, self.bytes.as_slice())?,
+        })
+    }
+
     /// The bytes.
     pub(crate) fn as_bytes(&self) -> &[u8]
         ensures bytes { result.now ≡ self.now }

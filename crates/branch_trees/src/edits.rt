@@ -1,14 +1,14 @@
 //! Edits of a branch whose directories on the way to a path are opened.
 
-ghost use Rattle.std.specs.Prelude.{◌≡◌, ◌≢◌, ◌≤◌, [], ◌∷◌, length, None, Err, OnOk};
+ghost use Rattle.std.specs.Prelude.{◌≡◌, ◌≢◌, ◌≤◌, [], ◌∷◌, ◌++◌, length, None, Err, OnOk};
 ghost use Rattle.std.specs.FinMap as finmap;
 ghost use Rattle.tenant_tables.specs.Objects.{objects};
 ghost use Rattle.tenant_tables.specs.StandsIn.{StandsIn};
 ghost use Rattle.tree_build.specs.declared.fault.Fault.TheVariants as fault;
 ghost use Rattle.tree_build.specs.Edits.{without, moved, put_at, put_tree_at, put_fault};
 ghost use Rattle.git_model.specs.declared.file_mode.FileMode.TheVariants as mode;
-ghost use Rattle.git_paths.specs.Paths.{is_within_limits};
-ghost use Rattle.tree_build.specs.FileMap.{AreFiles, listed};
+ghost use Rattle.git_paths.specs.Paths.{behind, is_within_limits};
+ghost use Rattle.tree_build.specs.FileMap.{Path as FilePath, AreFiles, listed};
 ghost use Rattle.tree_build.specs.StoredFiles.{stored_files};
 ghost use Rattle.branch_trees.specs.Shape.{held_files};
 ghost use Rattle.branch_trees.specs.Nodes.{held};
@@ -46,6 +46,8 @@ impl Files {
         ensures files { OnOk result (files_in (objects pool.now table.now.entries) self.new
             ≡ files_in (objects pool.now table.now.entries) self.old) }
         ensures shut { OnOk result (closed_from self.new.root path.now ≡ 0) }
+        ensures open { OnOk result ((q : FilePath)
+            → closed_from self.new.root q ≤ closed_from self.old.root q) }
         ensures reads { Reads self.old self.new (closed_from self.old.root path.now) }
     {
         open_below(
@@ -74,6 +76,7 @@ impl Files {
         ensures files { files_in (objects pool.now table.now.entries) self.new
             ≡ finmap.retain_keys (files_in (objects pool.now table.now.entries) self.old)
             (is_kept clear path.now) }
+        ensures open { (q : FilePath) → closed_from self.new.root q ≤ closed_from self.old.root q }
         ensures reads { self.new.reads ≡ self.old.reads }
     {
         match &mut self.root {
@@ -105,6 +108,8 @@ impl Files {
         ensures branch { result ≢ Err fault.Memory
             → IsBranch (objects pool.now table.now.entries) self.new }
         ensures reads { Reads self.old self.new (closed_from self.old.root path.now) }
+        ensures open { OnOk result ((q : FilePath)
+            → closed_from self.new.root q ≤ closed_from self.old.root q) }
     {
         if path.is_root() {
             self.clear();
@@ -146,6 +151,10 @@ impl Files {
         ensures branch { result ≢ Err fault.Memory
             → IsBranch (objects pool.now table.now.entries) self.new }
         ensures reads { self.new.reads ≡ self.old.reads }
+        ensures open { OnOk result ((q : FilePath) → behind path.now q ≡ None
+            → closed_from self.new.root q ≤ closed_from self.old.root q) }
+        ensures there { OnOk result ((rest : FilePath) → closed_from self.new.root (path.now ++ rest)
+            ≡ closed_from (held node) rest) }
     {
         has_components(path);
         match &mut self.root {
@@ -188,6 +197,9 @@ impl Files {
         ensures branch { result ≢ Err fault.Memory
             → IsBranch (objects pool.now table.now.entries) self.new }
         ensures reads { Reads self.old self.new (closed_from self.old.root path.now) }
+        ensures open { OnOk result ((q : FilePath)
+            → closed_from self.new.root q ≤ closed_from self.old.root q) }
+        ensures shut { OnOk result (closed_from self.new.root path.now ≡ 0) }
     {
         has_twenty_bytes(&entry.name);
         if path.is_root() {

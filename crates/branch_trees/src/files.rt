@@ -6,7 +6,8 @@
 ghost use Rattle.std.specs.Prelude.{◌≡◌, List};
 ghost use Rattle.std.specs.FinMap as map;
 ghost use Rattle.git_model.specs.Repository.{Object};
-ghost use Rattle.branch_trees.specs.Branch.{files_in, IsBranch, root_name};
+ghost use Rattle.tree_build.specs.FileMap.{Path};
+ghost use Rattle.branch_trees.specs.Branch.{files_in, IsBranch, root_name, closed_from};
 
 use crate::dir::{Dir, Node};
 use git_objects::Name;
@@ -55,6 +56,7 @@ impl Files {
         ensures files { (os : List Object) → files_in os self.new ≡ map.empty }
         ensures branch { (os : List Object) → IsBranch os self.new }
         ensures reads { self.new.reads ≡ self.old.reads }
+        ensures open { (q : Path) → closed_from self.new.root q ≡ 0 }
     {
         self.root = Node::Opened(Dir::empty(self.alloc));
         self.files = 0;

@@ -2,13 +2,17 @@
 #![tactic(auto)]
 
 mod component;
+mod copying;
 mod counting;
 mod dir;
 mod dropping;
 mod edits;
 mod entry;
+mod extents;
 mod files;
+mod grafting;
 pub mod laws;
+mod moving;
 mod names;
 mod naming;
 mod opening;
@@ -17,5 +21,6 @@ mod reading;
 mod stores;
 mod storing;
 mod sums;
+mod within;
 
 pub use files::Files;

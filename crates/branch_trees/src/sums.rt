@@ -19,7 +19,7 @@ pub(crate) fn no_files() -> Summary
     }
 }
 
-fn one_file(name: &[u8]) -> Summary
+pub(crate) fn one_file(name: &[u8]) -> Summary
     requires { IsSmall (one_file name.now) }
     ensures { result ≡ one_file name.now }
 {
@@ -30,7 +30,7 @@ fn one_file(name: &[u8]) -> Summary
     }
 }
 
-fn below(name: &[u8], tree: Summary) -> Summary
+pub(crate) fn below(name: &[u8], tree: Summary) -> Summary
     requires { IsSmall (below name.now tree) }
     ensures { result ≡ below name.now tree }
 {
@@ -44,7 +44,7 @@ fn below(name: &[u8], tree: Summary) -> Summary
     }
 }
 
-fn both(first: Summary, second: Summary) -> Summary
+pub(crate) fn both(first: Summary, second: Summary) -> Summary
     requires { IsSmall (both first second) }
     ensures { result ≡ both first second }
 {

@@ -33,7 +33,7 @@ module _ (digest : List ℕ → List ℕ) (os : List Object) (good : AreObjects 
       subst (IsObject digest os) at.object
       (at_place (IsObject digest os) os (place_of id os) good.each at.within)
 
-  refers-before : (id : List ℕ) (c : Content) → object_named id os ≡ Some c
+  pub refers-before : (id : List ℕ) (c : Content) → object_named id os ≡ Some c
       → All (StandsBefore os (place_of id os)) (references_in c)
   refers-before id c e =
       let at = stands_at id os c e in

@@ -117,11 +117,7 @@ abbrev files : Listed
 files = (codes "hello" ∷ [], record { mode = mode.Regular; name = id_of 98 }) ∷ []
 
 is_component : IsComponent (codes "hello")
-is_component = record {
-  of_bytes = All-from_recursion (λ b. b < 256) (codes "hello")
-      (omega arith, (omega arith, (omega arith, (omega arith, (omega arith, tt)))));
-  entry_name = is_entry_name;
-}
+is_component = is_entry_name
 
 are_files : AreFiles files
 are_files = record {

@@ -58,7 +58,7 @@ not_root [] [] h = absurd (h refl)
 not_root [] (c ∷ p) h = refl
 not_root (c ∷ top) p h = refl
 
-no_roots : (top : Path) (fs : Listed) → AllByRecursion IsSound fs
+pub no_roots : (top : Path) (fs : Listed) → AllByRecursion IsSound fs
     → list_any (λ f. is_root f.0) (moved top fs) ≡ false
 no_roots top [] h = refl
 no_roots top (f ∷ fs) h = rw (not_root top f.0 h.0.below_the_root) (no_roots top fs h.1)
@@ -91,7 +91,7 @@ many top held fs h apart =
     let n : length (moved top fs) ≡ length fs = length-map fs (λ (f : Path × Entry). (top ++ f.0, f.1)) in
     subst (λ (k : ℕ). length fs ≤ k) (sym same) (omega arith)
 
-small_if : (top : Path) (held fs : Listed) (s : Summary) → AreFiles held → ArePairwiseApart fs
+pub small_if : (top : Path) (held fs : Listed) (s : Summary) → AreFiles held → ArePairwiseApart fs
     → s ≡ files_summary fs → fits (moved top fs) (put_tree_at (from_sorted held) top fs) ≡ true
     → is_small s ≡ true
 small_if top held fs s h apart is all =

@@ -31,3 +31,7 @@ pub mod GoodTrees
 mod GoodRepositoryExample
 pub mod StoringHeld
 pub mod ListedLater
+pub mod EditedMaps
+pub mod HeldTrees
+pub mod StoredPut
+pub mod TreesAdded

@@ -76,7 +76,7 @@ key c q = c ++ mark q
 pub key_rises : (c d : Bytes) (p q : Path) → IsComponent c → IsComponent d → c ≢ d
     → below (joined (c ∷ p)) (joined (d ∷ q)) → below (key c p) (key d q)
 key_rises c d p q ic id ne h =
-    rise c d p q ic.entry_name.no_slash id.entry_name.no_slash ne
+    rise c d p q ic.no_slash id.no_slash ne
     (subst (λ (x : Bytes). below x (d ++ tail q)) (joined-first c p) (subst (λ (y : Bytes). below (joined (c ∷ p)) y) (joined-first d q) h))
 
 -- ---- groups and their first files

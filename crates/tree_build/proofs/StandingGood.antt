@@ -51,7 +51,7 @@ with_files (Some s) h = (s, refl, h)
 module _ (digest : List ℕ → List ℕ) (pool : Cells) (entries : Entries)
     (stands : StandsIn digest pool entries) where
   -- what holds of each entry's content holds of each object
-  object_all : (P : List ℕ → Content → Type 0)
+  pub object_all : (P : List ℕ → Content → Type 0)
       → AllByRecursion (λ e. P e.0 (content pool e.1.slot)) entries → (id : List ℕ) (c : Content)
       → object_named id (objects pool entries) ≡ Some c → P id c
   unfolding entry_named

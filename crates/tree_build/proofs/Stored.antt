@@ -34,13 +34,13 @@ use Rattle.tree_build.specs.Storable.{longest_of}
 use Rattle.tree_build.proofs.Kept.{summaries-kept}
 
 module _ (digest : List ℕ → List ℕ) where
-  with_trees-append : (a b : List (List TreeEntry)) (os : List Object)
+  pub with_trees-append : (a b : List (List TreeEntry)) (os : List Object)
       → with_trees digest (a ++ b) os ≡ with_trees digest b (with_trees digest a os)
   with_trees-append [] b os = refl
   with_trees-append (es ∷ a) b os =
       with_trees-append a b (with_object (tree_name digest es) (tree_content es) os)
 
-  no_fault : (f : Option TableFault) (later : Option Fault) → or_later f later ≡ None
+  pub no_fault : (f : Option TableFault) (later : Option Fault) → or_later f later ≡ None
       → (f ≡ None) × (later ≡ None)
   no_fault (Some e) later h = cc h
   no_fault None later h = (refl, h)

@@ -51,7 +51,7 @@ module _ (digest : List ℕ → List ℕ) (deep bound : ℕ) where
       → AllByRecursion CanWriteEntry (map (direct_of digest deep) gs)
   can_write [] h n = tt
   can_write (g ∷ gs) h n =
-      (record { name = subst IsEntryName (sym (name_is g h.0)) (component_is g h.0).entry_name; id = n.0 }, can_write gs h.1 n.1)
+      (record { name = subst IsEntryName (sym (name_is g h.0)) (component_is g h.0); id = n.0 }, can_write gs h.1 n.1)
 
   -- what holds of each two groups holds of their entries
   abbrev KeysRise : TreeEntry → TreeEntry → Type 0

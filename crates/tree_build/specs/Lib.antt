@@ -1,6 +1,7 @@
 -- In reading order.
 pub mod Faults
 pub mod FileMap
+pub mod HeldFiles
 pub mod Edits
 pub mod Kept
 pub mod Calls

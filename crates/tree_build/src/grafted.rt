@@ -24,12 +24,11 @@ use git_paths::Path;
 use std::alloc::Global;
 use tenant_tables::{Summary, Table};
 
-/// The summary of the tree of this name, or why the name is no tree's.
-pub(crate) fn tree_summary<N: Naming>(
-    _pool: &Pool<N>,
-    table: &Table,
-    id: &Name,
-) -> Result<Summary, Fault>
+/// The summary of the stored tree of this name. `ObjectUnknown` (14) where there is no object of
+/// it, `WrongKind` (15) where it is no tree.
+///
+/// The pool is the one that the table stands in.
+pub fn tree_summary<N: Naming>(_pool: &Pool<N>, table: &Table, id: &Name) -> Result<Summary, Fault>
     requires { StandsIn N.digest_of _pool.now table.now.entries }
     ensures tree { IfOk result (λ s. summary_of id.now table.now.entries ≡ Some s) }
     ensures refusal { IfErr result
@@ -45,7 +44,7 @@ pub(crate) fn tree_summary<N: Naming>(
 }
 
 /// Whether the files of a tree with this summary could stand at the root of a branch.
-pub(crate) fn is_small(summary: Summary) -> bool
+pub fn is_small(summary: Summary) -> bool
     ensures { result ≡ is_small summary }
 {
     summary.files as usize <= FILES_LIMIT && summary.depth <= 256 && summary.longest <= 16_383

@@ -1,6 +1,6 @@
 //! Laws of file maps: functions over the definitions alone, which run nothing.
 
-ghost use Rattle.std.specs.Prelude.{◌≡◌, ℕ, List, [], ◌∷◌, ◌++◌, Some};
+ghost use Rattle.std.specs.Prelude.{◌≡◌, ℕ, List, [], ◌∷◌, ◌++◌, All, None, Some};
 ghost use Rattle.std.specs.FinMap as finmap;
 ghost use Rattle.git_model.specs.declared.kind.Kind.TheVariants as kind;
 ghost use Rattle.git_model.specs.GoodRepository.{AreObjects, MayAdd};
@@ -8,19 +8,21 @@ ghost use Rattle.git_model.specs.References.{kind_named};
 ghost use Rattle.git_model.specs.Repository.{Object, Repository};
 ghost use Rattle.git_model.specs.RefStore.{no_refs};
 ghost use Rattle.git_model.specs.Tree.{TreeEntry};
+ghost use Rattle.git_names.specs.Naming.{AnswersNames};
 ghost use Rattle.content_pool.specs.Pool.{Cells};
 ghost use Rattle.tenant_tables.specs.View.{Entries, summary_of};
 ghost use Rattle.tenant_tables.specs.Objects.{objects};
 ghost use Rattle.tenant_tables.specs.StandsIn.{StandsIn};
 ghost use Rattle.tree_build.specs.FileMap.{FileMap, Path, Listed, AreFiles, listed};
+ghost use Rattle.tree_build.specs.HeldFiles.{IsHeld};
 ghost use Rattle.tree_build.specs.Edits.{files_at, with_files};
-ghost use Rattle.tree_build.specs.Trees.{grouped, tree_entries};
+ghost use Rattle.tree_build.specs.Trees.{grouped, nested_trees, tree_entries, tree_id};
 ghost use Rattle.tree_build.specs.ByComponent.{IsByFirstComponent, IsTreeOf};
 ghost use Rattle.tree_build.specs.StoredTree.{HasTree, ListsTree, AreFilesOf};
 ghost use Rattle.tree_build.specs.Storable.{files_summary};
-ghost use Rattle.tree_build.specs.Storing.{with_trees};
+ghost use Rattle.tree_build.specs.Storing.{trees_fault, with_trees};
 ghost use Rattle.tree_build.specs.StoredFiles.{stored_files};
-ghost use Rattle.tree_build.specs.GoodTrees.{IsTreeOfFiles, IsRepository};
+ghost use Rattle.tree_build.specs.GoodTrees.{IsTreeOfFiles, IsRepository, StayGood};
 ghost use Rattle.tree_build.specs.StoredAgain.{AreTreesGood, IsStoredAlready};
 
 /// The files below any path, taken by neighbours with one first component, are the files at or
@@ -114,4 +116,16 @@ pub fn one_more_object_keeps_a_repository()
 pub fn an_empty_repository_is_good()
     ensures { (digest : List ℕ → List ℕ)
         → IsRepository digest (record { objects = []; refs = no_refs }) }
+{}
+
+/// The trees of the files below a path, children first, may be added to good objects where each
+/// file's object is there and the table refuses none: the objects stay good, and the tree of the
+/// path is there.
+pub fn trees_keep_objects_good()
+    ensures { (digest : List ℕ → List ℕ) → AnswersNames digest
+        → (os : List Object) → AreObjects digest os
+        → (m : FileMap) → AreFiles (listed m) → All (IsHeld os) (listed m)
+        → (path : Path) → trees_fault digest (nested_trees digest (files_at m path)) os ≡ None
+        → StayGood digest os (with_trees digest (nested_trees digest (files_at m path)) os)
+        (tree_id digest (files_at m path)) }
 {}

@@ -15,6 +15,6 @@ mod storing;
 pub use entry::Entry;
 pub use fault::Fault;
 pub use files::Files;
-pub use grafted::read_entries;
+pub use grafted::{is_small, read_entries, tree_summary};
 pub use naming::contents_of;
 pub use storing::add_entries;

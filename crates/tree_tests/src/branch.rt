@@ -3,6 +3,8 @@
 ghost use Rattle.std.specs.Prelude.{◌≢◌};
 ghost use Rattle.git_model.specs.declared.file_mode.FileMode.TheVariants as mode;
 
+use crate::body::Body;
+use branch_trees::Files;
 use content_pool::Pool;
 use git_objects::{FileMode, Kind, Name, Naming, Sha1Naming};
 use git_paths::{Path, Place};
@@ -10,14 +12,15 @@ use std::alloc::Global;
 use std::marker::Model;
 use std::test::Fail;
 use tenant_tables::Table;
-use tree_build::{Entry, Fault, Files};
+use tree_build::{Entry, Fault, Files as PlainFiles};
 
 /// A blob of `hello` and a line feed, by the name that Git gives it.
 pub const HELLO: &[u8; 40] = b"ce013625030ba8dba906f756967f9e9ca394464a";
 
 /// What is done to a branch or looked up in it, and what it then answers: a refusal by its number,
 /// 0 where there is none; the mode or the tree at a path. A long path has so many components, each
-/// of so many `a`.
+/// of so many `a`; many files are so many in each of so many directories. Texts that a body does not
+/// count are as many as it says.
 #[derive(Clone, Copy)]
 pub enum Step<'a> {
     Put(&'a [u8], &'a [u8; 40], u16),
@@ -34,6 +37,8 @@ pub enum Step<'a> {
     Stored(usize),
     Mode(&'a [u8], Option<FileMode>),
     Tree(&'a [u8], &'a [u8; 40]),
+    PutMany(usize, usize),
+    Reads(u64),
 }
 
 /// What a branch does, in words and as steps from an empty one.
@@ -42,17 +47,29 @@ pub struct Case {
     pub steps: &'static [Step<'static>],
 }
 
-/// The first of these steps, by its position, that a new branch answers otherwise.
+/// The first of these steps, by its position, that a new branch of one of the bodies answers
+/// otherwise.
 pub fn first_wrong(alloc: Global, steps: &[Step<'_>]) -> Result<Option<usize>, Fail> {
-    let mut branch = Branch::new(alloc, Sha1Naming);
+    let plain = plain_wrong(alloc, steps)?;
+    Ok(plain.or(nested_wrong(alloc, steps)?))
+}
+
+fn plain_wrong(alloc: Global, steps: &[Step<'_>]) -> Result<Option<usize>, Fail> {
+    let mut branch: Branch<PlainFiles, Sha1Naming> = Branch::new(alloc, Sha1Naming);
+    branch.first_wrong(steps)
+}
+
+/// The same of the body that opens directories.
+pub fn nested_wrong(alloc: Global, steps: &[Step<'_>]) -> Result<Option<usize>, Fail> {
+    let mut branch: Branch<Files, Sha1Naming> = Branch::new(alloc, Sha1Naming);
     branch.first_wrong(steps)
 }
 
 /// The files of a branch, and where their trees would lie.
 #[derive(Drop)]
-pub struct Branch<N: Naming> {
+pub struct Branch<B: Body, N: Naming> {
     alloc: Global,
-    files: Files,
+    files: B,
     pool: Pool<N>,
     table: Table,
 }
@@ -94,24 +111,26 @@ fn mode_of(digits: &[u8]) -> FileMode
     }
 }
 
-impl<N: Naming> Model for Branch<N> {
+impl<B: Body, N: Naming> Model for Branch<B, N> {
     ghost use Rattle.std.specs.Prelude.{ℕ};
     ghost use Rattle.tenant_tables.specs.StandsIn.{StandsIn};
     ghost use Rattle.tenant_tables.specs.Room.{HasRoomBeside};
+    ghost use Rattle.tenant_tables.specs.Objects.{objects};
 
     ghost Value = { ℕ };
 
     ghost view = { λ branch. 0 };
 
     ghost invariant = { λ branch. StandsIn N.digest_of branch.pool branch.table.entries
-        × HasRoomBeside branch.pool branch.table.entries };
+        × HasRoomBeside branch.pool branch.table.entries
+        × B.is_sound (objects branch.pool branch.table.entries) branch.files };
 }
 
-impl<N: Naming> Branch<N> {
-    pub fn new(alloc: Global, naming: N) -> Branch<N> {
+impl<B: Body, N: Naming> Branch<B, N> {
+    pub fn new(alloc: Global, naming: N) -> Branch<B, N> {
         Branch {
             alloc,
-            files: Files::new(alloc),
+            files: B::new(alloc),
             pool: Pool::new(alloc, naming),
             table: Table::new(alloc),
         }
@@ -141,7 +160,7 @@ impl<N: Naming> Branch<N> {
     fn goes(&mut self, step: &Step<'_>) -> Result<bool, Fail> {
         match step {
             Step::PutLine(line) => self.put_line(line)?,
-            Step::DropPath(path) => self.drop_path(path)?,
+            Step::DropPath(path) => return Ok(self.drop_path(path)? == 0),
             Step::Clear => self.clear(),
             Step::Store(name) => return Ok(self.store()?.as_slice() == name.as_slice()),
             other => return self.goes_further(other),
@@ -161,6 +180,10 @@ impl<N: Naming> Branch<N> {
                 self.add_blob(bytes)?;
                 Ok(true)
             }
+            Step::PutMany(directories, files) => {
+                self.put_many(*directories, *files)?;
+                Ok(true)
+            }
             other => self.shows(other),
         }
     }
@@ -170,6 +193,7 @@ impl<N: Naming> Branch<N> {
             Step::Stored(count) => Ok(self.stored() == *count),
             Step::Mode(path, mode) => Ok(self.mode_at(path)? == *mode),
             Step::Tree(path, name) => Ok(self.tree_at(path)?.as_slice() == name.as_slice()),
+            Step::Reads(count) => Ok(self.reads().unwrap_or(*count) == *count),
             _ => Ok(false),
         }
     }
@@ -179,7 +203,7 @@ impl<N: Naming> Branch<N> {
         Ok(path)
     }
 
-    fn put(&mut self, path: &[u8], digits: &[u8; 40]) -> Result<u16, Fail> {
+    pub fn put(&mut self, path: &[u8], digits: &[u8; 40]) -> Result<u16, Fail> {
         let path = self.path(path)?;
         self.put_at(&path, digits)
     }
@@ -196,6 +220,21 @@ impl<N: Naming> Branch<N> {
         code_of(self.files.put(&self.pool, &self.table, path, entry))
     }
 
+    fn put_many(&mut self, directories: usize, files: usize) -> Result<(), Fail> {
+        for directory in 0..directories {
+            self.put_directory(directory, files)?;
+        }
+        Ok(())
+    }
+
+    fn put_directory(&mut self, directory: usize, files: usize) -> Result<(), Fail> {
+        for file in 0..files {
+            let path = format!(in self.alloc; "d{directory}/f{file}")?;
+            self.put(path.as_bytes(), HELLO)?;
+        }
+        Ok(())
+    }
+
     pub fn put_line(&mut self, line: &[u8]) -> Result<(), Fail> {
         let (digits, rest) = line.split_at_checked(6).ok_or("no mode")?;
         let (name, path) = rest.split_at_checked(42).ok_or("no blob")?;
@@ -207,19 +246,18 @@ impl<N: Naming> Branch<N> {
         Ok(())
     }
 
-    fn drop_path(&mut self, path: &[u8]) -> Result<(), Fail> {
+    pub fn drop_path(&mut self, path: &[u8]) -> Result<u16, Fail> {
         let path = self.path(path)?;
-        self.files.drop_path(&self.pool, &self.table, &path)?;
-        Ok(())
+        code_of(self.files.drop_path(&self.pool, &self.table, &path))
     }
 
-    fn copy(&mut self, from: &[u8], to: &[u8]) -> Result<u16, Fail> {
+    pub fn copy(&mut self, from: &[u8], to: &[u8]) -> Result<u16, Fail> {
         let from = self.path(from)?;
         let to = self.path(to)?;
         code_of(self.files.copy(&self.pool, &self.table, &from, &to))
     }
 
-    fn rename(&mut self, from: &[u8], to: &[u8]) -> Result<u16, Fail> {
+    pub fn rename(&mut self, from: &[u8], to: &[u8]) -> Result<u16, Fail> {
         let from = self.path(from)?;
         let to = self.path(to)?;
         code_of(self.files.rename(&self.pool, &self.table, &from, &to))
@@ -266,6 +304,10 @@ impl<N: Naming> Branch<N> {
         let root = Path::root(self.alloc);
         let name = self.files.store(&mut self.pool, &mut self.table, &root)?;
         Ok(name.to_hex())
+    }
+
+    fn reads(&self) -> Option<u64> {
+        self.files.reads()
     }
 
     fn stored(&self) -> usize {

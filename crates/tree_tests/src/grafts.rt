@@ -1,6 +1,6 @@
 //! Stored trees that are put at a path, beside the names that Git gives.
 
-use crate::branch::{Case, HELLO, Step, first_wrong};
+use crate::branch::{Case, HELLO, Step, first_wrong, nested_wrong};
 use crate::files::{EMPTY_TREE, REGULAR, VERSION, VERSION_TREE};
 use git_objects::FileMode;
 use std::test::Fail;
@@ -118,6 +118,80 @@ const CASES: &[Case] = &[
         ],
     },
 ];
+
+const MANY_TREE: &[u8; 40] = b"a5c954de4d78ff9d9ea3cc357268b2c3b3bc4062";
+
+// `git write-tree` gave the names of the tree of 1,000 files, and of that with d7/x.
+const MORE_TREE: &[u8; 40] = b"6768caa1294ee73bde98df18ed351a272ed97333";
+
+const READS: &[Case] = &[Case {
+    does: "only the directories on the way are read, each once",
+    steps: &[
+        Step::PutMany(100, 10),
+        Step::Store(MANY_TREE),
+        Step::Clear,
+        Step::Graft(b"", MANY_TREE, 0),
+        Step::Put(b"d7/x", HELLO, 0),
+        Step::Reads(2),
+        Step::Store(MORE_TREE),
+        Step::Put(b"d7/y", HELLO, 0),
+        Step::DropPath(b"d7/y"),
+        Step::Tree(b"", MORE_TREE),
+        Step::Graft(b"d8", MANY_TREE, 0),
+        Step::Mode(b"d8/d9/f0", REGULAR),
+        Step::Reads(2),
+    ],
+}];
+
+// `git write-tree` gave the names of the tree of 10,000 files, of that tree at a, and of both that
+// and the same at b/c.
+const FULL_TREE: &[u8; 40] = b"9ae73073f0b8c09b2fd55b56036a36aaf82050db";
+
+const FULL_AT_A: &[u8; 40] = b"9a3e5731dbedaae80673eda668a9cb3444ea987a";
+
+const FULL_TWICE: &[u8; 40] = b"939dc3317c018494dc92d2d808b7910d4e2a9f42";
+
+// The plain body walks over all files at each edit, and takes no part.
+const LARGE: &[Case] = &[Case {
+    does: "a directory of many files is copied and renamed by its name",
+    steps: &[
+        Step::PutMany(100, 100),
+        Step::Store(FULL_TREE),
+        Step::Clear,
+        Step::Graft(b"a", FULL_TREE, 0),
+        Step::Store(FULL_AT_A),
+        Step::Clear,
+        Step::Graft(b"", FULL_AT_A, 0),
+        Step::Copy(b"a", b"b/c", 0),
+        Step::Reads(1),
+        Step::Store(FULL_TWICE),
+        Step::DropPath(b"a"),
+        Step::Rename(b"b/c", b"a", 0),
+        Step::Tree(b"", FULL_AT_A),
+        Step::Reads(1),
+    ],
+}];
+
+#[test]
+fn large_directories_are_moved_by_name(rt: HostRuntime) -> Result<(), Fail> {
+    for case in LARGE {
+        assert_eq!(rt;
+            nested_wrong(rt.alloc(), case.steps)?,
+            None,
+            "{}",
+            case.does
+        );
+    }
+    Ok(())
+}
+
+#[test]
+fn few_trees_are_read(rt: HostRuntime) -> Result<(), Fail> {
+    for case in READS {
+        assert_eq!(rt; first_wrong(rt.alloc(), case.steps)?, None, "{}", case.does);
+    }
+    Ok(())
+}
 
 #[test]
 fn stored_trees_are_put_as_git_does(rt: HostRuntime) -> Result<(), Fail> {

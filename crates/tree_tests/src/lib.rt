@@ -1,7 +1,9 @@
-//! Tests of tree_build: edits, grafts and the trees of a branch, beside the names that Git gives.
-//! Nothing else stands here.
+//! Tests of tree_build and branch_trees: edits, grafts and the trees of a branch, beside the names
+//! that Git gives. Nothing else stands here.
 #![tactic(auto)]
 
+#[cfg(test)]
+mod body;
 #[cfg(test)]
 mod branch;
 #[cfg(test)]
@@ -10,5 +12,7 @@ mod files;
 mod grafts;
 #[cfg(test)]
 mod made_by_git;
+#[cfg(test)]
+mod random_edits;
 #[cfg(test)]
 mod real_trees;

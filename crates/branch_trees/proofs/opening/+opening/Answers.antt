@@ -6,13 +6,13 @@ use Rattle.tenant_tables.proofs.EntryLemmas.{position-found}
 use Rattle.tenant_tables.specs.Objects.{objects}
 use Rattle.tree_build.specs.FileMap.{Path}
 use Rattle.branch_trees.specs.declared.dir.Node.{Node}
-use Rattle.branch_trees.specs.Shape.{Held, Directory}
-use Rattle.branch_trees.specs.Branch.{IsShape, closed_along, closed_from}
+use Rattle.branch_trees.specs.Shape.{opened, Held, Directory}
+use Rattle.branch_trees.specs.Branch.{IsShape, IsHeld, closed_along, closed_from}
 use Rattle.branch_trees.specs.Nodes.{held, shape_of, has_name}
-use Rattle.branch_trees.specs.Opened.{ReadsMore}
+use Rattle.branch_trees.specs.Opened.{OpensHeld, ReadsMore}
 use Rattle.branch_trees.proofs.Entries.{closed_child, closed_at, entry_at}
 use Rattle.branch_trees.proofs.Named.{shape_found, shape_lacks, found_within, not_found}
-use Rattle.branch_trees.proofs.Along.{opens_entry, opens_none, opens_here, closed_root, one_more}
+use Rattle.branch_trees.proofs.Along.{opens_entry, opens_none, opens_here, opens_unopened, closed_root, one_more}
 use Rattle.branch_trees.proofs.opening.+opening.Goals as goal
 
 pub open_along-returns-in_default-clause-opens : goal.open_along-returns-in_default-clause-opens
@@ -102,3 +102,13 @@ open_below-returns-in_ok-open_along-in-Unopened-clause-reads g t c =
     (sym c.in-Unopened.is)
     (one_more c.args.reads.now c.saturating_add.result c.open_along-in-Unopened.new.reads c.in_ok-dir-in-Unopened.dir.entries c.args.rest.now
     (λ e. f (c.len.ensures ∙ ap (λ (p : Path). length p) e)) (omega arith) (omega arith) c.open_along-in-Unopened.ensures.reads)
+
+pub open_below-returns-in_ok-open_along-in-Unopened-clause-opens :
+    goal.open_below-returns-in_ok-open_along-in-Unopened-clause-opens
+open_below-returns-in_ok-open_along-in-Unopened-clause-opens g t c =
+    let d = c.open_along-in-Unopened.new.dir in
+    subst (λ (n : Node). OpensHeld (objects c.args.pool.now c.args.table.now.entries) c.args.rest.now (held n) (record { what = opened d.tree; inside = d.entries }))
+    (sym c.in-Unopened.is)
+    (opens_unopened (objects c.args.pool.now c.args.table.now.entries) c.args.rest.now c.in-Unopened.id
+    c.in_ok-dir-in-Unopened.dir d c.in_ok-dir-in-Unopened.ensures c.in_ok-open_along-in-Unopened.ensures.opens
+    (subst (λ (n : Node). IsHeld (objects c.args.pool.now c.args.table.now.entries) (held n)) c.in-Unopened.is c.requires.sound).0)

@@ -1,4 +1,4 @@
-use Rattle.std.proofs.Common.{refl, sym, ◌∙◌}
+use Rattle.std.proofs.Common.{refl, sym, ◌∙◌, arith}
 use Rattle.tenant_tables.specs.Objects.{objects}
 use Rattle.branch_trees.specs.Branch.{files_in}
 use Rattle.branch_trees.proofs.Branches.{without_root}
@@ -11,3 +11,6 @@ returns-then-is_root-clause-edits g c =
       c.clear.ensures.files os
           ∙ sym (without_root (files_in os c.args.self.now) c.args.path.now (c.is_root.ensures.0 c.if-is_root.true)),
     )
+
+pub returns-then-is_root-clause-open : goal.returns-then-is_root-clause-open
+returns-then-is_root-clause-open g c = λ q. let none = c.clear.ensures.«open» q in omega arith

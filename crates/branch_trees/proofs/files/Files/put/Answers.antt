@@ -6,6 +6,7 @@ use Rattle.tenant_tables.specs.Objects.{objects}
 use Rattle.tree_build.specs.Edits.{put_at}
 use Rattle.branch_trees.specs.Branch.{files_in}
 use Rattle.branch_trees.proofs.Puts.{root_fault, long_fault, one_good, edits_put}
+use Rattle.branch_trees.proofs.OpenStays.{on_ok_both, open_file}
 use Rattle.branch_trees.proofs.files.Files.put.Goals as goal
 
 no_path : {b : Bool} → IsTrue b → b ≡ false → ⊥
@@ -45,3 +46,9 @@ returns-clause-edits g c =
     (λ e. no_path (c.is_root.ensures.1 e) c.if-is_root.false)
     (sym c.is_short.ensures ∙ c.if-not-is_short.false)
     c.put_node.ensures.edits
+
+pub returns-clause-open : goal.returns-clause-open
+returns-clause-open g c =
+    on_ok_both c.put_node.result
+    (open_file c.args.self.now.root c.open_to.new.self.root c.put_node.new.self.root c.components-path.result c.args.entry c.in_ok-open_to.ensures.«open»)
+    c.put_node.ensures.«open» c.put_node.ensures.there

@@ -1,18 +1,19 @@
-use Rattle.std.proofs.Common.{◌≡◌, ◌≤◌, ◌-◌, ◌+◌, ℕ, true, length, sym, ap, ◌∙◌, subst, arith}
+use Rattle.std.proofs.Common.{◌≡◌, ◌≤◌, ◌-◌, ◌+◌, ◌++◌, ℕ, true, length, sym, ap, ◌∙◌, subst, arith}
 use Rattle.std.specs.FinMap as finmap
 use Rattle.tenant_tables.specs.Objects.{objects}
 use Rattle.tree_build.specs.Edits.{put_tree_at}
 use Rattle.tree_build.specs.StoredFiles.{stored_files}
 use Rattle.branch_trees.specs.declared.dir.Node.{Node}
 use Rattle.branch_trees.specs.declared.dir.Node.TheVariants.{Opened}
-use Rattle.branch_trees.specs.Shape.{opened, Held, Directory, shape_files, held_files}
-use Rattle.branch_trees.specs.Branch.{Branch, IsBranch, root_files, files_in, closed_from}
+use Rattle.branch_trees.specs.Shape.{opened, Shape, Held, Directory, shape_files, held_files}
+use Rattle.branch_trees.specs.Branch.{Branch, IsHeld, IsBranch, root_files, files_in, closed_along, closed_from}
 use Rattle.branch_trees.specs.Editing.{new_directory, placed, taken}
 use Rattle.branch_trees.specs.Nodes.{held, shape_of}
 use Rattle.branch_trees.specs.Opened.{too_many}
 use Rattle.branch_trees.proofs.Named.{Rows}
 use Rattle.branch_trees.proofs.Branches.{branch_few, drop_few}
 use Rattle.branch_trees.proofs.Puts.{put_len, put_files, put_branch, many, not_many, MayHave}
+use Rattle.branch_trees.proofs.OpenStays.{open_placed, closed_placed}
 use Rattle.branch_trees.proofs.files.Files.put_node.Goals as goal
 
 pub taken-requires-clause-few : goal.taken-requires-clause-few
@@ -116,3 +117,21 @@ returns-in_ok-place-in-Opened-clause-branch g c memory =
     c.args.path.now c.requires.some c.has_components.ensures _ (ap held c.in-Opened.is) b shut _ _ count
     (subst (MayHave os c.args.path.now (held c.args.node)) (sym c.self.view_is) c.requires.good
     (subst (λ (n : ℕ). n ≤ 1048576) (sym len) within)))
+
+pub returns-in_ok-place-in-Opened-clause-open : goal.returns-in_ok-place-in-Opened-clause-open
+returns-in_ok-place-in-Opened-clause-open g c = λ q out.
+    let os = objects c.args.pool.now c.args.table.now.entries in
+    let b = subst (IsBranch os) (sym c.self.view_is) c.requires.branch in
+    let sound = subst (λ (n : Node). IsHeld os (held n)) c.in-Opened.is b.held in
+    let old = ap (λ (x : Branch). closed_from x.root q) (sym c.self.view_is) ∙ ap (λ (n : Node). closed_from (held n) q) c.in-Opened.is in
+    let new = ap (λ (s : Shape). closed_along s q) c.in_ok-place-in-Opened.ensures.entries in
+    let less = open_placed os (held c.args.node) c.args.path.now c.in-Opened.dir.entries sound.1 q out in
+    omega arith
+
+pub returns-in_ok-place-in-Opened-clause-there : goal.returns-in_ok-place-in-Opened-clause-there
+returns-in_ok-place-in-Opened-clause-there g c = λ rest.
+    let os = objects c.args.pool.now c.args.table.now.entries in
+    let b = subst (IsBranch os) (sym c.self.view_is) c.requires.branch in
+    let sound = subst (λ (n : Node). IsHeld os (held n)) c.in-Opened.is b.held in
+    ap (λ (s : Shape). closed_along s (c.args.path.now ++ rest)) c.in_ok-place-in-Opened.ensures.entries
+    ∙ closed_placed os (held c.args.node) c.args.path.now c.requires.some c.in-Opened.dir.entries sound.1 rest

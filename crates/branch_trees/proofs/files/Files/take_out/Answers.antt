@@ -1,16 +1,17 @@
-use Rattle.std.proofs.Common.{◌≡◌, ◌≤◌, ◌-◌, ℕ, length, sym, ap, ◌∙◌, subst}
+use Rattle.std.proofs.Common.{◌≡◌, ◌≤◌, ◌-◌, ℕ, length, sym, ap, ◌∙◌, subst, arith}
 use Rattle.std.specs.FinMap as finmap
 use Rattle.tenant_tables.specs.Objects.{objects}
 use Rattle.tree_build.specs.StoredFiles.{stored_files}
 use Rattle.branch_trees.specs.declared.dir.Node.{Node}
 use Rattle.branch_trees.specs.declared.dir.Node.TheVariants.{Opened}
-use Rattle.branch_trees.specs.Shape.{opened, Held, Directory, shape_files, held_files}
-use Rattle.branch_trees.specs.Branch.{Branch, IsBranch, root_files, files_in, closed_from}
+use Rattle.branch_trees.specs.Shape.{opened, Shape, Held, Directory, shape_files, held_files}
+use Rattle.branch_trees.specs.Branch.{Branch, IsHeld, IsBranch, root_files, files_in, closed_along, closed_from}
 use Rattle.branch_trees.specs.Editing.{new_directory, dropped, taken}
 use Rattle.branch_trees.specs.Nodes.{held, shape_of}
 use Rattle.branch_trees.specs.Opened.{is_kept}
 use Rattle.branch_trees.proofs.Named.{Rows}
 use Rattle.branch_trees.proofs.Branches.{branch_few, drop_files, drop_branch, drop_few}
+use Rattle.branch_trees.proofs.OpenStays.{open_dropped}
 use Rattle.branch_trees.proofs.files.Files.take_out.Goals as goal
 
 pub taken-gone-requires-clause-few : goal.taken-gone-requires-clause-few
@@ -67,3 +68,13 @@ returns-in-Opened-clause-files g c =
     ∙ drop_files os c.args.clear c.args.path.now c.requires.some c.in-Opened.dir.entries c.in-Opened.dir.tree
     _ (ap held c.in-Opened.is) b shut _ _
     ∙ ap (λ (x : Branch). finmap.retain_keys (files_in os x) (is_kept c.args.clear c.args.path.now)) c.self.view_is
+
+pub returns-in-Opened-clause-open : goal.returns-in-Opened-clause-open
+returns-in-Opened-clause-open g c = λ q.
+    let os = objects c.args.pool.now c.args.table.now.entries in
+    let b = subst (IsBranch os) (sym c.self.view_is) c.requires.branch in
+    let sound = subst (λ (n : Node). IsHeld os (held n)) c.in-Opened.is b.held in
+    let old = ap (λ (x : Branch). closed_from x.root q) (sym c.self.view_is) ∙ ap (λ (n : Node). closed_from (held n) q) c.in-Opened.is in
+    let new = ap (λ (s : Shape). closed_along s q) c.drop_at.ensures.entries in
+    let less = open_dropped os c.args.clear c.args.path.now c.in-Opened.dir.entries sound.1 q in
+    omega arith

@@ -1,4 +1,4 @@
-use Rattle.tenant_tables.proofs.RoomLemmas.{has_room, room-after}
+use Rattle.tenant_tables.proofs.RoomLemmas.{has_room}
 use Rattle.tree_tests.proofs.branch.Branch.add_blob.Goals as goal
 
 pub add-requires : goal.add-requires

@@ -3,5 +3,8 @@ use Rattle.tree_build.proofs.Turns.{stands-none}
 use Rattle.tree_tests.proofs.branch.Branch.new.Goals as goal
 
 pub invariant_of-result : goal.invariant_of-result
-invariant_of-result g c =
-    (stands-none g.N.Naming.digest_of _ _ c.new-3.ensures.entries, room-none _ _ c.new-2.ensures)
+invariant_of-result g c = (
+  stands-none g.N.Naming.digest_of _ _ c.new-3.ensures.entries,
+  room-none _ _ c.new-2.ensures,
+  c.new.ensures _,
+)

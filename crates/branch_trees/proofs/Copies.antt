@@ -1,0 +1,46 @@
+-- Copies of what is held: they mean the same, and are found along a path.
+use Rattle.std.proofs.Common.{◌≡◌, ℕ, List, [], ◌∷◌, map, refl}
+use Rattle.std.specs.Prelude.{None, Some}
+use Rattle.branch_trees.specs.declared.dir.Node.{Node}
+use Rattle.branch_trees.specs.declared.dir.Node.TheVariants.{File, Unopened, Opened}
+use Rattle.branch_trees.specs.Shape.{Shape, row, Held, Directory}
+use Rattle.branch_trees.specs.Nodes.{held, shape_of}
+use Rattle.branch_trees.specs.Opened.{row_of}
+use Rattle.branch_trees.specs.Moving.{standing, copied_shape, copied_held}
+use Rattle.branch_trees.proofs.Named.{Rows}
+use Rattle.tree_build.specs.FileMap.{Path}
+
+-- an entry as it is copied
+abbrev pub copied_row : List ℕ × Node → List ℕ × Held
+copied_row e = (e.0, copied_held (held e.1))
+
+abbrev with_held : List ℕ × Held → Shape → Shape
+with_held r rest = row r.0 r.1.what r.1.inside rest
+
+heads : (a b : List ℕ × Held) (x y : List (List ℕ × Held)) → a ∷ x ≡ b ∷ y → a ≡ b
+heads a b x y h = cc h
+
+tails : (a b : List ℕ × Held) (x y : List (List ℕ × Held)) → a ∷ x ≡ b ∷ y → x ≡ y
+tails a b x y h = cc h
+
+pub copied_rows : (xs ys : Rows) → map row_of xs ≡ map copied_row ys
+    → shape_of xs ≡ copied_shape (shape_of ys)
+copied_rows [] [] h = refl
+copied_rows [] (y ∷ ys) h = cc h
+copied_rows (x ∷ xs) [] h = cc h
+copied_rows (x ∷ xs) (y ∷ ys) h =
+    let one = heads (row_of x) (copied_row y) (map row_of xs) (map copied_row ys) h in
+    let rest = copied_rows xs ys (tails (row_of x) (copied_row y) (map row_of xs)
+    (map copied_row ys) h) in
+    λ i. with_held (one i) (rest i)
+
+-- nothing stands below a file, or below what was not opened
+pub nothing_stands : (path : Path) → standing path None ≡ None
+nothing_stands [] = refl
+nothing_stands (c ∷ path) = nothing_stands path
+
+pub none_below : (n : Node) → ((d : Directory) → n ≡ Opened d → ⊥) → (c : List ℕ) (path : Path)
+    → standing (c ∷ path) (Some (held n)) ≡ None
+none_below (File e) h c path = nothing_stands path
+none_below (Unopened id) h c path = nothing_stands path
+none_below (Opened d) h c path = absurd (h d refl)

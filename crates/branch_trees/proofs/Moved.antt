@@ -1,0 +1,148 @@
+-- What was copied from a path of a branch.
+use Rattle.std.proofs.Common.{◌≡◌, ℕ, ◌≤◌, List, [], length, refl, sym, ap, ◌∙◌, subst, arith}
+use Rattle.std.specs.Prelude.{Option, None, Some}
+use Rattle.std.specs.Option.{option_map}
+use Rattle.std.specs.FinMap as finmap
+use Rattle.std.specs.FinMap.{len-entries}
+use Rattle.content_pool.specs.Pool.{Cells}
+use Rattle.git_model.specs.Repository.{Object}
+use Rattle.tenant_tables.specs.declared.summary.Summary.{Summary}
+use Rattle.tenant_tables.specs.View.{Entries}
+use Rattle.tenant_tables.specs.Objects.{objects}
+use Rattle.tenant_tables.specs.StandsIn.{StandsIn}
+use Rattle.tree_build.specs.FileMap.{Path, Listed, FileMap, AreFiles, listed}
+use Rattle.tree_build.specs.Edits.{cut, files_at, moved, put_tree_at}
+use Rattle.tree_build.specs.Storable.{files_summary}
+use Rattle.tree_build.specs.StoredFiles.{stored_files}
+use Rattle.branch_trees.specs.declared.dir.Node.{Node}
+use Rattle.branch_trees.specs.Shape.{What, file, unopened, opened, Held, held_files, what_files, shape_files}
+use Rattle.branch_trees.specs.Branch.{Branch, files_in, IsWhat, IsDirectory, IsHeld, IsBranch, closed_from}
+use Rattle.branch_trees.specs.Nodes.{held}
+use Rattle.branch_trees.specs.Sums.{IsSmall}
+use Rattle.branch_trees.specs.Moving.{standing, files_of_held, copied_held, summary_fault, path_fault}
+use Rattle.branch_trees.specs.Opened.{too_many}
+use Rattle.branch_trees.proofs.Ordered.{branch_listed}
+use Rattle.branch_trees.proofs.Puts.{not_many}
+use Rattle.branch_trees.proofs.Grafted.{root_map}
+use Rattle.branch_trees.proofs.Stands.{standing-cut, standing-sound, held-copied, held-files-copied}
+use Rattle.branch_trees.proofs.Measured.{dir-below}
+use Rattle.branch_trees.proofs.Moves.{AreHere, one, many, fault-is, small-cut}
+
+-- a node has a file, or files below it
+pub here : (os : List Object) (h : Held) → IsHeld os h → AreHere (held_files (stored_files os) h)
+here os h s = by h.what s.0
+  where
+    by : (w : What) → IsWhat os w (shape_files (stored_files os) h.inside)
+        → AreHere (what_files (stored_files os) w (shape_files (stored_files os) h.inside))
+    by (file e) k = one e
+    by (unopened id) k = many (stored_files os id) (dir-below os (unopened id) h.inside k tt)
+    by (opened tree) k = many (shape_files (stored_files os) h.inside)
+        (dir-below os (opened tree) h.inside k tt)
+
+module _ (digest : List ℕ → List ℕ) (pool : Cells) (entries : Entries)
+    (stands : StandsIn digest pool entries)
+    (b : Branch) (branch : IsBranch (objects pool entries) b) (path : Path)
+    (shut : closed_from b.root path ≡ 0)
+    (m : FileMap) (same : files_in (objects pool entries) b ≡ m) (from : Path)
+    (split : path ≡ from) where
+  abbrev os : List Object
+  os = objects pool entries
+
+  files-at : files_at m from ≡ files_of_held (stored_files os) (standing path (Some b.root))
+  files-at =
+      ap (files_at m) (sym split)
+      ∙ ap (λ (x : FileMap). cut path (listed x)) (sym same)
+      ∙ ap (cut path) (branch_listed os b branch.held)
+      ∙ standing-cut os path b.root.what b.root.inside branch.held.0 branch.held.1 shut
+
+  pub nothing-there : (o : Option Node) → o ≡ None
+      → option_map held o ≡ option_map copied_held (standing path (Some b.root))
+      → files_at m from ≡ []
+  nothing-there o is found = files-at ∙ by (standing path (Some b.root))
+      (sym (ap (option_map held) is) ∙ found)
+    where
+      by : (s : Option Held) → None ≡ option_map copied_held s
+          → files_of_held (stored_files os) s ≡ []
+      by None e = refl
+      by (Some k) e = cc e
+
+  copied-there : (o : Option Node) (n : Node) → o ≡ Some n
+      → option_map held o ≡ option_map copied_held (standing path (Some b.root))
+      → IsHeld os (held n) × (held_files (stored_files os) (held n) ≡ files_at m from)
+  copied-there o n is found =
+      by (standing path (Some b.root)) refl (sym (ap (option_map held) is) ∙ found)
+    where
+      one_of : (x y : Held) → Some x ≡ Some y → x ≡ y
+      one_of x y e = cc e
+
+      by : (s : Option Held) → standing path (Some b.root) ≡ s
+          → Some (held n) ≡ option_map copied_held s
+          → IsHeld os (held n) × (held_files (stored_files os) (held n) ≡ files_at m from)
+      by None at e = cc e
+      by (Some k) at e =
+          let sound = standing-sound os path b.root.what b.root.inside branch.held.0 branch.held.1 k at in
+          let copy = one_of (held n) (copied_held k) e in (
+            subst (λ (h : Held). IsHeld os h) (sym copy)
+                (held-copied digest pool entries stands k sound),
+            ap (held_files (stored_files os)) copy
+                ∙ held-files-copied digest pool entries stands k sound
+                ∙ ap (files_of_held (stored_files os)) (sym at)
+                ∙ sym files-at,
+          )
+
+  small-there : IsSmall (files_summary (files_at m from))
+  small-there = small-cut from (listed m) (subst
+      (λ (x : FileMap). AreFiles (listed x)) same branch.files)
+
+  -- what was copied, in all
+  pub found : (o : Option Node) (n : Node) → o ≡ Some n
+      → option_map held o ≡ option_map copied_held (standing path (Some b.root))
+      → IsHeld os (held n) × ((held_files (stored_files os) (held n) ≡ files_at m from)
+      × IsSmall (files_summary (held_files (stored_files os) (held n))))
+  found o n is at =
+      let copy = copied-there o n is at in
+      (copy.0, (copy.1, subst (λ (l : Listed). IsSmall (files_summary l)) (sym copy.1) small-there))
+
+-- why it is refused
+pub fault-there : (os : List Object) (h : Held) → IsHeld os h → (to : Path) (fs : Listed)
+    → held_files (stored_files os) h ≡ fs
+    → (s : Summary) → s ≡ files_summary (held_files (stored_files os) h)
+    → summary_fault to s ≡ path_fault (moved to fs)
+fault-there os h sound to fs is s sum =
+    ap (summary_fault to) sum
+    ∙ fault-is to (held_files (stored_files os) h) (here os h sound)
+    ∙ ap (λ (l : Listed). path_fault (moved to l)) is
+
+-- ---- the place of all
+
+module _ (os : List Object) (m : FileMap) (h : Held) (sound : IsHeld os h) (files : ℕ)
+    (count : files ≡ length (held_files (stored_files os) h)) (few : files ≤ 1048576) (reads : ℕ)
+    (to : Path) (root : to ≡ []) where
+  abbrev new : Branch
+  new = record { root = h; files = files; reads = reads }
+
+  abbrev after : FileMap
+  after = put_tree_at m to (held_files (stored_files os) h)
+
+  root_is : files_in os new ≡ after
+  unfolding files_in
+  root_is =
+      sym (root_map m (held_files (stored_files os) h))
+      ∙ ap (λ (p : Path). put_tree_at m p (held_files (stored_files os) h)) (sym root)
+
+  root_few : finmap.len after ≤ 1048576
+  root_few =
+      let len = ap (λ (x : FileMap). finmap.len x) (sym root_is) ∙ len-entries (files_in os new)
+      ∙ ap (λ (l : Listed). length l) (branch_listed os new sound) in omega arith
+
+  pub root-edits : (too_many (finmap.len after) ≡ None) × (files_in os new ≡ after)
+  root-edits = (not_many (finmap.len after) root_few, root_is)
+
+  pub root-branch : IsDirectory h.what → (finmap.len after ≤ 1048576 → AreFiles (listed after))
+      → IsBranch os new
+  root-branch directory good = record {
+    directory = directory;
+    held = sound;
+    counted = count;
+    files = subst (λ (x : FileMap). AreFiles (listed x)) (sym root_is) (good root_few);
+  }

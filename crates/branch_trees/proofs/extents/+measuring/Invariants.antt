@@ -1,0 +1,25 @@
+use Rattle.std.proofs.Common.{◌≡◌, ◌+◌, ◌*◌, drop}
+use Rattle.tenant_tables.specs.Objects.{objects}
+use Rattle.tenant_tables.specs.Trees.{both}
+use Rattle.tree_build.specs.Storable.{files_summary}
+use Rattle.tree_build.specs.StoredFiles.{stored_files}
+use Rattle.branch_trees.specs.Shape.{shape_files}
+use Rattle.branch_trees.specs.ShapeCode.{shape_size}
+use Rattle.branch_trees.specs.Nodes.{held, shape_of}
+use Rattle.branch_trees.proofs.extents.+measuring.Given as goal
+
+abbrev pub decreases-extent : goal.decreases-extent
+decreases-extent g l = 3 * shape_size (held l.node.now).inside + 1
+
+abbrev pub decreases-extent_under : goal.decreases-extent_under
+decreases-extent_under g l = 3 * shape_size (held l.node.now).inside + 2
+
+abbrev pub decreases-extent_of_all : goal.decreases-extent_of_all
+decreases-extent_of_all g l = 3 * shape_size (shape_of l.entries.now)
+
+abbrev pub invariant-extent_of_all-loop-entry : goal.invariant-extent_of_all-loop-entry
+invariant-extent_of_all-loop-entry g l =
+    both l.sum (files_summary (shape_files (stored_files (objects l.pool l.table.entries))
+    (shape_of (drop l.entry-index l.entries))))
+    ≡ files_summary (shape_files (stored_files (objects l.pool l.table.entries))
+    (shape_of l.entries))

@@ -1,0 +1,62 @@
+use Rattle.std.proofs.Common.{sym, ap, ◌∙◌, arith}
+use Rattle.std.specs.FinMap as finmap
+use Rattle.git_paths.specs.Paths.{behind}
+use Rattle.tenant_tables.specs.Objects.{objects}
+use Rattle.tree_build.specs.FileMap.{Path, FileMap, is_apart}
+use Rattle.tree_build.specs.Storable.{files_summary}
+use Rattle.tree_build.specs.StoredFiles.{stored_files}
+use Rattle.std.proofs.lemmas.Result.{on_ok_weaker}
+use Rattle.branch_trees.specs.declared.dir.Node.TheVariants.{Unopened}
+use Rattle.branch_trees.specs.Branch.{files_in}
+use Rattle.branch_trees.specs.Limits.{may_stand}
+use Rattle.branch_trees.specs.Nodes.{held}
+use Rattle.branch_trees.proofs.Limits.{put_good, edits_fit}
+use Rattle.branch_trees.proofs.Grafted.{none_put, placeable}
+use Rattle.branch_trees.proofs.files.Files.put_tree.Goals as goal
+
+pub returns-then-files-eq0-clause-edits : goal.returns-then-files-eq0-clause-edits
+returns-then-files-eq0-clause-edits g c =
+    let os = objects c.args.pool.now c.args.table.now.entries in
+    none_put os c.take_out.new.self c.take_out.ensures.branch (files_in os c.args.self.now)
+    c.args.path.now (stored_files os c.args.name.now) (sym c.requires.files ∙ c.if-files-eq0.true)
+    (c.take_out.ensures.files
+    ∙ ap (λ (m : FileMap). finmap.retain_keys m (is_apart c.components-path.result))
+    c.in_ok-open_to.ensures.files
+    ∙ ap (λ (p : Path). finmap.retain_keys (files_in os c.args.self.now) (is_apart p))
+    c.components-path.ensures)
+
+pub put_node-requires-clause-added : goal.put_node-requires-clause-added
+put_node-requires-clause-added g c = c.requires.files
+
+pub put_node-requires-clause-good : goal.put_node-requires-clause-good
+put_node-requires-clause-good g c =
+    let os = objects c.args.pool.now c.args.table.now.entries in
+    put_good os c.open_to.new.self c.in_ok-open_to.ensures.branch c.components-path.result
+    (held (Unopened c.args.name.now)) c.has_components.ensures
+    (placeable g.N.Naming.digest_of c.args.pool.now c.args.table.now.entries c.requires.stands
+    c.args.name.now c.requires.tree)
+    (ap (λ (p : Path). may_stand p (files_summary (stored_files os c.args.name.now)))
+    c.components-path.ensures ∙ c.requires.fits)
+
+pub returns-clause-edits : goal.returns-clause-edits
+returns-clause-edits g c =
+    let os = objects c.args.pool.now c.args.table.now.entries in
+    edits_fit c.put_node.result (files_in os c.open_to.new.self) (files_in os c.args.self.now)
+    (files_in os c.put_node.new.self) c.in_ok-open_to.ensures.files c.components-path.result
+    c.args.path.now c.components-path.ensures (stored_files os c.args.name.now)
+    (placeable g.N.Naming.digest_of c.args.pool.now c.args.table.now.entries c.requires.stands
+    c.args.name.now c.requires.tree).sound
+    c.requires.fits c.put_node.ensures.edits
+
+pub returns-then-files-eq0-clause-open : goal.returns-then-files-eq0-clause-open
+returns-then-files-eq0-clause-open g c =
+    λ q apart. let opened = c.in_ok-open_to.ensures.«open» q in
+    let taken = c.take_out.ensures.«open» q in omega arith
+
+pub returns-clause-open : goal.returns-clause-open
+returns-clause-open g c =
+    on_ok_weaker c.put_node.result
+    (λ put q apart. let opened = c.in_ok-open_to.ensures.«open» q in
+    let there = put q (ap (λ (p : Path). behind p q) c.components-path.ensures ∙ apart) in
+    omega arith)
+    c.put_node.ensures.«open»
