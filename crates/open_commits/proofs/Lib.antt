@@ -1,0 +1,7 @@
+pub mod Additions
+pub mod Closings
+pub mod FileChanges
+pub mod StoredCommits
+pub mod Starting
+pub mod GoodFiles
+pub mod GoodCommits

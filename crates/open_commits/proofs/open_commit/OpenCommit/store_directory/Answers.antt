@@ -1,0 +1,12 @@
+use Rattle.open_commits.proofs.Additions.{adds-stored}
+use Rattle.open_commits.proofs.open_commit.OpenCommit.store_directory.Goals as goal
+
+pub returns-in_err-store-in-Directory-clause-adds :
+    goal.returns-in_err-store-in-Directory-clause-adds
+returns-in_err-store-in-Directory-clause-adds g c =
+    adds-stored c.store.result _ _ _ _ _ _ _ c.store.ensures.stores
+
+pub returns-in_ok-store-in-Directory-clause-adds :
+    goal.returns-in_ok-store-in-Directory-clause-adds
+returns-in_ok-store-in-Directory-clause-adds g c =
+    adds-stored c.store.result _ _ _ _ _ _ _ c.store.ensures.stores

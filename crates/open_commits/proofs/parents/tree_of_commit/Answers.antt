@@ -1,0 +1,22 @@
+use Rattle.std.proofs.Common.{◌≡◌, None, List, ℕ, ◌∙◌}
+use Rattle.git_model.specs.CommitReading.{commit_read}
+use Rattle.tenant_tables.specs.Objects.{objects}
+use Rattle.tree_build.specs.Grafts.{tree_fault}
+use Rattle.tree_build.specs.StoredFiles.{tree_of_commit}
+use Rattle.open_commits.specs.declared.fault.Fault.{Fault}
+use Rattle.open_commits.specs.declared.fault.Fault.TheVariants as fault
+use Rattle.open_commits.proofs.StoredCommits.{stored_commit, matched, told_bytes, told_tree}
+use Rattle.open_commits.proofs.parents.tree_of_commit.Goals as goal
+
+pub returns-in-Some : goal.returns-in-Some
+returns-in-Some g c good kind =
+    let os = objects c.args.pool.now c.args.table.now.entries in
+    let id : List ℕ = c.args.id.now in
+    let s = stored_commit g.N.Naming.digest_of os good id kind in
+    let same = told_bytes os id s c.in-Some.field-0-0 c.in-Some.contents.now
+    (rw c.of.ensures at c.in-Some.ensures) in
+    matched (λ (t : List ℕ). t ≡ (commit_read c.in-Some.contents.now).tree)
+    (λ (t : List ℕ). (t ≡ tree_of_commit os id) × (tree_fault os t ≡ None))
+    (λ (f : Fault). f ≡ fault.Memory) c.tree_in.result
+    (λ t. told_tree os id s c.in-Some.contents.now t same)
+    (c.tree_in.ensures s.commit s.writable (same ∙ s.contents))

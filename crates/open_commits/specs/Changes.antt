@@ -1,0 +1,130 @@
+-- Changes of files in a commit: git-fast-import(1), "filemodify" to "filedeleteall".
+use Rattle.std.specs.Prelude.{ℕ, nat_eq, if◌then◌else◌, List, [], ◌∷◌, Result, Ok, Err}
+use Rattle.std.specs.FinMap as finmap
+use Rattle.std.specs.Map.{lookup}
+use Rattle.git_model.specs.declared.file_mode.FileMode.{FileMode}
+use Rattle.git_model.specs.declared.file_mode.FileMode.TheVariants as mode
+use Rattle.git_model.specs.declared.kind.Kind.{Kind}
+use Rattle.git_model.specs.declared.kind.Kind.TheVariants as kind
+use Rattle.git_model.specs.Content.{Content, content_from, name_by}
+use Rattle.git_model.specs.Peeling.{is_of}
+use Rattle.git_model.specs.Repository.{Object, object_named}
+use Rattle.tree_build.specs.declared.entry.Entry.{Entry}
+use Rattle.tree_build.specs.Edits.{files_at, moved, put_at, put_tree_at, without, copied, renamed, put_fault, move_fault}
+use Rattle.tree_build.specs.FileMap.{Path}
+use Rattle.tree_build.specs.StoredFiles.{stored_files}
+use Rattle.stream_grammar.specs.declared.data_ref.DataRef.{DataRef}
+use Rattle.stream_grammar.specs.declared.data_ref.DataRef.TheVariants as data_ref
+use Rattle.open_commits.specs.declared.fault.Fault.{Fault}
+use Rattle.open_commits.specs.declared.fault.Fault.TheVariants as fault
+use Rattle.open_commits.specs.Faults.{and_then, or_fault}
+use Rattle.open_commits.specs.OpenCommit.{OpenCommit}
+use Rattle.open_commits.specs.Storing.{stored}
+use Rattle.open_commits.specs.Parents.{changed_to}
+
+-- ---- what a change names
+
+-- Marks: each number that stands for an object, with the object's name.
+abbrev pub Marks : Type 0
+Marks = List (ℕ × List ℕ)
+
+-- The name that a mark stands for.
+abbrev pub marked_name : Marks → ℕ → Result (List ℕ) Fault
+marked_name marks mark = or_fault fault.MarkUnknown (lookup (nat_eq mark) marks)
+
+-- The name that a dataref stands for.
+abbrev pub referred_name : Marks → DataRef → Result (List ℕ) Fault
+referred_name marks (data_ref.Mark mark) = marked_name marks mark
+referred_name marks (data_ref.Name id) = Ok id
+
+-- An object must be there, and of a kind.
+abbrev pub held_as : List Object → Kind → List ℕ → Result (List ℕ) Fault
+held_as os wanted id =
+    and_then (or_fault fault.ObjectUnknown (object_named id os)) (λ _.
+    if is_of os wanted id then Ok id else Err fault.WrongKind)
+
+-- The object of a gitlink: a commit by its mark, or any name.
+abbrev pub link_of : List Object → Marks → DataRef → Result (List ℕ) Fault
+link_of os marks (data_ref.Mark mark) =
+    and_then (marked_name marks mark) (held_as os kind.Commit)
+link_of os marks (data_ref.Name id) = Ok id
+
+-- The tree of a directory, by its name alone: no mark stands for a tree.
+abbrev pub tree_of : List Object → Marks → DataRef → Result (List ℕ) Fault
+tree_of os marks (data_ref.Mark mark) =
+    and_then (marked_name marks mark) (λ _. Err fault.WrongKind)
+tree_of os marks (data_ref.Name id) = held_as os kind.Tree id
+
+-- The blob of a file, by its mark or its name.
+abbrev pub blob_of : List Object → Marks → DataRef → Result (List ℕ) Fault
+blob_of os marks object = and_then (referred_name marks object) (held_as os kind.Blob)
+
+-- ---- filemodify
+
+abbrev pub entry_of : FileMode → List ℕ → Entry
+entry_of mode id = record { mode = mode; name = id }
+
+-- A file at a path, in place of what stands there.
+abbrev pub file_put : Path → Entry → OpenCommit → Result OpenCommit Fault
+file_put path e commit = let after = put_at commit.files path e in
+    changed_to commit after (put_fault (moved path (([], e) ∷ [])) after)
+
+-- The files of a stored tree at and below a path, in place of what stands there. Those of the empty
+-- tree only take it away.
+abbrev pub tree_put : List Object → Path → List ℕ → OpenCommit → Result OpenCommit Fault
+tree_put os path tree commit = let files = stored_files os tree in
+    let after = put_tree_at commit.files path files in
+    changed_to commit after (put_fault (moved path files) after)
+
+-- 'M', by the mode: a directory is the files of its tree, and every other mode is a file.
+abbrev pub modified : List Object → Marks → FileMode → DataRef → Path → OpenCommit
+    → Result OpenCommit Fault
+modified os marks mode.Directory object path commit =
+    and_then (tree_of os marks object) (λ id. tree_put os path id commit)
+modified os marks mode.Gitlink object path commit =
+    and_then (link_of os marks object) (λ id. file_put path (entry_of mode.Gitlink id) commit)
+modified os marks file object path commit =
+    and_then (blob_of os marks object) (λ id. file_put path (entry_of file id) commit)
+
+-- What is left of a commit and of the objects where both may change.
+pub record Left : Type 0 where
+  pub commit : OpenCommit
+  pub objects : List Object
+
+abbrev pub left_with : List Object → OpenCommit → Left
+left_with os commit = record { commit = commit; objects = os }
+
+-- 'M' with 'inline', at its data: the file is put, and then its blob is stored.
+abbrev pub blob_put : (List ℕ → List ℕ) → List Object → FileMode → Path → Content → OpenCommit
+    → Result Left Fault
+blob_put digest os mode path blob commit =
+    and_then (file_put path (entry_of mode (name_by digest blob)) commit) (λ next.
+    and_then (stored digest blob os) (λ more. Ok (left_with more next)))
+
+-- A gitlink and a directory have no contents; the grammar lets none come.
+abbrev pub contents_put : (List ℕ → List ℕ) → List Object → FileMode → Path → List ℕ → OpenCommit
+    → Result Left Fault
+contents_put digest os mode.Directory path bytes commit = Err fault.WrongKind
+contents_put digest os mode.Gitlink path bytes commit = Err fault.WrongKind
+contents_put digest os file path bytes commit =
+    blob_put digest os file path (content_from kind.Blob bytes) commit
+
+-- ---- the others
+
+-- 'D': what stands at a path, or below it, goes. At the root that is all.
+abbrev pub deleted : Path → OpenCommit → OpenCommit
+deleted path commit = record commit { files = without commit.files path }
+
+-- 'C': the files at or below one path stand at another too, in place of what stands there.
+abbrev pub copied_to : Path → Path → OpenCommit → Result OpenCommit Fault
+copied_to source path commit = let after = copied commit.files source path in
+    changed_to commit after (move_fault (moved path (files_at commit.files source)) after)
+
+-- 'R': the same, and they go from the first.
+abbrev pub renamed_to : Path → Path → OpenCommit → Result OpenCommit Fault
+renamed_to source path commit = let after = renamed commit.files source path in
+    changed_to commit after (move_fault (moved path (files_at commit.files source)) after)
+
+-- 'deleteall'
+abbrev pub all_deleted : OpenCommit → OpenCommit
+all_deleted commit = record commit { files = finmap.empty }

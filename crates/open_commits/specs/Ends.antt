@@ -1,0 +1,39 @@
+-- The end of a commit: git-commit-tree(1).
+use Rattle.std.specs.Prelude.{ℕ, List, Result, Ok, unwrap_or}
+use Rattle.git_model.specs.declared.kind.Kind.TheVariants as kind
+use Rattle.git_model.specs.Commit.{Commit, commit_contents}
+use Rattle.git_model.specs.Content.{Content, content_from, name_by}
+use Rattle.git_model.specs.Repository.{Object}
+use Rattle.tree_build.specs.FileMap.{listed}
+use Rattle.tree_build.specs.Trees.{tree_id}
+use Rattle.open_commits.specs.declared.fault.Fault.{Fault}
+use Rattle.open_commits.specs.Faults.{and_then}
+use Rattle.open_commits.specs.OpenCommit.{OpenCommit}
+use Rattle.open_commits.specs.Storing.{stored, trees_stored}
+
+-- The commit of this tree that an open commit makes. Without an author its committer wrote it.
+abbrev pub commit_of : List ℕ → OpenCommit → Commit
+commit_of tree commit = record {
+  tree = tree;
+  parents = commit.parents;
+  author = unwrap_or commit.header.author commit.header.committer;
+  committer = commit.header.committer;
+  encoding = commit.header.encoding;
+  message = commit.message;
+}
+
+abbrev pub commit_content : (List ℕ → List ℕ) → OpenCommit → Content
+commit_content digest commit =
+    content_from kind.Commit (commit_contents (commit_of (tree_id digest (listed commit.files)) commit))
+
+-- The commit's name, and the objects then.
+pub record Closed : Type 0 where
+  pub id : List ℕ
+  pub objects : List Object
+
+-- At its end its trees are stored, children first, and then itself.
+abbrev pub closed : (List ℕ → List ℕ) → List Object → OpenCommit → Result Closed Fault
+closed digest os commit = let content = commit_content digest commit in
+    and_then (trees_stored digest (listed commit.files) os) (λ with_trees.
+    and_then (stored digest content with_trees) (λ more.
+    Ok (record { id = name_by digest content; objects = more })))

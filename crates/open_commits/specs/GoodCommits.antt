@@ -1,0 +1,38 @@
+-- Good open commits: git-fsck(1), the validity and the connectivity of the commit that one makes.
+use Rattle.std.specs.Prelude.{◌≡◌, ℕ, ◌≤◌, List, ◌++◌, length, All, Some, IfSome}
+use Rattle.std.specs.List.{AllByRecursion}
+use Rattle.git_model.specs.declared.kind.Kind.TheVariants as kind
+use Rattle.git_model.specs.Commit.{IsEncoding}
+use Rattle.git_model.specs.GoodRepository.{AreObjects, parents_limit}
+use Rattle.git_model.specs.Ident.{IsWrittenIdent}
+use Rattle.git_model.specs.References.{kind_named}
+use Rattle.git_model.specs.Repository.{Object}
+use Rattle.tree_build.specs.FileMap.{listed}
+use Rattle.tree_build.specs.HeldFiles.{IsHeld}
+use Rattle.open_commits.specs.OpenCommit.{Header, OpenCommit}
+
+-- What a header says can be written.
+pub record IsGoodHeader (header : Header) : Type 0 where
+  pub author : IfSome header.author IsWrittenIdent
+  pub committer : IsWrittenIdent header.committer
+  pub encoding : IfSome header.encoding IsEncoding
+
+-- An open commit is good among objects where its header can be written, where its parents are
+-- commits of the objects and not too many, and where the objects of its files are there. That its
+-- files are those of a branch is known of every value.
+pub record IsGoodCommit (os : List Object) (commit : OpenCommit) : Type 0 where
+  pub header : IsGoodHeader commit.header
+  pub parents : All (λ id. kind_named id os ≡ Some kind.Commit) commit.parents
+  pub few_parents : length commit.parents ≤ parents_limit
+  pub held : AllByRecursion (IsHeld os) (listed commit.files)
+
+-- Good objects with more after them.
+pub record GrowGood (digest : List ℕ → List ℕ) (os new : List Object) : Type 0 where
+  pub good : AreObjects digest new
+  pub more : List Object
+  pub are : new ≡ os ++ more
+
+-- The same, and the commit of this name is among them.
+pub record HoldsCommit (digest : List ℕ → List ℕ) (os new : List Object) (id : List ℕ) : Type 0 where
+  pub grows : GrowGood digest os new
+  pub commit : kind_named id new ≡ Some kind.Commit

@@ -1,0 +1,32 @@
+-- The parents of a commit: git-fast-import(1), "from" and "merge".
+use Rattle.std.specs.Prelude.{ℕ, nat_lt, if◌then◌else◌, List, [], ◌∷◌, ◌++◌, length, Option, None, Some, Result, Ok, Err}
+use Rattle.git_model.specs.GoodRepository.{parents_limit}
+use Rattle.git_model.specs.Repository.{Object}
+use Rattle.tree_build.specs.declared.fault.Fault.{Fault as FilesFault}
+use Rattle.tree_build.specs.FileMap.{FileMap}
+use Rattle.tree_build.specs.Edits.{put_fault}
+use Rattle.tree_build.specs.StoredFiles.{stored_files, tree_of_commit, commit_map}
+use Rattle.open_commits.specs.declared.fault.Fault.{Fault}
+use Rattle.open_commits.specs.declared.fault.Fault.TheVariants as fault
+use Rattle.open_commits.specs.Faults.{editing_fault}
+use Rattle.open_commits.specs.OpenCommit.{OpenCommit}
+
+-- The commit has these files then, unless they are refused.
+abbrev pub changed_to : OpenCommit → FileMap → Option FilesFault → Result OpenCommit Fault
+changed_to commit files None = Ok (record commit { files = files })
+changed_to commit files (Some refusal) = Err (editing_fault refusal)
+
+-- 'from': that commit is the first parent, and the files are those of its tree, which are within
+-- the limits of a branch.
+abbrev pub started_from : List Object → List ℕ → OpenCommit → Result OpenCommit Fault
+started_from os id commit =
+    changed_to (record commit { parents = id ∷ [] }) (commit_map os id)
+    (put_fault (stored_files os (tree_of_commit os id)) (commit_map os id))
+
+-- 'merge': that commit is one more parent, twice where it is given twice. The first one counts for
+-- the limit too.
+abbrev pub merged : List ℕ → OpenCommit → Result OpenCommit Fault
+merged id commit =
+    if nat_lt (length commit.parents) parents_limit
+    then Ok (record commit { parents = commit.parents ++ id ∷ [] })
+    else Err fault.Limit

@@ -1,0 +1,34 @@
+-- What stands at a path of an open commit: git-fast-import(1), "ls", with a path alone.
+use Rattle.std.specs.Prelude.{ℕ, List, Option, None, Some, Result, Ok}
+use Rattle.git_model.specs.declared.file_mode.FileMode.{FileMode}
+use Rattle.git_model.specs.declared.file_mode.FileMode.TheVariants as mode
+use Rattle.git_model.specs.Repository.{Object}
+use Rattle.tree_build.specs.declared.entry.Entry.{Entry}
+use Rattle.tree_build.specs.FileMap.{Path, FileMap}
+use Rattle.tree_build.specs.Edits.{files_at}
+use Rattle.tree_build.specs.Trees.{entry_at}
+use Rattle.open_commits.specs.declared.fault.Fault.{Fault}
+use Rattle.open_commits.specs.Faults.{and_then}
+use Rattle.open_commits.specs.Storing.{trees_stored}
+
+-- What is shown, and the objects then.
+pub record Shown : Type 0 where
+  pub entry : Option Entry
+  pub objects : List Object
+
+-- The trees of a directory are stored, children first.
+abbrev pub file_or_trees : (List ℕ → List ℕ) → List Object → FileMap → Path → FileMode
+    → Result (List Object) Fault
+file_or_trees digest os files path mode.Directory = trees_stored digest (files_at files path) os
+file_or_trees digest os files path file = Ok os
+
+abbrev pub found_shown : (List ℕ → List ℕ) → List Object → FileMap → Path → Option Entry
+    → Result Shown Fault
+found_shown digest os files path None = Ok (record { entry = None; objects = os })
+found_shown digest os files path (Some e) =
+    and_then (file_or_trees digest os files path e.mode) (λ more.
+    Ok (record { entry = Some e; objects = more }))
+
+abbrev pub entry_shown : (List ℕ → List ℕ) → List Object → FileMap → Path → Result Shown Fault
+entry_shown digest os files path =
+    found_shown digest os files path (entry_at digest files path)

@@ -1,0 +1,172 @@
+//! Changes of the files of an open commit: git-fast-import(1), "filemodify" to "filedeleteall".
+
+ghost use Rattle.std.specs.Prelude.{◌≡◌, ◌≢◌, None};
+ghost use Rattle.git_model.specs.declared.file_mode.FileMode.TheVariants as mode;
+ghost use Rattle.git_model.specs.GoodRepository.{AreObjects};
+ghost use Rattle.tenant_tables.specs.Objects.{objects};
+ghost use Rattle.tenant_tables.specs.StandsIn.{StandsIn};
+ghost use Rattle.tree_build.specs.Grafts.{tree_fault};
+ghost use Rattle.open_commits.specs.OpenCommit.{commit_shown};
+ghost use Rattle.open_commits.specs.Changes.{entry_of, modified, file_put, tree_put, deleted, copied_to, renamed_to, all_deleted};
+ghost use Rattle.open_commits.specs.Calls.{Changes};
+ghost use Rattle.std.specs.Prelude.{Ok};
+
+use crate::datarefs::{blob_of, link_of, tree_of};
+use crate::fault::Fault;
+use crate::open_commit::OpenCommit;
+use content_pool::Pool;
+use git_objects::{FileMode, Name, Naming};
+use git_paths::Path;
+use indexmap::IndexMap;
+use stream_grammar::{DataRef, Mark};
+use tenant_tables::Table;
+use tree_build::Entry;
+
+fn gitlink_to(name: Name) -> Entry
+    ensures { result ≡ entry_of mode.Gitlink name }
+{
+    Entry {
+        mode: FileMode::Gitlink,
+        name,
+    }
+}
+
+impl OpenCommit {
+    /// `M`: puts a file, a gitlink or a stored tree at a path, in place of what stands there, below
+    /// it, or on a prefix of it: git-fast-import(1), "filemodify".
+    ///
+    /// `Fault::MarkUnknown` (13), `Fault::ObjectUnknown` (14) or `Fault::WrongKind` (15) by what
+    /// the dataref names: a blob, for a gitlink a commit by its mark or any name, for a directory
+    /// a tree by its name. Then `Fault::RootNotDirectory` (20) for anything but a tree at the root,
+    /// and `Fault::Limit` (25) where a path would have more than 16,383 bytes or 256 components, or
+    /// there would be more than 1,048,576 files. Nothing has changed after these. After
+    /// `Fault::Memory` (90) the commit may only be dropped.
+    ///
+    /// The pool is the one that the table stands in.
+    pub fn modify<N: Naming>(
+        &mut self,
+        pool: &Pool<N>,
+        table: &Table,
+        marks: &IndexMap<Mark, Name>,
+        mode: FileMode,
+        object: DataRef,
+        path: &Path,
+    ) -> Result<(), Fault>
+        requires stands { StandsIn N.digest_of pool.now table.now.entries }
+        ensures { let os = objects pool.now table.now.entries in AreObjects N.digest_of os
+            → Changes (modified os marks.now.entries mode object path.now (commit_shown self.old))
+            (commit_shown self.old) (commit_shown self.new) result }
+    {
+        match mode {
+            FileMode::Directory => {
+                let tree = tree_of(pool, table, marks, object)?;
+                self.put_tree(pool, table, path, &tree)
+            }
+            FileMode::Gitlink => {
+                let name = link_of(pool, table, marks, object)?;
+                self.put_file(pool, table, path, gitlink_to(name))
+            }
+            _ => {
+                let name = blob_of(pool, table, marks, object)?;
+                self.put_file(pool, table, path, Entry { mode, name })
+            }
+        }
+    }
+
+    /// `D`: takes out what stands at a path, or below it; at the root, all. Where nothing stands
+    /// there, nothing changes: git-fast-import(1), "filedelete".
+    ///
+    /// `Fault::Memory` (90) alone; the commit may then only be dropped.
+    pub fn delete<N: Naming>(
+        &mut self,
+        pool: &Pool<N>,
+        table: &Table,
+        path: &Path,
+    ) -> Result<(), Fault>
+        requires stands { StandsIn N.digest_of pool.now table.now.entries }
+        ensures { Changes (Ok (deleted path.now (commit_shown self.old))) (commit_shown self.old)
+            (commit_shown self.new) result }
+    {
+        self.files.drop_path(pool, table, path)?;
+        Ok(())
+    }
+
+    /// `C`: puts the files at or below one path at another too, in place of what stands there:
+    /// git-fast-import(1), "filecopy".
+    ///
+    /// `Fault::SourceMissing` (18) where the source has no file, `Fault::RootNotDirectory` (20)
+    /// where a file would stand at the root, `Fault::Limit` (25) as in `modify`. Nothing has
+    /// changed after these. After `Fault::Memory` (90) the commit may only be dropped.
+    pub fn copy<N: Naming>(
+        &mut self,
+        pool: &Pool<N>,
+        table: &Table,
+        source: &Path,
+        path: &Path,
+    ) -> Result<(), Fault>
+        requires stands { StandsIn N.digest_of pool.now table.now.entries }
+        ensures { Changes (copied_to source.now path.now (commit_shown self.old))
+            (commit_shown self.old) (commit_shown self.new) result }
+    {
+        self.files.copy(pool, table, source, path)?;
+        Ok(())
+    }
+
+    /// `R`: as `copy`, and the files no longer stand at the source: git-fast-import(1),
+    /// "filerename".
+    pub fn rename<N: Naming>(
+        &mut self,
+        pool: &Pool<N>,
+        table: &Table,
+        source: &Path,
+        path: &Path,
+    ) -> Result<(), Fault>
+        requires stands { StandsIn N.digest_of pool.now table.now.entries }
+        ensures { Changes (renamed_to source.now path.now (commit_shown self.old))
+            (commit_shown self.old) (commit_shown self.new) result }
+    {
+        self.files.rename(pool, table, source, path)?;
+        Ok(())
+    }
+
+    /// `deleteall`: takes out all files. Takes no memory.
+    pub fn delete_all(&mut self)
+        ensures { commit_shown self.new ≡ all_deleted (commit_shown self.old) }
+    {
+        self.files.clear();
+    }
+
+    // Puts a file at a path, in place of what stands there.
+    pub(crate) fn put_file<N: Naming>(
+        &mut self,
+        pool: &Pool<N>,
+        table: &Table,
+        path: &Path,
+        entry: Entry,
+    ) -> Result<(), Fault>
+        requires file { entry.mode ≢ FileMode.Directory }
+        ensures { Changes (file_put path.now entry (commit_shown self.old)) (commit_shown self.old)
+            (commit_shown self.new) result }
+    {
+        self.files.put(pool, table, path, entry)?;
+        Ok(())
+    }
+
+    // Puts the files of a stored tree at and below a path, in place of what stands there.
+    pub(crate) fn put_tree<N: Naming>(
+        &mut self,
+        pool: &Pool<N>,
+        table: &Table,
+        path: &Path,
+        tree: &Name,
+    ) -> Result<(), Fault>
+        requires stands { StandsIn N.digest_of pool.now table.now.entries }
+        ensures { let os = objects pool.now table.now.entries in AreObjects N.digest_of os
+            → tree_fault os tree.now ≡ None
+            → Changes (tree_put os path.now tree.now (commit_shown self.old)) (commit_shown self.old)
+            (commit_shown self.new) result }
+    {
+        self.files.graft(pool, table, path, tree)?;
+        Ok(())
+    }
+}

@@ -1,0 +1,84 @@
+//! Files whose contents come with them: git-fast-import(1), "filemodify", with `inline`.
+
+ghost use Rattle.std.specs.Prelude.{◌≡◌, ◌≢◌, OnErr};
+ghost use Rattle.git_model.specs.Content.{content_from};
+ghost use Rattle.tenant_tables.specs.Lent.{Keeps, IsUnchanged};
+ghost use Rattle.tenant_tables.specs.Objects.{objects};
+ghost use Rattle.tenant_tables.specs.Room.{HasRoomBeside};
+ghost use Rattle.tenant_tables.specs.StandsIn.{StandsIn};
+ghost use Rattle.open_commits.specs.OpenCommit.{commit_shown};
+ghost use Rattle.open_commits.specs.Changes.{contents_put, blob_put, left_with};
+ghost use Rattle.open_commits.specs.Calls.{AddsOnly, Gives};
+
+use crate::fault::Fault;
+use crate::open_commit::OpenCommit;
+use crate::storing::store;
+use content_pool::Pool;
+use git_objects::{FileMode, Kind, Naming};
+use git_paths::Path;
+use tenant_tables::Table;
+use tree_build::Entry;
+
+impl OpenCommit {
+    /// `M` with `inline`, at its data: puts a file with these contents at a path, in place of what
+    /// stands there, below it, or on a prefix of it, and then stores its blob: git-fast-import(1),
+    /// "filemodify".
+    ///
+    /// `Fault::WrongKind` (15) for the mode of a gitlink or a directory, which have no contents;
+    /// `Fault::RootNotDirectory` (20) and `Fault::Limit` (25) for the file, as in `modify`; then
+    /// `Fault::Limit` (25) where the contents are longer than 134,217,728 bytes or the table is
+    /// full, else `Fault::NameCollision` (24) where the table has another object of the blob's
+    /// name. The pool and the table are as before after these and after `Fault::Memory` (90), and
+    /// the commit may only be dropped.
+    ///
+    /// The pool is the one that the table stands in, and nobody else holds a content 2^64 - 2
+    /// times.
+    pub fn put_contents<N: Naming>(
+        &mut self,
+        pool: &mut Pool<N>,
+        table: &mut Table,
+        mode: FileMode,
+        path: &Path,
+        contents: &[u8],
+    ) -> Result<(), Fault>
+        requires stands { StandsIn N.digest_of pool.old table.old.entries }
+        requires room { HasRoomBeside pool.old table.old.entries }
+        ensures keeps { Keeps N.digest_of pool.old table.old pool.new table.new }
+        ensures room { HasRoomBeside pool.new table.new.entries }
+        ensures adds { AddsOnly pool.old table.old pool.new table.new }
+        ensures done { Gives (contents_put N.digest_of (objects pool.old table.old.entries) mode
+            path.now contents.now (commit_shown self.old))
+            (λ _. left_with (objects pool.new table.new.entries) (commit_shown self.new)) result }
+        ensures same { OnErr result (IsUnchanged pool.old table.old pool.new table.new) }
+    {
+        match mode {
+            FileMode::Gitlink | FileMode::Directory => Err(Fault::WrongKind),
+            _ => self.put_blob(pool, table, mode, path, contents),
+        }
+    }
+
+    fn put_blob<N: Naming>(
+        &mut self,
+        pool: &mut Pool<N>,
+        table: &mut Table,
+        mode: FileMode,
+        path: &Path,
+        contents: &[u8],
+    ) -> Result<(), Fault>
+        requires stands { StandsIn N.digest_of pool.old table.old.entries }
+        requires room { HasRoomBeside pool.old table.old.entries }
+        requires file { mode ≢ FileMode.Directory }
+        ensures keeps { Keeps N.digest_of pool.old table.old pool.new table.new }
+        ensures room { HasRoomBeside pool.new table.new.entries }
+        ensures adds { AddsOnly pool.old table.old pool.new table.new }
+        ensures done { Gives (blob_put N.digest_of (objects pool.old table.old.entries) mode
+            path.now (content_from Kind.Blob contents.now) (commit_shown self.old))
+            (λ _. left_with (objects pool.new table.new.entries) (commit_shown self.new)) result }
+        ensures same { OnErr result (IsUnchanged pool.old table.old pool.new table.new) }
+    {
+        let name = pool.name_of(Kind::Blob, contents)?;
+        self.put_file(pool, table, path, Entry { mode, name })?;
+        store(pool, table, Kind::Blob, contents)?;
+        Ok(())
+    }
+}

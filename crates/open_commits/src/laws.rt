@@ -1,0 +1,95 @@
+//! Laws of open commits: functions over the definitions alone, which run nothing.
+
+ghost use Rattle.std.specs.Prelude.{◌≡◌, ℕ, List, ◌++◌, Ok, Some};
+ghost use Rattle.git_model.specs.declared.file_mode.FileMode.{FileMode};
+ghost use Rattle.git_model.specs.declared.kind.Kind.TheVariants as kind;
+ghost use Rattle.git_model.specs.GoodRepository.{AreObjects};
+ghost use Rattle.git_model.specs.References.{kind_named};
+ghost use Rattle.git_model.specs.Repository.{Object};
+ghost use Rattle.git_names.specs.Naming.{AnswersNames};
+ghost use Rattle.stream_grammar.specs.declared.data_ref.DataRef.{DataRef};
+ghost use Rattle.tree_build.specs.FileMap.{Path, AreFiles, listed};
+ghost use Rattle.open_commits.specs.OpenCommit.{Header, OpenCommit, begun};
+ghost use Rattle.open_commits.specs.Parents.{started_from, merged};
+ghost use Rattle.open_commits.specs.Changes.{Marks, Left, modified, contents_put, deleted, copied_to, renamed_to, all_deleted};
+ghost use Rattle.open_commits.specs.Showing.{Shown, entry_shown};
+ghost use Rattle.open_commits.specs.Ends.{Closed, closed};
+ghost use Rattle.open_commits.specs.GoodCommits.{IsGoodHeader, IsGoodCommit, GrowGood, HoldsCommit};
+
+/// A commit whose header can be written begins good.
+pub fn a_commit_begins_good()
+    ensures { (os : List Object) (header : Header) (message : List ℕ) → IsGoodHeader header
+        → IsGoodCommit os (begun header message) }
+{}
+
+/// It stays good while objects are added.
+pub fn more_objects_keep_it()
+    ensures { (os more : List Object) (commit : OpenCommit) → IsGoodCommit os commit
+        → IsGoodCommit (os ++ more) commit }
+{}
+
+/// It stays good where it starts from a commit of the objects.
+pub fn a_start_keeps_it()
+    ensures { (digest : List ℕ → List ℕ) (os : List Object) → AreObjects digest os
+        → (commit next : OpenCommit) → IsGoodCommit os commit → AreFiles (listed commit.files)
+        → (id : List ℕ) → kind_named id os ≡ Some kind.Commit
+        → started_from os id commit ≡ Ok next → IsGoodCommit os next }
+{}
+
+/// It stays good where it merges one.
+pub fn a_merge_keeps_it()
+    ensures { (os : List Object) (commit next : OpenCommit) → IsGoodCommit os commit
+        → (id : List ℕ) → kind_named id os ≡ Some kind.Commit
+        → merged id commit ≡ Ok next → IsGoodCommit os next }
+{}
+
+/// It stays good where an object is put at a path.
+pub fn a_change_keeps_it()
+    ensures { (digest : List ℕ → List ℕ) (os : List Object) → AreObjects digest os
+        → (commit next : OpenCommit) → IsGoodCommit os commit → AreFiles (listed commit.files)
+        → (marks : Marks) (mode : FileMode) (object : DataRef) (path : Path)
+        → modified os marks mode object path commit ≡ Ok next → IsGoodCommit os next }
+{}
+
+/// Where contents are put at a path, the objects stay good with their blob, and the commit among
+/// them.
+pub fn contents_keep_it()
+    ensures { (digest : List ℕ → List ℕ) → AnswersNames digest
+        → (os : List Object) → AreObjects digest os
+        → (commit : OpenCommit) → IsGoodCommit os commit → AreFiles (listed commit.files)
+        → (mode : FileMode) (path : Path) (bytes : List ℕ) (left : Left)
+        → contents_put digest os mode path bytes commit ≡ Ok left
+        → GrowGood digest os left.objects × IsGoodCommit left.objects left.commit }
+{}
+
+/// It stays good where files go, are copied or are renamed.
+pub fn moves_keep_it()
+    ensures deleted { (os : List Object) (commit : OpenCommit) → IsGoodCommit os commit
+        → AreFiles (listed commit.files) → (path : Path) → IsGoodCommit os (deleted path commit) }
+    ensures copied { (os : List Object) (commit next : OpenCommit) → IsGoodCommit os commit
+        → AreFiles (listed commit.files) → (source path : Path)
+        → copied_to source path commit ≡ Ok next → IsGoodCommit os next }
+    ensures renamed { (os : List Object) (commit next : OpenCommit) → IsGoodCommit os commit
+        → AreFiles (listed commit.files) → (source path : Path)
+        → renamed_to source path commit ≡ Ok next → IsGoodCommit os next }
+    ensures all_deleted { (os : List Object) (commit : OpenCommit) → IsGoodCommit os commit
+        → IsGoodCommit os (all_deleted commit) }
+{}
+
+/// The trees that `ls` stores keep good objects good.
+pub fn shown_trees_keep_objects_good()
+    ensures { (digest : List ℕ → List ℕ) → AnswersNames digest
+        → (os : List Object) → AreObjects digest os
+        → (commit : OpenCommit) → IsGoodCommit os commit → AreFiles (listed commit.files)
+        → (path : Path) (shown : Shown) → entry_shown digest os commit.files path ≡ Ok shown
+        → GrowGood digest os shown.objects }
+{}
+
+/// At its end a good commit adds good objects, itself the last of them or found.
+pub fn an_end_keeps_objects_good()
+    ensures { (digest : List ℕ → List ℕ) → AnswersNames digest
+        → (os : List Object) → AreObjects digest os
+        → (commit : OpenCommit) → IsGoodCommit os commit → AreFiles (listed commit.files)
+        → (end : Closed) → closed digest os commit ≡ Ok end
+        → HoldsCommit digest os end.objects end.id }
+{}

@@ -1,0 +1,104 @@
+//! The parents of an open commit: git-fast-import(1), "from" and "merge".
+
+ghost use Rattle.std.specs.Prelude.{◌≡◌, None, Some, MatchResult};
+ghost use Rattle.git_model.specs.declared.kind.Kind.TheVariants as kind;
+ghost use Rattle.git_model.specs.Commit.{Commit, CanWriteCommit, commit_contents};
+ghost use Rattle.git_model.specs.CommitReading.{commit_read};
+ghost use Rattle.git_model.specs.GoodRepository.{AreObjects};
+ghost use Rattle.git_model.specs.References.{kind_named};
+ghost use Rattle.tenant_tables.specs.Objects.{objects};
+ghost use Rattle.tenant_tables.specs.StandsIn.{StandsIn};
+ghost use Rattle.tree_build.specs.Grafts.{tree_fault};
+ghost use Rattle.tree_build.specs.StoredFiles.{tree_of_commit};
+ghost use Rattle.open_commits.specs.OpenCommit.{commit_shown};
+ghost use Rattle.open_commits.specs.Parents.{started_from, merged};
+ghost use Rattle.open_commits.specs.Calls.{Changes};
+
+use crate::fault::Fault;
+use crate::open_commit::OpenCommit;
+use content_pool::Pool;
+use git_objects::{Name, Naming, read_commit};
+use git_paths::Path;
+use objects_in_sight::Objects;
+use std::alloc::Global;
+use tenant_tables::{Sight, Table};
+
+/// How many parents a commit may have.
+pub const PARENTS_LIMIT: usize = 1024;
+
+// The name of the tree that a commit's contents give.
+fn tree_in(alloc: Global, contents: &[u8]) -> Result<Name, Fault>
+    ensures { (c : Commit) → CanWriteCommit c → contents.now ≡ commit_contents c
+        → MatchResult result (λ tree. tree ≡ (commit_read contents.now).tree)
+        (λ fault. fault ≡ Fault.Memory) }
+{
+    match read_commit(alloc, contents)? {
+        Some(parts) => Ok(parts.tree),
+        None => Err(Fault::WrongKind),
+    }
+}
+
+// The name of the tree of a commit of the table.
+fn tree_of_commit<N: Naming>(
+    alloc: Global,
+    pool: &Pool<N>,
+    table: &Table,
+    id: &Name,
+) -> Result<Name, Fault>
+    requires stands { StandsIn N.digest_of pool.now table.now.entries }
+    ensures { let os = objects pool.now table.now.entries in AreObjects N.digest_of os
+        → kind_named id.now os ≡ Some kind.Commit
+        → MatchResult result
+        (λ tree. (tree ≡ tree_of_commit os id.now) × (tree_fault os tree ≡ None))
+        (λ fault. fault ≡ Fault.Memory) }
+{
+    match Objects::of(pool, table, Sight::All).get(id) {
+        Some((_, contents)) => tree_in(alloc, contents),
+        None => Err(Fault::ObjectUnknown),
+    }
+}
+
+impl OpenCommit {
+    /// `from`: that commit is the first parent, and the only one so far; the files are those of its
+    /// tree: git-fast-import(1), "from".
+    ///
+    /// The name is that of a commit of the table. `Fault::Limit` (25) where its files are past the
+    /// limits of `modify`, which no commit's are that was made here; nothing has changed then.
+    /// After `Fault::Memory` (90) the commit may only be dropped.
+    ///
+    /// The pool is the one that the table stands in.
+    pub fn start_from<N: Naming>(
+        &mut self,
+        pool: &Pool<N>,
+        table: &Table,
+        id: Name,
+    ) -> Result<(), Fault>
+        requires stands { StandsIn N.digest_of pool.now table.now.entries }
+        ensures { let os = objects pool.now table.now.entries in AreObjects N.digest_of os
+            → kind_named id os ≡ Some kind.Commit
+            → Changes (started_from os id (commit_shown self.old)) (commit_shown self.old)
+            (commit_shown self.new) result }
+    {
+        let tree = tree_of_commit(self.alloc, pool, table, &id)?;
+        self.put_tree(pool, table, &Path::root(self.alloc), &tree)?;
+        self.parents.clear();
+        self.parents.push(id)?;
+        Ok(())
+    }
+
+    /// `merge`: that commit is one more parent, twice where it is given twice: git-fast-import(1),
+    /// "merge".
+    ///
+    /// `Fault::Limit` (25) where there are 1,024 parents, the first one counted; nothing has
+    /// changed then. After `Fault::Memory` (90) the commit may only be dropped.
+    pub fn merge(&mut self, id: Name) -> Result<(), Fault>
+        ensures { Changes (merged id (commit_shown self.old)) (commit_shown self.old)
+            (commit_shown self.new) result }
+    {
+        if self.parents.len() >= PARENTS_LIMIT {
+            return Err(Fault::Limit);
+        }
+        self.parents.push(id)?;
+        Ok(())
+    }
+}

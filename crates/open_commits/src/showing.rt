@@ -1,0 +1,80 @@
+//! What stands at a path of an open commit: git-fast-import(1), "ls".
+
+ghost use Rattle.std.specs.Prelude.{◌≡◌};
+ghost use Rattle.tenant_tables.specs.Lent.{Keeps};
+ghost use Rattle.tenant_tables.specs.Objects.{objects};
+ghost use Rattle.tenant_tables.specs.Room.{HasRoomBeside};
+ghost use Rattle.tenant_tables.specs.StandsIn.{StandsIn};
+ghost use Rattle.open_commits.specs.OpenCommit.{commit_shown};
+ghost use Rattle.open_commits.specs.Showing.{entry_shown, file_or_trees};
+ghost use Rattle.open_commits.specs.Calls.{AddsOnly, Gives};
+
+use crate::fault::Fault;
+use crate::open_commit::OpenCommit;
+use content_pool::Pool;
+use git_objects::{FileMode, Naming};
+use git_paths::Path;
+use tenant_tables::Table;
+use tree_build::Entry;
+
+impl OpenCommit {
+    /// `ls` with a path alone: what stands there, if anything; the root is always a directory. The
+    /// trees of a directory are stored, children first, and stay stored though the commit changes
+    /// later: git-fast-import(1), "ls".
+    ///
+    /// `Fault::Limit` (25), else `Fault::NameCollision` (24) by the first tree that is refused; the
+    /// trees before it then stand after the committed objects. `Fault::Memory` (90). The commit is
+    /// unchanged in any case.
+    ///
+    /// The pool is the one that the table stands in, and nobody else holds a content 2^64 - 2
+    /// times.
+    pub fn show_entry<N: Naming>(
+        &mut self,
+        pool: &mut Pool<N>,
+        table: &mut Table,
+        path: &Path,
+    ) -> Result<Option<Entry>, Fault>
+        requires stands { StandsIn N.digest_of pool.old table.old.entries }
+        requires room { HasRoomBeside pool.old table.old.entries }
+        ensures keeps { Keeps N.digest_of pool.old table.old pool.new table.new }
+        ensures room { HasRoomBeside pool.new table.new.entries }
+        ensures adds { AddsOnly pool.old table.old pool.new table.new }
+        ensures done { Gives (entry_shown N.digest_of (objects pool.old table.old.entries)
+            (commit_shown self.old).files path.now)
+            (λ entry. record { entry = entry; objects = objects pool.new table.new.entries }) result }
+        ensures commit { commit_shown self.new ≡ commit_shown self.old }
+    {
+        let entry = self.files.entry(pool, table, path)?;
+        if let Some(found) = &entry {
+            self.store_directory(pool, table, path, found.mode)?;
+        }
+        Ok(entry)
+    }
+
+    // Stores the trees at and below a path, where this mode says that a directory stands there.
+    fn store_directory<N: Naming>(
+        &mut self,
+        pool: &mut Pool<N>,
+        table: &mut Table,
+        path: &Path,
+        mode: FileMode,
+    ) -> Result<(), Fault>
+        requires stands { StandsIn N.digest_of pool.old table.old.entries }
+        requires room { HasRoomBeside pool.old table.old.entries }
+        ensures keeps { Keeps N.digest_of pool.old table.old pool.new table.new }
+        ensures room { HasRoomBeside pool.new table.new.entries }
+        ensures adds { AddsOnly pool.old table.old pool.new table.new }
+        ensures done { Gives (file_or_trees N.digest_of (objects pool.old table.old.entries)
+            (commit_shown self.old).files path.now mode)
+            (λ _. objects pool.new table.new.entries) result }
+        ensures commit { commit_shown self.new ≡ commit_shown self.old }
+    {
+        match mode {
+            FileMode::Directory => {
+                self.files.store(pool, table, path)?;
+                Ok(())
+            }
+            _ => Ok(()),
+        }
+    }
+}
