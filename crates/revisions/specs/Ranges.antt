@@ -5,12 +5,10 @@ use Rattle.git_model.specs.RefStore.{RefStore}
 use Rattle.git_model.specs.Repository.{Object}
 use Rattle.git_model.specs.Reach.{reaches}
 use Rattle.revisions.specs.declared.fault.Fault.{Fault}
-use Rattle.revisions.specs.declared.fault.Fault.TheVariants as fault
-use Rattle.revisions.specs.Faults.{and_then, or_fault}
+use Rattle.revisions.specs.Faults.{and_then}
 use Rattle.revisions.specs.declared.commit_range.Range.{Range}
 use Rattle.revisions.specs.declared.commit_range.Range.TheVariants.{From, Between, Either}
 use Rattle.revisions.specs.Expressions.{Expression}
-use Rattle.revisions.specs.ExpressionReading.{range_of}
 use Rattle.revisions.specs.Resolution.{named_by, peeled}
 
 -- Each side of a range is peeled to a commit.
@@ -32,11 +30,6 @@ range_named os store (Between old tip) =
     and_then (both_named os store old tip) (λ ids. Ok (Between ids.0 ids.1))
 range_named os store (Either left right) =
     and_then (both_named os store left right) (λ ids. Ok (Either ids.0 ids.1))
-
--- The same of a text. That a side is malformed comes before anything is looked up.
-abbrev pub range_resolved : List Object → RefStore → List ℕ → Result (Range (List ℕ)) Fault
-range_resolved os store text =
-    and_then (or_fault fault.Malformed (range_of text)) (range_named os store)
 
 -- Whether one commit is reachable from the first of two and not from the second.
 abbrev pub reaches_without : List Object → List ℕ → List ℕ → List ℕ → Bool

@@ -23,7 +23,7 @@ pub use expression::Expression;
 pub use fault::Fault;
 pub use objects_in_sight::Objects;
 pub use peeling::{peel, peel_tags};
-pub use range_log::range;
+pub use range_log::{range, resolve_range};
 pub use range_reading::read_range;
 pub use resolving::{resolve, resolve_commit, resolve_expression};
 pub use stored_path::entry_below;

@@ -1,13 +1,14 @@
 //! The commits of a range: gitrevisions(7), "Specifying Ranges".
 
-ghost use Rattle.std.specs.Prelude.{◌≡◌, ◌&&◌, ◌||◌, not, map, zip, IfOk};
+ghost use Rattle.std.specs.Prelude.{◌≡◌, ◌&&◌, ◌||◌, not, true, map, zip, All, IfOk};
 ghost use Rattle.git_model.specs.GoodRepository.{AreObjects};
+ghost use Rattle.git_model.specs.Peeling.{is_of};
 ghost use Rattle.tenant_tables.specs.Objects.{objects};
 ghost use Rattle.tenant_tables.specs.StandsIn.{StandsIn};
 ghost use Rattle.tenant_tables.specs.View.{in_sight};
 ghost use Rattle.revisions.specs.Faults.{Gives, GivesBy};
 ghost use Rattle.revisions.specs.Ranges.{both_named, range_named, reaches_without, is_in_range};
-ghost use Rattle.revisions.specs.Logs.{range_log};
+ghost use Rattle.revisions.specs.Logs.{named_log, range_log};
 
 use crate::commit_range::Range;
 use crate::expression::Expression;
@@ -16,21 +17,17 @@ use crate::range_reading::read_range;
 use crate::resolving::resolve_commit;
 use commit_reach::{log_of, reached_from};
 use content_pool::Pool;
-use git_objects::{Memory, Name, Naming};
+use git_objects::{Kind, Memory, Name, Naming};
 use objects_in_sight::Objects;
 use std::alloc::Global;
 use tenant_refs::Refs;
 use tenant_tables::{Sight, Table};
 
-/// The commits of the range that a text is, among the objects of a table that are in sight: by the
-/// committer's time from new to old, and of one time by rising name.
+/// The commits of the range that a text is, among the objects of a table that are in sight:
+/// `read_range`, and then `resolve_range`.
 ///
-/// `Fault::Malformed` (3), of either side, comes before anything is looked up; then the left side
-/// is decided wholly before the right, with the refusals of `resolve_commit`. An empty side is
-/// HEAD. Takes memory for the walks and the list; `Fault::Memory` (90) where there is none.
-///
-/// The pool is the one that the table stands in. The answer is that of gitrevisions(7) where the
-/// objects in sight are good (AreObjects of git_model). Nothing changes.
+/// `Fault::Malformed` (3), of either side, comes before anything is looked up; the other refusals
+/// are those of `resolve_range`. The pool is the one that the table stands in. Nothing changes.
 pub fn range<N: Naming>(
     alloc: Global,
     pool: &Pool<N>,
@@ -45,9 +42,29 @@ pub fn range<N: Naming>(
 {
     let range = read_range(alloc, text)?;
     let objects = Objects::of(pool, table, sight);
-    let range = range_named(alloc, &objects, refs, &range)?;
-    let flags = flags_of(alloc, &objects, &range)?;
-    let ids = log_of(alloc, &objects, &flags)?;
+    resolve_range(alloc, &objects, refs, &range)
+}
+
+/// The commits of a range, among the objects in sight and with these refs: by the committer's time
+/// from new to old, and of one time by rising name.
+///
+/// The left side is decided wholly before the right, with the refusals of `resolve_commit`. Takes
+/// memory for the walks and the list; `Fault::Memory` (90) where there is none. The answer is that
+/// of gitrevisions(7) where the objects in sight are good (AreObjects of git_model).
+pub fn resolve_range<N: Naming>(
+    alloc: Global,
+    objects: &Objects<'_, N>,
+    refs: &Refs,
+    range: &Range<Expression<'_>>,
+) -> Result<Vec<Name>, Fault>
+    ensures log { AreObjects N.digest_of objects.now → GivesBy (λ ids. ids.items) result
+        (named_log objects.now refs.now range.now) }
+    ensures commits { AreObjects N.digest_of objects.now
+        → IfOk result (λ ids. All (λ id. is_of objects.now Kind.Commit id ≡ true) ids.items) }
+{
+    let range = range_named(alloc, objects, refs, range)?;
+    let flags = flags_of(alloc, objects, &range)?;
+    let ids = log_of(alloc, objects, &flags)?;
     Ok(ids)
 }
 

@@ -6,6 +6,7 @@ use crate::made_by_git::{
     BLOB_TAG_TEXT, FIRST, FIRST_TEXT, FIRST_TREE, GONE, HELLO, LATE_TEXT, MERGE_TEXT, SECOND_TEXT,
     SECOND_TREE, THIRD_TEXT, V1_TEXT, VERSION, VV_TEXT,
 };
+use answers::answer;
 use content_pool::Pool;
 use git_objects::{FileMode, Kind, Name, Naming, Sha1Naming};
 use git_paths::Path;
@@ -31,6 +32,17 @@ pub struct Case {
     pub texts: &'static [Named],
 }
 
+/// A query, and what it prints, or a refusal by its number.
+pub type Printed = (&'static [u8], Result<&'static [u8], u16>);
+
+/// What queries print over the history with these refs, and perhaps with the object after the
+/// committed prefix committed too.
+pub struct Queries {
+    pub refs: &'static [Held],
+    pub is_late_committed: bool,
+    pub printed: &'static [Printed],
+}
+
 // What is put into the history: an object that is no tree; a file or a gitlink; the tree of all
 // that was put so far, with the name that Git gives it; the end of the committed prefix.
 #[derive(Clone, Copy)]
@@ -48,6 +60,9 @@ pub enum Added {
     Commit,
     Tag,
 }
+
+// What stands before an answer.
+const ASKED: &[u8] = b"asked: ";
 
 const STEPS: &[Step] = &[
     Step::Add(Added::Blob, b"hello\n"),
@@ -87,6 +102,12 @@ pub fn first_wrong(alloc: Global, case: &Case) -> Result<Option<usize>, Fail> {
     history.first_wrong(case)
 }
 
+/// The first query, by its position, that prints something else.
+pub fn first_wrong_answer(alloc: Global, queries: &Queries) -> Result<Option<usize>, Fail> {
+    let mut history = History::new(alloc, Sha1Naming);
+    history.first_wrong_answer(queries)
+}
+
 /// Whether a text names what the first of these refs holds, and, where that is taken out, the
 /// second, and so on, and nothing at the end.
 pub fn is_order(alloc: Global, held: &[Held], text: &[u8]) -> Result<bool, Fail> {
@@ -116,6 +137,21 @@ fn is_wanted(answer: Result<Name, Fault>, names: Result<&[u8; 40], u16>) -> Resu
         (Err(Fault::Memory), _) => Err(Fail::from(Fault::Memory)),
         (Ok(id), Ok(digits)) => Ok(id.to_hex().as_slice() == digits.as_slice()),
         (Err(fault), Err(code)) => Ok(fault.code() == code),
+        _ => Ok(false),
+    }
+}
+
+// Whether an answer after `asked` is the one that is wanted, and nothing stands there after a
+// refusal. Want of memory ends a test.
+fn is_printed(
+    answer: Result<(), answers::Fault>,
+    out: &[u8],
+    printed: Result<&[u8], u16>,
+) -> Result<bool, Fail> {
+    match (answer, printed) {
+        (Err(answers::Fault::Memory), _) => Err(Fail::from(answers::Fault::Memory)),
+        (Ok(()), Ok(text)) => Ok(out.strip_prefix(ASKED) == Some(text)),
+        (Err(fault), Err(code)) => Ok(fault.code() == code && out == ASKED),
         _ => Ok(false),
     }
 }
@@ -170,6 +206,32 @@ impl<N: Naming> History<N> {
             }
         }
         Ok(None)
+    }
+
+    fn first_wrong_answer(&mut self, queries: &Queries) -> Result<Option<usize>, Fail> {
+        self.fill(STEPS)?;
+        if queries.is_late_committed {
+            self.table.commit();
+        }
+        let mut refs = Refs::new(self.alloc);
+        set_all(&mut refs, self.alloc, queries.refs)?;
+        self.first_wrong_printed(&refs, queries.printed)
+    }
+
+    fn first_wrong_printed(&self, refs: &Refs, all: &[Printed]) -> Result<Option<usize>, Fail> {
+        for (position, (text, printed)) in all.iter().enumerate() {
+            if !self.prints(refs, text, *printed)? {
+                return Ok(Some(position));
+            }
+        }
+        Ok(None)
+    }
+
+    fn prints(&self, refs: &Refs, text: &[u8], printed: Result<&[u8], u16>) -> Result<bool, Fail> {
+        let mut out = Vec::new(self.alloc);
+        out.extend_from_slice(ASKED)?;
+        let answer = answer(self.alloc, &self.pool, &self.table, refs, text, &mut out);
+        is_printed(answer, &out, printed)
     }
 
     fn is_order(&mut self, held: &[Held], text: &[u8]) -> Result<bool, Fail> {

@@ -1,4 +1,4 @@
-//! Tests of `revisions`, beside what `git rev-parse` answers over the same objects.
+//! Tests of `revisions` and `answers`, beside what Git's commands print over the same objects.
 #![tactic(auto)]
 
 #[cfg(test)]
@@ -9,3 +9,5 @@ mod history;
 mod logs;
 #[cfg(test)]
 mod made_by_git;
+#[cfg(test)]
+mod queries;

@@ -1,0 +1,3 @@
+pub mod Fronts
+pub mod Kept
+mod QueryExamples

@@ -1,0 +1,34 @@
+-- Queries, and texts that are none.
+use Rattle.std.specs.Prelude.{◌≡◌, [], Ok, Err, refl, codes}
+use Rattle.revisions.specs.ExpressionReading.{count_of, braced, after_caret, suffix_of, with_byte, expression_of, parted, dotted}
+use Rattle.answers.specs.declared.query.Query.TheVariants.{RevParse, Refs}
+use Rattle.answers.specs.declared.fault.Fault.TheVariants as fault
+use Rattle.answers.specs.Queries.{word_of, query_of}
+
+of_a_revision : query_of (codes "rev-parse @") ≡ Ok (RevParse (record { base = codes "@"; suffixes = [] }))
+unfolding query_of word_of expression_of suffix_of after_caret braced count_of with_byte
+of_a_revision = refl
+
+alone : query_of (codes "refs") ≡ Ok Refs
+unfolding query_of word_of
+alone = refl
+
+nothing : query_of [] ≡ Err fault.UnknownQuery
+unfolding query_of word_of
+nothing = refl
+
+a_line_end : query_of (codes "refs\n") ≡ Err fault.UnknownQuery
+unfolding query_of word_of
+a_line_end = refl
+
+a_space_after : query_of (codes "refs ") ≡ Err fault.MalformedQuery
+unfolding query_of word_of
+a_space_after = refl
+
+no_space : query_of (codes "rev-parse") ≡ Err fault.MalformedQuery
+unfolding query_of word_of
+no_space = refl
+
+no_expression : query_of (codes "rev-parse ") ≡ Err fault.MalformedQuery
+unfolding query_of word_of expression_of suffix_of after_caret braced count_of with_byte
+no_expression = refl

@@ -1,0 +1,16 @@
+use Rattle.std.proofs.Common.{sym, ap, ◌∙◌, ◌++◌, take, length}
+use Rattle.git_model.specs.RefStore.{listed_refs}
+use Rattle.git_objects.proofs.Kept.{kept_front}
+use Rattle.answers.specs.Printed.{ref_line}
+use Rattle.answers.proofs.Kept.{one_more}
+use Rattle.answers.proofs.ref_printing.append_refs.Goals as goal
+
+pub returns-in_err-append_ref-clause-kept : goal.returns-in_err-append_ref-clause-kept
+returns-in_err-append_ref-clause-kept c =
+    kept_front c.args.out.now.items c.loop-position.out.items c.append_ref.new.out.items _ c.loop-position.invariant c.in_err-append_ref.ensures.kept
+
+pub loop-position-preserved : goal.loop-position-preserved
+loop-position-preserved c =
+    one_more ref_line c.args.out.now.items c.loop-position.out.items c.append_ref.new.out.items
+    (listed_refs c.args.refs.now) c.loop-position.position (c.in-Some.entry.0.now, c.in-Some.entry.1)
+    c.in-Some.ensures.entry c.loop-position.invariant c.in_ok-append_ref.ensures.written

@@ -1,0 +1,50 @@
+-- Faults: the number of each refusal, and how one is passed on.
+use Rattle.std.specs.Prelude.{◌≡◌, ◌≢◌, ℕ, List, ◌++◌, Option, None, Some, Result, Ok, Err}
+use Rattle.revisions.specs.declared.fault.Fault.{Fault as RevisionFault}
+use Rattle.revisions.specs.declared.fault.Fault.TheVariants as revision_fault
+use Rattle.answers.specs.declared.fault.Fault.{Fault}
+use Rattle.answers.specs.declared.fault.Fault.TheVariants as fault
+
+-- The number of a fault.
+abbrev pub code_of : Fault → ℕ
+code_of fault.WrongKind = 15
+code_of fault.UnknownRevision = 16
+code_of fault.Ambiguous = 17
+code_of fault.UnknownQuery = 40
+code_of fault.MalformedQuery = 41
+code_of fault.Memory = 90
+
+-- What comes after a step that may be refused.
+abbrev pub and_then : {A B : Type 0} → Result A Fault → (A → Result B Fault) → Result B Fault
+and_then (Ok value) next = next value
+and_then (Err e) next = Err e
+
+-- What must be there, or else this fault.
+abbrev pub or_fault : {A : Type 0} → Fault → Option A → Result A Fault
+or_fault e None = Err e
+or_fault e (Some value) = Ok value
+
+-- What refuses an expression. A malformed one makes a malformed query.
+abbrev pub resolving_fault : RevisionFault → Fault
+resolving_fault revision_fault.Malformed = fault.MalformedQuery
+resolving_fault revision_fault.WrongKind = fault.WrongKind
+resolving_fault revision_fault.UnknownRevision = fault.UnknownRevision
+resolving_fault revision_fault.Ambiguous = fault.Ambiguous
+resolving_fault revision_fault.Memory = fault.Memory
+
+abbrev pub resolved_or : {A : Type 0} → Result A RevisionFault → Result A Fault
+resolved_or (Ok value) = Ok value
+resolved_or (Err e) = Err (resolving_fault e)
+
+-- What a call answers is what is defined; out of memory may stand in its place.
+abbrev pub Gives : {A : Type 0} → Result A Fault → Result A Fault → Type 0
+Gives (Ok value) defined = defined ≡ Ok value
+Gives (Err e) defined = e ≢ fault.Memory → defined ≡ Err e
+
+-- The text that is defined was appended; or what refuses it was answered. Out of memory may stand
+-- in place of either.
+abbrev pub Prints : Result (List ℕ) Fault → List ℕ → List ℕ → Result Unit Fault → Type 0
+Prints (Ok text) old new (Ok u) = new ≡ old ++ text
+Prints (Ok text) old new (Err e) = e ≡ fault.Memory
+Prints (Err refusal) old new (Ok u) = ⊥
+Prints (Err refusal) old new (Err e) = e ≢ fault.Memory → e ≡ refusal

@@ -1,0 +1,69 @@
+-- What is printed of objects and refs: git-rev-parse(1), git-cat-file(1), git-ls-tree(1),
+-- git-log(1), git-show-ref(1).
+use Rattle.std.specs.Prelude.{ℕ, ◌||◌, not, Bool, List, ◌++◌, length, map, take, find, unwrap_or, codes, decimal}
+use Rattle.std.specs.List.{flat_map, list_all, range_with_len}
+use Rattle.std.specs.Str.{bytes_eq}
+use Rattle.hex.specs.Hex.{encode_lower}
+use Rattle.git_model.specs.Kind.{kind_word}
+use Rattle.git_model.specs.CommitReading.{commit_read, first_line}
+use Rattle.git_model.specs.Content.{Content}
+use Rattle.git_model.specs.RefStore.{RefStore, listed_refs}
+use Rattle.git_model.specs.Repository.{Object}
+use Rattle.git_model.specs.References.{content_named}
+use Rattle.git_model.specs.StoredPath.{entries_of}
+use Rattle.git_model.specs.Tree.{TreeEntry}
+use Rattle.git_objects.specs.Listing.{listing}
+use Rattle.tenant_tables.specs.Abbreviation.{begins}
+
+-- A line with its line end.
+abbrev pub line : List ℕ → List ℕ
+line text = text ++ codes "\n"
+
+-- ---- rev-parse, abbrev
+
+abbrev pub name_line : List ℕ → List ℕ
+name_line id = line (encode_lower id)
+
+-- Whether digits begin no other name of these objects than this one.
+abbrev pub begins_no_other : List Object → List ℕ → List ℕ → Bool
+begins_no_other os id front = list_all (λ o. bytes_eq o.id id || not (begins front o.id)) os
+
+-- The shortest front of a name, of 4 to 40 digits, that begins no other: with all 40 it begins
+-- none.
+unfoldable pub shortest_front : List Object → List ℕ → List ℕ
+shortest_front os id = let digits = encode_lower id in
+    let fronts = map (λ n. take n digits) (range_with_len 4 37) in
+    unwrap_or (find (begins_no_other os id) fronts) digits
+
+-- ---- cat, ls, log, refs
+
+-- <name> SP <kind> SP <size> LF <contents> LF
+abbrev pub content_text : List ℕ → Content → List ℕ
+content_text id content =
+    line (encode_lower id ++ codes " " ++ kind_word content.kind ++ codes " "
+    ++ decimal (length content.bytes)) ++ line content.bytes
+
+abbrev pub object_text : List Object → List ℕ → List ℕ
+object_text os id = content_text id (content_named id os)
+
+-- Each direct entry of a tree, in its order, under its own name.
+abbrev pub entry_line : TreeEntry → List ℕ
+entry_line e = line (listing e.mode e.id e.name)
+
+abbrev pub tree_lines : List Object → List ℕ → List ℕ
+tree_lines os tree = flat_map entry_line (entries_of os tree)
+
+-- <name> SP <first line of the message> LF, for each commit.
+abbrev pub log_line : List Object → List ℕ → List ℕ
+log_line os id =
+    line (encode_lower id ++ codes " " ++ first_line (commit_read (content_named id os).bytes))
+
+abbrev pub log_lines : List Object → List (List ℕ) → List ℕ
+log_lines os ids = flat_map (log_line os) ids
+
+-- <name> SP <ref> LF, for each ref in the order of their bytes.
+abbrev pub ref_line : (List ℕ × List ℕ) → List ℕ
+ref_line ref = line (encode_lower ref.1 ++ codes " " ++ ref.0)
+
+abbrev pub ref_lines : RefStore → List ℕ
+ref_lines store = flat_map ref_line (listed_refs store)

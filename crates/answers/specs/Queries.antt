@@ -1,0 +1,69 @@
+-- Queries: a word and perhaps, after a space, what it asks of; git-rev-parse(1), git-cat-file(1),
+-- git-ls-tree(1), git-log(1), git-show-ref(1).
+use Rattle.std.specs.Prelude.{ℕ, ◌+◌, ◌==◌, nat_lt, Bool, if◌then◌else◌, List, length, drop, position, Option, None, Some, Result, Err, codes}
+use Rattle.std.specs.Option.{option_map}
+use Rattle.std.specs.List.{before_first}
+use Rattle.std.specs.Str.{bytes_eq}
+use Rattle.revisions.specs.declared.commit_range.Range.{Range}
+use Rattle.revisions.specs.Expressions.{Expression}
+use Rattle.revisions.specs.ExpressionReading.{expression_of, range_of}
+use Rattle.answers.specs.declared.query.Query.{Query}
+use Rattle.answers.specs.declared.query.Query.TheVariants.{RevParse, Abbrev, Cat, Ls, Log, Refs, Head}
+use Rattle.answers.specs.declared.query.Word.{Word}
+use Rattle.answers.specs.declared.query.Word.TheVariants as words
+use Rattle.answers.specs.declared.fault.Fault.{Fault}
+use Rattle.answers.specs.declared.fault.Fault.TheVariants as fault
+use Rattle.answers.specs.Faults.{and_then, or_fault}
+
+-- A query has at most so many bytes.
+abbrev pub query_limit : ℕ
+query_limit = 8192
+
+-- What a query asks of stands after its first space, where it has one.
+abbrev pub is_space : ℕ → Bool
+is_space byte = byte == 32
+
+abbrev pub after_space : List ℕ → Option (List ℕ)
+after_space text = option_map (λ i. drop (i + 1) text) (position is_space text)
+
+-- A query begins with one of these words, compared whole.
+unfoldable pub word_of : List ℕ → Option Word
+word_of word =
+    if bytes_eq word (codes "rev-parse") then Some words.RevParse
+    else if bytes_eq word (codes "abbrev") then Some words.Abbrev
+    else if bytes_eq word (codes "cat") then Some words.Cat
+    else if bytes_eq word (codes "ls") then Some words.Ls
+    else if bytes_eq word (codes "log") then Some words.Log
+    else if bytes_eq word (codes "refs") then Some words.Refs
+    else if bytes_eq word (codes "head") then Some words.Head
+    else None
+
+-- A word that asks of a revision, one that asks of a range, and one that stands alone.
+abbrev pub of_revision : (Expression → Query) → Option (List ℕ) → Option Query
+of_revision query None = None
+of_revision query (Some text) = option_map query (expression_of text)
+
+abbrev pub of_range : (Range Expression → Query) → Option (List ℕ) → Option Query
+of_range query None = None
+of_range query (Some text) = option_map query (range_of text)
+
+abbrev pub alone : Query → Option (List ℕ) → Option Query
+alone query None = Some query
+alone query (Some text) = None
+
+-- What each word makes of what stands after it.
+abbrev pub query_by : Word → Option (List ℕ) → Option Query
+query_by words.RevParse = of_revision RevParse
+query_by words.Abbrev = of_revision Abbrev
+query_by words.Cat = of_revision Cat
+query_by words.Ls = of_revision Ls
+query_by words.Log = of_range Log
+query_by words.Refs = alone Refs
+query_by words.Head = alone Head
+
+-- The query that a text is. The limit is judged first, then the word, then what stands after it.
+unfoldable pub query_of : List ℕ → Result Query Fault
+query_of text =
+    if nat_lt query_limit (length text) then Err fault.MalformedQuery
+    else and_then (or_fault fault.UnknownQuery (word_of (before_first is_space text))) (λ word.
+    or_fault fault.MalformedQuery (query_by word (after_space text)))

@@ -1,0 +1,45 @@
+//! The shortest front of an object name: git-rev-parse(1), --short.
+
+ghost use Rattle.std.specs.Prelude.{◌≡◌, ◌≤◌, take};
+ghost use Rattle.hex.specs.Hex.{encode_lower};
+ghost use Rattle.git_model.specs.GoodRepository.{AreObjects};
+ghost use Rattle.answers.specs.Printed.{begins_no_other, shortest_front};
+
+use git_objects::{Name, Naming, has_twenty_bytes};
+use objects_in_sight::Objects;
+use tenant_tables::Found;
+
+/// The fewest digits that a front may have.
+const FEWEST_DIGITS: usize = 4;
+
+/// The digits of an object name.
+const ALL_DIGITS: usize = 40;
+
+// Whether the first digits of a name begin no other.
+fn begins_no_other<N: Naming>(objects: &Objects<'_, N>, id: &Name, digits: usize) -> bool
+    requires { digits ≤ ALL_DIGITS }
+    ensures { AreObjects N.digest_of objects.now
+        → result ≡ begins_no_other objects.now id.now (take digits (encode_lower id.now)) }
+{
+    match objects.starting_with(&id.to_hex()[..digits]) {
+        Found::None => true,
+        Found::One(found) => found == *id,
+        Found::Many => false,
+    }
+}
+
+/// How many digits the shortest front of a name has that begins no other name of these objects: 4
+/// to 40. Takes no memory.
+#[tactic(auto, unfolding(crate::specs::Printed::shortest_front))]
+pub fn shortest_front<N: Naming>(objects: &Objects<'_, N>, id: &Name) -> usize
+    ensures front { AreObjects N.digest_of objects.now
+        → take result (encode_lower id.now) ≡ shortest_front objects.now id.now }
+    ensures digits { result ≤ ALL_DIGITS }
+{
+    has_twenty_bytes(id);
+    let mut digits = FEWEST_DIGITS;
+    while digits < ALL_DIGITS && !begins_no_other(objects, id, digits) {
+        digits += 1;
+    }
+    digits
+}

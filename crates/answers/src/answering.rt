@@ -1,0 +1,213 @@
+//! The answer to a query.
+
+ghost use Rattle.std.specs.Prelude.{◌≡◌, Ok, length, take, OnErr};
+ghost use Rattle.git_model.specs.GoodRepository.{AreObjects};
+ghost use Rattle.tenant_tables.specs.Objects.{objects};
+ghost use Rattle.tenant_tables.specs.StandsIn.{StandsIn};
+ghost use Rattle.tenant_tables.specs.View.{in_sight};
+ghost use Rattle.tenant_tables.specs.declared.sight.Sight.TheVariants.{Committed};
+ghost use Rattle.answers.specs.Answers.{answer_to, log_asked, object_asked, told, tree_asked};
+ghost use Rattle.answers.specs.Faults.{Gives, Prints, and_then};
+ghost use Rattle.answers.specs.Printed.{line, log_lines, name_line, object_text, shortest_front, tree_lines};
+
+use crate::abbreviating::shortest_front;
+use crate::fault::Fault;
+use crate::log_printing::append_log;
+use crate::object_printing::{append_object, append_tree};
+use crate::printing::{append_line, append_name};
+use crate::query::Query;
+use crate::query_reading::read_query;
+use crate::ref_printing::append_refs;
+use content_pool::Pool;
+use git_objects::{Kind, Name, Naming};
+use objects_in_sight::Objects;
+use revisions::{Expression, Range, peel, resolve_expression, resolve_range};
+use std::alloc::Global;
+use tenant_refs::Refs;
+use tenant_tables::{Sight, Table};
+
+// The object that an expression names.
+fn resolve<N: Naming>(
+    alloc: Global,
+    objects: &Objects<'_, N>,
+    refs: &Refs,
+    of: &Expression<'_>,
+) -> Result<Name, Fault>
+    ensures { AreObjects N.digest_of objects.now → Gives result
+        (object_asked (record { objects = objects.now; refs = refs.now }) of.now) }
+{
+    let id = resolve_expression(alloc, objects, refs, of)?;
+    Ok(id)
+}
+
+fn tell_front<N: Naming>(
+    alloc: Global,
+    objects: &Objects<'_, N>,
+    refs: &Refs,
+    of: &Expression<'_>,
+    out: &mut Vec<u8>,
+) -> Result<(), Fault>
+    ensures told { AreObjects N.digest_of objects.now → Prints
+        (and_then (object_asked (record { objects = objects.now; refs = refs.now }) of.now)
+        (λ id. Ok (line (shortest_front objects.now id)))) out.old.items out.new.items result }
+    ensures kept { take (length out.old.items) out.new.items ≡ out.old.items }
+{
+    let id = resolve(alloc, objects, refs, of)?;
+    let digits = shortest_front(objects, &id);
+    append_line(&id.to_hex()[..digits], out)?;
+    Ok(())
+}
+
+fn tell_tree<N: Naming>(
+    alloc: Global,
+    objects: &Objects<'_, N>,
+    refs: &Refs,
+    of: &Expression<'_>,
+    out: &mut Vec<u8>,
+) -> Result<(), Fault>
+    ensures told { AreObjects N.digest_of objects.now → Prints
+        (and_then (tree_asked (record { objects = objects.now; refs = refs.now }) of.now)
+        (λ tree. Ok (tree_lines objects.now tree))) out.old.items out.new.items result }
+    ensures kept { take (length out.old.items) out.new.items ≡ out.old.items }
+{
+    let id = resolve(alloc, objects, refs, of)?;
+    let tree = peel(alloc, objects, Kind::Tree, id)?;
+    append_tree(alloc, objects, &tree, out)?;
+    Ok(())
+}
+
+fn tell_log<N: Naming>(
+    alloc: Global,
+    objects: &Objects<'_, N>,
+    refs: &Refs,
+    range: &Range<Expression<'_>>,
+    out: &mut Vec<u8>,
+) -> Result<(), Fault>
+    ensures told { AreObjects N.digest_of objects.now → Prints
+        (and_then (log_asked (record { objects = objects.now; refs = refs.now }) range.now)
+        (λ ids. Ok (log_lines objects.now ids))) out.old.items out.new.items result }
+    ensures kept { take (length out.old.items) out.new.items ≡ out.old.items }
+{
+    let ids = resolve_range(alloc, objects, refs, range)?;
+    append_log(alloc, objects, &ids, out)?;
+    Ok(())
+}
+
+fn tell_name<N: Naming>(
+    alloc: Global,
+    objects: &Objects<'_, N>,
+    refs: &Refs,
+    of: &Expression<'_>,
+    out: &mut Vec<u8>,
+) -> Result<(), Fault>
+    ensures told { AreObjects N.digest_of objects.now → Prints
+        (and_then (object_asked (record { objects = objects.now; refs = refs.now }) of.now)
+        (λ id. Ok (name_line id))) out.old.items out.new.items result }
+    ensures kept { take (length out.old.items) out.new.items ≡ out.old.items }
+{
+    let id = resolve(alloc, objects, refs, of)?;
+    append_name(id, out)?;
+    Ok(())
+}
+
+fn tell_object<N: Naming>(
+    alloc: Global,
+    objects: &Objects<'_, N>,
+    refs: &Refs,
+    of: &Expression<'_>,
+    out: &mut Vec<u8>,
+) -> Result<(), Fault>
+    ensures told { AreObjects N.digest_of objects.now → Prints
+        (and_then (object_asked (record { objects = objects.now; refs = refs.now }) of.now)
+        (λ id. Ok (object_text objects.now id))) out.old.items out.new.items result }
+    ensures kept { take (length out.old.items) out.new.items ≡ out.old.items }
+{
+    let id = resolve(alloc, objects, refs, of)?;
+    append_object(objects, id, out)?;
+    Ok(())
+}
+
+// Appends the answer, or a piece of it where memory runs out.
+fn tell<N: Naming>(
+    alloc: Global,
+    objects: &Objects<'_, N>,
+    refs: &Refs,
+    query: &Query<'_>,
+    out: &mut Vec<u8>,
+) -> Result<(), Fault>
+    ensures told { AreObjects N.digest_of objects.now → Prints
+        (told (record { objects = objects.now; refs = refs.now }) query.now)
+        out.old.items out.new.items result }
+    ensures kept { take (length out.old.items) out.new.items ≡ out.old.items }
+{
+    match query {
+        Query::RevParse(of) => tell_name(alloc, objects, refs, of, out),
+        Query::Abbrev(of) => tell_front(alloc, objects, refs, of, out),
+        Query::Cat(of) => tell_object(alloc, objects, refs, of, out),
+        Query::Ls(of) => tell_tree(alloc, objects, refs, of, out),
+        Query::Log(range) => tell_log(alloc, objects, refs, range, out),
+        Query::Refs => Ok(append_refs(refs, out)?),
+        Query::Head => Ok(append_line(refs.head(), out)?),
+    }
+}
+
+// Appends the answer, or nothing where it is refused.
+fn tell_or_nothing<N: Naming>(
+    alloc: Global,
+    objects: &Objects<'_, N>,
+    refs: &Refs,
+    query: &Query<'_>,
+    out: &mut Vec<u8>,
+) -> Result<(), Fault>
+    ensures told { AreObjects N.digest_of objects.now → Prints
+        (told (record { objects = objects.now; refs = refs.now }) query.now)
+        out.old.items out.new.items result }
+    ensures same { OnErr result (out.new.items ≡ out.old.items) }
+{
+    let start = out.len();
+    let told = tell(alloc, objects, refs, query, out);
+    if told.is_err() {
+        out.truncate(start);
+    }
+    told
+}
+
+/// Answers a query on the committed objects of a table and the refs, after what `out` holds.
+///
+/// | query | prints, each line with its line end |
+/// |---|---|
+/// | `rev-parse <expr>` | the object's name |
+/// | `abbrev <expr>` | the shortest front of it, of at least 4 digits, that begins no other |
+/// | `cat <expr>` | `<name> <kind> <size>`, and the contents with a line end |
+/// | `ls <expr>` | each direct entry of the tree: `<mode> <kind> <name>`, a tab, its own name |
+/// | `log <range>` | `<name> <first line of the message>` of each commit, from new to old |
+/// | `refs` | `<name> <ref>`, in the order of the refs' bytes |
+/// | `head` | the ref that HEAD names |
+///
+/// `Fault::MalformedQuery` (41) above 8,192 bytes, else `Fault::UnknownQuery` (40), else
+/// `Fault::MalformedQuery` (41); then `Fault::WrongKind` (15), `Fault::UnknownRevision` (16) and
+/// `Fault::Ambiguous` (17) in the order in which expressions are decided. Takes memory for the
+/// answer and to read what it passes; `Fault::Memory` (90) where there is none. After a refusal
+/// `out` is unchanged.
+///
+/// The pool is the one that the table stands in. The answer is the defined one where the committed
+/// objects are good (AreObjects of git_model).
+pub fn answer<N: Naming>(
+    alloc: Global,
+    pool: &Pool<N>,
+    table: &Table,
+    refs: &Refs,
+    text: &[u8],
+    out: &mut Vec<u8>,
+) -> Result<(), Fault>
+    requires { StandsIn N.digest_of pool.now table.now.entries }
+    ensures told { let os = objects pool.now (in_sight Committed table.now) in
+        AreObjects N.digest_of os → Prints
+        (answer_to (record { objects = os; refs = refs.now }) text.now)
+        out.old.items out.new.items result }
+    ensures same { OnErr result (out.new.items ≡ out.old.items) }
+{
+    let query = read_query(alloc, text)?;
+    let objects = Objects::of(pool, table, Sight::Committed);
+    tell_or_nothing(alloc, &objects, refs, &query, out)
+}

@@ -1,0 +1,87 @@
+//! Why a query is refused.
+
+ghost use Rattle.std.specs.Prelude.{◌≡◌};
+ghost use Rattle.answers.specs.Faults.{code_of, resolving_fault};
+ghost use Rattle.answers.specs.declared.fault.Fault.TheVariants.{Memory as OutOfMemory};
+
+use git_objects::Memory;
+use std::alloc::{AllocError, AllocFailed};
+use thiserror::Error;
+
+/// Why a query has no answer.
+#[derive(Clone, Copy, Debug, PartialEq, Eq, Error)]
+pub enum Fault {
+    /// What it names cannot be peeled to the kind that is asked for, 15.
+    #[error("wrong kind")]
+    WrongKind,
+    /// It names nothing that the repository has, 16.
+    #[error("unknown revision")]
+    UnknownRevision,
+    /// Several object names begin so, 17.
+    #[error("ambiguous abbreviation")]
+    Ambiguous,
+    /// No query begins with this word, 40.
+    #[error("unknown query")]
+    UnknownQuery,
+    /// The query is too long, or what stands after its word is not what the word asks for, 41.
+    #[error("malformed query")]
+    MalformedQuery,
+    /// A growth was refused, 90.
+    #[error("out of memory")]
+    Memory,
+}
+
+impl From<revisions::Fault> for Fault {
+    ghost from_gives = { λ refusal e. e ≡ resolving_fault refusal };
+
+    fn from(refusal: revisions::Fault) -> Fault {
+        match refusal {
+            revisions::Fault::Malformed => Fault::MalformedQuery,
+            revisions::Fault::WrongKind => Fault::WrongKind,
+            revisions::Fault::UnknownRevision => Fault::UnknownRevision,
+            revisions::Fault::Ambiguous => Fault::Ambiguous,
+            revisions::Fault::Memory => Fault::Memory,
+        }
+    }
+}
+
+impl From<Memory> for Fault {
+    ghost from_gives = { λ _ e. e ≡ OutOfMemory };
+
+    fn from(_e: Memory) -> Fault {
+        Fault::Memory
+    }
+}
+
+impl From<AllocError> for Fault {
+    ghost from_gives = { λ _ e. e ≡ OutOfMemory };
+
+    fn from(_e: AllocError) -> Fault {
+        Fault::Memory
+    }
+}
+
+impl<T: Drop> From<AllocFailed<T>> for Fault {
+    ghost from_gives = { λ _ e. e ≡ OutOfMemory };
+
+    fn from(_e: AllocFailed<T>) -> Fault {
+        Fault::Memory
+    }
+}
+
+impl Fault {
+    /// The number of the fault: 15 wrong kind, 16 unknown revision, 17 ambiguous, 40 unknown query,
+    /// 41 malformed query, 90 out of memory.
+    pub fn code(self) -> u16
+        ensures { result ≡ code_of self }
+    {
+        match self {
+            Fault::WrongKind => 15,
+            Fault::UnknownRevision => 16,
+            Fault::Ambiguous => 17,
+            Fault::UnknownQuery => 40,
+            Fault::MalformedQuery => 41,
+            Fault::Memory => 90,
+        }
+    }
+}

@@ -1,0 +1,17 @@
+//! Answers to queries over the objects and refs of one tenant.
+#![tactic(auto)]
+
+mod abbreviating;
+mod answering;
+mod fault;
+mod log_printing;
+mod object_printing;
+mod printing;
+mod query;
+mod query_reading;
+mod ref_printing;
+
+pub use answering::answer;
+pub use fault::Fault;
+pub use query::Query;
+pub use query_reading::read_query;

@@ -1,0 +1,34 @@
+//! What may be asked of a repository.
+
+use revisions::{Expression, Range};
+
+/// A query, as its text is read. Nothing is looked up yet.
+#[derive(Drop)]
+pub enum Query<'a> {
+    /// The name of an object: git-rev-parse(1).
+    RevParse(Expression<'a>),
+    /// The shortest front of its name that begins no other: git-rev-parse(1), --short=4.
+    Abbrev(Expression<'a>),
+    /// The object itself: git-cat-file(1), --batch.
+    Cat(Expression<'a>),
+    /// The direct entries of its tree: git-ls-tree(1).
+    Ls(Expression<'a>),
+    /// The commits of a range: git-log(1), --format='%H %s'.
+    Log(Range<Expression<'a>>),
+    /// All refs with the names that they hold: git-show-ref(1).
+    Refs,
+    /// The ref that HEAD names: git-symbolic-ref(1).
+    Head,
+}
+
+/// The word that a query begins with.
+#[derive(Clone, Copy)]
+pub enum Word {
+    RevParse,
+    Abbrev,
+    Cat,
+    Ls,
+    Log,
+    Refs,
+    Head,
+}
