@@ -1,21 +1,22 @@
 -- What an import has done so far.
-use Rattle.std.proofs.Common.{◌≡◌, ◌≢◌, ℕ, ◌+◌, ◌-◌, ◌*◌, ◌^◌, ◌<◌, ◌≤◌, ◌⊎◌, inl, inr, min, Bool, true, false, cond, List, [], ◌∷◌, ◌++◌, length, take, Option, None, Some, Result, Ok, Err, refl, sym, ap, subst, ◌∙◌, append_assoc, append-nil, arith}
-use Rattle.std.specs.Io.KnownBytes.{Appends, Consumes, Keeps, IsAtEnd, ReadConsumes}
+use Rattle.std.proofs.Common.{◌≡◌, ℕ, ◌+◌, ◌-◌, ◌^◌, ◌≤◌, inl, inr, min, Bool, true, false, cond, List, [], ◌++◌, length, take, Option, None, Some, Result, Ok, Err, refl, sym, ap, subst, ◌∙◌, append_assoc, append-nil, arith}
+use Rattle.std.specs.Io.KnownBytes.{Appends, Consumes, Keeps, IsAtEnd}
 use Rattle.git_model.specs.RefStore.{RefStore, no_refs}
 use Rattle.git_model.specs.Repository.{Object, Repository}
 use Rattle.content_pool.specs.Pool.{Cells}
 use Rattle.tenant_tables.specs.View.{View}
 use Rattle.tenant_tables.specs.Objects.{objects}
 use Rattle.tenant_tables.specs.StandsIn.{StandsIn, LeavesOthers}
-use Rattle.stream_grammar.specs.Commands.{top}
 use Rattle.import_session.specs.Workspace.{opened}
+use Rattle.import_session.specs.Sound.{IsSound}
+use Rattle.import_session.proofs.SoundLemmas.{empty_is_sound, new_is_sound}
 use Rattle.import_session.specs.Session.{new_session, running_in}
-use Rattle.git_objects.specs.Device.{Device, HasRead, counted_on, HasFault, AppendsFront, faults_after_read, passed_after}
+use Rattle.git_objects.specs.Device.{Device, HasRead, counted_on, HasFault, AppendsFront}
 use Rattle.git_objects.proofs.KnownBytes.{Appends-nil, Appends-trans, Consumes-nil, HasRead-trans, HasRead-kept}
-use Rattle.stream_lex.specs.Items.{Item, Tail, Rest, Failed, behind_items}
+use Rattle.stream_lex.specs.Items.{Item, Tail, Rest, Failed}
 use Rattle.stream_lex.specs.Reading.{reading, walk}
 use Rattle.stream_lex.specs.Running.{extended, more_of, HasNoItem}
-use Rattle.import_session.specs.Stream.{Running, Outcome, Standing, End, begun, Runs, Refused, after_reply, carried, going_on, step, at_tail, tail_outcome, refused, finished, running_end, last_checkpoint, ended_well as import_ended}
+use Rattle.import_session.specs.Stream.{Running, Outcome, End, begun, Runs, Refused, after_reply, carried, at_tail, finished, running_end, last_checkpoint, ended_well as import_ended}
 use Rattle.step_frames.specs.Reading.{HasReadWell}
 use Rattle.step_frames.proofs.ReadLemmas.{one_well}
 use Rattle.step_frames.proofs.WriteLemmas.{front_of_later}
@@ -24,9 +25,10 @@ use Rattle.tenant_stream.specs.declared.stop.Stop.{Stop}
 use Rattle.tenant_stream.specs.declared.stop.Stop.TheVariants as stop
 use Rattle.gitpool.specs.declared.import_fault.ImportFault.{ImportFault}
 use Rattle.gitpool.specs.declared.import_fault.ImportFault.TheVariants as fault
-use Rattle.tenant_stream.specs.Carrying.{Between, Carries, Advances, Goes, Ends, EndsAs, IsEnd, Fails, Feeds, HasAmpleRoom, Stops, IsDrained, new_stream, outcome_behind, stream_in}
+use Rattle.tenant_stream.specs.Carrying.{Between, Carries, Advances, EndsAs, IsEnd, Fails, Feeds, HasAmpleRoom, IsDrained, new_stream, outcome_behind, stream_in}
+use Rattle.tenant_stream.specs.Soundness.{LeavesSound}
 use Rattle.gitpool.specs.ImportFaults.{as_import}
-use Rattle.gitpool.specs.Import.{IsImported, IsGivenUp, IsStopped, IsDevice, IsSettled, AsksForMore, Imports, outcome_of, end_fault, printed_by}
+use Rattle.gitpool.specs.Import.{IsImported, IsGivenUp, IsStopped, IsDevice, AsksForMore, Imports, outcome_of, printed_by}
 use Rattle.tenant_service.specs.Alone.{stream_of}
 use Rattle.tenant_service.specs.Holding.{empty_repository}
 use Rattle.gitpool.specs.Importing.{Importing, running_of, IsNewImport, IsReady, Passes, IsRefusedWith, IsWrittenFront, PassesOn, IsReadThrough, end_of_import, IsEndWritten, EndsImport}
@@ -78,7 +80,7 @@ front_by digest now old items replies next new out' adv printed = record {
       ∙ ap (λ l. l ++ (outcome_behind digest next new []).replies) (sym printed);
 }
 
-pub printed_front : (digest : List ℕ → List ℕ) (now : Running) (old : Tail) (result : Result Unit Stop) (next : Running) (new : Tail)
+printed_front : (digest : List ℕ → List ℕ) (now : Running) (old : Tail) (result : Result Unit Stop) (next : Running) (new : Tail)
     (out' : List ℕ) → Carries digest now old [] result next new out' → IsFront (outcome_behind digest now old []).replies out'
 printed_front digest now old (Ok u) next new out' c =
     front_by digest now old c.items c.replies next new out' c.advances c.printed
@@ -87,7 +89,7 @@ printed_front digest now old (Err (stop.Fault code)) next new out' c =
 printed_front digest now old (Err (stop.Memory count)) next new out' c =
     front_by digest now old c.items c.ends.replies c.last c.rest out' c.ends.advances c.ends.printed
 
-pub front_of_front : (a b : Option (List ℕ)) (out whole : List ℕ) → AppendsFront a b out → IsFront whole out → AppendsFront a b whole
+front_of_front : (a b : Option (List ℕ)) (out whole : List ℕ) → AppendsFront a b out → IsFront whole out → AppendsFront a b whole
 front_of_front a b out whole f w = record {
   front = f.front;
   rest = f.rest ++ w.rest;
@@ -416,6 +418,12 @@ new_running i between table refs =
     ∙ ap (λ (r : RefStore). running_in new_session i.pool (record { entries = []; committed = 0 }) r) refs
     ∙ first_running i i.pool
 
+pub new_sound : (digest : List ℕ → List ℕ) (i : Importing) → i.between ≡ new_stream → i.table ≡ record { entries = []; committed = 0 } → i.refs ≡ no_refs
+    → IsSound digest (running_of i).workspace
+new_sound digest i between table refs =
+    subst (λ (now : Running). IsSound digest now.workspace) (sym (new_running i between table refs))
+    (new_is_sound digest empty_repository (empty_is_sound digest))
+
 -- all bytes, from the first
 stream_begun : (digest : List ℕ → List ℕ) (bytes : List ℕ)
     → outcome_behind digest (begun (opened empty_repository)) (Rest false []) bytes ≡ outcome_of digest bytes
@@ -444,10 +452,12 @@ so_far_new digest r w i new fits = record {
 pub has_ample_room : (digest : List ℕ → List ℕ) (i : Importing) → IsReady digest i → HasAmpleRoom i.pool
 has_ample_room digest i ready s = let a = ready.alone s in let o = ready.stands.once s in omega (arith, a, o)
 
-still_ready : (digest : List ℕ → List ℕ) (old new : Importing) → IsReady digest old → StandsIn digest new.pool new.table.entries
-    → LeavesOthers old.pool old.table.entries new.pool new.table.entries → new.out ≡ [] → IsReady digest new
-still_ready digest old new ready stands others written = record {
+pub ready_then : (digest : List ℕ → List ℕ) (old new : Importing) → IsReady digest old → StandsIn digest new.pool new.table.entries
+    → LeavesOthers old.pool old.table.entries new.pool new.table.entries → new.out ≡ [] → IsSound digest (running_of new).workspace
+    → IsReady digest new
+ready_then digest old new ready stands others written sound = record {
   stands = stands;
+  sound = sound;
   alone = λ s. let a = ready.alone s in let r = others.rest s in omega (arith, a, r);
   written = written;
 }
@@ -470,29 +480,34 @@ fed_of digest old piece result next new out' ready running feeds =
 pub passes_on : (digest : List ℕ → List ℕ) (old : Importing) (piece : List ℕ) (w w' : Device) (result : Result Unit Stop) (new : Importing)
     (out' : List ℕ)
     → Carries digest (running_of old) (extended old.between.tail piece) [] result (running_of new) new.between.tail out'
-    → IsReady digest new → Appends w.known w'.known out' → w'.faults ≡ w.faults
+    → LeavesSound digest result (running_of new).workspace → (IsSound digest (running_of new).workspace → IsReady digest new)
+    → Appends w.known w'.known out' → w'.faults ≡ w.faults
     → PassesOn digest old piece w (as_import result) new w'
-passes_on digest old piece w w' (Ok u) new out' c ready written well = record {
+passes_on digest old piece w w' (Ok u) new out' c sound ready written well = record {
   replies = c.replies;
   goes = goes_on digest (running_of old) (extended old.between.tail piece) c.items c.replies (running_of new) new.between.tail c.advances;
   drained = c.drained;
   written = subst (λ (l : List ℕ). Appends w.known w'.known l) c.printed written;
   well = well;
-  ready = ready;
+  ready = ready sound;
 }
-passes_on digest old piece w w' (Err (stop.Fault code)) new out' c ready written well = record {
+passes_on digest old piece w w' (Err (stop.Fault code)) new out' c sound ready written well = record {
   replies = c.ends.replies;
   repository = last_checkpoint c.last.workspace;
   refused = fails_as digest (running_of old) (extended old.between.tail piece) [] code (running_of new) out' c;
   written = subst (λ (l : List ℕ). Appends w.known w'.known l) c.ends.printed written;
 }
-passes_on digest old piece w w' (Err (stop.Memory count)) new out' c ready written well =
+passes_on digest old piece w w' (Err (stop.Memory count)) new out' c sound ready written well =
     whole_front w.known w'.known out' _ written
     (printed_front digest (running_of old) (extended old.between.tail piece) (Err (stop.Memory count)) (running_of new) new.between.tail out' c)
 
-pub ready_then : (digest : List ℕ → List ℕ) (old new : Importing) → IsReady digest old → StandsIn digest new.pool new.table.entries
-    → LeavesOthers old.pool old.table.entries new.pool new.table.entries → new.out ≡ [] → IsReady digest new
-ready_then = still_ready
+-- its replies were not written
+pub pass_fails : (digest : List ℕ → List ℕ) (old : Importing) (piece : List ℕ) (w w' : Device) (result : Result Unit Stop) (next : Running)
+    (tail : Tail) (new : Importing) (out' : List ℕ)
+    → Carries digest (running_of old) (extended old.between.tail piece) [] result next tail out'
+    → AppendsFront w.known w'.known out' → HasFault w.faults w'.faults → PassesOn digest old piece w (Err fault.Device) new w'
+pass_fails digest old piece w w' result next tail new out' c front failed =
+    (front_of_front w.known w'.known out' _ front (printed_front digest (running_of old) (extended old.between.tail piece) result next tail out' c), failed)
 
 -- what the end printed
 printed_at_end : (digest : List ℕ → List ℕ) (i : Importing) (fault : Option ℕ) (left : Repository) (out' : List ℕ)

@@ -1,7 +1,7 @@
 -- What a serving has done so far.
-use Rattle.std.proofs.Common.{◌≡◌, ℕ, ◌+◌, ◌^◌, ◌<◌, ◌⊎◌, inl, inr, List, [], ◌∷◌, ◌++◌, length, drop, Option, None, Some, Result, Ok, Err, refl, sym, ap, subst, ◌∙◌, append-nil, append_assoc, arith}
+use Rattle.std.proofs.Common.{◌≡◌, ℕ, ◌+◌, ◌^◌, ◌<◌, inl, inr, List, [], ◌∷◌, ◌++◌, length, Option, None, Some, Ok, Err, refl, sym, ap, subst, ◌∙◌, append-nil, arith}
 use Rattle.std.specs.List.{AllByRecursion, flat_map}
-use Rattle.std.specs.Io.KnownBytes.{Appends, IsAtEnd}
+use Rattle.std.specs.Io.KnownBytes.{Appends}
 use Rattle.std.proofs.lemmas.Grind.{flat_map-append}
 use Rattle.std.proofs.lemmas.List.{length-append}
 use Rattle.git_objects.specs.Device.{Device, HasRead, HasFault, AppendsFront}
@@ -10,14 +10,14 @@ use Rattle.service_steps.specs.declared.answer.Answer.{Answer}
 use Rattle.step_frames.specs.declared.fault.FrameFault.{FrameFault}
 use Rattle.step_frames.specs.declared.fault.FrameFault.TheVariants as fault
 use Rattle.service_steps.specs.declared.step.Step.{Step}
-use Rattle.step_frames.specs.Frames.{frame_of, step_text, answer_text, IsGood, IsUnfinished}
+use Rattle.step_frames.specs.Frames.{frame_of, step_text, answer_text, IsGood}
 use Rattle.step_frames.specs.Reading.{HasReadWell, ReadsStep}
 use Rattle.step_frames.proofs.ReadLemmas.{well_none, well_more}
 use Rattle.step_frames.proofs.FrameLemmas.{none_read}
 use Rattle.step_frames.proofs.WriteLemmas.{front_of_later}
 use Rattle.tenant_service.specs.Headline.{Told, told_in, Run, IsItsOwn, IsRefused}
 use Rattle.tenant_service.specs.Holding.{Holdings, held_of}
-use Rattle.gitpool.specs.Serving.{steps_text, answers_text, Served, AppendsAsFar, Serves}
+use Rattle.gitpool.specs.Serving.{steps_text, answers_text, Served, Serves}
 use Rattle.tenant_service.proofs.AccountLemmas.{all_whole}
 use Rattle.tenant_service.proofs.RunLemmas.{own-more, own-none}
 

@@ -1,5 +1,5 @@
 -- An import between two pieces, what one more does to it, and how it ends.
-use Rattle.std.specs.Prelude.{◌≡◌, ℕ, false, List, [], Option, None, Some, Result, Ok, Err, ◌⊎◌}
+use Rattle.std.specs.Prelude.{◌≡◌, ℕ, List, [], Option, None, Some, Result, Ok, Err, ◌⊎◌}
 use Rattle.std.specs.Io.KnownBytes.{Appends, IsAtEnd}
 use Rattle.git_model.specs.RefStore.{RefStore, no_refs}
 use Rattle.git_model.specs.Repository.{Repository}
@@ -9,6 +9,7 @@ use Rattle.tenant_tables.specs.View.{View, held}
 use Rattle.tenant_tables.specs.StandsIn.{StandsIn}
 use Rattle.stream_lex.specs.Running.{extended}
 use Rattle.import_session.specs.Stream.{Running, Runs, Refused, End, after_reply, finished}
+use Rattle.import_session.specs.Sound.{IsSound}
 use Rattle.gitpool.specs.declared.import_fault.ImportFault.{ImportFault}
 use Rattle.gitpool.specs.declared.import_fault.ImportFault.TheVariants as fault
 use Rattle.gitpool.specs.Import.{IsSettled, Imports, outcome_of, end_of}
@@ -26,9 +27,10 @@ pub record Importing : Type 0 where
 abbrev pub running_of : Importing → Running
 running_of i = stream_in i.between i.pool i.table i.refs
 
--- No content but the table's is held, and every reply was written.
+-- No content but the table's is held, the stream is sound, and every reply was written.
 pub record IsReady (digest : List ℕ → List ℕ) (i : Importing) : Type 0 where
   pub stands : StandsIn digest i.pool i.table.entries
+  pub sound : IsSound digest (running_of i).workspace
   pub alone : (s : ℕ) → holds i.pool s ≡ held i.table.entries s
   pub written : i.out ≡ []
 

@@ -10,6 +10,30 @@ pub struct Worked {
 
 pub const STREAMS: &[Worked] = &[
     Worked {
+        name: "alias_to_blob",
+        stream: b"blob\nmark :1\ndata 6\nhello\n\nalias\nmark :2\nto :1\n",
+        replies: b"",
+        fault: Some(15),
+    },
+    Worked {
+        name: "alias_to_unborn_branch",
+        stream: b"reset refs/heads/m\n\nalias\nmark :1\nto refs/heads/m\n",
+        replies: b"",
+        fault: Some(16),
+    },
+    Worked {
+        name: "alias_to_unknown_mark",
+        stream: b"alias\nmark :2\nto :1\n",
+        replies: b"",
+        fault: Some(13),
+    },
+    Worked {
+        name: "alias_without_mark",
+        stream: b"alias\nto refs/heads/m\n",
+        replies: b"",
+        fault: Some(5),
+    },
+    Worked {
         name: "bad_count",
         stream: b"blob\ndata x\n",
         replies: b"",
@@ -172,6 +196,30 @@ pub const STREAMS: &[Worked] = &[
         fault: None,
     },
     Worked {
+        name: "ls_of_blob",
+        stream: b"blob\nmark :1\ndata 6\nhello\n\nls :1 a\n",
+        replies: b"",
+        fault: Some(15),
+    },
+    Worked {
+        name: "ls_of_missing_object",
+        stream: b"ls ce013625030ba8dba906f756967f9e9ca394464a a\n",
+        replies: b"",
+        fault: Some(14),
+    },
+    Worked {
+        name: "ls_of_unknown_mark",
+        stream: b"ls :1 a\n",
+        replies: b"",
+        fault: Some(13),
+    },
+    Worked {
+        name: "ls_without_dataref",
+        stream: b"ls \"a\"\n",
+        replies: b"",
+        fault: Some(3),
+    },
+    Worked {
         name: "mark_past_64_bits",
         stream: b"blob\nmark :18446744073709551616\ndata 0\n",
         replies: b"",
@@ -256,6 +304,36 @@ pub const STREAMS: &[Worked] = &[
         fault: Some(11),
     },
     Worked {
+        name: "reset_from_blob",
+        stream: b"blob\nmark :1\ndata 6\nhello\n\nreset refs/heads/m\nfrom :1\n",
+        replies: b"",
+        fault: Some(15),
+    },
+    Worked {
+        name: "reset_from_head",
+        stream: b"option gitpool head refs/heads/m\nreset refs/heads/m\nfrom HEAD\n",
+        replies: b"",
+        fault: Some(19),
+    },
+    Worked {
+        name: "reset_from_itself",
+        stream: b"reset refs/heads/m\nfrom refs/heads/m\n",
+        replies: b"",
+        fault: Some(19),
+    },
+    Worked {
+        name: "reset_from_unknown_mark",
+        stream: b"reset refs/heads/m\nfrom :1\n",
+        replies: b"",
+        fault: Some(13),
+    },
+    Worked {
+        name: "reset_from_unknown_ref",
+        stream: b"reset refs/heads/m\nfrom refs/heads/n\n",
+        replies: b"",
+        fault: Some(16),
+    },
+    Worked {
         name: "reset_to_zeros",
         stream: b"reset refs/heads/m\nfrom 0000000000000000000000000000000000000000\n\nprogress x\n",
         replies: b"progress x\n",
@@ -298,10 +376,34 @@ pub const STREAMS: &[Worked] = &[
         fault: Some(11),
     },
     Worked {
+        name: "tag_of_expression",
+        stream: b"blob\ndata 6\nhello\n\ntag v\nmark :2\nfrom ce013625030ba8dba906f756967f9e9ca394464a\ntagger A U Thor <author@example.com> 1700000000 +0100\ndata 6\nfirst\nget-mark :2\n",
+        replies: b"952cdcc8475363092ec0361133bb58070500a563\n",
+        fault: None,
+    },
+    Worked {
+        name: "tag_of_malformed_expression",
+        stream: b"tag v\nfrom a^{x}\ntagger A U Thor <author@example.com> 1700000000 +0100\ndata 6\nfirst\n",
+        replies: b"",
+        fault: Some(3),
+    },
+    Worked {
+        name: "tag_of_missing_object",
+        stream: b"tag v\nfrom ce013625030ba8dba906f756967f9e9ca394464a\ntagger A U Thor <author@example.com> 1700000000 +0100\ndata 6\nfirst\n",
+        replies: b"",
+        fault: Some(16),
+    },
+    Worked {
         name: "tag_of_tag",
         stream: b"blob\nmark :1\ndata 6\nhello\ntag v\nmark :2\nfrom :1\ntagger A U Thor <author@example.com> 1700000000 +0100\ndata 6\nfirst\ntag w\nmark :3\nfrom :2\ndata 6\nfirst\nget-mark :3\n",
         replies: b"4c39ad1f24f4ef86507078029968107ec512d77f\n",
         fault: None,
+    },
+    Worked {
+        name: "tag_of_unborn_branch",
+        stream: b"reset refs/heads/m\n\ntag v\nfrom refs/heads/m\ntagger A U Thor <author@example.com> 1700000000 +0100\ndata 6\nfirst\n",
+        replies: b"",
+        fault: Some(16),
     },
     Worked {
         name: "tag_of_unknown_mark",

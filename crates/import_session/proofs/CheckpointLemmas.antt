@@ -1,6 +1,7 @@
--- What checkpoints leave of refs.
-use Rattle.std.proofs.Common.{◌≡◌, ℕ, ◌+◌, ◌<◌, ◌≤◌, Bool, true, false, cond, List, [], length, take, None, Some, Ok, Err, refl, sym, ap, subst, ◌∙◌, append-nil}
-use Rattle.std.proofs.lemmas.Bool.{le-leb, lt-leb}
+-- What checkpoints leave of refs, and what they print.
+use Rattle.std.proofs.Common.{◌≡◌, ℕ, ◌+◌, ◌≤◌, ◌++◌, ◌∷◌, Bool, true, cond, List, [], length, take, Option, None, Some, Ok, Err, refl, sym, ap, subst, ◌∙◌}
+use Rattle.std.proofs.lemmas.Bool.{le-leb}
+use Rattle.std.proofs.lemmas.List.{take_more, flat_map_more}
 use Rattle.std.proofs.lemmas.List.Sums.{fold_more}
 use Rattle.std.proofs.lemmas.Option.{slice_get_within, get_or_from_slice_get}
 use Rattle.std.specs.List.{slice_get}
@@ -11,49 +12,68 @@ use Rattle.tenant_tables.specs.View.{View}
 use Rattle.tenant_tables.proofs.TableLemmas.{length-objects}
 use Rattle.import_session.specs.declared.fault.Fault.TheVariants as fault
 use Rattle.import_session.specs.declared.branches.Tip.{Tip}
-use Rattle.import_session.specs.Workspace.{Branches, PendingTags, Workspace, quiet}
-use Rattle.import_session.specs.Checkpoints.{saved_by, by_branches, saved_refs, checkpointed, checkpoint}
+use Rattle.import_session.specs.Workspace.{Branches, PendingTags, Workspace}
+use Rattle.import_session.specs.Checkpoints.{saved_by, by_branches, by_head, by_tags, kept_by, kept_lines, saved_refs, checkpointed, checkpoint}
 use Rattle.import_session.specs.Session.{Own, workspace_in, CarriesOut}
 
 -- the branch at a place is saved after those before it
-pub saved_next : (store : RefStore) (branches : Branches) (place : ℕ) (ref : List ℕ) (tip : Tip)
+pub saved_next : (w : Workspace) (store : RefStore) (branches : Branches) (place : ℕ) (ref : List ℕ)
+    (tip : Tip)
     → slice_get branches place ≡ Some (ref, tip)
-    → saved_by (by_branches store (take place branches)) ref tip
-    ≡ by_branches store (take (place + 1) branches)
-saved_next store branches place ref tip at =
-    sym (fold_more (λ saved branch. saved_by saved branch.0 branch.1) store branches place (ref, tip)
+    → saved_by w (by_branches w store (take place branches)) ref tip
+    ≡ by_branches w store (take (place + 1) branches)
+saved_next w store branches place ref tip at =
+    sym (fold_more (λ saved branch. saved_by w saved branch.0 branch.1) store branches place (ref, tip)
     (slice_get_within branches place (ref, tip) at)
     ∙ ap (λ (branch : List ℕ × Tip).
-    saved_by (by_branches store (take place branches)) branch.0 branch.1)
+    saved_by w (by_branches w store (take place branches)) branch.0 branch.1)
     (get_or_from_slice_get branches place (ref, tip) (ref, tip) at))
 
+-- and so is its line printed
+pub kept_next : (w : Workspace) (out : List ℕ) (branches : Branches) (place : ℕ) (ref : List ℕ)
+    (tip : Tip)
+    → slice_get branches place ≡ Some (ref, tip)
+    → (out ++ kept_lines w (take place branches)) ++ kept_by w ref tip
+    ≡ out ++ kept_lines w (take (place + 1) branches)
+kept_next w out branches place ref tip at =
+    flat_map_more (λ branch. kept_by w branch.0 branch.1) out (take place branches) (ref, tip)
+    ∙ ap (λ (first : Branches). out ++ kept_lines w first)
+    (ap (λ (branch : List ℕ × Tip). take place branches ++ branch ∷ [])
+    (sym (get_or_from_slice_get branches place (ref, tip) (ref, tip) at))
+    ∙ sym (take_more branches place (ref, tip) (slice_get_within branches place (ref, tip) at)))
+
+-- HEAD is no ref
+pub headed_refs : (store : RefStore) (head : Option (List ℕ))
+    → listed_refs (by_head store head) ≡ listed_refs store
+headed_refs store None = refl
+headed_refs store (Some ref) = refl
+
 -- a checkpoint is carried out where the refs then are few enough
-few_saved : (b : Bool) (w left : Workspace) (out : List ℕ) → b ≡ true → checkpointed w ≡ left
-    → CarriesOut (cond b (quiet (checkpointed w)) (Err fault.Limit)) left out out (Ok tt)
-few_saved b w left out few same = rw few (same, sym (append-nil out))
+few_saved : (b : Bool) (w left : Workspace) (out out' : List ℕ) → b ≡ true → checkpointed w ≡ left
+    → out' ≡ out ++ kept_lines w w.branches
+    → CarriesOut (cond b
+    (Ok (record { workspace = checkpointed w; reply = kept_lines w w.branches }))
+    (Err fault.Limit)) left out out' (Ok tt)
+few_saved b w left out out' few same printed = rw few (same, printed)
 
-pub well_saved : (own next : Own) (pool : Cells) (table new : View) (refs saved : RefStore)
-    (tags : PendingTags) (out : List ℕ)
-    → saved ≡ saved_refs (workspace_in own pool table refs)
-    → next ≡ record own { head = None } → tags ≡ []
-    → new ≡ record table { committed = length table.entries }
+pub well_saved : (own : Own) (head : Option (List ℕ)) (tags : PendingTags) (pool : Cells)
+    (table new : View) (refs saved left : RefStore) (out out' : List ℕ)
+    → let w = workspace_in own pool table refs in
+    saved ≡ by_tags (by_branches w refs own.branches) own.tags
     → length (listed_refs saved) ≤ refs_limit
-    → CarriesOut (checkpoint (workspace_in own pool table refs))
-    (workspace_in (record next { tags = tags }) pool new saved) out out (Ok tt)
-well_saved own next pool table new refs saved tags out is headless none committed few =
-    few_saved _ (workspace_in own pool table refs)
-    (workspace_in (record next { tags = tags }) pool new saved) out
-    (le-leb _ _ (subst (λ (s : RefStore). length (listed_refs s) ≤ refs_limit) is few))
-    (rw (is, headless, none, committed, length-objects pool table.entries) refl)
-
--- and is refused where they are too many
-many_saved : (b : Bool) (w left : Workspace) (out : List ℕ) → b ≡ false
-    → CarriesOut (cond b (quiet (checkpointed w)) (Err fault.Limit)) left out out (Err fault.Limit)
-many_saved b w left out many = rw many (λ other. refl)
-
-pub too_many : (w left : Workspace) (saved : RefStore) (out : List ℕ) → saved ≡ saved_refs w
-    → refs_limit < length (listed_refs saved)
-    → CarriesOut (checkpoint w) left out out (Err fault.Limit)
-too_many w left saved out is many =
-    many_saved _ w left out
-    (lt-leb _ _ (subst (λ (s : RefStore). refs_limit < length (listed_refs s)) is many))
+    → left ≡ by_head saved own.head → head ≡ None → tags ≡ []
+    → new ≡ record table { committed = length table.entries }
+    → out' ≡ out ++ kept_lines w own.branches
+    → CarriesOut (checkpoint w)
+    (workspace_in (record own { head = head; tags = tags }) pool new left) out out' (Ok tt)
+well_saved own head tags pool table new refs saved left out out' is few headed none empty committed
+    printed =
+    let w = workspace_in own pool table refs in
+    let same : left ≡ saved_refs w = headed ∙ ap (λ (s : RefStore). by_head s own.head) is in
+    few_saved _ w (workspace_in (record own { head = head; tags = tags }) pool new left) out out'
+    (le-leb _ _ (subst (λ (s : RefStore). length (listed_refs s) ≤ refs_limit) same
+    (subst (λ (s : RefStore). length (listed_refs s) ≤ refs_limit) (sym headed)
+    (subst (λ (l : List (List ℕ × List ℕ)). length l ≤ refs_limit)
+    (sym (headed_refs saved own.head)) few))))
+    (rw (same, none, empty, committed, length-objects pool table.entries) refl)
+    printed

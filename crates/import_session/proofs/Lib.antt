@@ -1,3 +1,7 @@
 mod ActLemmas
+mod BranchLemmas
 mod CheckpointLemmas
 pub mod LentLemmas
+pub mod SoundObjects
+mod SoundCommits
+pub mod SoundLemmas

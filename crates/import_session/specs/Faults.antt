@@ -1,17 +1,24 @@
--- Faults: the number of each refusal, for replies and exit statuses; and what a refusal stops.
-use Rattle.std.specs.Prelude.{ℕ, Result, Ok, Err}
+-- Faults: the number of each refusal, for replies and exit statuses; how those of the layers below
+-- are passed on; and what a refusal stops.
+use Rattle.std.specs.Prelude.{◌≡◌, ◌≢◌, ℕ, Option, None, Some, Result, Ok, Err}
 use Rattle.stream_grammar.specs.declared.fault.Fault.{Fault as TextFault}
 use Rattle.stream_grammar.specs.Faults.{code_of as text_code}
+use Rattle.revisions.specs.declared.fault.Fault.{Fault as RevisionFault}
+use Rattle.revisions.specs.declared.fault.Fault.TheVariants as revision_fault
 use Rattle.import_session.specs.declared.fault.Fault.{Fault}
 use Rattle.import_session.specs.declared.fault.Fault.TheVariants as fault
 
 -- The number of a fault.
 abbrev pub code_of : Fault → ℕ
 code_of (fault.Text text) = text_code text
+code_of fault.Malformed = 3
 code_of fault.DoneMissing = 7
 code_of fault.MarkUnknown = 13
+code_of fault.ObjectUnknown = 14
 code_of fault.WrongKind = 15
 code_of fault.UnknownRevision = 16
+code_of fault.Ambiguous = 17
+code_of fault.BranchFromItself = 19
 code_of fault.NameCollision = 24
 code_of fault.Limit = 25
 code_of fault.Memory = 90
@@ -25,3 +32,25 @@ text_first (Err e) = Err (fault.Text e)
 abbrev pub and_then : {A B : Type 0} → Result A Fault → (A → Result B Fault) → Result B Fault
 and_then (Ok value) next = next value
 and_then (Err e) next = Err e
+
+-- What must be there, or else this fault.
+abbrev pub or_fault : {A : Type 0} → Fault → Option A → Result A Fault
+or_fault e None = Err e
+or_fault e (Some value) = Ok value
+
+-- What refuses an expression.
+abbrev pub resolving_fault : RevisionFault → Fault
+resolving_fault revision_fault.Malformed = fault.Malformed
+resolving_fault revision_fault.WrongKind = fault.WrongKind
+resolving_fault revision_fault.UnknownRevision = fault.UnknownRevision
+resolving_fault revision_fault.Ambiguous = fault.Ambiguous
+resolving_fault revision_fault.Memory = fault.Memory
+
+abbrev pub resolved_or : {A : Type 0} → Result A RevisionFault → Result A Fault
+resolved_or (Ok value) = Ok value
+resolved_or (Err e) = Err (resolving_fault e)
+
+-- What a call answers is what is defined; out of memory may stand in its place.
+abbrev pub Gives : {A : Type 0} → Result A Fault → Result A Fault → Type 0
+Gives (Ok value) defined = defined ≡ Ok value
+Gives (Err e) defined = e ≢ fault.Memory → defined ≡ Err e

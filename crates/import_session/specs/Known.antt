@@ -14,8 +14,6 @@ use Rattle.import_session.specs.declared.fault.Fault.TheVariants as fault
 -- A line that begins a command without a meaning.
 abbrev pub has_no_meaning : Part → Bool
 has_no_meaning part.Commit = true
-has_no_meaning part.Alias = true
-has_no_meaning part.Ls = true
 has_no_meaning _ = false
 
 -- Where such a line would begin its command it is unknown, whatever else it says. In the place of a

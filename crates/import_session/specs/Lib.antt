@@ -1,16 +1,22 @@
 -- In reading order: the faults, what a stream keeps, what its commands do, which are known, and the
--- stream from end to end; then where its parts lie, what its calls keep, store and print.
+-- stream from end to end; what it keeps true; then where its parts lie, what its calls keep, store
+-- and print.
 pub mod Faults
 pub mod Workspace
 pub mod Marks
 pub mod Branches
+pub mod CommitIshes
+pub mod Resets
 pub mod Storing
 pub mod Tags
 pub mod Checkpoints
+pub mod Showing
 pub mod Meaning
 pub mod Known
 pub mod Stream
+pub mod Sound
 pub mod Session
 pub mod Lent
 pub mod Stored
+pub mod Targets
 pub mod Printing

@@ -9,13 +9,14 @@ use Rattle.git_model.specs.Repository.{object_named}
 use Rattle.stream_grammar.specs.declared.fault.Fault.TheVariants as text_fault
 use Rattle.stream_grammar.specs.declared.feature.Feature.{Feature}
 use Rattle.stream_grammar.specs.declared.feature.Feature.TheVariants as feature
-use Rattle.stream_grammar.specs.Acts.{Act, Wait, StoreBlob, BeginTag, TagTarget, Tagger, StoreTag, Reset, ResetTo, Checkpoint, Progress, ShowMark, ShowObject, Finish, Require, SetHead}
+use Rattle.stream_grammar.specs.Acts.{Act, Wait, StoreBlob, BeginTag, TagTarget, Tagger, StoreTag, Reset, ResetTo, SetMark, Checkpoint, Progress, ShowMark, ShowObject, ShowEntry, Finish, Require, SetHead}
 use Rattle.import_session.specs.declared.fault.Fault.{Fault}
 use Rattle.import_session.specs.declared.fault.Fault.TheVariants as fault
 use Rattle.import_session.specs.Faults.{and_then}
 use Rattle.import_session.specs.Workspace.{Workspace, Effect, quiet}
 use Rattle.import_session.specs.Marks.{marked_name, referred_name, room_for, with_mark}
-use Rattle.import_session.specs.Branches.{branch_reset, branch_reset_to}
+use Rattle.import_session.specs.Resets.{branch_reset, branch_reset_to, alias_set}
+use Rattle.import_session.specs.Showing.{entry_shown}
 use Rattle.import_session.specs.Storing.{with_content}
 use Rattle.import_session.specs.Tags.{tag_begun, target_said, tagger_said, tag_stored}
 use Rattle.import_session.specs.Checkpoints.{checkpoint}
@@ -65,18 +66,23 @@ head_set ref workspace =
     if bytes_eq ref (codes "HEAD") then Err (fault.Text text_fault.BadRefName)
     else quiet (record workspace { head = Some ref })
 
--- What an act does that stores nothing, prints nothing and saves nothing.
+-- What an act does that looks at no object.
 unfoldable pub set_by : Act → Workspace → Result Effect Fault
 set_by Wait workspace = quiet workspace
 set_by (BeginTag ref) workspace = tag_begun ref workspace
 set_by (TagTarget target) workspace = target_said target workspace
 set_by (Tagger ident) workspace = tagger_said ident workspace
 set_by (Reset ref) workspace = branch_reset ref workspace
-set_by (ResetTo from) workspace = branch_reset_to from workspace
 set_by (Require feature) workspace = quiet (feature_set feature workspace)
 set_by (SetHead ref) workspace = head_set ref workspace
 -- No other act has a meaning here yet: none comes, for its command is unknown where it would begin.
 set_by _ workspace = Err (fault.Text text_fault.UnknownCommand)
+
+-- What an act does that places a branch or a mark at a commit.
+unfoldable pub placed_by : Act → Workspace → Result Effect Fault
+placed_by (ResetTo from) workspace = branch_reset_to from workspace
+placed_by (SetMark mark commit) workspace = alias_set mark commit workspace
+placed_by act workspace = set_by act workspace
 
 -- What an act prints, which leaves the workspace.
 unfoldable pub shown_by : Act → Workspace → Result Effect Fault
@@ -84,8 +90,11 @@ shown_by (ShowMark mark) workspace =
     and_then (marked_name workspace.marks mark) (λ id. prints workspace (encode_lower id))
 shown_by (ShowObject object) workspace =
     and_then (referred_name workspace.marks object) (λ id. blob_shown workspace id)
+shown_by (ShowEntry root path) workspace =
+    and_then (entry_shown workspace.objects workspace.marks root path) (λ line.
+    prints workspace line)
 shown_by (Progress line) workspace = prints workspace line
-shown_by act workspace = set_by act workspace
+shown_by act workspace = placed_by act workspace
 
 -- What each act leaves and prints, or the fault that refuses it.
 unfoldable pub after_act : (List ℕ → List ℕ) → Act → Workspace → Result Effect Fault

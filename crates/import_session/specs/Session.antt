@@ -28,7 +28,7 @@ pub record Own : Type 0 where
 abbrev pub own_shown : LentOwn → Own
 own_shown own = record {
   marks = own.marks.entries;
-  branches = own.branches.entries;
+  branches = own.branches;
   tags = own.tags.items;
   said = own.said;
   head = own.head;

@@ -2,6 +2,7 @@
 use Rattle.std.specs.Prelude.{ℕ, Bool, false, List, [], length, Option, None, Result, Ok}
 use Rattle.git_model.specs.RefStore.{RefStore}
 use Rattle.git_model.specs.Repository.{Object, Repository}
+use Rattle.stream_grammar.specs.Names.{Expression}
 use Rattle.import_session.specs.declared.branches.Tip.{Tip}
 use Rattle.import_session.specs.declared.fault.Fault.{Fault}
 use Rattle.import_session.specs.declared.said.Said.{Said}
@@ -11,7 +12,7 @@ abbrev pub Marks : Type 0
 Marks = List (ℕ × List ℕ)
 
 -- The branches of a stream, by their refs, in the order of their first appearance. Each is unborn,
--- or is marked as deleted.
+-- is marked as deleted, or stands at a commit.
 abbrev pub Branches : Type 0
 Branches = List (List ℕ × Tip)
 
@@ -21,7 +22,7 @@ PendingTags = List (List ℕ × List ℕ)
 
 -- A command has named its ref, and has said nothing else yet.
 abbrev pub said_of : List ℕ → Said
-said_of ref = record { ref_name = ref; target = None; tagger = None }
+said_of ref = record { ref_name = ref; target = Expression []; tagger = None }
 
 -- A workspace has the objects of the repository, oldest first and those of its own stream last, and
 -- how many of them stood at the last checkpoint; the refs and HEAD as last saved; marks,

@@ -3,6 +3,7 @@
 ghost use Rattle.std.specs.Prelude.{◌≡◌, OnErr, Ok, List, ℕ};
 ghost use Rattle.hex.specs.Hex.{encode_lower};
 ghost use Rattle.git_model.specs.RefStore.{RefStore};
+ghost use Rattle.git_model.specs.GoodRepository.{AreObjects};
 ghost use Rattle.git_model.specs.Repository.{object_named};
 ghost use Rattle.content_pool.specs.Pool.{HasRoom};
 ghost use Rattle.tenant_tables.specs.Objects.{objects};
@@ -14,14 +15,17 @@ ghost use Rattle.import_session.specs.Marks.{marked_name, referred_name};
 ghost use Rattle.import_session.specs.Meaning.{after_act, shown_by, shown_object};
 ghost use Rattle.import_session.specs.Lent.{IsUnchanged, Keeps};
 ghost use Rattle.import_session.specs.Printing.{Shows};
+ghost use Rattle.import_session.specs.Sound.{IsSound};
 ghost use Rattle.import_session.specs.Session.{own_shown, workspace_in, CarriesOut, Own as OwnShown};
 
 use crate::checkpoint::save;
+use crate::entries::print_stored;
 use crate::fault::Fault;
 use crate::marks;
 use crate::objects::{print_object, store};
-use crate::own::{self, Own};
+use crate::own::Own;
 use crate::print::{print_line, print_name};
+use crate::resets::place;
 use crate::tags::store_tag;
 use content_pool::Pool;
 use git_objects::{Kind, Name, Naming};
@@ -54,15 +58,6 @@ fn store_marked<N: Naming>(
     Ok(())
 }
 
-fn referred(marks: &IndexMap<Mark, Name>, object: DataRef) -> Result<Name, Fault>
-    ensures { result ≡ referred_name marks.now.entries object }
-{
-    match object {
-        DataRef::Mark(mark) => marks::find(marks, mark),
-        DataRef::Name(id) => Ok(id),
-    }
-}
-
 fn print_referred<N: Naming>(
     pool: &Pool<N>,
     table: &Table,
@@ -75,7 +70,7 @@ fn print_referred<N: Naming>(
         (λ id. shown_object id (object_named id (objects pool.now table.now.entries))))
         out.old.items out.new.items result }
 {
-    let id = referred(marks, object)?;
+    let id = marks::referred(marks, object)?;
     print_object(pool, table, id, out)
 }
 
@@ -99,7 +94,7 @@ fn show<N: Naming>(
     out: &mut Vec<u8>,
 ) -> Result<(), Fault>
     requires stands { StandsIn N.digest_of pool.now table.now.entries }
-    ensures done { CarriesOut
+    ensures done { AreObjects N.digest_of (objects pool.now table.now.entries) → CarriesOut
         (shown_by (act_shown act.now)
         (workspace_in (own_shown own.old) pool.now table.now refs.now))
         (workspace_in (own_shown own.new) pool.now table.now refs.now)
@@ -109,8 +104,9 @@ fn show<N: Naming>(
     match act {
         Act::ShowMark(mark) => print_marked(&own.marks, *mark, out),
         Act::ShowObject(object) => print_referred(pool, table, &own.marks, *object, out),
+        Act::ShowEntry { root, path } => print_stored(pool, table, own, *root, path, out),
         Act::Progress(line) => Ok(print_line(line, out)?),
-        _ => own::set(own, refs, act),
+        _ => place(pool, table, refs, own, act),
     }
 }
 
@@ -127,7 +123,8 @@ pub fn carry_out<N: Naming>(
     requires stands { StandsIn N.digest_of pool.old table.old.entries }
     requires room { HasRoom pool.old }
     ensures keeps { Keeps N.digest_of pool.old table.old pool.new table.new }
-    ensures done { CarriesOut
+    ensures done { IsSound N.digest_of
+        (workspace_in (own_shown own.old) pool.old table.old refs.old) → CarriesOut
         (after_act N.digest_of (act_shown act.now)
         (workspace_in (own_shown own.old) pool.old table.old refs.old))
         (workspace_in (own_shown own.new) pool.new table.new refs.new)
@@ -140,8 +137,8 @@ pub fn carry_out<N: Naming>(
         Act::StoreBlob { mark, contents } => {
             store_marked(pool, table, &mut own.marks, *mark, contents)
         }
-        Act::StoreTag { mark, message } => store_tag(pool, table, own, *mark, message),
-        Act::Checkpoint | Act::Finish => save(table, refs, own),
+        Act::StoreTag { mark, message } => store_tag(pool, table, refs, own, *mark, message),
+        Act::Checkpoint | Act::Finish => save(pool, table, refs, own, out),
         _ => show(pool, table, refs, own, act, out),
     }
 }

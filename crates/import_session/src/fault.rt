@@ -13,18 +13,30 @@ pub enum Fault {
     /// The text of the item, or its place: a fault of the grammar, under its number.
     #[error("{0}")]
     Text(stream_grammar::Fault),
+    /// What stands for a commit is no expression, 3.
+    #[error("malformed expression")]
+    Malformed,
     /// The stream asked for `done` and ended without it, 7.
     #[error("done missing")]
     DoneMissing,
     /// No object has this mark, 13.
     #[error("no object has this mark")]
     MarkUnknown,
+    /// The repository has no object of this name, 14.
+    #[error("no object has this name")]
+    ObjectUnknown,
     /// The object is of another kind than the command asks for, 15.
     #[error("the object is of another kind")]
     WrongKind,
-    /// What is to be tagged is no object of the repository, 16.
+    /// What stands for an object names none that the repository has, 16.
     #[error("unknown revision")]
     UnknownRevision,
+    /// Several object names begin so, 17.
+    #[error("ambiguous abbreviation")]
+    Ambiguous,
+    /// A branch is to start from itself, 19.
+    #[error("a branch from itself")]
+    BranchFromItself,
     /// Another content of this repository has the name of the new one, 24.
     #[error("another content has this object name")]
     NameCollision,
@@ -43,10 +55,14 @@ impl Fault {
     {
         match self {
             Fault::Text(text) => text.code(),
+            Fault::Malformed => 3,
             Fault::DoneMissing => 7,
             Fault::MarkUnknown => 13,
+            Fault::ObjectUnknown => 14,
             Fault::WrongKind => 15,
             Fault::UnknownRevision => 16,
+            Fault::Ambiguous => 17,
+            Fault::BranchFromItself => 19,
             Fault::NameCollision => 24,
             Fault::Limit => 25,
             Fault::Memory => 90,

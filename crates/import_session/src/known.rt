@@ -13,7 +13,7 @@ use stream_grammar::{Act, Done, Part};
 fn has_no_meaning(part: Part) -> bool
     ensures { result ≡ has_no_meaning part }
 {
-    matches!(part, Part::Commit | Part::Alias | Part::Ls)
+    matches!(part, Part::Commit)
 }
 
 /// The act of what the parser gave for an item which is this part, or why it is refused. A command

@@ -8,16 +8,21 @@
 mod acts;
 mod branches;
 mod checkpoint;
+mod commit_ishes;
+mod entries;
 mod fault;
 mod head;
 mod known;
+pub mod laws;
 mod marks;
 mod objects;
 mod own;
 mod print;
+mod resets;
 mod said;
 mod session;
 mod tags;
+mod target;
 
 pub use fault::Fault;
 pub use session::Session;

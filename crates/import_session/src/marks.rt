@@ -2,12 +2,12 @@
 
 ghost use Rattle.std.specs.Prelude.{◌≡◌, ◌≢◌, ◌<◌, Result, Ok, Err, MatchResult, OnOk};
 ghost use Rattle.indexmap.specs.IndexMap.{spare};
-ghost use Rattle.import_session.specs.Marks.{has_room, marked_name, room_for, with_mark};
+ghost use Rattle.import_session.specs.Marks.{has_room, marked_name, referred_name, room_for, with_mark};
 
 use crate::fault::Fault;
 use git_objects::Name;
 use indexmap::IndexMap;
-use stream_grammar::Mark;
+use stream_grammar::{DataRef, Mark};
 
 /// How many marks a stream may have.
 pub const MARKS_LIMIT: usize = 4_194_304;
@@ -53,5 +53,15 @@ pub fn find(marks: &IndexMap<Mark, Name>, mark: Mark) -> Result<Name, Fault>
     match marks.get(&mark) {
         Some(id) => Ok(*id),
         None => Err(Fault::MarkUnknown),
+    }
+}
+
+// The name of the object that a dataref stands for.
+pub fn referred(marks: &IndexMap<Mark, Name>, object: DataRef) -> Result<Name, Fault>
+    ensures { result ≡ referred_name marks.now.entries object }
+{
+    match object {
+        DataRef::Mark(mark) => find(marks, mark),
+        DataRef::Name(id) => Ok(id),
     }
 }

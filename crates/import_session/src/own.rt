@@ -4,15 +4,16 @@ ghost use Rattle.std.specs.Prelude.{◌≡◌, List, ℕ, IfOk, IfErr};
 ghost use Rattle.content_pool.specs.Pool.{Cells};
 ghost use Rattle.tenant_tables.specs.View.{View};
 ghost use Rattle.stream_grammar.specs.Shown.{act_shown, commit_shown};
-ghost use Rattle.import_session.specs.Branches.{branch_reset, branch_reset_to, is_zeros};
+ghost use Rattle.import_session.specs.Resets.{branch_reset};
 ghost use Rattle.import_session.specs.Tags.{tag_begun, tagger_said, target_said};
 ghost use Rattle.import_session.specs.Meaning.{feature_set, head_set, set_by};
 ghost use Rattle.import_session.specs.Session.{nothing_own, own_shown, workspace_in, CarriesOut};
 
-use crate::branches::{self, Tip, meant};
+use crate::branches::{Branches, Tip, copy_meant};
 use crate::fault::Fault;
 use crate::head::Head;
 use crate::said::{Said, said_of};
+use crate::target::Target;
 use git_objects::Name;
 use indexmap::IndexMap;
 use std::alloc::Global;
@@ -24,7 +25,7 @@ use tenant_refs::{RefName, Refs};
 pub struct Own {
     pub alloc: Global,
     pub marks: IndexMap<Mark, Name>,
-    pub branches: IndexMap<RefName, Tip>,
+    pub branches: Branches,
     // The tags that wait for the next checkpoint.
     pub tags: Vec<(RefName, Name)>,
     pub said: Option<Said>,
@@ -40,7 +41,7 @@ pub fn new_own(alloc: Global) -> Own
     Own {
         alloc,
         marks: IndexMap::new(alloc),
-        branches: IndexMap::new(alloc),
+        branches: Branches::new(alloc),
         tags: Vec::new(alloc),
         said: None,
         head: None,
@@ -54,41 +55,11 @@ fn reset(own: &mut Own, refs: &Refs, ref_name: &RefName) -> Result<(), Fault>
         (branch_reset ref_name.now (workspace_in (own_shown own.old) pool table refs.now))
         (workspace_in (own_shown own.new) pool table refs.now) out out result }
 {
-    let branch = meant(own.alloc, &own.head, refs, ref_name)?;
+    let branch = copy_meant(own.alloc, &own.head, refs, ref_name)?;
     let said = branch.try_clone(own.alloc)?;
-    branches::set(&mut own.branches, branch, Tip::Unborn)?;
-    own.said = Some(said_of(said));
+    own.branches.set(branch, Tip::Unborn)?;
+    own.said = Some(said_of(own.alloc, said));
     Ok(())
-}
-
-// Whether these are forty zeros, which stand for no commit.
-#[tactic(auto, unfolding(crate::specs::Branches::is_zeros))]
-fn is_zeros(commit: &CommitIsh<'_>) -> bool
-    ensures { result ≡ is_zeros (commit_shown commit.now) }
-{
-    match commit {
-        CommitIsh::Mark(_) => false,
-        CommitIsh::Expression(words) => *words == [b'0'; 40].as_slice(),
-    }
-}
-
-fn reset_to(own: &mut Own, refs: &Refs, from: &CommitIsh<'_>) -> Result<(), Fault>
-    ensures { (pool : Cells) (table : View) (out : List ℕ) → CarriesOut
-        (branch_reset_to (commit_shown from.now)
-        (workspace_in (own_shown own.old) pool table refs.now))
-        (workspace_in (own_shown own.new) pool table refs.now) out out result }
-{
-    let unknown = Err(Fault::Text(stream_grammar::Fault::UnknownCommand));
-    if !is_zeros(from) {
-        return unknown;
-    }
-    match own.said.take() {
-        None => unknown,
-        Some(said) => {
-            own.branches.insert(said.ref_name, Tip::Deleted)?;
-            Ok(())
-        }
-    }
 }
 
 fn begin_tag(own: &mut Own, refs: &Refs, ref_name: &RefName) -> Result<(), Fault>
@@ -97,7 +68,7 @@ fn begin_tag(own: &mut Own, refs: &Refs, ref_name: &RefName) -> Result<(), Fault
         (workspace_in (own_shown own.new) pool table refs.now) out out result }
 {
     let ref_name = ref_name.try_clone(own.alloc)?;
-    own.said = Some(said_of(ref_name));
+    own.said = Some(said_of(own.alloc, ref_name));
     Ok(())
 }
 
@@ -107,12 +78,12 @@ fn say_target(own: &mut Own, refs: &Refs, target: &CommitIsh<'_>) -> Result<(), 
         (workspace_in (own_shown own.old) pool table refs.now))
         (workspace_in (own_shown own.new) pool table refs.now) out out result }
 {
-    match (target, &mut own.said) {
-        (CommitIsh::Mark(mark), Some(said)) => {
-            said.target = Some(*mark);
+    match &mut own.said {
+        Some(said) => {
+            said.target = Target::copy_of(own.alloc, target)?;
             Ok(())
         }
-        _ => Err(Fault::Text(stream_grammar::Fault::UnknownCommand)),
+        None => Err(Fault::Text(stream_grammar::Fault::UnknownCommand)),
     }
 }
 
@@ -163,7 +134,7 @@ fn set_head(own: &mut Own, refs: &Refs, ref_name: &RefName) -> Result<(), Fault>
     Ok(())
 }
 
-// Carries out an act that stores nothing, prints nothing and saves nothing.
+// Carries out an act that looks at no object.
 #[tactic(auto, unfolding(crate::specs::Meaning::set_by))]
 pub fn set(own: &mut Own, refs: &Refs, act: &Act<'_>) -> Result<(), Fault>
     ensures { (pool : Cells) (table : View) (out : List ℕ) → CarriesOut
@@ -176,7 +147,6 @@ pub fn set(own: &mut Own, refs: &Refs, act: &Act<'_>) -> Result<(), Fault>
         Act::TagTarget(target) => say_target(own, refs, target),
         Act::Tagger(ident) => say_tagger(own, refs, ident),
         Act::Reset(ref_name) => reset(own, refs, ref_name),
-        Act::ResetTo(from) => reset_to(own, refs, from),
         Act::Require(feature) => {
             require(own, refs, *feature);
             Ok(())

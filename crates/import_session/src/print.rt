@@ -7,6 +7,7 @@ ghost use Rattle.import_session.specs.Meaning.{blob_text};
 
 use git_objects::{Memory, Name};
 use itoa::Buffer;
+use tenant_refs::RefName;
 
 fn append_all(parts: &[&[u8]], out: &mut Vec<u8>) -> Result<(), Memory>
     ensures written { OnOk result (out.new.items
@@ -39,6 +40,15 @@ pub fn print_line(line: &[u8], out: &mut Vec<u8>) -> Result<(), Memory>
     ensures same { OnErr result (out.new.items ≡ out.old.items) }
 {
     print(&[line, b"\n"], out)
+}
+
+// The ref of a branch that may not be moved.
+pub fn print_kept(ref_name: &RefName, out: &mut Vec<u8>) -> Result<(), Memory>
+    ensures written { OnOk result (out.new.items
+        ≡ out.old.items ++ codes "kept " ++ ref_name.now ++ codes "\n") }
+    ensures same { OnErr result (out.new.items ≡ out.old.items) }
+{
+    print(&[b"kept ", ref_name.as_bytes(), b"\n"], out)
 }
 
 // An object name alone on its line.

@@ -3,7 +3,9 @@
 ghost use Rattle.std.specs.Prelude.{◌≡◌};
 ghost use Rattle.import_session.specs.Workspace.{said_of};
 
-use stream_grammar::{Ident, Mark};
+use crate::target::Target;
+use std::alloc::Global;
+use stream_grammar::Ident;
 use tenant_refs::RefName;
 
 /// What the lines of the open command have said.
@@ -12,18 +14,18 @@ pub struct Said {
     /// The ref that it names.
     pub ref_name: RefName,
     /// What a tag is of.
-    pub target: Option<Mark>,
+    pub target: Target,
     /// Who made it.
     pub tagger: Option<Ident>,
 }
 
 // A command has named its ref, and has said nothing else yet.
-pub fn said_of(ref_name: RefName) -> Said
+pub fn said_of(alloc: Global, ref_name: RefName) -> Said
     ensures { result ≡ said_of ref_name }
 {
     Said {
         ref_name,
-        target: None,
+        target: Target::new(alloc),
         tagger: None,
     }
 }

@@ -10,7 +10,8 @@ ghost use Rattle.stream_grammar.specs.Shown.{act_shown};
 ghost use Rattle.stream_lex.specs.Looking.{item_of};
 ghost use Rattle.import_session.specs.Lent.{Keeps};
 ghost use Rattle.import_session.specs.Stream.{step, is_finish, session_end};
-ghost use Rattle.import_session.specs.Session.{running_in, repository_in, last_in, new_session, Takes, CarriesOut};
+ghost use Rattle.import_session.specs.Session.{running_in, repository_in, last_in, new_session, workspace_in, Takes, CarriesOut};
+ghost use Rattle.import_session.specs.Sound.{IsSound};
 
 use crate::acts::carry_out;
 use crate::checkpoint::save;
@@ -75,7 +76,8 @@ impl Session {
     /// Takes the next item, and appends what it prints to `out`: git-fast-import(1), "Commands".
     ///
     /// The fault of the item's text (2, 3, 5, 8, 9, 11, 12, 21, 22, 25) comes before that of its
-    /// meaning: `MarkUnknown` (13), `WrongKind` (15), `UnknownRevision` (16), `Limit` (25) and
+    /// meaning: `BranchFromItself` (19), `MarkUnknown` (13), `ObjectUnknown` (14), `WrongKind` (15),
+    /// `UnknownRevision` (16) or in its place `Malformed` (3), `Ambiguous` (17), `Limit` (25) and
     /// `NameCollision` (24). A command without a meaning here yet is unknown (2). `Memory` (90) may
     /// stand in place of any answer. After a refusal `out` is unchanged, the committed objects and
     /// the refs are those of the last checkpoint, and only `abandon` may follow. After `done` an
@@ -92,7 +94,8 @@ impl Session {
         requires stands { StandsIn N.digest_of pool.old table.old.entries }
         requires room { HasRoom pool.old }
         ensures keeps { Keeps N.digest_of pool.old table.old pool.new table.new }
-        ensures taken { Takes
+        ensures taken { IsSound N.digest_of
+            (workspace_in self.old.own pool.old table.old refs.old) → Takes
             (step N.digest_of (running_in self.old pool.old table.old refs.old)
             (item_of item.entry))
             (running_in self.new pool.new table.new refs.new) out.old.items out.new.items result }
@@ -112,8 +115,8 @@ impl Session {
         Ok(())
     }
 
-    /// The end of the stream, which is a checkpoint, unless `done` was read before. What it prints
-    /// is appended to `out`; no end prints anything yet.
+    /// The end of the stream, which is a checkpoint, unless `done` was read before. The refs that it
+    /// keeps are printed: appended to `out`, a line for each.
     ///
     /// `Fault::Text` (5) where a part of a command is missing, else `Fault::DoneMissing` (7) where
     /// the stream asked for `done`, else `Fault::Limit` (25) where the refs would be too many;
@@ -129,7 +132,8 @@ impl Session {
     ) -> Result<(), Fault>
         requires stands { StandsIn N.digest_of pool.old table.old.entries }
         ensures keeps { Keeps N.digest_of pool.old table.old pool.new table.new }
-        ensures ended { CarriesOut
+        ensures ended { IsSound N.digest_of
+            (workspace_in self.old.own pool.old table.old refs.old) → CarriesOut
             (session_end N.digest_of (running_in self.old pool.old table.old refs.old))
             (running_in self.new pool.new table.new refs.new).workspace out.old.items out.new.items
             result }
@@ -146,7 +150,7 @@ impl Session {
         if self.own.needs_done {
             return Err(Fault::DoneMissing);
         }
-        save(table, refs, &mut self.own)
+        save(pool, table, refs, &mut self.own, out)
     }
 
     /// Gives the stream up: its table is rolled back to the last checkpoint. Takes no memory.

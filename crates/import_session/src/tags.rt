@@ -3,17 +3,20 @@
 ghost use Rattle.std.specs.Prelude.{◌≡◌, ◌≢◌, ◌<◌, ◌++◌, length, drop, codes, List, ℕ, Ok, Err, MatchResult, IfOk, OnOk, OnErr, IfErr};
 ghost use Rattle.std.specs.Option.{option_map};
 ghost use Rattle.std.specs.Vec.{vec_capacity};
+ghost use Rattle.indexmap.specs.IndexMap.{spare};
 ghost use Rattle.git_model.specs.Content.{content_from};
-ghost use Rattle.git_model.specs.RefStore.{RefStore};
+ghost use Rattle.git_model.specs.GoodRepository.{AreObjects};
 ghost use Rattle.git_model.specs.References.{kind_named};
 ghost use Rattle.content_pool.specs.Pool.{HasRoom};
 ghost use Rattle.tenant_tables.specs.Objects.{objects};
 ghost use Rattle.tenant_tables.specs.StandsIn.{StandsIn};
-ghost use Rattle.import_session.specs.Tags.{room_for_tag, tag_content, tag_stored, tagged_kind, target_named};
+ghost use Rattle.import_session.specs.Faults.{Gives};
+ghost use Rattle.import_session.specs.Tags.{room_for_tag, tag_content, tag_is_open, tag_stored, tagged, tagged_kind};
 ghost use Rattle.import_session.specs.Lent.{IsUnchanged, Keeps};
 ghost use Rattle.import_session.specs.Stored.{Stores};
 ghost use Rattle.import_session.specs.Session.{own_shown, workspace_in, CarriesOut};
 
+use crate::commit_ishes::named;
 use crate::fault::Fault;
 use crate::marks;
 use crate::objects::{find_content, store};
@@ -21,10 +24,9 @@ use crate::own::Own;
 use crate::said::Said;
 use content_pool::Pool;
 use git_objects::{Kind, Name, Naming, TagParts, write_tag};
-use indexmap::IndexMap;
 use std::alloc::Global;
 use stream_grammar::{Ident, Mark};
-use tenant_refs::RefName;
+use tenant_refs::{RefName, Refs};
 use tenant_tables::Table;
 
 /// How many tags may wait for a checkpoint.
@@ -94,14 +96,40 @@ fn write(
     Ok(contents)
 }
 
-// The name of what is tagged, which stands at a mark.
-fn target_named(marks: &IndexMap<Mark, Name>, target: Option<Mark>) -> Result<Name, Fault>
-    ensures { result ≡ target_named marks.now.entries target }
+// A tag's ref begins with `refs/tags/`. Another one is there only where no tag is open.
+fn check_open(ref_name: &RefName) -> Result<(), Fault>
+    ensures { result ≡ tag_is_open ref_name.now }
 {
-    match target {
-        Some(mark) => marks::find(marks, mark),
-        None => Err(Fault::Text(stream_grammar::Fault::UnknownCommand)),
+    if ref_name.as_bytes().starts_with(TAGS) {
+        Ok(())
+    } else {
+        Err(Fault::Text(stream_grammar::Fault::UnknownCommand))
     }
+}
+
+// What is tagged, and its kind, with room for the tag's mark and for one more tag.
+fn tagged<N: Naming>(
+    pool: &Pool<N>,
+    table: &Table,
+    refs: &Refs,
+    own: &mut Own,
+    said: &Said,
+    mark: &Option<Mark>,
+) -> Result<(Name, Kind), Fault>
+    requires { StandsIn N.digest_of pool.now table.now.entries }
+    ensures tagged { AreObjects N.digest_of (objects pool.now table.now.entries) → Gives result
+        (tagged mark.now said.now
+        (workspace_in (own_shown own.old) pool.now table.now refs.now)) }
+    ensures mark { OnOk result (0 < spare own.new.marks) }
+    ensures tag { OnOk result (length own.new.tags.items < vec_capacity own.new.tags) }
+    ensures same { own_shown own.new ≡ own_shown own.old }
+{
+    check_open(&said.ref_name)?;
+    let target = named(pool, table, refs, own, &said.target.lent())?;
+    let kind = tagged_kind(pool, table, target)?;
+    marks::make_room(&mut own.marks, mark)?;
+    make_room(&mut own.tags)?;
+    Ok((target, kind))
 }
 
 // Writes a tag and stores it.
@@ -128,6 +156,7 @@ fn store_written<N: Naming>(
 pub fn store_tag<N: Naming>(
     pool: &mut Pool<N>,
     table: &mut Table,
+    refs: &Refs,
     own: &mut Own,
     mark: Option<Mark>,
     message: &[u8],
@@ -135,19 +164,16 @@ pub fn store_tag<N: Naming>(
     requires stands { StandsIn N.digest_of pool.old table.old.entries }
     requires room { HasRoom pool.old }
     ensures keeps { Keeps N.digest_of pool.old table.old pool.new table.new }
-    ensures done { (refs : RefStore) (out : List ℕ) → CarriesOut
-        (tag_stored N.digest_of mark message.now (own_shown own.old).said
-        (workspace_in (own_shown own.old) pool.old table.old refs))
-        (workspace_in (own_shown own.new) pool.new table.new refs) out out result }
+    ensures done { (out : List ℕ) → AreObjects N.digest_of (objects pool.old table.old.entries)
+        → CarriesOut (tag_stored N.digest_of mark message.now (own_shown own.old).said
+        (workspace_in (own_shown own.old) pool.old table.old refs.now))
+        (workspace_in (own_shown own.new) pool.new table.new refs.now) out out result }
     ensures same { OnErr result (IsUnchanged pool.old table.old pool.new table.new) }
 {
     let Some(said) = own.said.take() else {
         return Err(Fault::Text(stream_grammar::Fault::UnknownCommand));
     };
-    let target = target_named(&own.marks, said.target)?;
-    let kind = tagged_kind(pool, table, target)?;
-    marks::make_room(&mut own.marks, &mark)?;
-    make_room(&mut own.tags)?;
+    let (target, kind) = tagged(pool, table, refs, own, &said, &mark)?;
     let id = store_written(pool, table, own.alloc, &said, target, kind, message)?;
     marks::set(&mut own.marks, mark, id);
     own.tags.push((said.ref_name, id)).unwrap();

@@ -61,6 +61,18 @@ struct TagCase {
     holds: Option<&'static [u8; 40]>,
 }
 
+// What a stream of steps leaves of as many refs as there may be, `refs/tags/v` not among them, after
+// the cases before it: the number of its last answer, how many refs there are then, and whether that one and
+// the first branch are.
+struct FullCase {
+    leaves: &'static str,
+    steps: &'static [Step<'static>],
+    number: u16,
+    count: usize,
+    has_tag: bool,
+    has_first: bool,
+}
+
 const BLOB: Step<'static> = Step::Take(Item::Line(b"blob"));
 
 const MARK: Step<'static> = Step::Take(Item::Line(b"mark :1"));
@@ -94,6 +106,10 @@ const TAG: Step<'static> = Step::Take(Item::Line(b"tag v"));
 const OTHER_TAG: Step<'static> = Step::Take(Item::Line(b"tag w"));
 
 const FROM_MARK: Step<'static> = Step::Take(Item::Line(b"from :1"));
+
+const ALIAS: Step<'static> = Step::Take(Item::Line(b"alias"));
+
+const TO_FIRST: Step<'static> = Step::Take(Item::Line(b"to :1"));
 
 const TAGGER: Step<'static> = Step::Take(Item::Line(
     b"tagger A U Thor <author@example.com> 1700000000 +0100",
@@ -243,6 +259,31 @@ const CASES: &[Case] = &[
         },
     },
     Case {
+        does: "stores a tag of a saved tag under the name that git gives it, which is not peeled",
+        steps: &[
+            BLOB,
+            MARK,
+            HELLO,
+            TAG,
+            FROM_MARK,
+            TAGGER,
+            MESSAGE,
+            CHECKPOINT,
+            OTHER_TAG,
+            SECOND_MARK,
+            Step::Take(Item::Line(b"from v")),
+            MESSAGE,
+            Step::Take(Item::Line(b"get-mark :2")),
+        ],
+        printed: b"4c39ad1f24f4ef86507078029968107ec512d77f\n",
+        left: Left {
+            number: 0,
+            is_done: false,
+            stored: (3, 201),
+            given_up: (2, 131),
+        },
+    },
+    Case {
         does: "takes features and options",
         steps: &[
             FEATURE_DONE,
@@ -288,14 +329,39 @@ const REFUSALS: &[Refusal] = &[
         number: 11,
     },
     Refusal {
-        refuses: "an alias",
-        steps: &[Step::Take(Item::Line(b"alias"))],
-        number: 2,
+        refuses: "an alias without a mark",
+        steps: &[ALIAS, TO_FIRST],
+        number: 5,
     },
     Refusal {
-        refuses: "an ls",
+        refuses: "an alias to a mark that is not there",
+        steps: &[ALIAS, SECOND_MARK, TO_FIRST],
+        number: 13,
+    },
+    Refusal {
+        refuses: "an alias to a blob",
+        steps: &[BLOB, MARK, HELLO, ALIAS, SECOND_MARK, TO_FIRST],
+        number: 15,
+    },
+    Refusal {
+        refuses: "an alias to a branch that is unborn, though its ref is there",
+        steps: &[
+            RESET,
+            ALIAS,
+            MARK,
+            Step::Take(Item::Line(b"to refs/heads/m")),
+        ],
+        number: 16,
+    },
+    Refusal {
+        refuses: "an alias to what is no expression",
+        steps: &[ALIAS, MARK, Step::Take(Item::Line(b"to m^{x}"))],
+        number: 3,
+    },
+    Refusal {
+        refuses: "an ls of a mark that is not there",
         steps: &[Step::Take(Item::Line(b"ls :1 a"))],
-        number: 2,
+        number: 13,
     },
     Refusal {
         refuses: "a tag in the place of data",
@@ -308,15 +374,43 @@ const REFUSALS: &[Refusal] = &[
         number: 13,
     },
     Refusal {
-        refuses: "a tag of an expression, which has no meaning yet",
+        refuses: "a tag of a branch that is not there",
+        steps: &[TAG, Step::Take(Item::Line(b"from refs/heads/n")), MESSAGE],
+        number: 16,
+    },
+    Refusal {
+        refuses: "a tag of forty zeros, which in a tag are a name like others",
+        steps: &[TAG, FROM_ZEROS, MESSAGE],
+        number: 16,
+    },
+    Refusal {
+        refuses: "a tag of what is no expression",
+        steps: &[TAG, Step::Take(Item::Line(b"from ")), MESSAGE],
+        number: 3,
+    },
+    Refusal {
+        refuses: "a tag of digits that several names begin with",
         steps: &[
             BLOB,
-            MARK,
+            HELLO,
+            BLOB,
+            OTHER,
+            TAG,
+            Step::Take(Item::Line(b"from abab")),
+            MESSAGE,
+        ],
+        number: 17,
+    },
+    Refusal {
+        refuses: "a tag of a blob peeled to a commit",
+        steps: &[
+            BLOB,
             HELLO,
             TAG,
-            Step::Take(Item::Line(b"from refs/heads/m")),
+            Step::Take(Item::Line(b"from abab^{commit}")),
+            MESSAGE,
         ],
-        number: 2,
+        number: 15,
     },
     Refusal {
         refuses: "a tag without what it is of",
@@ -396,9 +490,38 @@ const REFUSALS: &[Refusal] = &[
         number: 11,
     },
     Refusal {
-        refuses: "a reset to a commit",
+        refuses: "a reset to a branch that is not there",
         steps: &[RESET, Step::Take(Item::Line(b"from refs/heads/n"))],
-        number: 2,
+        number: 16,
+    },
+    Refusal {
+        refuses: "a reset to a blob",
+        steps: &[BLOB, MARK, HELLO, RESET, FROM_MARK],
+        number: 15,
+    },
+    Refusal {
+        refuses: "a reset to a mark that is not there",
+        steps: &[RESET, FROM_MARK],
+        number: 13,
+    },
+    Refusal {
+        refuses: "a reset of a branch to itself",
+        steps: &[RESET, Step::Take(Item::Line(b"from refs/heads/m"))],
+        number: 19,
+    },
+    Refusal {
+        refuses: "a reset of the branch that HEAD names to HEAD",
+        steps: &[HEAD_AT_M, RESET, Step::Take(Item::Line(b"from HEAD"))],
+        number: 19,
+    },
+    Refusal {
+        refuses: "a reset of HEAD to the branch that HEAD names",
+        steps: &[
+            HEAD_AT_M,
+            RESET_HEAD,
+            Step::Take(Item::Line(b"from refs/heads/m")),
+        ],
+        number: 19,
     },
     Refusal {
         refuses: "a from outside a reset",
@@ -521,6 +644,37 @@ const TAG_CASES: &[TagCase] = &[
         holds: Some(TAG_OF_HELLO),
     },
     TagCase {
+        leaves: "a tag of the blob whose name begins so",
+        steps: &[
+            BLOB,
+            HELLO,
+            TAG,
+            Step::Take(Item::Line(b"from ce013")),
+            TAGGER,
+            MESSAGE,
+            DONE,
+        ],
+        holds: Some(TAG_OF_HELLO),
+    },
+    TagCase {
+        leaves: "a tag of what another tag is of",
+        steps: &[
+            BLOB,
+            MARK,
+            HELLO,
+            OTHER_TAG,
+            FROM_MARK,
+            MESSAGE,
+            CHECKPOINT,
+            TAG,
+            Step::Take(Item::Line(b"from w^{}")),
+            TAGGER,
+            MESSAGE,
+            DONE,
+        ],
+        holds: Some(TAG_OF_HELLO),
+    },
+    TagCase {
         leaves: "a tag at the end",
         steps: &[
             BLOB,
@@ -576,9 +730,109 @@ const TAG_CASES: &[TagCase] = &[
         holds: None,
     },
     TagCase {
+        leaves: "no tag where its branch is deleted after the tag was saved, by force or not",
+        steps: &[
+            Step::Take(Item::Line(b"feature force")),
+            BLOB,
+            MARK,
+            HELLO,
+            TAG,
+            FROM_MARK,
+            TAGGER,
+            MESSAGE,
+            CHECKPOINT,
+            Step::Take(Item::Line(b"reset refs/tags/v")),
+            FROM_ZEROS,
+            Step::Finish,
+        ],
+        holds: None,
+    },
+    TagCase {
+        leaves: "a tag that was saved, where its branch is unborn",
+        steps: &[
+            BLOB,
+            MARK,
+            HELLO,
+            TAG,
+            FROM_MARK,
+            TAGGER,
+            MESSAGE,
+            CHECKPOINT,
+            Step::Take(Item::Line(b"reset refs/tags/v")),
+            DONE,
+        ],
+        holds: Some(TAG_OF_HELLO),
+    },
+    TagCase {
         leaves: "no tag that a fault loses",
         steps: &[BLOB, MARK, HELLO, TAG, FROM_MARK, TAGGER, MESSAGE, WRONG],
         holds: None,
+    },
+];
+
+const FULL: usize = 65_536;
+
+const RESET_FIRST: Step<'static> = Step::Take(Item::Line(b"reset refs/heads/aaaa"));
+
+const FULL_CASES: &[FullCase] = &[
+    FullCase {
+        leaves: "all refs at a checkpoint with one tag too many",
+        steps: &[BLOB, MARK, HELLO, TAG, FROM_MARK, MESSAGE, CHECKPOINT],
+        number: 25,
+        count: FULL,
+        has_tag: false,
+        has_first: true,
+    },
+    FullCase {
+        leaves: "all refs at an end with one tag too many, which deletes none either",
+        steps: &[
+            BLOB,
+            MARK,
+            HELLO,
+            TAG,
+            FROM_MARK,
+            MESSAGE,
+            OTHER_TAG,
+            FROM_MARK,
+            MESSAGE,
+            RESET_FIRST,
+            FROM_ZEROS,
+            Step::Finish,
+        ],
+        number: 25,
+        count: FULL,
+        has_tag: false,
+        has_first: true,
+    },
+    FullCase {
+        leaves: "a tag where a deleted branch makes room for it",
+        steps: &[
+            BLOB,
+            MARK,
+            HELLO,
+            TAG,
+            FROM_MARK,
+            MESSAGE,
+            RESET_FIRST,
+            FROM_ZEROS,
+            DONE,
+        ],
+        number: 0,
+        count: FULL,
+        has_tag: true,
+        has_first: false,
+    },
+    FullCase {
+        leaves: "one ref less where another branch is deleted",
+        steps: &[
+            Step::Take(Item::Line(b"reset refs/heads/aaab")),
+            FROM_ZEROS,
+            DONE,
+        ],
+        number: 0,
+        count: FULL - 1,
+        has_tag: true,
+        has_first: false,
     },
 ];
 
@@ -663,6 +917,46 @@ fn leaves_so(alloc: Global, case: &RefCase) -> bool {
     refs.head() == case.head && refs.get(b"refs/heads/m").is_some() == case.has_ref
 }
 
+// One of sixteen letters.
+fn letter(number: usize) -> u8 {
+    b'a' + (number % 16) as u8
+}
+
+// One of 65,536 branches, in rising order.
+fn branch_text(number: usize) -> [u8; 15] {
+    let mut text = *b"refs/heads/aaaa";
+    text[11] = letter(number / 4096);
+    text[12] = letter(number / 256);
+    text[13] = letter(number / 16);
+    text[14] = letter(number);
+    text
+}
+
+// Sets one of these branches, where memory is left.
+fn set_branch(alloc: Global, refs: &mut Refs, number: usize) {
+    if let Ok(name) = RefName::read(alloc, &branch_text(number)) {
+        let _set = refs.set(&name, Name::from_bytes([7; 20]));
+    }
+}
+
+// As many refs as there may be, where memory is left.
+fn full_refs(alloc: Global) -> Refs {
+    let mut refs = Refs::new(alloc);
+    for number in 0..FULL {
+        set_branch(alloc, &mut refs, number);
+    }
+    refs
+}
+
+fn leaves_full(alloc: Global, refs: &mut Refs, case: &FullCase) -> bool {
+    let mut out = Vec::new(alloc);
+    let left = run(alloc, Sha1Naming, refs, case.steps, &mut out);
+    left.number == case.number
+        && refs.len() == case.count
+        && refs.get(b"refs/tags/v").is_some() == case.has_tag
+        && refs.get(b"refs/heads/aaaa").is_some() == case.has_first
+}
+
 fn leaves_tag(alloc: Global, case: &TagCase) -> bool {
     let mut out = Vec::new(alloc);
     let mut refs = Refs::new(alloc);
@@ -702,6 +996,16 @@ fn first_wrong_refs(alloc: Global) -> Option<&'static str> {
     None
 }
 
+fn first_wrong_full(alloc: Global) -> Option<&'static str> {
+    let mut refs = full_refs(alloc);
+    for case in FULL_CASES {
+        if !leaves_full(alloc, &mut refs, case) {
+            return Some(case.leaves);
+        }
+    }
+    None
+}
+
 fn first_wrong_tag(alloc: Global) -> Option<&'static str> {
     for case in TAG_CASES {
         if !leaves_tag(alloc, case) {
@@ -732,5 +1036,11 @@ fn leaves_head_and_refs(rt: HostRuntime) -> Result<(), Fail> {
 #[test]
 fn leaves_tags(rt: HostRuntime) -> Result<(), Fail> {
     assert_eq!(rt; first_wrong_tag(rt.alloc()), None);
+    Ok(())
+}
+
+#[test]
+fn counts_refs_after_a_checkpoint(rt: HostRuntime) -> Result<(), Fail> {
+    assert_eq!(rt; first_wrong_full(rt.alloc()), None);
     Ok(())
 }

@@ -3,5 +3,6 @@ mod TenantLemmas
 mod OwnLemmas
 pub mod AccountLemmas
 pub mod RunLemmas
+mod SoundLemmas
 mod RestartLemmas
 mod StoredLemmas

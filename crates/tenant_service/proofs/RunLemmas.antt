@@ -142,7 +142,7 @@ own-named digest tenant s given true p q es new answer out out' which h = by (by
     by false apart =
         own-other digest tenant s (told_in answer out out') _ _ (which ∙ apart) (h.others tenant (apart-back given tenant apart))
 
-held-restarted : (tenant : List ℕ) (all : Holdings) → held_of tenant (restarted all) ≡ Idle (last_held (held_of tenant all))
+pub held-restarted : (tenant : List ℕ) (all : Holdings) → held_of tenant (restarted all) ≡ Idle (last_held (held_of tenant all))
 held-restarted tenant [] = refl
 held-restarted tenant (e ∷ all) = by (bytes_eq tenant e.0) (held-restarted tenant all)
   where

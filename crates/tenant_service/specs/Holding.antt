@@ -12,8 +12,10 @@ use Rattle.git_model.specs.Repository.{Repository, Object}
 use Rattle.stream_lex.specs.Items.{Tail, Rest}
 use Rattle.stream_lex.specs.Running.{more_of}
 use Rattle.import_session.specs.Workspace.{opened}
-use Rattle.import_session.specs.Stream.{Running, Standing, Runs, Refused, Outcome, begun, carried}
+use Rattle.import_session.specs.Stream.{Running, Standing, Runs, Refused, Outcome, begun}
+use Rattle.import_session.specs.Sound.{IsSoundRepository}
 use Rattle.tenant_stream.specs.Carrying.{outcome_behind}
+use Rattle.tenant_stream.specs.Soundness.{IsSoundStanding}
 use Rattle.service_steps.specs.declared.answer.Answer.{Answer}
 use Rattle.service_steps.specs.declared.answer.Answer.TheVariants as answer
 use Rattle.tenant_service.specs.Alone.{Call, Open, Feed, End, Ask, Restart, State, Closed, Streaming, Dead, Turn, turn, refused_under, unless_out_of_memory, stream_of, last_of, Stopped, stop_behind, ended, closed}
@@ -31,6 +33,11 @@ LeadsTo digest (Streaming repository bytes) (Busy (Runs now tail)) =
     (stream_of digest repository bytes).standing ≡ Runs now tail
 LeadsTo digest (Dead code repository) (Busy standing) = standing ≡ Refused code repository
 LeadsTo digest _ _ = ⊥
+
+-- What is held is sound: a repository whose objects are good, or a stream that stands soundly.
+abbrev pub IsSoundHolding : (List ℕ → List ℕ) → Holding → Type 0
+IsSoundHolding digest (Idle repository) = IsSoundRepository digest repository
+IsSoundHolding digest (Busy standing) = IsSoundStanding digest standing
 
 -- A repository without objects and refs.
 abbrev pub empty_repository : Repository

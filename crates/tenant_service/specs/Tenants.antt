@@ -16,7 +16,7 @@ use Rattle.tenant_service.specs.declared.tenant.Phase.TheVariants as phase
 use Rattle.tenant_service.specs.declared.tenant.Tenant.{Tenant}
 use Rattle.tenant_service.specs.Alone.{State}
 use Rattle.tenant_stream.specs.Carrying.{Between, stream_in}
-use Rattle.tenant_service.specs.Holding.{Holding, Idle, Busy, Holdings, LeadsTo, held_of, held_objects, last_held}
+use Rattle.tenant_service.specs.Holding.{Holding, Idle, Busy, Holdings, LeadsTo, IsSoundHolding, held_of, held_objects, last_held}
 
 -- After `done` no bytes are kept.
 unfoldable pub kept_tail : Between → Tail
@@ -80,7 +80,12 @@ pub record Shows (held : Holding) (pool : Cells) (table : View) (refs : RefStore
 abbrev pub AreLed : (List ℕ → List ℕ) → Holdings → Type 0
 AreLed digest all = (tenant : List ℕ) → (state : State) × LeadsTo digest state (held_of tenant all)
 
+-- What is held of any tenant is sound.
+abbrev pub AreSound : (List ℕ → List ℕ) → Holdings → Type 0
+AreSound digest all = (tenant : List ℕ) → IsSoundHolding digest (held_of tenant all)
+
 -- What is always true of a service.
 pub record IsService (digest : List ℕ → List ℕ) (pool : Cells) (tenants : Tenants) : Type 0 where
   pub accounts : Accounts digest pool tenants
   pub led : AreLed digest (holdings pool tenants)
+  pub sound : AreSound digest (holdings pool tenants)

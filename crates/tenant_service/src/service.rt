@@ -19,7 +19,7 @@ ghost use Rattle.std.specs.Map.{keys_of};
 ghost use Rattle.std.specs.Str.{bytes_eq};
 ghost use Rattle.tenant_service.specs.Alone.{added, State};
 ghost use Rattle.tenant_service.specs.Headline.{IsItsOwn, IsRefused, told_in, told_since, run_of};
-ghost use Rattle.tenant_service.specs.Holding.{LeadsTo, Idle, empty_repository, held_of, held_contents, has_commit};
+ghost use Rattle.tenant_service.specs.Holding.{LeadsTo, IsSoundHolding, Idle, empty_repository, held_of, held_contents, has_commit};
 ghost use Rattle.tenant_service.specs.Tenants.{Shows};
 ghost use Rattle.tenant_tables.specs.StandsIn.{StandsIn};
 
@@ -74,6 +74,14 @@ impl<N: Naming> Service<N> {
     pub fn is_led(&self)
         ensures { (tenant : List ℕ) → (state : State)
             × LeadsTo N.digest_of state (held_of tenant self.now) }
+    {
+        let _pool = &self.pool;
+    }
+
+    /// The objects of every tenant are good, and each stream that runs is sound: a fact for proofs.
+    /// A call does nothing.
+    pub fn is_sound(&self)
+        ensures { (tenant : List ℕ) → IsSoundHolding N.digest_of (held_of tenant self.now) }
     {
         let _pool = &self.pool;
     }

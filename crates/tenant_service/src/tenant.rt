@@ -6,10 +6,11 @@
 ghost use Rattle.std.specs.Prelude.{◌≡◌, length, [], ◌∷◌, Ok, Err};
 ghost use Rattle.tenant_tables.specs.StandsIn.{StandsIn, LeavesOthers};
 ghost use Rattle.import_session.specs.Session.{repository_in};
+ghost use Rattle.import_session.specs.Sound.{IsSound};
 ghost use Rattle.tenant_service.specs.Alone.{Open, Feed, End, Ask, Restart};
 ghost use Rattle.tenant_stream.specs.Carrying.{HasAmpleRoom, stream_in};
 ghost use Rattle.tenant_service.specs.Headline.{stop_told};
-ghost use Rattle.tenant_service.specs.Holding.{Idle, step_held, empty_repository, last_held};
+ghost use Rattle.tenant_service.specs.Holding.{Idle, IsSoundHolding, step_held, empty_repository, last_held};
 ghost use Rattle.tenant_service.specs.Tenants.{held_in, holding_in, kept_tail, Stands, IsSettled};
 ghost use Rattle.tenant_service.specs.OneStep.{Takes, Fed};
 
@@ -101,6 +102,8 @@ fn feed_stream<N: Naming>(
 ) -> Result<(), Stop>
     requires stands { StandsIn N.digest_of pool.old table.old.entries }
     requires room { HasAmpleRoom pool.old }
+    requires sound { IsSound N.digest_of
+        (stream_in stream.old pool.old table.old refs.old).workspace }
     ensures stands { StandsIn N.digest_of pool.new table.new.entries }
     ensures others { LeavesOthers pool.old table.old.entries pool.new table.new.entries }
     ensures fed { Fed N.digest_of
@@ -122,6 +125,7 @@ pub fn feed<N: Naming>(
 ) -> Answer
     requires stands { Stands N.digest_of pool.old tenant.old }
     requires room { HasAmpleRoom pool.old }
+    requires sound { IsSoundHolding N.digest_of (holding_in pool.old tenant.old) }
     ensures stands { Stands N.digest_of pool.new tenant.new }
     ensures others { LeavesOthers pool.old tenant.old.table.entries pool.new tenant.new.table.entries }
     ensures own { Takes
@@ -161,6 +165,7 @@ pub fn feed<N: Naming>(
 /// stream.
 pub fn end<N: Naming>(pool: &mut Pool<N>, tenant: &mut Tenant, out: &mut Vec<u8>) -> Answer
     requires stands { Stands N.digest_of pool.old tenant.old }
+    requires sound { IsSoundHolding N.digest_of (holding_in pool.old tenant.old) }
     ensures stands { Stands N.digest_of pool.new tenant.new }
     ensures others { LeavesOthers pool.old tenant.old.table.entries pool.new tenant.new.table.entries }
     ensures own { Takes

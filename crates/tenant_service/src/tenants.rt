@@ -9,7 +9,7 @@ ghost use Rattle.std.specs.Str.{bytes_eq};
 ghost use Rattle.tenant_refs.specs.TenantName.{is_tenant_name as names_tenant};
 ghost use Rattle.tenant_service.specs.Alone.{Open, Feed, End};
 ghost use Rattle.tenant_stream.specs.Carrying.{HasAmpleRoom};
-ghost use Rattle.tenant_service.specs.Tenants.{Accounts, holdings, has_committed};
+ghost use Rattle.tenant_service.specs.Tenants.{Accounts, AreSound, holdings, has_committed};
 ghost use Rattle.tenant_service.specs.OneStep.{store, Serves, Steps, restarted, restarted_at};
 
 use crate::tenant::{Tenant, end, feed, new_tenant, open, restart};
@@ -28,7 +28,8 @@ pub fn feed_one<N: Naming>(
     piece: &[u8],
     out: &mut Vec<u8>,
 ) -> Answer
-    requires { Accounts N.digest_of pool.old tenants.old.entries }
+    requires accounts { Accounts N.digest_of pool.old tenants.old.entries }
+    requires sound { AreSound N.digest_of (holdings pool.old tenants.old.entries) }
     ensures { Serves N.digest_of name.now (Feed piece.now) (store pool.old tenants.old.entries) result
         out.old.items out.new.items (store pool.new tenants.new.entries) }
 {
@@ -47,7 +48,8 @@ pub fn end_one<N: Naming>(
     name: &TenantName,
     out: &mut Vec<u8>,
 ) -> Answer
-    requires { Accounts N.digest_of pool.old tenants.old.entries }
+    requires accounts { Accounts N.digest_of pool.old tenants.old.entries }
+    requires sound { AreSound N.digest_of (holdings pool.old tenants.old.entries) }
     ensures { Serves N.digest_of name.now End (store pool.old tenants.old.entries) result
         out.old.items out.new.items (store pool.new tenants.new.entries) }
 {
@@ -148,7 +150,8 @@ pub fn take_step<N: Naming>(
     step: Step<'_>,
     out: &mut Vec<u8>,
 ) -> Answer
-    requires { Accounts N.digest_of pool.old tenants.old.entries }
+    requires accounts { Accounts N.digest_of pool.old tenants.old.entries }
+    requires sound { AreSound N.digest_of (holdings pool.old tenants.old.entries) }
     ensures { Steps N.digest_of step.entry (store pool.old tenants.old.entries) result
         out.old.items out.new.items (store pool.new tenants.new.entries) }
 {

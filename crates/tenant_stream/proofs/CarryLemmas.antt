@@ -15,7 +15,7 @@ use Rattle.import_session.specs.Session.{Takes}
 use Rattle.import_session.specs.Stream.{Running, Step, Outcome, after_reply, carried, going_on, at_tail, last_checkpoint, refused, step}
 use Rattle.tenant_stream.specs.declared.stop.Stop.{Stop}
 use Rattle.tenant_stream.specs.Stopping.{stop_of, unfed}
-use Rattle.tenant_stream.specs.Carrying.{Advances, IsRefused, IsDrained, Goes, Ends, Fails, Carries, Feeds}
+use Rattle.tenant_stream.specs.Carrying.{Advances, ReadsOn, IsRefused, IsDrained, Goes, Ends, Fails, Carries, Feeds}
 
 -- an item that was carried out stands first
 carried_first : (digest : List ℕ → List ℕ) (now : Running) (item : Item) (s : Step)
@@ -47,21 +47,42 @@ after_replies a b o = ap (λ r. record { replies = r; standing = o.standing })
     (sym (append_assoc a b o.replies))
 
 -- nothing was done
-pub Advances-refl : (digest : List ℕ → List ℕ) (now : Running) (tail : Tail)
+Advances-refl : (digest : List ℕ → List ℕ) (now : Running) (tail : Tail)
     → Advances digest now tail [] [] now tail
 Advances-refl digest now tail = record { reads = λ more. refl; carries = λ later t. refl }
 
+-- so far, with its replies
+pub record Advanced (digest : List ℕ → List ℕ) (now : Running) (old : Tail) (out : List ℕ)
+    (items : List Item) (next : Running) (new : Tail)
+    (out' : List ℕ) : Type 0 where
+  pub replies : List ℕ
+  pub advances : Advances digest now old items replies next new
+  pub printed : out' ≡ out ++ replies
+
+pub Advanced-refl : (digest : List ℕ → List ℕ) (now : Running) (tail : Tail) (out : List ℕ)
+    → Advanced digest now tail out [] now tail out
+Advanced-refl digest now tail out = record {
+  replies = [];
+  advances = Advances-refl digest now tail;
+  printed = sym (append-nil out);
+}
+
 -- one item more
-pub Advances-step : (digest : List ℕ → List ℕ) (now : Running) (old : Tail) (items : List Item)
+pub reads_more : (old : Tail) (items : List Item) (rest : Tail) (item : Item) (new : Tail)
+    → ReadsOn old items rest → TakesItem rest item new → ReadsOn old (items ++ item ∷ []) new
+reads_more old items rest item new reads takes more =
+    reads more ∙ ap (behind_items items) (takes more)
+    ∙ ap (λ l. record { items = l; tail = (more_of new more).tail })
+    (sym (append_assoc items (item ∷ []) (more_of new more).items))
+
+Advances-step : (digest : List ℕ → List ℕ) (now : Running) (old : Tail) (items : List Item)
     (replies : List ℕ) (mid : Running) (rest : Tail)
     (item : Item) (s : Step) (new : Tail)
     → Advances digest now old items replies mid rest → TakesItem rest item new
     → step digest mid item ≡ Ok s
     → Advances digest now old (items ++ item ∷ []) (replies ++ s.reply) s.running new
 Advances-step digest now old items replies mid rest item s new adv takes was = record {
-  reads = λ more. adv.reads more ∙ ap (behind_items items) (takes more)
-      ∙ ap (λ l. record { items = l; tail = (more_of new more).tail })
-      (sym (append_assoc items (item ∷ []) (more_of new more).items));
+  reads = reads_more old items rest item new adv.reads takes;
   carries = λ later t.
       ap (λ l. carried digest now l t) (append_assoc items (item ∷ []) later)
       ∙ adv.carries (item ∷ later) t
@@ -163,6 +184,22 @@ item_stops digest now old out items mid rest item new left at out' count fault.U
     counted takes taken =
     fails digest now old out items mid rest item new left at out' fault.UnknownRevision ends takes
     (λ e. cc) taken
+item_stops digest now old out items mid rest item new left at out' count fault.Malformed ends
+    counted takes taken =
+    fails digest now old out items mid rest item new left at out' fault.Malformed ends takes
+    (λ e. cc) taken
+item_stops digest now old out items mid rest item new left at out' count fault.ObjectUnknown ends
+    counted takes taken =
+    fails digest now old out items mid rest item new left at out' fault.ObjectUnknown ends takes
+    (λ e. cc) taken
+item_stops digest now old out items mid rest item new left at out' count fault.Ambiguous ends
+    counted takes taken =
+    fails digest now old out items mid rest item new left at out' fault.Ambiguous ends takes
+    (λ e. cc) taken
+item_stops digest now old out items mid rest item new left at out' count fault.BranchFromItself ends
+    counted takes taken =
+    fails digest now old out items mid rest item new left at out' fault.BranchFromItself ends takes
+    (λ e. cc) taken
 item_stops digest now old out items mid rest item new left at out' count fault.NameCollision ends
     counted takes taken =
     fails digest now old out items mid rest item new left at out' fault.NameCollision ends takes
@@ -217,13 +254,6 @@ goes digest now old out items replies next new out' adv printed none = record {
 }
 
 -- one item more, and its reply
-pub record Advanced (digest : List ℕ → List ℕ) (now : Running) (old : Tail) (out : List ℕ)
-    (items : List Item) (next : Running) (new : Tail)
-    (out' : List ℕ) : Type 0 where
-  pub replies : List ℕ
-  pub advances : Advances digest now old items replies next new
-  pub printed : out' ≡ out ++ replies
-
 advanced : (digest : List ℕ → List ℕ) (now : Running) (old : Tail) (out : List ℕ)
     (items : List Item) (replies : List ℕ) (mid : Running)
     (rest : Tail) (item : Item) (new : Tail) (next : Running) (at out' : List ℕ)

@@ -130,6 +130,14 @@ refuses digest now tail left out out' fault.WrongKind running ended carried =
     faults digest now tail left out out' fault.WrongKind running ended (λ e. cc) carried
 refuses digest now tail left out out' fault.UnknownRevision running ended carried =
     faults digest now tail left out out' fault.UnknownRevision running ended (λ e. cc) carried
+refuses digest now tail left out out' fault.Malformed running ended carried =
+    faults digest now tail left out out' fault.Malformed running ended (λ e. cc) carried
+refuses digest now tail left out out' fault.ObjectUnknown running ended carried =
+    faults digest now tail left out out' fault.ObjectUnknown running ended (λ e. cc) carried
+refuses digest now tail left out out' fault.Ambiguous running ended carried =
+    faults digest now tail left out out' fault.Ambiguous running ended (λ e. cc) carried
+refuses digest now tail left out out' fault.BranchFromItself running ended carried =
+    faults digest now tail left out out' fault.BranchFromItself running ended (λ e. cc) carried
 refuses digest now tail left out out' fault.NameCollision running ended carried =
     faults digest now tail left out out' fault.NameCollision running ended (λ e. cc) carried
 refuses digest now tail left out out' fault.Limit running ended carried =

@@ -3,3 +3,4 @@ mod CountLemmas
 mod EndLemmas
 mod RoomLemmas
 pub mod StreamLemmas
+pub mod SoundLemmas

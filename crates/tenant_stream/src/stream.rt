@@ -8,8 +8,10 @@ ghost use Rattle.std.specs.Prelude.{◌≡◌, false, OnErr};
 ghost use Rattle.tenant_tables.specs.StandsIn.{StandsIn};
 ghost use Rattle.import_session.specs.Lent.{Keeps};
 ghost use Rattle.import_session.specs.Session.{running_in, repository_in, last_in};
+ghost use Rattle.import_session.specs.Sound.{IsSound, IsSoundRepository};
 ghost use Rattle.tenant_stream.specs.Stopping.{unfed};
 ghost use Rattle.tenant_stream.specs.Carrying.{new_stream, stream_in, Carries, Feeds, EndsAs, HasAmpleRoom, IsCommitted};
+ghost use Rattle.tenant_stream.specs.Soundness.{LeavesSound};
 
 use crate::stop::{Stop, stop_of};
 use content_pool::Pool;
@@ -34,8 +36,9 @@ fn carry<N: Naming>(
     requires room { HasAmpleRoom pool.old }
     requires running { session.old.is_done ≡ false }
     ensures keeps { Keeps N.digest_of pool.old table.old pool.new table.new }
-    ensures carries { Carries N.digest_of
-        (running_in session.old pool.old table.old refs.old) lexer.old.tail out.old.items result
+    ensures carries { let now = running_in session.old pool.old table.old refs.old in
+        IsSound N.digest_of now.workspace
+        → Carries N.digest_of now lexer.old.tail out.old.items result
         (running_in session.new pool.new table.new refs.new) lexer.new.tail out.new.items }
 {
     let _most = lexer.held();
@@ -78,9 +81,11 @@ fn end<N: Naming>(
 ) -> Result<(), Stop>
     requires stands { StandsIn N.digest_of pool.old table.old.entries }
     ensures keeps { Keeps N.digest_of pool.old table.old pool.new table.new }
-    ensures ended { EndsAs N.digest_of
-        (running_in session.old pool.old table.old refs.old) lexer.now.tail out.old.items result
+    ensures ended { let now = running_in session.old pool.old table.old refs.old in
+        IsSound N.digest_of now.workspace
+        → EndsAs N.digest_of now lexer.now.tail out.old.items result
         (last_in pool.new table.new refs.new) out.new.items }
+    ensures printed { OnErr result (out.new.items ≡ out.old.items) }
 {
     if session.is_done() {
         return Ok(());
@@ -145,9 +150,13 @@ impl Stream {
         requires stands { StandsIn N.digest_of pool.old table.old.entries }
         requires room { HasAmpleRoom pool.old }
         ensures keeps { Keeps N.digest_of pool.old table.old pool.new table.new }
-        ensures feeds { Feeds N.digest_of self.old.session.is_done
-            (stream_in self.old pool.old table.old refs.old) self.old.tail piece.now out.old.items
+        ensures feeds { let now = stream_in self.old pool.old table.old refs.old in
+            IsSound N.digest_of now.workspace
+            → Feeds N.digest_of self.old.session.is_done now self.old.tail piece.now out.old.items
             result (stream_in self.new pool.new table.new refs.new) self.new.tail out.new.items }
+        ensures sound { let now = stream_in self.old pool.old table.old refs.old in
+            IsSound N.digest_of now.workspace → LeavesSound N.digest_of result
+            (stream_in self.new pool.new table.new refs.new).workspace }
     {
         if self.is_done() {
             return Ok(());
@@ -159,7 +168,7 @@ impl Stream {
     }
 
     /// Ends the stream, which is a checkpoint unless `done` was read before. What it prints is
-    /// appended to `out`; no end prints anything yet.
+    /// appended to `out`.
     ///
     /// `Stop::Fault` where a line or a data is cut off (6), a part of a command is missing (5), or
     /// `done` (7), or the refs then would be too many (25); `Stop::Memory(0)` where memory ran out.
@@ -173,9 +182,13 @@ impl Stream {
     ) -> Result<(), Stop>
         requires stands { StandsIn N.digest_of pool.old table.old.entries }
         ensures keeps { Keeps N.digest_of pool.old table.old pool.new table.new }
-        ensures ended { EndsAs N.digest_of
-            (stream_in self pool.old table.old refs.old) self.tail out.old.items result
+        ensures ended { let now = stream_in self pool.old table.old refs.old in
+            IsSound N.digest_of now.workspace
+            → EndsAs N.digest_of now self.tail out.old.items result
             (repository_in pool.new table.new refs.new) out.new.items }
+        ensures sound { let now = stream_in self pool.old table.old refs.old in
+            IsSound N.digest_of now.workspace
+            → IsSoundRepository N.digest_of (repository_in pool.new table.new refs.new) }
         ensures printed { OnErr result (out.new.items ≡ out.old.items) }
         ensures committed { IsCommitted table.new }
     {

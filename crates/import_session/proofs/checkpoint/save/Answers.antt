@@ -1,18 +1,18 @@
-use Rattle.import_session.specs.Session.{own_shown, workspace_in}
-use Rattle.import_session.proofs.CheckpointLemmas.{too_many, well_saved}
+use Rattle.std.proofs.Common.{List, ℕ, Option, ap, ◌∙◌, ◌++◌}
+use Rattle.import_session.specs.Checkpoints.{by_head}
+use Rattle.import_session.specs.Session.{own_shown}
+use Rattle.import_session.proofs.CheckpointLemmas.{well_saved}
 use Rattle.import_session.proofs.checkpoint.save.Goals as goal
 
-pub returns-then-len-gt-REFS_LIMIT-clause-saved : goal.returns-then-len-gt-REFS_LIMIT-clause-saved
-returns-then-len-gt-REFS_LIMIT-clause-saved c pool out =
-    too_many (workspace_in (own_shown c.args.own.now) pool c.args.table.now c.args.refs.now)
-    (workspace_in (own_shown c.saved.new.own) pool c.args.table.now c.args.refs.now)
-    c.in_ok-saved.saved out (c.in_ok-saved.ensures.saved pool c.args.table.now).0
-    (rw c.len.ensures at c.if-len-gt-REFS_LIMIT.true)
-
 pub returns-clause-saved : goal.returns-clause-saved
-returns-clause-saved c pool out =
-    let saved = c.in_ok-saved.ensures.saved pool c.args.table.now in
-    well_saved (own_shown c.args.own.now) (own_shown c.saved.new.own) pool c.args.table.now
-    c.commit.new.self c.args.refs.now c.in_ok-saved.saved c.clear.new.self.items out
-    saved.0 saved.1 c.clear.ensures.items c.commit.ensures
-    (rw c.len.ensures at c.if-len-gt-REFS_LIMIT.false)
+returns-clause-saved g c good =
+    let saving = c.in_ok-saving.ensures.saved good in
+    let done = c.in_ok-carry_out.ensures.done in
+    well_saved (own_shown c.args.own.now) c.take.new.self c.clear.new.self.items c.args.pool.now
+    c.args.table.now c.commit.new.self c.args.refs.now c.carry_out.new.refs c.save_head.new.refs
+    c.args.out.now.items c.carry_out.new.out.items
+    (done.0 ∙ saving.0) done.1
+    (c.save_head.ensures ∙ ap (λ (head : Option (List ℕ)). by_head c.carry_out.new.refs head)
+    c.take.ensures.value)
+    c.take.ensures.after c.clear.ensures.items c.commit.ensures
+    (done.2 ∙ ap (λ (kept : List ℕ). c.args.out.now.items ++ kept) saving.1)

@@ -3,25 +3,30 @@ use Rattle.service_steps.specs.declared.answer.Answer.{Answer}
 use Rattle.tenant_service.specs.Alone.{Feed, turn}
 use Rattle.tenant_service.specs.Holding.{Idle, empty_repository}
 use Rattle.tenant_service.proofs.AccountLemmas.{stands-found, serves-found, serves-missing, ample}
+use Rattle.tenant_service.proofs.SoundLemmas.{sound-found}
 use Rattle.tenant_service.proofs.tenants.feed_one.Goals as goal
 
 pub feed-requires-clause-stands : goal.feed-requires-clause-stands
 feed-requires-clause-stands g c =
-    stands-found g.N.Naming.digest_of c.args.pool.now c.args.name.now c.args.tenants.now.entries c.in-Some.tenant.now c.requires (sym c.in-Some.ensures.value)
+    stands-found g.N.Naming.digest_of c.args.pool.now c.args.name.now c.args.tenants.now.entries c.in-Some.tenant.now c.requires.accounts (sym c.in-Some.ensures.value)
 
 pub feed-requires-clause-room : goal.feed-requires-clause-room
 feed-requires-clause-room g c =
-    ample g.N.Naming.digest_of c.args.pool.now c.args.tenants.now.entries c.requires (rw c.len-few.ensures.len at c.len-few.ensures.small)
+    ample g.N.Naming.digest_of c.args.pool.now c.args.tenants.now.entries c.requires.accounts (rw c.len-few.ensures.len at c.len-few.ensures.small)
+
+pub feed-requires-clause-sound : goal.feed-requires-clause-sound
+feed-requires-clause-sound g c =
+    sound-found g.N.Naming.digest_of c.args.pool.now c.args.name.now c.args.tenants.now.entries c.in-Some.tenant.now c.requires.sound (sym c.in-Some.ensures.value)
 
 pub returns-in-Some : goal.returns-in-Some
 returns-in-Some g c =
     rw (c.get_mut.follows.holds c.feed.new.tenant).0
     (serves-found g.N.Naming.digest_of c.args.name.now (Feed c.args.piece.now) c.args.pool.now c.feed.new.pool c.args.tenants.now.entries c.in-Some.tenant.now
-    c.feed.new.tenant c.feed.result c.args.out.now.items c.feed.new.out.items c.requires (sym c.in-Some.ensures.value)
+    c.feed.new.tenant c.feed.result c.args.out.now.items c.feed.new.out.items c.requires.accounts (sym c.in-Some.ensures.value)
     c.feed.ensures.stands c.feed.ensures.others c.feed.ensures.own)
 
 pub returns-in-None : goal.returns-in-None
 returns-in-None g c =
     serves-missing g.N.Naming.digest_of c.args.name.now (Feed c.args.piece.now) c.args.pool.now c.args.tenants.now.entries _ _ c.args.out.now.items
-    c.requires (sym c.in-None.ensures.value) (rw c.get_mut.follows.holds-at-none refl)
+    c.requires.accounts (sym c.in-None.ensures.value) (rw c.get_mut.follows.holds-at-none refl)
     (ap (λ (a : Answer). turn a [] (Idle empty_repository)) (sym c.answer.ensures))

@@ -1,26 +1,27 @@
-use Rattle.std.proofs.Common.{◌+◌, [], ◌∷◌, ◌++◌, refl, sym, ap, ◌∙◌, append-nil, arith}
+use Rattle.std.proofs.Common.{◌+◌, [], ◌∷◌, ◌++◌, refl, sym, ap, ◌∙◌, arith}
 use Rattle.std.proofs.lemmas.Bool.{false≢true}
 use Rattle.std.proofs.lemmas.List.{length-append}
 use Rattle.stream_lex.specs.Looking.{item_of}
 use Rattle.import_session.proofs.LentLemmas.{Keeps-refl, Keeps-then}
-use Rattle.tenant_stream.proofs.CarryLemmas.{Advances-refl, Advances-read, item_stops, tail_stops, ends_at, goes, take_on, took_item, gave_none, gave_fault}
+use Rattle.tenant_stream.proofs.CarryLemmas.{Advanced-refl, Advances-read, reads_more, item_stops, tail_stops, ends_at, goes, take_on, took_item, gave_none, gave_fault}
 use Rattle.tenant_stream.proofs.CountLemmas.{taken_at_most, left_falls}
 use Rattle.tenant_stream.proofs.RoomLemmas.{room_left}
+use Rattle.tenant_stream.proofs.SoundLemmas.{advances_sound}
 use Rattle.tenant_stream.proofs.stream.carry.Goals as goal
 
 pub items-init : goal.items-init
 items-init g c = record {
   keeps = Keeps-refl _ c.args.pool.now c.args.table.now c.requires.stands;
   items = [];
-  replies = [];
-  advances = Advances-refl _ _ _;
-  printed = sym (append-nil _);
+  reads = λ more. refl;
   counted = refl;
+  advanced = λ sound. Advanced-refl _ _ _ _;
 }
 
 pub returns-then-is_done-clause-carries : goal.returns-then-is_done-clause-carries
-returns-then-is_done-clause-carries g c =
-    goes _ _ _ _ _ _ _ _ _ c.items.invariant.advances c.items.invariant.printed
+returns-then-is_done-clause-carries g c sound =
+    let so_far = c.items.invariant.advanced sound in
+    goes _ _ _ _ _ _ _ _ _ so_far.advances so_far.printed
     (λ none. let t = c.if-is_done.ensures in absurd (false≢true (sym none ∙ sym t)))
 
 pub take-requires-clause-room : goal.take-requires-clause-room
@@ -28,19 +29,20 @@ take-requires-clause-room g c =
     room_left _ _ _ _ _ c.requires.room c.items.invariant.keeps
 
 pub returns-in-Err-take-clause-carries : goal.returns-in-Err-take-clause-carries
-returns-in-Err-take-clause-carries g c =
+returns-in-Err-take-clause-carries g c sound =
+    let so_far = c.items.invariant.advanced sound in
     rw c.stop_of.ensures
     (item_stops _ _ _ _ _ _ _ _ _ _ _ _ _ _
-    (ends_at _ _ _ _ _ _ _ _ _ _ _ c.items.invariant.advances c.items.invariant.printed
+    (ends_at _ _ _ _ _ _ _ _ _ _ _ so_far.advances so_far.printed
     c.in-Err-take.ensures.printed (sym c.is_done.ensures ∙ c.if-is_done.false)
     c.in-Err-take.ensures.checkpoint)
     c.items.invariant.counted
     (took_item _ _ _ _ _ c.in-Ok-Some.is c.in-Ok-Some.field-0-is c.next.follows.holds-at-none.first)
-    c.in-Err-take.ensures.taken)
+    (c.in-Err-take.ensures.taken (advances_sound _ g.met.N.Naming.answers_names _ _ _ _ _ _ so_far.advances sound)))
 
 pub overflow_add-count : goal.overflow_add-count
 overflow_add-count g c =
-    let most = taken_at_most _ _ _ _ _ c.items.invariant.advances.reads
+    let most = taken_at_most _ _ _ _ _ c.items.invariant.reads
     (took_item _ _ _ _ _ c.in-Ok-Some.is c.in-Ok-Some.field-0-is c.next.follows.holds-at-none.first)
     in
     let counted = c.items.invariant.counted in
@@ -55,30 +57,33 @@ items-smaller g c =
 
 pub items-preserved : goal.items-preserved
 items-preserved g c =
-    let next = take_on _ _ _ _ _ _ _ _ _ _ _ _ _ c.items.invariant.advances
-    (took_item _ _ _ _ _ c.in-Ok-Some.is c.in-Ok-Some.field-0-is c.next.follows.holds-at-none.first)
-    c.items.invariant.printed c.in_default.ensures.taken in
+    let took = took_item _ _ _ _ _ c.in-Ok-Some.is c.in-Ok-Some.field-0-is
+    c.next.follows.holds-at-none.first in
     record {
       keeps = Keeps-then _ _ _ _ _ _ _ c.items.invariant.keeps c.take.ensures.keeps;
       items = c.items.invariant.items ++ item_of c.in-Ok-Some.item ∷ [];
-      replies = next.replies;
-      advances = next.advances;
-      printed = next.printed;
+      reads = reads_more _ _ _ _ _ c.items.invariant.reads took;
       counted = length-append c.items.invariant.items (item_of c.in-Ok-Some.item ∷ [])
           ∙ ap (λ n. n + 1) c.items.invariant.counted;
+      advanced = λ sound.
+          let so_far = c.items.invariant.advanced sound in
+          take_on _ _ _ _ _ _ _ _ _ _ _ _ _ so_far.advances took so_far.printed
+          (c.in_default.ensures.taken (advances_sound _ g.met.N.Naming.answers_names _ _ _ _ _ _ so_far.advances sound));
     }
 
 pub returns-in-Ok-None-clause-carries : goal.returns-in-Ok-None-clause-carries
-returns-in-Ok-None-clause-carries g c =
+returns-in-Ok-None-clause-carries g c sound =
+    let so_far = c.items.invariant.advanced sound in
     let none = gave_none _ _ _ _ c.in-Ok-None.is c.in-Ok-None.field-0-is
     c.next.follows.holds-at-none.first in
     goes _ _ _ _ _ _ _ _ _
-    (Advances-read _ _ _ _ _ _ _ _ c.items.invariant.advances none.0)
-    c.items.invariant.printed (λ _. none.1)
+    (Advances-read _ _ _ _ _ _ _ _ so_far.advances none.0)
+    so_far.printed (λ _. none.1)
 
 pub returns-in-Err-clause-carries : goal.returns-in-Err-clause-carries
-returns-in-Err-clause-carries g c =
+returns-in-Err-clause-carries g c sound =
+    let so_far = c.items.invariant.advanced sound in
     rw c.code.ensures
-    (tail_stops _ _ _ _ _ _ _ _ _ _ c.items.invariant.advances c.items.invariant.printed
+    (tail_stops _ _ _ _ _ _ _ _ _ _ so_far.advances so_far.printed
     (sym c.is_done.ensures ∙ c.if-is_done.false)
     (gave_fault _ _ _ _ c.in-Err.is c.next.follows.holds-at-none.first))

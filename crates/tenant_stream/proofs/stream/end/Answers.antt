@@ -4,13 +4,13 @@ use Rattle.tenant_stream.proofs.EndLemmas.{ends_done, ends_cut, ends_well, ends_
 use Rattle.tenant_stream.proofs.stream.end.Goals as goal
 
 pub returns-then-is_done-clause-ended : goal.returns-then-is_done-clause-ended
-returns-then-is_done-clause-ended g c =
+returns-then-is_done-clause-ended g c sound =
     ends_done g.N.Naming.digest_of
     (running_in c.args.session.now c.args.pool.now c.args.table.now c.args.refs.now)
     c.args.lexer.now.tail c.args.out.now.items (sym c.is_done.ensures ∙ c.if-is_done.true)
 
 pub returns-in-Err-clause-ended : goal.returns-in-Err-clause-ended
-returns-in-Err-clause-ended g c =
+returns-in-Err-clause-ended g c sound =
     rw c.code.ensures
     (ends_cut g.N.Naming.digest_of
     (running_in c.args.session.now c.args.pool.now c.args.table.now c.args.refs.now)
@@ -19,20 +19,20 @@ returns-in-Err-clause-ended g c =
     (sym c.end.ensures ∙ c.in-Err.is))
 
 pub returns-in-Err-finish-clause-ended : goal.returns-in-Err-finish-clause-ended
-returns-in-Err-finish-clause-ended g c =
+returns-in-Err-finish-clause-ended g c sound =
     rw c.stop_of.ensures
     (ends_refused g.N.Naming.digest_of
     (running_in c.args.session.now c.args.pool.now c.args.table.now c.args.refs.now)
     c.args.lexer.now.tail _ c.args.out.now.items _ c.in-Err-finish.fault _ _
     (sym c.is_done.ensures ∙ c.if-is_done.false) (sym c.in_default.is ∙ c.end.ensures)
-    c.in-Err-finish.ensures.ended c.in-Err-finish.ensures.checkpoint
+    (c.in-Err-finish.ensures.ended sound) c.in-Err-finish.ensures.checkpoint
     c.in-Err-finish.ensures.printed)
 
 pub returns-clause-ended : goal.returns-clause-ended
-returns-clause-ended g c =
+returns-clause-ended g c sound =
     ends_well g.N.Naming.digest_of
     (running_in c.args.session.now c.args.pool.now c.args.table.now c.args.refs.now)
     c.args.lexer.now.tail
     (workspace_in c.finish.new.self.own c.finish.new.pool c.finish.new.table c.finish.new.refs)
     c.args.out.now.items c.finish.new.out.items (sym c.is_done.ensures ∙ c.if-is_done.false)
-    (sym c.in_default.is ∙ c.end.ensures) c.in_default-finish.ensures.ended
+    (sym c.in_default.is ∙ c.end.ensures) (c.in_default-finish.ensures.ended sound)

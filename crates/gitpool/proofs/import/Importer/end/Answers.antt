@@ -26,7 +26,7 @@ returns-in_err-write_replies g c =
     c.self.view_is
     (end_fails _ old (seen (g.W.Write.contents (device_of c.args.writer.now)) c.args.writer.now)
     (seen (g.W.Write.contents (device_of c.write_replies.new.writer)) c.write_replies.new.writer) _ _ _ ready
-    c.finish-ended.ensures.ended c.in_err-write_replies.ensures.front
+    (c.finish-ended.ensures.ended ready.sound) c.in_err-write_replies.ensures.front
     c.in_err-write_replies.ensures.cause))
 
 pub returns : goal.returns
@@ -45,5 +45,5 @@ returns g c =
     (seen (g.W.Write.contents (device_of c.args.writer.now)) c.args.writer.now) (as_import c.finish-ended.result)
     (seen (g.W.Write.contents (device_of c.write_replies.new.writer)) c.write_replies.new.writer))
     c.self.view_is
-    (ends_import _ old _ _ _ _ _ ready c.finish-ended.ensures.ended
+    (ends_import _ old _ _ _ _ _ ready (c.finish-ended.ensures.ended ready.sound)
     c.in_ok-write_replies.ensures.written))

@@ -1,8 +1,7 @@
-use Rattle.std.proofs.Common.{◌≡◌, ◌≤◌, ◌<◌, ◌-◌, ◌^◌, ℕ, length, take, false, true, sym, ap, subst, refl, ◌∙◌, arith}
-use Rattle.std.proofs.lemmas.Bool.Decides.{nat_tests}
+use Rattle.std.proofs.Common.{◌≡◌, ℕ, take, sym, ap, subst, refl, ◌∙◌, arith}
 use Rattle.std.proofs.lemmas.Result.{err_from_is_err_and}
 use Rattle.std.specs.Io.KnownBytes.{Consumes}
-use Rattle.git_objects.specs.Device.{device_of, passed_of, counted_on, seen}
+use Rattle.git_objects.specs.Device.{device_of, passed_of, counted_on}
 use Rattle.gitpool.proofs.ImportLemmas.{reads_piece, so_far_new, so_far_more, through_done, imported_piece, through_end, unread, endless}
 use Rattle.gitpool.proofs.import.Importer.read_all.Goals as goal
 

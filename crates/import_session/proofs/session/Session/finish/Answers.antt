@@ -1,7 +1,14 @@
-use Rattle.std.proofs.Common.{rules}
+use Rattle.std.proofs.Common.{subst, sym, rules}
+use Rattle.import_session.specs.Session.{Kept, workspace_in}
+use Rattle.import_session.specs.Sound.{IsSound}
 use Rattle.import_session.specs.Stream.{session_end}
 use Rattle.import_session.proofs.session.Session.finish.Goals as goal
 
 pub returns-clause-ended : goal.returns-clause-ended
 unfolding session_end
-returns-clause-ended g c = search rules
+returns-clause-ended g c sound =
+    let here = subst (λ (k : Kept). IsSound g.N.Naming.digest_of
+    (workspace_in k.own c.args.pool.now c.args.table.now c.args.refs.now)) (sym c.self.view_is)
+    sound in
+    let saved = c.save.ensures.saved here.objects in
+    search rules

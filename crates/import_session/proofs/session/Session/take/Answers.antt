@@ -9,12 +9,13 @@ use Rattle.import_session.specs.Known.{Gives, known, has_no_meaning}
 use Rattle.import_session.specs.Faults.{and_then}
 use Rattle.import_session.specs.Meaning.{after_act}
 use Rattle.import_session.specs.Stream.{Step, is_finish, step, taken}
+use Rattle.import_session.specs.Sound.{IsSound}
 use Rattle.import_session.specs.Session.{Kept, Takes, own_shown, running_in, workspace_in}
 use Rattle.import_session.proofs.ActLemmas.{stepped, step_running, no_act, act_refused, act_done, no_memory}
 use Rattle.import_session.proofs.session.Session.take.Goals as goal
 
 pub returns-in-Err-clause-taken : goal.returns-in-Err-clause-taken
-returns-in-Err-clause-taken g c =
+returns-in-Err-clause-taken g c sound =
     let digest = g.N.Naming.digest_of in
     let item = item_of c.args.item in
     let kept : Kept = record {
@@ -49,7 +50,7 @@ returns-in-Err-clause-taken g c =
     next c.args.out.now.items c.args.out.now.items c.in-Err.fault gives))
 
 pub returns-in_err-carry_out-clause-taken : goal.returns-in_err-carry_out-clause-taken
-returns-in_err-carry_out-clause-taken g c =
+returns-in_err-carry_out-clause-taken g c sound =
     let digest = g.N.Naming.digest_of in
     let item = item_of c.args.item in
     let kept : Kept = record {
@@ -58,6 +59,9 @@ returns-in_err-carry_out-clause-taken g c =
       is_done = c.self.inside.is_done;
     } in
     let now = running_in kept c.args.pool.now c.args.table.now c.args.refs.now in
+    let here = subst (λ (k : Kept). IsSound digest
+    (workspace_in k.own c.args.pool.now c.args.table.now c.args.refs.now)) (sym c.self.view_is)
+    sound in
     let running : c.self.inside.is_done ≡ false =
     ap (λ (k : Kept). k.is_done) c.self.view_is ∙ sym c.is_done.ensures ∙ c.if-is_done.false in
     let next_kept : Kept = record {
@@ -84,10 +88,10 @@ returns-in_err-carry_out-clause-taken g c =
     (act_refused digest now.workspace (after c.self.inside.parser item)
     (known (has_no_meaning (part_of item)) by) c.in-Ok.act _ next
     c.args.out.now.items c.carry_out.new.out.items fault gives
-    c.in_err-carry_out.ensures.done)))
+    (c.in_err-carry_out.ensures.done here))))
 
 pub returns-clause-taken : goal.returns-clause-taken
-returns-clause-taken g c =
+returns-clause-taken g c sound =
     let digest = g.N.Naming.digest_of in
     let item = item_of c.args.item in
     let kept : Kept = record {
@@ -96,6 +100,9 @@ returns-clause-taken g c =
       is_done = c.self.inside.is_done;
     } in
     let now = running_in kept c.args.pool.now c.args.table.now c.args.refs.now in
+    let here = subst (λ (k : Kept). IsSound digest
+    (workspace_in k.own c.args.pool.now c.args.table.now c.args.refs.now)) (sym c.self.view_is)
+    sound in
     let running : c.self.inside.is_done ≡ false =
     ap (λ (k : Kept). k.is_done) c.self.view_is ∙ sym c.is_done.ensures ∙ c.if-is_done.false in
     let next_kept : Kept = record {
@@ -132,4 +139,4 @@ returns-clause-taken g c =
     (act_done digest now.workspace (after c.self.inside.parser item)
     (known (has_no_meaning (part_of item)) by) c.in-Ok.act new
     c.args.out.now.items c.carry_out.new.out.items tt gives
-    c.in_ok-carry_out.ensures.done))))
+    (c.in_ok-carry_out.ensures.done here)))))

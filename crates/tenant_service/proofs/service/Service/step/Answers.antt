@@ -3,6 +3,7 @@ use Rattle.tenant_service.specs.Headline.{IsItsOwn, told_in}
 use Rattle.tenant_service.specs.Holding.{Holdings, held_of}
 use Rattle.tenant_service.specs.Tenants.{holdings}
 use Rattle.tenant_service.proofs.RunLemmas.{own-step, stepped, led-on}
+use Rattle.tenant_service.proofs.SoundLemmas.{sound-on}
 use Rattle.tenant_service.proofs.service.Service.step.Goals as goal
 
 pub returns-clause-own : goal.returns-clause-own
@@ -22,4 +23,6 @@ invariant_of-self g c = record {
       (holdings c.take_step.new.pool c.take_step.new.tenants.entries) _
       (λ tenant. own-step g.N.Naming.digest_of c.args.step c.self.inside.pool c.take_step.new.pool c.self.inside.tenants.entries c.take_step.new.tenants.entries
       c.take_step.result c.args.out.now.items c.take_step.new.out.items c.take_step.ensures tenant) c.self.invariant.led;
+  sound = sound-on g.N.Naming.digest_of g.met.N.Naming.answers_names c.args.step c.self.inside.pool c.self.inside.tenants.entries c.take_step.result c.args.out.now.items
+      c.take_step.new.out.items c.take_step.new.pool c.take_step.new.tenants.entries c.take_step.ensures c.self.invariant.sound;
 }

@@ -1,0 +1,62 @@
+-- What a commit-ish is peeled to is a commit of good objects.
+use Rattle.std.proofs.Common.{◌≡◌, ℕ, Bool, true, List, Option, None, Some, length, refl}
+use Rattle.std.specs.Prelude.{IfOk}
+use Rattle.git_model.specs.declared.kind.Kind.TheVariants as kind
+use Rattle.git_model.specs.GoodRepository.{AreObjects}
+use Rattle.git_model.specs.Peeling.{ComesFirstTo, at_once, later, is_of, next_to, peeled_to}
+use Rattle.git_model.specs.References.{kind_named, place_of}
+use Rattle.git_model.specs.Repository.{Object}
+use Rattle.git_model.proofs.Earlier.{place_within, next_falls}
+use Rattle.git_model.proofs.Peelings.{first_is, is_of_kind}
+use Rattle.revisions.specs.declared.fault.Fault.TheVariants as revision_fault
+use Rattle.revisions.specs.Faults.{or_fault}
+use Rattle.revisions.specs.Resolution.{peeled}
+use Rattle.stream_grammar.specs.Names.{CommitIsh}
+use Rattle.import_session.specs.Faults.{resolved_or}
+use Rattle.import_session.specs.Workspace.{Workspace}
+use Rattle.import_session.specs.CommitIshes.{commit_in, is_branch, named_in, start_in}
+use Rattle.import_session.proofs.SoundObjects.{by_test, then_any}
+
+-- a commit is there
+abbrev pub IsCommitOf : List Object → List ℕ → Type 0
+IsCommitOf os id = kind_named id os ≡ Some kind.Commit
+
+-- the end of a way passes the test
+passes : {A : Type 0} (test : A → Bool) (next : A → Option A) {a c : A}
+    → ComesFirstTo test next a c → test c ≡ true
+passes test next (at_once a yea) = yea
+passes test next (later a b c nay e rest) = passes test next rest
+
+peeled_passes : (digest : List ℕ → List ℕ) (os : List Object) → AreObjects digest os
+    → (id end : List ℕ) → peeled_to os kind.Commit id ≡ Some end → is_of os kind.Commit end ≡ true
+unfolding peeled_to
+peeled_passes digest os good id end e =
+    let test = is_of os kind.Commit in
+    let next = next_to os kind.Commit in
+    passes test next ((first_is test next (λ k. place_of k os)
+    (next_falls digest os good kind.Commit) (length os) id end (place_within id os)).0 e)
+
+pub peeled_commit : (digest : List ℕ → List ℕ) (os : List Object) → AreObjects digest os
+    → (id : List ℕ) → IfOk (resolved_or (peeled os kind.Commit id)) (IsCommitOf os)
+peeled_commit digest os good id = by_end (peeled_to os kind.Commit id) refl
+  where
+    by_end : (end : Option (List ℕ)) → peeled_to os kind.Commit id ≡ end
+        → IfOk (resolved_or (or_fault revision_fault.WrongKind end)) (IsCommitOf os)
+    by_end None e = tt
+    by_end (Some end) e = (is_of_kind os kind.Commit end).0 (peeled_passes digest os good id end e)
+
+-- what a commit-ish stands for in `from`, `merge` and `alias` is a commit
+pub commit_good : (digest : List ℕ → List ℕ) (workspace : Workspace)
+    → AreObjects digest workspace.objects → (commit : CommitIsh)
+    → IfOk (commit_in workspace commit) (IsCommitOf workspace.objects)
+commit_good digest workspace good commit =
+    then_any (IsCommitOf workspace.objects) (named_in workspace commit) _
+    (λ id. peeled_commit digest workspace.objects good id)
+
+pub start_good : (digest : List ℕ → List ℕ) (workspace : Workspace)
+    → AreObjects digest workspace.objects → (ref : List ℕ) (from : CommitIsh)
+    → IfOk (start_in workspace ref from) (IsCommitOf workspace.objects)
+start_good digest workspace good ref from =
+    by_test (is_branch workspace ref from)
+    (λ is. rw is tt)
+    (λ other. rw other (commit_good digest workspace good from))

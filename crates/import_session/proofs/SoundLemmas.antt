@@ -1,0 +1,611 @@
+-- A running stream stays sound.
+use Rattle.std.proofs.Common.{◌≡◌, ◌≢◌, ◌++◌, ◌≤◌, nat_eq, length, codes, ℕ, Bool, true, false, cond, List, [], ◌∷◌, Option, Some, None, Result, Ok, Err, refl, sym, ap, ◌∙◌, subst, inl, inr, All}
+use Rattle.std.specs.Prelude.{if◌then◌else◌, IfOk, IfSome, drop}
+use Rattle.std.specs.Result.{result_unwrap_or}
+use Rattle.std.specs.Str.{bytes_eq}
+use Rattle.std.proofs.lemmas.Bool.{false≢true}
+use Rattle.std.proofs.lemmas.List.Elements.{All-nil, All-cons, All-head, All-tail, All-weaker}
+use Rattle.std.proofs.lemmas.Slice.Eq.{bytes_eq-Decides}
+use Rattle.indexmap.specs.IndexMap.{insert_entry}
+use Rattle.git_model.specs.declared.kind.Kind.{Kind}
+use Rattle.git_model.specs.declared.kind.Kind.TheVariants as kind
+use Rattle.git_model.specs.Content.{content_from, name_by}
+use Rattle.git_model.specs.GoodRepository.{AreObjects, IsShortRefName, StandsBefore}
+use Rattle.git_model.specs.Ident.{IsWrittenIdent}
+use Rattle.git_model.specs.ObjectName.{IsObjectName}
+use Rattle.git_model.specs.RefName.{IsRefName}
+use Rattle.git_model.specs.RefStore.{RefStore, no_refs, with_ref}
+use Rattle.git_model.specs.References.{reference, kind_named}
+use Rattle.git_model.specs.Repository.{Object, Repository, object_named}
+use Rattle.git_model.specs.Tag.{Tag, CanWriteTag}
+use Rattle.git_model.proofs.GoodRefs.{kind_longer, no_refs_are}
+use Rattle.git_model.proofs.Growing.{none_are, taken_is}
+use Rattle.git_model.proofs.TagReadings.{tag_back}
+use Rattle.git_model.proofs.Texts.{begins_test}
+use Rattle.git_names.specs.Naming.{AnswersNames}
+use Rattle.stream_lex.specs.Items.{Item}
+use Rattle.stream_grammar.specs.declared.fault.Fault.{Fault as TextFault}
+use Rattle.stream_grammar.specs.declared.fault.Fault.TheVariants as text_fault
+use Rattle.stream_grammar.specs.declared.feature.Feature.{Feature}
+use Rattle.stream_grammar.specs.declared.feature.Feature.TheVariants as feature
+use Rattle.stream_grammar.specs.Acts.{Act, Wait, StoreBlob, BeginTag, TagTarget, Tagger, StoreTag, Reset, ResetTo, SetMark, Checkpoint, Progress, ShowMark, ShowObject, ShowEntry, Finish, Require, SetHead}
+use Rattle.stream_grammar.specs.Commands.{Done, done_by, end_of}
+use Rattle.stream_grammar.specs.Names.{CommitIsh}
+use Rattle.stream_grammar.specs.Parts.{part_of}
+use Rattle.stream_grammar.specs.WellFormed.{NamesShortRef, IsWellFormed}
+use Rattle.stream_grammar.proofs.WellFormedActs.{well_formed}
+use Rattle.import_session.specs.declared.branches.Tip.{Tip}
+use Rattle.import_session.specs.declared.branches.Tip.TheVariants.{Unborn, Deleted, At}
+use Rattle.import_session.specs.declared.fault.Fault.{Fault}
+use Rattle.import_session.specs.declared.said.Said.{Said}
+use Rattle.import_session.specs.Faults.{text_first}
+use Rattle.import_session.specs.Workspace.{Branches, Marks, PendingTags, Workspace, Effect, opened, quiet, said_of}
+use Rattle.import_session.specs.Marks.{marked_name, referred_name, room_for, with_mark}
+use Rattle.import_session.specs.Branches.{branch_set, has_branch_room, head_in, ref_meant, with_branch}
+use Rattle.import_session.specs.CommitIshes.{commit_in, named_in, start_in}
+use Rattle.import_session.specs.Resets.{alias_set, branch_placed, branch_reset, is_zeros, tip_from}
+use Rattle.import_session.specs.Storing.{with_content}
+use Rattle.import_session.specs.Tags.{is_tag_ref, room_for_tag, said_more, tag_content, tag_made, tag_stored, tagged, tagged_kind, tagger_said, target_said}
+use Rattle.import_session.specs.Checkpoints.{by_branches, by_head, by_tags, checkpoint, fit, moves, saved_by, saved_refs}
+use Rattle.import_session.specs.Known.{has_no_meaning, known}
+use Rattle.import_session.specs.Meaning.{after_act, shown_object, blob_stored, feature_set, head_set, placed_by, prints, set_by, shown_by}
+use Rattle.import_session.specs.Showing.{entry_shown}
+use Rattle.import_session.specs.Sound.{IsSound, IsSoundRepository, IsTip, IsWellSaid}
+use Rattle.import_session.specs.Stream.{Running, Step, commands_end, last_checkpoint, session_end, step, taken, unless_done_missing}
+use Rattle.tenant_tables.proofs.StoredGood.{Grows, there}
+use Rattle.import_session.proofs.SoundCommits.{IsCommitOf, commit_good, start_good}
+use Rattle.import_session.proofs.SoundObjects.{IsStorable, Keeps, by_test, content_good, named_by, then_any, then_good}
+
+-- What an act leaves is sound.
+abbrev pub LeavesSound : (List ℕ → List ℕ) → Effect → Type 0
+LeavesSound digest effect = IsSound digest effect.workspace
+
+-- ---- the first workspace, and what a checkpoint leaves
+
+pub empty_is_sound : (digest : List ℕ → List ℕ)
+    → IsSoundRepository digest (record { objects = []; refs = no_refs })
+empty_is_sound digest = record { objects = none_are digest; head = (no_refs_are []).head }
+
+pub new_is_sound : (digest : List ℕ → List ℕ) (repository : Repository)
+    → IsSoundRepository digest repository → IsSound digest (opened repository)
+new_is_sound digest repository good = record {
+  objects = good.objects;
+  saved_head = good.head;
+  next_head = tt;
+  marks = All-nil _;
+  tips = All-nil _;
+  said = tt;
+}
+
+pub checkpoint_is_sound : (digest : List ℕ → List ℕ) (workspace : Workspace)
+    → IsSound digest workspace → IsSoundRepository digest (last_checkpoint workspace)
+checkpoint_is_sound digest workspace sound = record {
+  objects = taken_is digest workspace.objects workspace.committed sound.objects;
+  head = sound.saved_head;
+}
+
+-- ---- entries of a map
+
+values_insert : {K V : Type 0} (eq : K → K → Bool) (P : V → Type 0) (entries : List (K × V)) (k : K)
+    (v : V) → All (λ (e : K × V). P e.1) entries → P v
+    → All (λ (e : K × V). P e.1) (insert_entry eq entries k v)
+values_insert eq P [] k v held new = All-cons (λ e. P e.1) (k, v) [] new (All-nil (λ e. P e.1))
+values_insert eq P (e ∷ entries) k v held new =
+    let rest = All-tail (λ e. P e.1) e entries held in
+    by_test (eq k e.0)
+    (λ same. rw same (All-cons (λ e. P e.1) (e.0, v) entries new rest))
+    (λ other. rw other (All-cons (λ e. P e.1) e (insert_entry eq entries k v)
+    (All-head (λ e. P e.1) e entries held) (values_insert eq P entries k v rest new)))
+
+-- ---- more objects
+
+tip_longer : (os new : List Object) → Grows os new → (tip : Tip) → IsTip os tip → IsTip new tip
+tip_longer os new grows Unborn stands = tt
+tip_longer os new grows Deleted stands = tt
+tip_longer os new grows (At id) stands =
+    subst (λ (objects : List Object). kind_named id objects ≡ Some kind.Commit) (sym grows.are)
+    (kind_longer os grows.more id kind.Commit stands)
+
+tips_longer : (os new : List Object) → Grows os new → (branches : Branches)
+    → All (λ branch. IsTip os branch.1) branches → All (λ branch. IsTip new branch.1) branches
+tips_longer os new grows branches =
+    All-weaker (λ branch. IsTip os branch.1) (λ branch. IsTip new branch.1)
+    (λ branch stands. tip_longer os new grows branch.1 stands) branches
+
+marks_with : (marks : Marks) (mark : Option ℕ) (id : List ℕ)
+    → All (λ mark. IsObjectName mark.1) marks → IsObjectName id
+    → All (λ mark. IsObjectName mark.1) (with_mark marks mark id)
+marks_with marks None id named new = named
+marks_with marks (Some mark) id named new = values_insert nat_eq IsObjectName marks mark id named new
+
+-- ---- blobs
+
+blob_keeps : (digest : List ℕ → List ℕ) → AnswersNames digest → (workspace : Workspace)
+    → IsSound digest workspace → (mark : Option ℕ) (bytes : List ℕ)
+    → IfOk (blob_stored digest mark (content_from kind.Blob bytes) workspace) (LeavesSound digest)
+blob_keeps digest names workspace sound mark bytes =
+    let content = content_from kind.Blob bytes in
+    then_any (LeavesSound digest) (room_for workspace.marks mark) _ (λ _.
+    then_good (Keeps digest workspace.objects) (LeavesSound digest)
+    (with_content digest content workspace.objects) _
+    (content_good digest names workspace.objects sound.objects content
+    (record { valid = tt; connected = All-nil _ }))
+    (λ objects keeps. record {
+      objects = keeps.good;
+      saved_head = sound.saved_head;
+      next_head = sound.next_head;
+      marks = marks_with workspace.marks mark (name_by digest content) sound.marks
+          (named_by digest names content);
+      tips = tips_longer workspace.objects objects keeps.grows workspace.branches sound.tips;
+      said = sound.said;
+    }))
+
+-- ---- refs
+
+-- what is not `HEAD` is a ref name
+no_head : (ref : List ℕ) → NamesShortRef ref → bytes_eq ref (codes "HEAD") ≡ false
+    → IsShortRefName ref
+no_head ref names other = elim names.name [
+  | inl name ↦ record { name = name; short = names.short }
+  | inr head ↦
+      absurd (false≢true (sym other ∙ (bytes_eq-Decides ref (codes "HEAD")).1 head))
+]
+
+head_named : (head : Option (List ℕ)) (refs : RefStore) → IfSome head IsShortRefName
+    → IsShortRefName refs.head → IsShortRefName (head_in head refs)
+head_named None refs next saved = saved
+head_named (Some ref) refs next saved = next
+
+meant_named : (workspace : Workspace) (digest : List ℕ → List ℕ) → IsSound digest workspace
+    → (ref : List ℕ) → NamesShortRef ref
+    → IsShortRefName (ref_meant workspace.head workspace.refs ref)
+unfolding ref_meant
+meant_named workspace digest sound ref names =
+    by_test (bytes_eq ref (codes "HEAD"))
+    (λ is. rw is (head_named workspace.head workspace.refs sound.next_head sound.saved_head))
+    (λ other. rw other (no_head ref names other))
+
+-- ---- what the open command says
+
+with_said : (digest : List ℕ → List ℕ) (workspace : Workspace) (said : Option Said)
+    → IsSound digest workspace → IfSome said IsWellSaid
+    → IsSound digest (record workspace { said = said })
+with_said digest workspace said sound well = record {
+  objects = sound.objects;
+  saved_head = sound.saved_head;
+  next_head = sound.next_head;
+  marks = sound.marks;
+  tips = sound.tips;
+  said = well;
+}
+
+newly_said : (ref : List ℕ) → IsShortRefName ref → IsWellSaid (said_of ref)
+newly_said ref name = record { ref = name; tagger = tt }
+
+-- ---- branches
+
+branches_keep : (digest : List ℕ → List ℕ) (workspace : Workspace) (branches : Branches)
+    (said : Option Said) → IsSound digest workspace
+    → All (λ branch. IsTip workspace.objects branch.1) branches → IfSome said IsWellSaid
+    → IsSound digest (record workspace { branches = branches; said = said })
+branches_keep digest workspace branches said sound tips well = record {
+  objects = sound.objects;
+  saved_head = sound.saved_head;
+  next_head = sound.next_head;
+  marks = sound.marks;
+  tips = tips;
+  said = well;
+}
+
+branch_keeps : (os : List Object) (branches : Branches) (ref : List ℕ) (tip : Tip)
+    → All (λ branch. IsTip os branch.1) branches → IsTip os tip
+    → All (λ branch. IsTip os branch.1) (with_branch branches ref tip)
+branch_keeps os branches ref tip = values_insert bytes_eq (IsTip os) branches ref tip
+
+branch_set_keeps : (os : List Object) (branches : Branches) (ref : List ℕ) (tip : Tip)
+    → All (λ branch. IsTip os branch.1) branches → IsTip os tip
+    → IfOk (branch_set branches ref tip) (All (λ branch. IsTip os branch.1))
+branch_set_keeps os branches ref tip tips new =
+    by_test (has_branch_room branches ref)
+    (λ room. rw room (branch_keeps os branches ref tip tips new))
+    (λ full. rw full tt)
+
+reset_keeps : (digest : List ℕ → List ℕ) (workspace : Workspace) → IsSound digest workspace
+    → (ref : List ℕ) → NamesShortRef ref
+    → IfOk (branch_reset ref workspace) (LeavesSound digest)
+reset_keeps digest workspace sound ref names =
+    let meant = ref_meant workspace.head workspace.refs ref in
+    then_good (All (λ (branch : List ℕ × Tip). IsTip workspace.objects branch.1)) (LeavesSound digest)
+    (branch_set workspace.branches meant Unborn) _
+    (branch_set_keeps workspace.objects workspace.branches meant Unborn sound.tips tt)
+    (λ branches tips. branches_keep digest workspace branches (Some (said_of meant)) sound tips
+    (newly_said meant (meant_named workspace digest sound ref names)))
+
+-- 'from' in a reset
+tip_good : (digest : List ℕ → List ℕ) (workspace : Workspace) → IsSound digest workspace
+    → (ref : List ℕ) (from : CommitIsh)
+    → IfOk (tip_from workspace ref from) (IsTip workspace.objects)
+tip_good digest workspace sound ref from =
+    by_test (is_zeros from)
+    (λ zeros. rw zeros tt)
+    (λ other. rw other (
+    then_good (IsCommitOf workspace.objects) (IsTip workspace.objects) (start_in workspace ref from) _
+    (start_good digest workspace sound.objects ref from) (λ id stands. stands)))
+
+placed_at : (digest : List ℕ → List ℕ) (workspace : Workspace) → IsSound digest workspace
+    → (from : CommitIsh) (said : Option Said)
+    → IfOk (branch_placed from said workspace) (LeavesSound digest)
+placed_at digest workspace sound from None = tt
+placed_at digest workspace sound from (Some said) =
+    then_good (IsTip workspace.objects) (LeavesSound digest) (tip_from workspace said.ref_name from) _
+    (tip_good digest workspace sound said.ref_name from)
+    (λ tip stands. branches_keep digest workspace (with_branch workspace.branches said.ref_name tip)
+    None sound (branch_keeps workspace.objects workspace.branches said.ref_name tip sound.tips stands)
+    tt)
+
+-- ---- aliases
+
+alias_keeps : (digest : List ℕ → List ℕ) (workspace : Workspace) → IsSound digest workspace
+    → (mark : ℕ) (commit : CommitIsh) → IfOk (alias_set mark commit workspace) (LeavesSound digest)
+alias_keeps digest workspace sound mark commit =
+    then_good (IsCommitOf workspace.objects) (LeavesSound digest) (commit_in workspace commit) _
+    (commit_good digest workspace sound.objects commit) (λ id stands.
+    then_any (LeavesSound digest) (room_for workspace.marks (Some mark)) _ (λ _. record {
+      objects = sound.objects;
+      saved_head = sound.saved_head;
+      next_head = sound.next_head;
+      marks = marks_with workspace.marks (Some mark) id sound.marks
+          (there digest workspace.objects sound.objects id kind.Commit stands).name;
+      tips = sound.tips;
+      said = sound.said;
+    }))
+
+-- ---- tags
+
+more_said : (digest : List ℕ → List ℕ) (workspace : Workspace) → IsSound digest workspace
+    → (more : Said → Said) (said : Option Said) → IfSome said IsWellSaid
+    → ((said : Said) → IsWellSaid said → IsWellSaid (more said))
+    → IfOk (said_more more said workspace) (LeavesSound digest)
+more_said digest workspace sound more None well keeps = tt
+more_said digest workspace sound more (Some said) well keeps =
+    with_said digest workspace (Some (more said)) sound (keeps said well)
+
+target_keeps : (digest : List ℕ → List ℕ) (workspace : Workspace) → IsSound digest workspace
+    → (target : CommitIsh) → IfOk (target_said target workspace) (LeavesSound digest)
+target_keeps digest workspace sound target =
+    more_said digest workspace sound (λ said. record said { target = target }) workspace.said
+    sound.said (λ said well. record { ref = well.ref; tagger = well.tagger })
+
+tagger_keeps : (digest : List ℕ → List ℕ) (workspace : Workspace) → IsSound digest workspace
+    → (ident : List ℕ) → IsWrittenIdent ident
+    → IfOk (tagger_said ident workspace) (LeavesSound digest)
+tagger_keeps digest workspace sound ident written =
+    more_said digest workspace sound (λ said. record said { tagger = Some ident }) workspace.said
+    sound.said (λ said well. record { ref = well.ref; tagger = written })
+
+-- what is tagged is there, and is no tree
+pub record IsTagged (os : List Object) (target : List ℕ) (target_kind : Kind) : Type 0 where
+  pub stands : kind_named target os ≡ Some target_kind
+  pub no_tree : target_kind ≢ kind.Tree
+
+kind_tagged : (os : List Object) (target : List ℕ) (k : Option Kind) → kind_named target os ≡ k
+    → IfOk (tagged_kind k) (IsTagged os target)
+kind_tagged os target None e = tt
+kind_tagged os target (Some kind.Tree) e = tt
+kind_tagged os target (Some kind.Commit) e = record { stands = e; no_tree = λ same. cc }
+kind_tagged os target (Some kind.Blob) e = record { stands = e; no_tree = λ same. cc }
+kind_tagged os target (Some kind.Tag) e = record { stands = e; no_tree = λ same. cc }
+
+-- the tag that is made
+abbrev tag_from : Said → List ℕ → List ℕ → Kind → Tag
+tag_from said message target target_kind = record {
+  target = target;
+  kind = target_kind;
+  name = drop (length (codes "refs/tags/")) said.ref_name;
+  tagger = said.tagger;
+  message = message;
+}
+
+ref_spelt : (said : Said) → is_tag_ref said.ref_name ≡ true
+    → said.ref_name ≡ codes "refs/tags/" ++ drop (length (codes "refs/tags/")) said.ref_name
+ref_spelt said is =
+    let begins = (begins_test said.ref_name (codes "refs/tags/")).0 is in
+    begins.1 ∙ ap (λ (rest : List ℕ). codes "refs/tags/" ++ rest)
+    (sym (ap (λ (ref : List ℕ). drop 10 ref) begins.1))
+
+tag_can : (said : Said) (message target : List ℕ) (target_kind : Kind) → IsWellSaid said
+    → is_tag_ref said.ref_name ≡ true → IsObjectName target → target_kind ≢ kind.Tree
+    → CanWriteTag (tag_from said message target target_kind)
+tag_can said message target target_kind well is name no_tree =
+    record {
+      target = name;
+      kind = no_tree;
+      name = subst IsRefName (ref_spelt said is) well.ref.name;
+      tagger = well.tagger;
+    }
+
+tag_storable : (digest : List ℕ → List ℕ) (os : List Object) → AreObjects digest os
+    → (said : Said) (message target : List ℕ) (target_kind : Kind) → IsWellSaid said
+    → is_tag_ref said.ref_name ≡ true → IsTagged os target target_kind
+    → IsStorable os (tag_content said message target target_kind)
+tag_storable digest os good said message target target_kind well is tagged =
+    let stands = there digest os good target target_kind tagged.stands in
+    let tag = tag_from said message target target_kind in
+    let can = tag_can said message target target_kind well is stands.name tagged.no_tree in
+    record {
+      valid = (
+        tag,
+        record {
+          writable = can;
+          contents = refl;
+          short_name = subst (λ (ref : List ℕ). length ref ≤ 1024) (ref_spelt said is) well.ref.short;
+        },
+      );
+      connected = subst (λ (t : Tag). All (StandsBefore os (length os)) (reference t.kind t.target ∷ []))
+          (sym (tag_back tag can))
+          (All-cons (StandsBefore os (length os)) (reference target_kind target) []
+          (record { before = stands.before; kind = tagged.stands })
+          (All-nil (StandsBefore os (length os))));
+    }
+
+-- what is tagged, where a tag is open
+record IsTaggedBy (os : List Object) (said : Said) (target : List ℕ × Kind) : Type 0 where
+  is_open : is_tag_ref said.ref_name ≡ true
+  is_tagged : IsTagged os target.0 target.1
+
+tagged_good : (workspace : Workspace) (mark : Option ℕ) (said : Said)
+    → IfOk (tagged mark said workspace) (IsTaggedBy workspace.objects said)
+tagged_good workspace mark said = let P : List ℕ × Kind → Type 0 = IsTaggedBy workspace.objects said in
+    by_test (is_tag_ref said.ref_name)
+    (λ is. rw is (
+    then_any P (named_in workspace said.target) _ (λ target.
+    then_good (IsTagged workspace.objects target) P
+    (tagged_kind (kind_named target workspace.objects)) _
+    (kind_tagged workspace.objects target (kind_named target workspace.objects) refl)
+    (λ target_kind is_tagged.
+    then_any P (room_for workspace.marks mark) _ (λ _.
+    then_any P (room_for_tag workspace.tags) _ (λ _.
+    record { is_open = is; is_tagged = is_tagged }))))))
+    (λ other. rw other tt)
+
+tag_keeps : (digest : List ℕ → List ℕ) → AnswersNames digest → (workspace : Workspace)
+    → IsSound digest workspace → (mark : Option ℕ) (message : List ℕ) (said : Option Said)
+    → IfSome said IsWellSaid
+    → IfOk (tag_stored digest mark message said workspace) (LeavesSound digest)
+tag_keeps digest names workspace sound mark message None well = tt
+tag_keeps digest names workspace sound mark message (Some said) well =
+    then_good (IsTaggedBy workspace.objects said) (LeavesSound digest) (tagged mark said workspace) _
+    (tagged_good workspace mark said)
+    (λ target is. made target.0 target.1 (tag_storable digest workspace.objects sound.objects said
+    message target.0 target.1 well is.is_open is.is_tagged))
+  where
+    made : (target : List ℕ) (target_kind : Kind)
+        → IsStorable workspace.objects (tag_content said message target target_kind)
+        → IfOk (tag_made digest mark said.ref_name (tag_content said message target target_kind)
+        workspace) (LeavesSound digest)
+    made target target_kind storable =
+        let content = tag_content said message target target_kind in
+        then_good (Keeps digest workspace.objects) (LeavesSound digest)
+        (with_content digest content workspace.objects) _
+        (content_good digest names workspace.objects sound.objects content storable)
+        (λ objects keeps. record {
+          objects = keeps.good;
+          saved_head = sound.saved_head;
+          next_head = sound.next_head;
+          marks = marks_with workspace.marks mark (name_by digest content) sound.marks
+              (named_by digest names content);
+          tips = tips_longer workspace.objects objects keeps.grows workspace.branches sound.tips;
+          said = tt;
+        })
+
+-- ---- checkpoints
+
+set_or_kept-head : (b : Bool) (store : RefStore) (ref id : List ℕ)
+    → (cond b (with_ref store ref id) store).head ≡ store.head
+set_or_kept-head true store ref id = refl
+set_or_kept-head false store ref id = refl
+
+saved_by-head : (workspace : Workspace) (store : RefStore) (ref : List ℕ) (tip : Tip)
+    → (saved_by workspace store ref tip).head ≡ store.head
+saved_by-head workspace store ref Unborn = refl
+saved_by-head workspace store ref Deleted = refl
+saved_by-head workspace store ref (At id) = set_or_kept-head (moves workspace ref id) store ref id
+
+by_branches-head : (workspace : Workspace) (branches : Branches) (store : RefStore)
+    → (by_branches workspace store branches).head ≡ store.head
+by_branches-head workspace [] store = refl
+by_branches-head workspace (branch ∷ branches) store =
+    by_branches-head workspace branches (saved_by workspace store branch.0 branch.1)
+    ∙ saved_by-head workspace store branch.0 branch.1
+
+by_tags-head : (tags : PendingTags) (store : RefStore) → (by_tags store tags).head ≡ store.head
+by_tags-head [] store = refl
+by_tags-head (tag ∷ tags) store = by_tags-head tags (with_ref store tag.0 tag.1)
+
+by_head-named : (store : RefStore) (head : Option (List ℕ)) → IfSome head IsShortRefName
+    → IsShortRefName store.head → IsShortRefName (by_head store head).head
+by_head-named store None next saved = saved
+by_head-named store (Some ref) next saved = next
+
+saved_head_named : (digest : List ℕ → List ℕ) (workspace : Workspace) → IsSound digest workspace
+    → IsShortRefName (saved_refs workspace).head
+saved_head_named digest workspace sound =
+    let branched = by_branches workspace workspace.refs workspace.branches in
+    by_head-named (by_tags branched workspace.tags) workspace.head sound.next_head
+    (subst IsShortRefName
+    (sym (by_tags-head workspace.tags branched
+    ∙ by_branches-head workspace workspace.branches workspace.refs))
+    sound.saved_head)
+
+checkpoint_keeps : (digest : List ℕ → List ℕ) (workspace : Workspace) → IsSound digest workspace
+    → IfOk (checkpoint workspace) (LeavesSound digest)
+checkpoint_keeps digest workspace sound =
+    by_test (fit (saved_refs workspace))
+    (λ few. rw few (record {
+      objects = sound.objects;
+      saved_head = saved_head_named digest workspace sound;
+      next_head = tt;
+      marks = sound.marks;
+      tips = sound.tips;
+      said = sound.said;
+    }))
+    (λ many. rw many tt)
+
+-- ---- what sets and what prints
+
+feature_keeps : (digest : List ℕ → List ℕ) (workspace : Workspace) → IsSound digest workspace
+    → (wanted : Feature) → IsSound digest (feature_set wanted workspace)
+feature_keeps digest workspace sound feature.Done = switched
+  where
+    switched : IsSound digest (record workspace { needs_done = true })
+    switched = record {
+      objects = sound.objects;
+      saved_head = sound.saved_head;
+      next_head = sound.next_head;
+      marks = sound.marks;
+      tips = sound.tips;
+      said = sound.said;
+    }
+feature_keeps digest workspace sound feature.Force = record {
+  objects = sound.objects;
+  saved_head = sound.saved_head;
+  next_head = sound.next_head;
+  marks = sound.marks;
+  tips = sound.tips;
+  said = sound.said;
+}
+feature_keeps digest workspace sound _ = sound
+
+head_keeps : (digest : List ℕ → List ℕ) (workspace : Workspace) → IsSound digest workspace
+    → (ref : List ℕ) → IsShortRefName ref → IfOk (head_set ref workspace) (LeavesSound digest)
+head_keeps digest workspace sound ref name =
+    by_test (bytes_eq ref (codes "HEAD"))
+    (λ is. rw is tt)
+    (λ other. rw other (record {
+      objects = sound.objects;
+      saved_head = sound.saved_head;
+      next_head = name;
+      marks = sound.marks;
+      tips = sound.tips;
+      said = sound.said;
+    }))
+
+set_keeps : (digest : List ℕ → List ℕ) (workspace : Workspace) → IsSound digest workspace
+    → (act : Act) → IsWellFormed act → IfOk (set_by act workspace) (LeavesSound digest)
+unfolding set_by
+set_keeps digest workspace sound Wait well = sound
+set_keeps digest workspace sound (BeginTag ref) well =
+    with_said digest workspace (Some (said_of ref)) sound (newly_said ref well.name)
+set_keeps digest workspace sound (TagTarget target) well = target_keeps digest workspace sound target
+set_keeps digest workspace sound (Tagger ident) well = tagger_keeps digest workspace sound ident well
+set_keeps digest workspace sound (Reset ref) well = reset_keeps digest workspace sound ref well
+set_keeps digest workspace sound (Require wanted) well = feature_keeps digest workspace sound wanted
+set_keeps digest workspace sound (SetHead ref) well = head_keeps digest workspace sound ref well
+set_keeps digest workspace sound _ well = tt
+
+placed_keeps : (digest : List ℕ → List ℕ) (workspace : Workspace) → IsSound digest workspace
+    → (act : Act) → IsWellFormed act → IfOk (placed_by act workspace) (LeavesSound digest)
+unfolding placed_by
+placed_keeps digest workspace sound (ResetTo from) well =
+    placed_at digest workspace sound from workspace.said
+placed_keeps digest workspace sound (SetMark mark commit) well =
+    alias_keeps digest workspace sound mark commit
+placed_keeps digest workspace sound act well = set_keeps digest workspace sound act well
+
+shown_keeps : (digest : List ℕ → List ℕ) (workspace : Workspace) → IsSound digest workspace
+    → (act : Act) → IsWellFormed act → IfOk (shown_by act workspace) (LeavesSound digest)
+unfolding shown_by
+shown_keeps digest workspace sound (ShowMark mark) well =
+    then_any (LeavesSound digest) (marked_name workspace.marks mark) _ (λ id. sound)
+shown_keeps digest workspace sound (ShowObject object) well =
+    then_any (LeavesSound digest) (referred_name workspace.marks object) _ (λ id.
+    then_any (LeavesSound digest) (shown_object id (object_named id workspace.objects))
+    (λ line. prints workspace line) (λ line. sound))
+shown_keeps digest workspace sound (ShowEntry root path) well =
+    then_any (LeavesSound digest) (entry_shown workspace.objects workspace.marks root path)
+    (λ line. prints workspace line) (λ line. sound)
+shown_keeps digest workspace sound (Progress line) well = sound
+shown_keeps digest workspace sound act well = placed_keeps digest workspace sound act well
+
+pub act_keeps : (digest : List ℕ → List ℕ) → AnswersNames digest → (workspace : Workspace)
+    → IsSound digest workspace → (act : Act) → IsWellFormed act
+    → IfOk (after_act digest act workspace) (LeavesSound digest)
+unfolding after_act
+act_keeps digest names workspace sound (StoreBlob mark bytes) well =
+    blob_keeps digest names workspace sound mark bytes
+act_keeps digest names workspace sound (StoreTag mark message) well =
+    tag_keeps digest names workspace sound mark message workspace.said sound.said
+act_keeps digest names workspace sound Checkpoint well = checkpoint_keeps digest workspace sound
+act_keeps digest names workspace sound Finish well = checkpoint_keeps digest workspace sound
+act_keeps digest names workspace sound act well = shown_keeps digest workspace sound act well
+
+-- ---- items, and the end
+
+-- a command is known only where its text was given
+known_given : (unknown : Bool) (given : Result Done TextFault) (P : Done → Type 0) → IfOk given P
+    → IfOk (text_first (known unknown given)) P
+known_given false (Ok done) P h = h
+known_given false (Err e) P h = tt
+known_given true (Ok done) P h = tt
+known_given true (Err text_fault.MissingPart) P h = tt
+known_given true (Err _) P h = tt
+
+if_ok : {A E : Type 0} (P : A → Type 0) (r : Result A E) → ((value : A) → r ≡ Ok value → P value)
+    → IfOk r P
+if_ok P (Ok value) h = h value refl
+if_ok P (Err e) h = tt
+
+from_ok : {A E : Type 0} (P : A → Type 0) (r : Result A E) (value : A) → r ≡ Ok value → IfOk r P
+    → P value
+from_ok P (Ok other) value e h = subst P (ap (λ r. result_unwrap_or r other) e) h
+from_ok P (Err fault) value e h = cc
+
+abbrev StepsSoundly : (List ℕ → List ℕ) → Step → Type 0
+StepsSoundly digest step = IsSound digest step.running.workspace
+
+taken_keeps : (digest : List ℕ → List ℕ) → AnswersNames digest → (now : Running) (item : Item)
+    → IsSound digest now.workspace → IfOk (taken digest now item) (StepsSoundly digest)
+taken_keeps digest names now item sound =
+    let WellDone : Done → Type 0 = λ done. IsWellFormed done.act in
+    then_good WellDone (StepsSoundly digest)
+    (text_first (known (has_no_meaning (part_of item)) (done_by now.parsing item))) _
+    (known_given (has_no_meaning (part_of item)) (done_by now.parsing item) WellDone
+    (if_ok WellDone (done_by now.parsing item) (well_formed now.parsing item)))
+    (λ done well. then_good (LeavesSound digest) (StepsSoundly digest)
+    (after_act digest done.act now.workspace) _
+    (act_keeps digest names now.workspace sound done.act well) (λ effect left. left))
+
+if_true : {A : Type 0} (test : Bool) (x y : A) → test ≡ true → (if test then x else y) ≡ x
+if_true true x y e = refl
+if_true false x y e = cc
+
+if_false : {A : Type 0} (test : Bool) (x y : A) → test ≡ false → (if test then x else y) ≡ y
+if_false true x y e = cc
+if_false false x y e = refl
+
+pub item_keeps : (digest : List ℕ → List ℕ) → AnswersNames digest → (now : Running) (item : Item)
+    (next : Step) → IsSound digest now.workspace → step digest now item ≡ Ok next
+    → IsSound digest next.running.workspace
+unfolding step
+item_keeps digest names now item next sound e =
+    let over : Result Step Fault = Ok (record { running = now; reply = [] }) in
+    by_test now.is_done
+    (λ done. from_ok (StepsSoundly digest) over next
+    (sym (if_true now.is_done over (taken digest now item) done) ∙ e) sound)
+    (λ runs. from_ok (StepsSoundly digest) (taken digest now item) next
+    (sym (if_false now.is_done over (taken digest now item) runs) ∙ e)
+    (taken_keeps digest names now item sound))
+
+pub end_keeps : (digest : List ℕ → List ℕ) → AnswersNames digest → (now : Running) (effect : Effect)
+    → IsSound digest now.workspace → session_end digest now ≡ Ok effect
+    → IsSound digest effect.workspace
+unfolding session_end
+end_keeps digest names now effect sound e =
+    by_test now.is_done
+    (λ done. from_ok (LeavesSound digest) (quiet now.workspace) effect
+    (sym (if_true now.is_done (quiet now.workspace) (commands_end digest now) done) ∙ e) sound)
+    (λ runs. from_ok (LeavesSound digest) (commands_end digest now) effect
+    (sym (if_false now.is_done (quiet now.workspace) (commands_end digest now) runs) ∙ e)
+    (then_any (LeavesSound digest) (text_first (end_of now.parsing)) _ (λ _.
+    then_any (LeavesSound digest) (unless_done_missing now.workspace) _ (λ _.
+    checkpoint_keeps digest now.workspace sound))))

@@ -1,0 +1,73 @@
+-- Good objects stay good where a content is stored that is valid among them.
+use Rattle.std.proofs.Common.{◌≡◌, length, ℕ, Bool, true, false, List, Option, Some, None, Result, Ok, Err, refl, All}
+use Rattle.std.specs.Prelude.{IfOk}
+use Rattle.git_model.specs.Content.{Content, name_by}
+use Rattle.git_model.specs.GoodRepository.{AreObjects, IsValid, StandsBefore}
+use Rattle.git_model.specs.ObjectName.{IsObjectName, object_name}
+use Rattle.git_model.specs.References.{references_in}
+use Rattle.git_model.specs.Repository.{Object}
+use Rattle.git_names.specs.Naming.{AnswersNames}
+use Rattle.tenant_tables.specs.declared.fault.Fault.{Fault as TableFault}
+use Rattle.tenant_tables.specs.Adding.{store_fault}
+use Rattle.tenant_tables.proofs.StoredGood.{Grows, MayStore, stored_good}
+use Rattle.import_session.specs.declared.fault.Fault.{Fault}
+use Rattle.import_session.specs.Faults.{and_then}
+use Rattle.import_session.specs.Storing.{stored_or, with_content}
+
+-- ---- what is carried out, and then what comes after it
+
+pub then_good : {A B : Type 0} (P : A → Type 0) (Q : B → Type 0) (r : Result A Fault)
+    (next : A → Result B Fault)
+    → IfOk r P → ((value : A) → P value → IfOk (next value) Q) → IfOk (and_then r next) Q
+then_good P Q (Ok value) next good later = later value good
+then_good P Q (Err e) next good later = tt
+
+pub then_any : {A B : Type 0} (Q : B → Type 0) (r : Result A Fault) (next : A → Result B Fault)
+    → ((value : A) → IfOk (next value) Q) → IfOk (and_then r next) Q
+then_any Q (Ok value) next later = later value
+then_any Q (Err e) next later = tt
+
+pub by_test : {P : Type 0} (test : Bool) → (test ≡ true → P) → (test ≡ false → P) → P
+by_test true holds fails = holds refl
+by_test false holds fails = fails refl
+
+-- ---- names
+
+-- the digest of a content is an object name
+pub named_by : (digest : List ℕ → List ℕ) → AnswersNames digest → (content : Content)
+    → IsObjectName (name_by digest content)
+unfolding object_name
+named_by digest names content = names _
+
+-- ---- storing
+
+-- objects that stay good, with others after them
+pub record Keeps (digest : List ℕ → List ℕ) (os new : List Object) : Type 0 where
+  pub good : AreObjects digest new
+  pub grows : Grows os new
+
+-- a content that may be stored among good objects
+pub record IsStorable (os : List Object) (content : Content) : Type 0 where
+  pub valid : IsValid os content.kind content.bytes
+  pub connected : All (StandsBefore os (length os)) (references_in content)
+
+pub content_good : (digest : List ℕ → List ℕ) → AnswersNames digest → (os : List Object)
+    → AreObjects digest os → (content : Content) → IsStorable os content
+    → IfOk (with_content digest content os) (Keeps digest os)
+content_good digest names os good content storable =
+    by_fault (store_fault (name_by digest content) content os) refl
+  where
+    may : MayStore digest os content
+    may = record {
+      name = named_by digest names content;
+      valid = storable.valid;
+      connected = storable.connected;
+    }
+
+    by_fault : (refusal : Option TableFault)
+        → store_fault (name_by digest content) content os ≡ refusal
+        → IfOk (stored_or (name_by digest content) content os refusal) (Keeps digest os)
+    by_fault None none =
+        let holds = stored_good digest os good content may none in
+        record { good = holds.good; grows = holds.grows }
+    by_fault (Some refusal) some = tt

@@ -1,0 +1,54 @@
+-- Resets and aliases: git-fast-import(1), "reset" and "alias".
+use Rattle.std.specs.Prelude.{ℕ, Bool, false, if◌then◌else◌, List, replicate, Option, None, Some, Result, Ok, Err}
+use Rattle.std.specs.Str.{bytes_eq}
+use Rattle.stream_grammar.specs.declared.fault.Fault.TheVariants as text_fault
+use Rattle.stream_grammar.specs.Names.{CommitIsh, Marked, Expression}
+use Rattle.import_session.specs.declared.branches.Tip.{Tip}
+use Rattle.import_session.specs.declared.branches.Tip.TheVariants.{Unborn, Deleted, At}
+use Rattle.import_session.specs.declared.fault.Fault.{Fault}
+use Rattle.import_session.specs.declared.fault.Fault.TheVariants as fault
+use Rattle.import_session.specs.declared.said.Said.{Said}
+use Rattle.import_session.specs.Faults.{and_then}
+use Rattle.import_session.specs.Workspace.{Workspace, Effect, quiet, said_of}
+use Rattle.import_session.specs.Marks.{room_for, with_mark}
+use Rattle.import_session.specs.Branches.{branch_set, with_branch}
+use Rattle.import_session.specs.CommitIshes.{ref_in, commit_in, start_in}
+
+-- 'reset': the branch is unborn, whatever it was.
+abbrev pub branch_unborn : List ℕ → Workspace → Result Effect Fault
+branch_unborn ref workspace =
+    and_then (branch_set workspace.branches ref Unborn) (λ branches.
+    quiet (record workspace { branches = branches; said = Some (said_of ref) }))
+
+abbrev pub branch_reset : List ℕ → Workspace → Result Effect Fault
+branch_reset ref workspace = branch_unborn (ref_in workspace ref) workspace
+
+-- Forty zeros, in a reset alone, stand for no commit.
+unfoldable pub is_zeros : CommitIsh → Bool
+is_zeros (Marked mark) = false
+is_zeros (Expression words) = bytes_eq words (replicate 40 48)
+
+-- 'from' in a reset: the branch is marked as deleted, or stands at the commit.
+abbrev pub tip_from : Workspace → List ℕ → CommitIsh → Result Tip Fault
+tip_from workspace ref from =
+    if is_zeros from then Ok Deleted
+    else and_then (start_in workspace ref from) (λ id. Ok (At id))
+
+-- It comes only where a reset is open.
+abbrev pub branch_placed : CommitIsh → Option Said → Workspace → Result Effect Fault
+branch_placed from None workspace = Err (fault.Text text_fault.UnknownCommand)
+branch_placed from (Some said) workspace =
+    and_then (tip_from workspace said.ref_name from) (λ tip. quiet (record workspace {
+      branches = with_branch workspace.branches said.ref_name tip;
+      said = None;
+    }))
+
+abbrev pub branch_reset_to : CommitIsh → Workspace → Result Effect Fault
+branch_reset_to from workspace = branch_placed from workspace.said workspace
+
+-- 'alias': the mark is set to the commit, and nothing is stored. The limit on marks is judged last.
+abbrev pub alias_set : ℕ → CommitIsh → Workspace → Result Effect Fault
+alias_set mark commit workspace =
+    and_then (commit_in workspace commit) (λ id.
+    and_then (room_for workspace.marks (Some mark)) (λ _.
+    quiet (record workspace { marks = with_mark workspace.marks (Some mark) id })))

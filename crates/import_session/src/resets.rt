@@ -1,0 +1,119 @@
+//! Resets and aliases: git-fast-import(1), "reset" and "alias".
+
+ghost use Rattle.std.specs.Prelude.{◌≡◌, List, ℕ};
+ghost use Rattle.git_model.specs.GoodRepository.{AreObjects};
+ghost use Rattle.tenant_tables.specs.Objects.{objects};
+ghost use Rattle.tenant_tables.specs.StandsIn.{StandsIn};
+ghost use Rattle.stream_grammar.specs.Shown.{act_shown, commit_shown};
+ghost use Rattle.import_session.specs.Faults.{Gives};
+ghost use Rattle.import_session.specs.Resets.{alias_set, branch_reset_to, is_zeros, tip_from};
+ghost use Rattle.import_session.specs.Meaning.{placed_by};
+ghost use Rattle.import_session.specs.Session.{own_shown, workspace_in, CarriesOut};
+
+use crate::branches::Tip;
+use crate::commit_ishes::{commit_named, start_of};
+use crate::fault::Fault;
+use crate::marks;
+use crate::own::{self, Own};
+use content_pool::Pool;
+use git_objects::Naming;
+use stream_grammar::{Act, CommitIsh, Mark};
+use tenant_refs::{RefName, Refs};
+use tenant_tables::Table;
+
+// Whether these are forty zeros, which stand for no commit.
+#[tactic(auto, unfolding(crate::specs::Resets::is_zeros))]
+fn is_zeros(commit: &CommitIsh<'_>) -> bool
+    ensures { result ≡ is_zeros (commit_shown commit.now) }
+{
+    match commit {
+        CommitIsh::Mark(_) => false,
+        CommitIsh::Expression(words) => *words == [b'0'; 40].as_slice(),
+    }
+}
+
+// How a branch stands that is reset to this: as deleted, or at the commit.
+fn tip_from<N: Naming>(
+    pool: &Pool<N>,
+    table: &Table,
+    refs: &Refs,
+    own: &Own,
+    ref_name: &RefName,
+    from: &CommitIsh<'_>,
+) -> Result<Tip, Fault>
+    requires { StandsIn N.digest_of pool.now table.now.entries }
+    ensures { AreObjects N.digest_of (objects pool.now table.now.entries) → Gives result
+        (tip_from (workspace_in (own_shown own.now) pool.now table.now refs.now) ref_name.now
+        (commit_shown from.now)) }
+{
+    if is_zeros(from) {
+        return Ok(Tip::Deleted);
+    }
+    let id = start_of(pool, table, refs, own, ref_name, from)?;
+    Ok(Tip::At(id))
+}
+
+// 'from' in a reset.
+fn reset_to<N: Naming>(
+    pool: &Pool<N>,
+    table: &Table,
+    refs: &Refs,
+    own: &mut Own,
+    from: &CommitIsh<'_>,
+) -> Result<(), Fault>
+    requires { StandsIn N.digest_of pool.now table.now.entries }
+    ensures { (out : List ℕ) → AreObjects N.digest_of (objects pool.now table.now.entries)
+        → CarriesOut (branch_reset_to (commit_shown from.now)
+        (workspace_in (own_shown own.old) pool.now table.now refs.now))
+        (workspace_in (own_shown own.new) pool.now table.now refs.now) out out result }
+{
+    let Some(said) = own.said.take() else {
+        return Err(Fault::Text(stream_grammar::Fault::UnknownCommand));
+    };
+    let tip = tip_from(pool, table, refs, own, &said.ref_name, from)?;
+    own.branches.place(said.ref_name, tip)?;
+    Ok(())
+}
+
+// 'alias': the mark is set to the commit.
+fn alias<N: Naming>(
+    pool: &Pool<N>,
+    table: &Table,
+    refs: &Refs,
+    own: &mut Own,
+    mark: Mark,
+    commit: &CommitIsh<'_>,
+) -> Result<(), Fault>
+    requires { StandsIn N.digest_of pool.now table.now.entries }
+    ensures { (out : List ℕ) → AreObjects N.digest_of (objects pool.now table.now.entries)
+        → CarriesOut (alias_set mark (commit_shown commit.now)
+        (workspace_in (own_shown own.old) pool.now table.now refs.now))
+        (workspace_in (own_shown own.new) pool.now table.now refs.now) out out result }
+{
+    let id = commit_named(pool, table, refs, own, commit)?;
+    marks::make_room(&mut own.marks, &Some(mark))?;
+    marks::set(&mut own.marks, Some(mark), id);
+    Ok(())
+}
+
+// Carries out an act that places a branch or a mark at a commit, or one that looks at no object.
+#[tactic(auto, unfolding(crate::specs::Meaning::placed_by))]
+pub fn place<N: Naming>(
+    pool: &Pool<N>,
+    table: &Table,
+    refs: &Refs,
+    own: &mut Own,
+    act: &Act<'_>,
+) -> Result<(), Fault>
+    requires { StandsIn N.digest_of pool.now table.now.entries }
+    ensures { (out : List ℕ) → AreObjects N.digest_of (objects pool.now table.now.entries)
+        → CarriesOut (placed_by (act_shown act.now)
+        (workspace_in (own_shown own.old) pool.now table.now refs.now))
+        (workspace_in (own_shown own.new) pool.now table.now refs.now) out out result }
+{
+    match act {
+        Act::ResetTo(from) => reset_to(pool, table, refs, own, from),
+        Act::SetMark { mark, commit } => alias(pool, table, refs, own, *mark, commit),
+        _ => own::set(own, refs, act),
+    }
+}

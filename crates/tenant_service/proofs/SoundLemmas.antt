@@ -1,0 +1,204 @@
+-- What is held of a tenant stays sound.
+use Rattle.std.proofs.Common.{◌≡◌, ℕ, zero, suc, Bool, true, false, cond, List, [], length, take, Option, None, Some, refl, sym, ap, subst, ◌∙◌}
+use Rattle.std.specs.Prelude.{nat_le}
+use Rattle.std.specs.Map.{lookup}
+use Rattle.std.specs.Str.{bytes_eq}
+use Rattle.std.proofs.lemmas.Slice.Eq.{bytes_eq-Decides}
+use Rattle.git_model.specs.Repository.{Repository}
+use Rattle.git_names.specs.Naming.{AnswersNames}
+use Rattle.git_model.specs.RefStore.{RefStore}
+use Rattle.content_pool.specs.Pool.{Cells}
+use Rattle.tenant_tables.specs.View.{View}
+use Rattle.stream_lex.specs.Items.{Item, Tail, Rest}
+use Rattle.stream_lex.specs.Running.{more_of}
+use Rattle.import_session.specs.Stream.{Running, Outcome, Standing, Runs, Refused, carried, last_checkpoint}
+use Rattle.import_session.specs.Sound.{IsSound, IsSoundRepository}
+use Rattle.import_session.proofs.SoundLemmas.{empty_is_sound, new_is_sound, checkpoint_is_sound}
+use Rattle.service_steps.specs.declared.answer.Answer.{Answer}
+use Rattle.service_steps.specs.declared.step.Step.{Step}
+use Rattle.service_steps.specs.declared.step.Step.TheVariants as step
+use Rattle.tenant_stream.specs.Carrying.{Between, outcome_behind, stream_in}
+use Rattle.tenant_stream.specs.Soundness.{IsSoundStanding}
+use Rattle.tenant_stream.proofs.SoundLemmas.{carried_sound, finished_sound}
+use Rattle.tenant_service.specs.declared.tenant.Phase.{Phase}
+use Rattle.tenant_service.specs.declared.tenant.Phase.TheVariants as phase
+use Rattle.tenant_service.specs.declared.tenant.Tenant.{Tenant}
+use Rattle.tenant_service.specs.Alone.{Call, Open, Feed, End, Ask, Restart, Turn, Stopped, ended, ended_well, stop_at, stop_behind, unless_out_of_memory}
+use Rattle.tenant_service.specs.Holding.{Holding, Holdings, Idle, Busy, IsSoundHolding, end_held, fed_held, feed_held, gone_on, held_of, held_until, last_held, open_held, step_held}
+use Rattle.tenant_service.specs.Tenants.{Tenants, AreSound, held_in, holding_in, holdings}
+use Rattle.tenant_service.specs.OneStep.{Takes, Calls, Steps, store}
+use Rattle.tenant_service.proofs.AccountLemmas.{held-found}
+use Rattle.tenant_service.proofs.RunLemmas.{held-restarted}
+
+-- ---- one call
+
+-- a stop leaves a sound repository
+abbrev IsSoundStop : (List ℕ → List ℕ) → Option Stopped → Type 0
+IsSoundStop digest None = Unit {0}
+IsSoundStop digest (Some stopped) = IsSoundRepository digest stopped.repository
+
+stop_at-sound : (digest : List ℕ → List ℕ) (replies : List ℕ) (standing : Standing)
+    → IsSoundStanding digest standing → IsSoundStop digest (stop_at replies standing)
+stop_at-sound digest replies (Refused code repository) sound = tt
+stop_at-sound digest replies (Runs now tail) sound = by now.is_done
+  where
+    by : (b : Bool) → IsSoundStop digest (cond b None
+        (Some (record { replies = replies; repository = last_checkpoint now.workspace })))
+    by true = tt
+    by false = checkpoint_is_sound digest now.workspace sound
+
+until-sound : (digest : List ℕ → List ℕ) (count : ℕ) (stop : Option Stopped) (well : Turn Holding)
+    → IsSoundStop digest stop → IsSoundHolding digest well.state
+    → IsSoundHolding digest (held_until count stop well).state
+until-sound digest count None well stopped sound = sound
+until-sound digest count (Some stop) well stopped sound = stopped
+
+open-sound : (digest : List ℕ → List ℕ) (stop : Option ℕ) (held : Holding)
+    → IsSoundHolding digest held → IsSoundHolding digest (open_held stop held).state
+open-sound digest None (Idle repository) sound = new_is_sound digest repository sound
+open-sound digest (Some zero) (Idle repository) sound = sound
+open-sound digest (Some (suc count)) (Idle repository) sound = new_is_sound digest repository sound
+open-sound digest stop (Busy standing) sound = sound
+
+unless-sound : (digest : List ℕ → List ℕ) (stop : Option ℕ) (left : Repository)
+    (well : Turn Repository) → IsSoundRepository digest left → IsSoundRepository digest well.state
+    → IsSoundRepository digest (unless_out_of_memory stop left well).state
+unless-sound digest None left well stopped sound = sound
+unless-sound digest (Some zero) left well stopped sound = stopped
+unless-sound digest (Some (suc count)) left well stopped sound = sound
+
+last-sound : (digest : List ℕ → List ℕ) (held : Holding) → IsSoundHolding digest held
+    → IsSoundRepository digest (last_held held)
+last-sound digest (Idle repository) sound = sound
+last-sound digest (Busy (Runs now tail)) sound = checkpoint_is_sound digest now.workspace sound
+last-sound digest (Busy (Refused code repository)) sound = sound
+
+module _ (digest : List ℕ → List ℕ) (names : AnswersNames digest) where
+  stop_behind-sound : (now : Running) (items : List Item) (count : ℕ)
+      → IsSound digest now.workspace → IsSoundStop digest (stop_behind digest now items count)
+  unfolding stop_behind
+  stop_behind-sound now items count sound = by (nat_le count (length items))
+    where
+      first : Outcome
+      first = carried digest now (take count items) (Rest false [])
+
+      by : (b : Bool) → IsSoundStop digest (cond b (stop_at first.replies first.standing) None)
+      by true = stop_at-sound digest first.replies first.standing
+          (carried_sound digest names now (take count items) (Rest false []) sound)
+      by false = tt
+
+  fed-sound : (piece : List ℕ) (stop : Option ℕ) (now : Running) (tail : Tail)
+      → IsSound digest now.workspace
+      → IsSoundHolding digest (fed_held digest piece stop now tail).state
+  fed-sound piece stop now tail sound = by stop
+    where
+      well : IsSoundStanding digest (outcome_behind digest now tail piece).standing
+      well = carried_sound digest names now (more_of tail piece).items (more_of tail piece).tail
+          sound
+
+      by : (stop : Option ℕ) → IsSoundHolding digest (fed_held digest piece stop now tail).state
+      by None = well
+      by (Some count) =
+          until-sound digest count (stop_behind digest now (more_of tail piece).items count)
+          (gone_on (outcome_behind digest now tail piece))
+          (stop_behind-sound now (more_of tail piece).items count sound) well
+
+  feed-sound : (piece : List ℕ) (stop : Option ℕ) (held : Holding) → IsSoundHolding digest held
+      → IsSoundHolding digest (feed_held digest piece stop held).state
+  feed-sound piece stop (Idle repository) sound = sound
+  feed-sound piece stop (Busy (Runs now tail)) sound = fed-sound piece stop now tail sound
+  feed-sound piece stop (Busy (Refused code repository)) sound = sound
+
+  ended-sound : (stop : Option ℕ) (standing : Standing) → IsSoundStanding digest standing
+      → IsSoundRepository digest (ended digest stop standing).state
+  ended-sound stop (Refused code repository) sound = sound
+  ended-sound stop (Runs now tail) sound = by now.is_done
+    where
+      well : IsSoundRepository digest (ended_well digest (Runs now tail)).state
+      well = finished_sound digest names (Runs now tail) sound
+
+      by : (b : Bool) → IsSoundRepository digest (cond b (ended_well digest (Runs now tail))
+          (unless_out_of_memory stop (last_checkpoint now.workspace)
+          (ended_well digest (Runs now tail)))).state
+      by true = well
+      by false = unless-sound digest stop (last_checkpoint now.workspace)
+          (ended_well digest (Runs now tail)) (checkpoint_is_sound digest now.workspace sound) well
+
+  end-sound : (stop : Option ℕ) (held : Holding) → IsSoundHolding digest held
+      → IsSoundHolding digest (end_held digest stop held).state
+  end-sound stop (Idle repository) sound = sound
+  end-sound stop (Busy standing) sound = ended-sound stop standing sound
+
+  -- each call leaves it sound
+  call-sound : (call : Call) (stop : Option ℕ) (held : Holding) → IsSoundHolding digest held
+      → IsSoundHolding digest (step_held digest call stop held).state
+  call-sound Open stop held sound = open-sound digest stop held sound
+  call-sound (Feed piece) stop held sound = feed-sound piece stop held sound
+  call-sound End stop held sound = end-sound stop held sound
+  call-sound (Ask query) stop held sound = sound
+  call-sound Restart stop held sound = last-sound digest held sound
+
+  takes-sound : (call : Call) (stop : Option ℕ) (before : Holding) (answer : Answer)
+      (out out' : List ℕ) (after : Holding)
+      → Takes (step_held digest call stop before) answer out out' after
+      → IsSoundHolding digest before → IsSoundHolding digest after
+  takes-sound call stop before answer out out' after takes sound =
+      subst (λ (held : Holding). IsSoundHolding digest held) takes.leaves
+      (call-sound call stop before sound)
+
+  -- ---- all tenants
+
+  calls-sound : (b : Bool) (name : List ℕ) (call : Call) (p : Cells) (es : Tenants)
+      (answer : Answer) (out out' : List ℕ) (q : Cells) (new : Tenants)
+      → Calls digest b name call (store p es) answer out out' (store q new)
+      → AreSound digest (holdings p es) → AreSound digest (holdings q new)
+  calls-sound false name call p es answer out out' q new h sound =
+      subst (λ (all : Holdings). AreSound digest all) (sym h.same) sound
+  calls-sound true name call p es answer out out' q new h sound = λ tenant.
+      by tenant (bytes_eq tenant name) refl
+    where
+      by : (tenant : List ℕ) (b : Bool) → bytes_eq tenant name ≡ b
+          → IsSoundHolding digest (held_of tenant (holdings q new))
+      by tenant true here =
+          subst (λ (n : List ℕ). IsSoundHolding digest (held_of n (holdings q new)))
+          (sym ((bytes_eq-Decides tenant name).0 here))
+          (takes-sound call _ _ answer out out' _ h.own (sound name))
+      by tenant false apart =
+          subst (λ (held : Holding). IsSoundHolding digest held) (sym (h.others tenant apart))
+          (sound tenant)
+
+  -- each step leaves all sound
+  pub sound-on : (s : Step) (p : Cells) (es : Tenants) (answer : Answer) (out out' : List ℕ)
+      (q : Cells) (new : Tenants) → Steps digest s (store p es) answer out out' (store q new)
+      → AreSound digest (holdings p es) → AreSound digest (holdings q new)
+  sound-on (step.Open given) p es answer out out' q new h sound =
+      calls-sound _ _ _ p es answer out out' q new h sound
+  sound-on (step.Feed given bytes) p es answer out out' q new h sound =
+      calls-sound _ _ _ p es answer out out' q new h sound
+  sound-on (step.End given) p es answer out out' q new h sound =
+      calls-sound _ _ _ p es answer out out' q new h sound
+  sound-on (step.Ask given query) p es answer out out' q new h sound =
+      calls-sound _ _ _ p es answer out out' q new h sound
+  sound-on step.Restart p es answer out out' q new h sound = λ tenant.
+      subst (λ (held : Holding). IsSoundHolding digest held)
+      (sym (ap (held_of tenant) h.closed ∙ held-restarted tenant (holdings p es)))
+      (last-sound digest (held_of tenant (holdings p es)) (sound tenant))
+
+-- a stream that runs
+pub sound-running : (digest : List ℕ → List ℕ) (ph : Phase) (s : Between) (p : Cells) (t : View)
+    (r : RefStore) → ph ≡ phase.Running s → IsSoundHolding digest (held_in ph p t r)
+    → IsSound digest (stream_in s p t r).workspace
+sound-running digest ph s p t r is sound =
+    subst (λ (x : Phase). IsSoundHolding digest (held_in x p t r)) is sound
+
+-- one that is there
+pub sound-found : (digest : List ℕ → List ℕ) (p : Cells) (name : List ℕ) (es : Tenants)
+    (t : Tenant) → AreSound digest (holdings p es) → lookup (bytes_eq name) es ≡ Some t
+    → IsSoundHolding digest (holding_in p t)
+sound-found digest p name es t sound got =
+    subst (λ (held : Holding). IsSoundHolding digest held) (held-found p name es t got)
+    (sound name)
+
+-- nobody
+pub sound-nil : (digest : List ℕ → List ℕ) → AreSound digest []
+sound-nil digest tenant = empty_is_sound digest

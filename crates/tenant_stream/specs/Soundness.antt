@@ -1,0 +1,17 @@
+-- Sound streams: what they leave.
+use Rattle.std.specs.Prelude.{ℕ, List, Result, Ok, Err}
+use Rattle.import_session.specs.Workspace.{Workspace}
+use Rattle.import_session.specs.Stream.{Standing, Runs, Refused, last_checkpoint}
+use Rattle.import_session.specs.Sound.{IsSound, IsSoundRepository}
+use Rattle.tenant_stream.specs.declared.stop.Stop.{Stop}
+
+-- A stream that runs stands soundly where its workspace is sound, and one that was refused where
+-- the repository is that it left.
+abbrev pub IsSoundStanding : (List ℕ → List ℕ) → Standing → Type 0
+IsSoundStanding digest (Runs now tail) = IsSound digest now.workspace
+IsSoundStanding digest (Refused code repository) = IsSoundRepository digest repository
+
+-- What a piece leaves of a sound stream: a sound one, or a sound repository at the last checkpoint.
+abbrev pub LeavesSound : (List ℕ → List ℕ) → Result Unit Stop → Workspace → Type 0
+LeavesSound digest (Ok u) workspace = IsSound digest workspace
+LeavesSound digest (Err stop) workspace = IsSoundRepository digest (last_checkpoint workspace)
