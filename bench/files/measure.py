@@ -1,6 +1,6 @@
 """Puts files into a branch and stores its trees, by the program and by git, in one run: first all files, then one
-more edit; then a thousand edits of one directory of 2,000 files, each with its store. Prints the times and the most
-memory of each, and checks that both name the same trees."""
+more edit; then a thousand edits of one directory of 2,000 files, each with its store; then renames of an edited
+directory of 10,000 files. Prints the times and the most memory of each, and checks that both name the same trees."""
 import os
 import subprocess
 import sys
@@ -103,7 +103,48 @@ def wide_by_git():
     return said.strip()
 
 
+MOVED, MOVES = 10000, 1000
+
+
+def at(folder, number):
+    return "100644 blob %040x\t%s/f%04d\n" % (number + 1, folder, number)
+
+
+def moves(one, other):
+    """A directory is edited, and then renamed to and fro; the trees are stored before and after."""
+    files = [at(one, number) for number in range(MOVED)]
+    again = at(one, MOVED).replace("f10000", "f0000")
+    lines = ["R %s %s\n" % ((one, other) if turn % 2 == 0 else (other, one)) for turn in range(MOVES - 1)]
+    write("moves", files, ["\n"], [again], lines, ["\n"])
+    write("moved", [it.replace("\t%s/" % one, "\t%s/" % other) for it in [again] + files[1:]])
+    write("moved_away", ["0 %040x\t%s/f%04d\n" % (0, one, number) for number in range(MOVED)])
+
+
+def renames_by_program(one, other):
+    moves(one, other)
+    _, _, said = once([program], "moves")
+    took, store, name = said.splitlines()[1].split()
+    words = "the program, an edit of %d files and %d renames of %s and %s: %.6f s, %.2f us each; store %.6f s"
+    print(words % (MOVED, MOVES - 1, one, other, int(took) / 1e6, int(took) / MOVES, int(store) / 1e6))
+    return name
+
+
+def renames_by_git(one, other):
+    subprocess.run(["rm", "-rf", os.path.join(folder, ".git")], check=True)
+    subprocess.run(["git", "init", "-q", folder], check=True)
+    once(["git", "update-index", "--index-info"], "moves_before")
+    away = once(["git", "update-index", "--index-info"], "moved_away")[0]
+    there = once(["git", "update-index", "--index-info"], "moved")[0]
+    store, _, said = once(["git", "write-tree", "--missing-ok"], "moved")
+    print("git, one such rename: update-index %.4f s, write-tree %.4f s" % (away + there, store))
+    return said.strip()
+
+
 for _ in range(rounds):
+    for pair in (("left", "side"), ("left", "longer/side")):
+        name = renames_by_program(*pair)
+        write("moves_before", [at(pair[0], number) for number in range(MOVED)])
+        assert name == renames_by_git(*pair), "the names differ"
     assert wide_by_program() == wide_by_git(), "the names differ"
     assert by_program() == by_git(), "the names differ"
 subprocess.run(["rm", "-rf", folder], check=True)

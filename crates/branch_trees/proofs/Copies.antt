@@ -1,12 +1,13 @@
 -- Copies of what is held: they mean the same, and are found along a path.
-use Rattle.std.proofs.Common.{◌≡◌, ℕ, List, [], ◌∷◌, map, refl}
-use Rattle.std.specs.Prelude.{None, Some}
+use Rattle.std.proofs.Common.{◌≡◌, ◌≢◌, ℕ, false, List, [], ◌∷◌, map, refl}
+use Rattle.std.specs.Prelude.{Option, None, Some}
 use Rattle.branch_trees.specs.declared.dir.Node.{Node}
 use Rattle.branch_trees.specs.declared.dir.Node.TheVariants.{File, Unopened, Opened}
-use Rattle.branch_trees.specs.Shape.{Shape, row, Held, Directory}
+use Rattle.branch_trees.specs.Shape.{opened, Shape, row, Held, Directory}
+use Rattle.branch_trees.specs.Editing.{new_directory, dropped}
 use Rattle.branch_trees.specs.Nodes.{held, shape_of}
 use Rattle.branch_trees.specs.Opened.{row_of}
-use Rattle.branch_trees.specs.Moving.{standing, copied_shape, copied_held}
+use Rattle.branch_trees.specs.Moving.{standing, rest_of, copied_shape, copied_held}
 use Rattle.branch_trees.proofs.Named.{Rows}
 use Rattle.tree_build.specs.FileMap.{Path}
 
@@ -44,3 +45,21 @@ pub none_below : (n : Node) → ((d : Directory) → n ≡ Opened d → ⊥) →
 none_below (File e) h c path = nothing_stands path
 none_below (Unopened id) h c path = nothing_stands path
 none_below (Opened d) h c path = absurd (h d refl)
+
+pub stands_nowhere : (n : Node) → ((d : Directory) → n ≡ Opened d → ⊥) → (path : Path)
+    → path ≢ [] → standing path (Some (held n)) ≡ None
+stands_nowhere n h [] ne = absurd (ne refl)
+stands_nowhere n h (c ∷ path) ne = none_below n h c path
+
+-- what is left where something is taken out
+pub rest_opened : (path : Path) → path ≢ [] → (tree : Option (List ℕ)) (inside : Shape)
+    → rest_of path (record { what = opened tree; inside = inside }) ≡ new_directory (dropped false path inside)
+rest_opened [] ne tree inside = absurd (ne refl)
+rest_opened (c ∷ path) ne tree inside = refl
+
+pub rest_other : (n : Node) → ((d : Directory) → n ≡ Opened d → ⊥) → (path : Path) → path ≢ []
+    → held n ≡ rest_of path (held n)
+rest_other n h [] ne = absurd (ne refl)
+rest_other (File e) h (c ∷ path) ne = refl
+rest_other (Unopened id) h (c ∷ path) ne = refl
+rest_other (Opened d) h (c ∷ path) ne = absurd (h d refl)

@@ -35,5 +35,7 @@ pub mod FitsBelow
 pub mod Copies
 pub mod OpenStays
 pub mod Stands
+pub mod Taken
+pub mod NoLonger
 pub mod Moves
 pub mod Moved

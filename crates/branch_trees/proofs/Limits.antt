@@ -2,7 +2,7 @@
 use Rattle.std.proofs.Common.{◌≡◌, ◌≢◌, ◌≤◌, true, false, ◌&&◌, ◌==◌, List, [], ◌∷◌, length, Option, Some, Result, refl, sym, ◌∙◌, subst, arith}
 use Rattle.std.specs.FinMap as finmap
 use Rattle.std.specs.List.{AllByRecursion, list_all}
-use Rattle.std.proofs.lemmas.Bool.{ne_eqb, true≢false}
+use Rattle.std.proofs.lemmas.Bool.{leb-true, ne_eqb, true≢false}
 use Rattle.std.proofs.lemmas.List.Elements.{All-append}
 use Rattle.git_model.specs.Repository.{Object}
 use Rattle.git_paths.specs.Paths.{IsComponent, IsPath, is_within_limits}
@@ -136,3 +136,9 @@ edits_fit result m old new same q top is fs s fit h =
     (subst
     (λ (x : FileMap). Edits result x new (too_many (finmap.len (put_tree_at x q fs)))
     (put_tree_at x q fs)) same h))
+
+pub few_stand : (top : Path) (fs : Listed) → may_stand top (files_summary fs) ≡ true → length fs ≤ 1048576
+few_stand top [] h = omega arith
+few_stand top (f ∷ fs) h =
+    leb-true _ _ (both_true _ _ (both_true _ _ (both_true (is_small (files_summary (f ∷ fs)))
+    (fits_below top (files_summary (f ∷ fs))) (sym (stand-some top f fs) ∙ h)).0).0).0

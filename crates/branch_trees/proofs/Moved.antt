@@ -1,5 +1,5 @@
 -- What was copied from a path of a branch.
-use Rattle.std.proofs.Common.{◌≡◌, ℕ, ◌≤◌, List, [], length, refl, sym, ap, ◌∙◌, subst, arith}
+use Rattle.std.proofs.Common.{◌≡◌, ◌≢◌, ℕ, ◌≤◌, List, [], ◌∷◌, length, refl, sym, ap, ◌∙◌, subst, arith}
 use Rattle.std.specs.Prelude.{Option, None, Some}
 use Rattle.std.specs.Option.{option_map}
 use Rattle.std.specs.FinMap as finmap
@@ -26,7 +26,7 @@ use Rattle.branch_trees.proofs.Puts.{not_many}
 use Rattle.branch_trees.proofs.Grafted.{root_map}
 use Rattle.branch_trees.proofs.Stands.{standing-cut, standing-sound, held-copied, held-files-copied}
 use Rattle.branch_trees.proofs.Measured.{dir-below}
-use Rattle.branch_trees.proofs.Moves.{AreHere, one, many, fault-is, small-cut}
+use Rattle.branch_trees.proofs.Moves.{AreHere, one, many, fault-is, path-some, small-cut}
 
 -- a node has a file, or files below it
 pub here : (os : List Object) (h : Held) → IsHeld os h → AreHere (held_files (stored_files os) h)
@@ -102,6 +102,66 @@ module _ (digest : List ℕ → List ℕ) (pool : Cells) (entries : Entries)
   found o n is at =
       let copy = copied-there o n is at in
       (copy.0, (copy.1, subst (λ (l : Listed). IsSmall (files_summary l)) (sym copy.1) small-there))
+
+-- what was found, by what it was found from
+pub of_some : {A : Type 0} (f : A → Held) (o : Option A) (x : A) (s : Option Held)
+    → option_map f o ≡ s → o ≡ Some x → s ≡ Some (f x)
+of_some f o x s e is = sym e ∙ ap (option_map f) is
+
+pub of_none : {A : Type 0} (f : A → Held) (o : Option A) (s : Option Held)
+    → option_map f o ≡ s → o ≡ None → s ≡ None
+of_none f o s e is = sym e ∙ ap (option_map f) is
+
+module _ (os : List Object) (b : Branch) (branch : IsBranch os b) (path : Path)
+    (shut : closed_from b.root path ≡ 0)
+    (m : FileMap) (same : files_in os b ≡ m) (from : Path) (split : path ≡ from) where
+  files-there : files_at m from ≡ files_of_held (stored_files os) (standing path (Some b.root))
+  files-there =
+      ap (files_at m) (sym split)
+      ∙ ap (λ (x : FileMap). cut path (listed x)) (sym same)
+      ∙ ap (cut path) (branch_listed os b branch.held)
+      ∙ standing-cut os path b.root.what b.root.inside branch.held.0 branch.held.1 shut
+
+  pub gone : standing path (Some b.root) ≡ None → files_at m from ≡ []
+  gone is = files-there ∙ ap (files_of_held (stored_files os)) is
+
+  pub stood : (k : Held) → standing path (Some b.root) ≡ Some k
+      → IsHeld os k × ((held_files (stored_files os) k ≡ files_at m from)
+      × IsSmall (files_summary (held_files (stored_files os) k)))
+  stood k is =
+      let files : held_files (stored_files os) k ≡ files_at m from =
+      sym (files-there ∙ ap (files_of_held (stored_files os)) is) in (
+        standing-sound os path b.root.what b.root.inside branch.held.0 branch.held.1 k is,
+        (
+          files,
+          subst (λ (l : Listed). IsSmall (files_summary l)) (sym files)
+              (small-cut from (listed m) (subst (λ (x : FileMap). AreFiles (listed x)) same branch.files)),
+        ),
+      )
+
+-- what is put at the root is a directory
+pub directory-there : (os : List Object) (h : Held) (fs : Listed) → held_files (stored_files os) h ≡ fs
+    → (to : Path) → path_fault (moved to fs) ≡ None → to ≡ [] → IsDirectory h.what
+directory-there os h fs is to clean root =
+    by h.what (ap (λ (p : Path). path_fault (moved p (held_files (stored_files os) h))) (sym root)
+    ∙ ap (λ (l : Listed). path_fault (moved to l)) is ∙ clean)
+  where
+    by : (w : What)
+        → path_fault (moved [] (what_files (stored_files os) w (shape_files (stored_files os) h.inside))) ≡ None
+        → IsDirectory w
+    by (file e) c = cc c
+    by (unopened id) c = tt
+    by (opened tree) c = tt
+
+-- what is moved has files
+pub full-there : (os : List Object) (h : Held) (fs : Listed) → held_files (stored_files os) h ≡ fs
+    → (to : Path) → path_fault (moved to fs) ≡ None → held_files (stored_files os) h ≢ []
+full-there _ h fs is to clean none =
+    path-some (moved to fs) clean (ap (moved to) (sym is ∙ none))
+
+pub no_components : (p : Path) → length p ≡ 0 → p ≡ []
+no_components [] h = refl
+no_components (c ∷ p) h = absurd (omega arith)
 
 -- why it is refused
 pub fault-there : (os : List Object) (h : Held) → IsHeld os h → (to : Path) (fs : Listed)

@@ -1,6 +1,6 @@
 -- Copies and renames on file maps: why they are refused, and what they leave.
 use Rattle.std.proofs.Common.{◌≡◌, ◌≢◌, ℕ, suc, ◌+◌, ◌≤◌, Bool, true, false, ◌&&◌, ◌==◌, cond, leb, [], ◌∷◌, ◌++◌, filter, length, refl, sym, ap, ◌∙◌, subst, arith}
-use Rattle.std.specs.Prelude.{Option, None, Some, Result, Ok, Err, is_some, not}
+use Rattle.std.specs.Prelude.{Option, None, Some, Result, Ok, Err, OnOk, is_some, not}
 use Rattle.std.specs.FinMap as finmap
 use Rattle.std.specs.List.{AllByRecursion, list_any, list_all}
 use Rattle.std.proofs.lemmas.Bool.{le-leb, ne_eqb}
@@ -200,7 +200,7 @@ refused {A = A} r e is old new fs after h =
     (λ memory. let k = h memory in
     (move_fault-is fs after ∙ ap (λ (o : Option Fault). or_many o (finmap.len after)) k.0, k.1))
 
-clean-move : (fs : Listed) (after : FileMap) → path_fault fs ≡ None
+pub clean-move : (fs : Listed) (after : FileMap) → path_fault fs ≡ None
     → move_fault fs after ≡ too_many (finmap.len after)
 clean-move fs after clean = move_fault-is fs after
     ∙ ap (λ (o : Option Fault). or_many o (finmap.len after)) clean
@@ -282,3 +282,15 @@ edits-renamed {A = A} result m old new files from to path same fs is clean h =
         (renamed old from to)
     by (Ok x) fault few h = (fault ∙ few, h.1)
     by (Err e) fault few h = λ memory. let no : None ≡ Some e = sym few ∙ (h memory).0 in cc no
+
+-- a rename that may be is refused for want of memory alone
+pub branch-renamed : {A P : Type 0} (r : Result A Fault) (m old new : FileMap)
+    → AreFiles (listed old) → (from to : Path) → IsPath to
+    → path_fault (moved to (files_at old from)) ≡ None
+    → Edits r m new (move_fault (moved to (files_at old from)) (renamed old from to)) (renamed old from to)
+    → OnOk r P → r ≢ Err fault.Memory → P
+branch-renamed (Ok x) m old new files from to path clean h p ne = p
+branch-renamed (Err e) m old new files from to path clean h p ne =
+    let no : None ≡ Some e = sym (clean-move (moved to (files_at old from)) (renamed old from to) clean
+    ∙ not_many (finmap.len (renamed old from to)) (few-renamed old from to files path))
+    ∙ (h (λ is. ne (ap (λ (x : Fault). Err x) is))).0 in cc no

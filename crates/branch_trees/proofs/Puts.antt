@@ -19,9 +19,9 @@ use Rattle.tree_build.specs.StoredFiles.{stored_files}
 use Rattle.tree_build.proofs.Edited.{edited, edited-is, AreFiles-edited, refusal-is, one-below, one-apart}
 use Rattle.tree_build.proofs.Maps.{listed-of}
 use Rattle.branch_trees.specs.Shape.{file, opened, Shape, none, Held, shape_files, held_files}
-use Rattle.branch_trees.specs.Branch.{Branch, files_in, IsHeld, IsBranch, closed_along}
+use Rattle.branch_trees.specs.Branch.{Branch, root_files, files_in, IsHeld, IsBranch, closed_along}
 use Rattle.branch_trees.specs.Editing.{new_directory, placed, taken}
-use Rattle.branch_trees.specs.Opened.{too_many}
+use Rattle.branch_trees.specs.Opened.{recounted, too_many}
 use Rattle.tree_build.specs.declared.fault.Fault.{Fault}
 use Rattle.std.specs.Prelude.{Result}
 use Rattle.tree_build.specs.Calls.{Edits}
@@ -29,7 +29,7 @@ use Rattle.tree_build.specs.declared.fault.Fault.TheVariants as fault
 use Rattle.branch_trees.proofs.Ordered.{branch_listed}
 use Rattle.branch_trees.proofs.Mapped.{put_map}
 use Rattle.branch_trees.proofs.Placed.{placed_shape, placed_count, placed_look}
-use Rattle.branch_trees.proofs.Branches.{map_is, drop_few}
+use Rattle.branch_trees.proofs.Branches.{map_is, opened_files, drop_few}
 
 -- a map with files put into it that may be
 pub put_are_files : (m : FileMap) (to : Path) (fs : Listed) → AreFiles (listed m)
@@ -165,3 +165,41 @@ edits_put result m old new same q path is e ne within h =
     (sym (one_fault path e (put_tree_at old path (([], e) ∷ [])) ne within))
     (subst (λ (p : Path). Edits result old new (too_many (finmap.len (put_tree_at old p (([], e) ∷ [])))) (put_tree_at old p (([], e) ∷ []))) is
     (subst (λ (x : FileMap). Edits result x new (too_many (finmap.len (put_tree_at x q (([], e) ∷ [])))) (put_tree_at x q (([], e) ∷ []))) same h))
+
+-- ---- a node of which the number of files is counted already
+
+module _ (os : List Object) (h : Held) (held : IsHeld os h) (full : held_files (stored_files os) h ≢ [])
+    (inside : Shape) (tree : Option (List ℕ)) (path : Path) (ne : path ≢ []) (p : IsPath path)
+    (old : Branch) (is : old.root ≡ record { what = opened tree; inside = inside })
+    (b : IsBranch os (recounted os old)) (shut : closed_along inside path ≡ 0)
+    (total : ℕ) (all : total ≡ length (root_files os old) + length (held_files (stored_files os) h)) where
+  same_files : files_in os (recounted os old) ≡ files_in os old
+  same_files = opened_files os old (recounted os old) refl
+
+  abbrev with_node : FileMap
+  with_node = put_tree_at (files_in os old) path (held_files (stored_files os) h)
+
+  spelled : put_tree_at (files_in os (recounted os old)) path (held_files (stored_files os) h) ≡ with_node
+  spelled = ap (λ (m : FileMap). put_tree_at m path (held_files (stored_files os) h)) same_files
+
+  pub total_few : taken (stored_files os) true path inside ≤ length (root_files os old)
+  total_few = drop_few os true path ne inside tree (recounted os old) is b shut
+
+  pub total_len : finmap.len with_node ≡ total - taken (stored_files os) true path inside
+  total_len =
+      let len = put_len os h held full inside tree path ne p (recounted os old) is b shut in
+      let few = total_few in
+      ap (λ (m : FileMap). finmap.len m) (sym spelled) ∙ len ∙ omega arith
+
+  pub total_files : (files reads : ℕ)
+      → files_in os (record { root = new_directory (placed path h inside); files = files; reads = reads })
+      ≡ with_node
+  total_files files reads = put_files os h held full inside tree path ne p (recounted os old) is b shut files reads ∙ spelled
+
+  pub total_branch : (files reads : ℕ) → files ≡ total - taken (stored_files os) true path inside
+      → AreFiles (listed with_node)
+      → IsBranch os (record { root = new_directory (placed path h inside); files = files; reads = reads })
+  total_branch files reads count good =
+      let few = total_few in
+      put_branch os h held full inside tree path ne p (recounted os old) is b shut files reads (count ∙ omega arith)
+      (subst (λ (m : FileMap). AreFiles (listed m)) (sym spelled) good)

@@ -1,5 +1,5 @@
 -- What copies and renames move, for private contracts.
-use Rattle.std.specs.Prelude.{◌≡◌, ℕ, ◌+◌, Bool, ◌&&◌, ◌==◌, nat_le, List, [], ◌∷◌, length, zero, suc, Option, None, Some, if◌then◌else◌}
+use Rattle.std.specs.Prelude.{◌≡◌, ◌≢◌, ◌≤◌, ℕ, ◌+◌, Bool, false, not, ◌&&◌, ◌==◌, nat_le, List, [], ◌∷◌, length, zero, suc, Option, None, Some, if◌then◌else◌}
 use Rattle.std.specs.List.{list_any, list_all}
 use Rattle.git_model.specs.Repository.{Object}
 use Rattle.git_paths.specs.Paths.{joined, is_within_limits}
@@ -11,7 +11,7 @@ use Rattle.tree_build.specs.Edits.{is_root, is_empty}
 use Rattle.tree_build.specs.StoredFiles.{stored_files}
 use Rattle.branch_trees.specs.Shape.{What, file, unopened, opened, Shape, none, row, Held, Known, held_files}
 use Rattle.branch_trees.specs.Branch.{IsHeld}
-use Rattle.branch_trees.specs.Editing.{child, entries_in}
+use Rattle.branch_trees.specs.Editing.{child, is_none, new_directory, entries_in, dropped}
 
 -- ---- what stands at a path
 
@@ -24,6 +24,16 @@ standing (c ∷ path) o = standing path (child (entries_in o) c)
 abbrev pub files_of_held : Known → Option Held → Listed
 files_of_held known None = []
 files_of_held known (Some h) = held_files known h
+
+-- What is left where what stands at a path is taken out: at the root, a directory without entries.
+abbrev pub rest_by : Path → What → Held → Held
+rest_by path (file e) h = h
+rest_by path (unopened id) h = h
+rest_by path (opened tree) h = new_directory (dropped false path h.inside)
+
+abbrev pub rest_of : Path → Held → Held
+rest_of [] h = new_directory none
+rest_of (c ∷ path) h = rest_by (c ∷ path) h.what h
 
 -- ---- a copy
 
@@ -59,6 +69,22 @@ pub record IsMoved (os : List Object) (fs : Listed) (h : Held) (many : ℕ) : Ty
   pub count : many ≡ length fs
 
 -- ---- limits
+
+-- A path has no more bytes and components than another, and neither is the root.
+pub record IsNoLonger (to from : Path) : Type 0 where
+  pub to_some : to ≢ []
+  pub from_some : from ≢ []
+  pub bytes : length (joined to) ≤ length (joined from)
+  pub components : length to ≤ length from
+
+-- Whether what is held is a directory that was opened, and not without entries.
+abbrev pub has_entries_by : What → Shape → Bool
+has_entries_by (file e) inside = false
+has_entries_by (unopened id) inside = false
+has_entries_by (opened tree) inside = not (is_none inside)
+
+abbrev pub has_entries : Held → Bool
+has_entries h = has_entries_by h.what h.inside
 
 -- The slash between a path and another below it; the root has none before or behind it.
 abbrev pub slash_between : Path → ℕ → ℕ

@@ -1,5 +1,5 @@
 -- A directory that is opened, for private contracts.
-use Rattle.std.specs.Prelude.{◌≡◌, ℕ, ◌+◌, ◌≤◌, Bool, nat_le, if◌then◌else◌, List, [], ◌∷◌, Option, None, Some}
+use Rattle.std.specs.Prelude.{◌≡◌, ℕ, ◌+◌, ◌≤◌, Bool, nat_le, if◌then◌else◌, List, [], ◌∷◌, length, Option, None, Some}
 use Rattle.git_model.specs.declared.file_mode.FileMode.{FileMode}
 use Rattle.git_model.specs.declared.file_mode.FileMode.TheVariants as mode
 use Rattle.git_model.specs.Repository.{Object}
@@ -13,7 +13,7 @@ use Rattle.tree_build.specs.Edits.{is_outside}
 use Rattle.tree_build.specs.StoredFiles.{stored_files}
 use Rattle.branch_trees.specs.declared.dir.Node.{Node}
 use Rattle.branch_trees.specs.Shape.{What, file, unopened, Shape, none, Held, Directory, shape_files, held_files}
-use Rattle.branch_trees.specs.Branch.{slash_after, IsShape, IsHeld, closed_along, closed_from}
+use Rattle.branch_trees.specs.Branch.{Branch, root_files, slash_after, IsShape, IsHeld, closed_along, closed_from}
 use Rattle.branch_trees.specs.Nodes.{held, with_row}
 
 abbrev pub what_by : FileMode → List ℕ → Entry → What
@@ -62,6 +62,11 @@ pub record OpensAlong (os : List Object) (path : Path) (old new : Directory) : T
   pub files : shape_files (stored_files os) new.entries ≡ shape_files (stored_files os) old.entries
   pub shut : closed_along new.entries path ≡ 0
   pub stays : (q : Path) → closed_along new.entries q ≤ closed_along old.entries q
+
+-- A branch whose number of files is put right.
+abbrev pub recounted : List Object → Branch → Branch
+recounted os b =
+    record { root = b.root; files = length (root_files os b); reads = b.reads }
 
 -- So many texts were read at most.
 pub record ReadsMore (old new most : ℕ) : Type 0 where

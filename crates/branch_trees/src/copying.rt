@@ -55,9 +55,37 @@ fn copied_entries(
     Ok(copies)
 }
 
+/// What stands at a path below a node, where the directories on the way were opened.
+#[cycle(finding)]
+pub(crate) fn find_at<'a>(node: &'a Node, path: &Components<'_>) -> Option<&'a Node>
+    ensures { option_map (λ n. held n.now) result ≡ standing path.now (Some (held node.now)) }
+{
+    let Some((name, rest)) = path.split_first() else {
+        return Some(node);
+    };
+    match node {
+        Node::Opened(dir) => find_below(&dir.entries, name, &rest),
+        _ => None,
+    }
+}
+
+#[cycle(finding)]
+fn find_below<'a>(
+    entries: &'a [(Component, Node)],
+    name: &[u8],
+    rest: &Components<'_>,
+) -> Option<&'a Node>
+    ensures { option_map (λ n. held n.now) result
+        ≡ standing rest.now (child (shape_of entries.now) name.now) }
+{
+    match place_of(entries, name) {
+        Some(place) => find_at(&entries[place].1, rest),
+        None => None,
+    }
+}
+
 /// A copy of what stands at a path below a node, where the directories on the way were opened.
 /// Takes memory for the entries of directories that were edited.
-#[cycle(finding)]
 pub(crate) fn copy_at(
     alloc: Global,
     node: &Node,
@@ -66,27 +94,8 @@ pub(crate) fn copy_at(
     ensures { IfOk result (λ copy. option_map held copy
         ≡ option_map copied_held (standing path.now (Some (held node.now)))) }
 {
-    let Some((name, rest)) = path.split_first() else {
-        return Ok(Some(copied(alloc, node)?));
-    };
-    match node {
-        Node::Opened(dir) => copy_below(alloc, &dir.entries, name, &rest),
-        _ => Ok(None),
-    }
-}
-
-#[cycle(finding)]
-fn copy_below(
-    alloc: Global,
-    entries: &[(Component, Node)],
-    name: &[u8],
-    rest: &Components<'_>,
-) -> Result<Option<Node>, Memory>
-    ensures { IfOk result (λ copy. option_map held copy
-        ≡ option_map copied_held (standing rest.now (child (shape_of entries.now) name.now))) }
-{
-    match place_of(entries, name) {
-        Some(place) => copy_at(alloc, &entries[place].1, rest),
+    match find_at(node, path) {
+        Some(found) => Ok(Some(copied(alloc, found)?)),
         None => Ok(None),
     }
 }

@@ -1,6 +1,6 @@
 //! Edits of a branch whose directories on the way to a path are opened.
 
-ghost use Rattle.std.specs.Prelude.{◌≡◌, ◌≢◌, ◌≤◌, [], ◌∷◌, ◌++◌, length, None, Err, OnOk};
+ghost use Rattle.std.specs.Prelude.{◌≡◌, ◌≢◌, ◌≤◌, ◌+◌, [], ◌∷◌, ◌++◌, length, None, Err, OnOk};
 ghost use Rattle.std.specs.FinMap as finmap;
 ghost use Rattle.tenant_tables.specs.Objects.{objects};
 ghost use Rattle.tenant_tables.specs.StandsIn.{StandsIn};
@@ -13,13 +13,13 @@ ghost use Rattle.tree_build.specs.StoredFiles.{stored_files};
 ghost use Rattle.branch_trees.specs.Shape.{held_files};
 ghost use Rattle.branch_trees.specs.Nodes.{held};
 ghost use Rattle.tree_build.specs.Calls.{Edits};
-ghost use Rattle.branch_trees.specs.Branch.{files_in, IsHeld, IsBranch, Reads, closed_from};
-ghost use Rattle.branch_trees.specs.Opened.{is_kept, too_many};
+ghost use Rattle.branch_trees.specs.Branch.{root_files, files_in, IsHeld, IsBranch, Reads, closed_from};
+ghost use Rattle.branch_trees.specs.Opened.{recounted, is_kept, too_many};
 
 use crate::component::has_components;
 use crate::counting::taken;
 use crate::dir::Node;
-use crate::dropping::drop_at;
+use crate::dropping::take_at;
 use crate::files::Files;
 use crate::opening::open_below;
 use crate::placing::place;
@@ -27,10 +27,7 @@ use content_pool::Pool;
 use git_objects::{Memory, Naming, has_twenty_bytes};
 use git_paths::{Components, Path};
 use tenant_tables::Table;
-use tree_build::{Entry, Fault};
-
-// How many files a branch may have.
-const FILES_LIMIT: usize = 1_048_576;
+use tree_build::{Entry, FILES_LIMIT, Fault};
 
 impl Files {
     /// Opens the directories on the way to a path.
@@ -61,6 +58,7 @@ impl Files {
     }
 
     /// Drops what stands at or below a path, and, where the way is to be clear, a file on the way.
+    /// Where nothing goes, each directory stays the stored tree that it is.
     pub(crate) fn take_out<N: Naming>(
         &mut self,
         pool: &Pool<N>,
@@ -82,7 +80,10 @@ impl Files {
         match &mut self.root {
             Node::Opened(dir) => {
                 let gone = taken(pool, table, &dir.entries, path, clear);
-                drop_at(dir, path, clear);
+                if gone == 0 {
+                    return;
+                }
+                take_at(dir, path, clear);
                 self.files -= gone;
             }
             _ => {}
@@ -121,25 +122,25 @@ impl Files {
         Ok(())
     }
 
-    /// Puts a node with so many files at a path, in place of what stands there, below it, or on the
-    /// way to it.
+    /// Puts a node at a path, in place of what stands there, below it, or on the way to it. `total`
+    /// is how many files there are with those of the node.
     pub(crate) fn put_node<N: Naming>(
         &mut self,
         pool: &Pool<N>,
         table: &Table,
         path: &Components<'_>,
         node: Node,
-        added: usize,
+        total: usize,
     ) -> Result<(), Fault>
         requires stands { StandsIn N.digest_of pool.now table.now.entries }
-        requires branch { IsBranch (objects pool.now table.now.entries) self.old }
+        requires branch { let os = objects pool.now table.now.entries in
+            IsBranch os (recounted os self.old) }
         requires shut { closed_from self.old.root path.now ≡ 0 }
         requires some { path.now ≢ [] }
         requires held { IsHeld (objects pool.now table.now.entries) (held node) }
         requires full { held_files (stored_files (objects pool.now table.now.entries)) (held node) ≢ [] }
-        requires added { added ≡ length (held_files (stored_files (objects pool.now table.now.entries))
-            (held node)) }
-        requires few { added ≤ 1048576 }
+        requires total { let os = objects pool.now table.now.entries in
+            total ≡ length (root_files os self.old) + length (held_files (stored_files os) (held node)) }
         requires good { let os = objects pool.now table.now.entries in
             let after = put_tree_at (files_in os self.old) path.now
             (held_files (stored_files os) (held node)) in
@@ -148,7 +149,8 @@ impl Files {
             let m = files_in os self.old in
             let after = put_tree_at m path.now (held_files (stored_files os) (held node)) in
             Edits result m (files_in os self.new) (too_many (finmap.len after)) after }
-        ensures branch { result ≢ Err fault.Memory
+        ensures branch { OnOk result (IsBranch (objects pool.now table.now.entries) self.new) }
+        ensures still { result ≢ Err fault.Memory → IsBranch (objects pool.now table.now.entries) self.old
             → IsBranch (objects pool.now table.now.entries) self.new }
         ensures reads { self.new.reads ≡ self.old.reads }
         ensures open { OnOk result ((q : FilePath) → behind path.now q ≡ None
@@ -159,7 +161,7 @@ impl Files {
         has_components(path);
         match &mut self.root {
             Node::Opened(dir) => {
-                let files = self.files - taken(pool, table, &dir.entries, path, true) + added;
+                let files = total - taken(pool, table, &dir.entries, path, true);
                 if files > FILES_LIMIT {
                     return Err(Fault::Limit);
                 }
@@ -211,7 +213,8 @@ impl Files {
         let path = path.components();
         has_components(&path);
         self.open_to(pool, table, &path)?;
-        self.put_node(pool, table, &path, Node::File(entry), 1)
+        let total = self.file_count() + 1;
+        self.put_node(pool, table, &path, Node::File(entry), total)
     }
 }
 

@@ -1,6 +1,6 @@
 //! How many files stand at a node, how deep they stand, and how long their paths are.
 //!
-//! Of a directory that nobody looked into the table knows it, so that only opened ones are walked.
+//! Of a stored tree the table knows it, so that only directories that were edited are walked.
 
 ghost use Rattle.std.specs.Prelude.{◌≡◌, [], ◌∷◌};
 ghost use Rattle.tenant_tables.specs.Objects.{objects};
@@ -8,13 +8,13 @@ ghost use Rattle.tenant_tables.specs.StandsIn.{StandsIn};
 ghost use Rattle.tree_build.specs.Edits.{moved};
 ghost use Rattle.tree_build.specs.Storable.{files_summary};
 ghost use Rattle.tree_build.specs.StoredFiles.{stored_files};
-ghost use Rattle.branch_trees.specs.Shape.{shape_files, held_files};
+ghost use Rattle.branch_trees.specs.Shape.{opened, shape_files, held_files};
 ghost use Rattle.branch_trees.specs.Branch.{IsShape, IsHeld};
 ghost use Rattle.branch_trees.specs.Nodes.{held, shape_of};
 ghost use Rattle.branch_trees.specs.Sums.{IsSmall};
 
 use crate::component::Component;
-use crate::dir::Node;
+use crate::dir::{Dir, Node};
 use crate::sums::{below, both, no_files, one_file};
 use content_pool::Pool;
 use git_objects::Naming;
@@ -44,7 +44,24 @@ pub(crate) fn extent<N: Naming>(pool: &Pool<N>, table: &Table, node: &Node) -> S
     match node {
         Node::File(_) => file_here(),
         Node::Unopened(tree) => table.summary(tree).unwrap_or(no_files()),
-        Node::Opened(dir) => extent_of_all(pool, table, &dir.entries),
+        Node::Opened(dir) => extent_of_dir(pool, table, dir),
+    }
+}
+
+// A directory that is a stored tree as it stands is not walked.
+#[cycle(measuring)]
+fn extent_of_dir<N: Naming>(pool: &Pool<N>, table: &Table, dir: &Dir) -> Summary
+    requires stands { StandsIn N.digest_of pool.now table.now.entries }
+    requires sound { IsHeld (objects pool.now table.now.entries)
+        (record { what = opened dir.now.tree; inside = dir.now.entries }) }
+    requires small { IsSmall (files_summary (shape_files
+        (stored_files (objects pool.now table.now.entries)) dir.now.entries)) }
+    ensures { result ≡ files_summary (shape_files
+        (stored_files (objects pool.now table.now.entries)) dir.now.entries) }
+{
+    match dir.tree {
+        Some(tree) => table.summary(&tree).unwrap_or(no_files()),
+        None => extent_of_all(pool, table, &dir.entries),
     }
 }
 

@@ -70,6 +70,13 @@ impl Files {
         self.reads
     }
 
+    /// How many files there are.
+    pub(crate) fn file_count(&self) -> usize
+        ensures { result ≡ self.now.files }
+    {
+        self.files
+    }
+
     /// The name of the stored tree whose files these are, where that is known without reading one.
     pub fn tree(&self) -> Option<Name>
         ensures { result ≡ root_name self.now }

@@ -133,6 +133,7 @@ impl Files {
             self.take_out(pool, table, &path, true);
             return Ok(());
         }
-        self.put_node(pool, table, &path, Node::Unopened(*name), files)
+        let total = self.file_count() + files;
+        self.put_node(pool, table, &path, Node::Unopened(*name), total)
     }
 }

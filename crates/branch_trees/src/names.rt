@@ -2,13 +2,14 @@
 
 ghost use Rattle.std.specs.Prelude.{◌≡◌, ◌≤◌, length, position, OnOk};
 ghost use Rattle.std.specs.List.{position_or_len};
+ghost use Rattle.std.specs.Option.{option_map};
 ghost use Rattle.std.specs.Ordering.{is_lt, nat_cmp};
 ghost use Rattle.std.specs.Cmp.Lexicographic.{slice_cmp};
 ghost use Rattle.std.specs.Str.{bytes_eq};
 ghost use Rattle.git_model.specs.Tree.{order_key};
 ghost use Rattle.git_objects.specs.Parts.{entry_of};
 ghost use Rattle.branch_trees.specs.Branch.{key_of};
-ghost use Rattle.branch_trees.specs.Editing.{inserted, removed};
+ghost use Rattle.branch_trees.specs.Editing.{child, inserted, removed};
 ghost use Rattle.branch_trees.specs.Nodes.{held, shape_of, is_after};
 
 use crate::component::Component;
@@ -74,14 +75,13 @@ pub(crate) fn insert(
     Ok(())
 }
 
-/// Takes out the entry of a name, if there is one.
-pub(crate) fn remove(entries: &mut Vec<(Component, Node)>, name: &[u8])
-    ensures { shape_of entries.new.items ≡ removed (shape_of entries.old.items) name.now }
+/// Takes out the entry of a name, if there is one, and answers what stood there.
+pub(crate) fn remove(entries: &mut Vec<(Component, Node)>, name: &[u8]) -> Option<Node>
+    ensures entries { shape_of entries.new.items ≡ removed (shape_of entries.old.items) name.now }
+    ensures node { option_map held result ≡ child (shape_of entries.old.items) name.now }
 {
     match place_of(entries, name) {
-        Some(place) => {
-            entries.remove(place);
-        }
-        None => {}
+        Some(place) => Some(entries.remove(place).1),
+        None => None,
     }
 }

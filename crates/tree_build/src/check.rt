@@ -11,7 +11,7 @@ use crate::fault::Fault;
 use git_paths::Path;
 
 /// How many files a branch may have.
-pub(crate) const FILES_LIMIT: usize = 1_048_576;
+pub const FILES_LIMIT: usize = 1_048_576;
 
 fn is_root(path: &Path) -> bool
     ensures { result ≡ is_root path.now }

@@ -12,6 +12,7 @@ mod map;
 mod naming;
 mod storing;
 
+pub use check::FILES_LIMIT;
 pub use entry::Entry;
 pub use fault::Fault;
 pub use files::Files;

@@ -151,26 +151,55 @@ const FULL_AT_A: &[u8; 40] = b"9a3e5731dbedaae80673eda668a9cb3444ea987a";
 
 const FULL_TWICE: &[u8; 40] = b"939dc3317c018494dc92d2d808b7910d4e2a9f42";
 
+// The same of the tree of 10,000 files and d7/x, and of that with d7 moved to d7/y.
+const FULL_AND_X: &[u8; 40] = b"f2213119d5d8a28630d21c67bdc65d489ba9b041";
+
+const FULL_AND_Y: &[u8; 40] = b"22fd5d115f040434250455cc7d465b72a9f3cf0b";
+
 // The plain body walks over all files at each edit, and takes no part.
-const LARGE: &[Case] = &[Case {
-    does: "a directory of many files is copied and renamed by its name",
-    steps: &[
-        Step::PutMany(100, 100),
-        Step::Store(FULL_TREE),
-        Step::Clear,
-        Step::Graft(b"a", FULL_TREE, 0),
-        Step::Store(FULL_AT_A),
-        Step::Clear,
-        Step::Graft(b"", FULL_AT_A, 0),
-        Step::Copy(b"a", b"b/c", 0),
-        Step::Reads(1),
-        Step::Store(FULL_TWICE),
-        Step::DropPath(b"a"),
-        Step::Rename(b"b/c", b"a", 0),
-        Step::Tree(b"", FULL_AT_A),
-        Step::Reads(1),
-    ],
-}];
+const LARGE: &[Case] = &[
+    Case {
+        does: "a directory of many files is copied and renamed by its name",
+        steps: &[
+            Step::PutMany(100, 100),
+            Step::Store(FULL_TREE),
+            Step::Clear,
+            Step::Graft(b"a", FULL_TREE, 0),
+            Step::Store(FULL_AT_A),
+            Step::Clear,
+            Step::Graft(b"", FULL_AT_A, 0),
+            Step::Copy(b"a", b"b/c", 0),
+            Step::Reads(1),
+            Step::Store(FULL_TWICE),
+            Step::DropPath(b"a"),
+            Step::Rename(b"b/c", b"a", 0),
+            Step::Tree(b"", FULL_AT_A),
+            Step::Reads(1),
+        ],
+    },
+    Case {
+        does: "an edited directory is moved as it is",
+        steps: &[
+            Step::PutMany(100, 100),
+            Step::Store(FULL_TREE),
+            Step::Clear,
+            Step::Graft(b"a", FULL_TREE, 0),
+            Step::Put(b"a/d7/x", HELLO, 0),
+            Step::Rename(b"a", b"b", 0),
+            Step::Rename(b"b", b"c/longer", 0),
+            Step::Mode(b"b", None),
+            Step::Mode(b"c/longer/d7/x", REGULAR),
+            Step::Tree(b"c/longer", FULL_AND_X),
+            Step::Rename(b"c/longer", b"", 0),
+            Step::Store(FULL_AND_X),
+            Step::Rename(b"d7", b"d7/y", 0),
+            Step::Rename(b"d7/y/x", b"x", 0),
+            Step::Rename(b"x", b"d7/y/x", 0),
+            Step::Tree(b"", FULL_AND_Y),
+            Step::Reads(2),
+        ],
+    },
+];
 
 #[test]
 fn large_directories_are_moved_by_name(rt: HostRuntime) -> Result<(), Fail> {

@@ -6,6 +6,8 @@ use Rattle.tenant_tables.proofs.EntryLemmas.{position-found}
 use Rattle.branch_trees.specs.Shape.{Shape, Held}
 use Rattle.branch_trees.specs.Nodes.{held, shape_of, has_name}
 use Rattle.branch_trees.specs.Editing.{removed, entries_in, left, put_back, dropped}
+use Rattle.branch_trees.specs.Moving.{standing}
+use Rattle.branch_trees.proofs.Copies.{nothing_stands, stands_nowhere}
 use Rattle.branch_trees.proofs.Named.{shape_found, shape_lacks, found_within, not_found, removed_changed, none_left}
 use Rattle.branch_trees.proofs.dropping.+dropping.Goals as goal
 
@@ -13,8 +15,8 @@ use Rattle.branch_trees.proofs.dropping.+dropping.Goals as goal
 abbrev leaves : Bool → Path → Option Held → Option Held
 leaves clear rest o = left clear rest o (dropped clear rest (entries_in o))
 
-pub drop_below-returns-in_default : goal.drop_below-returns-in_default
-drop_below-returns-in_default t c =
+pub take_below-returns-in_default-clause-entries : goal.take_below-returns-in_default-clause-entries
+take_below-returns-in_default-clause-entries t c =
     let s = shape_of c.args.entries.now.items in
     let lacks = shape_lacks c.args.name.now c.args.entries.now.items
     (not_found (has_name c.args.name.now) c.args.entries.now.items
@@ -24,30 +26,67 @@ drop_below-returns-in_default t c =
     (sym (ap (leaves c.args.clear c.args.rest.now) lacks.0
     ∙ none_left c.args.clear c.args.rest.now (dropped c.args.clear c.args.rest.now (entries_in None))))
 
-pub drop_below-returns-then-empties : goal.drop_below-returns-then-empties
-drop_below-returns-then-empties t c =
+pub take_below-returns-in_default-clause-node : goal.take_below-returns-in_default-clause-node
+take_below-returns-in_default-clause-node t c =
     let s = shape_of c.args.entries.now.items in
-    let at = ap (position (has_name c.args.name.now)) (sym c.deref.ensures.value) ∙ sym c.place_of.ensures ∙ c.in-Some.is in
-    let found = shape_found c.args.name.now c.args.entries.now.items c.in-Some.at
-    (position-found (has_name c.args.name.now) c.args.entries.now.items c.in-Some.at at)
-    (found_within (has_name c.args.name.now) c.args.entries.now.items c.in-Some.at at)
-    c.index_mut.result.now (sym c.index_mut.ensures.value) in
-    c.remove.ensures
-    ∙ ap (λ (x : Shape). removed x c.args.name.now) (found.1 c.empties.new.node)
-    ∙ removed_changed s c.args.name.now (held c.empties.new.node)
-    ∙ ap (put_back s c.args.name.now)
-    (sym (ap (leaves c.args.clear c.args.rest.now) found.0 ∙ c.empties.ensures
-    ∙ ap (λ (b : Bool). cond b None (Some (held c.empties.new.node))) c.if-empties.true))
+    let lacks = shape_lacks c.args.name.now c.args.entries.now.items
+    (not_found (has_name c.args.name.now) c.args.entries.now.items
+    (ap (position (has_name c.args.name.now)) (sym c.deref.ensures.value) ∙ sym c.place_of.ensures ∙ c.in_default.is)) in
+    sym (ap (standing c.args.rest.now) lacks.0 ∙ nothing_stands c.args.rest.now)
 
-pub drop_below-returns-else-empties : goal.drop_below-returns-else-empties
-drop_below-returns-else-empties t c =
+pub take_below-returns-then-goes-clause-entries : goal.take_below-returns-then-goes-clause-entries
+take_below-returns-then-goes-clause-entries t c =
     let s = shape_of c.args.entries.now.items in
     let at = ap (position (has_name c.args.name.now)) (sym c.deref.ensures.value) ∙ sym c.place_of.ensures ∙ c.in-Some.is in
     let found = shape_found c.args.name.now c.args.entries.now.items c.in-Some.at
     (position-found (has_name c.args.name.now) c.args.entries.now.items c.in-Some.at at)
     (found_within (has_name c.args.name.now) c.args.entries.now.items c.in-Some.at at)
     c.index_mut.result.now (sym c.index_mut.ensures.value) in
-    found.1 c.empties.new.node
+    c.remove-then-goes.ensures.entries
+    ∙ ap (λ (x : Shape). removed x c.args.name.now) (found.1 c.take_inside-taken.new.node)
+    ∙ removed_changed s c.args.name.now (held c.take_inside-taken.new.node)
     ∙ ap (put_back s c.args.name.now)
-    (sym (ap (leaves c.args.clear c.args.rest.now) found.0 ∙ c.empties.ensures
-    ∙ ap (λ (b : Bool). cond b None (Some (held c.empties.new.node))) c.if-empties.false))
+    (sym (ap (leaves c.args.clear c.args.rest.now) found.0 ∙ c.take_inside-taken.ensures.left
+    ∙ ap (λ (b : Bool). cond b None (Some (held c.take_inside-taken.new.node))) c.if-goes.true))
+
+pub take_below-returns-then-goes-clause-node : goal.take_below-returns-then-goes-clause-node
+take_below-returns-then-goes-clause-node t c =
+    let s = shape_of c.args.entries.now.items in
+    let at = ap (position (has_name c.args.name.now)) (sym c.deref.ensures.value) ∙ sym c.place_of.ensures ∙ c.in-Some.is in
+    let found = shape_found c.args.name.now c.args.entries.now.items c.in-Some.at
+    (position-found (has_name c.args.name.now) c.args.entries.now.items c.in-Some.at at)
+    (found_within (has_name c.args.name.now) c.args.entries.now.items c.in-Some.at at)
+    c.index_mut.result.now (sym c.index_mut.ensures.value) in
+    c.take_inside-taken.ensures.node ∙ ap (standing c.args.rest.now) (sym found.0)
+
+pub take_below-returns-else-goes-clause-entries : goal.take_below-returns-else-goes-clause-entries
+take_below-returns-else-goes-clause-entries t c =
+    let s = shape_of c.args.entries.now.items in
+    let at = ap (position (has_name c.args.name.now)) (sym c.deref.ensures.value) ∙ sym c.place_of.ensures ∙ c.in-Some.is in
+    let found = shape_found c.args.name.now c.args.entries.now.items c.in-Some.at
+    (position-found (has_name c.args.name.now) c.args.entries.now.items c.in-Some.at at)
+    (found_within (has_name c.args.name.now) c.args.entries.now.items c.in-Some.at at)
+    c.index_mut.result.now (sym c.index_mut.ensures.value) in
+    found.1 c.take_inside-taken.new.node
+    ∙ ap (put_back s c.args.name.now)
+    (sym (ap (leaves c.args.clear c.args.rest.now) found.0 ∙ c.take_inside-taken.ensures.left
+    ∙ ap (λ (b : Bool). cond b None (Some (held c.take_inside-taken.new.node))) c.if-goes.false))
+
+pub take_below-returns-else-goes-clause-node : goal.take_below-returns-else-goes-clause-node
+take_below-returns-else-goes-clause-node t c =
+    let s = shape_of c.args.entries.now.items in
+    let at = ap (position (has_name c.args.name.now)) (sym c.deref.ensures.value) ∙ sym c.place_of.ensures ∙ c.in-Some.is in
+    let found = shape_found c.args.name.now c.args.entries.now.items c.in-Some.at
+    (position-found (has_name c.args.name.now) c.args.entries.now.items c.in-Some.at at)
+    (found_within (has_name c.args.name.now) c.args.entries.now.items c.in-Some.at at)
+    c.index_mut.result.now (sym c.index_mut.ensures.value) in
+    c.take_inside-taken.ensures.node ∙ ap (standing c.args.rest.now) (sym found.0)
+
+pub take_inside-returns-in-File-clause-node : goal.take_inside-returns-in-File-clause-node
+take_inside-returns-in-File-clause-node t c =
+    sym (stands_nowhere c.args.node.now (λ d e. cc (sym c.in-File.is ∙ e)) c.args.rest.now c.requires)
+
+pub take_inside-returns-in-Unopened-clause-node :
+    goal.take_inside-returns-in-Unopened-clause-node
+take_inside-returns-in-Unopened-clause-node t c =
+    sym (stands_nowhere c.args.node.now (λ d e. cc (sym c.in-Unopened.is ∙ e)) c.args.rest.now c.requires)

@@ -1,11 +1,11 @@
 use Rattle.std.proofs.Common.{◌+◌, ◌*◌, length}
 use Rattle.branch_trees.proofs.dropping.+dropping.Given as goal
 
-abbrev pub decreases-drop_at : goal.decreases-drop_at
-decreases-drop_at l = 3 * length l.path.now
+abbrev pub decreases-take_at : goal.decreases-take_at
+decreases-take_at l = 3 * length l.path.now
 
-abbrev pub decreases-drop_below : goal.decreases-drop_below
-decreases-drop_below l = 3 * length l.rest.now + 2
+abbrev pub decreases-take_below : goal.decreases-take_below
+decreases-take_below l = 3 * length l.rest.now + 2
 
-abbrev pub decreases-empties : goal.decreases-empties
-decreases-empties l = 3 * length l.rest.now + 1
+abbrev pub decreases-take_inside : goal.decreases-take_inside
+decreases-take_inside l = 3 * length l.rest.now + 1

@@ -9,8 +9,8 @@ use Rattle.tree_build.specs.Storable.{files_summary}
 use Rattle.tree_build.specs.StoredFiles.{stored_files}
 use Rattle.tree_build.proofs.StoredTable.{table-summary}
 use Rattle.branch_trees.specs.declared.dir.Node.{Node}
-use Rattle.branch_trees.specs.Shape.{shape_files, held_files}
-use Rattle.branch_trees.specs.Branch.{IsHeld}
+use Rattle.branch_trees.specs.Shape.{opened, Directory, shape_files, held_files}
+use Rattle.branch_trees.specs.Branch.{IsWhat, IsHeld}
 use Rattle.branch_trees.specs.Nodes.{held, shape_of}
 use Rattle.branch_trees.specs.Sums.{IsSmall}
 use Rattle.branch_trees.proofs.Counted.{turn}
@@ -114,3 +114,14 @@ extent_under-returns-in_default g t c =
     ∙ sym (files-below c.args.name.now fs (dir-below os (held c.args.node.now).what
     (held c.args.node.now).inside c.requires.sound.0
     (no_file_there c.args.node.now c.in_default.not-File)))
+
+pub extent_of_dir-returns-in-Some : goal.extent_of_dir-returns-in-Some
+extent_of_dir-returns-in-Some g t c =
+    let os = objects c.args.pool.now c.args.table.now.entries in
+    let known = sym (ap (λ (d : Directory). d.tree) c.dir.view_is) ∙ c.in-Some.is in
+    let lists = subst (λ (w : Option (List ℕ)). IsWhat os (opened w) (shape_files (stored_files os) c.args.dir.now.entries))
+    known c.requires.sound.0 in
+    c.unwrap_or.ensures
+    ∙ ap (λ (o : Option Summary). unwrap_or o c.no_files.result)
+    (c.summary.ensures
+    ∙ table-summary g.N.Naming.digest_of c.args.pool.now c.args.table.now.entries c.requires.stands _ _ lists)

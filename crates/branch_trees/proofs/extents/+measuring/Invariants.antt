@@ -9,13 +9,16 @@ use Rattle.branch_trees.specs.Nodes.{held, shape_of}
 use Rattle.branch_trees.proofs.extents.+measuring.Given as goal
 
 abbrev pub decreases-extent : goal.decreases-extent
-decreases-extent g l = 3 * shape_size (held l.node.now).inside + 1
+decreases-extent g l = 4 * shape_size (held l.node.now).inside + 2
 
 abbrev pub decreases-extent_under : goal.decreases-extent_under
-decreases-extent_under g l = 3 * shape_size (held l.node.now).inside + 2
+decreases-extent_under g l = 4 * shape_size (held l.node.now).inside + 3
+
+abbrev pub decreases-extent_of_dir : goal.decreases-extent_of_dir
+decreases-extent_of_dir g l = 4 * shape_size l.dir.now.entries + 1
 
 abbrev pub decreases-extent_of_all : goal.decreases-extent_of_all
-decreases-extent_of_all g l = 3 * shape_size (shape_of l.entries.now)
+decreases-extent_of_all g l = 4 * shape_size (shape_of l.entries.now)
 
 abbrev pub invariant-extent_of_all-loop-entry : goal.invariant-extent_of_all-loop-entry
 invariant-extent_of_all-loop-entry g l =

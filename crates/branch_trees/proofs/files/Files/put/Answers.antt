@@ -1,4 +1,4 @@
-use Rattle.std.proofs.Common.{◌≡◌, Bool, false, refl, sym, ap, ◌∙◌, subst}
+use Rattle.std.proofs.Common.{◌≡◌, ℕ, ◌+◌, Bool, false, refl, sym, ap, ◌∙◌, subst, arith}
 use Rattle.std.specs.Prelude.{IsTrue}
 use Rattle.std.proofs.lemmas.Bool.{false≢true}
 use Rattle.git_paths.specs.Paths.{is_within_limits}
@@ -6,6 +6,8 @@ use Rattle.tenant_tables.specs.Objects.{objects}
 use Rattle.tree_build.specs.Edits.{put_at}
 use Rattle.branch_trees.specs.Branch.{files_in}
 use Rattle.branch_trees.proofs.Puts.{root_fault, long_fault, one_good, edits_put}
+use Rattle.branch_trees.proofs.Branches.{branch_few}
+use Rattle.branch_trees.proofs.Taken.{recount}
 use Rattle.branch_trees.proofs.OpenStays.{on_ok_both, open_file}
 use Rattle.branch_trees.proofs.files.Files.put.Goals as goal
 
@@ -52,3 +54,23 @@ returns-clause-open g c =
     on_ok_both c.put_node.result
     (open_file c.args.self.now.root c.open_to.new.self.root c.put_node.new.self.root c.components-path.result c.args.entry c.in_ok-open_to.ensures.«open»)
     c.put_node.ensures.«open» c.put_node.ensures.there
+
+pub overflow_add-total : goal.overflow_add-total
+overflow_add-total g c =
+    let os = objects c.args.pool.now c.args.table.now.entries in
+    let b = c.in_ok-open_to.ensures.branch in
+    let few = branch_few os c.open_to.new.self b in
+    let all = c.file_count-total.ensures ∙ b.counted in
+    omega arith
+
+pub put_node-requires-clause-branch : goal.put_node-requires-clause-branch
+put_node-requires-clause-branch g c =
+    recount (objects c.args.pool.now c.args.table.now.entries) c.open_to.new.self c.in_ok-open_to.ensures.branch
+    c.open_to.new.self.files c.open_to.new.self.reads
+
+pub put_node-requires-clause-total : goal.put_node-requires-clause-total
+put_node-requires-clause-total g c =
+    ap (λ (n : ℕ). n + 1) (c.file_count-total.ensures ∙ c.in_ok-open_to.ensures.branch.counted)
+
+pub returns-clause-branch : goal.returns-clause-branch
+returns-clause-branch g c = λ ne. c.put_node.ensures.still ne c.in_ok-open_to.ensures.branch

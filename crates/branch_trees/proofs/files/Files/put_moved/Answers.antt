@@ -1,20 +1,32 @@
+use Rattle.std.proofs.Common.{ℕ, ◌+◌, ◌≤◌, length, ap, ◌∙◌, subst, arith}
 use Rattle.tenant_tables.specs.Objects.{objects}
-use Rattle.branch_trees.specs.Branch.{files_in}
-use Rattle.branch_trees.specs.Nodes.{held}
-use Rattle.branch_trees.proofs.Moved.{root-edits, root-branch}
+use Rattle.branch_trees.specs.Branch.{root_files}
+use Rattle.branch_trees.proofs.Branches.{branch_few}
+use Rattle.branch_trees.proofs.Taken.{recount}
 use Rattle.branch_trees.proofs.files.Files.put_moved.Goals as goal
 
-pub returns-then-is_root-clause-edits : goal.returns-then-is_root-clause-edits
-returns-then-is_root-clause-edits g c =
+pub overflow_add-total : goal.overflow_add-total
+overflow_add-total g c =
     let os = objects c.args.pool.now c.args.table.now.entries in
-    root-edits os (files_in os c.args.self.now)
-    (held c.args.node) c.requires.held c.args.files c.requires.added c.requires.few
-    c.self.inside.reads c.args.to.now (c.is_root.ensures.0 c.if-is_root.true)
+    let b = c.in_ok-open_to.ensures.branch in
+    let few = branch_few os c.open_to.new.self b in
+    let all = c.file_count.ensures ∙ b.counted in
+    let more = c.requires.few in
+    omega arith
 
-pub returns-then-is_root-clause-branch : goal.returns-then-is_root-clause-branch
-returns-then-is_root-clause-branch g c _ =
+pub put_here-requires-clause-branch : goal.put_here-requires-clause-branch
+put_here-requires-clause-branch g c =
+    recount (objects c.args.pool.now c.args.table.now.entries) c.open_to.new.self c.in_ok-open_to.ensures.branch
+    c.open_to.new.self.files c.open_to.new.self.reads
+
+pub put_here-requires-clause-total : goal.put_here-requires-clause-total
+put_here-requires-clause-total g c =
     let os = objects c.args.pool.now c.args.table.now.entries in
-    let root = c.is_root.ensures.0 c.if-is_root.true in
-    root-branch os (files_in os c.args.self.now)
-    (held c.args.node) c.requires.held c.args.files c.requires.added c.requires.few
-    c.self.inside.reads c.args.to.now root (c.requires.directory root) c.requires.good
+    ap (λ (n : ℕ). n + c.args.files) (c.file_count.ensures ∙ c.in_ok-open_to.ensures.branch.counted)
+    ∙ ap (λ (n : ℕ). length (root_files os c.open_to.new.self) + n) c.requires.added
+
+pub put_here-requires-clause-few : goal.put_here-requires-clause-few
+put_here-requires-clause-few g c = subst (λ (n : ℕ). n ≤ 1048576) c.requires.added c.requires.few
+
+pub returns-clause-branch : goal.returns-clause-branch
+returns-clause-branch g c = λ ne. c.put_here.ensures.still ne c.in_ok-open_to.ensures.branch

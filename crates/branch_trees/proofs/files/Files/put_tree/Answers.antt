@@ -1,4 +1,4 @@
-use Rattle.std.proofs.Common.{sym, ap, ◌∙◌, arith}
+use Rattle.std.proofs.Common.{ℕ, ◌+◌, length, sym, ap, ◌∙◌, arith}
 use Rattle.std.specs.FinMap as finmap
 use Rattle.git_paths.specs.Paths.{behind}
 use Rattle.tenant_tables.specs.Objects.{objects}
@@ -7,10 +7,12 @@ use Rattle.tree_build.specs.Storable.{files_summary}
 use Rattle.tree_build.specs.StoredFiles.{stored_files}
 use Rattle.std.proofs.lemmas.Result.{on_ok_weaker}
 use Rattle.branch_trees.specs.declared.dir.Node.TheVariants.{Unopened}
-use Rattle.branch_trees.specs.Branch.{files_in}
+use Rattle.branch_trees.specs.Branch.{root_files, files_in}
 use Rattle.branch_trees.specs.Limits.{may_stand}
 use Rattle.branch_trees.specs.Nodes.{held}
-use Rattle.branch_trees.proofs.Limits.{put_good, edits_fit}
+use Rattle.branch_trees.proofs.Limits.{put_good, edits_fit, few_stand}
+use Rattle.branch_trees.proofs.Branches.{branch_few}
+use Rattle.branch_trees.proofs.Taken.{recount}
 use Rattle.branch_trees.proofs.Grafted.{none_put, placeable}
 use Rattle.branch_trees.proofs.files.Files.put_tree.Goals as goal
 
@@ -24,9 +26,6 @@ returns-then-files-eq0-clause-edits g c =
     c.in_ok-open_to.ensures.files
     ∙ ap (λ (p : Path). finmap.retain_keys (files_in os c.args.self.now) (is_apart p))
     c.components-path.ensures)
-
-pub put_node-requires-clause-added : goal.put_node-requires-clause-added
-put_node-requires-clause-added g c = c.requires.files
 
 pub put_node-requires-clause-good : goal.put_node-requires-clause-good
 put_node-requires-clause-good g c =
@@ -60,3 +59,27 @@ returns-clause-open g c =
     let there = put q (ap (λ (p : Path). behind p q) c.components-path.ensures ∙ apart) in
     omega arith)
     c.put_node.ensures.«open»
+
+pub overflow_add-total : goal.overflow_add-total
+overflow_add-total g c =
+    let os = objects c.args.pool.now c.args.table.now.entries in
+    let b = c.in_ok-open_to.ensures.branch in
+    let few = branch_few os c.open_to.new.self b in
+    let all = c.file_count.ensures ∙ b.counted in
+    let more = few_stand c.args.path.now (stored_files os c.args.name.now) c.requires.fits in
+    let files = c.requires.files in
+    omega arith
+
+pub put_node-requires-clause-branch : goal.put_node-requires-clause-branch
+put_node-requires-clause-branch g c =
+    recount (objects c.args.pool.now c.args.table.now.entries) c.open_to.new.self c.in_ok-open_to.ensures.branch
+    c.open_to.new.self.files c.open_to.new.self.reads
+
+pub put_node-requires-clause-total : goal.put_node-requires-clause-total
+put_node-requires-clause-total g c =
+    let os = objects c.args.pool.now c.args.table.now.entries in
+    ap (λ (n : ℕ). n + c.args.files) (c.file_count.ensures ∙ c.in_ok-open_to.ensures.branch.counted)
+    ∙ ap (λ (n : ℕ). length (root_files os c.open_to.new.self) + n) c.requires.files
+
+pub returns-clause-branch : goal.returns-clause-branch
+returns-clause-branch g c = λ ne. c.put_node.ensures.still ne c.in_ok-open_to.ensures.branch

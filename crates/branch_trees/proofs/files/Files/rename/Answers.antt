@@ -1,58 +1,41 @@
-use Rattle.std.proofs.Common.{◌≡◌, ◌≤◌, ℕ, sym, ap, ◌∙◌, subst}
-use Rattle.std.specs.Prelude.{Err}
+use Rattle.std.proofs.Common.{◌≡◌, ◌≢◌, sym, ap, ◌∙◌, subst, arith}
+use Rattle.std.specs.Prelude.{None, Err, OnOk}
 use Rattle.std.proofs.lemmas.Result.{err_from_is_err_and}
-use Rattle.git_paths.specs.Paths.{IsPath}
 use Rattle.tenant_tables.specs.Objects.{objects}
 use Rattle.tree_build.specs.declared.fault.Fault.{Fault}
-use Rattle.tree_build.specs.Edits.{files_at, moved, without, renamed}
+use Rattle.tree_build.specs.Calls.{Edits}
+use Rattle.tree_build.specs.Edits.{files_at, moved, renamed, move_fault}
 use Rattle.tree_build.specs.FileMap.{FileMap}
 use Rattle.branch_trees.specs.Branch.{files_in}
-use Rattle.branch_trees.proofs.Moves.{few-moved, good-put, another, refused, good-rest, edits-renamed}
+use Rattle.branch_trees.specs.Moving.{path_fault}
+use Rattle.branch_trees.proofs.Moves.{another, refused}
 use Rattle.branch_trees.proofs.files.Files.rename.Goals as goal
 
-pub returns-in_err-node-clause-edits : goal.returns-in_err-node-clause-edits
-returns-in_err-node-clause-edits g c =
+pub returns-in_err-open_source-clause-edits : goal.returns-in_err-open_source-clause-edits
+returns-in_err-open_source-clause-edits g c =
     let os = objects c.args.pool.now c.args.table.now.entries in
     let old = files_in os c.args.self.now in
     let failed = err_from_is_err_and c.from_residual.result c.from_residual.ensures.1 in
-    refused c.from_residual.result c.in_err-node.field-0.0
+    refused c.from_residual.result c.in_err-open_source.field-0.0
     (failed.1 ∙ ap (λ (e : Fault). Err e) failed.2)
-    old (files_in os c.copy_from.new.self) (moved c.args.to.now (files_at old c.args.from.now))
+    old (files_in os c.open_source.new.self) (moved c.args.to.now (files_at old c.args.from.now))
     (renamed old c.args.from.now c.args.to.now)
     (λ memory. (
-      c.in_err-node.ensures.refusal memory,
-      c.in_err-node.ensures.files
-          (another c.in_err-node.field-0.0 memory),
+      c.in_err-open_source.ensures.refusal memory,
+      c.in_err-open_source.ensures.files
+          (another c.in_err-open_source.field-0.0 memory),
     ))
 
-pub put_moved-requires-clause-few : goal.put_moved-requires-clause-few
-put_moved-requires-clause-few g c =
+pub move_source-requires-clause-clean : goal.move_source-requires-clause-clean
+move_source-requires-clause-clean g c =
     let os = objects c.args.pool.now c.args.table.now.entries in
-    subst (λ (n : ℕ). n ≤ 1048576) (sym c.in_ok-node.ensures.moved.count)
-    (few-moved (files_in os c.args.self.now) c.args.from.now c.requires.branch.files)
-
-pub put_moved-requires-clause-good : goal.put_moved-requires-clause-good
-put_moved-requires-clause-good g c = λ few.
-    let os = objects c.args.pool.now c.args.table.now.entries in
-    let old = files_in os c.args.self.now in
-    let rest : files_in os c.drop_path.new.self
-    ≡ without old c.args.from.now = c.in_ok-drop_path.ensures.edits.1
-    ∙ ap (λ (m : FileMap). without m c.args.from.now) (c.in_ok-node.ensures.files (λ e. cc e)) in
-    good-put old (without old c.args.from.now) (files_in os c.drop_path.new.self) rest
-    c.args.from.now c.args.to.now c.requires.branch.files
-    (good-rest old c.args.from.now c.requires.branch.files)
-    (subst IsPath c.components.ensures c.has_components.ensures)
-    _ c.in_ok-node.ensures.moved.files c.in_ok-node.ensures.clean few
+    subst (λ (m : FileMap). path_fault (moved c.args.to.now (files_at m c.args.from.now)) ≡ None)
+    (sym (c.in_ok-open_source.ensures.files (λ e. cc e))) c.in_ok-open_source.ensures.clean
 
 pub returns-clause-edits : goal.returns-clause-edits
 returns-clause-edits g c =
     let os = objects c.args.pool.now c.args.table.now.entries in
-    let old = files_in os c.args.self.now in
-    let rest : files_in os c.drop_path.new.self
-    ≡ without old c.args.from.now = c.in_ok-drop_path.ensures.edits.1
-    ∙ ap (λ (m : FileMap). without m c.args.from.now) (c.in_ok-node.ensures.files (λ e. cc e)) in
-    edits-renamed c.put_moved.result (files_in os c.drop_path.new.self) old
-    (files_in os c.put_moved.new.self)
-    c.requires.branch.files c.args.from.now c.args.to.now
-    (subst IsPath c.components.ensures c.has_components.ensures) rest
-    _ c.in_ok-node.ensures.moved.files c.in_ok-node.ensures.clean c.put_moved.ensures.edits
+    subst (λ (m : FileMap). Edits c.move_source.result m (files_in os c.move_source.new.self)
+    (move_fault (moved c.args.to.now (files_at m c.args.from.now)) (renamed m c.args.from.now c.args.to.now))
+    (renamed m c.args.from.now c.args.to.now))
+    (c.in_ok-open_source.ensures.files (λ e. cc e)) c.move_source.ensures.edits
