@@ -1,0 +1,7 @@
+//! Tests of pool files. Nothing else stands here.
+#![tactic(auto)]
+
+#[cfg(test)]
+mod files;
+#[cfg(test)]
+mod objects;
