@@ -1,3 +1,4 @@
 pub mod Fronts
 pub mod Kept
 mod QueryExamples
+pub mod Exported

@@ -2,6 +2,8 @@
 use Rattle.std.specs.Prelude.{◌≡◌, ◌≢◌, ℕ, List, ◌++◌, Option, None, Some, Result, Ok, Err}
 use Rattle.revisions.specs.declared.fault.Fault.{Fault as RevisionFault}
 use Rattle.revisions.specs.declared.fault.Fault.TheVariants as revision_fault
+use Rattle.export_text.specs.declared.fault.Fault.{Fault as ExportFault}
+use Rattle.export_text.specs.declared.fault.Fault.TheVariants as export_fault
 use Rattle.answers.specs.declared.fault.Fault.{Fault}
 use Rattle.answers.specs.declared.fault.Fault.TheVariants as fault
 
@@ -10,6 +12,7 @@ abbrev pub code_of : Fault → ℕ
 code_of fault.WrongKind = 15
 code_of fault.UnknownRevision = 16
 code_of fault.Ambiguous = 17
+code_of fault.Limit = 25
 code_of fault.UnknownQuery = 40
 code_of fault.MalformedQuery = 41
 code_of fault.Memory = 90
@@ -31,6 +34,11 @@ resolving_fault revision_fault.WrongKind = fault.WrongKind
 resolving_fault revision_fault.UnknownRevision = fault.UnknownRevision
 resolving_fault revision_fault.Ambiguous = fault.Ambiguous
 resolving_fault revision_fault.Memory = fault.Memory
+
+-- What refuses an export.
+abbrev pub exporting_fault : ExportFault → Fault
+exporting_fault export_fault.Limit = fault.Limit
+exporting_fault export_fault.Memory = fault.Memory
 
 abbrev pub resolved_or : {A : Type 0} → Result A RevisionFault → Result A Fault
 resolved_or (Ok value) = Ok value

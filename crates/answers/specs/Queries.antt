@@ -1,5 +1,5 @@
 -- Queries: a word and perhaps, after a space, what it asks of; git-rev-parse(1), git-cat-file(1),
--- git-ls-tree(1), git-log(1), git-show-ref(1).
+-- git-ls-tree(1), git-log(1), git-show-ref(1), git-fast-export(1).
 use Rattle.std.specs.Prelude.{ℕ, ◌+◌, ◌==◌, nat_lt, Bool, if◌then◌else◌, List, length, drop, position, Option, None, Some, Result, Err, codes}
 use Rattle.std.specs.Option.{option_map}
 use Rattle.std.specs.List.{before_first}
@@ -8,7 +8,7 @@ use Rattle.revisions.specs.declared.commit_range.Range.{Range}
 use Rattle.revisions.specs.Expressions.{Expression}
 use Rattle.revisions.specs.ExpressionReading.{expression_of, range_of}
 use Rattle.answers.specs.declared.query.Query.{Query}
-use Rattle.answers.specs.declared.query.Query.TheVariants.{RevParse, Abbrev, Cat, Ls, Log, Refs, Head}
+use Rattle.answers.specs.declared.query.Query.TheVariants.{RevParse, Abbrev, Cat, Ls, Log, Refs, Head, Export}
 use Rattle.answers.specs.declared.query.Word.{Word}
 use Rattle.answers.specs.declared.query.Word.TheVariants as words
 use Rattle.answers.specs.declared.fault.Fault.{Fault}
@@ -36,6 +36,7 @@ word_of word =
     else if bytes_eq word (codes "log") then Some words.Log
     else if bytes_eq word (codes "refs") then Some words.Refs
     else if bytes_eq word (codes "head") then Some words.Head
+    else if bytes_eq word (codes "export") then Some words.Export
     else None
 
 -- A word that asks of a revision, one that asks of a range, and one that stands alone.
@@ -60,6 +61,7 @@ query_by words.Ls = of_revision Ls
 query_by words.Log = of_range Log
 query_by words.Refs = alone Refs
 query_by words.Head = alone Head
+query_by words.Export = alone Export
 
 -- The query that a text is. The limit is judged first, then the word, then what stands after it.
 unfoldable pub query_of : List ℕ → Result Query Fault

@@ -6,7 +6,7 @@ ghost use Rattle.tenant_tables.specs.Objects.{objects};
 ghost use Rattle.tenant_tables.specs.StandsIn.{StandsIn};
 ghost use Rattle.tenant_tables.specs.View.{in_sight};
 ghost use Rattle.tenant_tables.specs.declared.sight.Sight.TheVariants.{Committed};
-ghost use Rattle.answers.specs.Answers.{answer_to, log_asked, object_asked, told, tree_asked};
+ghost use Rattle.answers.specs.Answers.{answer_to, export_asked, log_asked, object_asked, told, tree_asked};
 ghost use Rattle.answers.specs.Faults.{Gives, Prints, and_then};
 ghost use Rattle.answers.specs.Printed.{line, log_lines, name_line, object_text, shortest_front, tree_lines};
 
@@ -19,6 +19,7 @@ use crate::query::Query;
 use crate::query_reading::read_query;
 use crate::ref_printing::append_refs;
 use content_pool::Pool;
+use export_text::append_export;
 use git_objects::{Kind, Name, Naming};
 use objects_in_sight::Objects;
 use revisions::{Expression, Range, peel, resolve_expression, resolve_range};
@@ -127,6 +128,23 @@ fn tell_object<N: Naming>(
     Ok(())
 }
 
+fn tell_export<N: Naming>(
+    alloc: Global,
+    objects: &Objects<'_, N>,
+    refs: &Refs,
+    out: &mut Vec<u8>,
+) -> Result<(), Fault>
+    ensures told { AreObjects N.digest_of objects.now → Prints
+        (export_asked (record { objects = objects.now; refs = refs.now }))
+        out.old.items out.new.items result }
+    ensures kept { take (length out.old.items) out.new.items ≡ out.old.items }
+{
+    match append_export(alloc, objects, refs, out) {
+        Ok(()) => Ok(()),
+        Err(refusal) => Err(refusal.into()),
+    }
+}
+
 // Appends the answer, or a piece of it where memory runs out.
 fn tell<N: Naming>(
     alloc: Global,
@@ -148,6 +166,7 @@ fn tell<N: Naming>(
         Query::Log(range) => tell_log(alloc, objects, refs, range, out),
         Query::Refs => Ok(append_refs(refs, out)?),
         Query::Head => Ok(append_line(refs.head(), out)?),
+        Query::Export => tell_export(alloc, objects, refs, out),
     }
 }
 
@@ -183,11 +202,12 @@ fn tell_or_nothing<N: Naming>(
 /// | `log <range>` | `<name> <first line of the message>` of each commit, from new to old |
 /// | `refs` | `<name> <ref>`, in the order of the refs' bytes |
 /// | `head` | the ref that HEAD names |
+/// | `export` | what the refs reach, and the refs, as a stream of git-fast-import(1) |
 ///
 /// `Fault::MalformedQuery` (41) above 8,192 bytes, else `Fault::UnknownQuery` (40), else
 /// `Fault::MalformedQuery` (41); then `Fault::WrongKind` (15), `Fault::UnknownRevision` (16) and
-/// `Fault::Ambiguous` (17) in the order in which expressions are decided. Takes memory for the
-/// answer and to read what it passes; `Fault::Memory` (90) where there is none. After a refusal
+/// `Fault::Ambiguous` (17) in the order in which expressions are decided; `Fault::Limit` (25) where
+/// there are too many refs to be exported (export_text). Takes memory for the answer and to read what it passes; `Fault::Memory` (90) where there is none. After a refusal
 /// `out` is unchanged.
 ///
 /// The pool is the one that the table stands in. The answer is the defined one where the committed

@@ -1,7 +1,7 @@
 //! Why a query is refused.
 
 ghost use Rattle.std.specs.Prelude.{◌≡◌};
-ghost use Rattle.answers.specs.Faults.{code_of, resolving_fault};
+ghost use Rattle.answers.specs.Faults.{code_of, exporting_fault, resolving_fault};
 ghost use Rattle.answers.specs.declared.fault.Fault.TheVariants.{Memory as OutOfMemory};
 
 use git_objects::Memory;
@@ -20,6 +20,9 @@ pub enum Fault {
     /// Several object names begin so, 17.
     #[error("ambiguous abbreviation")]
     Ambiguous,
+    /// There are too many refs to be exported, 25.
+    #[error("limit")]
+    Limit,
     /// No query begins with this word, 40.
     #[error("unknown query")]
     UnknownQuery,
@@ -41,6 +44,17 @@ impl From<revisions::Fault> for Fault {
             revisions::Fault::UnknownRevision => Fault::UnknownRevision,
             revisions::Fault::Ambiguous => Fault::Ambiguous,
             revisions::Fault::Memory => Fault::Memory,
+        }
+    }
+}
+
+impl From<export_text::Fault> for Fault {
+    ghost from_gives = { λ refusal e. e ≡ exporting_fault refusal };
+
+    fn from(refusal: export_text::Fault) -> Fault {
+        match refusal {
+            export_text::Fault::Limit => Fault::Limit,
+            export_text::Fault::Memory => Fault::Memory,
         }
     }
 }
@@ -70,8 +84,8 @@ impl<T: Drop> From<AllocFailed<T>> for Fault {
 }
 
 impl Fault {
-    /// The number of the fault: 15 wrong kind, 16 unknown revision, 17 ambiguous, 40 unknown query,
-    /// 41 malformed query, 90 out of memory.
+    /// The number of the fault: 15 wrong kind, 16 unknown revision, 17 ambiguous, 25 limit, 40 unknown
+    /// query, 41 malformed query, 90 out of memory.
     pub fn code(self) -> u16
         ensures { result ≡ code_of self }
     {
@@ -79,6 +93,7 @@ impl Fault {
             Fault::WrongKind => 15,
             Fault::UnknownRevision => 16,
             Fault::Ambiguous => 17,
+            Fault::Limit => 25,
             Fault::UnknownQuery => 40,
             Fault::MalformedQuery => 41,
             Fault::Memory => 90,

@@ -19,6 +19,8 @@ pub enum Query<'a> {
     Refs,
     /// The ref that HEAD names: git-symbolic-ref(1).
     Head,
+    /// All that the refs reach, and the refs, as one stream: git-fast-export(1), --all.
+    Export,
 }
 
 /// The word that a query begins with.
@@ -31,4 +33,5 @@ pub enum Word {
     Log,
     Refs,
     Head,
+    Export,
 }

@@ -90,6 +90,8 @@ fn word_of(word: &[u8]) -> Option<Word>
         Some(Word::Refs)
     } else if word == b"head".as_slice() {
         Some(Word::Head)
+    } else if word == b"export".as_slice() {
+        Some(Word::Export)
     } else {
         None
     }
@@ -108,13 +110,14 @@ fn read_after<'a>(alloc: Global, word: Word, rest: Option<&'a [u8]>) -> Result<Q
         Word::Log => Ok(Query::Log(read_whole_range(alloc, rest)?)),
         Word::Refs => alone(Query::Refs, rest),
         Word::Head => alone(Query::Head, rest),
+        Word::Export => alone(Query::Export, rest),
     }
 }
 
 /// Reads a query: a word, and after its first space what it asks of.
 ///
-/// `rev-parse`, `abbrev`, `cat` and `ls` ask of an expression, `log` of a range; `refs` and `head`
-/// stand alone. `Fault::MalformedQuery` (41) above 8,192 bytes, else `Fault::UnknownQuery` (40)
+/// `rev-parse`, `abbrev`, `cat` and `ls` ask of an expression, `log` of a range; `refs`, `head`
+/// and `export` stand alone. `Fault::MalformedQuery` (41) above 8,192 bytes, else `Fault::UnknownQuery` (40)
 /// where no query has this word, else `Fault::MalformedQuery` (41) where what stands after the word
 /// is not what it asks for. Takes memory for what an expression has after its base;
 /// `Fault::Memory` (90) where there is none. Nothing is looked up.

@@ -64,7 +64,8 @@ pub enum Added {
 // What stands before an answer.
 const ASKED: &[u8] = b"asked: ";
 
-const STEPS: &[Step] = &[
+/// What the history is made of.
+pub const STEPS: &[Step] = &[
     Step::Add(Added::Blob, b"hello\n"),
     Step::Add(Added::Blob, b"version 1\n"),
     Step::File(b"a.txt", HELLO),
@@ -227,7 +228,13 @@ impl<N: Naming> History<N> {
         Ok(None)
     }
 
-    fn prints(&self, refs: &Refs, text: &[u8], printed: Result<&[u8], u16>) -> Result<bool, Fail> {
+    /// Whether a query prints this text, or is refused with this number.
+    pub fn prints(
+        &self,
+        refs: &Refs,
+        text: &[u8],
+        printed: Result<&[u8], u16>,
+    ) -> Result<bool, Fail> {
         let mut out = Vec::new(self.alloc);
         out.extend_from_slice(ASKED)?;
         let answer = answer(self.alloc, &self.pool, &self.table, refs, text, &mut out);

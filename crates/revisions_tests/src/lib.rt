@@ -2,6 +2,8 @@
 #![tactic(auto)]
 
 #[cfg(test)]
+mod exports;
+#[cfg(test)]
 mod expressions;
 #[cfg(test)]
 mod history;

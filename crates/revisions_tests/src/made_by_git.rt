@@ -159,3 +159,26 @@ pub const COMMIT_U_TEXT: &[u8] = b"tree 4b825dc642cb6eb9a060e54bf8d69288fbee4904
     author A U Thor <author@example.com> 8 +0000\n\
     committer C O Mitter <committer@example.com> 8 +0000\n\n\
     u\n";
+
+/// The tree with the blob `HELLO` at f.
+pub const ONE_FILE: &[u8; 40] = b"10731d0b170b98481a00bdca161e874e0ab93377";
+
+/// A commit of `ONE_FILE` without a parent.
+pub const FIRST_OF_F: &[u8; 40] = b"28139c25c808723300683a56bda158d153221c0e";
+
+/// A commit on `FIRST_OF_F` whose message is not in UTF-8.
+pub const ENCODED: &[u8; 40] = b"3b1dde46b25639a733b820636856adbe1f406801";
+
+/// The contents of `FIRST_OF_F`.
+pub const FIRST_OF_F_TEXT: &[u8] = b"tree 10731d0b170b98481a00bdca161e874e0ab93377\n\
+    author A <a@b> 0 +0000\n\
+    committer A <a@b> 0 +0000\n\n\
+    x\n";
+
+/// The contents of `ENCODED`.
+pub const ENCODED_TEXT: &[u8] = b"tree 10731d0b170b98481a00bdca161e874e0ab93377\n\
+    parent 28139c25c808723300683a56bda158d153221c0e\n\
+    author A <a@b> 1 +0000\n\
+    committer A <a@b> 1 +0000\n\
+    encoding ISO-8859-1\n\n\
+    \xe9\n";

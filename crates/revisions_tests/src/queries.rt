@@ -126,7 +126,9 @@ const NO_QUERIES: &[Printed] = &[
     (b"refs\n", Err(40)),
     (b"Refs", Err(40)),
     (b" refs", Err(40)),
-    (b"export main", Err(40)),
+    (b"exports", Err(40)),
+    (b"export main", Err(41)),
+    (b"export ", Err(41)),
     (b"refs ", Err(41)),
     (b"head x", Err(41)),
     (b"rev-parse", Err(41)),
@@ -140,6 +142,10 @@ const NO_QUERIES: &[Printed] = &[
 const NOTHING: &[Printed] = &[
     (b"head", Ok(b"refs/heads/main\n")),
     (b"refs", Ok(b"")),
+    (
+        b"export",
+        Ok(b"feature force\nreset refs/export/scratch\ncheckpoint\n"),
+    ),
     (b"rev-parse HEAD", Err(16)),
     (b"log HEAD", Err(16)),
 ];

@@ -1,0 +1,63 @@
+-- What is known of the object at a place, among good objects.
+use Rattle.std.proofs.Common.{◌≡◌, ℕ, ◌<◌, Bool, List, [], ◌∷◌, length, map, slice_get, All, Option, Some, refl, sym, ap, subst, ◌∙◌, arith}
+use Rattle.std.specs.Prelude.{unwrap_or}
+use Rattle.git_model.specs.declared.kind.Kind.{Kind}
+use Rattle.git_model.specs.declared.kind.Kind.TheVariants as kind
+use Rattle.git_model.specs.Commit.{Commit}
+use Rattle.git_model.specs.CommitReading.{commit_read}
+use Rattle.git_model.specs.Content.{Content, content_from, no_content}
+use Rattle.git_model.specs.Repository.{Object, object_named}
+use Rattle.git_model.specs.References.{reference, references_of, references_in, referred_by, commit_references, object_at, place_of}
+use Rattle.git_model.specs.GoodRepository.{AreObjects, IsObject, IsValid, StandsBefore}
+use Rattle.git_model.proofs.Places.{stands_at, at_place}
+use Rattle.commit_reach.proofs.CommitsAt.{object_told}
+use Rattle.commit_reach.proofs.Named.{there}
+use Rattle.export_text.specs.Marking.{marked, names_in}
+
+pub record IsAt (os : List Object) (place : ℕ) (id : List ℕ) (k : Kind) (bytes : List ℕ) : Type 0 where
+  pub object : object_at place os ≡ record { id = id; content = content_from k bytes }
+  pub valid : IsValid os k bytes
+  pub connected : All (StandsBefore os place) (references_of k bytes)
+  pub referred : referred_by os (object_at place os).id ≡ names_in (references_of k bytes)
+
+pub at-told : (digest : List ℕ → List ℕ) (os : List Object) → AreObjects digest os → (place : ℕ)
+    → place < length os → (id : List ℕ) (k : Kind) (bytes : List ℕ)
+    → Some (record { id = id; content = content_from k bytes }) ≡ slice_get os place
+    → IsAt os place id k bytes
+at-told digest os good place lt id k bytes h = record {
+  object = o;
+  valid = subst (λ (x : Object). IsValid os x.content.kind x.content.bytes) o
+      (at_place (IsObject digest os) os place good.each lt).valid;
+  connected = subst (λ (x : Object). All (StandsBefore os place) (references_in x.content)) o (good.connected place lt);
+  referred =
+      ap (λ (c : Option Content). names_in (references_in (unwrap_or c no_content)))
+      ((there (object_at place os).id os (let e = at in omega arith)).named)
+      ∙ ap (λ (n : ℕ). names_in (references_in (object_at n os).content)) at
+      ∙ ap (λ (x : Object). names_in (references_in x.content)) o;
+}
+  where
+    o : object_at place os ≡ record { id = id; content = content_from k bytes }
+    o = object_told os place (record { id = id; content = content_from k bytes }) h
+
+    at : place_of (object_at place os).id os ≡ place
+    at = good.distinct place lt
+
+pub valid-named : (digest : List ℕ → List ℕ) (os : List Object) (id : List ℕ) (c : Content)
+    → AreObjects digest os → Some c ≡ object_named id os → IsValid os c.kind c.bytes
+valid-named digest os id c good is =
+    let at = stands_at id os c (sym is) in
+    let each = at_place (IsObject digest os) os (place_of id os) good.each at.within in
+    (subst (IsObject digest os) at.object each).valid
+
+parent_names : (ps : List (List ℕ)) → names_in (map (reference kind.Commit) ps) ≡ ps
+parent_names [] = refl
+parent_names (p ∷ ps) = ap (λ rest. p ∷ rest) (parent_names ps)
+
+pub commit-marked : (os : List Object) (first mid last : List Bool) (c : Commit)
+    (contents : List ℕ) (parents : List (List ℕ)) → c ≡ commit_read contents
+    → mid ≡ marked os first (c.tree ∷ []) → parents ≡ c.parents → last ≡ marked os mid parents
+    → last ≡ marked os first (names_in (references_of kind.Commit contents))
+commit-marked os first mid last c contents parents is tree all next =
+    next ∙ ap (λ fs. marked os fs parents) tree
+    ∙ ap (λ ps. marked os first (c.tree ∷ ps)) (all ∙ sym (parent_names c.parents))
+    ∙ ap (λ (x : Commit). marked os first (names_in (commit_references x))) is

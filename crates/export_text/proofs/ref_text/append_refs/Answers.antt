@@ -1,0 +1,16 @@
+use Rattle.std.proofs.Common.{◌+◌, take}
+use Rattle.git_model.specs.RefStore.{listed_refs}
+use Rattle.export_text.specs.Export.{items_of_ref}
+use Rattle.export_text.proofs.Pieces.{more, next-at, kept_twice}
+use Rattle.export_text.proofs.ref_text.append_refs.Goals as goal
+
+pub loop-position-preserved : goal.loop-position-preserved
+loop-position-preserved g c = (
+  kept_twice c.args.out.now.items c.loop-position.out.items c.append_ref.new.out.items c.loop-position.invariant.0
+      c.in_ok-append_ref.ensures.kept,
+  λ good. more (items_of_ref c.args.objects.now) c.args.out.now.items c.loop-position.out.items c.append_ref.new.out.items
+      (take c.loop-position.position (listed_refs c.args.refs.now)) (take (c.loop-position.position + 1) (listed_refs c.args.refs.now))
+      (c.in-Some.entry.0.now, c.in-Some.entry.1)
+      (next-at (listed_refs c.args.refs.now) c.loop-position.position (c.in-Some.entry.0.now, c.in-Some.entry.1) c.in-Some.ensures.entry)
+      (c.loop-position.invariant.1 good) (c.in_ok-append_ref.ensures.written good),
+)

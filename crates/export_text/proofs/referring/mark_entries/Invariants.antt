@@ -1,0 +1,10 @@
+use Rattle.std.proofs.Common.{◌≡◌, take}
+use Rattle.git_model.specs.References.{tree_references}
+use Rattle.git_objects.specs.Parts.{entries_of}
+use Rattle.export_text.specs.Marking.{marked, names_in}
+use Rattle.export_text.proofs.referring.mark_entries.Given as goal
+
+abbrev pub invariant-loop-entry : goal.invariant-loop-entry
+invariant-loop-entry g l =
+    l.flags ≡ marked l.objects l.initial.flags
+    (names_in (tree_references (entries_of (take l.entry-index l.entries))))

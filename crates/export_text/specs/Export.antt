@@ -1,0 +1,73 @@
+-- The export of a repository: git-fast-export(1).
+use Rattle.std.specs.Prelude.{◌≡◌, ℕ, true, false, if◌then◌else◌, List, [], ◌∷◌, ◌++◌, replicate, None, Result, Ok, Err, codes}
+use Rattle.std.specs.List.{flat_map}
+use Rattle.std.specs.Str.{bytes_eq}
+use Rattle.git_model.specs.declared.kind.Kind.{Kind}
+use Rattle.git_model.specs.declared.kind.Kind.TheVariants as kind
+use Rattle.git_model.specs.TagReading.{tag_read}
+use Rattle.git_model.specs.RefStore.{RefStore, first_head, listed_refs}
+use Rattle.git_model.specs.Repository.{Object, Repository}
+use Rattle.git_model.specs.References.{content_named}
+use Rattle.stream_lex.specs.Items.{Item, Line, Blank}
+use Rattle.export_text.specs.declared.fault.Fault.{Fault}
+use Rattle.export_text.specs.declared.fault.Fault.TheVariants as fault
+use Rattle.export_text.specs.ItemText.{items_text}
+use Rattle.export_text.specs.Reached.{reached_objects, extra_tag_refs, is_exportable}
+use Rattle.export_text.specs.ExportItems.{marked, scratch, tag_items, items_of_object}
+
+-- First refs may be moved, and HEAD is set where it is not what a repository has at first.
+unfoldable pub head_items : List ℕ → List Item
+head_items head =
+    if bytes_eq head first_head then []
+    else Line (codes "option gitpool head " ++ head) ∷ []
+
+abbrev pub opening_items : RefStore → List Item
+opening_items store = Line (codes "feature force") ∷ head_items store.head
+
+-- Then each object, in the order of the repository, so that what it refers to stands before it.
+abbrev pub object_items : Repository → List Item
+object_items repository =
+    flat_map (items_of_object repository.objects) (reached_objects repository)
+
+-- Then the scratch branch is given up, and what was exported is saved.
+abbrev pub saving_items : List Item
+saving_items = Line (codes "reset " ++ scratch) ∷ Line (codes "checkpoint") ∷ []
+
+-- Then the refs are taken away that the tags have left, and the repository has not.
+abbrev pub removal_items : List ℕ → List Item
+removal_items ref =
+    Line (codes "reset " ++ ref) ∷ Line (codes "from " ++ replicate 40 48) ∷ Blank ∷ []
+
+-- Then each ref is set: to a commit by a reset, and to a tag by the tag once more.
+abbrev pub ref_items : List Object → List ℕ → List ℕ → Kind → List ℕ → List Item
+ref_items os ref id kind.Tag bytes = tag_items os None (tag_read bytes)
+ref_items os ref id other bytes =
+    Line (codes "reset " ++ ref) ∷ marked os (codes "from ") id ∷ Blank ∷ []
+
+abbrev pub items_of_ref : List Object → List ℕ × List ℕ → List Item
+items_of_ref os ref = let content = content_named ref.1 os in
+    ref_items os ref.0 ref.1 content.kind content.bytes
+
+abbrev pub all_ref_items : Repository → List Item
+all_ref_items repository =
+    flat_map (items_of_ref repository.objects) (listed_refs repository.refs)
+
+-- The items of an export, in this order.
+abbrev pub export_items : Repository → List Item
+export_items repository = opening_items repository.refs
+    ++ object_items repository
+    ++ saving_items
+    ++ flat_map removal_items (extra_tag_refs repository)
+    ++ all_ref_items repository
+
+-- The text of an export.
+unfoldable pub export_text : Repository → List ℕ
+export_text repository = items_text (export_items repository)
+
+-- It was appended, where there are not too many refs, or that was the refusal. Out of memory may
+-- stand in place of either.
+abbrev pub Exports : Repository → List ℕ → List ℕ → Result Unit Fault → Type 0
+Exports repository old new (Ok u) =
+    (is_exportable repository ≡ true) × (new ≡ old ++ export_text repository)
+Exports repository old new (Err fault.Limit) = is_exportable repository ≡ false
+Exports repository old new (Err fault.Memory) = Unit {0}

@@ -1,0 +1,18 @@
+-- Flags of objects by their places, for private contracts.
+use Rattle.std.specs.Prelude.{ℕ, true, Bool, List, [], ◌∷◌, map, set}
+use Rattle.git_model.specs.Repository.{Object, Repository}
+use Rattle.git_model.specs.References.{Reference, place_of}
+use Rattle.git_model.specs.Reach.{is_referred_to}
+
+-- The flags with those of the objects of these names set.
+abbrev pub marked : List Object → List Bool → List (List ℕ) → List Bool
+marked os flags [] = flags
+marked os flags (id ∷ ids) = marked os (set flags (place_of id os) true) ids
+
+-- The names that references have.
+abbrev pub names_in : List Reference → List (List ℕ)
+names_in references = map (λ r. r.id) references
+
+-- A flag for each object: whether some ref reaches it.
+abbrev pub reached_flags : Repository → List Bool
+reached_flags repository = map (λ o. is_referred_to repository o.id) repository.objects

@@ -1,0 +1,126 @@
+//! Commits in a stream: git-fast-import(1), `commit`.
+
+ghost use Rattle.std.specs.Prelude.{◌≡◌, ◌++◌, [], ◌∷◌, length, map, take, Some, OnOk, codes};
+ghost use Rattle.git_model.specs.Commit.{Commit, CanWriteCommit, commit_contents};
+ghost use Rattle.git_model.specs.CommitReading.{commit_read};
+ghost use Rattle.git_model.specs.GoodRepository.{AreObjects};
+ghost use Rattle.git_model.specs.References.{kind_named};
+ghost use Rattle.git_model.specs.declared.kind.Kind.TheVariants as kind;
+ghost use Rattle.git_objects.specs.Parts.{commit_of};
+ghost use Rattle.export_text.specs.ItemText.{items_text};
+ghost use Rattle.export_text.specs.ExportItems.{commit_head, commit_items, fresh_branch, marked, parent_items};
+
+use crate::file_text::append_all_files;
+use crate::item_text::{append_blank, append_data, append_line, append_line_if};
+use crate::mark_text::append_marked;
+use git_objects::{CommitParts, Memory, Name, Naming, read_commit};
+use objects_in_sight::Objects;
+use std::alloc::Global;
+
+/// The branch on which commits are exported.
+pub const SCRATCH: &[u8] = b"refs/export/scratch";
+
+fn append_fresh_branch(parents: &[Name], out: &mut Vec<u8>) -> Result<(), Memory>
+    ensures written { OnOk result (out.new.items
+        ≡ out.old.items ++ items_text (fresh_branch parents.now)) }
+    ensures kept { take (length out.old.items) out.new.items ≡ out.old.items }
+{
+    match parents {
+        [] => append_line(b"reset ", SCRATCH, out),
+        _ => Ok(()),
+    }
+}
+
+fn append_merges<N: Naming>(
+    objects: &Objects<'_, N>,
+    parents: &[Name],
+    out: &mut Vec<u8>,
+) -> Result<(), Memory>
+    ensures written { OnOk result (out.new.items ≡ out.old.items
+        ++ items_text (map (marked objects.now (codes "merge ")) parents.now)) }
+    ensures kept { take (length out.old.items) out.new.items ≡ out.old.items }
+{
+    for parent in parents {
+        append_marked(objects, b"merge ", parent, out)?;
+    }
+    Ok(())
+}
+
+fn append_parents<N: Naming>(
+    objects: &Objects<'_, N>,
+    parents: &[Name],
+    out: &mut Vec<u8>,
+) -> Result<(), Memory>
+    ensures written { OnOk result (out.new.items
+        ≡ out.old.items ++ items_text (parent_items objects.now parents.now)) }
+    ensures kept { take (length out.old.items) out.new.items ≡ out.old.items }
+{
+    match parents {
+        [] => Ok(()),
+        [first, others @ ..] => {
+            append_marked(objects, b"from ", first, out)?;
+            append_merges(objects, others, out)
+        }
+    }
+}
+
+// Appends the lines before the message.
+fn append_head<N: Naming>(
+    objects: &Objects<'_, N>,
+    id: &Name,
+    parts: &CommitParts<'_>,
+    out: &mut Vec<u8>,
+) -> Result<(), Memory>
+    ensures written { OnOk result (out.new.items
+        ≡ out.old.items ++ items_text (commit_head objects.now id.now (commit_of parts.now))) }
+    ensures kept { take (length out.old.items) out.new.items ≡ out.old.items }
+{
+    append_fresh_branch(&parts.ancestors, out)?;
+    append_line(b"commit ", SCRATCH, out)?;
+    append_marked(objects, b"mark ", id, out)?;
+    append_line(b"author ", parts.author, out)?;
+    append_line(b"committer ", parts.committer, out)?;
+    append_line_if(b"encoding ", parts.encoding, out)
+}
+
+fn append_parts_of_commit<N: Naming>(
+    alloc: Global,
+    objects: &Objects<'_, N>,
+    id: &Name,
+    parts: &CommitParts<'_>,
+    out: &mut Vec<u8>,
+) -> Result<(), Memory>
+    ensures written { AreObjects N.digest_of objects.now
+        → kind_named parts.now.tree objects.now ≡ Some kind.Tree
+        → OnOk result (out.new.items
+        ≡ out.old.items ++ items_text (commit_items objects.now id.now (commit_of parts.now))) }
+    ensures kept { take (length out.old.items) out.new.items ≡ out.old.items }
+{
+    append_head(objects, id, parts, out)?;
+    append_data(parts.message, out)?;
+    append_parents(objects, &parts.ancestors, out)?;
+    append_all_files(alloc, objects, &parts.tree, out)?;
+    append_blank(out)
+}
+
+/// Appends the commit with these contents, with the mark of this object; as `append_parts` after
+/// `Memory` (90).
+pub fn append_commit<N: Naming>(
+    alloc: Global,
+    objects: &Objects<'_, N>,
+    id: &Name,
+    contents: &[u8],
+    out: &mut Vec<u8>,
+) -> Result<(), Memory>
+    ensures written { AreObjects N.digest_of objects.now → (c : Commit) → CanWriteCommit c
+        → contents.now ≡ commit_contents c
+        → kind_named (commit_read contents.now).tree objects.now ≡ Some kind.Tree
+        → OnOk result (out.new.items
+        ≡ out.old.items ++ items_text (commit_items objects.now id.now (commit_read contents.now))) }
+    ensures kept { take (length out.old.items) out.new.items ≡ out.old.items }
+{
+    match read_commit(alloc, contents)? {
+        Some(parts) => append_parts_of_commit(alloc, objects, id, &parts, out),
+        None => Ok(()),
+    }
+}

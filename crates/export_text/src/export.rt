@@ -1,0 +1,134 @@
+//! A repository as a stream: git-fast-export(1).
+
+ghost use Rattle.std.specs.Prelude.{◌≡◌, ◌++◌, ◌+◌, nat_le, length, take, OnOk, OnErr};
+ghost use Rattle.git_model.specs.GoodRepository.{AreObjects};
+ghost use Rattle.git_model.specs.RefStore.{listed_refs};
+ghost use Rattle.git_model.specs.Repository.{Repository};
+ghost use Rattle.export_text.specs.ItemText.{items_text};
+ghost use Rattle.export_text.specs.Reached.{tag_refs};
+ghost use Rattle.export_text.specs.Marking.{reached_flags};
+ghost use Rattle.export_text.specs.Export.{Exports, export_items, head_items, opening_items, saving_items};
+
+use crate::commit_text::SCRATCH;
+use crate::fault::Fault;
+use crate::item_text::append_line;
+use crate::object_text::append_objects;
+use crate::reached::reached;
+use crate::ref_text::{append_refs, append_removals};
+use crate::tag_refs::tag_refs;
+use git_names::RefName;
+use git_objects::{Memory, Naming};
+use objects_in_sight::Objects;
+use std::alloc::Global;
+use tenant_refs::Refs;
+
+/// How many refs an import may set beside one scratch branch.
+const IMPORTED_REFS_LIMIT: usize = 65_535;
+
+const FIRST_HEAD: &[u8] = b"refs/heads/main";
+
+// HEAD, where it is not what a repository has at first.
+#[tactic(auto, unfolding(crate::specs::Export::head_items))]
+fn append_head(head: &[u8], out: &mut Vec<u8>) -> Result<(), Memory>
+    ensures written { OnOk result (out.new.items
+        ≡ out.old.items ++ items_text (head_items head.now)) }
+    ensures kept { take (length out.old.items) out.new.items ≡ out.old.items }
+{
+    if head == FIRST_HEAD {
+        Ok(())
+    } else {
+        append_line(b"option gitpool head ", head, out)
+    }
+}
+
+fn append_opening(refs: &Refs, out: &mut Vec<u8>) -> Result<(), Memory>
+    ensures written { OnOk result (out.new.items
+        ≡ out.old.items ++ items_text (opening_items refs.now)) }
+    ensures kept { take (length out.old.items) out.new.items ≡ out.old.items }
+{
+    append_line(b"feature force", b"", out)?;
+    append_head(refs.head(), out)
+}
+
+fn append_saving(out: &mut Vec<u8>) -> Result<(), Memory>
+    ensures written { OnOk result (out.new.items ≡ out.old.items ++ items_text saving_items) }
+    ensures kept { take (length out.old.items) out.new.items ≡ out.old.items }
+{
+    append_line(b"reset ", SCRATCH, out)?;
+    append_line(b"checkpoint", b"", out)
+}
+
+// Appends the text of an export: the objects that have a flag, and the refs.
+fn append_text<N: Naming>(
+    alloc: Global,
+    objects: &Objects<'_, N>,
+    refs: &Refs,
+    reached: &[bool],
+    ref_names: &[RefName],
+    out: &mut Vec<u8>,
+) -> Result<(), Memory>
+    ensures written { let r : Repository = record { objects = objects.now; refs = refs.now } in
+        AreObjects N.digest_of objects.now → reached.now ≡ reached_flags r
+        → ref_names.now ≡ tag_refs r
+        → OnOk result (out.new.items ≡ out.old.items ++ items_text (export_items r)) }
+    ensures kept { take (length out.old.items) out.new.items ≡ out.old.items }
+{
+    append_opening(refs, out)?;
+    append_objects(alloc, objects, reached, out)?;
+    append_saving(out)?;
+    append_removals(refs, ref_names, out)?;
+    append_refs(alloc, objects, refs, out)
+}
+
+// Whether an import may set these refs, and those of tags.
+fn are_few(refs: &Refs, ref_names: &[RefName]) -> bool
+    ensures { result ≡ nat_le (length (listed_refs refs.now) + length ref_names.now) 65535 }
+{
+    let tags = ref_names.len();
+    tags <= IMPORTED_REFS_LIMIT && refs.len() <= IMPORTED_REFS_LIMIT - tags
+}
+
+// Appends the export, or a piece of it where memory runs out.
+fn append_pieces<N: Naming>(
+    alloc: Global,
+    objects: &Objects<'_, N>,
+    refs: &Refs,
+    out: &mut Vec<u8>,
+) -> Result<(), Fault>
+    ensures exports { AreObjects N.digest_of objects.now
+        → Exports (record { objects = objects.now; refs = refs.now }) out.old.items out.new.items result }
+    ensures kept { take (length out.old.items) out.new.items ≡ out.old.items }
+{
+    let reached = reached(alloc, objects, refs)?;
+    let ref_names = tag_refs(alloc, objects, &reached)?;
+    if !are_few(refs, &ref_names) {
+        return Err(Fault::Limit);
+    }
+    append_text(alloc, objects, refs, &reached, &ref_names, out)?;
+    Ok(())
+}
+
+/// Appends what the refs reach, and the refs with HEAD, as a stream of git-fast-import(1).
+///
+/// `Fault::Limit` (25) where the refs and those of the reached tags are more than 65,535 together.
+/// Takes memory for a flag of each object and to read what is reached; `Fault::Memory` (90) where
+/// there is none. After a refusal `out` is unchanged. The text is the defined one where the objects
+/// are good (AreObjects of git_model).
+pub fn append_export<N: Naming>(
+    alloc: Global,
+    objects: &Objects<'_, N>,
+    refs: &Refs,
+    out: &mut Vec<u8>,
+) -> Result<(), Fault>
+    ensures exports { AreObjects N.digest_of objects.now
+        → Exports (record { objects = objects.now; refs = refs.now }) out.old.items out.new.items result }
+    ensures same { OnErr result (out.new.items ≡ out.old.items) }
+    ensures kept { take (length out.old.items) out.new.items ≡ out.old.items }
+{
+    let start = out.len();
+    let exported = append_pieces(alloc, objects, refs, out);
+    if exported.is_err() {
+        out.truncate(start);
+    }
+    exported
+}

@@ -1,0 +1,23 @@
+//! A repository as one stream of git-fast-import(1): git-fast-export(1).
+//!
+//! What the refs reach is written in the order of the repository, so that what an object refers to
+//! stands before it; then the refs. An object's mark is its place, counted from 1.
+#![tactic(auto)]
+
+mod commit_text;
+mod export;
+mod fault;
+mod file_text;
+mod item_text;
+pub mod laws;
+mod mark_text;
+mod marking;
+mod object_text;
+mod reached;
+mod ref_text;
+mod referring;
+mod tag_refs;
+mod tag_text;
+
+pub use export::append_export;
+pub use fault::Fault;

@@ -1,0 +1,28 @@
+//! Flags of objects by their places.
+
+ghost use Rattle.std.specs.Prelude.{◌≡◌, [], ◌∷◌, length};
+ghost use Rattle.export_text.specs.Marking.{marked};
+
+use git_objects::{Name, Naming};
+use objects_in_sight::Objects;
+
+/// Sets the flag of the object of this name, if there is one. Takes no memory.
+pub fn mark<N: Naming>(objects: &Objects<'_, N>, id: &Name, flags: &mut [bool])
+    requires size { length flags.old ≡ length objects.now }
+    ensures { flags.new ≡ marked objects.now flags.old (id.now ∷ []) }
+{
+    match objects.place(id) {
+        Some(place) => flags[place] = true,
+        None => {}
+    }
+}
+
+/// Sets the flags of the objects of these names. Takes no memory.
+pub fn mark_all<N: Naming>(objects: &Objects<'_, N>, ids: &[Name], flags: &mut [bool])
+    requires size { length flags.old ≡ length objects.now }
+    ensures { flags.new ≡ marked objects.now flags.old ids.now }
+{
+    for id in ids {
+        mark(objects, id, flags);
+    }
+}

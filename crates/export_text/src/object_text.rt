@@ -1,0 +1,97 @@
+//! Objects in a stream, each with its mark.
+
+ghost use Rattle.std.specs.Prelude.{◌≡◌, ◌++◌, ◌<◌, ℕ, All, length, take, OnOk};
+ghost use Rattle.git_model.specs.GoodRepository.{AreObjects, IsValid, StandsBefore};
+ghost use Rattle.git_model.specs.References.{object_at, references_of};
+ghost use Rattle.git_model.specs.RefStore.{RefStore};
+ghost use Rattle.git_model.specs.Repository.{Repository};
+ghost use Rattle.export_text.specs.ItemText.{items_text};
+ghost use Rattle.export_text.specs.Export.{object_items};
+ghost use Rattle.export_text.specs.ExportItems.{blob_items, items_of, items_of_object};
+ghost use Rattle.export_text.specs.Marking.{reached_flags};
+
+use crate::commit_text::append_commit;
+use crate::item_text::{append_data, append_line};
+use crate::mark_text::append_marked;
+use crate::tag_text::append_tag;
+use git_objects::{Kind, Memory, Name, Naming};
+use objects_in_sight::Objects;
+use std::alloc::Global;
+
+fn append_blob<N: Naming>(
+    objects: &Objects<'_, N>,
+    id: &Name,
+    contents: &[u8],
+    out: &mut Vec<u8>,
+) -> Result<(), Memory>
+    ensures written { OnOk result (out.new.items
+        ≡ out.old.items ++ items_text (blob_items objects.now id.now contents.now)) }
+    ensures kept { take (length out.old.items) out.new.items ≡ out.old.items }
+{
+    append_line(b"blob", b"", out)?;
+    append_marked(objects, b"mark ", id, out)?;
+    append_data(contents, out)
+}
+
+// Appends the object of this kind with these contents. Trees are told by their commits.
+fn append_content<N: Naming>(
+    alloc: Global,
+    objects: &Objects<'_, N>,
+    id: Name,
+    kind: Kind,
+    contents: &[u8],
+    out: &mut Vec<u8>,
+) -> Result<(), Memory>
+    ensures written { (place : ℕ) → AreObjects N.digest_of objects.now
+        → IsValid objects.now kind contents.now
+        → All (StandsBefore objects.now place) (references_of kind contents.now)
+        → OnOk result (out.new.items
+        ≡ out.old.items ++ items_text (items_of objects.now id kind contents.now)) }
+    ensures kept { take (length out.old.items) out.new.items ≡ out.old.items }
+{
+    match kind {
+        Kind::Blob => append_blob(objects, &id, contents, out),
+        Kind::Tree => Ok(()),
+        Kind::Commit => append_commit(alloc, objects, &id, contents, out),
+        Kind::Tag => append_tag(alloc, objects, Some(id), contents, out),
+    }
+}
+
+// Appends the object at a place.
+fn append_object<N: Naming>(
+    alloc: Global,
+    objects: &Objects<'_, N>,
+    place: usize,
+    out: &mut Vec<u8>,
+) -> Result<(), Memory>
+    ensures written { AreObjects N.digest_of objects.now → place < length objects.now
+        → OnOk result (out.new.items ≡ out.old.items
+        ++ items_text (items_of_object objects.now (object_at place objects.now))) }
+    ensures kept { take (length out.old.items) out.new.items ≡ out.old.items }
+{
+    let Some(found) = objects.at(place) else {
+        return Ok(());
+    };
+    append_content(alloc, objects, found.0, found.1, found.2, out)
+}
+
+/// Appends the objects that have a flag, in their order; as `append_parts` after `Memory` (90).
+/// There is a flag for each object, the oldest object first.
+pub fn append_objects<N: Naming>(
+    alloc: Global,
+    objects: &Objects<'_, N>,
+    reached: &[bool],
+    out: &mut Vec<u8>,
+) -> Result<(), Memory>
+    ensures written { (refs : RefStore) → let r : Repository = record { objects = objects.now; refs = refs } in
+        AreObjects N.digest_of objects.now → reached.now ≡ reached_flags r
+        → OnOk result (out.new.items ≡ out.old.items ++ items_text (object_items r)) }
+    ensures kept { take (length out.old.items) out.new.items ≡ out.old.items }
+{
+    for (place, is_reached) in reached.iter().enumerate() {
+        if *is_reached {
+            append_object(alloc, objects, place, out)?;
+        }
+    }
+    Ok(())
+}
