@@ -12,7 +12,7 @@ pub const FRAMES: &[u8] =
 
 /// The answers to these: three of 17 bytes, and one of 17 and 11.
 pub const ANSWERS: &[u8] =
-    b"\0\0\0\0\0\0\0\0\0\0\0\0\0\0\0\0\0\0\0\0\0\0\0\0\0\0\0\0\0\0\0\0\0\x0bprogress x\n\x01\0\0\0\0\0\0\0\x28\0\0\0\0\0\0\0\0\0\0\0\0\0\0\0\0\0\0\0\0\0\0\0\0\0";
+    b"\0\0\0\0\0\0\0\0\0\0\0\0\0\0\0\0\0\0\0\0\0\0\0\0\0\0\0\0\0\0\0\0\0\x0bprogress x\n\0\0\0\0\0\0\0\0\0\0\0\0\0\0\0\0\0\0\0\0\0\0\0\0\0\0\0\0\0\0\0\0\0\0";
 
 /// How many bytes the answers to the first bytes of the frames have.
 pub fn answered(given: usize) -> usize {

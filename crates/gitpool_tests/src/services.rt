@@ -1,6 +1,7 @@
 //! Streams of several tenants over one pool.
 
 mod cases;
+mod queries;
 mod turn;
 
 use cases::{BAD_NAMES, BY_NAME, CASES, TOLD, TOLD_STEPS, steps_of};
@@ -21,6 +22,14 @@ const SHOW_HELLO: &[u8] = b"cat-blob ce013625030ba8dba906f756967f9e9ca394464a\n"
 const HELLO_SHOWN: &[u8] = b"ce013625030ba8dba906f756967f9e9ca394464a blob 6\nhello\n\n";
 
 const HELLO_MISSING: &[u8] = b"ce013625030ba8dba906f756967f9e9ca394464a missing\n";
+
+// A commit without files, and its name.
+const FIRST: &[u8] = b"commit refs/heads/m\ncommitter A <a@b> 0 +0000\ndata 2\nx\n";
+
+const FIRST_NAME: &[u8] = b"7b8051db3dcc0fcfd006919cfa7376ddbd7bdc1a\n";
+
+// Prints what the ref holds, and is refused where it is not there (16).
+const SHOW_M: &[u8] = b"alias\nmark :1\nto refs/heads/m^0\nget-mark :1\n";
 
 const ASK: Step<'static> = Step::Ask {
     tenant: b"t",
@@ -171,7 +180,7 @@ fn feed_in_two(
     out: &mut Vec<u8>,
 ) -> Result<(), Memory> {
     feed_well(service, first, out)?;
-    if tells(alloc, service, ASK, 40, b"")? {
+    if tells(alloc, service, ASK, 0, b"")? {
         feed_well(service, later, out)?;
     }
     Ok(())
@@ -289,53 +298,113 @@ fn has_a_reply_for_each_step(rt: HostRuntime) -> Result<(), Fail> {
     Ok(())
 }
 
-// The replies to the first so many of the five items of `FIVE`.
-fn replies_to(items: u64) -> &'static [u8] {
-    match items {
-        0 => b"",
-        1 => b"progress a\n",
-        2 => b"progress a\nprogress bb\n",
-        3 => b"progress a\nprogress bb\nprogress ccc\n",
-        4 => b"progress a\nprogress bb\nprogress ccc\nprogress dddd\n",
-        _ => FIVE,
+// A Feed of five items, what is printed for the first so many of them, and how many leave the ref
+// `refs/heads/m`.
+struct Stop {
+    bytes: &'static [u8],
+    printed: [&'static [u8]; 6],
+    saves: u64,
+}
+
+const LINES: &Stop = &Stop {
+    bytes: b"progress a\nprogress bb\nprogress ccc\nprogress dddd\nprogress eeeee\n",
+    printed: [
+        b"",
+        b"progress a\n",
+        b"progress a\nprogress bb\n",
+        b"progress a\nprogress bb\nprogress ccc\n",
+        b"progress a\nprogress bb\nprogress ccc\nprogress dddd\n",
+        b"progress a\nprogress bb\nprogress ccc\nprogress dddd\nprogress eeeee\n",
+    ],
+    saves: 6,
+};
+
+const SAVED_COMMIT: &Stop = &Stop {
+    bytes: b"commit refs/heads/m\ncommitter A <a@b> 0 +0000\ndata 2\nx\ncheckpoint\nprogress x\n",
+    printed: [b"", b"", b"", b"", b"", b"progress x\n"],
+    saves: 4,
+};
+
+fn printed_by(stop: &Stop, items: u64) -> &'static [u8] {
+    match stop.printed.get(items as usize) {
+        Some(printed) => printed,
+        None => b"",
     }
 }
 
-const FIVE: &[u8] = b"progress a\nprogress bb\nprogress ccc\nprogress dddd\nprogress eeeee\n";
+// Whether a stream that stopped after so many items is as dead as it says.
+fn ends_dead(alloc: Global, service: &mut Service<Sha1Naming>, code: u16) -> Result<bool, Memory> {
+    Ok(
+        tells(alloc, service, feed(b"\n"), code, b"")?
+            && tells(alloc, service, Step::End { tenant: b"t" }, code, b"")?,
+    )
+}
 
-// Whether a Feed of five items prints those before its stop, and the stream is as dead as it says.
-fn stops_well(alloc: Global, service: &mut Service<Sha1Naming>) -> Result<bool, Memory> {
+// Whether the ref is there in a later stream, and holds the first commit.
+fn shows_m(
+    alloc: Global,
+    service: &mut Service<Sha1Naming>,
+    is_there: bool,
+) -> Result<bool, Memory> {
+    let (code, printed) = if is_there {
+        (0, FIRST_NAME)
+    } else {
+        (16, b"".as_slice())
+    };
+    Ok(
+        tells(alloc, service, Step::Open { tenant: b"t" }, 0, b"")?
+            && tells(alloc, service, feed(SHOW_M), code, printed)?,
+    )
+}
+
+// Whether a Feed of five items prints those before its stop, and leaves what they saved.
+fn stops_well(
+    alloc: Global,
+    service: &mut Service<Sha1Naming>,
+    stop: &Stop,
+) -> Result<bool, Memory> {
     let mut out = Vec::new(alloc);
-    let (items, code) = match service.step(feed(FIVE), &mut out) {
+    let (items, code) = match service.step(feed(stop.bytes), &mut out) {
         Answer::Memory(items) => (items, 90),
         Answer::Ok => (5, 0),
         Answer::Fault(_) => return Ok(false),
     };
     Ok(
-        out.as_slice() == replies_to(items)
-            && tells(alloc, service, feed(b"\n"), code, b"")?
-            && tells(alloc, service, Step::End { tenant: b"t" }, code, b"")?,
+        out.as_slice() == printed_by(stop, items)
+            && ends_dead(alloc, service, code)?
+            && shows_m(alloc, service, items >= stop.saves)?,
     )
 }
 
 // The same after an Open, which may stop too and then leaves no tenant.
-fn opens_and_stops_well(alloc: Global, service: &mut Service<Sha1Naming>) -> Result<bool, Memory> {
+fn opens_and_stops_well(
+    alloc: Global,
+    service: &mut Service<Sha1Naming>,
+    stop: &Stop,
+) -> Result<bool, Memory> {
     let mut out = Vec::new(alloc);
     match service.step(Step::Open { tenant: b"t" }, &mut out) {
-        Answer::Ok => stops_well(alloc, service),
+        Answer::Ok => stops_well(alloc, service, stop),
         told => Ok(told == Answer::Memory(0) && service.view(b"t").is_none()),
     }
 }
 
-fn stops_as_alone(alloc: Global) -> Result<bool, Memory> {
+fn stops_as_alone(alloc: Global, stop: &Stop) -> Result<bool, Memory> {
     let mut service = Service::new(alloc, Sha1Naming);
-    opens_and_stops_well(alloc, &mut service)
+    opens_and_stops_well(alloc, &mut service, stop)
 }
 
 // With the Nth allocation refused, for each N, the answers are those of a repository of its own
 // given the same stop.
 #[test]
 fn stops_after_whole_items(rt: HostRuntime) -> Result<(), Fail> {
-    assert!(rt; stops_as_alone(rt.alloc())?);
+    assert!(rt; stops_as_alone(rt.alloc(), LINES)?);
+    Ok(())
+}
+
+// A stop after the checkpoint leaves the ref, and one before it leaves none.
+#[test]
+fn stops_after_a_checkpoint_or_before_it(rt: HostRuntime) -> Result<(), Fail> {
+    assert!(rt; stops_as_alone(rt.alloc(), SAVED_COMMIT)?);
     Ok(())
 }

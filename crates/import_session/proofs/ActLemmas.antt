@@ -1,5 +1,7 @@
--- What a printed line leaves of a workspace.
-use Rattle.std.proofs.Common.{◌≡◌, ◌≢◌, ◌⊎◌, inl, inr, ℕ, List, Result, Ok, Err, refl, sym, ap, subst, ◌∙◌, append_assoc, codes, Bool, true, false}
+-- What a printed line leaves of a workspace, and what an item does by its text, by the end of the
+-- open commit and by its act.
+use Rattle.std.proofs.Common.{◌≡◌, ◌≢◌, ◌⊎◌, inl, inr, ℕ, List, [], Result, Ok, Err, refl, sym, ap, subst, ◌∙◌, append_assoc, codes, Bool, false, append-nil, true}
+use Rattle.std.proofs.lemmas.Bool.{cond-true}
 use Rattle.import_session.specs.declared.fault.Fault.{Fault}
 use Rattle.import_session.specs.declared.fault.Fault.TheVariants as fault
 use Rattle.stream_lex.specs.Items.{Item}
@@ -8,17 +10,17 @@ use Rattle.stream_grammar.specs.declared.act.Act.TheVariants as lent
 use Rattle.stream_grammar.specs.declared.fault.Fault.{Fault as TextFault}
 use Rattle.stream_grammar.specs.declared.act.Done.{Done as LentDone}
 use Rattle.stream_grammar.specs.declared.fault.Fault.TheVariants as text_fault
-use Rattle.stream_grammar.specs.Acts.{Act}
-use Rattle.stream_grammar.specs.Shown.{Answers, act_shown}
+use Rattle.stream_grammar.specs.Shown.{Answers, act_shown, done_shown}
 use Rattle.stream_grammar.specs.Commands.{Done, Parsing}
 use Rattle.import_session.specs.Faults.{text_first, and_then}
-use Rattle.import_session.specs.Known.{Gives, known}
 use Rattle.import_session.specs.Workspace.{Workspace, Effect}
 use Rattle.import_session.specs.Checkpoints.{checkpoint}
+use Rattle.import_session.specs.Commits.{closed_where}
 use Rattle.import_session.specs.Stream.{Running, Step, step, taken, is_finish}
-use Rattle.import_session.specs.Meaning.{after_act, prints}
-use Rattle.import_session.specs.Printing.{Shows}
-use Rattle.import_session.specs.Session.{CarriesOut, Takes}
+use Rattle.import_session.specs.Meaning.{after_act}
+use Rattle.import_session.specs.Printing.{Shows, prints}
+use Rattle.import_session.specs.Session.{CarriesOut, Reads, Takes}
+use Rattle.import_session.proofs.CommitLemmas.{carries_refused, memory_or}
 
 -- the step that an effect makes
 abbrev pub stepped : Effect → Parsing → Bool → Step
@@ -62,79 +64,128 @@ pub step_running : (digest : List ℕ → List ℕ) (now : Running) (item : Item
 unfolding step
 step_running digest now item running = rw running refl
 
--- want of memory may stand in place of any answer
-memory_taken : (r : Result Step Fault) (next : Running) (out out' : List ℕ) (e : Fault)
-    → e ≡ fault.Memory
-    → Takes r next out out' (Err e)
-memory_taken (Ok s) next out out' e memory = memory
-memory_taken (Err refusal) next out out' e memory = λ other. absurd (other memory)
+-- after `done` an item is passed over
+pub step_over : (digest : List ℕ → List ℕ) (now : Running) (item : Item) (next : Running)
+    (out : List ℕ) → now.is_done ≡ true → now ≡ next
+    → Takes (step digest now item) next out out (Ok tt)
+unfolding step
+step_over digest now item next out done same =
+    let over : Result Step Fault = Ok (record { running = now; reply = [] }) in
+    subst (λ (r : Result Step Fault). Takes r next out out (Ok tt))
+    (sym (cond-true now.is_done over (taken digest now item) done)) (same, sym (append-nil out))
+
+-- ---- what comes first, and what comes after it
+
+pub first_refused : {A : Type 0} (first : Result A Fault) (later : A → Result Effect Fault)
+    (new : Workspace) (out out' : List ℕ) (e : Fault)
+    → (e ≢ fault.Memory → first ≡ Err e)
+    → CarriesOut (and_then first later) new out out' (Err e)
+first_refused first later new out out' e refused =
+    carries_refused (and_then first later) new out out' e (λ other. rw (refused other) refl)
+
+pub first_then : {A : Type 0} (first : Result A Fault) (value : A)
+    (later : A → Result Effect Fault) (new : Workspace) (out out' : List ℕ)
+    (result : Result Unit Fault)
+    → first ≡ Ok value → CarriesOut (later value) new out out' result
+    → CarriesOut (and_then first later) new out out' result
+first_then first value later new out out' result is carried = rw is carried
+
+-- ---- items
 
 -- an item that gave no act
+takes_refused : (r : Result Step Fault) (next : Running) (out out' : List ℕ) (e : Fault)
+    → (e ≢ fault.Memory → r ≡ Err e) → Takes r next out out' (Err e)
+takes_refused (Ok step) next out out' e refused = by_memory (memory_or e)
+  where
+    by_memory : (e ≡ fault.Memory) ⊎ (e ≢ fault.Memory) → e ≡ fault.Memory
+    by_memory (inl memory) = memory
+    by_memory (inr other) = let never = refused other in cc
+takes_refused (Err refusal) next out out' e refused = λ other. let is = refused other in cc
+
 pub no_act : (k : Result Done TextFault) (later : Done → Result Step Fault) (next : Running)
     (out out' : List ℕ) (e : Fault)
-    → Gives (Err e) k → Takes (and_then (text_first k) later) next out out' (Err e)
-no_act (Ok done) later next out out' e memory = memory_taken (later done) next out out' e memory
-no_act (Err refusal) later next out out' e refused = refused
+    → Reads (Err e) k → Takes (and_then (text_first k) later) next out out' (Err e)
+no_act k later next out out' e reads =
+    takes_refused (and_then (text_first k) later) next out out' e (λ other. rw (reads other) refl)
+
+-- what an item does after its text
+abbrev pub done_effect : (List ℕ → List ℕ) → Workspace → Done → Result Effect Fault
+done_effect digest w done =
+    and_then (closed_where digest done.ends_commit w) (after_act digest done.act)
+
+abbrev pub done_step : (List ℕ → List ℕ) → Workspace → Parsing → Done → Result Step Fault
+done_step digest w p done =
+    and_then (closed_where digest done.ends_commit w) (λ workspace.
+    and_then (after_act digest done.act workspace) (λ effect.
+    Ok (stepped effect p (is_finish done.act))))
+
+-- first the commit ends and its act is carried out, and then comes the step
+steps : (closed : Result Workspace Fault) (later : Workspace → Result Effect Fault)
+    (more : Effect → Result Step Fault)
+    → and_then (and_then closed later) more ≡ and_then closed (λ w. and_then (later w) more)
+steps (Ok w) later more = refl
+steps (Err e) later more = refl
 
 -- an act that was refused
-refused_effect : (r : Result Effect Fault) (p : Parsing) (b : Bool) (new : Workspace)
+effect_refused : (r : Result Effect Fault) (p : Parsing) (b : Bool) (new : Workspace)
     (next : Running) (out out' : List ℕ) (e : Fault)
     → CarriesOut r new out out' (Err e) → Takes (and_then r (λ effect. Ok (stepped effect p b)))
     next out out' (Err e)
-refused_effect (Ok effect) p b new next out out' e carried = carried
-refused_effect (Err refusal) p b new next out out' e carried = carried
+effect_refused (Ok effect) p b new next out out' e carried = carried
+effect_refused (Err refusal) p b new next out out' e carried = carried
 
-pub act_refused : (digest : List ℕ → List ℕ) (w : Workspace) (p : Parsing)
-    (k : Result Done TextFault) (act : LentAct) (new : Workspace)
-    (next : Running) (out out' : List ℕ) (e : Fault)
-    → Gives (Ok act) k → CarriesOut (after_act digest (act_shown act) w) new out out' (Err e)
-    → Takes (and_then (text_first k) (λ done. and_then (after_act digest done.act w)
-    (λ effect. Ok (stepped effect p (is_finish done.act)))))
-    next out out' (Err e)
-act_refused digest w p (Ok done) act new next out out' e given carried =
-    subst (λ (a : Act). Takes (and_then (after_act digest a w)
-    (λ effect. Ok (stepped effect p (is_finish a)))) next out out' (Err e))
-    (sym given) (refused_effect (after_act digest (act_shown act) w) p
-    (is_finish (act_shown act)) new next out out' e carried)
-act_refused digest w p (Err refusal) act new next out out' e given carried = absurd given
+pub item_refused : (digest : List ℕ → List ℕ) (w : Workspace) (p : Parsing)
+    (k : Result Done TextFault) (done : LentDone) (new : Workspace) (next : Running)
+    (out out' : List ℕ) (e : Fault)
+    → Reads (Ok done) k
+    → CarriesOut (done_effect digest w (done_shown done)) new out out' (Err e)
+    → Takes (and_then (text_first k) (done_step digest w p)) next out out' (Err e)
+item_refused digest w p k done new next out out' e reads carried =
+    rw (
+      reads,
+      ← steps (closed_where digest done.ends_commit w)
+          (after_act digest (act_shown done.act))
+          (λ effect. Ok (stepped effect p (is_finish (act_shown done.act)))),
+    )
+    (effect_refused (done_effect digest w (done_shown done)) p
+    (is_finish (act_shown done.act)) new next out out' e carried)
 
 -- an act that was carried out
-done_effect : (r : Result Effect Fault) (p : Parsing) (b : Bool) (new : Workspace)
+effect_taken : (r : Result Effect Fault) (p : Parsing) (b : Bool) (new : Workspace)
     (out out' : List ℕ) (u : Unit {0})
     → CarriesOut r new out out' (Ok u)
     → Takes (and_then r (λ effect. Ok (stepped effect p b)))
     (record { workspace = new; parsing = p; is_done = b }) out out' (Ok u)
-done_effect (Ok effect) p b new out out' u carried = (
+effect_taken (Ok effect) p b new out out' u carried = (
   ap (λ (w : Workspace). record { workspace = w; parsing = p; is_done = b }) carried.0,
   carried.1,
 )
-done_effect (Err refusal) p b new out out' u carried = absurd carried
+effect_taken (Err refusal) p b new out out' u carried = absurd carried
 
-pub act_done : (digest : List ℕ → List ℕ) (w : Workspace) (p : Parsing) (k : Result Done TextFault)
-    (act : LentAct) (new : Workspace)
+pub item_taken : (digest : List ℕ → List ℕ) (w : Workspace) (p : Parsing)
+    (k : Result Done TextFault) (done : LentDone) (new : Workspace)
     (out out' : List ℕ) (u : Unit {0})
-    → Gives (Ok act) k → CarriesOut (after_act digest (act_shown act) w) new out out' (Ok u)
-    → Takes (and_then (text_first k) (λ done. and_then (after_act digest done.act w)
-    (λ effect. Ok (stepped effect p (is_finish done.act)))))
-    (record { workspace = new; parsing = p; is_done = is_finish (act_shown act) }) out out' (Ok u)
-act_done digest w p (Ok done) act new out out' u given carried =
-    subst (λ (a : Act). Takes (and_then (after_act digest a w)
-    (λ effect. Ok (stepped effect p (is_finish a))))
-    (record { workspace = new; parsing = p; is_done = is_finish (act_shown act) }) out out' (Ok u))
-    (sym given) (done_effect (after_act digest (act_shown act) w) p
-    (is_finish (act_shown act)) new out out' u carried)
-act_done digest w p (Err refusal) act new out out' u given carried = absurd given
+    → Reads (Ok done) k
+    → CarriesOut (done_effect digest w (done_shown done)) new out out' (Ok u)
+    → Takes (and_then (text_first k) (done_step digest w p))
+    (record { workspace = new; parsing = p; is_done = is_finish (act_shown done.act) })
+    out out' (Ok u)
+item_taken digest w p k done new out out' u reads carried =
+    rw (
+      reads,
+      ← steps (closed_where digest done.ends_commit w)
+          (after_act digest (act_shown done.act))
+          (λ effect. Ok (stepped effect p (is_finish (act_shown done.act)))),
+    )
+    (effect_taken (done_effect digest w (done_shown done)) p
+    (is_finish (act_shown done.act)) new out out' u carried)
 
--- an act was given, so memory did not run out
-gives_unknown : (act : LentAct) (b : Bool) → Gives (Ok act)
-    (known b (Err text_fault.UnknownCommand)) → ⊥
-gives_unknown act true gives = gives
-gives_unknown act false gives = gives
-
-pub no_memory : (given : Result LentDone TextFault) (act : LentAct) (b : Bool)
-    → ((by : Result Done TextFault) → Answers given by → Gives (Ok act) (known b by))
+-- what was given was no want of memory
+pub no_memory : (given : Result LentDone TextFault) (done : LentDone)
+    → ((by : Result Done TextFault) → Answers given by → Reads (Ok done) by)
     → given ≢ Err text_fault.Memory
-no_memory given act b gives memory =
-    gives_unknown act b (gives (Err text_fault.UnknownCommand)
-    (subst (λ (g : Result LentDone TextFault). Answers g (Err text_fault.UnknownCommand))
-    (sym memory) (λ other. absurd (other refl))))
+no_memory given done reads memory =
+    let refused : Err text_fault.Memory ≡ Ok (done_shown done) = reads (Err text_fault.Memory)
+    (subst (λ (g : Result LentDone TextFault). Answers g (Err text_fault.Memory))
+    (sym memory) (λ other. refl)) in
+    cc

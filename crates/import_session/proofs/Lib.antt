@@ -1,7 +1,12 @@
 mod ActLemmas
 mod BranchLemmas
 mod CheckpointLemmas
+mod CommittedLemmas
+mod LastLemmas
+mod TagLemmas
+mod CommitLemmas
 pub mod LentLemmas
 pub mod SoundObjects
-mod SoundCommits
+pub mod SoundCommits
+pub mod SoundChanges
 pub mod SoundLemmas

@@ -1,6 +1,10 @@
 -- What a commit-ish is peeled to is a commit of good objects.
-use Rattle.std.proofs.Common.{◌≡◌, ℕ, Bool, true, List, Option, None, Some, length, refl}
-use Rattle.std.specs.Prelude.{IfOk}
+use Rattle.std.proofs.Common.{◌≡◌, ℕ, Bool, true, List, [], ◌∷◌, Option, None, Some, length, refl, All}
+use Rattle.std.specs.Prelude.{IfOk, IfSome}
+use Rattle.std.specs.Map.{lookup}
+use Rattle.std.specs.Option.{option_and_then}
+use Rattle.std.specs.Str.{bytes_eq}
+use Rattle.std.proofs.lemmas.List.Elements.{All-head, All-tail}
 use Rattle.git_model.specs.declared.kind.Kind.TheVariants as kind
 use Rattle.git_model.specs.GoodRepository.{AreObjects}
 use Rattle.git_model.specs.Peeling.{ComesFirstTo, at_once, later, is_of, next_to, peeled_to}
@@ -12,9 +16,14 @@ use Rattle.revisions.specs.declared.fault.Fault.TheVariants as revision_fault
 use Rattle.revisions.specs.Faults.{or_fault}
 use Rattle.revisions.specs.Resolution.{peeled}
 use Rattle.stream_grammar.specs.Names.{CommitIsh}
+use Rattle.import_session.specs.declared.branches.Tip.{Tip}
+use Rattle.import_session.specs.declared.branches.Tip.TheVariants.{Unborn, Deleted, At}
 use Rattle.import_session.specs.Faults.{resolved_or}
 use Rattle.import_session.specs.Workspace.{Workspace}
+use Rattle.import_session.specs.Branches.{commit_at, tip_of}
 use Rattle.import_session.specs.CommitIshes.{commit_in, is_branch, named_in, start_in}
+use Rattle.import_session.specs.Commits.{tip_commit, IsTipCommit}
+use Rattle.import_session.specs.Sound.{IsSound, IsTip}
 use Rattle.import_session.proofs.SoundObjects.{by_test, then_any}
 
 -- a commit is there
@@ -60,3 +69,26 @@ start_good digest workspace good ref from =
     by_test (is_branch workspace ref from)
     (λ is. rw is tt)
     (λ other. rw other (commit_good digest workspace good from))
+
+-- ---- the commit that a branch stands at
+
+lookup_has : {V : Type 0} (P : V → Type 0) (test : List ℕ → Bool) (entries : List (List ℕ × V))
+    → All (λ (e : List ℕ × V). P e.1) entries → IfSome (lookup test entries) P
+lookup_has P test [] held = tt
+lookup_has P test (e ∷ entries) held =
+    by_test (test e.0)
+    (λ same. rw same (All-head (λ e. P e.1) e entries held))
+    (λ other. rw other (lookup_has P test entries (All-tail (λ e. P e.1) e entries held)))
+
+tip_is : (os : List Object) (tip : Option Tip) → IfSome tip (IsTip os)
+    → IfSome (option_and_then commit_at tip) (IsCommitOf os)
+tip_is os None is = tt
+tip_is os (Some Unborn) is = tt
+tip_is os (Some Deleted) is = tt
+tip_is os (Some (At id)) is = is
+
+pub tip_commit_is : (digest : List ℕ → List ℕ) (workspace : Workspace) → IsSound digest workspace
+    → (ref : List ℕ) → IsTipCommit workspace.objects (tip_commit workspace.branches ref)
+tip_commit_is digest workspace sound ref =
+    tip_is workspace.objects (tip_of workspace.branches ref)
+    (lookup_has (IsTip workspace.objects) (bytes_eq ref) workspace.branches sound.tips)

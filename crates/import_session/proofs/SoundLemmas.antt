@@ -25,20 +25,18 @@ use Rattle.git_model.proofs.Texts.{begins_test}
 use Rattle.git_names.specs.Naming.{AnswersNames}
 use Rattle.stream_lex.specs.Items.{Item}
 use Rattle.stream_grammar.specs.declared.fault.Fault.{Fault as TextFault}
-use Rattle.stream_grammar.specs.declared.fault.Fault.TheVariants as text_fault
 use Rattle.stream_grammar.specs.declared.feature.Feature.{Feature}
 use Rattle.stream_grammar.specs.declared.feature.Feature.TheVariants as feature
-use Rattle.stream_grammar.specs.Acts.{Act, Wait, StoreBlob, BeginTag, TagTarget, Tagger, StoreTag, Reset, ResetTo, SetMark, Checkpoint, Progress, ShowMark, ShowObject, ShowEntry, Finish, Require, SetHead}
+use Rattle.stream_grammar.specs.Acts.{Act, Wait, BeginCommit, Author, Committer, Encoding, OpenCommit, ModifyInline, PutContents, ShowBranchEntry, StoreBlob, BeginTag, TagTarget, Tagger, StoreTag, Reset, ResetTo, SetMark, Checkpoint, Progress, ShowMark, ShowObject, Finish, Require, SetHead, ShowEntry}
 use Rattle.stream_grammar.specs.Commands.{Done, done_by, end_of}
 use Rattle.stream_grammar.specs.Names.{CommitIsh}
-use Rattle.stream_grammar.specs.Parts.{part_of}
 use Rattle.stream_grammar.specs.WellFormed.{NamesShortRef, IsWellFormed}
 use Rattle.stream_grammar.proofs.WellFormedActs.{well_formed}
 use Rattle.import_session.specs.declared.branches.Tip.{Tip}
 use Rattle.import_session.specs.declared.branches.Tip.TheVariants.{Unborn, Deleted, At}
 use Rattle.import_session.specs.declared.fault.Fault.{Fault}
 use Rattle.import_session.specs.declared.said.Said.{Said}
-use Rattle.import_session.specs.Faults.{text_first}
+use Rattle.import_session.specs.Faults.{and_then, changed_or, text_first}
 use Rattle.import_session.specs.Workspace.{Branches, Marks, PendingTags, Workspace, Effect, opened, quiet, said_of}
 use Rattle.import_session.specs.Marks.{marked_name, referred_name, room_for, with_mark}
 use Rattle.import_session.specs.Branches.{branch_set, has_branch_room, head_in, ref_meant, with_branch}
@@ -47,13 +45,27 @@ use Rattle.import_session.specs.Resets.{alias_set, branch_placed, branch_reset, 
 use Rattle.import_session.specs.Storing.{with_content}
 use Rattle.import_session.specs.Tags.{is_tag_ref, room_for_tag, said_more, tag_content, tag_made, tag_stored, tagged, tagged_kind, tagger_said, target_said}
 use Rattle.import_session.specs.Checkpoints.{by_branches, by_head, by_tags, checkpoint, fit, moves, saved_by, saved_refs}
-use Rattle.import_session.specs.Known.{has_no_meaning, known}
-use Rattle.import_session.specs.Meaning.{after_act, shown_object, blob_stored, feature_set, head_set, placed_by, prints, set_by, shown_by}
-use Rattle.import_session.specs.Showing.{entry_shown}
-use Rattle.import_session.specs.Sound.{IsSound, IsSoundRepository, IsTip, IsWellSaid}
+use Rattle.import_session.specs.Meaning.{after_act, blob_stored, feature_set, head_set, placed_by, said_of_commit, said_of_tag, set_by, shown_by, shown_object, stored_or_shown, within_commit}
+use Rattle.git_paths.specs.Paths.{IsPath}
+use Rattle.tree_build.specs.FileMap.{Path}
+use Rattle.open_commits.specs.declared.fault.Fault.{Fault as CommitFault}
+use Rattle.open_commits.specs.Changes.{contents_put}
+use Rattle.open_commits.specs.Ends.{Closed, closed}
+use Rattle.open_commits.specs.GoodCommits.{GrowGood, HoldsCommit, IsGoodHeader}
+use Rattle.open_commits.specs.OpenCommit.{Header, OpenCommit as Opened, begun}
+use Rattle.open_commits.specs.Showing.{Shown, entry_shown}
+use Rattle.open_commits.proofs.GoodCommits.{end_keeps as commit_end, entry_keeps}
+use Rattle.import_session.specs.declared.said.Inline.{Inline}
+use Rattle.import_session.specs.Changes.{branch_entry_shown, changed_by, commit_changed, contents_stored, entry_line}
+use Rattle.import_session.specs.CommitIshes.{ref_in}
+use Rattle.import_session.specs.Commits.{begun_from, closed_at, closed_where, commit_opened, header_said, open_closed, opened_with, tip_commit, tip_for}
+use Rattle.import_session.specs.Printing.{prints}
+use Rattle.import_session.proofs.SoundChanges.{LeavesOpen, begun_open, changed_open, contents_open, open_grown}
+use Rattle.import_session.specs.Sound.{IsOpen, IsSound, IsSoundRepository, IsTip, IsWellSaid}
+use Rattle.import_session.specs.Showing.{entry_shown as stored_entry_shown}
 use Rattle.import_session.specs.Stream.{Running, Step, commands_end, last_checkpoint, session_end, step, taken, unless_done_missing}
+use Rattle.import_session.proofs.SoundCommits.{IsCommitOf, commit_good, start_good, tip_commit_is}
 use Rattle.tenant_tables.proofs.StoredGood.{Grows, there}
-use Rattle.import_session.proofs.SoundCommits.{IsCommitOf, commit_good, start_good}
 use Rattle.import_session.proofs.SoundObjects.{IsStorable, Keeps, by_test, content_good, named_by, then_any, then_good}
 
 -- What an act leaves is sound.
@@ -75,6 +87,8 @@ new_is_sound digest repository good = record {
   marks = All-nil _;
   tips = All-nil _;
   said = tt;
+  commit = tt;
+  inline = tt;
 }
 
 pub checkpoint_is_sound : (digest : List ℕ → List ℕ) (workspace : Workspace)
@@ -138,6 +152,8 @@ blob_keeps digest names workspace sound mark bytes =
           (named_by digest names content);
       tips = tips_longer workspace.objects objects keeps.grows workspace.branches sound.tips;
       said = sound.said;
+      commit = open_grown workspace.objects objects keeps.grows workspace.commit sound.commit;
+      inline = sound.inline;
     }))
 
 -- ---- refs
@@ -177,10 +193,12 @@ with_said digest workspace said sound well = record {
   marks = sound.marks;
   tips = sound.tips;
   said = well;
+  commit = sound.commit;
+  inline = sound.inline;
 }
 
 newly_said : (ref : List ℕ) → IsShortRefName ref → IsWellSaid (said_of ref)
-newly_said ref name = record { ref = name; tagger = tt }
+newly_said ref name = record { ref = name; author = tt; committer = tt; encoding = tt; tagger = tt }
 
 -- ---- branches
 
@@ -195,6 +213,8 @@ branches_keep digest workspace branches said sound tips well = record {
   marks = sound.marks;
   tips = tips;
   said = well;
+  commit = sound.commit;
+  inline = sound.inline;
 }
 
 branch_keeps : (os : List Object) (branches : Branches) (ref : List ℕ) (tip : Tip)
@@ -258,6 +278,8 @@ alias_keeps digest workspace sound mark commit =
           (there digest workspace.objects sound.objects id kind.Commit stands).name;
       tips = sound.tips;
       said = sound.said;
+      commit = sound.commit;
+      inline = sound.inline;
     }))
 
 -- ---- tags
@@ -274,14 +296,26 @@ target_keeps : (digest : List ℕ → List ℕ) (workspace : Workspace) → IsSo
     → (target : CommitIsh) → IfOk (target_said target workspace) (LeavesSound digest)
 target_keeps digest workspace sound target =
     more_said digest workspace sound (λ said. record said { target = target }) workspace.said
-    sound.said (λ said well. record { ref = well.ref; tagger = well.tagger })
+    sound.said (λ said well. record {
+      ref = well.ref;
+      author = well.author;
+      committer = well.committer;
+      encoding = well.encoding;
+      tagger = well.tagger;
+    })
 
 tagger_keeps : (digest : List ℕ → List ℕ) (workspace : Workspace) → IsSound digest workspace
     → (ident : List ℕ) → IsWrittenIdent ident
     → IfOk (tagger_said ident workspace) (LeavesSound digest)
 tagger_keeps digest workspace sound ident written =
     more_said digest workspace sound (λ said. record said { tagger = Some ident }) workspace.said
-    sound.said (λ said well. record { ref = well.ref; tagger = written })
+    sound.said (λ said well. record {
+      ref = well.ref;
+      author = well.author;
+      committer = well.committer;
+      encoding = well.encoding;
+      tagger = written;
+    })
 
 -- what is tagged is there, and is no tree
 pub record IsTagged (os : List Object) (target : List ℕ) (target_kind : Kind) : Type 0 where
@@ -396,6 +430,8 @@ tag_keeps digest names workspace sound mark message (Some said) well =
               (named_by digest names content);
           tips = tips_longer workspace.objects objects keeps.grows workspace.branches sound.tips;
           said = tt;
+          commit = open_grown workspace.objects objects keeps.grows workspace.commit sound.commit;
+          inline = sound.inline;
         })
 
 -- ---- checkpoints
@@ -448,6 +484,8 @@ checkpoint_keeps digest workspace sound =
       marks = sound.marks;
       tips = sound.tips;
       said = sound.said;
+      commit = sound.commit;
+      inline = sound.inline;
     }))
     (λ many. rw many tt)
 
@@ -465,6 +503,8 @@ feature_keeps digest workspace sound feature.Done = switched
       marks = sound.marks;
       tips = sound.tips;
       said = sound.said;
+      commit = sound.commit;
+      inline = sound.inline;
     }
 feature_keeps digest workspace sound feature.Force = record {
   objects = sound.objects;
@@ -473,6 +513,8 @@ feature_keeps digest workspace sound feature.Force = record {
   marks = sound.marks;
   tips = sound.tips;
   said = sound.said;
+  commit = sound.commit;
+  inline = sound.inline;
 }
 feature_keeps digest workspace sound _ = sound
 
@@ -488,20 +530,137 @@ head_keeps digest workspace sound ref name =
       marks = sound.marks;
       tips = sound.tips;
       said = sound.said;
+      commit = sound.commit;
+      inline = sound.inline;
     }))
+
+-- the lines of a commit
+commit_lines : (digest : List ℕ → List ℕ) (workspace : Workspace) → IsSound digest workspace
+    → (act : Act) → IsWellFormed act → IfOk (said_of_commit act workspace) (LeavesSound digest)
+unfolding said_of_commit within_commit
+commit_lines digest workspace sound (BeginCommit ref) well =
+    with_said digest workspace (Some (said_of (ref_in workspace ref))) sound
+    (newly_said (ref_in workspace ref) (meant_named workspace digest sound ref well))
+commit_lines digest workspace sound (Author ident) well =
+    more_said digest workspace sound (λ said. record said { author = Some ident }) workspace.said
+    sound.said (λ said is. record {
+      ref = is.ref;
+      author = well;
+      committer = is.committer;
+      encoding = is.encoding;
+      tagger = is.tagger;
+    })
+commit_lines digest workspace sound (Committer ident) well =
+    more_said digest workspace sound (λ said. record said { committer = Some ident }) workspace.said
+    sound.said (λ said is. record {
+      ref = is.ref;
+      author = is.author;
+      committer = well;
+      encoding = is.encoding;
+      tagger = is.tagger;
+    })
+commit_lines digest workspace sound (Encoding encoding) well =
+    more_said digest workspace sound (λ said. record said { encoding = Some encoding })
+    workspace.said sound.said (λ said is. record {
+      ref = is.ref;
+      author = is.author;
+      committer = is.committer;
+      encoding = well;
+      tagger = is.tagger;
+    })
+commit_lines digest workspace sound (ModifyInline file_mode path) well = record {
+  objects = sound.objects;
+  saved_head = sound.saved_head;
+  next_head = sound.next_head;
+  marks = sound.marks;
+  tips = sound.tips;
+  said = sound.said;
+  commit = sound.commit;
+  inline = well.1.components;
+}
+commit_lines digest workspace sound act well =
+    by_commit act well workspace.commit sound.commit
+  where
+    by_commit : (act : Act) → IsWellFormed act → (commit : Option Opened)
+        → IfSome commit (IsOpen workspace.objects)
+        → IfOk (commit_changed act commit workspace) (LeavesSound digest)
+    by_commit act well None is = tt
+    by_commit act well (Some commit) is =
+        then_good (IsOpen workspace.objects) (LeavesSound digest) (changed_by workspace act commit) _
+        (changed_open digest workspace sound.objects act well commit is)
+        (λ next good. record {
+          objects = sound.objects;
+          saved_head = sound.saved_head;
+          next_head = sound.next_head;
+          marks = sound.marks;
+          tips = sound.tips;
+          said = sound.said;
+          commit = good;
+          inline = sound.inline;
+        })
+
+tag_lines : (digest : List ℕ → List ℕ) (workspace : Workspace) → IsSound digest workspace
+    → (act : Act) → IsWellFormed act → IfOk (said_of_tag act workspace) (LeavesSound digest)
+unfolding said_of_tag
+tag_lines digest workspace sound (BeginTag ref) well =
+    with_said digest workspace (Some (said_of ref)) sound (newly_said ref well.name)
+tag_lines digest workspace sound (TagTarget target) well = target_keeps digest workspace sound target
+tag_lines digest workspace sound (Tagger ident) well = tagger_keeps digest workspace sound ident well
+tag_lines digest workspace sound act well = commit_lines digest workspace sound act well
 
 set_keeps : (digest : List ℕ → List ℕ) (workspace : Workspace) → IsSound digest workspace
     → (act : Act) → IsWellFormed act → IfOk (set_by act workspace) (LeavesSound digest)
 unfolding set_by
 set_keeps digest workspace sound Wait well = sound
-set_keeps digest workspace sound (BeginTag ref) well =
-    with_said digest workspace (Some (said_of ref)) sound (newly_said ref well.name)
-set_keeps digest workspace sound (TagTarget target) well = target_keeps digest workspace sound target
-set_keeps digest workspace sound (Tagger ident) well = tagger_keeps digest workspace sound ident well
 set_keeps digest workspace sound (Reset ref) well = reset_keeps digest workspace sound ref well
 set_keeps digest workspace sound (Require wanted) well = feature_keeps digest workspace sound wanted
 set_keeps digest workspace sound (SetHead ref) well = head_keeps digest workspace sound ref well
-set_keeps digest workspace sound _ well = tt
+set_keeps digest workspace sound act well = tag_lines digest workspace sound act well
+
+-- a commit opens
+first_tip : (os : List Object) (first : Option (List ℕ)) → IfSome first (IsCommitOf os)
+    → IsTip os (tip_for first)
+first_tip os None is = tt
+first_tip os (Some id) is = is
+
+opened_keeps : (digest : List ℕ → List ℕ) (workspace : Workspace) → IsSound digest workspace
+    → (message : List ℕ) (header : Header) → IsGoodHeader header
+    → IfOk (opened_with workspace message header) (LeavesSound digest)
+opened_keeps digest workspace sound message header can =
+    let os = workspace.objects in
+    let first = tip_commit workspace.branches header.ref in
+    let is = tip_commit_is digest workspace sound header.ref in
+    then_good (All (λ (branch : List ℕ × Tip). IsTip os branch.1)) (LeavesSound digest)
+    (branch_set workspace.branches header.ref (tip_for first)) _
+    (branch_set_keeps os workspace.branches header.ref (tip_for first) sound.tips (first_tip os first is))
+    (λ branches tips. then_good (IsOpen os) (LeavesSound digest)
+    (begun_from os first (begun header message)) _
+    (begun_open digest os sound.objects header message can first is)
+    (λ commit good. record {
+      objects = sound.objects;
+      saved_head = sound.saved_head;
+      next_head = sound.next_head;
+      marks = sound.marks;
+      tips = tips;
+      said = tt;
+      commit = good;
+      inline = sound.inline;
+    }))
+
+header_can : (mark : Option ℕ) (said : Said) → IsWellSaid said → (committer : Option (List ℕ))
+    → IfSome committer IsWrittenIdent → IfOk (header_said mark said committer) IsGoodHeader
+header_can mark said well None can = tt
+header_can mark said well (Some committer) can =
+    record { author = well.author; committer = can; encoding = well.encoding }
+
+commit_keeps : (digest : List ℕ → List ℕ) (workspace : Workspace) → IsSound digest workspace
+    → (mark : Option ℕ) (message : List ℕ) (said : Option Said) → IfSome said IsWellSaid
+    → IfOk (commit_opened mark message said workspace) (LeavesSound digest)
+commit_keeps digest workspace sound mark message None well = tt
+commit_keeps digest workspace sound mark message (Some said) well =
+    then_good IsGoodHeader (LeavesSound digest) (header_said mark said said.committer) _
+    (header_can mark said well said.committer well.committer)
+    (λ header can. opened_keeps digest workspace sound message header can)
 
 placed_keeps : (digest : List ℕ → List ℕ) (workspace : Workspace) → IsSound digest workspace
     → (act : Act) → IsWellFormed act → IfOk (placed_by act workspace) (LeavesSound digest)
@@ -510,6 +669,8 @@ placed_keeps digest workspace sound (ResetTo from) well =
     placed_at digest workspace sound from workspace.said
 placed_keeps digest workspace sound (SetMark mark commit) well =
     alias_keeps digest workspace sound mark commit
+placed_keeps digest workspace sound (OpenCommit mark message) well =
+    commit_keeps digest workspace sound mark message workspace.said sound.said
 placed_keeps digest workspace sound act well = set_keeps digest workspace sound act well
 
 shown_keeps : (digest : List ℕ → List ℕ) (workspace : Workspace) → IsSound digest workspace
@@ -522,33 +683,132 @@ shown_keeps digest workspace sound (ShowObject object) well =
     then_any (LeavesSound digest) (shown_object id (object_named id workspace.objects))
     (λ line. prints workspace line) (λ line. sound))
 shown_keeps digest workspace sound (ShowEntry root path) well =
-    then_any (LeavesSound digest) (entry_shown workspace.objects workspace.marks root path)
+    then_any (LeavesSound digest) (stored_entry_shown workspace.objects workspace.marks root path)
     (λ line. prints workspace line) (λ line. sound)
 shown_keeps digest workspace sound (Progress line) well = sound
 shown_keeps digest workspace sound act well = placed_keeps digest workspace sound act well
 
+-- what grew
+grown_by : (digest : List ℕ → List ℕ) (os new : List Object) → GrowGood digest os new → Grows os new
+grown_by digest os new grows = record { more = grows.more; are = grows.are }
+
+contents_sound : (digest : List ℕ → List ℕ) → AnswersNames digest → (workspace : Workspace)
+    → IsSound digest workspace → (bytes : List ℕ) (inline : Option Inline)
+    → IfSome inline (λ file. IsPath file.path) → (commit : Option Opened)
+    → IfSome commit (IsOpen workspace.objects)
+    → IfOk (contents_stored digest bytes inline commit workspace) (LeavesSound digest)
+contents_sound digest names workspace sound bytes None of_tree commit is = tt
+contents_sound digest names workspace sound bytes (Some file) of_tree None is = tt
+contents_sound digest names workspace sound bytes (Some file) of_tree (Some commit) is =
+    let os = workspace.objects in
+    then_good (LeavesOpen digest os) (LeavesSound digest)
+    (changed_or (contents_put digest os file.mode file.path bytes commit)) _
+    (contents_open digest names os sound.objects commit is file.mode file.path of_tree bytes)
+    (λ left good. record {
+      objects = good.grows.good;
+      saved_head = sound.saved_head;
+      next_head = sound.next_head;
+      marks = sound.marks;
+      tips = tips_longer os left.objects (grown_by digest os left.objects good.grows)
+          workspace.branches sound.tips;
+      said = sound.said;
+      commit = good.open_commit;
+      inline = tt;
+    })
+
+entry_sound : (digest : List ℕ → List ℕ) → AnswersNames digest → (workspace : Workspace)
+    → IsSound digest workspace → (path : Path) (commit : Option Opened)
+    → IfSome commit (IsOpen workspace.objects)
+    → IfOk (branch_entry_shown digest path commit workspace) (LeavesSound digest)
+entry_sound digest names workspace sound path None is = tt
+entry_sound digest names workspace sound path (Some commit) is =
+    by_shown (entry_shown digest workspace.objects commit.files path)
+    (λ shown e. entry_keeps digest names workspace.objects sound.objects commit is.good is.files path
+    shown e)
+  where
+    by_shown : (r : Result Shown CommitFault)
+        → ((shown : Shown) → r ≡ Ok shown → GrowGood digest workspace.objects shown.objects)
+        → IfOk (and_then (changed_or r) (λ shown.
+        prints (record workspace { objects = shown.objects }) (entry_line path shown.entry)))
+        (LeavesSound digest)
+    by_shown (Err e) good = tt
+    by_shown (Ok shown) good =
+        let grows = good shown refl in
+        let more = grown_by digest workspace.objects shown.objects grows in
+        record {
+          objects = grows.good;
+          saved_head = sound.saved_head;
+          next_head = sound.next_head;
+          marks = sound.marks;
+          tips = tips_longer workspace.objects shown.objects more workspace.branches sound.tips;
+          said = sound.said;
+          commit = open_grown workspace.objects shown.objects more workspace.commit sound.commit;
+          inline = sound.inline;
+        }
+
 pub act_keeps : (digest : List ℕ → List ℕ) → AnswersNames digest → (workspace : Workspace)
     → IsSound digest workspace → (act : Act) → IsWellFormed act
     → IfOk (after_act digest act workspace) (LeavesSound digest)
-unfolding after_act
+unfolding after_act stored_or_shown shown_by
 act_keeps digest names workspace sound (StoreBlob mark bytes) well =
     blob_keeps digest names workspace sound mark bytes
 act_keeps digest names workspace sound (StoreTag mark message) well =
     tag_keeps digest names workspace sound mark message workspace.said sound.said
+act_keeps digest names workspace sound (PutContents bytes) well =
+    contents_sound digest names workspace sound bytes workspace.inline sound.inline workspace.commit
+    sound.commit
+act_keeps digest names workspace sound (ShowBranchEntry path) well =
+    entry_sound digest names workspace sound path workspace.commit sound.commit
 act_keeps digest names workspace sound Checkpoint well = checkpoint_keeps digest workspace sound
 act_keeps digest names workspace sound Finish well = checkpoint_keeps digest workspace sound
 act_keeps digest names workspace sound act well = shown_keeps digest workspace sound act well
 
+-- ---- the end of a commit
+
+closed_keeps : (digest : List ℕ → List ℕ) → AnswersNames digest → (workspace : Workspace)
+    → IsSound digest workspace → (commit : Option Opened)
+    → IfSome commit (IsOpen workspace.objects)
+    → IfOk (open_closed digest workspace commit) (IsSound digest)
+closed_keeps digest names workspace sound None is = sound
+closed_keeps digest names workspace sound (Some commit) is =
+    then_any (IsSound digest) (room_for workspace.marks commit.header.mark) _ (λ _.
+    by_end (closed digest workspace.objects commit)
+    (λ end e. commit_end digest names workspace.objects sound.objects commit is.good is.files end e))
+  where
+    by_end : (r : Result Closed CommitFault)
+        → ((end : Closed) → r ≡ Ok end → HoldsCommit digest workspace.objects end.objects end.id)
+        → IfOk (and_then (changed_or r) (λ end. Ok (closed_at workspace commit.header end)))
+        (IsSound digest)
+    by_end (Err e) holds = tt
+    by_end (Ok end) holds =
+        let held = holds end refl in
+        let more = grown_by digest workspace.objects end.objects held.grows in
+        record {
+          objects = held.grows.good;
+          saved_head = sound.saved_head;
+          next_head = sound.next_head;
+          marks = marks_with workspace.marks commit.header.mark end.id sound.marks
+              (there digest end.objects held.grows.good end.id kind.Commit held.commit).name;
+          tips = branch_keeps end.objects workspace.branches commit.header.ref (At end.id)
+              (tips_longer workspace.objects end.objects more workspace.branches sound.tips) held.commit;
+          said = sound.said;
+          commit = tt;
+          inline = sound.inline;
+        }
+
+where_keeps : (digest : List ℕ → List ℕ) → AnswersNames digest → (ends : Bool)
+    → (workspace : Workspace) → IsSound digest workspace
+    → IfOk (closed_where digest ends workspace) (IsSound digest)
+where_keeps digest names false workspace sound = sound
+where_keeps digest names true workspace sound =
+    closed_keeps digest names workspace sound workspace.commit sound.commit
+
 -- ---- items, and the end
 
--- a command is known only where its text was given
-known_given : (unknown : Bool) (given : Result Done TextFault) (P : Done → Type 0) → IfOk given P
-    → IfOk (text_first (known unknown given)) P
-known_given false (Ok done) P h = h
-known_given false (Err e) P h = tt
-known_given true (Ok done) P h = tt
-known_given true (Err text_fault.MissingPart) P h = tt
-known_given true (Err _) P h = tt
+text_given : {A : Type 0} (P : A → Type 0) (r : Result A TextFault) → IfOk r P
+    → IfOk (text_first r) P
+text_given P (Ok value) good = good
+text_given P (Err e) good = tt
 
 if_ok : {A E : Type 0} (P : A → Type 0) (r : Result A E) → ((value : A) → r ≡ Ok value → P value)
     → IfOk r P
@@ -567,13 +827,15 @@ taken_keeps : (digest : List ℕ → List ℕ) → AnswersNames digest → (now 
     → IsSound digest now.workspace → IfOk (taken digest now item) (StepsSoundly digest)
 taken_keeps digest names now item sound =
     let WellDone : Done → Type 0 = λ done. IsWellFormed done.act in
-    then_good WellDone (StepsSoundly digest)
-    (text_first (known (has_no_meaning (part_of item)) (done_by now.parsing item))) _
-    (known_given (has_no_meaning (part_of item)) (done_by now.parsing item) WellDone
+    then_good WellDone (StepsSoundly digest) (text_first (done_by now.parsing item)) _
+    (text_given WellDone (done_by now.parsing item)
     (if_ok WellDone (done_by now.parsing item) (well_formed now.parsing item)))
-    (λ done well. then_good (LeavesSound digest) (StepsSoundly digest)
-    (after_act digest done.act now.workspace) _
-    (act_keeps digest names now.workspace sound done.act well) (λ effect left. left))
+    (λ done well. then_good (IsSound digest) (StepsSoundly digest)
+    (closed_where digest done.ends_commit now.workspace) _
+    (where_keeps digest names done.ends_commit now.workspace sound)
+    (λ workspace kept. then_good (LeavesSound digest) (StepsSoundly digest)
+    (after_act digest done.act workspace) _
+    (act_keeps digest names workspace kept done.act well) (λ effect left. left)))
 
 if_true : {A : Type 0} (test : Bool) (x y : A) → test ≡ true → (if test then x else y) ≡ x
 if_true true x y e = refl
@@ -606,6 +868,17 @@ end_keeps digest names now effect sound e =
     (sym (if_true now.is_done (quiet now.workspace) (commands_end digest now) done) ∙ e) sound)
     (λ runs. from_ok (LeavesSound digest) (commands_end digest now) effect
     (sym (if_false now.is_done (quiet now.workspace) (commands_end digest now) runs) ∙ e)
-    (then_any (LeavesSound digest) (text_first (end_of now.parsing)) _ (λ _.
+    (then_any (LeavesSound digest) (text_first (end_of now.parsing)) _ (λ ends_commit.
     then_any (LeavesSound digest) (unless_done_missing now.workspace) _ (λ _.
-    checkpoint_keeps digest now.workspace sound))))
+    then_good (IsSound digest) (LeavesSound digest)
+    (closed_where digest ends_commit now.workspace) _
+    (where_keeps digest names ends_commit now.workspace sound)
+    (λ workspace kept. checkpoint_keeps digest workspace kept)))))
+
+-- what the end of the open commit leaves
+pub ended_sound : (digest : List ℕ → List ℕ) → AnswersNames digest → (ends : Bool)
+    (workspace left : Workspace) → IsSound digest workspace
+    → closed_where digest ends workspace ≡ Ok left → IsSound digest left
+ended_sound digest names ends workspace left sound ended =
+    from_ok (IsSound digest) (closed_where digest ends workspace) left ended
+    (where_keeps digest names ends workspace sound)

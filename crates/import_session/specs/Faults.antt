@@ -3,6 +3,8 @@
 use Rattle.std.specs.Prelude.{◌≡◌, ◌≢◌, ℕ, Option, None, Some, Result, Ok, Err}
 use Rattle.stream_grammar.specs.declared.fault.Fault.{Fault as TextFault}
 use Rattle.stream_grammar.specs.Faults.{code_of as text_code}
+use Rattle.open_commits.specs.declared.fault.Fault.{Fault as CommitFault}
+use Rattle.open_commits.specs.declared.fault.Fault.TheVariants as commit_fault
 use Rattle.revisions.specs.declared.fault.Fault.{Fault as RevisionFault}
 use Rattle.revisions.specs.declared.fault.Fault.TheVariants as revision_fault
 use Rattle.import_session.specs.declared.fault.Fault.{Fault}
@@ -18,7 +20,9 @@ code_of fault.ObjectUnknown = 14
 code_of fault.WrongKind = 15
 code_of fault.UnknownRevision = 16
 code_of fault.Ambiguous = 17
+code_of fault.SourceMissing = 18
 code_of fault.BranchFromItself = 19
+code_of fault.RootNotDirectory = 20
 code_of fault.NameCollision = 24
 code_of fault.Limit = 25
 code_of fault.Memory = 90
@@ -49,6 +53,21 @@ resolving_fault revision_fault.Memory = fault.Memory
 abbrev pub resolved_or : {A : Type 0} → Result A RevisionFault → Result A Fault
 resolved_or (Ok value) = Ok value
 resolved_or (Err e) = Err (resolving_fault e)
+
+-- What refuses a change of the open commit, or its end.
+abbrev pub changing_fault : CommitFault → Fault
+changing_fault commit_fault.MarkUnknown = fault.MarkUnknown
+changing_fault commit_fault.ObjectUnknown = fault.ObjectUnknown
+changing_fault commit_fault.WrongKind = fault.WrongKind
+changing_fault commit_fault.SourceMissing = fault.SourceMissing
+changing_fault commit_fault.RootNotDirectory = fault.RootNotDirectory
+changing_fault commit_fault.NameCollision = fault.NameCollision
+changing_fault commit_fault.Limit = fault.Limit
+changing_fault commit_fault.Memory = fault.Memory
+
+abbrev pub changed_or : {A : Type 0} → Result A CommitFault → Result A Fault
+changed_or (Ok value) = Ok value
+changed_or (Err e) = Err (changing_fault e)
 
 -- What a call answers is what is defined; out of memory may stand in its place.
 abbrev pub Gives : {A : Type 0} → Result A Fault → Result A Fault → Type 0

@@ -1,6 +1,6 @@
--- In reading order: the faults, what a stream keeps, what its commands do, which are known, and the
--- stream from end to end; what it keeps true; then where its parts lie, what its calls keep, store
--- and print.
+-- In reading order: the faults, what a stream keeps, what its commands do, and the
+-- stream from end to end; what it keeps true; then where its parts lie, what its calls keep and
+-- store.
 pub mod Faults
 pub mod Workspace
 pub mod Marks
@@ -11,12 +11,13 @@ pub mod Storing
 pub mod Tags
 pub mod Checkpoints
 pub mod Showing
+pub mod Printing
+pub mod Commits
+pub mod Changes
 pub mod Meaning
-pub mod Known
 pub mod Stream
 pub mod Sound
 pub mod Session
 pub mod Lent
 pub mod Stored
 pub mod Targets
-pub mod Printing

@@ -9,7 +9,9 @@ use Rattle.git_model.specs.Repository.{object_named}
 use Rattle.stream_grammar.specs.declared.fault.Fault.TheVariants as text_fault
 use Rattle.stream_grammar.specs.declared.feature.Feature.{Feature}
 use Rattle.stream_grammar.specs.declared.feature.Feature.TheVariants as feature
-use Rattle.stream_grammar.specs.Acts.{Act, Wait, StoreBlob, BeginTag, TagTarget, Tagger, StoreTag, Reset, ResetTo, SetMark, Checkpoint, Progress, ShowMark, ShowObject, ShowEntry, Finish, Require, SetHead}
+use Rattle.stream_grammar.specs.Acts.{Act, Wait, StoreBlob, BeginTag, TagTarget, Tagger, StoreTag, Reset, ResetTo, SetMark}
+use Rattle.stream_grammar.specs.Acts.{BeginCommit, Author, Committer, Encoding, OpenCommit, ModifyInline, PutContents, ShowBranchEntry}
+use Rattle.stream_grammar.specs.Acts.{Checkpoint, Progress, ShowMark, ShowObject, ShowEntry, Finish, Require, SetHead}
 use Rattle.import_session.specs.declared.fault.Fault.{Fault}
 use Rattle.import_session.specs.declared.fault.Fault.TheVariants as fault
 use Rattle.import_session.specs.Faults.{and_then}
@@ -20,6 +22,9 @@ use Rattle.import_session.specs.Showing.{entry_shown}
 use Rattle.import_session.specs.Storing.{with_content}
 use Rattle.import_session.specs.Tags.{tag_begun, target_said, tagger_said, tag_stored}
 use Rattle.import_session.specs.Checkpoints.{checkpoint}
+use Rattle.import_session.specs.Printing.{prints}
+use Rattle.import_session.specs.Commits.{author_said, commit_begun, commit_opened, committer_said, contents_awaited, encoding_said}
+use Rattle.import_session.specs.Changes.{branch_entry_shown, commit_changed, contents_stored}
 
 -- 'blob': its contents are stored, and then its mark is set. The limit on marks is judged first.
 abbrev pub blob_stored : (List ℕ → List ℕ) → Option ℕ → Content → Workspace → Result Effect Fault
@@ -30,10 +35,6 @@ blob_stored digest mark content workspace =
       objects = objects;
       marks = with_mark workspace.marks mark (name_by digest content);
     })))
-
--- What changes nothing prints its line.
-abbrev pub prints : Workspace → List ℕ → Result Effect Fault
-prints workspace line = Ok (record { workspace = workspace; reply = line ++ codes "\n" })
 
 -- 'cat-blob': the name, the kind and the size of a blob, and after them its bytes. What the
 -- repository has not is missing, and what is no blob is refused.
@@ -66,22 +67,39 @@ head_set ref workspace =
     if bytes_eq ref (codes "HEAD") then Err (fault.Text text_fault.BadRefName)
     else quiet (record workspace { head = Some ref })
 
--- What an act does that looks at no object.
+-- What an act of the open commit changes there.
+unfoldable pub within_commit : Act → Workspace → Result Effect Fault
+within_commit (ModifyInline mode path) workspace = contents_awaited mode path workspace
+within_commit act workspace = commit_changed act workspace.commit workspace
+
+-- What the lines of a commit say before its message.
+unfoldable pub said_of_commit : Act → Workspace → Result Effect Fault
+said_of_commit (BeginCommit ref) workspace = commit_begun ref workspace
+said_of_commit (Author ident) workspace = author_said ident workspace
+said_of_commit (Committer ident) workspace = committer_said ident workspace
+said_of_commit (Encoding encoding) workspace = encoding_said encoding workspace
+said_of_commit act workspace = within_commit act workspace
+
+-- What the lines of a tag say before its message.
+unfoldable pub said_of_tag : Act → Workspace → Result Effect Fault
+said_of_tag (BeginTag ref) workspace = tag_begun ref workspace
+said_of_tag (TagTarget target) workspace = target_said target workspace
+said_of_tag (Tagger ident) workspace = tagger_said ident workspace
+said_of_tag act workspace = said_of_commit act workspace
+
+-- What an act sets.
 unfoldable pub set_by : Act → Workspace → Result Effect Fault
 set_by Wait workspace = quiet workspace
-set_by (BeginTag ref) workspace = tag_begun ref workspace
-set_by (TagTarget target) workspace = target_said target workspace
-set_by (Tagger ident) workspace = tagger_said ident workspace
 set_by (Reset ref) workspace = branch_reset ref workspace
 set_by (Require feature) workspace = quiet (feature_set feature workspace)
 set_by (SetHead ref) workspace = head_set ref workspace
--- No other act has a meaning here yet: none comes, for its command is unknown where it would begin.
-set_by _ workspace = Err (fault.Text text_fault.UnknownCommand)
+set_by act workspace = said_of_tag act workspace
 
 -- What an act does that places a branch or a mark at a commit.
 unfoldable pub placed_by : Act → Workspace → Result Effect Fault
 placed_by (ResetTo from) workspace = branch_reset_to from workspace
 placed_by (SetMark mark commit) workspace = alias_set mark commit workspace
+placed_by (OpenCommit mark message) workspace = commit_opened mark message workspace.said workspace
 placed_by act workspace = set_by act workspace
 
 -- What an act prints, which leaves the workspace.
@@ -96,12 +114,20 @@ shown_by (ShowEntry root path) workspace =
 shown_by (Progress line) workspace = prints workspace line
 shown_by act workspace = placed_by act workspace
 
+-- What stores a blob, and what stores nothing.
+unfoldable pub stored_or_shown : (List ℕ → List ℕ) → Act → Workspace → Result Effect Fault
+stored_or_shown digest (StoreBlob mark bytes) workspace =
+    blob_stored digest mark (content_from kind.Blob bytes) workspace
+stored_or_shown digest act workspace = shown_by act workspace
+
 -- What each act leaves and prints, or the fault that refuses it.
 unfoldable pub after_act : (List ℕ → List ℕ) → Act → Workspace → Result Effect Fault
-after_act digest (StoreBlob mark bytes) workspace =
-    blob_stored digest mark (content_from kind.Blob bytes) workspace
 after_act digest (StoreTag mark message) workspace =
     tag_stored digest mark message workspace.said workspace
+after_act digest (PutContents bytes) workspace =
+    contents_stored digest bytes workspace.inline workspace.commit workspace
+after_act digest (ShowBranchEntry path) workspace =
+    branch_entry_shown digest path workspace.commit workspace
 after_act digest Checkpoint workspace = checkpoint workspace
 after_act digest Finish workspace = checkpoint workspace
-after_act digest act workspace = shown_by act workspace
+after_act digest act workspace = stored_or_shown digest act workspace

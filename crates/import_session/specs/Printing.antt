@@ -1,7 +1,12 @@
--- What a call that prints a line did.
+-- What prints a line, and what a call that prints one did.
 use Rattle.std.specs.Prelude.{◌≡◌, ◌≢◌, ℕ, List, ◌++◌, Result, Ok, Err, codes}
 use Rattle.import_session.specs.declared.fault.Fault.{Fault}
 use Rattle.import_session.specs.declared.fault.Fault.TheVariants as fault
+use Rattle.import_session.specs.Workspace.{Workspace, Effect}
+
+-- A line is printed, with its line end.
+abbrev pub prints : Workspace → List ℕ → Result Effect Fault
+prints workspace line = Ok (record { workspace = workspace; reply = line ++ codes "\n" })
 
 -- The line that was to be printed stands after the text, with its line end; or what refuses it was
 -- answered, and the text stayed. `Memory` may stand in place of either.

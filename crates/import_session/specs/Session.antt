@@ -1,16 +1,23 @@
 -- A session: the part of a running stream that lies neither in a table, nor in a pool, nor among
 -- refs.
 use Rattle.std.specs.Prelude.{◌≡◌, ◌≢◌, ℕ, List, [], ◌++◌, take, Option, None, Result, Ok, Err, Bool, false}
+use Rattle.std.specs.Option.{option_map}
 use Rattle.git_model.specs.RefStore.{RefStore}
 use Rattle.git_model.specs.Repository.{Repository}
 use Rattle.content_pool.specs.Pool.{Cells}
 use Rattle.tenant_tables.specs.Objects.{objects}
 use Rattle.tenant_tables.specs.View.{View}
-use Rattle.stream_grammar.specs.Commands.{Parsing, top}
+use Rattle.stream_grammar.specs.declared.fault.Fault.{Fault as TextFault}
+use Rattle.stream_grammar.specs.declared.act.Done.{Done as LentDone}
+use Rattle.stream_grammar.specs.Commands.{Done, Parsing, top}
+use Rattle.stream_grammar.specs.Shown.{done_shown}
 use Rattle.import_session.specs.declared.fault.Fault.{Fault}
 use Rattle.import_session.specs.declared.fault.Fault.TheVariants as fault
 use Rattle.import_session.specs.declared.own.Own.{Own as LentOwn}
 use Rattle.import_session.specs.declared.said.Said.{Said}
+use Rattle.import_session.specs.declared.said.Inline.{Inline}
+use Rattle.open_commits.specs.OpenCommit.{OpenCommit, commit_shown}
+use Rattle.import_session.specs.Faults.{text_first}
 use Rattle.import_session.specs.Workspace.{Workspace, Marks, Branches, PendingTags, Effect}
 use Rattle.import_session.specs.Stream.{Running, Step}
 
@@ -20,6 +27,8 @@ pub record Own : Type 0 where
   pub branches : Branches
   pub tags : PendingTags
   pub said : Option Said
+  pub commit : Option OpenCommit
+  pub inline : Option Inline
   pub head : Option (List ℕ)
   pub forces : Bool
   pub needs_done : Bool
@@ -31,6 +40,8 @@ own_shown own = record {
   branches = own.branches;
   tags = own.tags.items;
   said = own.said;
+  commit = option_map commit_shown own.commit;
+  inline = own.inline;
   head = own.head;
   forces = own.forces;
   needs_done = own.needs_done;
@@ -43,6 +54,8 @@ nothing_own = record {
   branches = [];
   tags = [];
   said = None;
+  commit = None;
+  inline = None;
   head = None;
   forces = false;
   needs_done = false;
@@ -64,6 +77,8 @@ workspace_in own pool table refs = record {
   branches = own.branches;
   tags = own.tags;
   said = own.said;
+  commit = own.commit;
+  inline = own.inline;
   head = own.head;
   forces = own.forces;
   needs_done = own.needs_done;
@@ -86,6 +101,17 @@ CarriesOut (Ok effect) new out out' (Err e) = e ≡ fault.Memory
 CarriesOut (Err refusal) new out out' (Ok u) = ⊥
 CarriesOut (Err refusal) new out out' (Err e) = e ≢ fault.Memory → e ≡ refusal
 
+-- What the grammar gave for an item, or its fault. `Memory` may stand in place of either.
+abbrev pub Reads : Result LentDone Fault → Result Done TextFault → Type 0
+Reads (Ok done) given = given ≡ Ok (done_shown done)
+Reads (Err e) given = e ≢ fault.Memory → text_first given ≡ Err e
+
+-- What a call was to leave it left, or what refuses that was answered. `Memory` may stand in place
+-- of either.
+abbrev pub Leaves : {A : Type 0} → Result A Fault → A → Result Unit Fault → Type 0
+Leaves wanted new (Ok u) = wanted ≡ Ok new
+Leaves wanted new (Err e) = e ≢ fault.Memory → wanted ≡ Err e
+
 -- The same of an item, which leaves a running stream.
 abbrev pub Takes : Result Step Fault → Running → List ℕ → List ℕ → Result Unit Fault → Type 0
 Takes (Ok step) new out out' (Ok u) = (step.running ≡ new) × (out' ≡ out ++ step.reply)
@@ -100,6 +126,11 @@ new_session = record { parsing = Ok top; own = nothing_own; is_done = false }
 -- The repository whose objects stand in a table over a pool, all of them.
 abbrev pub repository_in : Cells → View → RefStore → Repository
 repository_in pool table refs = record { objects = objects pool table.entries; refs = refs }
+
+-- What a call leaves of the objects at the last checkpoint: all of them.
+abbrev pub KeepsCommitted : Cells → View → Cells → View → Type 0
+KeepsCommitted before old after new = take new.committed (objects after new.entries)
+    ≡ take old.committed (objects before old.entries)
 
 -- The repository at the last checkpoint: the committed objects, and the refs.
 abbrev pub last_in : Cells → View → RefStore → Repository

@@ -5,14 +5,13 @@ use Rattle.stream_lex.specs.Items.{Item, Tail, Rest, Failed}
 use Rattle.stream_lex.specs.Faults.{code_of as item_code}
 use Rattle.stream_grammar.specs.Acts.{Act, Finish}
 use Rattle.stream_grammar.specs.Commands.{Parsing, top, done_by, after, end_of}
-use Rattle.stream_grammar.specs.Parts.{part_of}
 use Rattle.import_session.specs.declared.fault.Fault.{Fault}
 use Rattle.import_session.specs.declared.fault.Fault.TheVariants as fault
 use Rattle.import_session.specs.Faults.{code_of, text_first, and_then}
 use Rattle.import_session.specs.Workspace.{Workspace, Effect, quiet}
 use Rattle.import_session.specs.Checkpoints.{checkpoint}
+use Rattle.import_session.specs.Commits.{closed_where}
 use Rattle.import_session.specs.Meaning.{after_act}
-use Rattle.import_session.specs.Known.{known, has_no_meaning}
 
 -- A running stream has its workspace, the command that is not whole yet, and whether `done` was
 -- read.
@@ -34,20 +33,25 @@ abbrev pub is_finish : Act → Bool
 is_finish Finish = true
 is_finish _ = false
 
--- The text of an item is judged first, and then its meaning. A command without a meaning is
--- unknown.
+-- What the act of an item leaves of the stream.
+abbrev pub after_item : Running → Item → Act → Effect → Step
+after_item now item act effect = record {
+  running = record {
+    workspace = effect.workspace;
+    parsing = after now.parsing item;
+    is_done = is_finish act;
+  };
+  reply = effect.reply;
+}
+
+-- The text of an item is judged first; then the open commit ends, where the item ends it; then
+-- comes the meaning of its act.
 abbrev pub taken : (List ℕ → List ℕ) → Running → Item → Result Step Fault
 taken digest now item =
-    and_then (text_first (known (has_no_meaning (part_of item)) (done_by now.parsing item))) (λ done.
-    and_then (after_act digest done.act now.workspace) (λ effect.
-    Ok (record {
-      running = record {
-        workspace = effect.workspace;
-        parsing = after now.parsing item;
-        is_done = is_finish done.act;
-      };
-      reply = effect.reply;
-    })))
+    and_then (text_first (done_by now.parsing item)) (λ done.
+    and_then (closed_where digest done.ends_commit now.workspace) (λ workspace.
+    and_then (after_act digest done.act workspace) (λ effect.
+    Ok (after_item now item done.act effect))))
 
 -- After `done` an item is passed over.
 unfoldable pub step : (List ℕ → List ℕ) → Running → Item → Result Step Fault
@@ -116,7 +120,8 @@ ended_well reply workspace =
 abbrev pub ended_by : ℕ → Repository → End
 ended_by code repository = record { fault = Some code; reply = []; repository = repository }
 
--- The end of the commands: a part may be missing, and then `done`; else the end is a checkpoint.
+-- The end of the commands: a part may be missing, and then `done`; else the open commit ends, where
+-- there is one, and the end is a checkpoint.
 abbrev pub unless_done_missing : Workspace → Result Unit Fault
 unless_done_missing workspace =
     if workspace.needs_done then Err fault.DoneMissing else Ok tt
@@ -124,7 +129,8 @@ unless_done_missing workspace =
 abbrev pub commands_end : (List ℕ → List ℕ) → Running → Result Effect Fault
 commands_end digest now =
     and_then (text_first (end_of now.parsing)) (λ ends_commit.
-    and_then (unless_done_missing now.workspace) (λ _. checkpoint now.workspace))
+    and_then (unless_done_missing now.workspace) (λ _.
+    and_then (closed_where digest ends_commit now.workspace) checkpoint))
 
 -- After `done` nothing is asked for, and nothing is printed.
 unfoldable pub session_end : (List ℕ → List ℕ) → Running → Result Effect Fault

@@ -6,6 +6,8 @@ use Rattle.stream_grammar.specs.Names.{Expression}
 use Rattle.import_session.specs.declared.branches.Tip.{Tip}
 use Rattle.import_session.specs.declared.fault.Fault.{Fault}
 use Rattle.import_session.specs.declared.said.Said.{Said}
+use Rattle.import_session.specs.declared.said.Inline.{Inline}
+use Rattle.open_commits.specs.OpenCommit.{OpenCommit}
 
 -- Marks: each number that stands for an object, with the object's name.
 abbrev pub Marks : Type 0
@@ -22,13 +24,20 @@ PendingTags = List (List ℕ × List ℕ)
 
 -- A command has named its ref, and has said nothing else yet.
 abbrev pub said_of : List ℕ → Said
-said_of ref = record { ref_name = ref; target = Expression []; tagger = None }
+said_of ref = record {
+  ref_name = ref;
+  author = None;
+  committer = None;
+  encoding = None;
+  target = Expression [];
+  tagger = None;
+}
 
 -- A workspace has the objects of the repository, oldest first and those of its own stream last, and
 -- how many of them stood at the last checkpoint; the refs and HEAD as last saved; marks,
--- branches and pending tags; what the lines of the open command have said; the ref that HEAD is to
--- name, where the stream says so; whether refs are updated by force, and whether the stream must
--- end with `done`.
+-- branches and pending tags; what the lines of the open command have said; the open commit, and
+-- where in it the next data is to stand; the ref that HEAD is to name, where the stream says so;
+-- whether refs are updated by force, and whether the stream must end with `done`.
 pub record Workspace : Type 0 where
   pub objects : List Object
   pub committed : ℕ
@@ -37,6 +46,8 @@ pub record Workspace : Type 0 where
   pub branches : Branches
   pub tags : PendingTags
   pub said : Option Said
+  pub commit : Option OpenCommit
+  pub inline : Option Inline
   pub head : Option (List ℕ)
   pub forces : Bool
   pub needs_done : Bool
@@ -52,6 +63,8 @@ opened repository = record {
   branches = [];
   tags = [];
   said = None;
+  commit = None;
+  inline = None;
   head = None;
   forces = false;
   needs_done = false;

@@ -7,17 +7,19 @@ ghost use Rattle.git_model.specs.GoodRepository.{AreObjects};
 ghost use Rattle.git_model.specs.Repository.{object_named};
 ghost use Rattle.content_pool.specs.Pool.{HasRoom};
 ghost use Rattle.tenant_tables.specs.Objects.{objects};
+ghost use Rattle.tenant_tables.specs.Room.{HasRoomBeside};
 ghost use Rattle.tenant_tables.specs.StandsIn.{StandsIn};
 ghost use Rattle.stream_grammar.specs.Acts.{StoreBlob};
 ghost use Rattle.stream_grammar.specs.Shown.{act_shown};
 ghost use Rattle.import_session.specs.Faults.{and_then};
 ghost use Rattle.import_session.specs.Marks.{marked_name, referred_name};
-ghost use Rattle.import_session.specs.Meaning.{after_act, shown_by, shown_object};
+ghost use Rattle.import_session.specs.Meaning.{after_act, shown_by, shown_object, stored_or_shown};
 ghost use Rattle.import_session.specs.Lent.{IsUnchanged, Keeps};
 ghost use Rattle.import_session.specs.Printing.{Shows};
 ghost use Rattle.import_session.specs.Sound.{IsSound};
-ghost use Rattle.import_session.specs.Session.{own_shown, workspace_in, CarriesOut, Own as OwnShown};
+ghost use Rattle.import_session.specs.Session.{own_shown, workspace_in, CarriesOut, KeepsCommitted, Own as OwnShown};
 
+use crate::changes::{put_contents, show_entry};
 use crate::checkpoint::save;
 use crate::entries::print_stored;
 use crate::fault::Fault;
@@ -34,7 +36,7 @@ use stream_grammar::{Act, DataRef, Mark};
 use tenant_refs::Refs;
 use tenant_tables::Table;
 
-#[tactic(auto, unfolding(crate::specs::Meaning::after_act))]
+#[tactic(auto, unfolding(crate::specs::Meaning::stored_or_shown))]
 fn store_marked<N: Naming>(
     pool: &mut Pool<N>,
     table: &mut Table,
@@ -46,7 +48,7 @@ fn store_marked<N: Naming>(
     requires room { HasRoom pool.old }
     ensures keeps { Keeps N.digest_of pool.old table.old pool.new table.new }
     ensures done { (own : OwnShown) (refs : RefStore) (out : List ℕ) → CarriesOut
-        (after_act N.digest_of (StoreBlob mark contents.now)
+        (stored_or_shown N.digest_of (StoreBlob mark contents.now)
         (workspace_in (record own { marks = marks.old.entries }) pool.old table.old refs))
         (workspace_in (record own { marks = marks.new.entries }) pool.new table.new refs)
         out out result }
@@ -83,6 +85,36 @@ fn print_marked(marks: &IndexMap<Mark, Name>, mark: Mark, out: &mut Vec<u8>) -> 
     Ok(())
 }
 
+// Stores a blob, or carries out an act that stores nothing.
+#[tactic(auto, unfolding(crate::specs::Meaning::stored_or_shown))]
+fn show_or_store<N: Naming>(
+    pool: &mut Pool<N>,
+    table: &mut Table,
+    refs: &Refs,
+    own: &mut Own,
+    act: &Act<'_>,
+    out: &mut Vec<u8>,
+) -> Result<(), Fault>
+    requires stands { StandsIn N.digest_of pool.old table.old.entries }
+    requires room { HasRoom pool.old }
+    ensures keeps { Keeps N.digest_of pool.old table.old pool.new table.new }
+    ensures done { IsSound N.digest_of
+        (workspace_in (own_shown own.old) pool.old table.old refs.now) → CarriesOut
+        (stored_or_shown N.digest_of (act_shown act.now)
+        (workspace_in (own_shown own.old) pool.old table.old refs.now))
+        (workspace_in (own_shown own.new) pool.new table.new refs.now)
+        out.old.items out.new.items result }
+    ensures same { OnErr result (IsUnchanged pool.old table.old pool.new table.new) }
+    ensures printed { OnErr result (out.new.items ≡ out.old.items) }
+{
+    match act {
+        Act::StoreBlob { mark, contents } => {
+            store_marked(pool, table, &mut own.marks, *mark, contents)
+        }
+        _ => show(pool, table, refs, own, act, out),
+    }
+}
+
 // Carries out an act that prints, or one that stores, prints and saves nothing.
 #[tactic(auto, unfolding(crate::specs::Meaning::shown_by))]
 fn show<N: Naming>(
@@ -94,7 +126,8 @@ fn show<N: Naming>(
     out: &mut Vec<u8>,
 ) -> Result<(), Fault>
     requires stands { StandsIn N.digest_of pool.now table.now.entries }
-    ensures done { AreObjects N.digest_of (objects pool.now table.now.entries) → CarriesOut
+    ensures done { IsSound N.digest_of
+        (workspace_in (own_shown own.old) pool.now table.now refs.now) → CarriesOut
         (shown_by (act_shown act.now)
         (workspace_in (own_shown own.old) pool.now table.now refs.now))
         (workspace_in (own_shown own.new) pool.now table.now refs.now)
@@ -110,7 +143,8 @@ fn show<N: Naming>(
     }
 }
 
-// Carries an act out, and appends what it prints to `out`.
+// Carries an act out, and appends what it prints to `out`. The objects up to the last checkpoint
+// stay where it is refused.
 #[tactic(auto, unfolding(crate::specs::Meaning::after_act))]
 pub fn carry_out<N: Naming>(
     pool: &mut Pool<N>,
@@ -121,7 +155,7 @@ pub fn carry_out<N: Naming>(
     out: &mut Vec<u8>,
 ) -> Result<(), Fault>
     requires stands { StandsIn N.digest_of pool.old table.old.entries }
-    requires room { HasRoom pool.old }
+    requires room { HasRoomBeside pool.old table.old.entries }
     ensures keeps { Keeps N.digest_of pool.old table.old pool.new table.new }
     ensures done { IsSound N.digest_of
         (workspace_in (own_shown own.old) pool.old table.old refs.old) → CarriesOut
@@ -129,16 +163,15 @@ pub fn carry_out<N: Naming>(
         (workspace_in (own_shown own.old) pool.old table.old refs.old))
         (workspace_in (own_shown own.new) pool.new table.new refs.new)
         out.old.items out.new.items result }
-    ensures same { OnErr result (IsUnchanged pool.old table.old pool.new table.new) }
+    ensures committed { OnErr result (KeepsCommitted pool.old table.old pool.new table.new) }
     ensures refs { OnErr result (refs.new ≡ refs.old) }
     ensures printed { OnErr result (out.new.items ≡ out.old.items) }
 {
     match act {
-        Act::StoreBlob { mark, contents } => {
-            store_marked(pool, table, &mut own.marks, *mark, contents)
-        }
         Act::StoreTag { mark, message } => store_tag(pool, table, refs, own, *mark, message),
+        Act::PutContents(bytes) => put_contents(pool, table, own, bytes),
+        Act::ShowBranchEntry(path) => show_entry(pool, table, own, path, out),
         Act::Checkpoint | Act::Finish => save(pool, table, refs, own, out),
-        _ => show(pool, table, refs, own, act, out),
+        _ => show_or_store(pool, table, refs, own, act, out),
     }
 }

@@ -83,6 +83,13 @@ impl Branches {
         }
     }
 
+    /// How this branch stands, where it is one of the stream's. Takes no memory.
+    pub fn tip(&self, ref_name: &RefName) -> Option<Tip>
+        ensures { result ≡ tip_of self.now ref_name.now }
+    {
+        self.tips.get(ref_name).copied()
+    }
+
     // Whether a branch may be set: it is there already, or there are fewer than there may be.
     #[tactic(auto, unfolding(crate::specs::Branches::has_branch_room))]
     fn has_room(&self, ref_name: &RefName) -> bool

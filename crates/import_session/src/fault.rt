@@ -34,9 +34,15 @@ pub enum Fault {
     /// Several object names begin so, 17.
     #[error("ambiguous abbreviation")]
     Ambiguous,
+    /// No file stands at the source of a copy or of a rename, 18.
+    #[error("no file stands there")]
+    SourceMissing,
     /// A branch is to start from itself, 19.
     #[error("a branch from itself")]
     BranchFromItself,
+    /// A file would stand at the root of a commit, 20.
+    #[error("root must be a directory")]
+    RootNotDirectory,
     /// Another content of this repository has the name of the new one, 24.
     #[error("another content has this object name")]
     NameCollision,
@@ -62,7 +68,9 @@ impl Fault {
             Fault::WrongKind => 15,
             Fault::UnknownRevision => 16,
             Fault::Ambiguous => 17,
+            Fault::SourceMissing => 18,
             Fault::BranchFromItself => 19,
+            Fault::RootNotDirectory => 20,
             Fault::NameCollision => 24,
             Fault::Limit => 25,
             Fault::Memory => 90,
@@ -97,5 +105,24 @@ impl From<Memory> for Fault {
 
     fn from(_e: Memory) -> Fault {
         Fault::Memory
+    }
+}
+
+impl From<open_commits::Fault> for Fault {
+    ghost use Rattle.import_session.specs.Faults.{changing_fault};
+
+    ghost from_gives = { λ refusal fault. fault ≡ changing_fault refusal };
+
+    fn from(refusal: open_commits::Fault) -> Fault {
+        match refusal {
+            open_commits::Fault::MarkUnknown => Fault::MarkUnknown,
+            open_commits::Fault::ObjectUnknown => Fault::ObjectUnknown,
+            open_commits::Fault::WrongKind => Fault::WrongKind,
+            open_commits::Fault::SourceMissing => Fault::SourceMissing,
+            open_commits::Fault::RootNotDirectory => Fault::RootNotDirectory,
+            open_commits::Fault::NameCollision => Fault::NameCollision,
+            open_commits::Fault::Limit => Fault::Limit,
+            open_commits::Fault::Memory => Fault::Memory,
+        }
     }
 }

@@ -7,13 +7,16 @@
 
 mod acts;
 mod branches;
+mod changes;
 mod checkpoint;
 mod commit_ishes;
+mod commits;
+mod encoding;
 mod entries;
 mod fault;
 mod head;
-mod known;
 pub mod laws;
+mod lines;
 mod marks;
 mod objects;
 mod own;

@@ -3,11 +3,14 @@
 ghost use Rattle.std.specs.Prelude.{◌≡◌, ◌++◌, length, take, codes, decimal, OnOk, OnErr};
 ghost use Rattle.std.specs.List.{flat_map};
 ghost use Rattle.hex.specs.Hex.{encode_lower};
+ghost use Rattle.import_session.specs.Changes.{entry_line};
 ghost use Rattle.import_session.specs.Meaning.{blob_text};
 
-use git_objects::{Memory, Name};
+use git_objects::{Memory, Name, append_listing};
+use git_paths::Path;
 use itoa::Buffer;
 use tenant_refs::RefName;
+use tree_build::Entry;
 
 fn append_all(parts: &[&[u8]], out: &mut Vec<u8>) -> Result<(), Memory>
     ensures written { OnOk result (out.new.items
@@ -80,4 +83,35 @@ pub fn print_blob(id: Name, bytes: &[u8], out: &mut Vec<u8>) -> Result<(), Memor
     let mut size = Buffer::new();
     let size = size.format(bytes.len()).as_bytes();
     print(&[&digits, b" blob ", size, b"\n", bytes, b"\n"], out)
+}
+
+// What stands at a path of the open commit, or that nothing does.
+fn append_entry(path: &Path, entry: Option<Entry>, out: &mut Vec<u8>) -> Result<(), Memory>
+    ensures written { OnOk result (out.new.items
+        ≡ out.old.items ++ entry_line path.now entry ++ codes "\n") }
+    ensures kept { take (length out.old.items) out.new.items ≡ out.old.items }
+{
+    match entry {
+        Some(entry) => append_listing(entry.mode, entry.name, path.as_bytes(), out)?,
+        None => {
+            out.extend_from_slice(b"missing ")?;
+            path.quote_into(out)?;
+        }
+    }
+    out.push(b'\n')?;
+    Ok(())
+}
+
+// The same, or nothing where there is no room for all of it.
+pub fn print_entry(path: &Path, entry: Option<Entry>, out: &mut Vec<u8>) -> Result<(), Memory>
+    ensures written { OnOk result (out.new.items
+        ≡ out.old.items ++ entry_line path.now entry ++ codes "\n") }
+    ensures same { OnErr result (out.new.items ≡ out.old.items) }
+{
+    let start = out.len();
+    let written = append_entry(path, entry, out);
+    if written.is_err() {
+        out.truncate(start);
+    }
+    written
 }

@@ -8,10 +8,12 @@ ghost use Rattle.stream_grammar.specs.Shown.{act_shown, commit_shown};
 ghost use Rattle.import_session.specs.Faults.{Gives};
 ghost use Rattle.import_session.specs.Resets.{alias_set, branch_reset_to, is_zeros, tip_from};
 ghost use Rattle.import_session.specs.Meaning.{placed_by};
+ghost use Rattle.import_session.specs.Sound.{IsSound};
 ghost use Rattle.import_session.specs.Session.{own_shown, workspace_in, CarriesOut};
 
 use crate::branches::Tip;
 use crate::commit_ishes::{commit_named, start_of};
+use crate::commits::open_commit;
 use crate::fault::Fault;
 use crate::marks;
 use crate::own::{self, Own};
@@ -96,7 +98,8 @@ fn alias<N: Naming>(
     Ok(())
 }
 
-// Carries out an act that places a branch or a mark at a commit, or one that looks at no object.
+// Carries out an act that places a branch or a mark at a commit, or opens a commit there, or one
+// that sets something.
 #[tactic(auto, unfolding(crate::specs::Meaning::placed_by))]
 pub fn place<N: Naming>(
     pool: &Pool<N>,
@@ -106,14 +109,16 @@ pub fn place<N: Naming>(
     act: &Act<'_>,
 ) -> Result<(), Fault>
     requires { StandsIn N.digest_of pool.now table.now.entries }
-    ensures { (out : List ℕ) → AreObjects N.digest_of (objects pool.now table.now.entries)
-        → CarriesOut (placed_by (act_shown act.now)
+    ensures { (out : List ℕ) → IsSound N.digest_of
+        (workspace_in (own_shown own.old) pool.now table.now refs.now) → CarriesOut
+        (placed_by (act_shown act.now)
         (workspace_in (own_shown own.old) pool.now table.now refs.now))
         (workspace_in (own_shown own.new) pool.now table.now refs.now) out out result }
 {
     match act {
         Act::ResetTo(from) => reset_to(pool, table, refs, own, from),
         Act::SetMark { mark, commit } => alias(pool, table, refs, own, *mark, commit),
-        _ => own::set(own, refs, act),
+        Act::OpenCommit { mark, message } => open_commit(pool, table, refs, own, *mark, message),
+        _ => own::set(pool, table, refs, own, act),
     }
 }

@@ -1,9 +1,13 @@
-//! What the lines of a command say before it takes effect: git-fast-import(1), "tag" and "reset".
+//! What the lines of a command say before it takes effect: git-fast-import(1), "commit", "tag" and
+//! "reset".
 
 ghost use Rattle.std.specs.Prelude.{◌≡◌};
 ghost use Rattle.import_session.specs.Workspace.{said_of};
 
+use crate::encoding::Encoding;
 use crate::target::Target;
+use git_model::FileMode;
+use git_paths::Path;
 use std::alloc::Global;
 use stream_grammar::Ident;
 use tenant_refs::RefName;
@@ -13,10 +17,25 @@ use tenant_refs::RefName;
 pub struct Said {
     /// The ref that it names.
     pub ref_name: RefName,
+    /// Who wrote a commit; without one, its committer did.
+    pub author: Option<Ident>,
+    /// Who made a commit.
+    pub committer: Option<Ident>,
+    /// The encoding of a commit's message, where it is not that of UTF-8.
+    pub encoding: Option<Encoding>,
     /// What a tag is of.
     pub target: Target,
-    /// Who made it.
+    /// Who made a tag.
     pub tagger: Option<Ident>,
+}
+
+/// Where in the open commit the next data is to stand.
+#[derive(Drop)]
+pub struct Inline {
+    /// A file's mode.
+    pub mode: FileMode,
+    /// The path of the file.
+    pub path: Path,
 }
 
 // A command has named its ref, and has said nothing else yet.
@@ -25,6 +44,9 @@ pub fn said_of(alloc: Global, ref_name: RefName) -> Said
 {
     Said {
         ref_name,
+        author: None,
+        committer: None,
+        encoding: None,
         target: Target::new(alloc),
         tagger: None,
     }

@@ -8,4 +8,3 @@ abbrev pub code_of : ServiceFault → ℕ
 code_of fault.NoStream = 30
 code_of fault.StreamIsOpen = 31
 code_of fault.BadTenantName = 32
-code_of fault.BadQuery = 40

@@ -14,8 +14,6 @@ pub enum ServiceFault {
     StreamIsOpen,
     /// A name that no tenant can have, 32.
     BadTenantName,
-    /// A query that is none, 40.
-    BadQuery,
 }
 
 impl ServiceFault {
@@ -27,7 +25,6 @@ impl ServiceFault {
             ServiceFault::NoStream => 30,
             ServiceFault::StreamIsOpen => 31,
             ServiceFault::BadTenantName => 32,
-            ServiceFault::BadQuery => 40,
         }
     }
 

@@ -61,9 +61,9 @@ struct TagCase {
     holds: Option<&'static [u8; 40]>,
 }
 
-// What a stream of steps leaves of as many refs as there may be, `refs/tags/v` not among them, after
-// the cases before it: the number of its last answer, how many refs there are then, and whether that one and
-// the first branch are.
+// What a stream of steps, for which nothing is printed, leaves of as many refs as there may be,
+// `refs/tags/v` not among them, after the cases before it: the number of its last answer, how many
+// refs there are then, and whether that one and the first branch are.
 struct FullCase {
     leaves: &'static str,
     steps: &'static [Step<'static>],
@@ -119,6 +119,20 @@ const MESSAGE: Step<'static> = Step::Take(Item::Data(b"first\n"));
 
 // The bytes of the message in another order, so that they have the same sum.
 const MESSAGE_TURNED: Step<'static> = Step::Take(Item::Data(b"tsrif\n"));
+
+const COMMIT: Step<'static> = Step::Take(Item::Line(b"commit refs/heads/m"));
+
+const OTHER_COMMIT: Step<'static> = Step::Take(Item::Line(b"commit refs/heads/n"));
+
+const COMMITTER: Step<'static> = Step::Take(Item::Line(
+    b"committer A U Thor <author@example.com> 1700000000 +0100",
+));
+
+const FILE: Step<'static> = Step::Take(Item::Line(b"M 100644 :1 a/x"));
+
+const SHOW_DIRECTORY: Step<'static> = Step::Take(Item::Line(b"ls \"a\""));
+
+const BLANK: Step<'static> = Step::Take(Item::Blank);
 
 const SECOND_MARK: Step<'static> = Step::Take(Item::Line(b"mark :2"));
 
@@ -284,6 +298,77 @@ const CASES: &[Case] = &[
         },
     },
     Case {
+        does: "stores nothing of an open commit, and gives it up",
+        steps: &[COMMIT, COMMITTER, MESSAGE],
+        printed: b"",
+        left: NOTHING,
+    },
+    Case {
+        does: "stores the trees and the commit at its end",
+        steps: &[
+            BLOB,
+            MARK,
+            HELLO,
+            COMMIT,
+            SECOND_MARK,
+            COMMITTER,
+            MESSAGE,
+            FILE,
+            BLANK,
+        ],
+        printed: b"",
+        left: Left {
+            number: 0,
+            is_done: false,
+            stored: (4, 227),
+            given_up: (0, 0),
+        },
+    },
+    Case {
+        does: "keeps an open commit at the end, under the name that git gives it",
+        steps: &[
+            BLOB,
+            MARK,
+            HELLO,
+            COMMIT,
+            SECOND_MARK,
+            COMMITTER,
+            MESSAGE,
+            FILE,
+            Step::Take(Item::Line(b"get-mark :2")),
+            DONE,
+        ],
+        printed: b"26e2a0f90dcf1cdf9f348baeda73dcbe52441f58\n",
+        left: Left {
+            number: 0,
+            is_done: true,
+            stored: (4, 227),
+            given_up: (4, 227),
+        },
+    },
+    Case {
+        does: "stores the directory that ls shows of an open commit, and gives it up",
+        steps: &[
+            BLOB,
+            MARK,
+            HELLO,
+            CHECKPOINT,
+            COMMIT,
+            COMMITTER,
+            MESSAGE,
+            FILE,
+            SHOW_DIRECTORY,
+            WRONG,
+        ],
+        printed: b"040000 tree e31a96220fbfbe7601ecc086a36b96dc27a8867e\ta\n",
+        left: Left {
+            number: 2,
+            is_done: false,
+            stored: (2, 35),
+            given_up: (1, 6),
+        },
+    },
+    Case {
         does: "takes features and options",
         steps: &[
             FEATURE_DONE,
@@ -319,9 +404,91 @@ const CASES: &[Case] = &[
 
 const REFUSALS: &[Refusal] = &[
     Refusal {
-        refuses: "a commit",
-        steps: &[Step::Take(Item::Line(b"commit refs/heads/m"))],
+        refuses: "a commit without a committer",
+        steps: &[COMMIT, MESSAGE],
+        number: 5,
+    },
+    Refusal {
+        refuses: "an end in the place of a message",
+        steps: &[COMMIT, COMMITTER, Step::Finish],
+        number: 5,
+    },
+    Refusal {
+        refuses: "an end without done before that of a commit of which another content has the name",
+        steps: &[
+            FEATURE_DONE,
+            COMMIT,
+            COMMITTER,
+            MESSAGE,
+            OTHER_COMMIT,
+            COMMITTER,
+            MESSAGE_TURNED,
+            Step::Finish,
+        ],
+        number: 7,
+    },
+    Refusal {
+        refuses: "a commit whose name is that of another content, at its end",
+        steps: &[
+            COMMIT,
+            COMMITTER,
+            MESSAGE,
+            OTHER_COMMIT,
+            COMMITTER,
+            MESSAGE_TURNED,
+            BLANK,
+        ],
+        number: 24,
+    },
+    Refusal {
+        refuses: "what is no command before that end, for the text is judged first",
+        steps: &[
+            COMMIT,
+            COMMITTER,
+            MESSAGE,
+            OTHER_COMMIT,
+            COMMITTER,
+            MESSAGE_TURNED,
+            WRONG,
+        ],
         number: 2,
+    },
+    Refusal {
+        refuses: "a mark that is not there behind that end, for the commit ends first",
+        steps: &[
+            COMMIT,
+            COMMITTER,
+            MESSAGE,
+            OTHER_COMMIT,
+            COMMITTER,
+            MESSAGE_TURNED,
+            Step::Take(Item::Line(b"get-mark :9")),
+        ],
+        number: 24,
+    },
+    Refusal {
+        refuses: "contents of a file whose name is that of another content",
+        steps: &[
+            BLOB,
+            Step::Take(Item::Data(b"ab")),
+            COMMIT,
+            COMMITTER,
+            MESSAGE,
+            Step::Take(Item::Line(b"M 100644 inline a")),
+            Step::Take(Item::Data(b"ba")),
+        ],
+        number: 24,
+    },
+    Refusal {
+        refuses: "contents of a file in the place of the root",
+        steps: &[
+            COMMIT,
+            COMMITTER,
+            MESSAGE,
+            Step::Take(Item::Line(b"M 100644 inline ")),
+            HELLO,
+        ],
+        number: 20,
     },
     Refusal {
         refuses: "a tag of a bad name",
@@ -604,6 +771,12 @@ const REF_CASES: &[RefCase] = &[
         has_ref: true,
     },
     RefCase {
+        leaves: "the ref of a branch with a commit, for what it holds is none",
+        steps: &[COMMIT, COMMITTER, MESSAGE, DONE],
+        head: b"refs/heads/main",
+        has_ref: true,
+    },
+    RefCase {
         leaves: "no ref of a branch that is deleted",
         steps: &[RESET, FROM_ZEROS, Step::Take(Item::Blank), DONE],
         head: b"refs/heads/main",
@@ -775,6 +948,30 @@ const FULL: usize = 65_536;
 const RESET_FIRST: Step<'static> = Step::Take(Item::Line(b"reset refs/heads/aaaa"));
 
 const FULL_CASES: &[FullCase] = &[
+    FullCase {
+        leaves: "all refs at a checkpoint with one branch too many",
+        steps: &[COMMIT, COMMITTER, MESSAGE, CHECKPOINT],
+        number: 25,
+        count: FULL,
+        has_tag: false,
+        has_first: true,
+    },
+    FullCase {
+        leaves: "all refs at a checkpoint with one branch too many, and tells none that is kept",
+        steps: &[
+            Step::Take(Item::Line(b"commit refs/heads/aaaa")),
+            COMMITTER,
+            MESSAGE,
+            OTHER_COMMIT,
+            COMMITTER,
+            MESSAGE,
+            CHECKPOINT,
+        ],
+        number: 25,
+        count: FULL,
+        has_tag: false,
+        has_first: true,
+    },
     FullCase {
         leaves: "all refs at a checkpoint with one tag too many",
         steps: &[BLOB, MARK, HELLO, TAG, FROM_MARK, MESSAGE, CHECKPOINT],
@@ -952,6 +1149,7 @@ fn leaves_full(alloc: Global, refs: &mut Refs, case: &FullCase) -> bool {
     let mut out = Vec::new(alloc);
     let left = run(alloc, Sha1Naming, refs, case.steps, &mut out);
     left.number == case.number
+        && out.is_empty()
         && refs.len() == case.count
         && refs.get(b"refs/tags/v").is_some() == case.has_tag
         && refs.get(b"refs/heads/aaaa").is_some() == case.has_first

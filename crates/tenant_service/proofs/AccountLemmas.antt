@@ -268,6 +268,17 @@ serves-missing digest name call p es new answer out h none same is =
       others = λ other apart. refl;
     })
 
+-- one that answers of what is held, and changes nothing
+pub serves-same : (digest : List ℕ → List ℕ) (name : List ℕ) (call : Call) (p : Cells) (es : Tenants) (held : Holding) (answer : Answer) (out out' : List ℕ)
+    → Accounts digest p es → held_of name (holdings p es) ≡ held
+    → Takes (step_held digest call (stop_told answer) held) answer out out' held
+    → Serves digest name call (store p es) answer out out' (store p es)
+serves-same digest name call p es held answer out out' h is takes = record {
+  accounts = h;
+  own = subst (λ (x : Holding). Takes (step_held digest call (stop_told answer) x) answer out out' x) (sym is) takes;
+  others = λ other apart. refl;
+}
+
 -- one that adds it
 pub serves-new : (digest : List ℕ → List ℕ) (name : List ℕ) (call : Call) (p : Cells) (es new : Tenants) (t : Tenant) (answer : Answer) (out out' : List ℕ)
     → Accounts digest p es → is_tenant_name name ≡ true → lookup (bytes_eq name) es ≡ None → new ≡ es ++ (name, t) ∷ []

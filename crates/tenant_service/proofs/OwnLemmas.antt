@@ -13,10 +13,12 @@ use Rattle.import_session.specs.declared.fault.Fault.{Fault}
 use Rattle.import_session.specs.Workspace.{opened}
 use Rattle.import_session.specs.Stream.{Running, Step, Standing, Runs, Refused, Outcome, begun, after_reply, carried, going_on, step, at_tail, last_checkpoint}
 use Rattle.tenant_stream.specs.Carrying.{outcome_behind}
+use Rattle.answers.specs.declared.fault.Fault.{Fault as Refusal}
+use Rattle.answers.specs.Answers.{answer_to}
 use Rattle.service_steps.specs.declared.answer.Answer.TheVariants as answer
-use Rattle.tenant_service.specs.Alone.{Call, Open, Feed, End, Ask, Restart, State, Closed, Streaming, Dead, Turn, turn, Stopped, stop_at, stop_behind, stream_of, last_of, feed_stop, open_alone, feed_alone, added, fed_by, fed, fed_well, fed_until, ended, closed, run_alone}
+use Rattle.tenant_service.specs.Alone.{Call, Open, Feed, End, Ask, Restart, State, Closed, Streaming, Dead, Turn, turn, Stopped, stop_at, stop_behind, stream_of, last_of, feed_stop, open_alone, feed_alone, added, fed_by, fed, fed_well, fed_until, ended, closed, last_alone, answered, asked, run_alone}
 use Rattle.tenant_service.specs.Headline.{told_by}
-use Rattle.tenant_service.specs.Holding.{Holding, Idle, Busy, LeadsTo, standing_answer, gone_on, held_until, open_held, feed_held, fed_held, step_held}
+use Rattle.tenant_service.specs.Holding.{Holding, Idle, Busy, LeadsTo, last_held, standing_answer, gone_on, held_until, open_held, feed_held, fed_held, step_held}
 use Rattle.tenant_stream.proofs.StreamLemmas.{carried-done, carried-tail}
 
 -- ---- items after items
@@ -283,6 +285,34 @@ opened-leads digest None repository = record { told = refl; leads = refl }
 opened-leads digest (Some zero) repository = record { told = refl; leads = refl }
 opened-leads digest (Some (suc count)) repository = record { told = refl; leads = refl }
 
+-- what leads to what is held leads to its last checkpoint
+last-leads : (digest : List ℕ → List ℕ) (state : State) (held : Holding) → LeadsTo digest state held → last_alone digest state ≡ last_held held
+last-leads digest (Closed r) (Idle r') h = h
+last-leads digest (Streaming r bytes) (Busy (Runs now tail)) h = ap last_of h
+last-leads digest (Dead code r) (Busy standing) h = sym (ap last_of h)
+last-leads digest (Closed r) (Busy standing) h = elim h [ ]
+last-leads digest (Streaming r bytes) (Idle r') h = elim h [ ]
+last-leads digest (Streaming r bytes) (Busy (Refused _ _)) h = elim h [ ]
+last-leads digest (Dead code r) (Idle r') h = elim h [ ]
+
+-- a query, by its answer
+answered-meets : (digest : List ℕ → List ℕ) (result : Result (List ℕ) Refusal) (state : State) (held : Holding) → LeadsTo digest state held
+    → Meets digest (answered result state) (answered result held)
+answered-meets digest (Ok text) state held h = record { told = refl; leads = h }
+answered-meets digest (Err refusal) state held h = record { told = refl; leads = h }
+
+asked-leads : (digest : List ℕ → List ℕ) (query : List ℕ) (stop : Option ℕ) (r : Repository) (state : State) (held : Holding) → LeadsTo digest state held
+    → Meets digest (asked query stop r state) (asked query stop r held)
+asked-leads digest query None r state held h = answered-meets digest (answer_to r query) state held h
+asked-leads digest query (Some zero) r state held h = record { told = refl; leads = h }
+asked-leads digest query (Some (suc count)) r state held h = answered-meets digest (answer_to r query) state held h
+
+asked-meets : (digest : List ℕ → List ℕ) (query : List ℕ) (stop : Option ℕ) (state : State) (held : Holding) → LeadsTo digest state held
+    → Meets digest (asked query stop (last_alone digest state) state) (asked query stop (last_held held) held)
+asked-meets digest query stop state held h =
+    subst (λ (r : Repository). Meets digest (asked query stop (last_alone digest state) state) (asked query stop r held)) (last-leads digest state held h)
+    (asked-leads digest query stop (last_alone digest state) state held h)
+
 pub meets : (digest : List ℕ → List ℕ) (call : Call) (stop : Option ℕ) (state : State) (held : Holding) → LeadsTo digest state held
     → Meets digest (run_alone digest call stop state) (step_held digest call stop held)
 meets digest Open stop (Closed r) (Idle r') h = subst (λ (x : Repository). Meets digest (open_alone stop (Closed r)) (open_held stop (Idle x))) h (opened-leads digest stop r)
@@ -297,10 +327,8 @@ meets digest End stop (Streaming r bytes) (Busy (Runs now tail)) h =
     subst (λ (x : Standing). Meets digest (closed Closed (ended digest stop x)) (closed Idle (ended digest stop (Runs now tail)))) (sym h) (ended-leads digest (ended digest stop (Runs now tail)))
 meets digest End stop (Dead code r) (Busy standing) h =
     subst (λ (x : Standing). Meets digest (closed Closed (ended digest stop (Refused code r))) (closed Idle (ended digest stop x))) (sym h) (ended-leads digest (ended digest stop (Refused code r)))
-meets digest (Ask query) stop state held h = record { told = refl; leads = h }
-meets digest Restart stop (Closed r) (Idle r') h = record { told = refl; leads = h }
-meets digest Restart stop (Streaming r bytes) (Busy (Runs now tail)) h = record { told = refl; leads = ap last_of h }
-meets digest Restart stop (Dead code r) (Busy standing) h = record { told = refl; leads = sym (ap last_of h) }
+meets digest (Ask query) stop state held h = asked-meets digest query stop state held h
+meets digest Restart stop state held h = record { told = refl; leads = last-leads digest state held h }
 meets digest Open stop (Closed r) (Busy standing) h = elim h [ ]
 meets digest Open stop (Streaming r bytes) (Idle r') h = elim h [ ]
 meets digest Open stop (Streaming r bytes) (Busy (Refused _ _)) h = elim h [ ]
@@ -313,7 +341,3 @@ meets digest End stop (Closed r) (Busy standing) h = elim h [ ]
 meets digest End stop (Streaming r bytes) (Idle r') h = elim h [ ]
 meets digest End stop (Streaming r bytes) (Busy (Refused _ _)) h = elim h [ ]
 meets digest End stop (Dead code r) (Idle r') h = elim h [ ]
-meets digest Restart stop (Closed r) (Busy standing) h = elim h [ ]
-meets digest Restart stop (Streaming r bytes) (Idle r') h = elim h [ ]
-meets digest Restart stop (Streaming r bytes) (Busy (Refused _ _)) h = elim h [ ]
-meets digest Restart stop (Dead code r) (Idle r') h = elim h [ ]

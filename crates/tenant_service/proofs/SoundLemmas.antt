@@ -1,5 +1,5 @@
 -- What is held of a tenant stays sound.
-use Rattle.std.proofs.Common.{◌≡◌, ℕ, zero, suc, Bool, true, false, cond, List, [], length, take, Option, None, Some, refl, sym, ap, subst, ◌∙◌}
+use Rattle.std.proofs.Common.{◌≡◌, ℕ, zero, suc, Bool, true, false, cond, List, [], length, take, Option, None, Some, Result, Ok, Err, refl, sym, ap, subst, ◌∙◌}
 use Rattle.std.specs.Prelude.{nat_le}
 use Rattle.std.specs.Map.{lookup}
 use Rattle.std.specs.Str.{bytes_eq}
@@ -14,6 +14,8 @@ use Rattle.stream_lex.specs.Running.{more_of}
 use Rattle.import_session.specs.Stream.{Running, Outcome, Standing, Runs, Refused, carried, last_checkpoint}
 use Rattle.import_session.specs.Sound.{IsSound, IsSoundRepository}
 use Rattle.import_session.proofs.SoundLemmas.{empty_is_sound, new_is_sound, checkpoint_is_sound}
+use Rattle.answers.specs.declared.fault.Fault.{Fault as Refusal}
+use Rattle.answers.specs.Answers.{answer_to}
 use Rattle.service_steps.specs.declared.answer.Answer.{Answer}
 use Rattle.service_steps.specs.declared.step.Step.{Step}
 use Rattle.service_steps.specs.declared.step.Step.TheVariants as step
@@ -23,7 +25,7 @@ use Rattle.tenant_stream.proofs.SoundLemmas.{carried_sound, finished_sound}
 use Rattle.tenant_service.specs.declared.tenant.Phase.{Phase}
 use Rattle.tenant_service.specs.declared.tenant.Phase.TheVariants as phase
 use Rattle.tenant_service.specs.declared.tenant.Tenant.{Tenant}
-use Rattle.tenant_service.specs.Alone.{Call, Open, Feed, End, Ask, Restart, Turn, Stopped, ended, ended_well, stop_at, stop_behind, unless_out_of_memory}
+use Rattle.tenant_service.specs.Alone.{Call, Open, Feed, End, Ask, Restart, Turn, Stopped, answered, asked, ended, ended_well, stop_at, stop_behind, unless_out_of_memory}
 use Rattle.tenant_service.specs.Holding.{Holding, Holdings, Idle, Busy, IsSoundHolding, end_held, fed_held, feed_held, gone_on, held_of, held_until, last_held, open_held, step_held}
 use Rattle.tenant_service.specs.Tenants.{Tenants, AreSound, held_in, holding_in, holdings}
 use Rattle.tenant_service.specs.OneStep.{Takes, Calls, Steps, store}
@@ -67,11 +69,25 @@ unless-sound digest None left well stopped sound = sound
 unless-sound digest (Some zero) left well stopped sound = stopped
 unless-sound digest (Some (suc count)) left well stopped sound = sound
 
-last-sound : (digest : List ℕ → List ℕ) (held : Holding) → IsSoundHolding digest held
+pub last-sound : (digest : List ℕ → List ℕ) (held : Holding) → IsSoundHolding digest held
     → IsSoundRepository digest (last_held held)
 last-sound digest (Idle repository) sound = sound
 last-sound digest (Busy (Runs now tail)) sound = checkpoint_is_sound digest now.workspace sound
 last-sound digest (Busy (Refused code repository)) sound = sound
+
+answered-sound : (digest : List ℕ → List ℕ) (result : Result (List ℕ) Refusal) (held : Holding)
+    → IsSoundHolding digest held → IsSoundHolding digest (answered result held).state
+answered-sound digest (Ok text) held sound = sound
+answered-sound digest (Err refusal) held sound = sound
+
+asked-sound : (digest : List ℕ → List ℕ) (query : List ℕ) (stop : Option ℕ)
+    (repository : Repository) (held : Holding) → IsSoundHolding digest held
+    → IsSoundHolding digest (asked query stop repository held).state
+asked-sound digest query None repository held sound =
+    answered-sound digest (answer_to repository query) held sound
+asked-sound digest query (Some zero) repository held sound = sound
+asked-sound digest query (Some (suc count)) repository held sound =
+    answered-sound digest (answer_to repository query) held sound
 
 module _ (digest : List ℕ → List ℕ) (names : AnswersNames digest) where
   stop_behind-sound : (now : Running) (items : List Item) (count : ℕ)
@@ -135,7 +151,8 @@ module _ (digest : List ℕ → List ℕ) (names : AnswersNames digest) where
   call-sound Open stop held sound = open-sound digest stop held sound
   call-sound (Feed piece) stop held sound = feed-sound piece stop held sound
   call-sound End stop held sound = end-sound stop held sound
-  call-sound (Ask query) stop held sound = sound
+  call-sound (Ask query) stop held sound =
+      asked-sound digest query stop (last_held held) held sound
   call-sound Restart stop held sound = last-sound digest held sound
 
   takes-sound : (call : Call) (stop : Option ℕ) (before : Holding) (answer : Answer)

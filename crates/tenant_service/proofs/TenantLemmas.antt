@@ -1,27 +1,32 @@
 -- One tenant: what is held of it after each call.
-use Rattle.std.proofs.Common.{◌≡◌, ℕ, Bool, true, false, cond, List, [], ◌++◌, length, take, Option, None, Some, Result, Ok, Err, refl, sym, ap, subst, ◌∙◌, arith, append-nil}
+use Rattle.std.proofs.Common.{◌≡◌, ℕ, Bool, true, false, cond, List, [], ◌++◌, length, take, Option, None, Some, Result, Ok, Err, ◌≢◌, refl, sym, ap, subst, ◌∙◌, arith, append-nil}
 use Rattle.std.proofs.lemmas.List.{take_all}
 use Rattle.git_model.specs.RefStore.{RefStore, no_refs}
 use Rattle.git_model.specs.Repository.{Repository, Object}
 use Rattle.content_pool.specs.Pool.{Cells}
 use Rattle.tenant_tables.specs.View.{View}
 use Rattle.tenant_tables.specs.Objects.{objects}
-use Rattle.tenant_tables.proofs.TableLemmas.{length-objects}
+use Rattle.tenant_tables.proofs.TableLemmas.{length-objects, objects-take}
 use Rattle.stream_lex.specs.Items.{Tail, Rest}
 use Rattle.stream_lex.specs.Running.{more_of, extended}
 use Rattle.stream_grammar.specs.Commands.{top}
 use Rattle.import_session.specs.Session.{nothing_own, repository_in, workspace_in}
 use Rattle.import_session.specs.Stream.{Running, Runs, Refused, Outcome, End, finished, running_end, last_checkpoint, ended_well as import_ended}
+use Rattle.answers.specs.declared.fault.Fault.{Fault as Refusal}
+use Rattle.answers.specs.declared.fault.Fault.TheVariants as refusal
+use Rattle.answers.specs.Faults.{Prints, code_of}
+use Rattle.answers.specs.Answers.{answer_to}
 use Rattle.service_steps.specs.declared.answer.Answer.TheVariants as answer
 use Rattle.tenant_stream.specs.declared.stop.Stop.{Stop}
 use Rattle.tenant_stream.specs.declared.stop.Stop.TheVariants as stop
 use Rattle.tenant_service.specs.declared.tenant.Phase.{Phase}
 use Rattle.tenant_service.specs.declared.tenant.Phase.TheVariants as phase
-use Rattle.tenant_service.specs.Alone.{Open, End as EndCall, Turn, turn, Stopped, ended, ended_well, end_answer, closed}
+use Rattle.tenant_service.specs.Alone.{Open, Ask, End as EndCall, Turn, turn, Stopped, answered, asked, unless_out_of_memory, ended, ended_well, end_answer, closed}
 use Rattle.tenant_stream.specs.Carrying.{outcome_behind, Between, new_stream, stream_in, Carries, Feeds, Stays, IsEnd, StopsAtEnd}
-use Rattle.tenant_service.specs.Holding.{Idle, Busy, empty_repository, last_held, step_held, fed_held, held_until, gone_on, standing_answer, end_held}
+use Rattle.tenant_service.specs.Headline.{stop_told}
+use Rattle.tenant_service.specs.Holding.{Holding, Idle, Busy, empty_repository, last_held, step_held, fed_held, held_until, gone_on, standing_answer, end_held}
 use Rattle.tenant_service.specs.Tenants.{held_in, standing_in, kept_tail, IsSettled}
-use Rattle.tenant_service.specs.OneStep.{Takes, GoesTo, StopsBehind, Fed}
+use Rattle.tenant_service.specs.OneStep.{Takes, GoesTo, StopsBehind, Fed, refusal_told}
 use Rattle.tenant_stream.proofs.StreamLemmas.{carried-done}
 use Rattle.tenant_service.proofs.StreamLemmas.{GoesTo-goes, GoesTo-fails, StopsBehind-stops}
 
@@ -211,3 +216,54 @@ took-stopped_at_end digest ph new s p q t u r v count out out' is after h =
     subst (λ (y : Phase). Takes (step_held digest EndCall (Some count) (held_in ph p t r)) (answer.Memory count) out out' (held_in y q u v)) (sym after)
     (subst (λ (x : Phase). Takes (step_held digest EndCall (Some count) (held_in x p t r)) (answer.Memory count) out out' (Idle (repository_in q u v))) (sym is)
     (took-end_stopped digest s p t r count out out' (repository_in q u v) h))
+
+-- the repository that a query is asked of
+pub saved_is : (ph : Phase) (pool : Cells) (table : View) (refs : RefStore) → IsSettled ph table
+    → ◌≡◌ {A = Repository} (record { objects = objects pool (take table.committed table.entries); refs = refs })
+    (last_held (held_in ph pool table refs))
+saved_is ph pool table refs settled =
+    given_up ph pool pool table (record table { entries = take table.committed table.entries }) refs settled
+    (objects-take pool table.committed table.entries)
+
+-- a query that was answered
+told : (defined : Result (List ℕ) Refusal) (held : Holding) (out out' : List ℕ) → Prints defined out out' (Ok tt)
+    → Takes (answered defined held) answer.Ok out out' held
+told (Ok text) held out out' printed = record { answered = refl; printed = printed; leaves = refl }
+told (Err e) held out out' printed = elim printed [ ]
+
+pub took-told : (digest : List ℕ → List ℕ) (query : List ℕ) (r : Repository) (held : Holding) (out out' : List ℕ) → r ≡ last_held held
+    → Prints (answer_to r query) out out' (Ok tt)
+    → Takes (step_held digest (Ask query) None held) answer.Ok out out' held
+took-told digest query r held out out' is printed =
+    subst (λ (x : Repository). Takes (asked query None x held) answer.Ok out out' held) is
+    (told (answer_to r query) held out out' printed)
+
+-- and one that was refused
+refused : (defined : Result (List ℕ) Refusal) (held : Holding) (out out' : List ℕ) (e : Refusal) → e ≢ refusal.Memory
+    → Prints defined out out' (Err e) → out' ≡ out
+    → Takes (answered defined held) (answer.Fault (code_of e)) out out' held
+refused (Ok text) held out out' e other printed same = absurd (other printed)
+refused (Err e') held out out' e other printed same = record {
+  answered = ap (λ (x : Refusal). answer.Fault (code_of x)) (sym (printed other));
+  printed = same ∙ sym (append-nil out);
+  leaves = refl;
+}
+
+refused_by : (defined : Result (List ℕ) Refusal) (held : Holding) (out out' : List ℕ) (e : Refusal)
+    → Prints defined out out' (Err e) → out' ≡ out
+    → Takes (unless_out_of_memory (stop_told (refusal_told e)) held (answered defined held)) (refusal_told e) out out' held
+refused_by defined held out out' refusal.Memory printed same =
+    record { answered = refl; printed = same ∙ sym (append-nil out); leaves = refl }
+refused_by defined held out out' refusal.WrongKind printed same = refused defined held out out' refusal.WrongKind (λ e. cc) printed same
+refused_by defined held out out' refusal.UnknownRevision printed same = refused defined held out out' refusal.UnknownRevision (λ e. cc) printed same
+refused_by defined held out out' refusal.Ambiguous printed same = refused defined held out out' refusal.Ambiguous (λ e. cc) printed same
+refused_by defined held out out' refusal.Limit printed same = refused defined held out out' refusal.Limit (λ e. cc) printed same
+refused_by defined held out out' refusal.UnknownQuery printed same = refused defined held out out' refusal.UnknownQuery (λ e. cc) printed same
+refused_by defined held out out' refusal.MalformedQuery printed same = refused defined held out out' refusal.MalformedQuery (λ e. cc) printed same
+
+pub took-refused_query : (digest : List ℕ → List ℕ) (query : List ℕ) (r : Repository) (held : Holding) (out out' : List ℕ) (e : Refusal) → r ≡ last_held held
+    → Prints (answer_to r query) out out' (Err e) → out' ≡ out
+    → Takes (step_held digest (Ask query) (stop_told (refusal_told e)) held) (refusal_told e) out out' held
+took-refused_query digest query r held out out' e is printed same =
+    subst (λ (x : Repository). Takes (asked query (stop_told (refusal_told e)) x held) (refusal_told e) out out' held) is
+    (refused_by (answer_to r query) held out out' e printed same)

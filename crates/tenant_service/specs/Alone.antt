@@ -1,10 +1,13 @@
 -- A repository of its own: what a tenant is told and what it has, as if nobody else were there.
-use Rattle.std.specs.Prelude.{ℕ, zero, ◌+◌, false, nat_le, if◌then◌else◌, List, [], ◌++◌, length, take, drop, Option, None, Some}
+use Rattle.std.specs.Prelude.{ℕ, zero, ◌+◌, false, nat_le, if◌then◌else◌, List, [], ◌++◌, length, take, drop, Option, None, Some, Result, Ok, Err}
 use Rattle.git_model.specs.Repository.{Repository}
 use Rattle.stream_lex.specs.Items.{Item, Rest}
 use Rattle.stream_lex.specs.Reading.{reading}
 use Rattle.import_session.specs.Workspace.{opened}
 use Rattle.import_session.specs.Stream.{Running, Standing, Runs, Refused, Outcome, begun, carried, last_checkpoint, finished}
+use Rattle.answers.specs.declared.fault.Fault.{Fault}
+use Rattle.answers.specs.Faults.{code_of}
+use Rattle.answers.specs.Answers.{answer_to}
 use Rattle.service_steps.specs.declared.answer.Answer.{Answer}
 use Rattle.service_steps.specs.declared.answer.Answer.TheVariants as answer
 
@@ -153,11 +156,20 @@ last_alone digest (Streaming repository bytes) =
     last_of (stream_of digest repository bytes).standing
 last_alone digest (Dead code repository) = repository
 
+-- Ask: what the repository at the last checkpoint answers. Nothing changes.
+abbrev pub answered : {S : Type 0} → Result (List ℕ) Fault → S → Turn S
+answered (Ok text) state = turn answer.Ok text state
+answered (Err refusal) state = refused_under (code_of refusal) state
+
+abbrev pub asked : {S : Type 0} → List ℕ → Option ℕ → Repository → S → Turn S
+asked query stop repository state =
+    unless_out_of_memory stop state (answered (answer_to repository query) state)
+
 -- What a call is answered and what it leaves, in a repository of its own, given whether the call
--- ran out of memory, and after how many items. No query is known yet, so each Ask is refused.
+-- ran out of memory, and after how many items.
 abbrev pub run_alone : (List ℕ → List ℕ) → Call → Option ℕ → State → Turn State
 run_alone digest Open stop state = open_alone stop state
 run_alone digest (Feed piece) stop state = feed_alone digest piece stop state
 run_alone digest End stop state = end_alone digest stop state
-run_alone digest (Ask query) stop state = refused_under 40 state
+run_alone digest (Ask query) stop state = asked query stop (last_alone digest state) state
 run_alone digest Restart stop state = turn answer.Ok [] (Closed (last_alone digest state))

@@ -18,7 +18,7 @@ use Rattle.tenant_stream.specs.Carrying.{outcome_behind}
 use Rattle.tenant_stream.specs.Soundness.{IsSoundStanding}
 use Rattle.service_steps.specs.declared.answer.Answer.{Answer}
 use Rattle.service_steps.specs.declared.answer.Answer.TheVariants as answer
-use Rattle.tenant_service.specs.Alone.{Call, Open, Feed, End, Ask, Restart, State, Closed, Streaming, Dead, Turn, turn, refused_under, unless_out_of_memory, stream_of, last_of, Stopped, stop_behind, ended, closed}
+use Rattle.tenant_service.specs.Alone.{Call, Open, Feed, End, Ask, Restart, State, Closed, Streaming, Dead, Turn, turn, refused_under, unless_out_of_memory, stream_of, last_of, Stopped, stop_behind, ended, closed, asked}
 
 -- Of a tenant without a stream its repository is held, of one with a stream how the stream stands.
 pub data Holding : Type 0 where
@@ -117,5 +117,5 @@ abbrev pub step_held : (List ℕ → List ℕ) → Call → Option ℕ → Holdi
 step_held digest Open stop held = open_held stop held
 step_held digest (Feed piece) stop held = feed_held digest piece stop held
 step_held digest End stop held = end_held digest stop held
-step_held digest (Ask query) stop held = refused_under 40 held
+step_held digest (Ask query) stop held = asked query stop (last_held held) held
 step_held digest Restart stop held = turn answer.Ok [] (Idle (last_held held))

@@ -7,6 +7,9 @@ use Rattle.tenant_refs.specs.TenantName.{is_tenant_name}
 use Rattle.stream_lex.specs.Items.{Tail}
 use Rattle.stream_lex.specs.Running.{more_of}
 use Rattle.import_session.specs.Stream.{Running, Standing, Runs, Refused, last_checkpoint}
+use Rattle.answers.specs.declared.fault.Fault.{Fault}
+use Rattle.answers.specs.declared.fault.Fault.TheVariants as fault
+use Rattle.answers.specs.Faults.{code_of}
 use Rattle.service_steps.specs.declared.answer.Answer.{Answer}
 use Rattle.service_steps.specs.declared.answer.Answer.TheVariants as answers
 use Rattle.service_steps.specs.declared.step.Step.{Step}
@@ -50,6 +53,16 @@ Fed digest now tail piece out (Err (stop.Fault code)) out' next kept =
     GoesTo digest now tail piece out out' (Refused code (last_checkpoint next.workspace))
 Fed digest now tail piece out (Err (stop.Memory count)) out' next kept =
     StopsBehind digest now tail piece count out out' next
+
+-- What a query is answered that has no answer: want of memory is told apart.
+abbrev pub refusal_told : Fault → Answer
+refusal_told fault.Memory = answers.Memory 0
+refusal_told fault.WrongKind = answers.Fault (code_of fault.WrongKind)
+refusal_told fault.UnknownRevision = answers.Fault (code_of fault.UnknownRevision)
+refusal_told fault.Ambiguous = answers.Fault (code_of fault.Ambiguous)
+refusal_told fault.Limit = answers.Fault (code_of fault.Limit)
+refusal_told fault.UnknownQuery = answers.Fault (code_of fault.UnknownQuery)
+refusal_told fault.MalformedQuery = answers.Fault (code_of fault.MalformedQuery)
 
 -- The pool and all tenants, before a step or after it.
 pub record Store : Type 0 where

@@ -46,11 +46,12 @@ impl<N: Naming> Model for Service<N> {
     ghost use Rattle.tenant_service.specs.Holding.{Holdings};
     ghost use Rattle.std.specs.Coded.{codes};
     ghost use Rattle.tenant_service.specs.Holding.{ref_map_code};
+    ghost use Rattle.tenant_stream.specs.Carrying.{file_map_code};
     ghost use Rattle.tenant_service.specs.Tenants.{IsService, holdings};
 
     ghost Value = { Holdings };
 
-    ghost coded = { Prim.hlevel (codes, ref_map_code) };
+    ghost coded = { Prim.hlevel (codes, ref_map_code, file_map_code) };
 
     ghost view = { λ service. holdings service.pool service.tenants.entries };
 
@@ -132,17 +133,20 @@ impl<N: Naming> Service<N> {
         Some((&self.pool, &tenant.table, &tenant.refs))
     }
 
-    /// Takes one step, and appends the bytes of its reply to `out`: git-fast-import(1) for streams.
+    /// Takes one step, and appends the bytes of its reply to `out`: git-fast-import(1) for streams,
+    /// and for queries crate answers.
     ///
-    /// `ServiceFault`: a bad tenant name is 32; Open with a stream is 31, Feed or End without one is
-    /// 30; an Ask is 40, for no query is known yet. These change nothing and take no memory. A fault of the bytes
-    /// of a Feed, or of an End, is answered under its number, and leaves the last checkpoint; each
-    /// later Feed answers the number again, and so does the End, which always closes the stream.
+    /// `ServiceFault`: a bad tenant name is 32; Open with a stream is 31, Feed or End without one
+    /// is 30. These change nothing and take no memory. A fault of the bytes of a Feed, or of an
+    /// End, is answered under its number, and leaves the last checkpoint; each later Feed answers
+    /// the number again, and so does the End, which always closes the stream. An Ask is answered of
+    /// the last checkpoint, also while a stream runs, and changes nothing; what refuses the query
+    /// (40, 41) or what it asks of (15, 16, 17, 25) is answered under its number, and prints nothing.
     ///
-    /// `Memory` tells that a growth was refused: in an Open, where nothing has changed then; in an
-    /// End, which leaves the last checkpoint and no stream; or in a Feed after so many whole items
-    /// of the call. `out` then has the replies of those, the tenant stands at its last checkpoint,
-    /// and its stream is dead under 90.
+    /// `Memory` tells that a growth was refused: in an Open or an Ask, where nothing has changed
+    /// then; in an End, which leaves the last checkpoint and no stream; or in a Feed after so many
+    /// whole items of the call. `out` then has the replies of those, the tenant stands at its last
+    /// checkpoint, and its stream is dead under 90.
     pub fn step(&mut self, step: Step<'_>, out: &mut Vec<u8>) -> Answer
         ensures own { (tenant : List ℕ) → IsItsOwn N.digest_of tenant (held_of tenant self.old)
             ((step.entry, told_in result out.old.items out.new.items) ∷ [])

@@ -12,8 +12,9 @@ ghost use Rattle.tenant_stream.specs.Carrying.{HasAmpleRoom, stream_in};
 ghost use Rattle.tenant_service.specs.Headline.{stop_told};
 ghost use Rattle.tenant_service.specs.Holding.{Idle, IsSoundHolding, step_held, empty_repository, last_held};
 ghost use Rattle.tenant_service.specs.Tenants.{held_in, holding_in, kept_tail, Stands, IsSettled};
-ghost use Rattle.tenant_service.specs.OneStep.{Takes, Fed};
+ghost use Rattle.tenant_service.specs.OneStep.{Takes, Fed, refusal_told};
 
+use answers::{Fault, answer};
 use content_pool::Pool;
 use git_objects::Naming;
 use service_steps::{Answer, ServiceFault};
@@ -165,6 +166,7 @@ pub fn feed<N: Naming>(
 /// stream.
 pub fn end<N: Naming>(pool: &mut Pool<N>, tenant: &mut Tenant, out: &mut Vec<u8>) -> Answer
     requires stands { Stands N.digest_of pool.old tenant.old }
+    requires room { HasAmpleRoom pool.old }
     requires sound { IsSoundHolding N.digest_of (holding_in pool.old tenant.old) }
     ensures stands { Stands N.digest_of pool.new tenant.new }
     ensures others { LeavesOthers pool.old tenant.old.table.entries pool.new tenant.new.table.entries }
@@ -183,6 +185,54 @@ pub fn end<N: Naming>(pool: &mut Pool<N>, tenant: &mut Tenant, out: &mut Vec<u8>
             }
         }
     }
+}
+
+// What a query is answered that has no answer.
+fn refusal_told(refusal: Fault) -> Answer
+    ensures { result ≡ refusal_told refusal }
+{
+    match refusal {
+        Fault::Memory => Answer::Memory(0),
+        _ => Answer::Fault(refusal.code()),
+    }
+}
+
+/// Answers a query on the repository at the last checkpoint, after what `out` holds: crate answers
+/// has the queries, and the numbers under which they are refused. A stream that runs is not seen.
+///
+/// `Memory(0)` where memory ran out. Where there is no answer `out` is unchanged.
+pub fn ask<N: Naming>(
+    alloc: Global,
+    pool: &Pool<N>,
+    tenant: &Tenant,
+    query: &[u8],
+    out: &mut Vec<u8>,
+) -> Answer
+    requires stands { Stands N.digest_of pool.now tenant.now }
+    requires sound { IsSoundHolding N.digest_of (holding_in pool.now tenant.now) }
+    ensures { let held = holding_in pool.now tenant.now in
+        Takes (step_held N.digest_of (Ask query.now) (stop_told result) held) result
+        out.old.items out.new.items held }
+{
+    match answer(alloc, pool, &tenant.table, &tenant.refs, query, out) {
+        Ok(()) => Answer::Ok,
+        Err(refusal) => refusal_told(refusal),
+    }
+}
+
+/// Answers a query of a tenant that was never seen: its repository is empty.
+pub fn ask_nobody<N: Naming>(
+    alloc: Global,
+    pool: &Pool<N>,
+    query: &[u8],
+    out: &mut Vec<u8>,
+) -> Answer
+    ensures { Takes
+        (step_held N.digest_of (Ask query.now) (stop_told result) (Idle empty_repository)) result
+        out.old.items out.new.items (Idle empty_repository) }
+{
+    let nobody = new_tenant(alloc);
+    ask(alloc, pool, &nobody, query, out)
 }
 
 /// Closes the stream, if there is one, and goes back to the last checkpoint. Takes no memory.

@@ -7,18 +7,26 @@ ghost use Rattle.std.specs.Prelude.{◌≡◌, ◌<◌, [], length, true, false,
 ghost use Rattle.std.specs.Map.{lookup};
 ghost use Rattle.std.specs.Str.{bytes_eq};
 ghost use Rattle.tenant_refs.specs.TenantName.{is_tenant_name as names_tenant};
-ghost use Rattle.tenant_service.specs.Alone.{Open, Feed, End};
+ghost use Rattle.tenant_service.specs.Alone.{Open, Feed, End, Ask};
 ghost use Rattle.tenant_stream.specs.Carrying.{HasAmpleRoom};
 ghost use Rattle.tenant_service.specs.Tenants.{Accounts, AreSound, holdings, has_committed};
 ghost use Rattle.tenant_service.specs.OneStep.{store, Serves, Steps, restarted, restarted_at};
 
-use crate::tenant::{Tenant, end, feed, new_tenant, open, restart};
+use crate::tenant::{Tenant, ask, ask_nobody, end, feed, new_tenant, open, restart};
 use content_pool::Pool;
 use git_objects::Naming;
 use indexmap::IndexMap;
 use service_steps::{Answer, ServiceFault, Step};
 use std::alloc::Global;
 use tenant_refs::TenantName;
+
+// No tenant holds a content twice, and there are fewer than 2^63 tenants: a fact for proofs.
+fn has_room<N: Naming>(pool: &Pool<N>, tenants: &IndexMap<TenantName, Tenant>)
+    requires { Accounts N.digest_of pool.now tenants.now.entries }
+    ensures { HasAmpleRoom pool.now }
+{
+    let _few = tenants.len();
+}
 
 /// Feeds the stream of the tenant of this name; 30 where there is none.
 pub fn feed_one<N: Naming>(
@@ -33,7 +41,7 @@ pub fn feed_one<N: Naming>(
     ensures { Serves N.digest_of name.now (Feed piece.now) (store pool.old tenants.old.entries) result
         out.old.items out.new.items (store pool.new tenants.new.entries) }
 {
-    let _few = tenants.len();
+    has_room(pool, tenants);
     match tenants.get_mut(name) {
         Some(tenant) => feed(pool, tenant, piece, out),
         None => ServiceFault::NoStream.answer(),
@@ -53,9 +61,31 @@ pub fn end_one<N: Naming>(
     ensures { Serves N.digest_of name.now End (store pool.old tenants.old.entries) result
         out.old.items out.new.items (store pool.new tenants.new.entries) }
 {
+    has_room(pool, tenants);
     match tenants.get_mut(name) {
         Some(tenant) => end(pool, tenant, out),
         None => ServiceFault::NoStream.answer(),
+    }
+}
+
+/// Answers a query of the tenant of this name, after what `out` holds. Nothing else changes.
+pub fn ask_one<N: Naming>(
+    alloc: Global,
+    pool: &Pool<N>,
+    tenants: &IndexMap<TenantName, Tenant>,
+    name: &TenantName,
+    query: &[u8],
+    out: &mut Vec<u8>,
+) -> Answer
+    requires accounts { Accounts N.digest_of pool.now tenants.now.entries }
+    requires sound { AreSound N.digest_of (holdings pool.now tenants.now.entries) }
+    ensures { Serves N.digest_of name.now (Ask query.now)
+        (store pool.now tenants.now.entries) result out.old.items out.new.items
+        (store pool.now tenants.now.entries) }
+{
+    match tenants.get(name) {
+        Some(tenant) => ask(alloc, pool, tenant, query, out),
+        None => ask_nobody(alloc, pool, query, out),
     }
 }
 
@@ -168,8 +198,8 @@ pub fn take_step<N: Naming>(
             Ok(name) => end_one(pool, tenants, &name, out),
             Err(fault) => fault.answer(),
         },
-        Step::Ask { tenant, .. } => match name_of(tenant) {
-            Ok(_) => ServiceFault::BadQuery.answer(),
+        Step::Ask { tenant, query } => match name_of(tenant) {
+            Ok(name) => ask_one(alloc, pool, tenants, &name, query, out),
             Err(fault) => fault.answer(),
         },
         Step::Restart => {

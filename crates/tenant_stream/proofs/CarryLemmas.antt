@@ -196,9 +196,17 @@ item_stops digest now old out items mid rest item new left at out' count fault.A
     counted takes taken =
     fails digest now old out items mid rest item new left at out' fault.Ambiguous ends takes
     (λ e. cc) taken
+item_stops digest now old out items mid rest item new left at out' count fault.SourceMissing ends
+    counted takes taken =
+    fails digest now old out items mid rest item new left at out' fault.SourceMissing ends takes
+    (λ e. cc) taken
 item_stops digest now old out items mid rest item new left at out' count fault.BranchFromItself ends
     counted takes taken =
     fails digest now old out items mid rest item new left at out' fault.BranchFromItself ends takes
+    (λ e. cc) taken
+item_stops digest now old out items mid rest item new left at out' count fault.RootNotDirectory ends
+    counted takes taken =
+    fails digest now old out items mid rest item new left at out' fault.RootNotDirectory ends takes
     (λ e. cc) taken
 item_stops digest now old out items mid rest item new left at out' count fault.NameCollision ends
     counted takes taken =

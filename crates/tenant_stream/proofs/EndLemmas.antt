@@ -136,8 +136,12 @@ refuses digest now tail left out out' fault.ObjectUnknown running ended carried 
     faults digest now tail left out out' fault.ObjectUnknown running ended (λ e. cc) carried
 refuses digest now tail left out out' fault.Ambiguous running ended carried =
     faults digest now tail left out out' fault.Ambiguous running ended (λ e. cc) carried
+refuses digest now tail left out out' fault.SourceMissing running ended carried =
+    faults digest now tail left out out' fault.SourceMissing running ended (λ e. cc) carried
 refuses digest now tail left out out' fault.BranchFromItself running ended carried =
     faults digest now tail left out out' fault.BranchFromItself running ended (λ e. cc) carried
+refuses digest now tail left out out' fault.RootNotDirectory running ended carried =
+    faults digest now tail left out out' fault.RootNotDirectory running ended (λ e. cc) carried
 refuses digest now tail left out out' fault.NameCollision running ended carried =
     faults digest now tail left out out' fault.NameCollision running ended (λ e. cc) carried
 refuses digest now tail left out out' fault.Limit running ended carried =

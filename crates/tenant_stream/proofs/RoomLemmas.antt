@@ -1,19 +1,24 @@
 -- How often slots are held while one table takes and gives up holds.
 use Rattle.std.proofs.Common.{◌≡◌, ℕ, ◌≤◌, List, length, take, min, sym, ap, ◌∙◌, arith}
 use Rattle.std.proofs.lemmas.List.{length-take}
-use Rattle.content_pool.specs.Pool.{Cells, HasRoom}
-use Rattle.tenant_tables.specs.View.{View}
+use Rattle.content_pool.specs.Pool.{Cells}
+use Rattle.tenant_tables.specs.Room.{HasRoomBeside}
+use Rattle.tenant_tables.specs.View.{View, Entries}
 use Rattle.tenant_tables.specs.Objects.{objects}
+use Rattle.tenant_tables.proofs.RoomLemmas.{room-after}
 use Rattle.tenant_tables.proofs.TableLemmas.{length-objects}
 use Rattle.import_session.specs.Lent.{Keeps}
 use Rattle.tenant_stream.specs.Carrying.{HasAmpleRoom, IsCommitted}
 
--- one table takes at most one hold of a slot, however often it is called
+-- what is held far less often than it can be leaves room beside any table
+pub room_beside : (p : Cells) (entries : Entries) → HasAmpleRoom p → HasRoomBeside p entries
+room_beside p entries ample s = let a = ample s in omega (arith, a)
+
+-- and room is left, however often one table is called
 pub room_left : (digest : List ℕ → List ℕ) (p : Cells) (t : View) (q : Cells) (u : View)
-    → HasAmpleRoom p → Keeps digest p t q u → HasRoom q
-room_left digest p t q u ample keeps s =
-    let a = ample s in let r = keeps.others.rest s in let o = keeps.stands.once s in
-    omega (arith, a, r, o)
+    → HasAmpleRoom p → Keeps digest p t q u → HasRoomBeside q u.entries
+room_left digest p t q u ample keeps =
+    room-after p q t.entries u.entries keeps.others (room_beside p t.entries ample)
 
 -- a table that was rolled back to its committed objects has no others
 pub all_committed : (p q : Cells) (old new : View) → old.committed ≤ length old.entries

@@ -80,6 +80,7 @@ fn end<N: Naming>(
     out: &mut Vec<u8>,
 ) -> Result<(), Stop>
     requires stands { StandsIn N.digest_of pool.old table.old.entries }
+    requires room { HasAmpleRoom pool.old }
     ensures keeps { Keeps N.digest_of pool.old table.old pool.new table.new }
     ensures ended { let now = running_in session.old pool.old table.old refs.old in
         IsSound N.digest_of now.workspace
@@ -107,9 +108,12 @@ pub struct Stream {
 }
 
 impl Model for Stream {
-    ghost use Rattle.tenant_stream.specs.Carrying.{Between};
+    ghost use Rattle.tenant_stream.specs.Carrying.{Between, file_map_code};
+    ghost use Rattle.std.specs.Coded.{codes};
 
     ghost Value = { Between };
+
+    ghost coded = { Prim.hlevel (codes, file_map_code) };
 
     ghost view = { λ stream. record { session = stream.session; tail = stream.lexer.tail } };
 }
@@ -181,6 +185,7 @@ impl Stream {
         out: &mut Vec<u8>,
     ) -> Result<(), Stop>
         requires stands { StandsIn N.digest_of pool.old table.old.entries }
+        requires room { HasAmpleRoom pool.old }
         ensures keeps { Keeps N.digest_of pool.old table.old pool.new table.new }
         ensures ended { let now = stream_in self pool.old table.old refs.old in
             IsSound N.digest_of now.workspace

@@ -2,7 +2,7 @@
 //! `git hash-object`.
 
 use super::turn::{Case, Turn};
-use super::{HELLO, HELLO_MISSING, HELLO_NAME, HELLO_SHOWN, SHOW_HELLO};
+use super::{FIRST, FIRST_NAME, HELLO, HELLO_MISSING, HELLO_NAME, HELLO_SHOWN, SHOW_HELLO, SHOW_M};
 use gitpool::{Answer, Step};
 
 /// Names that no tenant can have.
@@ -24,6 +24,15 @@ pub fn steps_of(tenant: &[u8]) -> [Step<'_>; 4] {
     ]
 }
 
+const CAT_OF_B: Step<'static> = Step::Ask {
+    tenant: b"b",
+    query: b"cat ce013625030ba8dba906f756967f9e9ca394464a",
+};
+
+// A commit onto what the ref holds.
+const SECOND_FROM_REF: &[u8] = b"commit refs/heads/m\ncommitter A <a@b> 0 +0000\ndata 2\ny\n\
+    from refs/heads/m^0\n";
+
 pub const CASES: &[Case] = &[
     Case {
         does: "refuses steps without their stream, and a second stream",
@@ -42,7 +51,7 @@ pub const CASES: &[Case] = &[
                     tenant: b"a",
                     query: b"refs",
                 },
-                40,
+                0,
                 b"",
             ),
             Turn::Seen(b"a", false),
@@ -62,6 +71,15 @@ pub const CASES: &[Case] = &[
             Turn::Prints(b"b", SHOW_HELLO, HELLO_SHOWN),
             Turn::Stored(1, 6),
             Turn::Tenants(2),
+        ],
+    },
+    Case {
+        does: "answers no query of another tenant's object",
+        turns: &[
+            Turn::Prints(b"a", HELLO, b""),
+            Turn::Takes(CAT_OF_B, 16, b""),
+            Turn::Prints(b"b", HELLO, b""),
+            Turn::Takes(CAT_OF_B, 0, HELLO_SHOWN),
         ],
     },
     Case {
@@ -227,6 +245,195 @@ pub const CASES: &[Case] = &[
             Turn::Stored(0, 0),
             Turn::Tenants(0),
             Turn::Takes(Step::End { tenant: b"b" }, 30, b""),
+        ],
+    },
+    Case {
+        does: "keeps a branch of an earlier stream, and moves it forward by its ref",
+        turns: &[
+            Turn::Prints(b"t", FIRST, b""),
+            Turn::Takes(Step::Open { tenant: b"t" }, 0, b""),
+            Turn::Takes(
+                Step::Feed {
+                    tenant: b"t",
+                    bytes: b"commit refs/heads/m\ncommitter A <a@b> 0 +0000\ndata 2\ny\n",
+                },
+                0,
+                b"",
+            ),
+            Turn::Takes(Step::End { tenant: b"t" }, 0, b"kept refs/heads/m\n"),
+            Turn::Prints(b"t", SHOW_M, FIRST_NAME),
+            Turn::Prints(b"t", SECOND_FROM_REF, b""),
+            Turn::Prints(b"t", SHOW_M, b"f753e673a704a5f478b7f0717aac4aebd7400dbb\n"),
+            Turn::Prints(
+                b"t",
+                b"alias\nmark :1\nto refs/heads/m~\nget-mark :1\n",
+                FIRST_NAME,
+            ),
+        ],
+    },
+    Case {
+        does: "begins each stream without marks and branches",
+        turns: &[
+            Turn::Prints(b"t", b"blob\nmark :1\ndata 0\n", b""),
+            Turn::Takes(Step::Open { tenant: b"t" }, 0, b""),
+            Turn::Takes(
+                Step::Feed {
+                    tenant: b"t",
+                    bytes: b"get-mark :1\n",
+                },
+                13,
+                b"",
+            ),
+            Turn::Takes(Step::End { tenant: b"t" }, 13, b""),
+            Turn::Prints(b"t", FIRST, b""),
+            Turn::Takes(Step::Open { tenant: b"t" }, 0, b""),
+            Turn::Takes(
+                Step::Feed {
+                    tenant: b"t",
+                    bytes: b"commit refs/heads/m\ncommitter A <a@b> 0 +0000\ndata 2\ny\nls \"\"\nmerge refs/heads/m\n",
+                },
+                2,
+                b"040000 tree 4b825dc642cb6eb9a060e54bf8d69288fbee4904\t\n",
+            ),
+            Turn::Takes(Step::End { tenant: b"t" }, 2, b""),
+        ],
+    },
+    Case {
+        does: "keeps what was saved before a fault, and nothing after it",
+        turns: &[
+            Turn::Takes(Step::Open { tenant: b"t" }, 0, b""),
+            Turn::Takes(
+                Step::Feed {
+                    tenant: b"t",
+                    bytes: FIRST,
+                },
+                0,
+                b"",
+            ),
+            Turn::Takes(
+                Step::Feed {
+                    tenant: b"t",
+                    bytes: b"checkpoint\ncommit refs/heads/m\ncommitter A <a@b> 0 +0000\ndata 2\ny\n",
+                },
+                0,
+                b"",
+            ),
+            Turn::Stored(2, 98),
+            Turn::Takes(
+                Step::Feed {
+                    tenant: b"t",
+                    bytes: b"get-mark :9\n",
+                },
+                13,
+                b"",
+            ),
+            Turn::Stored(2, 98),
+            Turn::Takes(Step::End { tenant: b"t" }, 13, b""),
+            Turn::Prints(b"t", SHOW_M, FIRST_NAME),
+        ],
+    },
+    Case {
+        does: "stores the directory that ls shows of an open commit, and gives it up at a fault",
+        turns: &[
+            Turn::Prints(b"t", HELLO, b""),
+            Turn::Takes(Step::Open { tenant: b"t" }, 0, b""),
+            Turn::Takes(
+                Step::Feed {
+                    tenant: b"t",
+                    bytes: b"commit refs/heads/m\ncommitter A <a@b> 0 +0000\ndata 2\nx\n\
+                        M 644 ce013625030ba8dba906f756967f9e9ca394464a a/x\n",
+                },
+                0,
+                b"",
+            ),
+            Turn::Stored(1, 6),
+            Turn::Takes(
+                Step::Feed {
+                    tenant: b"t",
+                    bytes: b"ls \"a\"\n",
+                },
+                0,
+                b"040000 tree e31a96220fbfbe7601ecc086a36b96dc27a8867e\ta\n",
+            ),
+            Turn::Stored(2, 35),
+            Turn::Takes(
+                Step::Feed {
+                    tenant: b"t",
+                    bytes: b"ls :9 a\n",
+                },
+                13,
+                b"",
+            ),
+            Turn::Stored(1, 6),
+        ],
+    },
+    Case {
+        does: "takes away the ref of a branch that is deleted, and leaves that of an unborn one",
+        turns: &[
+            Turn::Prints(b"t", FIRST, b""),
+            Turn::Prints(b"t", b"reset refs/heads/m\n", b""),
+            Turn::Prints(b"t", SHOW_M, FIRST_NAME),
+            Turn::Prints(
+                b"t",
+                b"reset refs/heads/m\nfrom 0000000000000000000000000000000000000000\n",
+                b"",
+            ),
+            Turn::Takes(Step::Open { tenant: b"t" }, 0, b""),
+            Turn::Takes(
+                Step::Feed {
+                    tenant: b"t",
+                    bytes: SHOW_M,
+                },
+                16,
+                b"",
+            ),
+        ],
+    },
+    Case {
+        does: "saves a HEAD of an option, and loses one at a fault",
+        turns: &[
+            Turn::Prints(b"t", b"option gitpool head refs/heads/m\n", b""),
+            Turn::Takes(Step::Open { tenant: b"t" }, 0, b""),
+            Turn::Takes(
+                Step::Feed {
+                    tenant: b"t",
+                    bytes: b"option gitpool head refs/heads/n\nget-mark :9\n",
+                },
+                13,
+                b"",
+            ),
+            Turn::Takes(Step::End { tenant: b"t" }, 13, b""),
+            Turn::Prints(
+                b"t",
+                b"commit HEAD\ncommitter A <a@b> 0 +0000\ndata 2\nx\n",
+                b"",
+            ),
+            Turn::Prints(b"t", SHOW_M, FIRST_NAME),
+        ],
+    },
+    Case {
+        does: "looks for no commit of another tenant",
+        turns: &[
+            Turn::Prints(b"a", FIRST, b""),
+            Turn::Takes(Step::Open { tenant: b"b" }, 0, b""),
+            Turn::Takes(
+                Step::Feed {
+                    tenant: b"b",
+                    bytes: SHOW_M,
+                },
+                16,
+                b"",
+            ),
+            Turn::Takes(Step::End { tenant: b"b" }, 16, b""),
+            Turn::Takes(Step::Open { tenant: b"b" }, 0, b""),
+            Turn::Takes(
+                Step::Feed {
+                    tenant: b"b",
+                    bytes: b"reset refs/heads/m\nfrom 7b8051db3dcc0fcfd006919cfa7376ddbd7bdc1a\n",
+                },
+                16,
+                b"",
+            ),
         ],
     },
 ];

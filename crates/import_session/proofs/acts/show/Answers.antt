@@ -10,7 +10,7 @@ use Rattle.import_session.proofs.acts.show.Goals as goal
 
 pub returns-in-ShowMark-clause-done : goal.returns-in-ShowMark-clause-done
 unfolding shown_by
-returns-in-ShowMark-clause-done g c good =
+returns-in-ShowMark-clause-done g c sound =
     rw c.in-ShowMark.is (named_carried (marked_name c.args.own.now.marks.entries c.in-ShowMark.mark)
     (λ id. Ok (encode_lower id))
     _ c.args.out.now.items c.print_marked.new.out.items c.print_marked.result
@@ -18,7 +18,7 @@ returns-in-ShowMark-clause-done g c good =
 
 pub returns-in-ShowObject-clause-done : goal.returns-in-ShowObject-clause-done
 unfolding shown_by
-returns-in-ShowObject-clause-done g c good =
+returns-in-ShowObject-clause-done g c sound =
     rw c.in-ShowObject.is (named_carried (referred_name c.args.own.now.marks.entries
     c.in-ShowObject.object)
     (λ id. shown_object id (object_named id (objects c.args.pool.now c.args.table.now.entries)))
@@ -27,16 +27,16 @@ returns-in-ShowObject-clause-done g c good =
 
 pub returns-in-ShowEntry-clause-done : goal.returns-in-ShowEntry-clause-done
 unfolding shown_by
-returns-in-ShowEntry-clause-done g c good =
+returns-in-ShowEntry-clause-done g c sound =
     rw c.in-ShowEntry.is (line_carried (entry_shown (objects c.args.pool.now
     c.args.table.now.entries) c.args.own.now.marks.entries c.in-ShowEntry.root c.in-ShowEntry.path)
     _ c.args.out.now.items c.print_stored.new.out.items c.print_stored.result
-    (c.print_stored.ensures.shows good))
+    (c.print_stored.ensures.shows sound.objects))
 
 pub returns-in_ok-print_line-in-Progress-clause-done :
     goal.returns-in_ok-print_line-in-Progress-clause-done
 unfolding shown_by
-returns-in_ok-print_line-in-Progress-clause-done g c good =
+returns-in_ok-print_line-in-Progress-clause-done g c sound =
     rw c.in-Progress.is (
       refl,
       c.in_ok-print_line-in-Progress.ensures.written

@@ -1,6 +1,7 @@
 use Rattle.import_session.specs.Meaning.{set_by}
 use Rattle.import_session.proofs.own.set.Goals as goal
 
-pub returns-in-BeginTag : goal.returns-in-BeginTag
+pub returns-in-Reset : goal.returns-in-Reset
 unfolding set_by
-returns-in-BeginTag c pool table out = rw c.in-BeginTag.is (c.begin_tag.ensures pool table out)
+returns-in-Reset g c out sound =
+    rw c.in-Reset.is (c.reset.ensures c.args.pool.now c.args.table.now out)

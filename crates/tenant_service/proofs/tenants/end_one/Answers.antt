@@ -9,6 +9,7 @@ use Rattle.tenant_service.proofs.tenants.end_one.Goals as goal
 pub end-requires : goal.end-requires
 end-requires g c = record {
   stands = stands-found g.N.Naming.digest_of c.args.pool.now c.args.name.now c.args.tenants.now.entries c.in-Some.tenant.now c.requires.accounts (sym c.in-Some.ensures.value);
+  room = c.has_room.ensures;
   sound = sound-found g.N.Naming.digest_of c.args.pool.now c.args.name.now c.args.tenants.now.entries c.in-Some.tenant.now c.requires.sound (sym c.in-Some.ensures.value);
 }
 

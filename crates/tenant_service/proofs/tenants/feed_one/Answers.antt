@@ -2,17 +2,13 @@ use Rattle.std.proofs.Common.{refl, sym, ap, []}
 use Rattle.service_steps.specs.declared.answer.Answer.{Answer}
 use Rattle.tenant_service.specs.Alone.{Feed, turn}
 use Rattle.tenant_service.specs.Holding.{Idle, empty_repository}
-use Rattle.tenant_service.proofs.AccountLemmas.{stands-found, serves-found, serves-missing, ample}
+use Rattle.tenant_service.proofs.AccountLemmas.{stands-found, serves-found, serves-missing}
 use Rattle.tenant_service.proofs.SoundLemmas.{sound-found}
 use Rattle.tenant_service.proofs.tenants.feed_one.Goals as goal
 
 pub feed-requires-clause-stands : goal.feed-requires-clause-stands
 feed-requires-clause-stands g c =
     stands-found g.N.Naming.digest_of c.args.pool.now c.args.name.now c.args.tenants.now.entries c.in-Some.tenant.now c.requires.accounts (sym c.in-Some.ensures.value)
-
-pub feed-requires-clause-room : goal.feed-requires-clause-room
-feed-requires-clause-room g c =
-    ample g.N.Naming.digest_of c.args.pool.now c.args.tenants.now.entries c.requires.accounts (rw c.len-few.ensures.len at c.len-few.ensures.small)
 
 pub feed-requires-clause-sound : goal.feed-requires-clause-sound
 feed-requires-clause-sound g c =

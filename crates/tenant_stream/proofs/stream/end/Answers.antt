@@ -1,7 +1,12 @@
 use Rattle.std.proofs.Common.{sym, ◌∙◌}
 use Rattle.import_session.specs.Session.{running_in, workspace_in}
 use Rattle.tenant_stream.proofs.EndLemmas.{ends_done, ends_cut, ends_well, ends_refused}
+use Rattle.tenant_stream.proofs.RoomLemmas.{room_beside}
 use Rattle.tenant_stream.proofs.stream.end.Goals as goal
+
+pub finish-requires-clause-room : goal.finish-requires-clause-room
+finish-requires-clause-room g c =
+    room_beside c.args.pool.now c.args.table.now.entries c.requires.room
 
 pub returns-then-is_done-clause-ended : goal.returns-then-is_done-clause-ended
 returns-then-is_done-clause-ended g c sound =

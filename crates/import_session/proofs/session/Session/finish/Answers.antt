@@ -10,5 +10,9 @@ returns-clause-ended g c sound =
     let here = subst (λ (k : Kept). IsSound g.N.Naming.digest_of
     (workspace_in k.own c.args.pool.now c.args.table.now c.args.refs.now)) (sym c.self.view_is)
     sound in
-    let saved = c.save.ensures.saved here.objects in
+    let saved = c.save_at_end.ensures.saved here in
     search rules
+
+pub returns-then-self-2-clause-ended : goal.returns-then-self-2-clause-ended
+unfolding session_end
+returns-then-self-2-clause-ended g c sound = search rules

@@ -1,0 +1,152 @@
+-- What changes of the open commit, and its message, leave of a workspace.
+use Rattle.std.proofs.Common.{◌≡◌, ◌≢◌, ◌⊎◌, inl, inr, ℕ, List, Option, None, Some, Result, Ok, Err, refl, rules}
+use Rattle.std.specs.Prelude.{MatchResult}
+use Rattle.git_model.specs.RefStore.{RefStore}
+use Rattle.git_model.specs.Repository.{Object}
+use Rattle.content_pool.specs.Pool.{Cells}
+use Rattle.tenant_tables.specs.View.{View}
+use Rattle.stream_grammar.specs.Acts.{Act}
+use Rattle.open_commits.specs.declared.fault.Fault.{Fault as CommitFault}
+use Rattle.open_commits.specs.declared.fault.Fault.TheVariants as commit_fault
+use Rattle.open_commits.specs.declared.open_commit.OpenCommit.{OpenCommit as LentCommit}
+use Rattle.open_commits.specs.Calls.{Changes}
+use Rattle.open_commits.specs.Parents.{started_from}
+use Rattle.open_commits.specs.OpenCommit.{Header, OpenCommit, commit_shown}
+use Rattle.import_session.specs.declared.fault.Fault.{Fault}
+use Rattle.import_session.specs.declared.fault.Fault.TheVariants as fault
+use Rattle.import_session.specs.declared.said.Said.{Said}
+use Rattle.import_session.specs.Faults.{and_then, changed_or, changing_fault}
+use Rattle.import_session.specs.Workspace.{Branches, Effect, Workspace, quiet}
+use Rattle.import_session.specs.Branches.{branch_set}
+use Rattle.import_session.specs.Changes.{changed_by, commit_changed}
+use Rattle.import_session.specs.Commits.{begun_from, commit_opened, header_said, opened_at, opened_with, tip_for}
+use Rattle.import_session.specs.Session.{Own, workspace_in, CarriesOut, Leaves}
+use Rattle.import_session.specs.Sound.{IsSound}
+
+-- ---- a commit is looked up, and then the open commit changes
+
+-- the name was refused, and so is the change
+pub named_refused : (named : Result (List ℕ) Fault) (next : List ℕ → Result OpenCommit Fault)
+    (e f : Fault) → f ≡ e → (e ≢ fault.Memory → named ≡ Err e)
+    → f ≢ fault.Memory → and_then named next ≡ Err f
+named_refused named next e f same refused other = rw (same, refused (rw same at other)) refl
+
+pub changed_then : (named : Result (List ℕ) Fault)
+    (change : List ℕ → Result OpenCommit CommitFault) (id : List ℕ) (old new : OpenCommit)
+    → named ≡ Ok id → Changes (change id) old new (Ok tt)
+    → and_then named (λ found. changed_or (change found)) ≡ Ok new
+changed_then named change id old new is done = rw (is, done) refl
+
+pub refused_then : (named : Result (List ℕ) Fault)
+    (change : List ℕ → Result OpenCommit CommitFault) (id : List ℕ) (old new : OpenCommit)
+    (e : CommitFault) (f : Fault) → f ≡ changing_fault e
+    → named ≡ Ok id → Changes (change id) old new (Err e) → f ≢ fault.Memory
+    → and_then named (λ found. changed_or (change found)) ≡ Err f
+refused_then named change id old new e f same is refused other =
+    let because = refused (λ (m : e ≡ commit_fault.Memory). other (rw (same, m) refl)) in
+    rw (same, is, because.0) refl
+
+-- ---- what is refused
+
+pub memory_or : (f : Fault) → (f ≡ fault.Memory) ⊎ (f ≢ fault.Memory)
+memory_or fault.Memory = inl refl
+memory_or f = inr (λ is. cc)
+
+pub carries_refused : (r : Result Effect Fault) (new : Workspace) (out out' : List ℕ) (f : Fault)
+    → (f ≢ fault.Memory → r ≡ Err f) → CarriesOut r new out out' (Err f)
+carries_refused (Ok effect) new out out' f refused = by_memory (memory_or f)
+  where
+    by_memory : (f ≡ fault.Memory) ⊎ (f ≢ fault.Memory) → f ≡ fault.Memory
+    by_memory (inl memory) = memory
+    by_memory (inr other) = let never = refused other in cc
+carries_refused (Err refusal) new out out' f refused = λ other. let is = refused other in cc
+
+-- ---- the open commit lies aside while it changes
+
+pub changed_aside : (workspace : Workspace) (aside : Option OpenCommit) (act : Act)
+    (commit : OpenCommit)
+    → changed_by (record workspace { commit = aside }) act commit
+    ≡ changed_by workspace act commit
+unfolding changed_by
+changed_aside workspace aside act commit = refl
+
+-- what a change leaves
+pub changed_open : (workspace : Workspace) (act : Act) (held : Option OpenCommit)
+    (commit next : OpenCommit) (out : List ℕ) (result : Result Unit Fault) → held ≡ Some commit
+    → Leaves (changed_by workspace act commit) next result
+    → CarriesOut (commit_changed act held workspace) (record workspace { commit = Some next }) out
+    out result
+changed_open workspace act held commit next out (Ok u) held_is is =
+    rw (held_is, is) (refl, search rules)
+changed_open workspace act held commit next out (Err f) held_is refused =
+    carries_refused (commit_changed act held workspace) (record workspace { commit = Some next })
+    out out f (λ other. rw (held_is, refused other) refl)
+
+-- ---- a commit opens
+
+-- it starts from the commit that its branch stood at
+pub begun_refused : (os : List Object) (first : Option (List ℕ)) (id : List ℕ)
+    (given new left : OpenCommit) (e : CommitFault) (f : Fault) → f ≡ changing_fault e
+    → first ≡ Some id → given ≡ new → Changes (started_from os id given) given left (Err e)
+    → f ≢ fault.Memory → begun_from os first new ≡ Err f
+begun_refused os first id given new left e f same is begins refused other =
+    let because = refused (λ (m : e ≡ commit_fault.Memory). other (rw (same, m) refl)) in
+    rw (same, is, ← begins, because.0) refl
+
+pub opened_by : (workspace : Workspace) (stood first : Option (List ℕ)) (new : OpenCommit)
+    (branches : Branches) (X : Type 0) (result : Result LentCommit Fault) → stood ≡ first
+    → branch_set workspace.branches new.header.ref (tip_for first) ≡ Ok branches → X
+    → MatchResult result
+    (λ commit. begun_from workspace.objects stood new ≡ Ok (commit_shown commit))
+    (λ f. f ≢ fault.Memory → begun_from workspace.objects stood new ≡ Err f)
+    → MatchResult result
+    (λ commit. (opened_at workspace first new ≡ quiet (record workspace {
+      branches = branches;
+      said = None;
+      commit = Some (commit_shown commit);
+    })) × X)
+    (λ f. f ≢ fault.Memory → opened_at workspace first new ≡ Err f)
+opened_by workspace stood first new branches X (Ok commit) same set own is =
+    (rw (set, ← same, is) refl, own)
+opened_by workspace stood first new branches X (Err f) same set own refused =
+    λ other. rw (set, ← same, refused other) refl
+
+-- what the lines before the message said is done with
+pub without_said : (digest : List ℕ → List ℕ) (workspace : Workspace) (said : Option Said)
+    → said ≡ None → IsSound digest workspace → IsSound digest (record workspace { said = said })
+without_said digest workspace said none sound = record {
+  objects = sound.objects;
+  saved_head = sound.saved_head;
+  next_head = sound.next_head;
+  marks = sound.marks;
+  tips = sound.tips;
+  said = rw none tt;
+  commit = sound.commit;
+  inline = sound.inline;
+}
+
+pub opened_refused : (workspace new : Workspace) (mark : Option ℕ) (message : List ℕ)
+    (held : Option Said) (said : Said) (header : Header) (e f : Fault) (out : List ℕ)
+    → held ≡ Some said → f ≡ e → header_said mark said said.committer ≡ Ok header
+    → (e ≢ fault.Memory → opened_with workspace message header ≡ Err e)
+    → CarriesOut (commit_opened mark message held workspace) new out out (Err f)
+opened_refused workspace new mark message held said header e f out held_is same told refused =
+    carries_refused (commit_opened mark message held workspace) new out out f
+    (λ other. rw (held_is, told, same, refused (rw same at other)) refl)
+
+pub opened_well : (own left : Own) (pool : Cells) (table : View) (refs : RefStore)
+    (branches : Branches) (mark : Option ℕ) (message : List ℕ) (held spent : Option Said)
+    (said : Said) (header : Header) (next : OpenCommit) (out : List ℕ)
+    → held ≡ Some said → spent ≡ None → header_said mark said said.committer ≡ Ok header
+    → opened_with (workspace_in own pool table refs) message header
+    ≡ quiet (workspace_in (record own {
+      branches = branches;
+      said = None;
+      commit = Some next;
+    }) pool table refs)
+    → left ≡ record own { branches = branches; said = spent }
+    → CarriesOut (commit_opened mark message held (workspace_in own pool table refs))
+    (workspace_in (record left { commit = Some next }) pool table refs) out out (Ok tt)
+opened_well own left pool table refs branches mark message held spent said header next out held_is
+    none told opens left_is =
+    rw (held_is, told, opens) (rw (left_is, none) refl, search rules)

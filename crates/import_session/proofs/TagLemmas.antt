@@ -1,0 +1,78 @@
+-- What storing a tag leaves, and what refuses it.
+use Rattle.std.proofs.Common.{◌≡◌, ◌≢◌, ℕ, List, [], ◌∷◌, ◌++◌, Option, None, Ok, Err, refl, rules}
+use Rattle.git_model.specs.declared.kind.Kind.{Kind}
+use Rattle.git_model.specs.Content.{name_by}
+use Rattle.git_model.specs.RefStore.{RefStore}
+use Rattle.git_model.specs.Repository.{Object}
+use Rattle.content_pool.specs.Pool.{Cells}
+use Rattle.tenant_tables.specs.Objects.{objects}
+use Rattle.tenant_tables.specs.View.{View}
+use Rattle.import_session.specs.declared.fault.Fault.{Fault}
+use Rattle.import_session.specs.declared.fault.Fault.TheVariants as fault
+use Rattle.import_session.specs.declared.said.Said.{Said}
+use Rattle.import_session.specs.Workspace.{Marks, PendingTags, Workspace, quiet}
+use Rattle.import_session.specs.Marks.{with_mark}
+use Rattle.import_session.specs.Storing.{with_content}
+use Rattle.import_session.specs.Tags.{tag_content, tag_made, tag_of, tagged}
+use Rattle.import_session.specs.Session.{CarriesOut, Own, workspace_in}
+use Rattle.import_session.proofs.ActLemmas.{first_refused, first_then}
+
+-- where its tag is stored
+abbrev stored_in : (List ℕ → List ℕ) → Option ℕ → List ℕ → Said → Workspace → List ℕ → Kind
+    → List Object → Workspace
+stored_in digest mark message said w target kind os = record w {
+  objects = os;
+  marks = with_mark w.marks mark (name_by digest (tag_content said message target kind));
+  tags = w.tags ++ (said.ref_name, name_by digest (tag_content said message target kind)) ∷ [];
+  said = None;
+}
+
+pub tag_refused : (digest : List ℕ → List ℕ) (mark : Option ℕ) (message : List ℕ) (said : Said)
+    (w new : Workspace) (out : List ℕ) (e : Fault)
+    → (e ≢ fault.Memory → tagged mark said w ≡ Err e)
+    → CarriesOut (tag_of digest mark message said w) new out out (Err e)
+tag_refused digest mark message said w new out e refused =
+    first_refused (tagged mark said w) (λ target.
+    tag_made digest mark said.ref_name (tag_content said message target.0 target.1) w)
+    new out out e refused
+
+pub tag_not_stored : (digest : List ℕ → List ℕ) (mark : Option ℕ) (message : List ℕ)
+    (said : Said) (w new : Workspace) (out : List ℕ) (e : Fault) (target : List ℕ) (kind : Kind)
+    → tagged mark said w ≡ Ok (target, kind)
+    → (e ≢ fault.Memory
+    → with_content digest (tag_content said message target kind) w.objects ≡ Err e)
+    → CarriesOut (tag_of digest mark message said w) new out out (Err e)
+tag_not_stored digest mark message said w new out e target kind is refused =
+    first_then (tagged mark said w) (target, kind) (λ target.
+    tag_made digest mark said.ref_name (tag_content said message target.0 target.1) w)
+    new out out (Err e) is
+    (first_refused (with_content digest (tag_content said message target kind) w.objects)
+    (λ os. quiet (stored_in digest mark message said w target kind os)) new out out e refused)
+
+pub tag_kept : (digest : List ℕ → List ℕ) (mark : Option ℕ) (message : List ℕ)
+    (said : Said) (w new : Workspace) (out : List ℕ) (target : List ℕ) (kind : Kind)
+    (os : List Object)
+    → tagged mark said w ≡ Ok (target, kind)
+    → with_content digest (tag_content said message target kind) w.objects ≡ Ok os
+    → stored_in digest mark message said w target kind os ≡ new
+    → CarriesOut (tag_of digest mark message said w) new out out (Ok tt)
+tag_kept digest mark message said w new out target kind os is stored left =
+    first_then (tagged mark said w) (target, kind) (λ target.
+    tag_made digest mark said.ref_name (tag_content said message target.0 target.1) w)
+    new out out (Ok tt) is
+    (first_then (with_content digest (tag_content said message target kind) w.objects) os
+    (λ os. quiet (stored_in digest mark message said w target kind os)) new out out (Ok tt) stored
+    (left, search rules))
+
+-- what is left, by its parts
+pub tag_left : (own left : Own) (mark : Option ℕ) (ref id name : List ℕ) (marks : Marks)
+    (tags : PendingTags) (p : Cells) (t : View) (q : Cells) (v : View) (refs : RefStore)
+    → left ≡ record own { said = None } → marks ≡ with_mark left.marks mark id
+    → tags ≡ left.tags ++ (ref, id) ∷ [] → id ≡ name → v.committed ≡ t.committed
+    → record (workspace_in own p t refs) {
+      objects = objects q v.entries;
+      marks = with_mark own.marks mark name;
+      tags = own.tags ++ (ref, name) ∷ [];
+      said = None;
+    } ≡ workspace_in (record left { marks = marks; tags = tags }) q v refs
+tag_left own left mark ref id name marks tags p t q v refs e m s n c = rw (m, s, e, n, c) refl

@@ -1,0 +1,7 @@
+use Rattle.std.proofs.Common.{rules}
+use Rattle.import_session.specs.Changes.{changed_by}
+use Rattle.import_session.proofs.changes.change_commit.Goals as goal
+
+pub returns-in-Merge : goal.returns-in-Merge
+unfolding changed_by
+returns-in-Merge g c = search rules

@@ -1,0 +1,25 @@
+use Rattle.std.proofs.Common.{arith, rules}
+use Rattle.std.proofs.lemmas.Grind.{common_steps}
+use Rattle.import_session.proofs.CommittedLemmas.{committed_stay}
+use Rattle.import_session.proofs.changes.show_entry.Goals as goal
+
+pub returns-clause-done : goal.returns-clause-done
+returns-clause-done g c = grind (arith, common_steps)
+
+pub returns-in_err-entry-clause-done : goal.returns-in_err-entry-clause-done
+returns-in_err-entry-clause-done g c = search rules
+
+pub returns-in_err-entry-clause-committed : goal.returns-in_err-entry-clause-committed
+returns-in_err-entry-clause-committed g c =
+    committed_stay c.args.pool.now c.args.table.now c.show_entry.new.pool c.show_entry.new.table
+    c.committed_len-within.ensures.within c.show_entry.ensures.adds
+
+pub returns-in_err-print_entry-clause-committed : goal.returns-in_err-print_entry-clause-committed
+returns-in_err-print_entry-clause-committed g c =
+    committed_stay c.args.pool.now c.args.table.now c.show_entry.new.pool c.show_entry.new.table
+    c.committed_len-within.ensures.within c.show_entry.ensures.adds
+
+pub returns-clause-committed : goal.returns-clause-committed
+returns-clause-committed g c =
+    committed_stay c.args.pool.now c.args.table.now c.show_entry.new.pool c.show_entry.new.table
+    c.committed_len-within.ensures.within c.show_entry.ensures.adds

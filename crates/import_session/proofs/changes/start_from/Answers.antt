@@ -1,0 +1,41 @@
+use Rattle.std.proofs.lemmas.Result.{err_from_is_err_and, IfOk-at_ok}
+use Rattle.stream_grammar.specs.Shown.{commit_shown as said_shown}
+use Rattle.open_commits.specs.OpenCommit.{commit_shown}
+use Rattle.open_commits.specs.Parents.{started_from}
+use Rattle.import_session.specs.Changes.{changed_by}
+use Rattle.import_session.specs.CommitIshes.{start_in}
+use Rattle.import_session.specs.Session.{own_shown, workspace_in}
+use Rattle.import_session.proofs.CommitLemmas.{changed_then, named_refused, refused_then}
+use Rattle.import_session.proofs.SoundCommits.{IsCommitOf, start_good}
+use Rattle.import_session.proofs.changes.start_from.Goals as goal
+
+pub returns-in_err-id : goal.returns-in_err-id
+unfolding changed_by
+returns-in_err-id g c good =
+    let workspace = workspace_in (own_shown c.args.own.now) c.args.pool.now c.args.table.now c.args.refs.now in
+    let failed = err_from_is_err_and c.from_residual.result c.from_residual.ensures.1 in
+    rw failed.1 (named_refused (start_in workspace c.args.commit.now.header.ref_name (said_shown c.args.from.now)) _
+    c.in_err-id.field-0.0 failed.0 failed.2 (c.in_err-id.ensures good))
+
+pub returns-in_err-start_from : goal.returns-in_err-start_from
+unfolding changed_by
+returns-in_err-start_from g c good =
+    let workspace = workspace_in (own_shown c.args.own.now) c.args.pool.now c.args.table.now c.args.refs.now in
+    let start = start_in workspace c.args.commit.now.header.ref_name (said_shown c.args.from.now) in
+    let failed = err_from_is_err_and c.from_residual-in_err-start_from.result c.from_residual-in_err-start_from.ensures.1 in
+    let kind = IfOk-at_ok (IsCommitOf workspace.objects) {r = start} (c.in_ok-id.ensures good)
+    (start_good g.N.Naming.digest_of workspace good c.args.commit.now.header.ref_name (said_shown c.args.from.now)) in
+    rw failed.1 (refused_then start (λ id. started_from workspace.objects id (commit_shown c.args.commit.now)) c.in_ok-id.id
+    (commit_shown c.args.commit.now) (commit_shown c.start_from.new.self) c.in_err-start_from.field-0.0 failed.0 failed.2
+    (c.in_ok-id.ensures good) (c.in_err-start_from.ensures good kind))
+
+pub returns : goal.returns
+unfolding changed_by
+returns g c good =
+    let workspace = workspace_in (own_shown c.args.own.now) c.args.pool.now c.args.table.now c.args.refs.now in
+    let start = start_in workspace c.args.commit.now.header.ref_name (said_shown c.args.from.now) in
+    let kind = IfOk-at_ok (IsCommitOf workspace.objects) {r = start} (c.in_ok-id.ensures good)
+    (start_good g.N.Naming.digest_of workspace good c.args.commit.now.header.ref_name (said_shown c.args.from.now)) in
+    changed_then start (λ id. started_from workspace.objects id (commit_shown c.args.commit.now)) c.in_ok-id.id
+    (commit_shown c.args.commit.now) (commit_shown c.start_from.new.self)
+    (c.in_ok-id.ensures good) (c.in_ok-start_from.ensures good kind)

@@ -1,0 +1,24 @@
+use Rattle.std.proofs.Common.{None, sym}
+use Rattle.std.proofs.lemmas.Result.{err_from_is_err_and}
+use Rattle.stream_grammar.specs.Shown.{commit_shown}
+use Rattle.import_session.specs.declared.branches.Tip.{Tip}
+use Rattle.import_session.specs.Workspace.{quiet}
+use Rattle.import_session.specs.Branches.{with_branch}
+use Rattle.import_session.specs.Resets.{tip_from}
+use Rattle.import_session.specs.Session.{own_shown, workspace_in}
+use Rattle.import_session.proofs.ActLemmas.{first_refused}
+use Rattle.import_session.proofs.resets.reset_to.Goals as goal
+
+pub returns-in_err-tip : goal.returns-in_err-tip
+returns-in_err-tip g c out good =
+    let w = workspace_in (own_shown c.args.own.now) c.args.pool.now c.args.table.now
+    c.args.refs.now in
+    let ref = c.in-Some.said.ref_name in
+    let p = err_from_is_err_and c.from_residual.result c.from_residual.ensures.1 in
+    rw (sym c.in-Some.ensures.value, p.1, p.2)
+    (first_refused (tip_from w ref (commit_shown c.args.from.now))
+    (λ (tip : Tip). quiet (record w {
+      branches = with_branch w.branches ref tip;
+      said = None;
+    }))
+    _ out out c.in_err-tip.field-0.0 (c.in_err-tip.ensures good))

@@ -1,0 +1,232 @@
+//! What changes in the open commit: git-fast-import(1), "from" to "ls".
+
+ghost use Rattle.std.specs.Prelude.{◌≡◌, List, ℕ, OnErr};
+ghost use Rattle.content_pool.specs.Pool.{Cells};
+ghost use Rattle.git_model.specs.GoodRepository.{AreObjects};
+ghost use Rattle.git_model.specs.RefStore.{RefStore};
+ghost use Rattle.tenant_tables.specs.Objects.{objects};
+ghost use Rattle.tenant_tables.specs.Room.{HasRoomBeside};
+ghost use Rattle.tenant_tables.specs.StandsIn.{StandsIn};
+ghost use Rattle.tenant_tables.specs.View.{View};
+ghost use Rattle.stream_grammar.specs.Shown.{act_shown, commit_shown as said_shown};
+ghost use Rattle.stream_grammar.specs.Acts.{StartFrom, Merge};
+ghost use Rattle.open_commits.specs.OpenCommit.{commit_shown};
+ghost use Rattle.import_session.specs.Lent.{Keeps};
+ghost use Rattle.import_session.specs.Commits.{contents_awaited};
+ghost use Rattle.import_session.specs.Changes.{branch_entry_shown, changed_by, commit_changed, contents_stored, moved_by};
+ghost use Rattle.import_session.specs.Meaning.{within_commit};
+ghost use Rattle.import_session.specs.Session.{own_shown, workspace_in, CarriesOut, KeepsCommitted, Leaves};
+ghost use Rattle.import_session.specs.Sound.{IsSound};
+
+use crate::commit_ishes::{commit_named, start_of};
+use crate::fault::Fault;
+use crate::own::Own;
+use crate::print::print_entry;
+use crate::said::Inline;
+use content_pool::Pool;
+use git_model::FileMode;
+use git_objects::Naming;
+use git_paths::Path;
+use open_commits::OpenCommit;
+use stream_grammar::{Act, CommitIsh};
+use tenant_refs::Refs;
+use tenant_tables::Table;
+
+// 'from'.
+fn start_from<N: Naming>(
+    pool: &Pool<N>,
+    table: &Table,
+    refs: &Refs,
+    own: &Own,
+    commit: &mut OpenCommit,
+    from: &CommitIsh<'_>,
+) -> Result<(), Fault>
+    requires { StandsIn N.digest_of pool.now table.now.entries }
+    ensures { let workspace = workspace_in (own_shown own.now) pool.now table.now refs.now in
+        AreObjects N.digest_of workspace.objects → Leaves
+        (changed_by workspace (StartFrom (said_shown from.now)) (commit_shown commit.old))
+        (commit_shown commit.new) result }
+{
+    let id = start_of(pool, table, refs, own, &commit.header.ref_name, from)?;
+    Ok(commit.start_from(pool, table, id)?)
+}
+
+// 'merge'.
+fn merge<N: Naming>(
+    pool: &Pool<N>,
+    table: &Table,
+    refs: &Refs,
+    own: &Own,
+    commit: &mut OpenCommit,
+    other: &CommitIsh<'_>,
+) -> Result<(), Fault>
+    requires { StandsIn N.digest_of pool.now table.now.entries }
+    ensures { let workspace = workspace_in (own_shown own.now) pool.now table.now refs.now in
+        AreObjects N.digest_of workspace.objects → Leaves
+        (changed_by workspace (Merge (said_shown other.now)) (commit_shown commit.old))
+        (commit_shown commit.new) result }
+{
+    let id = commit_named(pool, table, refs, own, other)?;
+    Ok(commit.merge(id)?)
+}
+
+// Carries out an act that changes files alone.
+#[tactic(auto, unfolding(crate::specs::Changes::moved_by))]
+fn move_files<N: Naming>(
+    pool: &Pool<N>,
+    table: &Table,
+    commit: &mut OpenCommit,
+    act: &Act<'_>,
+) -> Result<(), Fault>
+    requires { StandsIn N.digest_of pool.now table.now.entries }
+    ensures { Leaves (moved_by (act_shown act.now) (commit_shown commit.old))
+        (commit_shown commit.new) result }
+{
+    match act {
+        Act::Delete(path) => Ok(commit.delete(pool, table, path)?),
+        Act::Copy { source, path } => Ok(commit.copy(pool, table, source, path)?),
+        Act::Rename { source, path } => Ok(commit.rename(pool, table, source, path)?),
+        Act::DeleteAll => {
+            commit.delete_all();
+            Ok(())
+        }
+        // No other act comes.
+        _ => Err(Fault::Text(stream_grammar::Fault::UnknownCommand)),
+    }
+}
+
+// Carries out an act that changes the open commit.
+#[tactic(auto, unfolding(crate::specs::Changes::changed_by))]
+fn change_commit<N: Naming>(
+    pool: &Pool<N>,
+    table: &Table,
+    refs: &Refs,
+    own: &Own,
+    commit: &mut OpenCommit,
+    act: &Act<'_>,
+) -> Result<(), Fault>
+    requires { StandsIn N.digest_of pool.now table.now.entries }
+    ensures { let workspace = workspace_in (own_shown own.now) pool.now table.now refs.now in
+        AreObjects N.digest_of workspace.objects → Leaves
+        (changed_by workspace (act_shown act.now) (commit_shown commit.old))
+        (commit_shown commit.new) result }
+{
+    match act {
+        Act::StartFrom(from) => start_from(pool, table, refs, own, commit, from),
+        Act::Merge(other) => merge(pool, table, refs, own, commit, other),
+        Act::Modify { mode, object, path } => {
+            Ok(commit.modify(pool, table, &own.marks, *mode, *object, path)?)
+        }
+        _ => move_files(pool, table, commit, act),
+    }
+}
+
+// An act in the open commit.
+fn change_open<N: Naming>(
+    pool: &Pool<N>,
+    table: &Table,
+    refs: &Refs,
+    own: &mut Own,
+    act: &Act<'_>,
+) -> Result<(), Fault>
+    requires { StandsIn N.digest_of pool.now table.now.entries }
+    ensures { (out : List ℕ) → IsSound N.digest_of
+        (workspace_in (own_shown own.old) pool.now table.now refs.now) → CarriesOut
+        (commit_changed (act_shown act.now) (own_shown own.old).commit
+        (workspace_in (own_shown own.old) pool.now table.now refs.now))
+        (workspace_in (own_shown own.new) pool.now table.now refs.now) out out result }
+{
+    let Some(mut commit) = own.commit.take() else {
+        return Err(Fault::Text(stream_grammar::Fault::UnknownCommand));
+    };
+    let changed = change_commit(pool, table, refs, own, &mut commit, act);
+    own.commit = Some(commit);
+    changed
+}
+
+// 'M' with 'inline': the next data is to stand there.
+fn await_contents(own: &mut Own, refs: &Refs, mode: FileMode, path: &Path) -> Result<(), Fault>
+    ensures { (pool : Cells) (table : View) (out : List ℕ) → CarriesOut
+        (contents_awaited mode path.now (workspace_in (own_shown own.old) pool table refs.now))
+        (workspace_in (own_shown own.new) pool table refs.now) out out result }
+{
+    let path = path.copied(own.alloc)?;
+    own.inline = Some(Inline { mode, path });
+    Ok(())
+}
+
+// Carries out an act of the open commit that stores and prints nothing.
+#[tactic(auto, unfolding(crate::specs::Meaning::within_commit))]
+pub fn change<N: Naming>(
+    pool: &Pool<N>,
+    table: &Table,
+    refs: &Refs,
+    own: &mut Own,
+    act: &Act<'_>,
+) -> Result<(), Fault>
+    requires { StandsIn N.digest_of pool.now table.now.entries }
+    ensures { (out : List ℕ) → IsSound N.digest_of
+        (workspace_in (own_shown own.old) pool.now table.now refs.now) → CarriesOut
+        (within_commit (act_shown act.now)
+        (workspace_in (own_shown own.old) pool.now table.now refs.now))
+        (workspace_in (own_shown own.new) pool.now table.now refs.now) out out result }
+{
+    match act {
+        Act::ModifyInline { mode, path } => await_contents(own, refs, *mode, path),
+        _ => change_open(pool, table, refs, own, act),
+    }
+}
+
+// The contents of the file that the line before named.
+pub fn put_contents<N: Naming>(
+    pool: &mut Pool<N>,
+    table: &mut Table,
+    own: &mut Own,
+    bytes: &[u8],
+) -> Result<(), Fault>
+    requires stands { StandsIn N.digest_of pool.old table.old.entries }
+    requires room { HasRoomBeside pool.old table.old.entries }
+    ensures keeps { Keeps N.digest_of pool.old table.old pool.new table.new }
+    ensures done { (refs : RefStore) (out : List ℕ) → CarriesOut
+        (contents_stored N.digest_of bytes.now (own_shown own.old).inline
+        (own_shown own.old).commit (workspace_in (own_shown own.old) pool.old table.old refs))
+        (workspace_in (own_shown own.new) pool.new table.new refs) out out result }
+    ensures committed { KeepsCommitted pool.old table.old pool.new table.new }
+{
+    let Some(inline) = own.inline.take() else {
+        return Err(Fault::Text(stream_grammar::Fault::UnknownCommand));
+    };
+    let Some(commit) = &mut own.commit else {
+        return Err(Fault::Text(stream_grammar::Fault::UnknownCommand));
+    };
+    let _within = table.committed_len();
+    Ok(commit.put_contents(pool, table, inline.mode, &inline.path, bytes)?)
+}
+
+// 'ls' with a path alone: prints what stands there in the open commit.
+pub fn show_entry<N: Naming>(
+    pool: &mut Pool<N>,
+    table: &mut Table,
+    own: &mut Own,
+    path: &Path,
+    out: &mut Vec<u8>,
+) -> Result<(), Fault>
+    requires stands { StandsIn N.digest_of pool.old table.old.entries }
+    requires room { HasRoomBeside pool.old table.old.entries }
+    ensures keeps { Keeps N.digest_of pool.old table.old pool.new table.new }
+    ensures done { (refs : RefStore) → CarriesOut
+        (branch_entry_shown N.digest_of path.now (own_shown own.old).commit
+        (workspace_in (own_shown own.old) pool.old table.old refs))
+        (workspace_in (own_shown own.new) pool.new table.new refs)
+        out.old.items out.new.items result }
+    ensures committed { KeepsCommitted pool.old table.old pool.new table.new }
+    ensures printed { OnErr result (out.new.items ≡ out.old.items) }
+{
+    let Some(commit) = &mut own.commit else {
+        return Err(Fault::Text(stream_grammar::Fault::UnknownCommand));
+    };
+    let _within = table.committed_len();
+    let entry = commit.show_entry(pool, table, path)?;
+    print_entry(path, entry, out)?;
+    Ok(())
+}

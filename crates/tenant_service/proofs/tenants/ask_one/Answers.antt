@@ -1,0 +1,24 @@
+use Rattle.std.proofs.Common.{sym}
+use Rattle.tenant_service.specs.Alone.{Ask}
+use Rattle.tenant_service.specs.Tenants.{holding_in}
+use Rattle.tenant_service.proofs.AccountLemmas.{stands-found, held-found, held-missing, serves-same}
+use Rattle.tenant_service.proofs.SoundLemmas.{sound-found}
+use Rattle.tenant_service.proofs.tenants.ask_one.Goals as goal
+
+pub ask-requires : goal.ask-requires
+ask-requires g c = record {
+  stands = stands-found g.N.Naming.digest_of c.args.pool.now c.args.name.now c.args.tenants.now.entries c.in-Some.tenant.now c.requires.accounts (sym c.in-Some.ensures.value);
+  sound = sound-found g.N.Naming.digest_of c.args.pool.now c.args.name.now c.args.tenants.now.entries c.in-Some.tenant.now c.requires.sound (sym c.in-Some.ensures.value);
+}
+
+pub returns-in-Some : goal.returns-in-Some
+returns-in-Some g c =
+    serves-same g.N.Naming.digest_of c.args.name.now (Ask c.args.query.now) c.args.pool.now c.args.tenants.now.entries (holding_in c.args.pool.now c.in-Some.tenant.now)
+    c.ask.result c.args.out.now.items c.ask.new.out.items c.requires.accounts
+    (held-found c.args.pool.now c.args.name.now c.args.tenants.now.entries c.in-Some.tenant.now (sym c.in-Some.ensures.value)) c.ask.ensures
+
+pub returns-in-None : goal.returns-in-None
+returns-in-None g c =
+    serves-same g.N.Naming.digest_of c.args.name.now (Ask c.args.query.now) c.args.pool.now c.args.tenants.now.entries _
+    c.ask_nobody.result c.args.out.now.items c.ask_nobody.new.out.items c.requires.accounts
+    (held-missing c.args.pool.now c.args.name.now c.args.tenants.now.entries (sym c.in-None.ensures.value)) c.ask_nobody.ensures
