@@ -1,6 +1,6 @@
 //! Imports of the worked streams, and what else ends an import.
 
-use crate::worked::STREAMS;
+use crate::worked::{LATER_STREAMS, STREAMS};
 use git_objects::{Counted, Sha1Naming, TailNaming};
 use gitpool::{ImportFault, import_one};
 use std::alloc::Global;
@@ -18,6 +18,22 @@ fn run(alloc: Global, stream: &[u8], out: &mut Vec<u8>) -> Option<ImportFault> {
 #[test]
 fn prints_what_git_prints_and_refuses_by_number(rt: HostRuntime) -> Result<(), Fail> {
     for worked in STREAMS {
+        let mut out = Vec::new(rt.alloc());
+        let fault = run(rt.alloc(), worked.stream, &mut out);
+        assert_eq!(rt;
+            fault,
+            worked.fault.map(ImportFault::Stream),
+            "of stream {}",
+            worked.name
+        );
+        assert_eq!(rt; out.as_slice(), worked.replies, "of stream {}", worked.name);
+    }
+    Ok(())
+}
+
+#[test]
+fn prints_what_git_prints_of_later_ones(rt: HostRuntime) -> Result<(), Fail> {
+    for worked in LATER_STREAMS {
         let mut out = Vec::new(rt.alloc());
         let fault = run(rt.alloc(), worked.stream, &mut out);
         assert_eq!(rt;

@@ -402,7 +402,7 @@ const CASES: &[Case] = &[
     },
 ];
 
-const REFUSALS: &[Refusal] = &[
+const COMMIT_REFUSALS: &[Refusal] = &[
     Refusal {
         refuses: "a commit without a committer",
         steps: &[COMMIT, MESSAGE],
@@ -490,6 +490,9 @@ const REFUSALS: &[Refusal] = &[
         ],
         number: 20,
     },
+];
+
+const REFUSALS: &[Refusal] = &[
     Refusal {
         refuses: "a tag of a bad name",
         steps: &[Step::Take(Item::Line(b"tag .v"))],
@@ -1176,6 +1179,15 @@ fn first_wrong_case(alloc: Global) -> Option<&'static str> {
     None
 }
 
+fn first_wrong_commit_refusal(alloc: Global) -> Option<&'static str> {
+    for refusal in COMMIT_REFUSALS {
+        if !is_refused(alloc, refusal) {
+            return Some(refusal.refuses);
+        }
+    }
+    None
+}
+
 fn first_wrong_refusal(alloc: Global) -> Option<&'static str> {
     for refusal in REFUSALS {
         if !is_refused(alloc, refusal) {
@@ -1216,6 +1228,12 @@ fn first_wrong_tag(alloc: Global) -> Option<&'static str> {
 #[test]
 fn prints_and_keeps_what_git_does(rt: HostRuntime) -> Result<(), Fail> {
     assert_eq!(rt; first_wrong_case(rt.alloc()), None);
+    Ok(())
+}
+
+#[test]
+fn refuses_commits_by_number_and_prints_nothing(rt: HostRuntime) -> Result<(), Fail> {
+    assert_eq!(rt; first_wrong_commit_refusal(rt.alloc()), None);
     Ok(())
 }
 
