@@ -54,7 +54,7 @@ passes_or_refuses (c ∷ cs) r p (inr q) = passes_or_refuses cs r p.1 q.1
 
 -- ---- contents
 
-either : {E : Type 0} (P Q : Type 0) (r : Result Bool E) → (P → Q) → (Q → P) → IfOk r (λ b. IsTrue b ↔ P) → IfOk r (λ b. IsTrue b ↔ Q)
+pub either : {E : Type 0} (P Q : Type 0) (r : Result Bool E) → (P → Q) → (Q → P) → IfOk r (λ b. IsTrue b ↔ P) → IfOk r (λ b. IsTrue b ↔ Q)
 either P Q (Ok b) f g h = (λ t. f (h.0 t), λ q. h.1 (g q))
 either P Q (Err e) f g h = tt
 

@@ -7,3 +7,7 @@ pub mod FieldLemmas
 pub mod WholeLemmas
 pub mod Pieces
 pub mod CheckLemmas
+pub mod OwnLemmas
+pub mod TenantLemmas
+pub mod RefLemmas
+pub mod HeldLemmas

@@ -8,3 +8,8 @@ pub mod Sinks
 pub mod AddingUp
 pub mod Checks
 pub mod Objects
+pub mod Own
+pub mod Indexing
+pub mod Tenants
+pub mod FileRefs
+pub mod Held

@@ -5,3 +5,7 @@
 mod files;
 #[cfg(test)]
 mod objects;
+#[cfg(test)]
+mod own;
+#[cfg(test)]
+mod tenants;

@@ -1,3 +1,4 @@
 pub mod PoolsInLists
 pub mod TablesInLists
 pub mod TwoTables
+pub mod HeldTables

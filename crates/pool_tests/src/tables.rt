@@ -3,6 +3,7 @@
 
 mod beside;
 mod forest;
+mod held;
 mod two;
 
 use beside::first_unlike;
@@ -11,6 +12,7 @@ use git_objects::{
     FileMode, Memory, Name, Naming, Sha1Naming, TailNaming, TreeEntry, has_twenty_bytes,
     is_entry_name,
 };
+use held::takes_hello;
 use std::alloc::Global;
 use std::test::Fail;
 use tenant_tables::{Fault, Sight, Summary};
@@ -201,5 +203,11 @@ fn adds_trees(alloc: Global) -> Result<bool, Fail> {
 #[test]
 fn trees_have_the_sizes_of_their_file_maps(rt: HostRuntime) -> Result<(), Fail> {
     assert!(rt; adds_trees(rt.alloc())?);
+    Ok(())
+}
+
+#[test]
+fn what_lies_in_the_pool_is_taken_by_its_slot(rt: HostRuntime) -> Result<(), Fail> {
+    assert!(rt; takes_hello(rt.alloc(), Sha1Naming, HELLO)?);
     Ok(())
 }

@@ -8,10 +8,13 @@ use Rattle.tenant_refs.specs.TenantName.{parts_of}
 abbrev pub namespace_of : List ℕ → List ℕ
 namespace_of part = codes "refs/namespaces/" ++ part ++ codes "/"
 
--- A tenant's ref among those of all: the namespaces of the tenant's parts in order, and then the
--- ref.
+-- The namespaces of a tenant's parts in order.
+abbrev pub namespaces : List ℕ → List ℕ
+namespaces tenant = flat_map namespace_of (parts_of tenant)
+
+-- A tenant's ref among those of all: the namespaces of the tenant, and then the ref.
 unfoldable pub full_name : List ℕ → List ℕ → List ℕ
-full_name tenant ref = flat_map namespace_of (parts_of tenant) ++ ref
+full_name tenant ref = namespaces tenant ++ ref
 
 -- No other tenant's ref and no other ref of the tenant has this full name. Only what begins with
 -- `refs/namespaces/` is left out, which no ref of a tenant does.

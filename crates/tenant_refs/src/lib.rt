@@ -14,7 +14,7 @@ mod tenant_name_fault;
 
 pub use changes::{ChangesFault, RefChange};
 pub use git_names::{Memory, Name, REF_NAME_LIMIT, RefName, RefNameFault};
-pub use namespace::full_name;
+pub use namespace::{full_name, namespaces};
 pub use refs::{FIRST_HEAD, Refs};
 pub use tenant_name::{TENANT_NAME_LIMIT, TenantName, is_tenant_name};
 pub use tenant_name_fault::TenantNameFault;

@@ -1,13 +1,28 @@
 //! Where a tenant's refs lie among those of all: gitnamespaces(7).
 
-ghost use Rattle.std.specs.Prelude.{◌≡◌, ◌++◌, codes, IfOk};
-ghost use Rattle.std.specs.List.{flat_map};
-ghost use Rattle.tenant_refs.specs.TenantName.{parts_of};
-ghost use Rattle.tenant_refs.specs.FullName.{full_name, namespace_of, IsFullNameOfNoOther};
+ghost use Rattle.std.specs.Prelude.{◌≡◌, IfOk};
+ghost use Rattle.tenant_refs.specs.FullName.{full_name, namespaces, IsFullNameOfNoOther};
 
 use crate::tenant_name::TenantName;
 use git_names::{Memory, RefName};
 use std::alloc::Global;
+
+/// What stands before each ref of a tenant among those of all: `refs/namespaces/<part>/` for each
+/// part of the tenant's name, given as bytes.
+///
+/// For `a/b` it is `refs/namespaces/a/refs/namespaces/b/`. `Memory` (90) where there is no room for
+/// it.
+pub fn namespaces(alloc: Global, tenant: &[u8]) -> Result<Vec<u8>, Memory>
+    ensures { IfOk result (λ front. front.items ≡ namespaces tenant.now) }
+{
+    let mut front = Vec::new(alloc);
+    for part in tenant.split(|byte| *byte == b'/') {
+        front.extend_from_slice(b"refs/namespaces/")?;
+        front.extend_from_slice(part)?;
+        front.push(b'/')?;
+    }
+    Ok(front)
+}
 
 /// The full name of a tenant's ref: `refs/namespaces/<part>/` for each part of the tenant's name,
 /// and then the ref.
@@ -18,12 +33,7 @@ pub fn full_name(alloc: Global, tenant: &TenantName, ref_name: &RefName) -> Resu
     ensures name { IfOk result (λ full. full.items ≡ full_name tenant.now ref_name.now) }
     ensures one { IfOk result (λ full. IsFullNameOfNoOther full.items tenant.now ref_name.now) }
 {
-    let mut full = Vec::new(alloc);
-    for part in tenant.as_bytes().split(|byte| *byte == b'/') {
-        full.extend_from_slice(b"refs/namespaces/")?;
-        full.extend_from_slice(part)?;
-        full.push(b'/')?;
-    }
+    let mut full = namespaces(alloc, tenant.as_bytes())?;
     full.extend_from_slice(ref_name.as_bytes())?;
     Ok(full)
 }

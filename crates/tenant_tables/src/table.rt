@@ -6,13 +6,13 @@ ghost use Rattle.std.specs.Option.{option_map};
 ghost use Rattle.std.specs.Str.{bytes_eq};
 ghost use Rattle.git_model.specs.ObjectName.{object_name};
 ghost use Rattle.git_model.specs.Content.{content_from, name_by};
-ghost use Rattle.content_pool.specs.Pool.{HasRoom};
+ghost use Rattle.content_pool.specs.Pool.{HasRoom, IsLive, content};
 ghost use Rattle.tenant_tables.specs.View.{names, entry_named, slot_of, summary_of, in_sight};
 ghost use Rattle.git_model.specs.Content.{same_content};
 ghost use Rattle.git_model.specs.Repository.{object_named};
 ghost use Rattle.tenant_tables.specs.Objects.{objects};
 ghost use Rattle.tenant_tables.specs.StandsIn.{StandsIn, LeavesOthers};
-ghost use Rattle.tenant_tables.specs.Adding.{Answers, store_fault, Adds, Pushes};
+ghost use Rattle.tenant_tables.specs.Adding.{Answers, store_fault, Adds, Pushes, PushesAt};
 ghost use Rattle.tenant_tables.specs.Trees.{FitsTree, SummedBehind};
 ghost use Rattle.tenant_tables.specs.Abbreviation.{found_among};
 
@@ -310,6 +310,58 @@ impl Table {
                 Err(refused)
             }
         }
+    }
+
+    /// Adds an object whose content lies in a live slot of the pool already, under a name that the
+    /// table does not have. The slot is held once more; nothing is copied and nothing is digested.
+    ///
+    /// `Memory` (90) where there is no room for one more; table and pool are then as they were.
+    pub fn add_held<N: Naming>(
+        &mut self,
+        pool: &mut Pool<N>,
+        id: Name,
+        slot: Slot,
+        summary: Option<Summary>,
+    ) -> Result<(), Memory>
+        requires stands { StandsIn N.digest_of pool.old self.old.entries }
+        requires room { HasRoom pool.old }
+        requires live { IsLive pool.old slot }
+        requires named { id ≡ name_by N.digest_of (content pool.old slot) }
+        requires new { entry_named id self.old.entries ≡ None }
+        requires spare { length self.old.entries < OBJECTS_LIMIT }
+        requires summed { SummedBehind self.old.entries (content pool.old slot) summary }
+        requires short { length (content pool.old slot).bytes ≤ CONTENTS_LIMIT }
+        ensures stands { StandsIn N.digest_of pool.new self.new.entries }
+        ensures others { LeavesOthers pool.old self.old.entries pool.new self.new.entries }
+        ensures ok { OnOk result (Adds N.digest_of (content pool.old slot) summary
+            pool.old self.old pool.new self.new) }
+        ensures err { OnErr result ((self.new ≡ self.old) × (pool.new ≡ pool.old)) }
+    {
+        self.push_held(pool, id, slot, summary)?;
+        Ok(())
+    }
+
+    fn push_held<N: Naming>(
+        &mut self,
+        pool: &mut Pool<N>,
+        id: Name,
+        slot: Slot,
+        summary: Option<Summary>,
+    ) -> Result<(), Memory>
+        requires room { HasRoom pool.old }
+        requires live { IsLive pool.old slot }
+        requires new { entry_named id self.old.entries ≡ None }
+        requires spare { length self.old.entries < OBJECTS_LIMIT }
+        ensures ok { OnOk result (PushesAt id (content pool.old slot) summary
+            pool.old self.old pool.new self.new slot) }
+        ensures err { OnErr result ((self.new ≡ self.old) × (pool.new ≡ pool.old)) }
+    {
+        has_twenty_bytes(&id);
+        self.objects.reserve(1)?;
+        self.names.insert(id)?;
+        self.objects.insert(id, Entry { slot, summary }).unwrap();
+        pool.hold(slot);
+        Ok(())
     }
 
     /// Makes all objects committed. Takes no memory.

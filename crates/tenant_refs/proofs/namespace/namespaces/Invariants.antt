@@ -1,7 +1,7 @@
 use Rattle.std.proofs.Common.{◌≡◌, map}
 use Rattle.std.specs.List.{flat_map}
 use Rattle.tenant_refs.specs.FullName.{namespace_of}
-use Rattle.tenant_refs.proofs.namespace.full_name.Given as goal
+use Rattle.tenant_refs.proofs.namespace.namespaces.Given as goal
 
 abbrev pub invariant-loop-part : goal.invariant-loop-part
-invariant-loop-part l = l.full.items ≡ flat_map namespace_of (map (λ part. part.now) l.yielded)
+invariant-loop-part l = l.front.items ≡ flat_map namespace_of (map (λ part. part.now) l.yielded)

@@ -1,0 +1,38 @@
+//! An object whose content lies in the pool already, for tests: what a caller of `add_held` has to
+//! keep.
+
+ghost use Rattle.std.specs.Prelude.{◌≡◌, []};
+ghost use Rattle.content_pool.specs.Pool.{IsVacant};
+
+use content_pool::Pool;
+use git_objects::{Kind, Memory, Naming};
+use std::alloc::Global;
+use tenant_tables::Table;
+
+/// Whether a table takes `hello`, which lies in a pool, under the name of these digits, and still
+/// has it when nobody else holds it.
+pub fn takes_hello<N: Naming>(alloc: Global, naming: N, digits: &[u8; 40]) -> Result<bool, Memory> {
+    let mut pool = Pool::new(alloc, naming);
+    let mut table = Table::new(alloc);
+    takes_hello_from(&mut pool, &mut table, digits)
+}
+
+// Apart from the function that owns the two: each way out of an owner makes its proof longer.
+fn takes_hello_from<N: Naming>(
+    pool: &mut Pool<N>,
+    table: &mut Table,
+    digits: &[u8; 40],
+) -> Result<bool, Memory>
+    requires vacant { IsVacant pool.old }
+    requires none { table.old.entries ≡ [] }
+{
+    let (slot, id) = pool.put(Kind::Blob, b"hello\n")?;
+    table.add_held(pool, id, slot, None)?;
+    pool.release(slot);
+    Ok(
+        id.to_hex() == *digits
+            && table.at(0) == Some((id, slot))
+            && table.summary(&id).is_none()
+            && pool.stored() == (1, 6),
+    )
+}
