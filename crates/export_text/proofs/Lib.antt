@@ -5,3 +5,10 @@ pub mod Listing
 pub mod Flagged
 pub mod Standing
 pub mod ReadBack
+pub mod WrittenWords
+pub mod Asking
+pub mod FilesAsked
+pub mod CommandsAsked
+pub mod OpeningAsked
+pub mod ExportAsked
+pub mod Writable
