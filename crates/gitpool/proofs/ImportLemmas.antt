@@ -1,6 +1,7 @@
 -- What an import has done so far.
 use Rattle.std.proofs.Common.{◌≡◌, ℕ, ◌+◌, ◌-◌, ◌^◌, ◌≤◌, inl, inr, min, Bool, true, false, cond, List, [], ◌++◌, length, take, Option, None, Some, Result, Ok, Err, refl, sym, ap, subst, ◌∙◌, append_assoc, append-nil, arith}
 use Rattle.std.specs.Io.KnownBytes.{Appends, Consumes, Keeps, IsAtEnd}
+use Rattle.std.specs.Prelude.{OnOk}
 use Rattle.git_model.specs.RefStore.{RefStore, no_refs}
 use Rattle.git_model.specs.Repository.{Object, Repository}
 use Rattle.content_pool.specs.Pool.{Cells}
@@ -8,6 +9,7 @@ use Rattle.tenant_tables.specs.View.{View}
 use Rattle.tenant_tables.specs.Objects.{objects}
 use Rattle.tenant_tables.specs.StandsIn.{StandsIn, LeavesOthers}
 use Rattle.import_session.specs.Workspace.{opened}
+use Rattle.import_session.specs.Held.{FilesStand}
 use Rattle.import_session.specs.Sound.{IsSound}
 use Rattle.import_session.proofs.SoundLemmas.{empty_is_sound, new_is_sound}
 use Rattle.import_session.specs.Session.{new_session, running_in}
@@ -424,6 +426,11 @@ new_sound digest i between table refs =
     subst (λ (now : Running). IsSound digest now.workspace) (sym (new_running i between table refs))
     (new_is_sound digest empty_repository (empty_is_sound digest))
 
+-- and holds no files
+pub new_holds : (i : Importing) → i.between ≡ new_stream → FilesStand i.between.session.own i.pool i.table
+new_holds i between =
+    subst (λ (b : Between). FilesStand b.session.own i.pool i.table) (sym between) (record { commit = tt; left = tt })
+
 -- all bytes, from the first
 stream_begun : (digest : List ℕ → List ℕ) (bytes : List ℕ)
     → outcome_behind digest (begun (opened empty_repository)) (Rest false []) bytes ≡ outcome_of digest bytes
@@ -454,9 +461,10 @@ has_ample_room digest i ready s = let a = ready.alone s in let o = ready.stands.
 
 pub ready_then : (digest : List ℕ → List ℕ) (old new : Importing) → IsReady digest old → StandsIn digest new.pool new.table.entries
     → LeavesOthers old.pool old.table.entries new.pool new.table.entries → new.out ≡ [] → IsSound digest (running_of new).workspace
-    → IsReady digest new
-ready_then digest old new ready stands others written sound = record {
+    → FilesStand new.between.session.own new.pool new.table → IsReady digest new
+ready_then digest old new ready stands others written sound files = record {
   stands = stands;
+  files = files;
   sound = sound;
   alone = λ s. let a = ready.alone s in let r = others.rest s in omega (arith, a, r);
   written = written;
@@ -480,24 +488,25 @@ fed_of digest old piece result next new out' ready running feeds =
 pub passes_on : (digest : List ℕ → List ℕ) (old : Importing) (piece : List ℕ) (w w' : Device) (result : Result Unit Stop) (new : Importing)
     (out' : List ℕ)
     → Carries digest (running_of old) (extended old.between.tail piece) [] result (running_of new) new.between.tail out'
-    → LeavesSound digest result (running_of new).workspace → (IsSound digest (running_of new).workspace → IsReady digest new)
+    → LeavesSound digest result (running_of new).workspace → OnOk result (FilesStand new.between.session.own new.pool new.table)
+    → (IsSound digest (running_of new).workspace → FilesStand new.between.session.own new.pool new.table → IsReady digest new)
     → Appends w.known w'.known out' → w'.faults ≡ w.faults
     → PassesOn digest old piece w (as_import result) new w'
-passes_on digest old piece w w' (Ok u) new out' c sound ready written well = record {
+passes_on digest old piece w w' (Ok u) new out' c sound files ready written well = record {
   replies = c.replies;
   goes = goes_on digest (running_of old) (extended old.between.tail piece) c.items c.replies (running_of new) new.between.tail c.advances;
   drained = c.drained;
   written = subst (λ (l : List ℕ). Appends w.known w'.known l) c.printed written;
   well = well;
-  ready = ready sound;
+  ready = ready sound files;
 }
-passes_on digest old piece w w' (Err (stop.Fault code)) new out' c sound ready written well = record {
+passes_on digest old piece w w' (Err (stop.Fault code)) new out' c sound files ready written well = record {
   replies = c.ends.replies;
   repository = last_checkpoint c.last.workspace;
   refused = fails_as digest (running_of old) (extended old.between.tail piece) [] code (running_of new) out' c;
   written = subst (λ (l : List ℕ). Appends w.known w'.known l) c.ends.printed written;
 }
-passes_on digest old piece w w' (Err (stop.Memory count)) new out' c sound ready written well =
+passes_on digest old piece w w' (Err (stop.Memory count)) new out' c sound files ready written well =
     whole_front w.known w'.known out' _ written
     (printed_front digest (running_of old) (extended old.between.tail piece) (Err (stop.Memory count)) (running_of new) new.between.tail out' c)
 

@@ -9,6 +9,7 @@ use Rattle.tenant_tables.specs.View.{View, held}
 use Rattle.tenant_tables.specs.StandsIn.{StandsIn}
 use Rattle.stream_lex.specs.Running.{extended}
 use Rattle.import_session.specs.Stream.{Running, Runs, Refused, End, after_reply, finished}
+use Rattle.import_session.specs.Held.{FilesStand}
 use Rattle.import_session.specs.Sound.{IsSound}
 use Rattle.gitpool.specs.declared.import_fault.ImportFault.{ImportFault}
 use Rattle.gitpool.specs.declared.import_fault.ImportFault.TheVariants as fault
@@ -27,9 +28,11 @@ pub record Importing : Type 0 where
 abbrev pub running_of : Importing → Running
 running_of i = stream_in i.between i.pool i.table i.refs
 
--- No content but the table's is held, the stream is sound, and every reply was written.
+-- No content but the table's is held, the stream is sound, the files that it holds stand among the
+-- table's objects, and every reply was written.
 pub record IsReady (digest : List ℕ → List ℕ) (i : Importing) : Type 0 where
   pub stands : StandsIn digest i.pool i.table.entries
+  pub files : FilesStand i.between.session.own i.pool i.table
   pub sound : IsSound digest (running_of i).workspace
   pub alone : (s : ℕ) → holds i.pool s ≡ held i.table.entries s
   pub written : i.out ≡ []

@@ -65,11 +65,11 @@ impl<N: Naming> Model for Importer<N> {
     ghost use Rattle.gitpool.specs.Importing.{Importing};
     ghost use Rattle.std.specs.Coded.{codes};
     ghost use Rattle.git_model.specs.RefStore.{ref_store_code};
-    ghost use Rattle.tenant_stream.specs.Carrying.{file_map_code};
+    ghost use Rattle.tenant_stream.specs.Carrying.{branch_code};
 
     ghost Value = { Importing };
 
-    ghost coded = { Prim.hlevel (codes, ref_store_code, file_map_code) };
+    ghost coded = { Prim.hlevel (codes, ref_store_code, branch_code) };
 
     ghost view = { λ i. record {
       pool = i.pool;

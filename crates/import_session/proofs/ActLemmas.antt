@@ -1,9 +1,14 @@
 -- What a printed line leaves of a workspace, and what an item does by its text, by the end of the
 -- open commit and by its act.
-use Rattle.std.proofs.Common.{◌≡◌, ◌≢◌, ◌⊎◌, inl, inr, ℕ, List, [], Result, Ok, Err, refl, sym, ap, subst, ◌∙◌, append_assoc, codes, Bool, false, append-nil, true}
+use Rattle.std.proofs.Common.{◌≡◌, ◌≢◌, ◌⊎◌, inl, inr, ℕ, List, [], Result, Ok, Err, refl, sym, ap, subst, ◌∙◌, append_assoc, codes, Bool, false, append-nil, true, Option, rules}
 use Rattle.std.proofs.lemmas.Bool.{cond-true}
 use Rattle.import_session.specs.declared.fault.Fault.{Fault}
 use Rattle.import_session.specs.declared.fault.Fault.TheVariants as fault
+use Rattle.git_model.specs.Content.{Content}
+use Rattle.git_model.specs.RefStore.{RefStore}
+use Rattle.content_pool.specs.Pool.{Cells}
+use Rattle.tenant_tables.specs.Objects.{objects}
+use Rattle.tenant_tables.specs.View.{View}
 use Rattle.stream_lex.specs.Items.{Item}
 use Rattle.stream_grammar.specs.declared.act.Act.{Act as LentAct}
 use Rattle.stream_grammar.specs.declared.act.Act.TheVariants as lent
@@ -13,14 +18,18 @@ use Rattle.stream_grammar.specs.declared.fault.Fault.TheVariants as text_fault
 use Rattle.stream_grammar.specs.Shown.{Answers, act_shown, done_shown}
 use Rattle.stream_grammar.specs.Commands.{Done, Parsing}
 use Rattle.import_session.specs.Faults.{text_first, and_then}
-use Rattle.import_session.specs.Workspace.{Workspace, Effect}
+use Rattle.import_session.specs.Workspace.{Workspace, Effect, Marks}
+use Rattle.import_session.specs.Marks.{room_for, with_mark}
+use Rattle.import_session.specs.Stored.{IsStored}
+use Rattle.import_session.specs.Held.{FilesStand}
 use Rattle.import_session.specs.Checkpoints.{checkpoint}
 use Rattle.import_session.specs.Commits.{closed_where}
 use Rattle.import_session.specs.Stream.{Running, Step, step, taken, is_finish}
-use Rattle.import_session.specs.Meaning.{after_act}
+use Rattle.import_session.specs.Meaning.{after_act, blob_stored}
 use Rattle.import_session.specs.Printing.{Shows, prints}
-use Rattle.import_session.specs.Session.{CarriesOut, Reads, Takes}
+use Rattle.import_session.specs.Session.{Own, workspace_in, CarriesOut, Reads, Takes}
 use Rattle.import_session.proofs.CommitLemmas.{carries_refused, memory_or}
+use Rattle.import_session.proofs.HeldLemmas.{commit_same}
 
 -- the step that an effect makes
 abbrev pub stepped : Effect → Parsing → Bool → Step
@@ -189,3 +198,18 @@ no_memory given done reads memory =
     (subst (λ (g : Result LentDone TextFault). Answers g (Err text_fault.Memory))
     (sym memory) (λ other. refl)) in
     cc
+
+-- ---- blobs
+
+-- a blob that was stored is marked
+pub blob_carried : (digest : List ℕ → List ℕ) (content : Content) (mark : Option ℕ) (id : List ℕ)
+    (own : Own) (before after : Marks) (p : Cells) (t : View) (q : Cells) (v : View) (refs : RefStore)
+    (out : List ℕ) → room_for before mark ≡ Ok tt → IsStored digest content p t q v id
+    → after ≡ with_mark before mark id → FilesStand own p t
+    → CarriesOut (blob_stored digest mark content
+    (workspace_in (record own { marks = before }) p t refs))
+    (workspace_in (record own { marks = after }) q v refs) out out (Ok tt)
+blob_carried digest content mark id own before after p t q v refs out room stored marked holds =
+    let same = commit_same digest content (objects p t.entries) (objects q v.entries) stored.objects
+    own.commit holds.commit in
+    rw (room, stored.objects) (rw (marked, stored.name, stored.committed, same) refl, search rules)

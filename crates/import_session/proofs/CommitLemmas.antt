@@ -1,17 +1,21 @@
 -- What changes of the open commit, and its message, leave of a workspace.
-use Rattle.std.proofs.Common.{◌≡◌, ◌≢◌, ◌⊎◌, inl, inr, ℕ, List, Option, None, Some, Result, Ok, Err, refl, rules}
+use Rattle.std.proofs.Common.{◌≡◌, ◌≢◌, ◌⊎◌, inl, inr, ℕ, List, [], ◌∷◌, Option, None, Some, Result, Ok, Err, refl, sym, ap, ◌∙◌, rules}
 use Rattle.std.specs.Prelude.{MatchResult}
 use Rattle.git_model.specs.RefStore.{RefStore}
 use Rattle.git_model.specs.Repository.{Object}
 use Rattle.content_pool.specs.Pool.{Cells}
 use Rattle.tenant_tables.specs.View.{View}
+use Rattle.tree_build.specs.declared.fault.Fault.{Fault as FilesFault}
+use Rattle.tree_build.specs.Edits.{put_fault}
+use Rattle.tree_build.specs.FileMap.{FileMap}
+use Rattle.tree_build.specs.StoredFiles.{commit_map, stored_files, tree_of_commit}
 use Rattle.stream_grammar.specs.Acts.{Act}
 use Rattle.open_commits.specs.declared.fault.Fault.{Fault as CommitFault}
 use Rattle.open_commits.specs.declared.fault.Fault.TheVariants as commit_fault
 use Rattle.open_commits.specs.declared.open_commit.OpenCommit.{OpenCommit as LentCommit}
 use Rattle.open_commits.specs.Calls.{Changes}
-use Rattle.open_commits.specs.Parents.{started_from}
-use Rattle.open_commits.specs.OpenCommit.{Header, OpenCommit, commit_shown}
+use Rattle.open_commits.specs.Parents.{changed_to, started_from}
+use Rattle.open_commits.specs.OpenCommit.{Header, HeldCommit, OpenCommit, begun, begun_on, shown_in}
 use Rattle.import_session.specs.declared.fault.Fault.{Fault}
 use Rattle.import_session.specs.declared.fault.Fault.TheVariants as fault
 use Rattle.import_session.specs.declared.said.Said.{Said}
@@ -84,31 +88,46 @@ changed_open workspace act held commit next out (Err f) held_is refused =
 
 -- ---- a commit opens
 
--- it starts from the commit that its branch stood at
+-- it starts from the commit that its branch stood at, whatever files were left to it
+changed_alike : (a b : OpenCommit) (files : FileMap) (refusal : Option FilesFault)
+    → record a { files = files } ≡ record b { files = files }
+    → changed_to a files refusal ≡ changed_to b files refusal
+changed_alike a b files None same = ap (λ (c : OpenCommit). Ok c) same
+changed_alike a b files (Some refusal) same = refl
+
+pub started_alike : (os : List Object) (id message : List ℕ) (header : Header) (files : FileMap)
+    → started_from os id (begun_on header message files) ≡ started_from os id (begun header message)
+started_alike os id message header files =
+    changed_alike (record (begun_on header message files) { parents = id ∷ [] })
+    (record (begun header message) { parents = id ∷ [] }) (commit_map os id)
+    (put_fault (stored_files os (tree_of_commit os id)) (commit_map os id)) refl
+
 pub begun_refused : (os : List Object) (first : Option (List ℕ)) (id : List ℕ)
-    (given new left : OpenCommit) (e : CommitFault) (f : Fault) → f ≡ changing_fault e
-    → first ≡ Some id → given ≡ new → Changes (started_from os id given) given left (Err e)
-    → f ≢ fault.Memory → begun_from os first new ≡ Err f
-begun_refused os first id given new left e f same is begins refused other =
+    (header : Header) (message : List ℕ) (files : FileMap) (given left : OpenCommit)
+    (e : CommitFault) (f : Fault) → f ≡ changing_fault e → first ≡ Some id
+    → given ≡ begun_on header message files → Changes (started_from os id given) given left (Err e)
+    → f ≢ fault.Memory → begun_from os first (begun header message) ≡ Err f
+begun_refused os first id header message files given left e f same is begins refused other =
     let because = refused (λ (m : e ≡ commit_fault.Memory). other (rw (same, m) refl)) in
-    rw (same, is, ← begins, because.0) refl
+    rw (same, is) (ap changed_or (sym (started_alike os id message header files)
+    ∙ ap (started_from os id) (sym begins) ∙ because.0))
 
 pub opened_by : (workspace : Workspace) (stood first : Option (List ℕ)) (new : OpenCommit)
-    (branches : Branches) (X : Type 0) (result : Result LentCommit Fault) → stood ≡ first
-    → branch_set workspace.branches new.header.ref (tip_for first) ≡ Ok branches → X
+    (branches : Branches) (result : Result LentCommit Fault) → stood ≡ first
+    → branch_set workspace.branches new.header.ref (tip_for first) ≡ Ok branches
     → MatchResult result
-    (λ commit. begun_from workspace.objects stood new ≡ Ok (commit_shown commit))
+    (λ commit. begun_from workspace.objects stood new ≡ Ok (shown_in workspace.objects commit))
     (λ f. f ≢ fault.Memory → begun_from workspace.objects stood new ≡ Err f)
     → MatchResult result
-    (λ commit. (opened_at workspace first new ≡ quiet (record workspace {
+    (λ commit. opened_at workspace first new ≡ quiet (record workspace {
       branches = branches;
       said = None;
-      commit = Some (commit_shown commit);
-    })) × X)
+      commit = Some (shown_in workspace.objects commit);
+    }))
     (λ f. f ≢ fault.Memory → opened_at workspace first new ≡ Err f)
-opened_by workspace stood first new branches X (Ok commit) same set own is =
-    (rw (set, ← same, is) refl, own)
-opened_by workspace stood first new branches X (Err f) same set own refused =
+opened_by workspace stood first new branches (Ok commit) same set is =
+    rw (set, ← same, is) refl
+opened_by workspace stood first new branches (Err f) same set refused =
     λ other. rw (set, ← same, refused other) refl
 
 -- what the lines before the message said is done with
@@ -136,7 +155,7 @@ opened_refused workspace new mark message held said header e f out held_is same 
 
 pub opened_well : (own left : Own) (pool : Cells) (table : View) (refs : RefStore)
     (branches : Branches) (mark : Option ℕ) (message : List ℕ) (held spent : Option Said)
-    (said : Said) (header : Header) (next : OpenCommit) (out : List ℕ)
+    (said : Said) (header : Header) (next : HeldCommit) (out : List ℕ)
     → held ≡ Some said → spent ≡ None → header_said mark said said.committer ≡ Ok header
     → opened_with (workspace_in own pool table refs) message header
     ≡ quiet (workspace_in (record own {
@@ -144,7 +163,7 @@ pub opened_well : (own left : Own) (pool : Cells) (table : View) (refs : RefStor
       said = None;
       commit = Some next;
     }) pool table refs)
-    → left ≡ record own { branches = branches; said = spent }
+    → left ≡ record own { branches = branches; said = spent; left = None }
     → CarriesOut (commit_opened mark message held (workspace_in own pool table refs))
     (workspace_in (record left { commit = Some next }) pool table refs) out out (Ok tt)
 opened_well own left pool table refs branches mark message held spent said header next out held_is

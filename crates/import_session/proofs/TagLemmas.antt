@@ -1,5 +1,6 @@
 -- What storing a tag leaves, and what refuses it.
 use Rattle.std.proofs.Common.{◌≡◌, ◌≢◌, ℕ, List, [], ◌∷◌, ◌++◌, Option, None, Ok, Err, refl, rules}
+use Rattle.std.specs.Option.{option_map}
 use Rattle.git_model.specs.declared.kind.Kind.{Kind}
 use Rattle.git_model.specs.Content.{name_by}
 use Rattle.git_model.specs.RefStore.{RefStore}
@@ -7,6 +8,7 @@ use Rattle.git_model.specs.Repository.{Object}
 use Rattle.content_pool.specs.Pool.{Cells}
 use Rattle.tenant_tables.specs.Objects.{objects}
 use Rattle.tenant_tables.specs.View.{View}
+use Rattle.open_commits.specs.OpenCommit.{commit_in}
 use Rattle.import_session.specs.declared.fault.Fault.{Fault}
 use Rattle.import_session.specs.declared.fault.Fault.TheVariants as fault
 use Rattle.import_session.specs.declared.said.Said.{Said}
@@ -69,10 +71,12 @@ pub tag_left : (own left : Own) (mark : Option ℕ) (ref id name : List ℕ) (ma
     (tags : PendingTags) (p : Cells) (t : View) (q : Cells) (v : View) (refs : RefStore)
     → left ≡ record own { said = None } → marks ≡ with_mark left.marks mark id
     → tags ≡ left.tags ++ (ref, id) ∷ [] → id ≡ name → v.committed ≡ t.committed
+    → option_map (commit_in (objects q v.entries)) own.commit
+    ≡ option_map (commit_in (objects p t.entries)) own.commit
     → record (workspace_in own p t refs) {
       objects = objects q v.entries;
       marks = with_mark own.marks mark name;
       tags = own.tags ++ (ref, name) ∷ [];
       said = None;
     } ≡ workspace_in (record left { marks = marks; tags = tags }) q v refs
-tag_left own left mark ref id name marks tags p t q v refs e m s n c = rw (m, s, e, n, c) refl
+tag_left own left mark ref id name marks tags p t q v refs e m s n c h = rw (m, s, e, n, c, h) refl

@@ -18,6 +18,7 @@ pub mod Meaning
 pub mod Stream
 pub mod Sound
 pub mod Session
+pub mod Held
 pub mod Lent
 pub mod Stored
 pub mod Targets

@@ -16,18 +16,21 @@ use Rattle.import_session.specs.declared.fault.Fault.TheVariants as fault
 use Rattle.import_session.specs.declared.own.Own.{Own as LentOwn}
 use Rattle.import_session.specs.declared.said.Said.{Said}
 use Rattle.import_session.specs.declared.said.Inline.{Inline}
-use Rattle.open_commits.specs.OpenCommit.{OpenCommit, commit_shown}
+use Rattle.branch_trees.specs.Branch.{Branch}
+use Rattle.open_commits.specs.OpenCommit.{HeldCommit, commit_held, commit_in}
 use Rattle.import_session.specs.Faults.{text_first}
 use Rattle.import_session.specs.Workspace.{Workspace, Marks, Branches, PendingTags, Effect}
 use Rattle.import_session.specs.Stream.{Running, Step}
 
--- What a stream has of its own, beside its objects.
+-- What a stream has of its own, beside its objects. The open commit is held with its files as a
+-- branch, and so are the files that the last commit left for the next one.
 pub record Own : Type 0 where
   pub marks : Marks
   pub branches : Branches
   pub tags : PendingTags
   pub said : Option Said
-  pub commit : Option OpenCommit
+  pub commit : Option HeldCommit
+  pub left : Option Branch
   pub inline : Option Inline
   pub head : Option (List ℕ)
   pub forces : Bool
@@ -40,7 +43,8 @@ own_shown own = record {
   branches = own.branches;
   tags = own.tags.items;
   said = own.said;
-  commit = option_map commit_shown own.commit;
+  commit = option_map commit_held own.commit;
+  left = own.left;
   inline = own.inline;
   head = own.head;
   forces = own.forces;
@@ -55,6 +59,7 @@ nothing_own = record {
   tags = [];
   said = None;
   commit = None;
+  left = None;
   inline = None;
   head = None;
   forces = false;
@@ -67,7 +72,8 @@ pub record Kept : Type 0 where
   pub own : Own
   pub is_done : Bool
 
--- The workspace of a stream whose objects stand in a table over a pool.
+-- The workspace of a stream whose objects stand in a table over a pool. The open commit has the
+-- files that its branch means among them.
 abbrev pub workspace_in : Own → Cells → View → RefStore → Workspace
 workspace_in own pool table refs = record {
   objects = objects pool table.entries;
@@ -77,7 +83,7 @@ workspace_in own pool table refs = record {
   branches = own.branches;
   tags = own.tags;
   said = own.said;
-  commit = own.commit;
+  commit = option_map (commit_in (objects pool table.entries)) own.commit;
   inline = own.inline;
   head = own.head;
   forces = own.forces;

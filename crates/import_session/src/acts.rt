@@ -1,6 +1,6 @@
 //! What the acts of a stream do: git-fast-import(1), "Commands".
 
-ghost use Rattle.std.specs.Prelude.{◌≡◌, OnErr, Ok, List, ℕ};
+ghost use Rattle.std.specs.Prelude.{◌≡◌, OnErr, OnOk, Ok, List, ℕ};
 ghost use Rattle.hex.specs.Hex.{encode_lower};
 ghost use Rattle.git_model.specs.RefStore.{RefStore};
 ghost use Rattle.git_model.specs.GoodRepository.{AreObjects};
@@ -15,6 +15,7 @@ ghost use Rattle.import_session.specs.Faults.{and_then};
 ghost use Rattle.import_session.specs.Marks.{marked_name, referred_name};
 ghost use Rattle.import_session.specs.Meaning.{after_act, shown_by, shown_object, stored_or_shown};
 ghost use Rattle.import_session.specs.Lent.{IsUnchanged, Keeps};
+ghost use Rattle.import_session.specs.Held.{FilesStand};
 ghost use Rattle.import_session.specs.Printing.{Shows};
 ghost use Rattle.import_session.specs.Sound.{IsSound};
 ghost use Rattle.import_session.specs.Session.{own_shown, workspace_in, CarriesOut, KeepsCommitted, Own as OwnShown};
@@ -47,11 +48,14 @@ fn store_marked<N: Naming>(
     requires stands { StandsIn N.digest_of pool.old table.old.entries }
     requires room { HasRoom pool.old }
     ensures keeps { Keeps N.digest_of pool.old table.old pool.new table.new }
-    ensures done { (own : OwnShown) (refs : RefStore) (out : List ℕ) → CarriesOut
+    ensures done { (own : OwnShown) (refs : RefStore) (out : List ℕ)
+        → FilesStand own pool.old table.old → CarriesOut
         (stored_or_shown N.digest_of (StoreBlob mark contents.now)
         (workspace_in (record own { marks = marks.old.entries }) pool.old table.old refs))
         (workspace_in (record own { marks = marks.new.entries }) pool.new table.new refs)
         out out result }
+    ensures held { (own : OwnShown) → FilesStand own pool.old table.old
+        → FilesStand own pool.new table.new }
     ensures same { OnErr result (IsUnchanged pool.old table.old pool.new table.new) }
 {
     marks::make_room(marks, &mark)?;
@@ -97,6 +101,7 @@ fn show_or_store<N: Naming>(
 ) -> Result<(), Fault>
     requires stands { StandsIn N.digest_of pool.old table.old.entries }
     requires room { HasRoom pool.old }
+    requires held { FilesStand (own_shown own.old) pool.old table.old }
     ensures keeps { Keeps N.digest_of pool.old table.old pool.new table.new }
     ensures done { IsSound N.digest_of
         (workspace_in (own_shown own.old) pool.old table.old refs.now) → CarriesOut
@@ -106,6 +111,7 @@ fn show_or_store<N: Naming>(
         out.old.items out.new.items result }
     ensures same { OnErr result (IsUnchanged pool.old table.old pool.new table.new) }
     ensures printed { OnErr result (out.new.items ≡ out.old.items) }
+    ensures held { OnOk result (FilesStand (own_shown own.new) pool.new table.new) }
 {
     match act {
         Act::StoreBlob { mark, contents } => {
@@ -126,6 +132,7 @@ fn show<N: Naming>(
     out: &mut Vec<u8>,
 ) -> Result<(), Fault>
     requires stands { StandsIn N.digest_of pool.now table.now.entries }
+    requires held { FilesStand (own_shown own.old) pool.now table.now }
     ensures done { IsSound N.digest_of
         (workspace_in (own_shown own.old) pool.now table.now refs.now) → CarriesOut
         (shown_by (act_shown act.now)
@@ -133,6 +140,7 @@ fn show<N: Naming>(
         (workspace_in (own_shown own.new) pool.now table.now refs.now)
         out.old.items out.new.items result }
     ensures printed { OnErr result (out.new.items ≡ out.old.items) }
+    ensures held { OnOk result (FilesStand (own_shown own.new) pool.now table.now) }
 {
     match act {
         Act::ShowMark(mark) => print_marked(&own.marks, *mark, out),
@@ -156,6 +164,7 @@ pub fn carry_out<N: Naming>(
 ) -> Result<(), Fault>
     requires stands { StandsIn N.digest_of pool.old table.old.entries }
     requires room { HasRoomBeside pool.old table.old.entries }
+    requires held { FilesStand (own_shown own.old) pool.old table.old }
     ensures keeps { Keeps N.digest_of pool.old table.old pool.new table.new }
     ensures done { IsSound N.digest_of
         (workspace_in (own_shown own.old) pool.old table.old refs.old) → CarriesOut
@@ -166,6 +175,7 @@ pub fn carry_out<N: Naming>(
     ensures committed { OnErr result (KeepsCommitted pool.old table.old pool.new table.new) }
     ensures refs { OnErr result (refs.new ≡ refs.old) }
     ensures printed { OnErr result (out.new.items ≡ out.old.items) }
+    ensures held { OnOk result (FilesStand (own_shown own.new) pool.new table.new) }
 {
     match act {
         Act::StoreTag { mark, message } => store_tag(pool, table, refs, own, *mark, message),

@@ -1,6 +1,6 @@
 //! What changes in the open commit: git-fast-import(1), "from" to "ls".
 
-ghost use Rattle.std.specs.Prelude.{◌≡◌, List, ℕ, OnErr};
+ghost use Rattle.std.specs.Prelude.{◌≡◌, List, ℕ, OnErr, OnOk};
 ghost use Rattle.content_pool.specs.Pool.{Cells};
 ghost use Rattle.git_model.specs.GoodRepository.{AreObjects};
 ghost use Rattle.git_model.specs.RefStore.{RefStore};
@@ -10,12 +10,13 @@ ghost use Rattle.tenant_tables.specs.StandsIn.{StandsIn};
 ghost use Rattle.tenant_tables.specs.View.{View};
 ghost use Rattle.stream_grammar.specs.Shown.{act_shown, commit_shown as said_shown};
 ghost use Rattle.stream_grammar.specs.Acts.{StartFrom, Merge};
-ghost use Rattle.open_commits.specs.OpenCommit.{commit_shown};
+ghost use Rattle.open_commits.specs.OpenCommit.{shown_in, IsHeld};
 ghost use Rattle.import_session.specs.Lent.{Keeps};
 ghost use Rattle.import_session.specs.Commits.{contents_awaited};
 ghost use Rattle.import_session.specs.Changes.{branch_entry_shown, changed_by, commit_changed, contents_stored, moved_by};
 ghost use Rattle.import_session.specs.Meaning.{within_commit};
 ghost use Rattle.import_session.specs.Session.{own_shown, workspace_in, CarriesOut, KeepsCommitted, Leaves};
+ghost use Rattle.import_session.specs.Held.{FilesStand, KeepsFiles};
 ghost use Rattle.import_session.specs.Sound.{IsSound};
 
 use crate::commit_ishes::{commit_named, start_of};
@@ -41,11 +42,14 @@ fn start_from<N: Naming>(
     commit: &mut OpenCommit,
     from: &CommitIsh<'_>,
 ) -> Result<(), Fault>
-    requires { StandsIn N.digest_of pool.now table.now.entries }
-    ensures { let workspace = workspace_in (own_shown own.now) pool.now table.now refs.now in
+    requires stands { StandsIn N.digest_of pool.now table.now.entries }
+    requires held { IsHeld (objects pool.now table.now.entries) commit.old }
+    ensures done { let workspace = workspace_in (own_shown own.now) pool.now table.now refs.now in
         AreObjects N.digest_of workspace.objects → Leaves
-        (changed_by workspace (StartFrom (said_shown from.now)) (commit_shown commit.old))
-        (commit_shown commit.new) result }
+        (changed_by workspace (StartFrom (said_shown from.now))
+        (shown_in workspace.objects commit.old))
+        (shown_in workspace.objects commit.new) result }
+    ensures held { OnOk result (IsHeld (objects pool.now table.now.entries) commit.new) }
 {
     let id = start_of(pool, table, refs, own, &commit.header.ref_name, from)?;
     Ok(commit.start_from(pool, table, id)?)
@@ -60,11 +64,14 @@ fn merge<N: Naming>(
     commit: &mut OpenCommit,
     other: &CommitIsh<'_>,
 ) -> Result<(), Fault>
-    requires { StandsIn N.digest_of pool.now table.now.entries }
-    ensures { let workspace = workspace_in (own_shown own.now) pool.now table.now refs.now in
+    requires stands { StandsIn N.digest_of pool.now table.now.entries }
+    requires held { IsHeld (objects pool.now table.now.entries) commit.old }
+    ensures done { let workspace = workspace_in (own_shown own.now) pool.now table.now refs.now in
         AreObjects N.digest_of workspace.objects → Leaves
-        (changed_by workspace (Merge (said_shown other.now)) (commit_shown commit.old))
-        (commit_shown commit.new) result }
+        (changed_by workspace (Merge (said_shown other.now))
+        (shown_in workspace.objects commit.old))
+        (shown_in workspace.objects commit.new) result }
+    ensures held { OnOk result (IsHeld (objects pool.now table.now.entries) commit.new) }
 {
     let id = commit_named(pool, table, refs, own, other)?;
     Ok(commit.merge(id)?)
@@ -78,9 +85,12 @@ fn move_files<N: Naming>(
     commit: &mut OpenCommit,
     act: &Act<'_>,
 ) -> Result<(), Fault>
-    requires { StandsIn N.digest_of pool.now table.now.entries }
-    ensures { Leaves (moved_by (act_shown act.now) (commit_shown commit.old))
-        (commit_shown commit.new) result }
+    requires stands { StandsIn N.digest_of pool.now table.now.entries }
+    requires held { IsHeld (objects pool.now table.now.entries) commit.old }
+    ensures done { let os = objects pool.now table.now.entries in
+        Leaves (moved_by (act_shown act.now) (shown_in os commit.old)) (shown_in os commit.new)
+        result }
+    ensures held { OnOk result (IsHeld (objects pool.now table.now.entries) commit.new) }
 {
     match act {
         Act::Delete(path) => Ok(commit.delete(pool, table, path)?),
@@ -105,11 +115,13 @@ fn change_commit<N: Naming>(
     commit: &mut OpenCommit,
     act: &Act<'_>,
 ) -> Result<(), Fault>
-    requires { StandsIn N.digest_of pool.now table.now.entries }
-    ensures { let workspace = workspace_in (own_shown own.now) pool.now table.now refs.now in
+    requires stands { StandsIn N.digest_of pool.now table.now.entries }
+    requires held { IsHeld (objects pool.now table.now.entries) commit.old }
+    ensures done { let workspace = workspace_in (own_shown own.now) pool.now table.now refs.now in
         AreObjects N.digest_of workspace.objects → Leaves
-        (changed_by workspace (act_shown act.now) (commit_shown commit.old))
-        (commit_shown commit.new) result }
+        (changed_by workspace (act_shown act.now) (shown_in workspace.objects commit.old))
+        (shown_in workspace.objects commit.new) result }
+    ensures held { OnOk result (IsHeld (objects pool.now table.now.entries) commit.new) }
 {
     match act {
         Act::StartFrom(from) => start_from(pool, table, refs, own, commit, from),
@@ -129,12 +141,14 @@ fn change_open<N: Naming>(
     own: &mut Own,
     act: &Act<'_>,
 ) -> Result<(), Fault>
-    requires { StandsIn N.digest_of pool.now table.now.entries }
-    ensures { (out : List ℕ) → IsSound N.digest_of
+    requires stands { StandsIn N.digest_of pool.now table.now.entries }
+    requires held { FilesStand (own_shown own.old) pool.now table.now }
+    ensures done { (out : List ℕ) → IsSound N.digest_of
         (workspace_in (own_shown own.old) pool.now table.now refs.now) → CarriesOut
-        (commit_changed (act_shown act.now) (own_shown own.old).commit
-        (workspace_in (own_shown own.old) pool.now table.now refs.now))
+        (let now = workspace_in (own_shown own.old) pool.now table.now refs.now in
+        commit_changed (act_shown act.now) now.commit now)
         (workspace_in (own_shown own.new) pool.now table.now refs.now) out out result }
+    ensures held { OnOk result (FilesStand (own_shown own.new) pool.now table.now) }
 {
     let Some(mut commit) = own.commit.take() else {
         return Err(Fault::Text(stream_grammar::Fault::UnknownCommand));
@@ -146,9 +160,10 @@ fn change_open<N: Naming>(
 
 // 'M' with 'inline': the next data is to stand there.
 fn await_contents(own: &mut Own, refs: &Refs, mode: FileMode, path: &Path) -> Result<(), Fault>
-    ensures { (pool : Cells) (table : View) (out : List ℕ) → CarriesOut
+    ensures done { (pool : Cells) (table : View) (out : List ℕ) → CarriesOut
         (contents_awaited mode path.now (workspace_in (own_shown own.old) pool table refs.now))
         (workspace_in (own_shown own.new) pool table refs.now) out out result }
+    ensures files { KeepsFiles (own_shown own.old) (own_shown own.new) }
 {
     let path = path.copied(own.alloc)?;
     own.inline = Some(Inline { mode, path });
@@ -164,12 +179,14 @@ pub fn change<N: Naming>(
     own: &mut Own,
     act: &Act<'_>,
 ) -> Result<(), Fault>
-    requires { StandsIn N.digest_of pool.now table.now.entries }
-    ensures { (out : List ℕ) → IsSound N.digest_of
+    requires stands { StandsIn N.digest_of pool.now table.now.entries }
+    requires held { FilesStand (own_shown own.old) pool.now table.now }
+    ensures done { (out : List ℕ) → IsSound N.digest_of
         (workspace_in (own_shown own.old) pool.now table.now refs.now) → CarriesOut
         (within_commit (act_shown act.now)
         (workspace_in (own_shown own.old) pool.now table.now refs.now))
         (workspace_in (own_shown own.new) pool.now table.now refs.now) out out result }
+    ensures held { OnOk result (FilesStand (own_shown own.new) pool.now table.now) }
 {
     match act {
         Act::ModifyInline { mode, path } => await_contents(own, refs, *mode, path),
@@ -186,16 +203,20 @@ pub fn put_contents<N: Naming>(
 ) -> Result<(), Fault>
     requires stands { StandsIn N.digest_of pool.old table.old.entries }
     requires room { HasRoomBeside pool.old table.old.entries }
+    requires held { FilesStand (own_shown own.old) pool.old table.old }
     ensures keeps { Keeps N.digest_of pool.old table.old pool.new table.new }
     ensures done { (refs : RefStore) (out : List ℕ) → CarriesOut
-        (contents_stored N.digest_of bytes.now (own_shown own.old).inline
-        (own_shown own.old).commit (workspace_in (own_shown own.old) pool.old table.old refs))
+        (let old = workspace_in (own_shown own.old) pool.old table.old refs in
+        contents_stored N.digest_of bytes.now old.inline old.commit old)
         (workspace_in (own_shown own.new) pool.new table.new refs) out out result }
     ensures committed { KeepsCommitted pool.old table.old pool.new table.new }
+    ensures held { OnOk result (FilesStand (own_shown own.new) pool.new table.new) }
 {
     let Some(inline) = own.inline.take() else {
         return Err(Fault::Text(stream_grammar::Fault::UnknownCommand));
     };
+    // What the last commit left was taken when this one opened.
+    own.left = None;
     let Some(commit) = &mut own.commit else {
         return Err(Fault::Text(stream_grammar::Fault::UnknownCommand));
     };
@@ -213,15 +234,19 @@ pub fn show_entry<N: Naming>(
 ) -> Result<(), Fault>
     requires stands { StandsIn N.digest_of pool.old table.old.entries }
     requires room { HasRoomBeside pool.old table.old.entries }
+    requires held { FilesStand (own_shown own.old) pool.old table.old }
     ensures keeps { Keeps N.digest_of pool.old table.old pool.new table.new }
     ensures done { (refs : RefStore) → CarriesOut
-        (branch_entry_shown N.digest_of path.now (own_shown own.old).commit
-        (workspace_in (own_shown own.old) pool.old table.old refs))
+        (let old = workspace_in (own_shown own.old) pool.old table.old refs in
+        branch_entry_shown N.digest_of path.now old.commit old)
         (workspace_in (own_shown own.new) pool.new table.new refs)
         out.old.items out.new.items result }
     ensures committed { KeepsCommitted pool.old table.old pool.new table.new }
     ensures printed { OnErr result (out.new.items ≡ out.old.items) }
+    ensures held { OnOk result (FilesStand (own_shown own.new) pool.new table.new) }
 {
+    // What the last commit left was taken when this one opened.
+    own.left = None;
     let Some(commit) = &mut own.commit else {
         return Err(Fault::Text(stream_grammar::Fault::UnknownCommand));
     };

@@ -7,6 +7,7 @@ ghost use Rattle.tenant_refs.specs.Changes.{with_changes};
 ghost use Rattle.tenant_tables.specs.Objects.{objects};
 ghost use Rattle.tenant_tables.specs.StandsIn.{StandsIn};
 ghost use Rattle.import_session.specs.Checkpoints.{by_branches, by_head, by_tags, checkpoint, is_fast_forward, kept_by, kept_lines, moves, saved_by};
+ghost use Rattle.import_session.specs.Held.{KeepsFiles};
 ghost use Rattle.import_session.specs.Session.{own_shown, workspace_in, CarriesOut};
 
 use crate::branches::Tip;
@@ -231,6 +232,7 @@ pub fn save<N: Naming>(
         out.old.items out.new.items result }
     ensures same { OnErr result ((table.new ≡ table.old) × (refs.new ≡ refs.old)) }
     ensures printed { OnErr result (out.new.items ≡ out.old.items) }
+    ensures files { KeepsFiles (own_shown own.old) (own_shown own.new) }
 {
     let saving = saving_of(pool, table, refs, own)?;
     carry_out(saving, refs, out)?;

@@ -1,18 +1,21 @@
 //! Commits from their message to their end: git-fast-import(1), "commit".
 
-ghost use Rattle.std.specs.Prelude.{◌≡◌, ◌≢◌, List, ℕ, None, Some, Ok, Err, MatchResult};
+ghost use Rattle.std.specs.Prelude.{◌≡◌, ◌≢◌, List, ℕ, None, Some, Ok, Err, IfOk, OnOk, MatchResult};
 ghost use Rattle.std.specs.Option.{option_map};
 ghost use Rattle.git_model.specs.GoodRepository.{AreObjects};
 ghost use Rattle.git_model.specs.RefStore.{RefStore};
+ghost use Rattle.git_model.specs.Repository.{Object};
 ghost use Rattle.tenant_tables.specs.Objects.{objects};
 ghost use Rattle.tenant_tables.specs.Room.{HasRoomBeside};
 ghost use Rattle.tenant_tables.specs.StandsIn.{StandsIn};
-ghost use Rattle.open_commits.specs.OpenCommit.{begun, commit_shown, header_shown};
+ghost use Rattle.branch_trees.specs.Branch.{IsBranch};
+ghost use Rattle.open_commits.specs.OpenCommit.{begun, commit_held, header_shown, shown_in, IsHeld};
 ghost use Rattle.import_session.specs.Branches.{branch_set, commit_at};
 ghost use Rattle.import_session.specs.Workspace.{quiet};
 ghost use Rattle.import_session.specs.Lent.{Keeps};
 ghost use Rattle.import_session.specs.Commits.{begun_from, closed_where, commit_closed, commit_opened, header_said, open_closed, opened_with, tip_commit, tip_for, IsTipCommit};
 ghost use Rattle.import_session.specs.Session.{own_shown, workspace_in, CarriesOut, KeepsCommitted, Leaves};
+ghost use Rattle.import_session.specs.Held.{FilesStand, HoldsFiles, KeepsFiles};
 ghost use Rattle.import_session.specs.Sound.{IsSound};
 
 use crate::branches::{Branches, Tip};
@@ -21,6 +24,7 @@ use crate::fault::Fault;
 use crate::marks;
 use crate::own::Own;
 use crate::said::Said;
+use branch_trees::Files;
 use content_pool::Pool;
 use git_objects::{Name, Naming};
 use open_commits::{Header, OpenCommit};
@@ -92,7 +96,19 @@ fn tip_for(first: &Option<Name>) -> Tip
     }
 }
 
-// A commit begins, whose first parent is the commit that its branch stood at.
+// The files that the last commit left, or none. They are left no longer.
+fn take_files(own: &mut Own) -> Files
+    ensures branch { (os : List Object) → HoldsFiles os (own_shown own.old) → IsBranch os result }
+    ensures own { own_shown own.new ≡ record (own_shown own.old) { left = None } }
+{
+    match own.left.take() {
+        Some(files) => files,
+        None => Files::new(own.alloc),
+    }
+}
+
+// A commit begins, whose first parent is the commit that its branch stood at. What these files have
+// open of that commit's stays open.
 fn begin<N: Naming>(
     pool: &Pool<N>,
     table: &Table,
@@ -100,17 +116,20 @@ fn begin<N: Naming>(
     header: Header,
     message: &[u8],
     first: Option<Name>,
+    files: Files,
 ) -> Result<OpenCommit, Fault>
-    requires { StandsIn N.digest_of pool.now table.now.entries }
-    ensures { let os = objects pool.now table.now.entries in AreObjects N.digest_of os
+    requires stands { StandsIn N.digest_of pool.now table.now.entries }
+    requires files { IsBranch (objects pool.now table.now.entries) files }
+    ensures begun { let os = objects pool.now table.now.entries in AreObjects N.digest_of os
         → IsTipCommit os first → let new = begun (header_shown header) message.now in
-        MatchResult result (λ commit. begun_from os first new ≡ Ok (commit_shown commit))
+        MatchResult result (λ commit. begun_from os first new ≡ Ok (shown_in os commit))
         (λ fault. fault ≢ Fault.Memory → begun_from os first new ≡ Err fault) }
+    ensures held { IfOk result (λ commit. IsHeld (objects pool.now table.now.entries) commit) }
 {
-    let mut commit = OpenCommit::new(alloc, header, message)?;
+    let mut commit = OpenCommit::new(alloc, header, message, files)?;
     match first {
         Some(id) => commit.start_from(pool, table, id)?,
-        None => {}
+        None => commit.delete_all(),
     }
     Ok(commit)
 }
@@ -138,23 +157,27 @@ fn open_with<N: Naming>(
     header: Header,
     message: &[u8],
 ) -> Result<OpenCommit, Fault>
-    requires { StandsIn N.digest_of pool.now table.now.entries }
-    ensures { (refs : RefStore) → let old = own_shown own.old in
+    requires stands { StandsIn N.digest_of pool.now table.now.entries }
+    requires held { FilesStand (own_shown own.old) pool.now table.now }
+    ensures opened { (refs : RefStore) → let old = own_shown own.old in
         let workspace = workspace_in old pool.now table.now refs in
         IsSound N.digest_of workspace → MatchResult result
         (λ commit. opened_with workspace message.now (header_shown header)
         ≡ quiet (workspace_in (record old {
           branches = own.new.branches;
           said = None;
-          commit = Some (commit_shown commit);
-        }) pool.now table.now refs)
-        × (own_shown own.new ≡ record old { branches = own.new.branches }))
+          commit = Some (commit_held commit);
+        }) pool.now table.now refs))
         (λ fault. fault ≢ Fault.Memory
         → opened_with workspace message.now (header_shown header) ≡ Err fault) }
+    ensures own { OnOk result (own_shown own.new
+        ≡ record (own_shown own.old) { branches = own.new.branches; left = None }) }
+    ensures held { IfOk result (λ commit. IsHeld (objects pool.now table.now.entries) commit) }
 {
     let alloc = own.alloc;
     let first = place_tip(own, &header.ref_name)?;
-    begin(pool, table, alloc, header, message, first)
+    let files = take_files(own);
+    begin(pool, table, alloc, header, message, first, files)
 }
 
 // The message of a commit: it is open from here on.
@@ -166,12 +189,14 @@ pub fn open_commit<N: Naming>(
     mark: Option<Mark>,
     message: &[u8],
 ) -> Result<(), Fault>
-    requires { StandsIn N.digest_of pool.now table.now.entries }
-    ensures { (out : List ℕ) → IsSound N.digest_of
+    requires stands { StandsIn N.digest_of pool.now table.now.entries }
+    requires held { FilesStand (own_shown own.old) pool.now table.now }
+    ensures done { (out : List ℕ) → IsSound N.digest_of
         (workspace_in (own_shown own.old) pool.now table.now refs.now) → CarriesOut
         (commit_opened mark message.now (own_shown own.old).said
         (workspace_in (own_shown own.old) pool.now table.now refs.now))
         (workspace_in (own_shown own.new) pool.now table.now refs.now) out out result }
+    ensures held { OnOk result (FilesStand (own_shown own.new) pool.now table.now) }
 {
     let Some(said) = own.said.take() else {
         return Err(Fault::Text(stream_grammar::Fault::UnknownCommand));
@@ -192,12 +217,15 @@ fn close_commit<N: Naming>(
     requires stands { StandsIn N.digest_of pool.old table.old.entries }
     requires room { HasRoomBeside pool.old table.old.entries }
     requires none { own.old.commit ≡ None }
+    requires held { IsHeld (objects pool.old table.old.entries) commit.old }
     ensures keeps { Keeps N.digest_of pool.old table.old pool.new table.new }
     ensures room { HasRoomBeside pool.new table.new.entries }
     ensures done { (refs : RefStore) → Leaves
         (commit_closed N.digest_of (workspace_in (own_shown own.old) pool.old table.old refs)
-        (commit_shown commit.old))
+        (shown_in (objects pool.old table.old.entries) commit.old))
         (workspace_in (own_shown own.new) pool.new table.new refs) result }
+    ensures files { KeepsFiles (own_shown own.old) (own_shown own.new) }
+    ensures held { OnOk result (IsHeld (objects pool.new table.new.entries) commit.new) }
     ensures committed { KeepsCommitted pool.old table.old pool.new table.new }
 {
     let _within = table.committed_len();
@@ -209,20 +237,26 @@ fn close_commit<N: Naming>(
     Ok(own.branches.place(branch, Tip::At(id))?)
 }
 
-// The open commit ends, where there is one.
+// The open commit ends, where there is one. Its files are left for the next one.
 fn close<N: Naming>(pool: &mut Pool<N>, table: &mut Table, own: &mut Own) -> Result<(), Fault>
     requires stands { StandsIn N.digest_of pool.old table.old.entries }
     requires room { HasRoomBeside pool.old table.old.entries }
+    requires held { FilesStand (own_shown own.old) pool.old table.old }
     ensures keeps { Keeps N.digest_of pool.old table.old pool.new table.new }
     ensures room { HasRoomBeside pool.new table.new.entries }
     ensures done { (refs : RefStore) → Leaves
-        (open_closed N.digest_of (workspace_in (own_shown own.old) pool.old table.old refs)
-        (own_shown own.old).commit)
+        (let old = workspace_in (own_shown own.old) pool.old table.old refs in
+        open_closed N.digest_of old old.commit)
         (workspace_in (own_shown own.new) pool.new table.new refs) result }
     ensures committed { KeepsCommitted pool.old table.old pool.new table.new }
+    ensures held { OnOk result (FilesStand (own_shown own.new) pool.new table.new) }
 {
     match own.commit.take() {
-        Some(mut commit) => close_commit(pool, table, own, &mut commit),
+        Some(mut commit) => {
+            close_commit(pool, table, own, &mut commit)?;
+            own.left = Some(commit.into_files());
+            Ok(())
+        }
         None => Ok(()),
     }
 }
@@ -241,12 +275,14 @@ pub fn close_where<N: Naming>(
 ) -> Result<(), Fault>
     requires stands { StandsIn N.digest_of pool.old table.old.entries }
     requires room { HasRoomBeside pool.old table.old.entries }
+    requires held { FilesStand (own_shown own.old) pool.old table.old }
     ensures keeps { Keeps N.digest_of pool.old table.old pool.new table.new }
     ensures room { HasRoomBeside pool.new table.new.entries }
     ensures done { (refs : RefStore) → Leaves (closed_where N.digest_of ends
         (workspace_in (own_shown own.old) pool.old table.old refs))
         (workspace_in (own_shown own.new) pool.new table.new refs) result }
     ensures committed { KeepsCommitted pool.old table.old pool.new table.new }
+    ensures held { OnOk result (FilesStand (own_shown own.new) pool.new table.new) }
 {
     if !ends {
         return Ok(());

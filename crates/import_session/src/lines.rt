@@ -1,7 +1,7 @@
 //! What the lines of a tag and of a commit say before their message: git-fast-import(1), "tag" and
 //! "commit".
 
-ghost use Rattle.std.specs.Prelude.{◌≡◌, List, ℕ, IfOk, IfErr};
+ghost use Rattle.std.specs.Prelude.{◌≡◌, List, ℕ, IfOk, IfErr, OnOk};
 ghost use Rattle.content_pool.specs.Pool.{Cells};
 ghost use Rattle.tenant_tables.specs.View.{View};
 ghost use Rattle.tenant_tables.specs.StandsIn.{StandsIn};
@@ -9,6 +9,7 @@ ghost use Rattle.stream_grammar.specs.Shown.{act_shown, commit_shown};
 ghost use Rattle.import_session.specs.Tags.{tag_begun, tagger_said, target_said};
 ghost use Rattle.import_session.specs.Commits.{author_said, commit_begun, committer_said, encoding_said};
 ghost use Rattle.import_session.specs.Meaning.{said_of_commit, said_of_tag};
+ghost use Rattle.import_session.specs.Held.{FilesStand, KeepsFiles};
 ghost use Rattle.import_session.specs.Sound.{IsSound};
 ghost use Rattle.import_session.specs.Session.{own_shown, workspace_in, CarriesOut};
 
@@ -27,9 +28,10 @@ use tenant_refs::{RefName, Refs};
 use tenant_tables::Table;
 
 fn begin_tag(own: &mut Own, refs: &Refs, ref_name: &RefName) -> Result<(), Fault>
-    ensures { (pool : Cells) (table : View) (out : List ℕ) → CarriesOut
+    ensures done { (pool : Cells) (table : View) (out : List ℕ) → CarriesOut
         (tag_begun ref_name.now (workspace_in (own_shown own.old) pool table refs.now))
         (workspace_in (own_shown own.new) pool table refs.now) out out result }
+    ensures files { KeepsFiles (own_shown own.old) (own_shown own.new) }
 {
     let ref_name = ref_name.try_clone(own.alloc)?;
     own.said = Some(said_of(own.alloc, ref_name));
@@ -37,10 +39,11 @@ fn begin_tag(own: &mut Own, refs: &Refs, ref_name: &RefName) -> Result<(), Fault
 }
 
 fn say_target(own: &mut Own, refs: &Refs, target: &CommitIsh<'_>) -> Result<(), Fault>
-    ensures { (pool : Cells) (table : View) (out : List ℕ) → CarriesOut
+    ensures done { (pool : Cells) (table : View) (out : List ℕ) → CarriesOut
         (target_said (commit_shown target.now)
         (workspace_in (own_shown own.old) pool table refs.now))
         (workspace_in (own_shown own.new) pool table refs.now) out out result }
+    ensures files { KeepsFiles (own_shown own.old) (own_shown own.new) }
 {
     match &mut own.said {
         Some(said) => {
@@ -52,9 +55,10 @@ fn say_target(own: &mut Own, refs: &Refs, target: &CommitIsh<'_>) -> Result<(), 
 }
 
 fn say_tagger(own: &mut Own, refs: &Refs, ident: &Ident) -> Result<(), Fault>
-    ensures { (pool : Cells) (table : View) (out : List ℕ) → CarriesOut
+    ensures done { (pool : Cells) (table : View) (out : List ℕ) → CarriesOut
         (tagger_said ident.now (workspace_in (own_shown own.old) pool table refs.now))
         (workspace_in (own_shown own.new) pool table refs.now) out out result }
+    ensures files { KeepsFiles (own_shown own.old) (own_shown own.new) }
 {
     match &mut own.said {
         Some(said) => {
@@ -77,9 +81,10 @@ fn copy_of(alloc: Global, ident: &Ident) -> Result<Ident, Fault>
 }
 
 fn begin_commit(own: &mut Own, refs: &Refs, ref_name: &RefName) -> Result<(), Fault>
-    ensures { (pool : Cells) (table : View) (out : List ℕ) → CarriesOut
+    ensures done { (pool : Cells) (table : View) (out : List ℕ) → CarriesOut
         (commit_begun ref_name.now (workspace_in (own_shown own.old) pool table refs.now))
         (workspace_in (own_shown own.new) pool table refs.now) out out result }
+    ensures files { KeepsFiles (own_shown own.old) (own_shown own.new) }
 {
     let branch = copy_meant(own.alloc, &own.head, refs, ref_name)?;
     own.said = Some(said_of(own.alloc, branch));
@@ -87,9 +92,10 @@ fn begin_commit(own: &mut Own, refs: &Refs, ref_name: &RefName) -> Result<(), Fa
 }
 
 fn say_author(own: &mut Own, refs: &Refs, ident: &Ident) -> Result<(), Fault>
-    ensures { (pool : Cells) (table : View) (out : List ℕ) → CarriesOut
+    ensures done { (pool : Cells) (table : View) (out : List ℕ) → CarriesOut
         (author_said ident.now (workspace_in (own_shown own.old) pool table refs.now))
         (workspace_in (own_shown own.new) pool table refs.now) out out result }
+    ensures files { KeepsFiles (own_shown own.old) (own_shown own.new) }
 {
     match &mut own.said {
         Some(said) => {
@@ -101,9 +107,10 @@ fn say_author(own: &mut Own, refs: &Refs, ident: &Ident) -> Result<(), Fault>
 }
 
 fn say_committer(own: &mut Own, refs: &Refs, ident: &Ident) -> Result<(), Fault>
-    ensures { (pool : Cells) (table : View) (out : List ℕ) → CarriesOut
+    ensures done { (pool : Cells) (table : View) (out : List ℕ) → CarriesOut
         (committer_said ident.now (workspace_in (own_shown own.old) pool table refs.now))
         (workspace_in (own_shown own.new) pool table refs.now) out out result }
+    ensures files { KeepsFiles (own_shown own.old) (own_shown own.new) }
 {
     match &mut own.said {
         Some(said) => {
@@ -115,9 +122,10 @@ fn say_committer(own: &mut Own, refs: &Refs, ident: &Ident) -> Result<(), Fault>
 }
 
 fn say_encoding(own: &mut Own, refs: &Refs, encoding: &[u8]) -> Result<(), Fault>
-    ensures { (pool : Cells) (table : View) (out : List ℕ) → CarriesOut
+    ensures done { (pool : Cells) (table : View) (out : List ℕ) → CarriesOut
         (encoding_said encoding.now (workspace_in (own_shown own.old) pool table refs.now))
         (workspace_in (own_shown own.new) pool table refs.now) out out result }
+    ensures files { KeepsFiles (own_shown own.old) (own_shown own.new) }
 {
     match &mut own.said {
         Some(said) => {
@@ -137,12 +145,14 @@ fn say_of_commit<N: Naming>(
     own: &mut Own,
     act: &Act<'_>,
 ) -> Result<(), Fault>
-    requires { StandsIn N.digest_of pool.now table.now.entries }
-    ensures { (out : List ℕ) → IsSound N.digest_of
+    requires stands { StandsIn N.digest_of pool.now table.now.entries }
+    requires held { FilesStand (own_shown own.old) pool.now table.now }
+    ensures done { (out : List ℕ) → IsSound N.digest_of
         (workspace_in (own_shown own.old) pool.now table.now refs.now) → CarriesOut
         (said_of_commit (act_shown act.now)
         (workspace_in (own_shown own.old) pool.now table.now refs.now))
         (workspace_in (own_shown own.new) pool.now table.now refs.now) out out result }
+    ensures held { OnOk result (FilesStand (own_shown own.new) pool.now table.now) }
 {
     match act {
         Act::BeginCommit(ref_name) => begin_commit(own, refs, ref_name),
@@ -162,12 +172,14 @@ pub fn say_of_tag<N: Naming>(
     own: &mut Own,
     act: &Act<'_>,
 ) -> Result<(), Fault>
-    requires { StandsIn N.digest_of pool.now table.now.entries }
-    ensures { (out : List ℕ) → IsSound N.digest_of
+    requires stands { StandsIn N.digest_of pool.now table.now.entries }
+    requires held { FilesStand (own_shown own.old) pool.now table.now }
+    ensures done { (out : List ℕ) → IsSound N.digest_of
         (workspace_in (own_shown own.old) pool.now table.now refs.now) → CarriesOut
         (said_of_tag (act_shown act.now)
         (workspace_in (own_shown own.old) pool.now table.now refs.now))
         (workspace_in (own_shown own.new) pool.now table.now refs.now) out out result }
+    ensures held { OnOk result (FilesStand (own_shown own.new) pool.now table.now) }
 {
     match act {
         Act::BeginTag(ref_name) => begin_tag(own, refs, ref_name),

@@ -1,12 +1,13 @@
 //! What a stream has of its own, beside its objects: marks, branches, the open commit, HEAD and
 //! switches.
 
-ghost use Rattle.std.specs.Prelude.{◌≡◌, List, ℕ};
+ghost use Rattle.std.specs.Prelude.{◌≡◌, List, ℕ, OnOk};
 ghost use Rattle.content_pool.specs.Pool.{Cells};
 ghost use Rattle.tenant_tables.specs.View.{View};
 ghost use Rattle.tenant_tables.specs.StandsIn.{StandsIn};
 ghost use Rattle.stream_grammar.specs.Shown.{act_shown};
 ghost use Rattle.import_session.specs.Resets.{branch_reset};
+ghost use Rattle.import_session.specs.Held.{FilesStand, KeepsFiles};
 ghost use Rattle.import_session.specs.Sound.{IsSound};
 ghost use Rattle.import_session.specs.Meaning.{feature_set, head_set, set_by};
 ghost use Rattle.import_session.specs.Session.{nothing_own, own_shown, workspace_in, CarriesOut};
@@ -16,6 +17,7 @@ use crate::fault::Fault;
 use crate::head::Head;
 use crate::lines::say_of_tag;
 use crate::said::{Inline, Said, said_of};
+use branch_trees::Files;
 use content_pool::Pool;
 use git_objects::{Name, Naming};
 use indexmap::IndexMap;
@@ -35,6 +37,8 @@ pub struct Own {
     pub tags: Vec<(RefName, Name)>,
     pub said: Option<Said>,
     pub commit: Option<OpenCommit>,
+    // The files of the last commit that it ended, for one whose first parent that is.
+    pub left: Option<Files>,
     // Where in the open commit the next data is to stand.
     pub inline: Option<Inline>,
     pub head: Option<Head>,
@@ -53,6 +57,7 @@ pub fn new_own(alloc: Global) -> Own
         tags: Vec::new(alloc),
         said: None,
         commit: None,
+        left: None,
         inline: None,
         head: None,
         forces: false,
@@ -61,9 +66,10 @@ pub fn new_own(alloc: Global) -> Own
 }
 
 fn reset(own: &mut Own, refs: &Refs, ref_name: &RefName) -> Result<(), Fault>
-    ensures { (pool : Cells) (table : View) (out : List ℕ) → CarriesOut
+    ensures done { (pool : Cells) (table : View) (out : List ℕ) → CarriesOut
         (branch_reset ref_name.now (workspace_in (own_shown own.old) pool table refs.now))
         (workspace_in (own_shown own.new) pool table refs.now) out out result }
+    ensures files { KeepsFiles (own_shown own.old) (own_shown own.new) }
 {
     let branch = copy_meant(own.alloc, &own.head, refs, ref_name)?;
     let said = branch.try_clone(own.alloc)?;
@@ -73,9 +79,10 @@ fn reset(own: &mut Own, refs: &Refs, ref_name: &RefName) -> Result<(), Fault>
 }
 
 fn require(own: &mut Own, refs: &Refs, feature: Feature)
-    ensures { (pool : Cells) (table : View) →
+    ensures done { (pool : Cells) (table : View) →
         feature_set feature (workspace_in (own_shown own.old) pool table refs.now)
         ≡ workspace_in (own_shown own.new) pool table refs.now }
+    ensures files { KeepsFiles (own_shown own.old) (own_shown own.new) }
 {
     match feature {
         Feature::Done => own.needs_done = true,
@@ -85,9 +92,10 @@ fn require(own: &mut Own, refs: &Refs, feature: Feature)
 }
 
 fn set_head(own: &mut Own, refs: &Refs, ref_name: &RefName) -> Result<(), Fault>
-    ensures { (pool : Cells) (table : View) (out : List ℕ) → CarriesOut
+    ensures done { (pool : Cells) (table : View) (out : List ℕ) → CarriesOut
         (head_set ref_name.now (workspace_in (own_shown own.old) pool table refs.now))
         (workspace_in (own_shown own.new) pool table refs.now) out out result }
+    ensures files { KeepsFiles (own_shown own.old) (own_shown own.new) }
 {
     let head = Head::new(ref_name.try_clone(own.alloc)?)?;
     own.head = Some(head);
@@ -103,11 +111,13 @@ pub fn set<N: Naming>(
     own: &mut Own,
     act: &Act<'_>,
 ) -> Result<(), Fault>
-    requires { StandsIn N.digest_of pool.now table.now.entries }
-    ensures { (out : List ℕ) → IsSound N.digest_of
+    requires stands { StandsIn N.digest_of pool.now table.now.entries }
+    requires held { FilesStand (own_shown own.old) pool.now table.now }
+    ensures done { (out : List ℕ) → IsSound N.digest_of
         (workspace_in (own_shown own.old) pool.now table.now refs.now) → CarriesOut
         (set_by (act_shown act.now) (workspace_in (own_shown own.old) pool.now table.now refs.now))
         (workspace_in (own_shown own.new) pool.now table.now refs.now) out out result }
+    ensures held { OnOk result (FilesStand (own_shown own.new) pool.now table.now) }
 {
     match act {
         Act::Wait => Ok(()),

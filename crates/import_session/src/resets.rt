@@ -1,6 +1,6 @@
 //! Resets and aliases: git-fast-import(1), "reset" and "alias".
 
-ghost use Rattle.std.specs.Prelude.{◌≡◌, List, ℕ};
+ghost use Rattle.std.specs.Prelude.{◌≡◌, List, ℕ, OnOk};
 ghost use Rattle.git_model.specs.GoodRepository.{AreObjects};
 ghost use Rattle.tenant_tables.specs.Objects.{objects};
 ghost use Rattle.tenant_tables.specs.StandsIn.{StandsIn};
@@ -8,6 +8,7 @@ ghost use Rattle.stream_grammar.specs.Shown.{act_shown, commit_shown};
 ghost use Rattle.import_session.specs.Faults.{Gives};
 ghost use Rattle.import_session.specs.Resets.{alias_set, branch_reset_to, is_zeros, tip_from};
 ghost use Rattle.import_session.specs.Meaning.{placed_by};
+ghost use Rattle.import_session.specs.Held.{FilesStand, KeepsFiles};
 ghost use Rattle.import_session.specs.Sound.{IsSound};
 ghost use Rattle.import_session.specs.Session.{own_shown, workspace_in, CarriesOut};
 
@@ -64,10 +65,11 @@ fn reset_to<N: Naming>(
     from: &CommitIsh<'_>,
 ) -> Result<(), Fault>
     requires { StandsIn N.digest_of pool.now table.now.entries }
-    ensures { (out : List ℕ) → AreObjects N.digest_of (objects pool.now table.now.entries)
+    ensures done { (out : List ℕ) → AreObjects N.digest_of (objects pool.now table.now.entries)
         → CarriesOut (branch_reset_to (commit_shown from.now)
         (workspace_in (own_shown own.old) pool.now table.now refs.now))
         (workspace_in (own_shown own.new) pool.now table.now refs.now) out out result }
+    ensures files { KeepsFiles (own_shown own.old) (own_shown own.new) }
 {
     let Some(said) = own.said.take() else {
         return Err(Fault::Text(stream_grammar::Fault::UnknownCommand));
@@ -87,10 +89,11 @@ fn alias<N: Naming>(
     commit: &CommitIsh<'_>,
 ) -> Result<(), Fault>
     requires { StandsIn N.digest_of pool.now table.now.entries }
-    ensures { (out : List ℕ) → AreObjects N.digest_of (objects pool.now table.now.entries)
+    ensures done { (out : List ℕ) → AreObjects N.digest_of (objects pool.now table.now.entries)
         → CarriesOut (alias_set mark (commit_shown commit.now)
         (workspace_in (own_shown own.old) pool.now table.now refs.now))
         (workspace_in (own_shown own.new) pool.now table.now refs.now) out out result }
+    ensures files { KeepsFiles (own_shown own.old) (own_shown own.new) }
 {
     let id = commit_named(pool, table, refs, own, commit)?;
     marks::make_room(&mut own.marks, &Some(mark))?;
@@ -108,12 +111,14 @@ pub fn place<N: Naming>(
     own: &mut Own,
     act: &Act<'_>,
 ) -> Result<(), Fault>
-    requires { StandsIn N.digest_of pool.now table.now.entries }
-    ensures { (out : List ℕ) → IsSound N.digest_of
+    requires stands { StandsIn N.digest_of pool.now table.now.entries }
+    requires held { FilesStand (own_shown own.old) pool.now table.now }
+    ensures done { (out : List ℕ) → IsSound N.digest_of
         (workspace_in (own_shown own.old) pool.now table.now refs.now) → CarriesOut
         (placed_by (act_shown act.now)
         (workspace_in (own_shown own.old) pool.now table.now refs.now))
         (workspace_in (own_shown own.new) pool.now table.now refs.now) out out result }
+    ensures held { OnOk result (FilesStand (own_shown own.new) pool.now table.now) }
 {
     match act {
         Act::ResetTo(from) => reset_to(pool, table, refs, own, from),

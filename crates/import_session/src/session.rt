@@ -3,7 +3,7 @@
 //! The table, the refs and the pool are lent at each call; the objects after the table's committed
 //! prefix are the stream's own, until a checkpoint.
 
-ghost use Rattle.std.specs.Prelude.{◌≡◌, ◌≢◌, Err, OnErr, Result};
+ghost use Rattle.std.specs.Prelude.{◌≡◌, ◌≢◌, Err, OnErr, OnOk, Result};
 ghost use Rattle.tenant_tables.specs.Room.{HasRoomBeside};
 ghost use Rattle.tenant_tables.specs.StandsIn.{StandsIn};
 ghost use Rattle.stream_grammar.specs.declared.fault.Fault.{Fault as TextFault};
@@ -17,6 +17,7 @@ ghost use Rattle.import_session.specs.Commits.{closed_where};
 ghost use Rattle.import_session.specs.Meaning.{after_act};
 ghost use Rattle.import_session.specs.Stream.{step, is_finish, session_end};
 ghost use Rattle.import_session.specs.Session.{own_shown, running_in, repository_in, last_in, new_session, workspace_in, Reads, Takes, CarriesOut};
+ghost use Rattle.import_session.specs.Held.{FilesStand};
 ghost use Rattle.import_session.specs.Sound.{IsSound};
 
 use crate::acts::carry_out;
@@ -47,12 +48,12 @@ pub struct Session {
 
 impl Model for Session {
     ghost use Rattle.std.specs.Coded.{codes};
-    ghost use Rattle.tree_build.specs.FileMap.{file_map_code};
+    ghost use Rattle.branch_trees.specs.ShapeCode.{branch_code};
     ghost use Rattle.import_session.specs.Session.{Kept, own_shown};
 
     ghost Value = { Kept };
 
-    ghost coded = { Prim.hlevel (codes, file_map_code) };
+    ghost coded = { Prim.hlevel (codes, branch_code) };
 
     ghost view = { λ s.
         record { parsing = s.parser; own = own_shown s.own; is_done = s.is_done } };
@@ -86,7 +87,9 @@ fn carry_out_done<N: Naming>(
 ) -> Result<(), Fault>
     requires stands { StandsIn N.digest_of pool.old table.old.entries }
     requires room { HasRoomBeside pool.old table.old.entries }
+    requires held { FilesStand (own_shown own.old) pool.old table.old }
     ensures keeps { Keeps N.digest_of pool.old table.old pool.new table.new }
+    ensures held { OnOk result (FilesStand (own_shown own.new) pool.new table.new) }
     ensures carried { let now = workspace_in (own_shown own.old) pool.old table.old refs.old in
         IsSound N.digest_of now → CarriesOut
         (and_then (closed_where N.digest_of done.now.ends_commit now)
@@ -112,6 +115,7 @@ fn save_at_end<N: Naming>(
 ) -> Result<(), Fault>
     requires stands { StandsIn N.digest_of pool.old table.old.entries }
     requires room { HasRoomBeside pool.old table.old.entries }
+    requires held { FilesStand (own_shown own.old) pool.old table.old }
     ensures keeps { Keeps N.digest_of pool.old table.old pool.new table.new }
     ensures saved { let now = workspace_in (own_shown own.old) pool.old table.old refs.old in
         IsSound N.digest_of now → CarriesOut
@@ -166,7 +170,9 @@ impl Session {
     ) -> Result<(), Fault>
         requires stands { StandsIn N.digest_of pool.old table.old.entries }
         requires room { HasRoomBeside pool.old table.old.entries }
+        requires held { FilesStand self.old.own pool.old table.old }
         ensures keeps { Keeps N.digest_of pool.old table.old pool.new table.new }
+        ensures held { OnOk result (FilesStand self.new.own pool.new table.new) }
         ensures taken { IsSound N.digest_of
             (workspace_in self.old.own pool.old table.old refs.old) → Takes
             (step N.digest_of (running_in self.old pool.old table.old refs.old)
@@ -206,6 +212,7 @@ impl Session {
     ) -> Result<(), Fault>
         requires stands { StandsIn N.digest_of pool.old table.old.entries }
         requires room { HasRoomBeside pool.old table.old.entries }
+        requires held { FilesStand self.old.own pool.old table.old }
         ensures keeps { Keeps N.digest_of pool.old table.old pool.new table.new }
         ensures ended { IsSound N.digest_of
             (workspace_in self.old.own pool.old table.old refs.old) → CarriesOut

@@ -14,6 +14,7 @@ ghost use Rattle.import_session.specs.Faults.{Gives};
 ghost use Rattle.import_session.specs.Tags.{room_for_tag, tag_content, tag_is_open, tag_stored, tagged, tagged_kind};
 ghost use Rattle.import_session.specs.Lent.{IsUnchanged, Keeps};
 ghost use Rattle.import_session.specs.Stored.{Stores};
+ghost use Rattle.import_session.specs.Held.{FilesStand};
 ghost use Rattle.import_session.specs.Session.{own_shown, workspace_in, CarriesOut};
 
 use crate::commit_ishes::named;
@@ -163,12 +164,14 @@ pub fn store_tag<N: Naming>(
 ) -> Result<(), Fault>
     requires stands { StandsIn N.digest_of pool.old table.old.entries }
     requires room { HasRoom pool.old }
+    requires held { FilesStand (own_shown own.old) pool.old table.old }
     ensures keeps { Keeps N.digest_of pool.old table.old pool.new table.new }
     ensures done { (out : List ℕ) → AreObjects N.digest_of (objects pool.old table.old.entries)
         → CarriesOut (tag_stored N.digest_of mark message.now (own_shown own.old).said
         (workspace_in (own_shown own.old) pool.old table.old refs.now))
         (workspace_in (own_shown own.new) pool.new table.new refs.now) out out result }
     ensures same { OnErr result (IsUnchanged pool.old table.old pool.new table.new) }
+    ensures held { OnOk result (FilesStand (own_shown own.new) pool.new table.new) }
 {
     let Some(said) = own.said.take() else {
         return Err(Fault::Text(stream_grammar::Fault::UnknownCommand));

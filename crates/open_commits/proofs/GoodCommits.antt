@@ -95,9 +95,9 @@ parent-ok id (Ok c) next e =
     record { commit = c; was = refl; is = ok_is (record c { parents = id ∷ [] }) next e }
 parent-ok id (Err x) next e = absurd (cc e)
 
-record WasStored (digest : List ℕ → List ℕ) (content : Content) (os more : List Object) : Type 0 where
-  none : store_fault (name_by digest content) content os ≡ None
-  is : with_object (name_by digest content) content os ≡ more
+pub record WasStored (digest : List ℕ → List ℕ) (content : Content) (os more : List Object) : Type 0 where
+  pub none : store_fault (name_by digest content) content os ≡ None
+  pub is : with_object (name_by digest content) content os ≡ more
 
 stored-from : (digest : List ℕ → List ℕ) (content : Content) (os more : List Object)
     (refusal : Option TableFault) → store_fault (name_by digest content) content os ≡ refusal
@@ -106,7 +106,7 @@ stored-from : (digest : List ℕ → List ℕ) (content : Content) (os more : Li
 stored-from digest content os more None at e = record { none = at; is = ok_is _ more e }
 stored-from digest content os more (Some f) at e = absurd (cc e)
 
-stored-ok : (digest : List ℕ → List ℕ) (content : Content) (os more : List Object)
+pub stored-ok : (digest : List ℕ → List ℕ) (content : Content) (os more : List Object)
     → stored digest content os ≡ Ok more → WasStored digest content os more
 stored-ok digest content os more e =
     stored-from digest content os more (store_fault (name_by digest content) content os) refl e

@@ -1,14 +1,15 @@
 -- The end of a commit: git-commit-tree(1).
-use Rattle.std.specs.Prelude.{ℕ, List, Result, Ok, unwrap_or}
+use Rattle.std.specs.Prelude.{◌≡◌, ℕ, List, Result, Ok, Some, unwrap_or}
 use Rattle.git_model.specs.declared.kind.Kind.TheVariants as kind
 use Rattle.git_model.specs.Commit.{Commit, commit_contents}
 use Rattle.git_model.specs.Content.{Content, content_from, name_by}
 use Rattle.git_model.specs.Repository.{Object}
 use Rattle.tree_build.specs.FileMap.{listed}
 use Rattle.tree_build.specs.Trees.{tree_id}
+use Rattle.branch_trees.specs.Branch.{root_name}
 use Rattle.open_commits.specs.declared.fault.Fault.{Fault}
 use Rattle.open_commits.specs.Faults.{and_then}
-use Rattle.open_commits.specs.OpenCommit.{OpenCommit}
+use Rattle.open_commits.specs.OpenCommit.{OpenCommit, HeldCommit, commit_in}
 use Rattle.open_commits.specs.Storing.{stored, trees_stored}
 
 -- The commit of this tree that an open commit makes. Without an author its committer wrote it.
@@ -37,3 +38,11 @@ closed digest os commit = let content = commit_content digest commit in
     and_then (trees_stored digest (listed commit.files) os) (λ with_trees.
     and_then (stored digest content with_trees) (λ more.
     Ok (record { id = name_by digest content; objects = more })))
+
+-- Its files are then what they were, and known to be the tree that was stored, so that the next
+-- commit can start from this one with what was opened. No text of a tree was read for it.
+pub record KeepsFiles (digest : List ℕ → List ℕ) (os more : List Object) (old new : HeldCommit)
+    : Type 0 where
+  pub files : (commit_in more new).files ≡ (commit_in os old).files
+  pub known : root_name new.files ≡ Some (tree_id digest (listed (commit_in os old).files))
+  pub reads : new.files.reads ≡ old.files.reads

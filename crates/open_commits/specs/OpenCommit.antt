@@ -2,7 +2,9 @@
 use Rattle.std.specs.Prelude.{ℕ, List, [], Option}
 use Rattle.std.specs.FinMap as finmap
 use Rattle.std.specs.Option.{option_map}
+use Rattle.git_model.specs.Repository.{Object}
 use Rattle.tree_build.specs.FileMap.{FileMap}
+use Rattle.branch_trees.specs.Branch.{Branch, IsBranch, files_in, root_name}
 use Rattle.open_commits.specs.declared.open_commit.Header.{Header as LentHeader}
 use Rattle.open_commits.specs.declared.open_commit.OpenCommit.{OpenCommit as LentCommit}
 
@@ -22,10 +24,36 @@ pub record OpenCommit : Type 0 where
   pub parents : List (List ℕ)
   pub files : FileMap
 
--- A commit begins without parents and without files.
+-- A commit begins without parents, on files that may be left of another commit, and without files
+-- where there is none that it starts from.
+abbrev pub begun_on : Header → List ℕ → FileMap → OpenCommit
+begun_on header message files =
+    record { header = header; message = message; parents = []; files = files }
+
 abbrev pub begun : Header → List ℕ → OpenCommit
-begun header message =
-    record { header = header; message = message; parents = []; files = finmap.empty }
+begun header message = begun_on header message finmap.empty
+
+-- ---- what is held of it
+
+-- The same, whose files are a branch: directories that nobody looked into are names of trees.
+pub record HeldCommit : Type 0 where
+  pub header : Header
+  pub message : List ℕ
+  pub parents : List (List ℕ)
+  pub files : Branch
+
+-- What a held commit means among the objects of a table.
+abbrev pub commit_in : List Object → HeldCommit → OpenCommit
+commit_in os held = record {
+  header = held.header;
+  message = held.message;
+  parents = held.parents;
+  files = files_in os held.files;
+}
+
+-- It stands among them where its files do.
+abbrev pub Stands : List Object → HeldCommit → Type 0
+Stands os held = IsBranch os held.files
 
 -- ---- the same without where it lies
 
@@ -38,10 +66,21 @@ header_shown header = record {
   encoding = option_map (λ text. text.items) header.encoding;
 }
 
-abbrev pub commit_shown : LentCommit → OpenCommit
-commit_shown commit = record {
+abbrev pub commit_held : LentCommit → HeldCommit
+commit_held commit = record {
   header = header_shown commit.header;
   message = commit.message.items;
   parents = commit.parents.items;
   files = commit.files;
 }
+
+-- What a lent commit means, and that it stands.
+abbrev pub shown_in : List Object → LentCommit → OpenCommit
+shown_in os commit = commit_in os (commit_held commit)
+
+abbrev pub IsHeld : List Object → LentCommit → Type 0
+IsHeld os commit = Stands os (commit_held commit)
+
+-- The name of the stored tree that its files are, where that is known without reading.
+abbrev pub tree_known : LentCommit → Option (List ℕ)
+tree_known commit = root_name (commit_held commit).files

@@ -1,15 +1,15 @@
 //! Changes of the files of an open commit: git-fast-import(1), "filemodify" to "filedeleteall".
 
-ghost use Rattle.std.specs.Prelude.{◌≡◌, ◌≢◌, None};
+ghost use Rattle.std.specs.Prelude.{◌≡◌, ◌≢◌, List, [], None, Some, Ok, Err, OnOk};
 ghost use Rattle.git_model.specs.declared.file_mode.FileMode.TheVariants as mode;
 ghost use Rattle.git_model.specs.GoodRepository.{AreObjects};
+ghost use Rattle.git_model.specs.Repository.{Object};
 ghost use Rattle.tenant_tables.specs.Objects.{objects};
 ghost use Rattle.tenant_tables.specs.StandsIn.{StandsIn};
 ghost use Rattle.tree_build.specs.Grafts.{tree_fault};
-ghost use Rattle.open_commits.specs.OpenCommit.{commit_shown};
+ghost use Rattle.open_commits.specs.OpenCommit.{commit_held, shown_in, tree_known, IsHeld};
 ghost use Rattle.open_commits.specs.Changes.{entry_of, modified, file_put, tree_put, deleted, copied_to, renamed_to, all_deleted};
 ghost use Rattle.open_commits.specs.Calls.{Changes};
-ghost use Rattle.std.specs.Prelude.{Ok};
 
 use crate::datarefs::{blob_of, link_of, tree_of};
 use crate::fault::Fault;
@@ -53,9 +53,12 @@ impl OpenCommit {
         path: &Path,
     ) -> Result<(), Fault>
         requires stands { StandsIn N.digest_of pool.now table.now.entries }
-        ensures { let os = objects pool.now table.now.entries in AreObjects N.digest_of os
-            → Changes (modified os marks.now.entries mode object path.now (commit_shown self.old))
-            (commit_shown self.old) (commit_shown self.new) result }
+        requires held { IsHeld (objects pool.now table.now.entries) self.old }
+        ensures changes { let os = objects pool.now table.now.entries in AreObjects N.digest_of os
+            → Changes (modified os marks.now.entries mode object path.now (shown_in os self.old))
+            (shown_in os self.old) (shown_in os self.new) result }
+        ensures held { result ≢ Err Fault.Memory
+            → IsHeld (objects pool.now table.now.entries) self.new }
     {
         match mode {
             FileMode::Directory => {
@@ -84,8 +87,12 @@ impl OpenCommit {
         path: &Path,
     ) -> Result<(), Fault>
         requires stands { StandsIn N.digest_of pool.now table.now.entries }
-        ensures { Changes (Ok (deleted path.now (commit_shown self.old))) (commit_shown self.old)
-            (commit_shown self.new) result }
+        requires held { IsHeld (objects pool.now table.now.entries) self.old }
+        ensures changes { let os = objects pool.now table.now.entries in
+            Changes (Ok (deleted path.now (shown_in os self.old))) (shown_in os self.old)
+            (shown_in os self.new) result }
+        ensures held { result ≢ Err Fault.Memory
+            → IsHeld (objects pool.now table.now.entries) self.new }
     {
         self.files.drop_path(pool, table, path)?;
         Ok(())
@@ -105,8 +112,12 @@ impl OpenCommit {
         path: &Path,
     ) -> Result<(), Fault>
         requires stands { StandsIn N.digest_of pool.now table.now.entries }
-        ensures { Changes (copied_to source.now path.now (commit_shown self.old))
-            (commit_shown self.old) (commit_shown self.new) result }
+        requires held { IsHeld (objects pool.now table.now.entries) self.old }
+        ensures changes { let os = objects pool.now table.now.entries in
+            Changes (copied_to source.now path.now (shown_in os self.old))
+            (shown_in os self.old) (shown_in os self.new) result }
+        ensures held { result ≢ Err Fault.Memory
+            → IsHeld (objects pool.now table.now.entries) self.new }
     {
         self.files.copy(pool, table, source, path)?;
         Ok(())
@@ -122,8 +133,12 @@ impl OpenCommit {
         path: &Path,
     ) -> Result<(), Fault>
         requires stands { StandsIn N.digest_of pool.now table.now.entries }
-        ensures { Changes (renamed_to source.now path.now (commit_shown self.old))
-            (commit_shown self.old) (commit_shown self.new) result }
+        requires held { IsHeld (objects pool.now table.now.entries) self.old }
+        ensures changes { let os = objects pool.now table.now.entries in
+            Changes (renamed_to source.now path.now (shown_in os self.old))
+            (shown_in os self.old) (shown_in os self.new) result }
+        ensures held { result ≢ Err Fault.Memory
+            → IsHeld (objects pool.now table.now.entries) self.new }
     {
         self.files.rename(pool, table, source, path)?;
         Ok(())
@@ -131,7 +146,9 @@ impl OpenCommit {
 
     /// `deleteall`: takes out all files. Takes no memory.
     pub fn delete_all(&mut self)
-        ensures { commit_shown self.new ≡ all_deleted (commit_shown self.old) }
+        ensures changes { (os : List Object)
+            → shown_in os self.new ≡ all_deleted (shown_in os self.old) }
+        ensures held { (os : List Object) → IsHeld os self.new }
     {
         self.files.clear();
     }
@@ -145,8 +162,13 @@ impl OpenCommit {
         entry: Entry,
     ) -> Result<(), Fault>
         requires file { entry.mode ≢ FileMode.Directory }
-        ensures { Changes (file_put path.now entry (commit_shown self.old)) (commit_shown self.old)
-            (commit_shown self.new) result }
+        requires stands { StandsIn N.digest_of pool.now table.now.entries }
+        requires held { IsHeld (objects pool.now table.now.entries) self.old }
+        ensures changes { let os = objects pool.now table.now.entries in
+            Changes (file_put path.now entry (shown_in os self.old)) (shown_in os self.old)
+            (shown_in os self.new) result }
+        ensures held { result ≢ Err Fault.Memory
+            → IsHeld (objects pool.now table.now.entries) self.new }
     {
         self.files.put(pool, table, path, entry)?;
         Ok(())
@@ -161,10 +183,15 @@ impl OpenCommit {
         tree: &Name,
     ) -> Result<(), Fault>
         requires stands { StandsIn N.digest_of pool.now table.now.entries }
-        ensures { let os = objects pool.now table.now.entries in AreObjects N.digest_of os
+        requires held { IsHeld (objects pool.now table.now.entries) self.old }
+        ensures changes { let os = objects pool.now table.now.entries in AreObjects N.digest_of os
             → tree_fault os tree.now ≡ None
-            → Changes (tree_put os path.now tree.now (commit_shown self.old)) (commit_shown self.old)
-            (commit_shown self.new) result }
+            → Changes (tree_put os path.now tree.now (shown_in os self.old)) (shown_in os self.old)
+            (shown_in os self.new) result }
+        ensures held { result ≢ Err Fault.Memory
+            → IsHeld (objects pool.now table.now.entries) self.new }
+        ensures kept { path.now ≡ [] → tree_known self.old ≡ Some tree.now
+            → OnOk result ((commit_held self.new).files ≡ (commit_held self.old).files) }
     {
         self.files.graft(pool, table, path, tree)?;
         Ok(())

@@ -3,14 +3,15 @@
 //! It holds what outlives the items of its stream. Objects are named by object name and never by
 //! where they lie, so that no later object changes it.
 
-ghost use Rattle.std.specs.Prelude.{◌≡◌, IfOk};
-ghost use Rattle.tree_build.specs.FileMap.{AreFiles, listed};
-ghost use Rattle.open_commits.specs.OpenCommit.{begun, header_shown, commit_shown};
+ghost use Rattle.std.specs.Prelude.{◌≡◌, List, IfOk};
+ghost use Rattle.git_model.specs.Repository.{Object};
+ghost use Rattle.branch_trees.specs.Branch.{IsBranch, files_in};
+ghost use Rattle.open_commits.specs.OpenCommit.{begun_on, commit_held, header_shown, shown_in, IsHeld};
 
+use branch_trees::Files;
 use git_names::{Ident, Memory, Name, RefName};
 use std::alloc::Global;
 use stream_grammar::Mark;
-use tree_build::Files;
 
 /// What the lines of a commit before its message said.
 #[derive(Drop)]
@@ -39,14 +40,22 @@ pub struct OpenCommit {
 }
 
 impl OpenCommit {
-    /// A commit without parents and files: git-fast-import(1), "commit". Where its branch stands at
-    /// a commit, `start_from` that one.
+    /// A commit without parents, on these files: git-fast-import(1), "commit". Where its branch
+    /// stands at a commit, `start_from` that one, which reads nothing again where the files are
+    /// known to be that commit's; else `delete_all` of them.
     ///
     /// `Memory` (90) where the copy of the message finds no room. What the commit holds later comes
     /// from `alloc`.
-    pub fn new(alloc: Global, header: Header, message: &[u8]) -> Result<OpenCommit, Memory>
-        ensures { IfOk result (λ commit. commit_shown commit
-            ≡ begun (header_shown header) message.now) }
+    pub fn new(
+        alloc: Global,
+        header: Header,
+        message: &[u8],
+        files: Files,
+    ) -> Result<OpenCommit, Memory>
+        ensures begun { (os : List Object) → IfOk result (λ commit. shown_in os commit
+            ≡ begun_on (header_shown header) message.now (files_in os files)) }
+        ensures held { (os : List Object) → IsBranch os files
+            → IfOk result (λ commit. IsHeld os commit) }
     {
         let message = Vec::from_slice(alloc, message)?;
         Ok(OpenCommit {
@@ -54,14 +63,15 @@ impl OpenCommit {
             header,
             message,
             parents: Vec::new(alloc),
-            files: Files::new(alloc),
+            files,
         })
     }
 
-    /// What holds of the files of every commit: a fact for proofs. A call does nothing.
-    pub fn are_files(&self)
-        ensures { AreFiles (listed (commit_shown self.now).files) }
+    /// Its files, for the next commit: what was opened of them stays opened, and after `close` the
+    /// root is known to be the tree of the commit.
+    pub fn into_files(self) -> Files
+        ensures { result ≡ (commit_held self).files }
     {
-        self.files.are_files();
+        self.files
     }
 }

@@ -1,16 +1,17 @@
 //! The parents of an open commit: git-fast-import(1), "from" and "merge".
 
-ghost use Rattle.std.specs.Prelude.{◌≡◌, None, Some, MatchResult};
+ghost use Rattle.std.specs.Prelude.{◌≡◌, ◌≢◌, List, None, Some, Err, MatchResult, OnOk};
 ghost use Rattle.git_model.specs.declared.kind.Kind.TheVariants as kind;
 ghost use Rattle.git_model.specs.Commit.{Commit, CanWriteCommit, commit_contents};
 ghost use Rattle.git_model.specs.CommitReading.{commit_read};
 ghost use Rattle.git_model.specs.GoodRepository.{AreObjects};
 ghost use Rattle.git_model.specs.References.{kind_named};
+ghost use Rattle.git_model.specs.Repository.{Object};
 ghost use Rattle.tenant_tables.specs.Objects.{objects};
 ghost use Rattle.tenant_tables.specs.StandsIn.{StandsIn};
 ghost use Rattle.tree_build.specs.Grafts.{tree_fault};
 ghost use Rattle.tree_build.specs.StoredFiles.{tree_of_commit};
-ghost use Rattle.open_commits.specs.OpenCommit.{commit_shown};
+ghost use Rattle.open_commits.specs.OpenCommit.{commit_held, shown_in, tree_known, IsHeld};
 ghost use Rattle.open_commits.specs.Parents.{started_from, merged};
 ghost use Rattle.open_commits.specs.Calls.{Changes};
 
@@ -60,7 +61,8 @@ fn tree_of_commit<N: Naming>(
 
 impl OpenCommit {
     /// `from`: that commit is the first parent, and the only one so far; the files are those of its
-    /// tree: git-fast-import(1), "from".
+    /// tree: git-fast-import(1), "from". Where they are known to be that tree, what was opened of
+    /// them stays opened; no tree is read in any case.
     ///
     /// The name is that of a commit of the table. `Fault::Limit` (25) where its files are past the
     /// limits of `modify`, which no commit's are that was made here; nothing has changed then.
@@ -74,10 +76,17 @@ impl OpenCommit {
         id: Name,
     ) -> Result<(), Fault>
         requires stands { StandsIn N.digest_of pool.now table.now.entries }
-        ensures { let os = objects pool.now table.now.entries in AreObjects N.digest_of os
+        requires held { IsHeld (objects pool.now table.now.entries) self.old }
+        ensures changes { let os = objects pool.now table.now.entries in AreObjects N.digest_of os
             → kind_named id os ≡ Some kind.Commit
-            → Changes (started_from os id (commit_shown self.old)) (commit_shown self.old)
-            (commit_shown self.new) result }
+            → Changes (started_from os id (shown_in os self.old)) (shown_in os self.old)
+            (shown_in os self.new) result }
+        ensures held { result ≢ Err Fault.Memory
+            → IsHeld (objects pool.now table.now.entries) self.new }
+        ensures kept { let os = objects pool.now table.now.entries in AreObjects N.digest_of os
+            → kind_named id os ≡ Some kind.Commit
+            → tree_known self.old ≡ Some (tree_of_commit os id)
+            → OnOk result ((commit_held self.new).files ≡ (commit_held self.old).files) }
     {
         let tree = tree_of_commit(self.alloc, pool, table, &id)?;
         self.put_tree(pool, table, &Path::root(self.alloc), &tree)?;
@@ -92,8 +101,9 @@ impl OpenCommit {
     /// `Fault::Limit` (25) where there are 1,024 parents, the first one counted; nothing has
     /// changed then. After `Fault::Memory` (90) the commit may only be dropped.
     pub fn merge(&mut self, id: Name) -> Result<(), Fault>
-        ensures { Changes (merged id (commit_shown self.old)) (commit_shown self.old)
-            (commit_shown self.new) result }
+        ensures changes { (os : List Object) → Changes (merged id (shown_in os self.old))
+            (shown_in os self.old) (shown_in os self.new) result }
+        ensures held { (os : List Object) → IsHeld os self.old → IsHeld os self.new }
     {
         if self.parents.len() >= PARENTS_LIMIT {
             return Err(Fault::Limit);

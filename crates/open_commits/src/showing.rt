@@ -5,7 +5,7 @@ ghost use Rattle.tenant_tables.specs.Lent.{Keeps};
 ghost use Rattle.tenant_tables.specs.Objects.{objects};
 ghost use Rattle.tenant_tables.specs.Room.{HasRoomBeside};
 ghost use Rattle.tenant_tables.specs.StandsIn.{StandsIn};
-ghost use Rattle.open_commits.specs.OpenCommit.{commit_shown};
+ghost use Rattle.open_commits.specs.OpenCommit.{shown_in, IsHeld};
 ghost use Rattle.open_commits.specs.Showing.{entry_shown, file_or_trees};
 ghost use Rattle.open_commits.specs.Calls.{AddsOnly, Gives};
 
@@ -36,13 +36,16 @@ impl OpenCommit {
     ) -> Result<Option<Entry>, Fault>
         requires stands { StandsIn N.digest_of pool.old table.old.entries }
         requires room { HasRoomBeside pool.old table.old.entries }
+        requires held { IsHeld (objects pool.old table.old.entries) self.old }
         ensures keeps { Keeps N.digest_of pool.old table.old pool.new table.new }
         ensures room { HasRoomBeside pool.new table.new.entries }
         ensures adds { AddsOnly pool.old table.old pool.new table.new }
         ensures done { Gives (entry_shown N.digest_of (objects pool.old table.old.entries)
-            (commit_shown self.old).files path.now)
+            (shown_in (objects pool.old table.old.entries) self.old).files path.now)
             (λ entry. record { entry = entry; objects = objects pool.new table.new.entries }) result }
-        ensures commit { commit_shown self.new ≡ commit_shown self.old }
+        ensures commit { shown_in (objects pool.new table.new.entries) self.new
+            ≡ shown_in (objects pool.old table.old.entries) self.old }
+        ensures held { IsHeld (objects pool.new table.new.entries) self.new }
     {
         let entry = self.files.entry(pool, table, path)?;
         if let Some(found) = &entry {
@@ -61,13 +64,16 @@ impl OpenCommit {
     ) -> Result<(), Fault>
         requires stands { StandsIn N.digest_of pool.old table.old.entries }
         requires room { HasRoomBeside pool.old table.old.entries }
+        requires held { IsHeld (objects pool.old table.old.entries) self.old }
         ensures keeps { Keeps N.digest_of pool.old table.old pool.new table.new }
         ensures room { HasRoomBeside pool.new table.new.entries }
         ensures adds { AddsOnly pool.old table.old pool.new table.new }
         ensures done { Gives (file_or_trees N.digest_of (objects pool.old table.old.entries)
-            (commit_shown self.old).files path.now mode)
+            (shown_in (objects pool.old table.old.entries) self.old).files path.now mode)
             (λ _. objects pool.new table.new.entries) result }
-        ensures commit { commit_shown self.new ≡ commit_shown self.old }
+        ensures commit { shown_in (objects pool.new table.new.entries) self.new
+            ≡ shown_in (objects pool.old table.old.entries) self.old }
+        ensures held { IsHeld (objects pool.new table.new.entries) self.new }
     {
         match mode {
             FileMode::Directory => {

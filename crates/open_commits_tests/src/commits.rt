@@ -3,7 +3,7 @@
 //! `git fast-import` gave each name for the stream that the steps tell; every commit there begins
 //! with `reset`, so that it has no parent but those that it names.
 
-use crate::repository::{Case, Lines, Object, Step, first_wrong};
+use crate::repository::{Case, Lines, Object, PLAIN, Step, first_wrong};
 use git_objects::FileMode;
 use std::test::Fail;
 
@@ -12,11 +12,6 @@ const HELLO: &[u8; 40] = b"ce013625030ba8dba906f756967f9e9ca394464a";
 const EMPTY_TREE: &[u8; 40] = b"4b825dc642cb6eb9a060e54bf8d69288fbee4904";
 
 const FILE: FileMode = FileMode::Regular;
-
-const PLAIN: Lines<'static> = Lines {
-    author: None,
-    encoding: None,
-};
 
 const BLOB: Step<'static> = Step::Blob(1, b"hello\n");
 
@@ -222,13 +217,81 @@ const CASES: &[Case] = &[
         steps: &[
             BEGIN,
             Step::Inline(FILE, b"", b"z", 20),
+            BEGIN,
             Step::Inline(FileMode::Gitlink, b"s", b"z", 15),
+            BEGIN,
             Step::Inline(FileMode::Directory, b"s", b"z", 15),
             Step::Stored(0),
+            BEGIN,
             Step::Inline(FILE, b"a/f", b"hello\n", 0),
             Step::Inline(FileMode::Executable, b"g", b"", 0),
             Step::Stored(2),
             Step::Close(2, b"ae6fbea308824555114f0dbe1a395008a9682eb7"),
+        ],
+    },
+    Case {
+        does: "a commit that goes on where the last one ended reads no tree again",
+        steps: &[
+            BLOB,
+            BEGIN,
+            Step::Modify(FILE, Object::Mark(1), b"a/b/x", 0),
+            Step::Modify(FILE, Object::Mark(1), b"c/y", 0),
+            Step::Close(2, b"cf780e9a36220c9a1149be6eff64a0394682cccd"),
+            Step::GoOn(b"y\n", 0),
+            Step::From(2),
+            Step::Modify(FILE, Object::Mark(1), b"a/b/z", 0),
+            Step::Close(3, b"65150c2c7cc044e5c22999905220aa0b1ad896b6"),
+            Step::GoOn(b"z\n", 0),
+            Step::From(3),
+            Step::Delete(b"a/b/x"),
+            Step::Modify(FileMode::Executable, Object::Mark(1), b"c/y", 0),
+            Step::Close(4, b"b6f1003b0aa797a931291bfb4704e1a5403ba704"),
+            Step::GoOn(b"", 0),
+        ],
+    },
+    Case {
+        does: "a commit reads the trees on its way, each once; another parent is read anew",
+        steps: &[
+            BLOB,
+            BEGIN,
+            Step::Modify(FILE, Object::Mark(1), b"a/b/x", 0),
+            Step::Modify(FILE, Object::Mark(1), b"c/y", 0),
+            Step::Close(2, b"cf780e9a36220c9a1149be6eff64a0394682cccd"),
+            Step::Begin(PLAIN, b"y\n"),
+            Step::From(2),
+            Step::Modify(FILE, Object::Mark(1), b"a/b/z", 0),
+            Step::Close(3, b"65150c2c7cc044e5c22999905220aa0b1ad896b6"),
+            Step::GoOn(b"y\n", 3),
+            Step::From(2),
+            Step::Modify(FILE, Object::Mark(1), b"a/d", 0),
+            Step::Close(5, b"3a2581910f68785f3b1d00f81f7a87d1ca278ee8"),
+            Step::GoOn(b"z\n", 5),
+            Step::From(3),
+            Step::Delete(b"a/b/x"),
+            Step::Modify(FileMode::Executable, Object::Mark(1), b"c/y", 0),
+            Step::Close(4, b"b6f1003b0aa797a931291bfb4704e1a5403ba704"),
+            Step::GoOn(b"v\n", 9),
+            Step::From(4),
+            Step::Merge(5, 0),
+            Step::Copy(b"c", b"e", 0),
+            Step::Close(7, b"1f847037b07c792fcbebcb649bc827f77462dd5d"),
+            Step::GoOn(b"", 9),
+        ],
+    },
+    Case {
+        does: "files that are left stay only where the commit does not begin otherwise",
+        steps: &[
+            BLOB,
+            BEGIN,
+            Step::Modify(FILE, Object::Mark(1), b"a/b/x", 0),
+            Step::Modify(FILE, Object::Mark(1), b"c/y", 0),
+            Step::Close(2, b"cf780e9a36220c9a1149be6eff64a0394682cccd"),
+            Step::GoOn(b"w\n", 0),
+            Step::Shows(b"a/b/x", FILE, HELLO),
+            Step::DeleteAll,
+            Step::ShowsNone(b"a"),
+            Step::Modify(FILE, Object::Mark(1), b"f", 0),
+            Step::Close(6, b"f26b2c015f836eba8d375421fee9a482e1476879"),
         ],
     },
     // `git fast-import` printed the names.

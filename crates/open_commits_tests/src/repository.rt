@@ -1,5 +1,11 @@
 //! A repository with marks and an open commit, for tests.
 
+ghost use Rattle.std.specs.Prelude.{◌≡◌, ◌≢◌, List, None, Err, IfOk, IfSome, OnOk};
+ghost use Rattle.git_model.specs.Repository.{Object as StoredObject};
+ghost use Rattle.open_commits.specs.declared.fault.Fault.TheVariants as fault;
+ghost use Rattle.open_commits.specs.OpenCommit.{IsHeld};
+
+use branch_trees::Files;
 use content_pool::Pool;
 use git_names::{Ident, RefName};
 use git_objects::{FileMode, Kind, Name, Naming, Sha1Naming};
@@ -26,12 +32,21 @@ pub struct Lines<'a> {
     pub encoding: Option<&'a [u8]>,
 }
 
+/// No author but the committer, and no encoding.
+pub const PLAIN: Lines<'static> = Lines {
+    author: None,
+    encoding: None,
+};
+
 /// What is done, and what is then answered: a refusal by its number, 0 where there is none; what
-/// stands at a path; the name of a commit. A long path has so many components.
+/// stands at a path; the name of a commit. A long path has so many components. A commit begins
+/// without files, or goes on with the files that the last one left, for which so many texts of
+/// trees were read.
 #[derive(Clone, Copy)]
 pub enum Step<'a> {
     Blob(u64, &'a [u8]),
     Begin(Lines<'a>, &'a [u8]),
+    GoOn(&'a [u8], u64),
     From(u64),
     Merge(u64, u16),
     Merges(u64, usize),
@@ -70,25 +85,38 @@ struct Repository<N: Naming> {
 }
 
 impl<N: Naming> Model for Repository<N> {
-    ghost use Rattle.std.specs.Prelude.{ℕ};
+    ghost use Rattle.std.specs.Prelude.{ℕ, IfSome};
     ghost use Rattle.tenant_tables.specs.StandsIn.{StandsIn};
     ghost use Rattle.tenant_tables.specs.Room.{HasRoomBeside};
+    ghost use Rattle.tenant_tables.specs.Objects.{objects};
+    ghost use Rattle.open_commits.specs.OpenCommit.{IsHeld};
 
     ghost Value = { ℕ };
 
     ghost view = { λ repository. 0 };
 
     ghost invariant = { λ r. StandsIn N.digest_of r.pool r.table.entries
-        × HasRoomBeside r.pool r.table.entries };
+        × HasRoomBeside r.pool r.table.entries
+        × IfSome r.commit (IsHeld (objects r.pool r.table.entries)) };
 }
 
 // The number of a refusal, 0 where there is none. Want of memory ends a test.
-fn code_of(answer: Result<(), Fault>) -> Result<u16, Fail> {
+fn code_of(answer: Result<(), Fault>) -> Result<u16, Fail>
+    ensures { OnOk result (answer ≢ Err fault.Memory) }
+{
     match answer {
         Ok(()) => Ok(0),
         Err(Fault::Memory) => Err(Fail::from(Fault::Memory)),
         Err(fault) => Ok(fault.code()),
     }
+}
+
+// The open commit, which is let go where it is not put back.
+fn taken(commit: &mut Option<OpenCommit>) -> Result<OpenCommit, Fail>
+    ensures held { (os : List StoredObject) → IfSome commit.old (IsHeld os) → IfOk result (IsHeld os) }
+    ensures none { commit.new ≡ None }
+{
+    Ok(commit.take().ok_or("no commit")?)
 }
 
 fn mark_of(number: u64) -> Result<Mark, Fail> {
@@ -163,6 +191,7 @@ impl<N: Naming> Repository<N> {
 
     fn changes(&mut self, step: &Step<'_>) -> Result<bool, Fail> {
         match step {
+            Step::GoOn(message, reads) => self.go_on(message, *reads),
             Step::Modify(mode, object, path, code) => {
                 Ok(self.modify(*mode, *object, path)? == *code)
             }
@@ -212,8 +241,10 @@ impl<N: Naming> Repository<N> {
         Ok(*id)
     }
 
+    // No commit goes on after it.
     fn add_blob(&mut self, mark: u64, bytes: &[u8]) -> Result<bool, Fail> {
         let mark = mark_of(mark)?;
+        self.commit = None;
         let id = self.table.add(&mut self.pool, Kind::Blob, bytes)?;
         self.marks.insert(mark, id)?;
         Ok(true)
@@ -221,21 +252,33 @@ impl<N: Naming> Repository<N> {
 
     fn begin(&mut self, lines: Lines<'_>, message: &[u8]) -> Result<bool, Fail> {
         let header = header_of(self.alloc, lines)?;
-        self.commit = Some(OpenCommit::new(self.alloc, header, message)?);
+        let files = Files::new(self.alloc);
+        self.commit = Some(OpenCommit::new(self.alloc, header, message, files)?);
         Ok(true)
+    }
+
+    fn go_on(&mut self, message: &[u8], reads: u64) -> Result<bool, Fail> {
+        let header = header_of(self.alloc, PLAIN)?;
+        let files = taken(&mut self.commit)?.into_files();
+        let as_said = files.reads() == reads;
+        self.commit = Some(OpenCommit::new(self.alloc, header, message, files)?);
+        Ok(as_said)
     }
 
     fn start_from(&mut self, mark: u64) -> Result<bool, Fail> {
         let id = self.marked(mark)?;
-        let commit = self.commit.as_mut().ok_or("no commit")?;
+        let mut commit = taken(&mut self.commit)?;
         commit.start_from(&self.pool, &self.table, id)?;
+        self.commit = Some(commit);
         Ok(true)
     }
 
     fn merge(&mut self, mark: u64) -> Result<u16, Fail> {
         let id = self.marked(mark)?;
-        let commit = self.commit.as_mut().ok_or("no commit")?;
-        code_of(commit.merge(id))
+        let mut commit = taken(&mut self.commit)?;
+        let code = code_of(commit.merge(id))?;
+        self.commit = Some(commit);
+        Ok(code)
     }
 
     fn merge_often(&mut self, mark: u64, times: usize) -> Result<bool, Fail> {
@@ -258,47 +301,64 @@ impl<N: Naming> Repository<N> {
     }
 
     fn modify_at(&mut self, mode: FileMode, object: DataRef, path: &Path) -> Result<u16, Fail> {
-        let commit = self.commit.as_mut().ok_or("no commit")?;
-        code_of(commit.modify(&self.pool, &self.table, &self.marks, mode, object, path))
+        let mut commit = taken(&mut self.commit)?;
+        let (pool, table) = (&self.pool, &self.table);
+        let code = code_of(commit.modify(pool, table, &self.marks, mode, object, path))?;
+        self.commit = Some(commit);
+        Ok(code)
     }
 
+    // After a refusal there is no commit any more.
     fn put_contents(&mut self, mode: FileMode, path: &[u8], bytes: &[u8]) -> Result<u16, Fail> {
         let path = self.path(path)?;
-        let commit = self.commit.as_mut().ok_or("no commit")?;
-        code_of(commit.put_contents(&mut self.pool, &mut self.table, mode, &path, bytes))
+        let mut commit = taken(&mut self.commit)?;
+        match commit.put_contents(&mut self.pool, &mut self.table, mode, &path, bytes) {
+            Ok(()) => {
+                self.commit = Some(commit);
+                Ok(0)
+            }
+            Err(fault) => code_of(Err(fault)),
+        }
     }
 
     fn delete(&mut self, path: &[u8]) -> Result<bool, Fail> {
         let path = self.path(path)?;
-        let commit = self.commit.as_mut().ok_or("no commit")?;
+        let mut commit = taken(&mut self.commit)?;
         commit.delete(&self.pool, &self.table, &path)?;
+        self.commit = Some(commit);
         Ok(true)
     }
 
     fn delete_all(&mut self) -> Result<bool, Fail> {
-        let commit = self.commit.as_mut().ok_or("no commit")?;
+        let mut commit = taken(&mut self.commit)?;
         commit.delete_all();
+        self.commit = Some(commit);
         Ok(true)
     }
 
     fn copy(&mut self, from: &[u8], to: &[u8]) -> Result<u16, Fail> {
         let from = self.path(from)?;
         let to = self.path(to)?;
-        let commit = self.commit.as_mut().ok_or("no commit")?;
-        code_of(commit.copy(&self.pool, &self.table, &from, &to))
+        let mut commit = taken(&mut self.commit)?;
+        let code = code_of(commit.copy(&self.pool, &self.table, &from, &to))?;
+        self.commit = Some(commit);
+        Ok(code)
     }
 
     fn rename(&mut self, from: &[u8], to: &[u8]) -> Result<u16, Fail> {
         let from = self.path(from)?;
         let to = self.path(to)?;
-        let commit = self.commit.as_mut().ok_or("no commit")?;
-        code_of(commit.rename(&self.pool, &self.table, &from, &to))
+        let mut commit = taken(&mut self.commit)?;
+        let code = code_of(commit.rename(&self.pool, &self.table, &from, &to))?;
+        self.commit = Some(commit);
+        Ok(code)
     }
 
     fn entry(&mut self, path: &[u8]) -> Result<Option<(FileMode, [u8; 40])>, Fail> {
         let path = self.path(path)?;
-        let commit = self.commit.as_mut().ok_or("no commit")?;
+        let mut commit = taken(&mut self.commit)?;
         let entry = commit.show_entry(&mut self.pool, &mut self.table, &path)?;
+        self.commit = Some(commit);
         Ok(entry.map(|found| (found.mode, found.name.to_hex())))
     }
 
@@ -312,8 +372,9 @@ impl<N: Naming> Repository<N> {
 
     fn close(&mut self, mark: u64, name: &[u8; 40]) -> Result<bool, Fail> {
         let mark = mark_of(mark)?;
-        let commit = self.commit.as_mut().ok_or("no commit")?;
+        let mut commit = taken(&mut self.commit)?;
         let id = commit.close(&mut self.pool, &mut self.table)?;
+        self.commit = Some(commit);
         self.marks.insert(mark, id)?;
         Ok(id.to_hex() == *name)
     }

@@ -1,9 +1,10 @@
 //! Streams of git-fast-import(1), as items, with what git prints for them.
 
-ghost use Rattle.std.specs.Prelude.{◌≡◌, ℕ};
+ghost use Rattle.std.specs.Prelude.{◌≡◌, ℕ, true, IfOk};
 ghost use Rattle.content_pool.specs.Pool.{holds};
 ghost use Rattle.tenant_tables.specs.View.{held};
 ghost use Rattle.tenant_tables.specs.StandsIn.{StandsIn};
+ghost use Rattle.import_session.specs.Held.{FilesStand};
 
 use content_pool::Pool;
 use git_objects::{Name, Naming, Sha1Naming, TailNaming};
@@ -391,7 +392,7 @@ const CASES: &[Case] = &[
     },
     Case {
         does: "keeps what was checkpointed alone",
-        steps: &[BLOB, HELLO, Step::Finish, BLOB, OTHER],
+        steps: &[BLOB, HELLO, CHECKPOINT, BLOB, OTHER],
         printed: b"",
         left: Left {
             number: 0,
@@ -1036,7 +1037,7 @@ const FULL_CASES: &[FullCase] = &[
     },
 ];
 
-// One step of the only stream over this pool.
+// One step of the only stream over this pool. Answers whether it was not the last.
 fn walk<N: Naming>(
     session: &mut Session,
     pool: &mut Pool<N>,
@@ -1044,19 +1045,28 @@ fn walk<N: Naming>(
     refs: &mut Refs,
     step: Step<'_>,
     out: &mut Vec<u8>,
-) -> Result<(), Fault>
+) -> Result<bool, Fault>
     requires stands { StandsIn N.digest_of pool.old table.old.entries }
     requires alone { (s : ℕ) → holds pool.old s ≡ held table.old.entries s }
+    requires files { FilesStand session.old.own pool.old table.old }
     ensures stands { StandsIn N.digest_of pool.new table.new.entries }
     ensures alone { (s : ℕ) → holds pool.new s ≡ held table.new.entries s }
+    ensures files { IfOk result (λ more. more ≡ true
+        → FilesStand session.new.own pool.new table.new) }
 {
     match step {
-        Step::Take(item) => session.take(pool, table, refs, item, out),
-        Step::Finish => session.finish(pool, table, refs, out),
+        Step::Take(item) => {
+            session.take(pool, table, refs, item, out)?;
+            Ok(true)
+        }
+        Step::Finish => {
+            session.finish(pool, table, refs, out)?;
+            Ok(false)
+        }
     }
 }
 
-// Takes the steps in turn, up to the first refusal, and then gives the stream up.
+// Takes the steps in turn, up to the first refusal or the end, and then gives the stream up.
 fn run<N: Naming>(
     alloc: Global,
     naming: N,
@@ -1069,9 +1079,13 @@ fn run<N: Naming>(
     let mut session = Session::new(alloc);
     let mut number = 0;
     for step in steps {
-        if let Err(fault) = walk(&mut session, &mut pool, &mut table, refs, *step, out) {
-            number = fault.code();
-            break;
+        match walk(&mut session, &mut pool, &mut table, refs, *step, out) {
+            Ok(true) => {}
+            Ok(false) => break,
+            Err(fault) => {
+                number = fault.code();
+                break;
+            }
         }
     }
     let is_done = session.is_done();
@@ -1179,17 +1193,8 @@ fn first_wrong_case(alloc: Global) -> Option<&'static str> {
     None
 }
 
-fn first_wrong_commit_refusal(alloc: Global) -> Option<&'static str> {
-    for refusal in COMMIT_REFUSALS {
-        if !is_refused(alloc, refusal) {
-            return Some(refusal.refuses);
-        }
-    }
-    None
-}
-
-fn first_wrong_refusal(alloc: Global) -> Option<&'static str> {
-    for refusal in REFUSALS {
+fn first_wrong_refusal(alloc: Global, refusals: &[Refusal]) -> Option<&'static str> {
+    for refusal in refusals {
         if !is_refused(alloc, refusal) {
             return Some(refusal.refuses);
         }
@@ -1233,13 +1238,13 @@ fn prints_and_keeps_what_git_does(rt: HostRuntime) -> Result<(), Fail> {
 
 #[test]
 fn refuses_commits_by_number_and_prints_nothing(rt: HostRuntime) -> Result<(), Fail> {
-    assert_eq!(rt; first_wrong_commit_refusal(rt.alloc()), None);
+    assert_eq!(rt; first_wrong_refusal(rt.alloc(), COMMIT_REFUSALS), None);
     Ok(())
 }
 
 #[test]
 fn refuses_by_number_and_prints_nothing(rt: HostRuntime) -> Result<(), Fail> {
-    assert_eq!(rt; first_wrong_refusal(rt.alloc()), None);
+    assert_eq!(rt; first_wrong_refusal(rt.alloc(), REFUSALS), None);
     Ok(())
 }
 

@@ -16,6 +16,7 @@ use Rattle.tenant_tables.specs.Objects.{objects}
 use Rattle.tenant_tables.specs.StandsIn.{LeavesOthers, AreCounted}
 use Rattle.tenant_tables.proofs.HoldLemmas.{held-nil}
 use Rattle.tenant_tables.proofs.TableLemmas.{LeavesOthers-refl, other_stands, other_objects}
+use Rattle.open_commits.specs.OpenCommit.{commit_in}
 use Rattle.import_session.specs.Session.{workspace_in}
 use Rattle.import_session.specs.Stream.{Runs, Refused}
 use Rattle.service_steps.specs.declared.answer.Answer.{Answer}
@@ -26,7 +27,7 @@ use Rattle.tenant_service.specs.Alone.{Call, Turn, turn}
 use Rattle.tenant_stream.specs.Carrying.{HasAmpleRoom}
 use Rattle.tenant_service.specs.Headline.{stop_told}
 use Rattle.tenant_service.specs.Holding.{Holding, Idle, Busy, empty_repository, held_of, step_held}
-use Rattle.tenant_service.specs.Tenants.{Tenants, Stands, kept_tail, held_in, holding_in, holdings, all_held, Accounts}
+use Rattle.tenant_service.specs.Tenants.{Tenants, Stands, HoldsIn, kept_tail, held_in, holding_in, holdings, all_held, Accounts}
 use Rattle.tenant_service.specs.OneStep.{Takes, store, Serves}
 
 -- ---- tenants that a call did not touch
@@ -35,7 +36,10 @@ held_in-other : (ph : Phase) (p q : Cells) (t : View) (r : RefStore) → objects
 held_in-other phase.Closed p q t r same = ap (λ (os : List Object). Idle (record { objects = os; refs = r })) same
 held_in-other (phase.Running stream) p q t r same =
     ap (λ (os : List Object). Busy (Runs (record {
-      workspace = record (workspace_in stream.session.own p t r) { objects = os };
+      workspace = record (workspace_in stream.session.own p t r) {
+        objects = os;
+        commit = option_map (commit_in os) stream.session.own.commit;
+      };
       parsing = stream.session.parsing;
       is_done = stream.session.is_done;
     }) (kept_tail stream))) same
@@ -59,6 +63,8 @@ stands_beside digest p q old new leaves (e ∷ es) bound all = (
   record {
     entries = other_stands digest p q old new e.1.table.entries all.0.entries (counted_beside p e es old bound) leaves;
     settled = all.0.settled;
+    files = subst (λ (os : List Object). HoldsIn os e.1.phase)
+        (sym (other_objects p q old new e.1.table.entries (counted_beside p e es old bound) leaves)) all.0.files;
   },
   stands_beside digest p q old new leaves es (bound_beside p e es old bound) all.1,
 )

@@ -3,12 +3,14 @@
 use Rattle.std.specs.Prelude.{◌≡◌, ℕ, Bool, true, false, if◌then◌else◌, List, [], length, take, map, nat_lt, sum_by}
 use Rattle.std.specs.List.{AllByRecursion}
 use Rattle.git_model.specs.RefStore.{RefStore}
+use Rattle.git_model.specs.Repository.{Object}
 use Rattle.content_pool.specs.Pool.{Cells, holds}
 use Rattle.tenant_refs.specs.TenantName.{is_tenant_name}
 use Rattle.tenant_tables.specs.View.{View, held}
 use Rattle.tenant_tables.specs.Objects.{objects}
 use Rattle.tenant_tables.specs.StandsIn.{StandsIn}
 use Rattle.stream_lex.specs.Items.{Tail, Rest}
+use Rattle.import_session.specs.Held.{HoldsFiles}
 use Rattle.import_session.specs.Session.{repository_in}
 use Rattle.import_session.specs.Stream.{Standing, Runs, Refused}
 use Rattle.tenant_service.specs.declared.tenant.Phase.{Phase}
@@ -41,10 +43,17 @@ IsSettled phase.Closed table = table.committed ≡ length table.entries
 IsSettled (phase.Running stream) table = Unit {0}
 IsSettled (phase.Dead code) table = table.committed ≡ length table.entries
 
--- A tenant's table stands in the pool.
+-- The files that a stream holds of its commits, where one runs, stand among the objects.
+abbrev pub HoldsIn : List Object → Phase → Type 0
+HoldsIn objects phase.Closed = Unit {0}
+HoldsIn objects (phase.Running stream) = HoldsFiles objects stream.session.own
+HoldsIn objects (phase.Dead code) = Unit {0}
+
+-- A tenant's table stands in the pool, and among its objects what its stream holds.
 pub record Stands (digest : List ℕ → List ℕ) (pool : Cells) (tenant : Tenant) : Type 0 where
   pub entries : StandsIn digest pool tenant.table.entries
   pub settled : IsSettled tenant.phase tenant.table
+  pub files : HoldsIn (objects pool tenant.table.entries) tenant.phase
 
 -- All tenants, by their names.
 abbrev pub Tenants : Type 0

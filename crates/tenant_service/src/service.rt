@@ -46,7 +46,7 @@ impl<N: Naming> Model for Service<N> {
     ghost use Rattle.tenant_service.specs.Holding.{Holdings};
     ghost use Rattle.std.specs.Coded.{codes};
     ghost use Rattle.tenant_service.specs.Holding.{ref_map_code};
-    ghost use Rattle.tenant_stream.specs.Carrying.{file_map_code};
+    ghost use Rattle.tree_build.specs.FileMap.{file_map_code};
     ghost use Rattle.tenant_service.specs.Tenants.{IsService, holdings};
 
     ghost Value = { Holdings };

@@ -3,8 +3,10 @@
 //! The pool is lent, and holds other tenants' contents too. A call goes through the tenant's own
 //! table alone, and leaves the holds of all others as they are.
 
-ghost use Rattle.std.specs.Prelude.{◌≡◌, length, [], ◌∷◌, Ok, Err};
+ghost use Rattle.std.specs.Prelude.{◌≡◌, ℕ, List, length, [], ◌∷◌, Ok, Err, OnOk};
 ghost use Rattle.tenant_tables.specs.StandsIn.{StandsIn, LeavesOthers};
+ghost use Rattle.content_pool.specs.Pool.{Cells};
+ghost use Rattle.import_session.specs.Held.{FilesStand};
 ghost use Rattle.import_session.specs.Session.{repository_in};
 ghost use Rattle.import_session.specs.Sound.{IsSound};
 ghost use Rattle.tenant_service.specs.Alone.{Open, Feed, End, Ask, Restart};
@@ -49,8 +51,8 @@ pub struct Tenant {
 /// A tenant with nothing. Takes no memory.
 pub fn new_tenant(alloc: Global) -> Tenant
     ensures entries { result.table.entries ≡ [] }
-    ensures held { (pool : _) → holding_in pool result ≡ Idle empty_repository }
-    ensures settled { IsSettled result.phase result.table }
+    ensures held { (pool : Cells) → holding_in pool result ≡ Idle empty_repository }
+    ensures stands { (digest : List ℕ → List ℕ) (pool : Cells) → Stands digest pool result }
 {
     Tenant {
         table: Table::new(alloc),
@@ -79,7 +81,8 @@ pub fn open<N: Naming>(alloc: Global, pool: &Pool<N>, tenant: &mut Tenant) -> An
 
 /// Goes back to the last checkpoint, and leaves the stream in another phase. Takes no memory.
 pub fn give_up<N: Naming>(pool: &mut Pool<N>, tenant: &mut Tenant, phase: Phase)
-    requires stands { Stands N.digest_of pool.old tenant.old }
+    requires stands { StandsIn N.digest_of pool.old tenant.old.table.entries }
+    requires settled { IsSettled tenant.old.phase tenant.old.table }
     ensures phase { tenant.new.phase ≡ phase }
     ensures stands { StandsIn N.digest_of pool.new tenant.new.table.entries }
     ensures others { LeavesOthers pool.old tenant.old.table.entries pool.new tenant.new.table.entries }
@@ -103,10 +106,12 @@ fn feed_stream<N: Naming>(
 ) -> Result<(), Stop>
     requires stands { StandsIn N.digest_of pool.old table.old.entries }
     requires room { HasAmpleRoom pool.old }
+    requires held { FilesStand stream.old.session.own pool.old table.old }
     requires sound { IsSound N.digest_of
         (stream_in stream.old pool.old table.old refs.old).workspace }
     ensures stands { StandsIn N.digest_of pool.new table.new.entries }
     ensures others { LeavesOthers pool.old table.old.entries pool.new table.new.entries }
+    ensures held { OnOk result (FilesStand stream.new.session.own pool.new table.new) }
     ensures fed { Fed N.digest_of
         (stream_in stream.old pool.old table.old refs.old) (kept_tail stream.old) piece.now
         out.old.items result out.new.items

@@ -4,10 +4,11 @@
 //! last. Bytes may be cut anywhere; what is kept between two pieces is neither the repository nor
 //! the bytes that went before.
 
-ghost use Rattle.std.specs.Prelude.{◌≡◌, false, OnErr};
+ghost use Rattle.std.specs.Prelude.{◌≡◌, false, OnErr, OnOk};
 ghost use Rattle.tenant_tables.specs.StandsIn.{StandsIn};
 ghost use Rattle.import_session.specs.Lent.{Keeps};
 ghost use Rattle.import_session.specs.Session.{running_in, repository_in, last_in};
+ghost use Rattle.import_session.specs.Held.{FilesStand};
 ghost use Rattle.import_session.specs.Sound.{IsSound, IsSoundRepository};
 ghost use Rattle.tenant_stream.specs.Stopping.{unfed};
 ghost use Rattle.tenant_stream.specs.Carrying.{new_stream, stream_in, Carries, Feeds, EndsAs, HasAmpleRoom, IsCommitted};
@@ -34,8 +35,10 @@ fn carry<N: Naming>(
 ) -> Result<(), Stop>
     requires stands { StandsIn N.digest_of pool.old table.old.entries }
     requires room { HasAmpleRoom pool.old }
+    requires held { FilesStand session.old.own pool.old table.old }
     requires running { session.old.is_done ≡ false }
     ensures keeps { Keeps N.digest_of pool.old table.old pool.new table.new }
+    ensures held { OnOk result (FilesStand session.new.own pool.new table.new) }
     ensures carries { let now = running_in session.old pool.old table.old refs.old in
         IsSound N.digest_of now.workspace
         → Carries N.digest_of now lexer.old.tail out.old.items result
@@ -81,6 +84,7 @@ fn end<N: Naming>(
 ) -> Result<(), Stop>
     requires stands { StandsIn N.digest_of pool.old table.old.entries }
     requires room { HasAmpleRoom pool.old }
+    requires held { FilesStand session.old.own pool.old table.old }
     ensures keeps { Keeps N.digest_of pool.old table.old pool.new table.new }
     ensures ended { let now = running_in session.old pool.old table.old refs.old in
         IsSound N.digest_of now.workspace
@@ -108,12 +112,12 @@ pub struct Stream {
 }
 
 impl Model for Stream {
-    ghost use Rattle.tenant_stream.specs.Carrying.{Between, file_map_code};
+    ghost use Rattle.tenant_stream.specs.Carrying.{Between, branch_code};
     ghost use Rattle.std.specs.Coded.{codes};
 
     ghost Value = { Between };
 
-    ghost coded = { Prim.hlevel (codes, file_map_code) };
+    ghost coded = { Prim.hlevel (codes, branch_code) };
 
     ghost view = { λ stream. record { session = stream.session; tail = stream.lexer.tail } };
 }
@@ -153,7 +157,9 @@ impl Stream {
     ) -> Result<(), Stop>
         requires stands { StandsIn N.digest_of pool.old table.old.entries }
         requires room { HasAmpleRoom pool.old }
+        requires held { FilesStand self.old.session.own pool.old table.old }
         ensures keeps { Keeps N.digest_of pool.old table.old pool.new table.new }
+        ensures held { OnOk result (FilesStand self.new.session.own pool.new table.new) }
         ensures feeds { let now = stream_in self.old pool.old table.old refs.old in
             IsSound N.digest_of now.workspace
             → Feeds N.digest_of self.old.session.is_done now self.old.tail piece.now out.old.items
@@ -186,6 +192,7 @@ impl Stream {
     ) -> Result<(), Stop>
         requires stands { StandsIn N.digest_of pool.old table.old.entries }
         requires room { HasAmpleRoom pool.old }
+        requires held { FilesStand self.session.own pool.old table.old }
         ensures keeps { Keeps N.digest_of pool.old table.old pool.new table.new }
         ensures ended { let now = stream_in self pool.old table.old refs.old in
             IsSound N.digest_of now.workspace

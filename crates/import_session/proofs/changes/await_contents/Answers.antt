@@ -1,5 +1,5 @@
 use Rattle.std.proofs.Common.{rules}
 use Rattle.import_session.proofs.changes.await_contents.Goals as goal
 
-pub returns : goal.returns
-returns c = search rules
+pub returns-clause-done : goal.returns-clause-done
+returns-clause-done c = search rules

@@ -5,3 +5,6 @@ pub returns-clause-committed : goal.returns-clause-committed
 returns-clause-committed g c =
     committed_stay c.args.pool.now c.args.table.now c.put_contents.new.pool c.put_contents.new.table
     c.committed_len-within.ensures.within c.put_contents.ensures.adds
+
+pub returns-clause-held : goal.returns-clause-held
+returns-clause-held g c = record { commit = c.in_ok-put_contents.ensures.held; left = tt }

@@ -23,3 +23,6 @@ pub returns-clause-committed : goal.returns-clause-committed
 returns-clause-committed g c =
     committed_stay c.args.pool.now c.args.table.now c.show_entry.new.pool c.show_entry.new.table
     c.committed_len-within.ensures.within c.show_entry.ensures.adds
+
+pub returns-clause-held : goal.returns-clause-held
+returns-clause-held g c = record { commit = c.show_entry.ensures.held; left = tt }

@@ -1,6 +1,6 @@
 use Rattle.std.proofs.lemmas.Result.{err_from_is_err_and, IfOk-at_ok}
 use Rattle.stream_grammar.specs.Shown.{commit_shown as said_shown}
-use Rattle.open_commits.specs.OpenCommit.{commit_shown}
+use Rattle.open_commits.specs.OpenCommit.{shown_in}
 use Rattle.open_commits.specs.Parents.{started_from}
 use Rattle.import_session.specs.Changes.{changed_by}
 use Rattle.import_session.specs.CommitIshes.{start_in}
@@ -9,33 +9,33 @@ use Rattle.import_session.proofs.CommitLemmas.{changed_then, named_refused, refu
 use Rattle.import_session.proofs.SoundCommits.{IsCommitOf, start_good}
 use Rattle.import_session.proofs.changes.start_from.Goals as goal
 
-pub returns-in_err-id : goal.returns-in_err-id
+pub returns-in_err-id-clause-done : goal.returns-in_err-id-clause-done
 unfolding changed_by
-returns-in_err-id g c good =
+returns-in_err-id-clause-done g c good =
     let workspace = workspace_in (own_shown c.args.own.now) c.args.pool.now c.args.table.now c.args.refs.now in
     let failed = err_from_is_err_and c.from_residual.result c.from_residual.ensures.1 in
     rw failed.1 (named_refused (start_in workspace c.args.commit.now.header.ref_name (said_shown c.args.from.now)) _
     c.in_err-id.field-0.0 failed.0 failed.2 (c.in_err-id.ensures good))
 
-pub returns-in_err-start_from : goal.returns-in_err-start_from
+pub returns-in_err-start_from-clause-done : goal.returns-in_err-start_from-clause-done
 unfolding changed_by
-returns-in_err-start_from g c good =
+returns-in_err-start_from-clause-done g c good =
     let workspace = workspace_in (own_shown c.args.own.now) c.args.pool.now c.args.table.now c.args.refs.now in
     let start = start_in workspace c.args.commit.now.header.ref_name (said_shown c.args.from.now) in
     let failed = err_from_is_err_and c.from_residual-in_err-start_from.result c.from_residual-in_err-start_from.ensures.1 in
     let kind = IfOk-at_ok (IsCommitOf workspace.objects) {r = start} (c.in_ok-id.ensures good)
     (start_good g.N.Naming.digest_of workspace good c.args.commit.now.header.ref_name (said_shown c.args.from.now)) in
-    rw failed.1 (refused_then start (λ id. started_from workspace.objects id (commit_shown c.args.commit.now)) c.in_ok-id.id
-    (commit_shown c.args.commit.now) (commit_shown c.start_from.new.self) c.in_err-start_from.field-0.0 failed.0 failed.2
-    (c.in_ok-id.ensures good) (c.in_err-start_from.ensures good kind))
+    rw failed.1 (refused_then start (λ id. started_from workspace.objects id (shown_in workspace.objects c.args.commit.now)) c.in_ok-id.id
+    (shown_in workspace.objects c.args.commit.now) (shown_in workspace.objects c.start_from.new.self) c.in_err-start_from.field-0.0 failed.0 failed.2
+    (c.in_ok-id.ensures good) (c.in_err-start_from.ensures.changes good kind))
 
-pub returns : goal.returns
+pub returns-clause-done : goal.returns-clause-done
 unfolding changed_by
-returns g c good =
+returns-clause-done g c good =
     let workspace = workspace_in (own_shown c.args.own.now) c.args.pool.now c.args.table.now c.args.refs.now in
     let start = start_in workspace c.args.commit.now.header.ref_name (said_shown c.args.from.now) in
     let kind = IfOk-at_ok (IsCommitOf workspace.objects) {r = start} (c.in_ok-id.ensures good)
     (start_good g.N.Naming.digest_of workspace good c.args.commit.now.header.ref_name (said_shown c.args.from.now)) in
-    changed_then start (λ id. started_from workspace.objects id (commit_shown c.args.commit.now)) c.in_ok-id.id
-    (commit_shown c.args.commit.now) (commit_shown c.start_from.new.self)
-    (c.in_ok-id.ensures good) (c.in_ok-start_from.ensures good kind)
+    changed_then start (λ id. started_from workspace.objects id (shown_in workspace.objects c.args.commit.now)) c.in_ok-id.id
+    (shown_in workspace.objects c.args.commit.now) (shown_in workspace.objects c.start_from.new.self)
+    (c.in_ok-id.ensures good) (c.in_ok-start_from.ensures.changes good kind)

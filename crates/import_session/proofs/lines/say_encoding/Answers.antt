@@ -1,5 +1,5 @@
 use Rattle.std.proofs.Common.{rules}
 use Rattle.import_session.proofs.lines.say_encoding.Goals as goal
 
-pub returns-in_ok-copy_of-in-Some : goal.returns-in_ok-copy_of-in-Some
-returns-in_ok-copy_of-in-Some c pool table out = search rules
+pub returns-in_ok-copy_of-in-Some-clause-done : goal.returns-in_ok-copy_of-in-Some-clause-done
+returns-in_ok-copy_of-in-Some-clause-done c pool table out = search rules

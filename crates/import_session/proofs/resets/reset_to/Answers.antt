@@ -9,8 +9,8 @@ use Rattle.import_session.specs.Session.{own_shown, workspace_in}
 use Rattle.import_session.proofs.ActLemmas.{first_refused}
 use Rattle.import_session.proofs.resets.reset_to.Goals as goal
 
-pub returns-in_err-tip : goal.returns-in_err-tip
-returns-in_err-tip g c out good =
+pub returns-in_err-tip-clause-done : goal.returns-in_err-tip-clause-done
+returns-in_err-tip-clause-done g c out good =
     let w = workspace_in (own_shown c.args.own.now) c.args.pool.now c.args.table.now
     c.args.refs.now in
     let ref = c.in-Some.said.ref_name in

@@ -5,7 +5,8 @@ use Rattle.git_model.specs.Content.{name_by}
 use Rattle.tenant_tables.specs.Objects.{objects}
 use Rattle.import_session.specs.declared.said.Said.{Said}
 use Rattle.import_session.specs.Tags.{tag_content}
-use Rattle.import_session.specs.Session.{own_shown, workspace_in}
+use Rattle.import_session.specs.Session.{Own, own_shown, workspace_in}
+use Rattle.import_session.proofs.HeldLemmas.{commit_same, files_grown, files_kept}
 use Rattle.import_session.proofs.TagLemmas.{tag_kept, tag_left, tag_not_stored, tag_refused}
 use Rattle.import_session.proofs.tags.store_tag.Goals as goal
 
@@ -51,4 +52,19 @@ returns-clause-done g c out good =
     (tag_left own (own_shown c.tagged.new.own) c.args.mark said.ref_name c.in_ok-id.id
     (name_by digest tag) c.set.new.marks.entries c.push.new.self.items c.args.pool.now
     c.args.table.now pool table c.args.refs.now left c.set.ensures tags
-    stored.name stored.committed))
+    stored.name stored.committed
+    (commit_same digest tag (objects c.args.pool.now c.args.table.now.entries) (objects pool table.entries)
+    stored.objects own.commit c.requires.held.commit)))
+
+pub returns-clause-held : goal.returns-clause-held
+returns-clause-held g c =
+    let own = own_shown c.args.own.now in
+    let more = objects c.store_written.new.pool c.store_written.new.table.entries in
+    let tag = tag_content c.in-Some.said c.args.message.now c.in_ok-target.target c.in_ok-target.kind in
+    files_kept more own _
+    (record {
+      commit = ap (λ (own : Own). own.commit) c.tagged.ensures.same;
+      left = ap (λ (own : Own). own.left) c.tagged.ensures.same;
+    })
+    (files_grown g.N.Naming.digest_of tag (objects c.args.pool.now c.args.table.now.entries) more
+    c.in_ok-id.ensures.stores.objects own c.requires.held)

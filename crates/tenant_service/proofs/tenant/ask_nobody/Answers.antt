@@ -1,15 +1,11 @@
 use Rattle.std.proofs.Common.{sym, subst}
-use Rattle.tenant_tables.proofs.TableLemmas.{StandsIn-nil}
 use Rattle.import_session.proofs.SoundLemmas.{empty_is_sound}
 use Rattle.tenant_service.specs.Holding.{Holding, IsSoundHolding}
 use Rattle.tenant_service.proofs.tenant.ask_nobody.Goals as goal
 
 pub ask-requires : goal.ask-requires
 ask-requires g c = record {
-  stands = record {
-    entries = rw c.new_tenant-nobody.ensures.entries (StandsIn-nil g.N.Naming.digest_of c.args.pool.now);
-    settled = c.new_tenant-nobody.ensures.settled;
-  };
+  stands = c.new_tenant-nobody.ensures.stands g.N.Naming.digest_of c.args.pool.now;
   sound = subst (λ (held : Holding). IsSoundHolding g.N.Naming.digest_of held) (sym (c.new_tenant-nobody.ensures.held c.args.pool.now))
       (empty_is_sound g.N.Naming.digest_of);
 }

@@ -2,17 +2,13 @@ use Rattle.std.proofs.Common.{refl, ap, ◌∙◌, []}
 use Rattle.indexmap.proofs.CallerLemmas.{insert_entry-new}
 use Rattle.std.specs.Str.{bytes_eq}
 use Rattle.tenant_tables.specs.View.{View}
-use Rattle.tenant_tables.proofs.TableLemmas.{StandsIn-nil}
 use Rattle.tenant_service.specs.Alone.{Open}
 use Rattle.tenant_service.proofs.AccountLemmas.{serves-missing, serves-new}
 use Rattle.tenant_service.proofs.tenants.open_new.Goals as goal
 
 pub open-answer-requires : goal.open-answer-requires
 open-answer-requires g c = record {
-  stands = record {
-    entries = rw c.new_tenant-tenant.ensures.entries (StandsIn-nil g.N.Naming.digest_of c.args.pool.now);
-    settled = c.new_tenant-tenant.ensures.settled;
-  };
+  stands = c.new_tenant-tenant.ensures.stands g.N.Naming.digest_of c.args.pool.now;
 }
 
 pub returns-in-Ok : goal.returns-in-Ok

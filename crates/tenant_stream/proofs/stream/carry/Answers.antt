@@ -12,6 +12,7 @@ use Rattle.tenant_stream.proofs.stream.carry.Goals as goal
 pub items-init : goal.items-init
 items-init g c = record {
   keeps = Keeps-refl _ c.args.pool.now c.args.table.now c.requires.stands;
+  held = c.requires.held;
   items = [];
   reads = λ more. refl;
   counted = refl;
@@ -61,6 +62,7 @@ items-preserved g c =
     c.next.follows.holds-at-none.first in
     record {
       keeps = Keeps-then _ _ _ _ _ _ _ c.items.invariant.keeps c.take.ensures.keeps;
+      held = c.in_default.ensures.held;
       items = c.items.invariant.items ++ item_of c.in-Ok-Some.item ∷ [];
       reads = reads_more _ _ _ _ _ c.items.invariant.reads took;
       counted = length-append c.items.invariant.items (item_of c.in-Ok-Some.item ∷ [])

@@ -1,6 +1,7 @@
 use Rattle.std.proofs.Common.{◌≡◌, List, [], length}
 use Rattle.stream_lex.specs.Items.{Item}
 use Rattle.stream_lex.specs.Running.{more_of}
+use Rattle.import_session.specs.Held.{FilesStand}
 use Rattle.import_session.specs.Lent.{Keeps}
 use Rattle.import_session.specs.Session.{running_in}
 use Rattle.import_session.specs.Sound.{IsSound}
@@ -11,6 +12,7 @@ use Rattle.tenant_stream.proofs.stream.carry.Given as goal
 abbrev pub invariant-items : goal.invariant-items
 invariant-items g l = record {
   keeps : Keeps g.N.Naming.digest_of l.fn.pool l.fn.table l.pool l.table;
+  held : FilesStand l.session.own l.pool l.table;
   items : List Item;
   reads : ReadsOn l.fn.lexer.tail items l.lexer.tail;
   counted : length items ≡ l.count;

@@ -62,6 +62,6 @@ returns g c =
     (seen (g.W.Write.contents (device_of c.write_replies.new.writer)) c.write_replies.new.writer))
     c.self.view_is
     (passes_on _ old _ _ _ _ new _ (fed_of _ old _ _ _ _ _ ready running (c.feed-fed.ensures.feeds ready.sound))
-    (c.feed-fed.ensures.sound ready.sound)
+    (c.feed-fed.ensures.sound ready.sound) c.feed-fed.ensures.held
     (ready_then _ old new ready c.feed-fed.ensures.keeps.stands c.feed-fed.ensures.keeps.others c.in_ok-write_replies.ensures.emptied)
     c.in_ok-write_replies.ensures.written c.in_ok-write_replies.ensures.well))

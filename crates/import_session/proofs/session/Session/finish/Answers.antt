@@ -1,8 +1,14 @@
 use Rattle.std.proofs.Common.{subst, sym, rules}
+use Rattle.import_session.specs.Held.{FilesStand}
 use Rattle.import_session.specs.Session.{Kept, workspace_in}
 use Rattle.import_session.specs.Sound.{IsSound}
 use Rattle.import_session.specs.Stream.{session_end}
 use Rattle.import_session.proofs.session.Session.finish.Goals as goal
+
+pub save_at_end-requires-clause-held : goal.save_at_end-requires-clause-held
+save_at_end-requires-clause-held g c =
+    subst (λ (k : Kept). FilesStand k.own c.args.pool.now c.args.table.now) (sym c.self.view_is)
+    c.requires.held
 
 pub returns-clause-ended : goal.returns-clause-ended
 unfolding session_end

@@ -5,9 +5,15 @@ use Rattle.stream_grammar.specs.Commands.{Parsing, done_by, after}
 use Rattle.import_session.specs.declared.fault.Fault.{Fault}
 use Rattle.import_session.specs.Stream.{Step, step, taken}
 use Rattle.import_session.specs.Sound.{IsSound}
+use Rattle.import_session.specs.Held.{FilesStand}
 use Rattle.import_session.specs.Session.{Kept, Takes, own_shown, running_in, workspace_in}
 use Rattle.import_session.proofs.ActLemmas.{done_step, step_over, step_running, no_act, item_refused, item_taken, no_memory}
 use Rattle.import_session.proofs.session.Session.take.Goals as goal
+
+pub carry_out_done-requires-clause-held : goal.carry_out_done-requires-clause-held
+carry_out_done-requires-clause-held g c =
+    subst (λ (k : Kept). FilesStand k.own c.args.pool.now c.args.table.now) (sym c.self.view_is)
+    c.requires.held
 
 pub returns-then-is_done-clause-taken : goal.returns-then-is_done-clause-taken
 returns-then-is_done-clause-taken g c sound =

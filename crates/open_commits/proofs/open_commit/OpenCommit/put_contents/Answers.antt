@@ -7,5 +7,6 @@ returns-in_default g c = record {
   room = c.put_blob.ensures.room;
   adds = c.put_blob.ensures.adds;
   done = rw (contents-put _ _ _ _ _ _ c.in_default.not-Gitlink c.in_default.not-Directory) c.put_blob.ensures.done;
+  held = c.put_blob.ensures.held;
   same = c.put_blob.ensures.same;
 }

@@ -4,4 +4,4 @@ use Rattle.open_commits_tests.proofs.repository.Repository.new.Goals as goal
 
 pub invariant_of-result : goal.invariant_of-result
 invariant_of-result g c =
-    (stands-none g.N.Naming.digest_of _ _ c.new-2.ensures.entries, room-none _ _ c.new.ensures)
+    (stands-none g.N.Naming.digest_of _ _ c.new-2.ensures.entries, room-none _ _ c.new.ensures, tt)

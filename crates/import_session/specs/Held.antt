@@ -1,0 +1,23 @@
+-- The files that a session holds: those of the open commit, and those that the last one left.
+use Rattle.std.specs.Prelude.{◌≡◌, List, IfSome}
+use Rattle.git_model.specs.Repository.{Object}
+use Rattle.content_pool.specs.Pool.{Cells}
+use Rattle.tenant_tables.specs.Objects.{objects}
+use Rattle.tenant_tables.specs.View.{View}
+use Rattle.branch_trees.specs.Branch.{IsBranch}
+use Rattle.open_commits.specs.OpenCommit.{Stands}
+use Rattle.import_session.specs.Session.{Own}
+
+-- Both stand among the objects: each tree that they name is one of them.
+pub record HoldsFiles (os : List Object) (own : Own) : Type 0 where
+  pub commit : IfSome own.commit (Stands os)
+  pub left : IfSome own.left (IsBranch os)
+
+-- The same among those of a table over a pool.
+abbrev pub FilesStand : Own → Cells → View → Type 0
+FilesStand own pool table = HoldsFiles (objects pool table.entries) own
+
+-- What a call leaves of them that changes neither.
+pub record KeepsFiles (old new : Own) : Type 0 where
+  pub commit : new.commit ≡ old.commit
+  pub left : new.left ≡ old.left
