@@ -1,0 +1,139 @@
+"""Asks queries over the history of bench/history/make_history, through frames, and git the same, in one run; prints the best
+of some rounds: measure.py PROGRAM [ROUNDS [COMMITS]].
+
+The answers have to be git's, an export aside, whose refs `git fast-import` has to set as they are. Our times are from the
+first frame of the queries to the last answer, in a process that has taken the history; git's are of a process that starts,
+reads its pack and prints."""
+import os
+import random
+import struct
+import subprocess
+import sys
+import tempfile
+import threading
+import time
+
+program = os.path.abspath(sys.argv[1])
+rounds = int(sys.argv[2]) if len(sys.argv) > 2 else 3
+commits = int(sys.argv[3]) if len(sys.argv) > 3 else 5000
+here = os.path.dirname(os.path.abspath(__file__))
+BRANCH = b"refs/heads/b0"
+OBJECTS, PLACES = 20_000, 5_000
+OPEN, FEED, END, ASK = 1, 2, 3, 4
+ANSWER = struct.Struct(">BQQ")
+PIECE = 1 << 20
+GIT = ["git", "-c", "core.compression=0", "-c", "pack.compression=0"]
+
+
+def frame(kind, body=b""):
+    return struct.pack(">BH", kind, 1) + b"t" + struct.pack(">I", len(body)) + body
+
+
+class Frames:
+    """A process of gitpool_frames that takes frames."""
+
+    def __init__(self):
+        self.process = subprocess.Popen([program, "sha1"], stdin=subprocess.PIPE, stdout=subprocess.PIPE)
+
+    def take(self, frames):
+        """The replies to frames, all of which have to be answered well, and the seconds up to the last of them. They are sent
+        by a thread, so that neither pipe fills up while the other waits."""
+        sent = threading.Thread(target=self.send, args=(b"".join(frames),))
+        start = time.perf_counter()
+        sent.start()
+        replies = [self.reply() for _ in frames]
+        took = time.perf_counter() - start
+        sent.join()
+        return replies, took
+
+    def send(self, bytes_):
+        self.process.stdin.write(bytes_)
+        self.process.stdin.flush()
+
+    def reply(self):
+        status, value, size = ANSWER.unpack(self.process.stdout.read(ANSWER.size))
+        assert status == 0, f"a frame is answered by {status}, {value}"
+        return self.process.stdout.read(size)
+
+    def end(self):
+        self.process.stdin.close()
+        assert self.process.wait() == 0
+
+
+def git(folder, *words, given=b""):
+    """What git prints, and its seconds."""
+    start = time.perf_counter()
+    done = subprocess.run([*GIT, "-C", folder, *words], input=given, capture_output=True, check=True)
+    return done.stdout, time.perf_counter() - start
+
+
+def fresh(folder, name, stream):
+    """A bare repository that git fast-import filled."""
+    path = os.path.join(folder, name)
+    subprocess.run(["git", "init", "-q", "--bare", path], check=True)
+    git(path, "fast-import", "--quiet", given=stream)
+    return path
+
+
+def chosen(path):
+    """Names of objects, and places in commits, drawn at random, but the same ones in each run."""
+    draw = random.Random(7)
+    names = sorted(it.split(b" ")[0] for it in git(path, "rev-list", "--objects", "--all")[0].splitlines())
+    objects = draw.choices(names, k=OBJECTS)
+    back = commits * 4 // 5
+    files = git(path, "ls-tree", "-r", "--name-only", "%s~%d" % (BRANCH.decode(), back))[0].splitlines()
+    places = [b"%s~%d:%s" % (BRANCH, draw.randrange(back), draw.choice(files)) for _ in range(PLACES)]
+    return objects, places
+
+
+def lines(all_of_them):
+    return b"".join(it + b"\n" for it in all_of_them)
+
+
+def ours(process, queries):
+    replies, took = process.take([frame(ASK, it) for it in queries])
+    return b"".join(replies), took
+
+
+def compare(what, count, own, other, is_same):
+    """Prints the best times of the rounds, and returns what was printed here. One round's answers are kept at a time."""
+    best, told = [float("inf")] * 2, [b"", b""]
+    for _ in range(rounds):
+        for place, once in enumerate((own, other)):
+            told[place] = b""
+            told[place], took = once()
+            best[place] = min(best[place], took)
+        assert told[0] == told[1] or not is_same, f"{what}: other answers"
+    size = len(told[0])
+    print(f"{what}: {count} answers, {size / 1e6:.1f} MB; gitpool {best[0]:.3f} s, {best[0] / count * 1e6:.1f} us each,"
+          f" {size / best[0] / 1e9:.3f} GB/s; git {best[1]:.3f} s, {len(told[1]) / 1e6:.1f} MB;"
+          f" {best[1] / best[0]:.2f} times as fast", flush=True)
+    return told[0]
+
+
+def main():
+    made = [os.path.join(here, "..", "history", "make_history"), "--commits", str(commits)]
+    stream = subprocess.run(made, check=True, capture_output=True).stdout
+    with tempfile.TemporaryDirectory() as folder:
+        path = fresh(folder, "git", stream)
+        process = Frames()
+        pieces = [stream[at : at + PIECE] for at in range(0, len(stream), PIECE)]
+        process.take([frame(OPEN), *(frame(FEED, it) for it in pieces), frame(END)])
+        objects, places = chosen(path)
+        asked = {
+            "cat": ([b"cat " + it for it in objects], ["cat-file", "--batch"], lines(objects)),
+            "rev-parse": ([b"rev-parse " + it for it in places], ["cat-file", "--batch-check=%(objectname)"], lines(places)),
+            "log": ([b"log " + BRANCH], ["log", "--format=%H %s", BRANCH.decode()], b""),
+            "export": ([b"export"], ["fast-export", "--all"], b""),
+        }
+        for what, (queries, words, given) in asked.items():
+            own, other = (lambda: ours(process, queries)), (lambda: git(path, *words, given=given))
+            told = compare(what, len(queries), own, other, what != "export")
+        read = fresh(folder, "export", told)
+        refs = [git(it, "for-each-ref")[0] for it in (path, read)]
+        assert refs[0] == refs[1], "the export has other refs"
+        process.end()
+    print(f"load {os.getloadavg()[0]:.1f}")
+
+
+main()
