@@ -1,59 +1,92 @@
--- The file of one blob `ab`, held by the tenant `t`, in version 1 and under the naming by the tail.
-use Rattle.std.proofs.Common.{◌≡◌, ℕ, List, [], ◌∷◌, ◌++◌, length, take, drop, Ok, Err, refl}
-use Rattle.std.specs.Prelude.{replicate}
+-- A file of one tenant with one blob passes, so its repository can be saved.
+use Rattle.std.proofs.Common.{ℕ, zero, suc, ◌<◌, List, [], ◌∷◌, codes, None, refl, inl, inr, arith}
+use Rattle.std.specs.List.{IsDistinct}
+use Rattle.std.proofs.lemmas.List.Elements.{All-nil, All-cons}
+use Rattle.git_names.specs.Naming.{AnswersNames}
+use Rattle.git_model.specs.declared.kind.Kind.TheVariants as kind
+use Rattle.git_model.specs.Content.{content_from}
+use Rattle.git_model.specs.References.{object_at}
 use Rattle.git_model.specs.RefStore.{first_head}
-use Rattle.git_names.specs.Naming.{tail_digest}
-use Rattle.pool_file.specs.declared.refusal.Refusal.TheVariants as refusal
-use Rattle.pool_file.specs.Format.{RawFile, raw_text}
-use Rattle.pool_file.specs.Lengths.{by_lengths, body_at, bytes_at, number_at, sized_at, many_at, counted_at, byte_at, object_at, ref_at, head_at, tenant_at, expected_at, front_at, version_at, end_at}
+use Rattle.git_model.specs.GoodRepository.{StandsBefore}
+use Rattle.git_model.proofs.GoodRefs.{no_refs_are}
+use Rattle.tenant_refs.specs.TenantName.{is_tenant_name}
+use Rattle.tenant_refs.proofs.Names.{is_tenant_name-Decides}
+use Rattle.pool_file_text.specs.Format.{RawTenant, RawFile, FitsTenant, FitsFile}
+use Rattle.pool_file_checks.specs.Checks.{Passes}
+use Rattle.pool_file_checks.specs.Own.{content_at, objects_in, own_objects}
+use Rattle.pool_file_checks.specs.Connecting.{AreConnected}
+use Rattle.pool_file_checks.specs.FileRefs.{AreRising}
+use Rattle.pool_file_checks.specs.Tenants.{IsNameIn}
+use Rattle.pool_file_checks.specs.Held.{AreHeld}
+use Rattle.pool_file_checks.specs.Whole.{one_tenant_checks, file_checks}
+use Rattle.pool_file.specs.Saved.{saved_in}
+use Rattle.pool_file.specs.Saving.{CanSave}
+use Rattle.pool_file.proofs.Savable.{can_save}
+use Rattle.pool_file.proofs.Passing.{Holds, passes_one, passes_both, passes_all}
+
+abbrev tenant : RawTenant
+tenant = record { name = codes "a"; numbers = 0 ∷ []; refs = []; head = first_head }
 
 abbrev one_blob : RawFile
 one_blob = record {
-  version = 1;
-  objects = record { kind = 3; bytes = 0x61 ∷ 0x62 ∷ [] } ∷ [];
-  tenants = record { name = 0x74 ∷ []; numbers = 0 ∷ []; refs = []; head = first_head } ∷ [];
+  version = 2;
+  objects = (record { kind = 3; bytes = codes "x" }) ∷ [];
+  tenants = tenant ∷ [];
 }
 
-abbrev zeros : ℕ → List ℕ
-zeros n = replicate n 0
+name_is : IsNameIn 2 (codes "a")
+unfolding is_tenant_name
+name_is = record { name = (is_tenant_name-Decides (codes "a")).0 refl; one_part = λ no. cc }
 
-abbrev body : List ℕ
-body = 0x67 ∷ 0x69 ∷ 0x74 ∷ 0x70 ∷ 0x6f ∷ 0x6f ∷ 0x6c ∷ 0x0a ∷ zeros 3 ++ (1 ∷ zeros 7 ++ (1 ∷ 3 ∷ zeros 7 ++ (2 ∷ 0x61 ∷ 0x62 ∷ zeros 7
-    ++ (1 ∷ 0 ∷ 1 ∷ 0x74 ∷ zeros 7 ++ (1 ∷ zeros 16)))))
+connected : (digest : List ℕ → List ℕ) → AreConnected (own_objects digest one_blob.objects (0 ∷ []))
+unfolding object_at objects_in content_at
+connected digest zero l = All-nil (StandsBefore (own_objects digest one_blob.objects (0 ∷ [])) 0)
+connected digest (suc i) l = absurd (omega (arith, l))
 
-abbrev whole : List ℕ
-whole = body ++ (replicate 19 0xab ++ 0x49 ∷ [])
+held : AreHeld 1 (0 ∷ [])
+held zero l = (0, omega arith, refl)
+held (suc n) l = absurd (omega (arith, l))
 
-has_66_bytes : length body ≡ 66
-has_66_bytes = refl
+holds_one : (digest : List ℕ → List ℕ) → Holds digest 2 one_blob.objects tenant
+unfolding IsDistinct AreRising objects_in content_at
+holds_one digest = record {
+  name = name_is;
+  worth = inl (λ no. cc);
+  numbers = All-cons (λ n. n < 1) 0 [] (omega arith) (All-nil (λ n. n < 1));
+  few = omega arith;
+  few_refs = omega arith;
+  distinct = (tt, tt);
+  connected = connected digest;
+  trees = (tt, tt);
+  refs = λ k d no. absurd (omega (arith, no));
+  rising = tt;
+  places = λ k d no. absurd (omega (arith, no));
+  head = (no_refs_are []).head;
+}
 
-is_its_text : raw_text tail_digest one_blob ≡ whole
-is_its_text = refl
+pub one_blob_passes : (digest : List ℕ → List ℕ) → Passes (file_checks digest one_blob)
+one_blob_passes digest = passes_all digest one_blob (record {
+  objects = ((content_from kind.Blob (codes "x"), refl, (omega arith, tt)), (tt, tt));
+  tenants = passes_both (one_tenant_checks digest 2 one_blob.objects None tenant) []
+      (passes_one digest 2 one_blob.objects None tenant tt (holds_one digest)) tt;
+  held = held;
+})
 
-is_read : by_lengths whole ≡ Ok ((one_blob, replicate 19 0xab ++ 0x49 ∷ []), [])
-unfolding by_lengths body_at bytes_at number_at sized_at many_at counted_at byte_at object_at ref_at head_at tenant_at expected_at front_at version_at end_at
-is_read = refl
+tenant_fits : FitsTenant 2 tenant
+tenant_fits = record {
+  name = omega arith;
+  numbers = (omega arith, (omega arith, tt));
+  refs = (omega arith, tt);
+  head = omega arith;
+}
 
--- Without its last byte it is cut off.
-lacks_one : by_lengths (take 85 whole) ≡ Err refusal.CutOff
-unfolding by_lengths body_at bytes_at number_at sized_at many_at counted_at byte_at object_at ref_at head_at tenant_at expected_at front_at version_at end_at
-lacks_one = refl
-
--- As a file of version 2 it lacks the HEAD's length.
-in_version_2 : by_lengths (take 11 whole ++ 2 ∷ drop 12 whole) ≡ Err refusal.CutOff
-unfolding by_lengths body_at bytes_at number_at sized_at many_at counted_at byte_at object_at ref_at head_at tenant_at expected_at front_at version_at end_at
-in_version_2 = refl
-
--- The first bytes are looked at one by one.
-git_x : by_lengths (0x67 ∷ 0x69 ∷ 0x74 ∷ 0x78 ∷ []) ≡ Err refusal.NoPoolFile
-unfolding by_lengths body_at byte_at expected_at front_at
-git_x = refl
-
-git_p : by_lengths (0x67 ∷ 0x69 ∷ 0x74 ∷ 0x70 ∷ []) ≡ Err refusal.CutOff
-unfolding by_lengths body_at byte_at expected_at front_at
-git_p = refl
-
--- One byte more stands behind the digest.
-has_one_more : by_lengths (whole ++ 0 ∷ []) ≡ Err refusal.TrailingBytes
-unfolding by_lengths body_at bytes_at number_at sized_at many_at counted_at byte_at object_at ref_at head_at tenant_at expected_at front_at version_at end_at
-has_one_more = refl
+pub one_blob_is_saved : (digest : List ℕ → List ℕ) → AnswersNames digest
+    → CanSave 2 digest (saved_in digest one_blob)
+one_blob_is_saved digest names = can_save digest one_blob names fits (one_blob_passes digest)
+  where
+    fits : FitsFile one_blob
+    fits = record {
+      version = inr refl;
+      objects = (omega arith, (record { kind = omega arith; bytes = omega arith }, tt));
+      tenants = (omega arith, (tenant_fits, tt));
+    }

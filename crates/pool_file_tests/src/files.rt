@@ -2,7 +2,7 @@
 
 use byte_devices::{Counted, DeviceFault, FailingReader, FailingWriter};
 use git_names::TailNaming;
-use pool_file::{Fault, RawFile, read_sealed, write_sealed};
+use pool_file_text::{Fault, RawFile, read_sealed, write_sealed};
 use std::alloc::Global;
 use std::io::Read;
 

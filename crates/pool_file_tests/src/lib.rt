@@ -8,4 +8,10 @@ mod objects;
 #[cfg(test)]
 mod own;
 #[cfg(test)]
+mod references;
+#[cfg(test)]
+mod sums;
+#[cfg(test)]
 mod tenants;
+#[cfg(test)]
+mod whole;

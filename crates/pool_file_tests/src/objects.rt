@@ -1,6 +1,7 @@
 //! Objects of pool files, judged in turn.
 
-use pool_file::{Fault, RawObject, check_objects};
+use pool_file_checks::check_objects;
+use pool_file_text::{Fault, RawObject};
 use std::alloc::Global;
 
 // Objects, each with the byte of its kind, and the number of the refusal, 0 for none.

@@ -2,7 +2,8 @@
 
 use git_names::{Name, Naming, Sha1Naming, TailNaming};
 use indexmap::IndexMap;
-use pool_file::{Fault, RawObject, index_objects, name_objects};
+use pool_file_checks::{index_objects, name_objects};
+use pool_file_text::{Fault, RawObject};
 use std::alloc::Global;
 
 // The byte of a kind, contents, and the digits that `git hash-object` gave.

@@ -1,8 +1,7 @@
 //! Tenants of pool files, judged check by check.
 
-use pool_file::{
-    Fault, RawObject, RawRef, RawTenant, check_held, check_name, check_numbers, check_refs,
-};
+use pool_file_checks::{check_held, check_name, check_numbers, check_refs};
+use pool_file_text::{Fault, RawObject, RawRef, RawTenant};
 use std::alloc::Global;
 
 const MAIN: &[u8] = b"refs/heads/main";

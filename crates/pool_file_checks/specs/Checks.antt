@@ -1,0 +1,26 @@
+-- Checks in their order, each with the refusal where it fails.
+use Rattle.std.specs.Prelude.{◌≡◌, ◌⊎◌, List, [], ◌∷◌, Result, Ok, Err}
+use Rattle.pool_file_text.specs.declared.refusal.Refusal.{Refusal}
+use Rattle.pool_file_text.specs.declared.fault.Fault.{Fault}
+use Rattle.pool_file_text.specs.declared.fault.Fault.TheVariants as fault
+
+-- What must hold, in order, each with the refusal where it does not.
+abbrev pub Checks : Type 1
+Checks = List (Type 0 × Refusal)
+
+-- All hold.
+abbrev pub Passes : Checks → Type 0
+Passes [] = Unit {0}
+Passes (c ∷ cs) = c.0 × Passes cs
+
+-- The first that does not hold refuses so.
+abbrev pub Refuses : Checks → Refusal → Type 0
+Refuses [] r = ⊥
+Refuses (c ∷ cs) r = ((c.0 → ⊥) × (r ≡ c.1)) ⊎ (c.0 × Refuses cs r)
+
+-- What a call answers that makes checks; memory may run out in place of any answer.
+abbrev pub Checked : Checks → Result Unit Fault → Type 0
+Checked cs (Ok u) = Passes cs
+Checked cs (Err (fault.Refused r)) = Refuses cs r
+Checked cs (Err fault.Memory) = Unit {0}
+Checked cs (Err fault.Device) = ⊥

@@ -1,0 +1,11 @@
+-- In reading order.
+pub mod Checks
+pub mod Objects
+pub mod Own
+pub mod Indexing
+pub mod Connecting
+pub mod Sums
+pub mod Tenants
+pub mod FileRefs
+pub mod Held
+pub mod Whole

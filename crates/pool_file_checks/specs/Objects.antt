@@ -1,0 +1,63 @@
+-- Which objects a file may say, and in which order: git-fsck(1), the validity of objects; limits and
+-- the order are this service's own.
+use Rattle.std.specs.Prelude.{◌≡◌, ℕ, ◌≤◌, List, [], ◌∷◌, length, Option, None, Some}
+use Rattle.std.specs.Ordering.{nat_cmp}
+use Rattle.std.specs.Cmp.Lexicographic.{slice_cmp}
+use Rattle.std.specs.declared.cmp.Ordering.TheVariants.{Less}
+use Rattle.git_model.specs.declared.kind.Kind.{Kind}
+use Rattle.git_model.specs.declared.kind.Kind.TheVariants as kind
+use Rattle.git_model.specs.Tree.{TreeEntry, CanWriteTree, tree_contents}
+use Rattle.git_model.specs.Commit.{Commit}
+use Rattle.git_model.specs.Tag.{Tag}
+use Rattle.git_model.specs.Content.{Content}
+use Rattle.git_model.specs.GoodRepository.{IsCommit, IsTag, contents_limit}
+use Rattle.pool_file_text.specs.declared.refusal.Refusal.TheVariants as refusal
+use Rattle.pool_file_text.specs.Format.{RawObject}
+use Rattle.pool_file_checks.specs.Checks.{Checks}
+
+-- The byte of a kind.
+abbrev pub kind_byte : Kind → ℕ
+kind_byte kind.Commit = 1
+kind_byte kind.Tree = 2
+kind_byte kind.Blob = 3
+kind_byte kind.Tag = 4
+
+-- Bytes are a tree's where they are the contents of entries that can be written.
+pub record IsTreeText (bytes : List ℕ) (es : List TreeEntry) : Type 0 where
+  pub writable : CanWriteTree es
+  pub contents : bytes ≡ tree_contents es
+
+-- Bytes write an object of a kind, whatever else there is. All bytes are a blob's.
+abbrev pub IsText : Kind → List ℕ → Type 0
+IsText kind.Blob bytes = Unit {0}
+IsText kind.Tree bytes = (es : List TreeEntry) × IsTreeText bytes es
+IsText kind.Commit bytes = (c : Commit) × IsCommit bytes c
+IsText kind.Tag bytes = (t : Tag) × IsTag bytes t
+
+abbrev pub IsContent : Content → Type 0
+IsContent c = (length c.bytes ≤ contents_limit) × IsText c.kind c.bytes
+
+-- An object in the file.
+abbrev pub raw_object : Content → RawObject
+raw_object c = record { kind = kind_byte c.kind; bytes = c.bytes }
+
+-- The byte is that of a kind, and the bytes are contents of it.
+abbrev pub CanStore : RawObject → Type 0
+CanStore o = (c : Content) × (o ≡ raw_object c) × IsContent c
+
+-- Objects compare by the byte of their kind, and then by their bytes.
+abbrev pub object_key : RawObject → List ℕ
+object_key o = o.kind ∷ o.bytes
+
+-- Texts rise, each behind the one before it.
+abbrev pub IsBehind : Option (List ℕ) → List ℕ → Type 0
+IsBehind None text = Unit {0}
+IsBehind (Some last) text = slice_cmp nat_cmp last text ≡ Less
+
+-- Each object in turn can be stored, and comes behind the one before it.
+abbrev pub object_checks : Option (List ℕ) → List RawObject → Checks
+object_checks last [] = []
+object_checks last (o ∷ os) =
+    (CanStore o, refusal.BadObject)
+    ∷ (IsBehind last (object_key o), refusal.NotCanonical)
+    ∷ object_checks (Some (object_key o)) os

@@ -1,0 +1,17 @@
+//! The order of texts.
+
+ghost use Rattle.std.specs.Prelude.{◌↔◌, IsTrue};
+ghost use Rattle.std.specs.Option.{option_map};
+ghost use Rattle.pool_file_checks.specs.Objects.{IsBehind};
+
+use std::cmp::Ordering;
+
+/// Whether a text comes behind the one before it, if there is one.
+pub fn is_behind(last: Option<&[u8]>, text: &[u8]) -> bool
+    ensures { IsTrue result ↔ IsBehind (option_map (λ o. o.now) last.entry) text.now }
+{
+    match last {
+        None => true,
+        Some(last) => last.cmp(text) == Ordering::Less,
+    }
+}

@@ -1,0 +1,52 @@
+//! The objects of one tenant, under their names.
+
+ghost use Rattle.std.specs.Prelude.{◌<◌, [], length, All, slice_index_or};
+ghost use Rattle.pool_file_checks.specs.Own.{rows_of};
+ghost use Rattle.pool_file_checks.specs.Indexing.{Adds, Indexes};
+ghost use Rattle.pool_file_text.specs.Taking.{shown};
+
+use git_names::Name;
+use indexmap::IndexMap;
+use pool_file_text::{Fault, Refusal};
+use std::alloc::Global;
+
+// Adds the number of an object under its name, unless another object has it.
+fn add_number(index: &mut IndexMap<Name, usize>, id: Name, number: usize) -> Result<(), Fault>
+    ensures { Adds index.old.entries id number result index.new.entries }
+{
+    if index.insert(id, number)?.is_some() {
+        return Err(Fault::Refused(Refusal::NotCanonical));
+    }
+    Ok(())
+}
+
+// Adds the object of a number.
+fn add_object(index: &mut IndexMap<Name, usize>, names: &[Name], number: u64) -> Result<(), Fault>
+    ensures { number < length names.now
+        → Adds index.old.entries (slice_index_or names.now number []) number result index.new.entries }
+{
+    let number = number as usize;
+    match names.get(number) {
+        Some(id) => add_number(index, *id, number),
+        None => Err(Fault::Refused(Refusal::NotCanonical)),
+    }
+}
+
+/// The numbers of a tenant's objects under their names, in the order in which the tenant has them.
+///
+/// `NotCanonical` (64) for two objects of one name, whatever their contents; `Memory` (90) where
+/// there is no room for them.
+pub fn index_objects(
+    alloc: Global,
+    names: &[Name],
+    numbers: &[u64],
+) -> Result<IndexMap<Name, usize>, Fault>
+    ensures { All (λ n. n < length names.now) numbers.now
+        → Indexes (rows_of names.now numbers.now) (shown (λ index. index.entries) result) }
+{
+    let mut index = IndexMap::new(alloc);
+    for number in numbers {
+        add_object(&mut index, names, *number)?;
+    }
+    Ok(index)
+}

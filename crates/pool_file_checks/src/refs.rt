@@ -1,0 +1,94 @@
+//! The checks of a tenant's refs and HEAD, in their order.
+
+ghost use Rattle.std.specs.Prelude.{◌↔◌, ◌<◌, map, IfOk, IsTrue, All, None};
+ghost use Rattle.pool_file_checks.specs.Checks.{Checked};
+ghost use Rattle.pool_file_checks.specs.FileRefs.{IsGoodRef, AreRising, ref_checks};
+ghost use Rattle.pool_file_text.specs.Shown.{objects_of, ref_of, refs_of, tenant_of};
+
+use crate::order::is_behind;
+use crate::targets::{is_short_ref_name, may_stand, target_at};
+use git_objects::Memory;
+use pool_file_text::{Fault, RawObject, RawRef, RawTenant, Refusal};
+use std::alloc::Global;
+use tenant_refs::namespaces;
+
+fn is_good_ref(
+    alloc: Global,
+    front: &[u8],
+    objects: &[RawObject],
+    numbers: &[u64],
+    one: &RawRef,
+) -> Result<bool, Memory>
+    ensures { IfOk result (λ b. IsTrue b
+        ↔ IsGoodRef front.now (objects_of objects.now) numbers.now (ref_of one.now)) }
+{
+    match one.name.as_slice().strip_prefix(front) {
+        Some(name) => may_stand(alloc, name, target_at(objects, numbers, one.place)),
+        None => Ok(false),
+    }
+}
+
+fn are_good_refs(
+    alloc: Global,
+    front: &[u8],
+    objects: &[RawObject],
+    numbers: &[u64],
+    refs: &[RawRef],
+) -> Result<bool, Memory>
+    ensures { IfOk result (λ b. IsTrue b
+        ↔ All (IsGoodRef front.now (objects_of objects.now) numbers.now) (refs_of refs.now)) }
+{
+    for one in refs {
+        if !is_good_ref(alloc, front, objects, numbers, one)? {
+            return Ok(false);
+        }
+    }
+    Ok(true)
+}
+
+fn are_rising(refs: &[RawRef]) -> bool
+    ensures { IsTrue result ↔ AreRising None (map (λ r. r.name) (refs_of refs.now)) }
+{
+    let mut last: Option<&[u8]> = None;
+    for one in refs {
+        if !is_behind(last, &one.name) {
+            return false;
+        }
+        last = Some(one.name.as_slice());
+    }
+    true
+}
+
+// Whether each ref has one of so many places.
+fn are_placed(count: u64, refs: &[RawRef]) -> bool
+    ensures { IsTrue result ↔ All (λ r. r.place < count) (refs_of refs.now) }
+{
+    refs.iter().all(|one| one.place < count)
+}
+
+/// Judges the refs and HEAD of a tenant, where the file has these objects.
+///
+/// `Refused` with the first thing that is wrong: `BadRef` (67) for a ref outside of the tenant's
+/// namespaces, of a bad name or one above 1,024 bytes, or to a target that is neither a commit nor
+/// the tag whose own name the ref has; `NotCanonical` (64) for one that does not come behind the ref
+/// before it; `MissingReference` (66) for a place that the tenant has no object at; and `BadRef` for a
+/// HEAD of a bad name. Each is looked for in all refs before the next. `Memory` (90) where there is
+/// no room to read a tag.
+pub fn check_refs(alloc: Global, objects: &[RawObject], tenant: &RawTenant) -> Result<(), Fault>
+    ensures { Checked (ref_checks (objects_of objects.now) (tenant_of tenant.now)) result }
+{
+    let front = namespaces(alloc, &tenant.name)?;
+    if !are_good_refs(alloc, &front, objects, &tenant.numbers, &tenant.refs)? {
+        return Err(Fault::Refused(Refusal::BadRef));
+    }
+    if !are_rising(&tenant.refs) {
+        return Err(Fault::Refused(Refusal::NotCanonical));
+    }
+    if !are_placed(tenant.numbers.as_slice().len() as u64, &tenant.refs) {
+        return Err(Fault::Refused(Refusal::MissingReference));
+    }
+    if !is_short_ref_name(&tenant.head) {
+        return Err(Fault::Refused(Refusal::BadRef));
+    }
+    Ok(())
+}

@@ -1,0 +1,166 @@
+//! What the objects of tenants refer to.
+
+use git_names::{Naming, Sha1Naming, TailNaming};
+use pool_file_checks::{check_references, index_objects, name_objects};
+use pool_file_text::{Fault, RawObject};
+use std::alloc::Global;
+
+// The byte of a kind, and contents. The names in them are those that `git hash-object` gave.
+type Object<'a> = (u8, &'a [u8]);
+
+const OBJECTS: &[Object<'static>] = &[
+    (3, b"hello\n"),
+    (2, b""),
+    // The first as a file, and as a directory.
+    (
+        2,
+        b"100644 a\0\xce\x016%\x03\x0b\xa8\xdb\xa9\x06\xf7V\x96\x7f\x9e\x9c\xa3\x94FJ",
+    ),
+    (
+        2,
+        b"40000 a\0\xce\x016%\x03\x0b\xa8\xdb\xa9\x06\xf7V\x96\x7f\x9e\x9c\xa3\x94FJ",
+    ),
+    // The empty tree as a file, and the first as a commit of another repository.
+    (
+        2,
+        b"100644 a\0K\x82]\xc6B\xcbn\xb9\xa0`\xe5K\xf8\xd6\x92\x88\xfb\xeeI\x04",
+    ),
+    (
+        2,
+        b"160000 a\0\xce\x016%\x03\x0b\xa8\xdb\xa9\x06\xf7V\x96\x7f\x9e\x9c\xa3\x94FJ",
+    ),
+    // A commit of the empty tree, and one behind it.
+    (
+        1,
+        b"tree 4b825dc642cb6eb9a060e54bf8d69288fbee4904\nauthor A <a@b> 0 +0000\ncommitter A <a@b> 0 +0000\n\nx\n",
+    ),
+    (
+        1,
+        b"tree 4b825dc642cb6eb9a060e54bf8d69288fbee4904\nparent 7b8051db3dcc0fcfd006919cfa7376ddbd7bdc1a\nauthor A <a@b> 0 +0000\ncommitter A <a@b> 0 +0000\n\nx\n",
+    ),
+    // One whose tree is a blob, and one whose parent is a tree.
+    (
+        1,
+        b"tree ce013625030ba8dba906f756967f9e9ca394464a\nauthor A <a@b> 0 +0000\ncommitter A <a@b> 0 +0000\n\nx\n",
+    ),
+    (
+        1,
+        b"tree 4b825dc642cb6eb9a060e54bf8d69288fbee4904\nparent 4b825dc642cb6eb9a060e54bf8d69288fbee4904\nauthor A <a@b> 0 +0000\ncommitter A <a@b> 0 +0000\n\nx\n",
+    ),
+    // The first commit as the target of a tag, and as a blob that has one.
+    (
+        4,
+        b"object 7b8051db3dcc0fcfd006919cfa7376ddbd7bdc1a\ntype commit\ntag v\n\n",
+    ),
+    (
+        4,
+        b"object 7b8051db3dcc0fcfd006919cfa7376ddbd7bdc1a\ntype blob\ntag v\n\n",
+    ),
+];
+
+const BLOB: u64 = 0;
+
+const TREE: u64 = 1;
+
+const OF_FILE: u64 = 2;
+
+const FILE_AS_DIRECTORY: u64 = 3;
+
+const TREE_AS_FILE: u64 = 4;
+
+const OF_GITLINK: u64 = 5;
+
+const COMMIT: u64 = 6;
+
+const CHILD: u64 = 7;
+
+const COMMIT_OF_BLOB: u64 = 8;
+
+const CHILD_OF_TREE: u64 = 9;
+
+const TAG: u64 = 10;
+
+const TAG_OF_BLOB: u64 = 11;
+
+// The numbers of a tenant's objects, and the number of the refusal, 0 for none.
+type Row<'a> = (&'a [u64], u16);
+
+const ROWS: &[Row<'static>] = &[
+    (&[], 0),
+    (&[BLOB], 0),
+    // What an entry names is missing, behind, or of another kind; a gitlink names nothing here.
+    (&[BLOB, OF_FILE], 0),
+    (&[OF_FILE], 66),
+    (&[OF_FILE, BLOB], 66),
+    (&[BLOB, FILE_AS_DIRECTORY], 66),
+    (&[TREE, TREE_AS_FILE], 66),
+    (&[OF_GITLINK], 0),
+    // The tree of a commit.
+    (&[TREE, COMMIT], 0),
+    (&[COMMIT], 66),
+    (&[COMMIT, TREE], 66),
+    (&[BLOB, COMMIT_OF_BLOB], 66),
+    // Its parents.
+    (&[TREE, COMMIT, CHILD], 0),
+    (&[TREE, CHILD], 66),
+    (&[TREE, CHILD, COMMIT], 66),
+    (&[TREE, CHILD_OF_TREE], 66),
+    // The target of a tag.
+    (&[TREE, COMMIT, TAG], 0),
+    (&[TAG], 66),
+    (&[TREE, TAG, COMMIT], 66),
+    (&[TREE, COMMIT, TAG_OF_BLOB], 66),
+    // The last one decides too.
+    (&[TREE, BLOB, COMMIT, OF_FILE, CHILD, TAG], 0),
+    (&[TREE, BLOB, COMMIT, OF_FILE, CHILD, TAG_OF_BLOB], 66),
+];
+
+// As `TailNaming` names it, counted by hand: 171 is the sum modulo 256 of the bytes of `tree 30`, of
+// a NUL and of these, so the directory `XXX` is the tree itself.
+const OF_ITSELF: &[Object<'static>] = &[(
+    2,
+    b"40000 XXX\0\xab\xab\xab\xab\xab\xab\xab\xab\xab\xab\xab\xab\xab\xab\xab\xab\xab\xab\xab\xab",
+)];
+
+fn objects_of(alloc: Global, objects: &[Object<'_>]) -> Result<Vec<RawObject>, Fault> {
+    let mut list = Vec::new(alloc);
+    for (kind, bytes) in objects {
+        let bytes = Vec::from_slice(alloc, bytes)?;
+        list.push(RawObject { kind: *kind, bytes })?;
+    }
+    Ok(list)
+}
+
+fn code_of(answer: Result<(), Fault>) -> u16 {
+    match answer {
+        Ok(()) => 0,
+        Err(fault) => fault.code(),
+    }
+}
+
+fn are_judged_so<N: Naming>(
+    alloc: Global,
+    naming: &N,
+    objects: &[Object<'_>],
+    rows: &[Row<'_>],
+) -> Result<bool, Fault> {
+    let raw = objects_of(alloc, objects)?;
+    let names = name_objects(alloc, naming, &raw)?;
+    for (numbers, code) in rows {
+        let index = index_objects(alloc, &names, numbers)?;
+        if code_of(check_references(alloc, &raw, &index)) != *code {
+            return Ok(false);
+        }
+    }
+    Ok(true)
+}
+
+#[test]
+fn judges_what_objects_refer_to(rt: HostRuntime) {
+    assert!(rt; are_judged_so(rt.alloc(), &Sha1Naming, OBJECTS, ROWS) == Ok(true));
+}
+
+#[test]
+fn refuses_a_tree_that_names_itself(rt: HostRuntime) {
+    assert!(rt; are_judged_so(rt.alloc(), &TailNaming, OF_ITSELF, &[(&[0], 66)]) == Ok(true));
+}

@@ -1,0 +1,8 @@
+pub mod Formats
+pub mod Files
+mod Examples
+pub mod Takes
+pub mod Readings
+pub mod FieldLemmas
+pub mod WholeLemmas
+pub mod Pieces

@@ -1,0 +1,58 @@
+-- A room that was filled, or was not, and what that makes of a reading.
+use Rattle.std.proofs.Common.{◌≡◌, ℕ, ◌≤◌, ◌<◌, List, length, Option, None, Some, Ok, Err, ap, refl, ◌∙◌, arith, inl, inr}
+use Rattle.std.specs.Io.KnownBytes.{Consumes, IsAtEnd}
+use Rattle.std.proofs.lemmas.Bool.{lt-ltb}
+use Rattle.std.proofs.lemmas.List.{length-append}
+use Rattle.byte_devices.specs.Device.{Device}
+use Rattle.byte_devices.specs.Reading.{HasReadWell, HasReadAll, HasFailed}
+use Rattle.pool_file_text.specs.declared.refusal.Refusal.TheVariants as refusal
+use Rattle.pool_file_text.specs.declared.fault.Fault.TheVariants as fault
+use Rattle.pool_file_text.specs.Lengths.{Read, bytes_at}
+use Rattle.pool_file_text.specs.Taking.{Gave, Reads}
+use Rattle.pool_file_text.proofs.Formats.{bytes_again}
+
+whole_given : (old new : Option (List ℕ)) (room : List ℕ) → Consumes old new room → Gave (bytes_at (length room)) old (Ok room) new
+whole_given None new room c = tt
+whole_given (Some bytes) None room c = absurd c
+whole_given (Some bytes) (Some rest) room c = ap (bytes_at (length room)) c ∙ bytes_again (length room) room rest refl
+
+pub is_cut : (n : ℕ) (bytes : List ℕ) → length bytes < n → bytes_at n bytes ≡ Err refusal.CutOff
+unfolding bytes_at
+is_cut n bytes less = rw (lt-ltb (length bytes) n less) refl
+
+short_given : (old new : Option (List ℕ)) (n : ℕ) (front : List ℕ) → Consumes old new front → IsAtEnd new → length front < n
+    → Gave {A = List ℕ} (bytes_at n) old (Err (fault.Refused refusal.CutOff)) new
+short_given None new n front c end less = tt
+short_given (Some bytes) None n front c end less = absurd c
+short_given (Some bytes) (Some rest) n front c end less = let e = ap length c in let l = length-append front rest in let z = ap length end in
+    is_cut n bytes (omega (arith, e, l, z, less))
+
+pub blamed_given : {A : Type 0} (at : Read A) (old new : Option (List ℕ)) → Gave at old (Err fault.Device) new
+blamed_given at None new = tt
+blamed_given at (Some bytes) new = tt
+
+pub starved_given : {A : Type 0} (at : Read A) (old new : Option (List ℕ)) → Gave at old (Err fault.Memory) new
+starved_given at None new = tt
+starved_given at (Some bytes) new = tt
+
+-- The room is full.
+pub reads_whole : (bound : ℕ) (a b : Device) (room : List ℕ) → HasReadWell a b room → (a.calls ≤ bound → b.calls ≤ bound)
+    → Reads bound (bytes_at (length room)) a (Ok room) b
+reads_whole bound a b room had few = record { gave = whole_given a.known b.known room had.read.consumed; blames = had.well; few = few }
+
+-- The reader was at its end before that.
+pub reads_short : (bound : ℕ) (a b : Device) (n : ℕ) (front : List ℕ) → HasReadAll a b front → length front < n → (a.calls ≤ bound → b.calls ≤ bound)
+    → Reads {A = List ℕ} bound (bytes_at n) a (Err (fault.Refused refusal.CutOff)) b
+reads_short bound a b n front had less few = record {
+  gave = short_given a.known b.known n front had.read.read.consumed had.end less;
+  blames = had.read.well;
+  few = few;
+}
+
+-- As many calls were made as the bound allows, or one failed.
+pub reads_out : {A : Type 0} (bound : ℕ) (at : Read A) (a b : Device) → bound ≤ b.calls → (a.calls ≤ bound → b.calls ≤ bound) → Reads bound at a (Err fault.Device) b
+reads_out bound at a b out few = record { gave = blamed_given at a.known b.known; blames = inr out; few = few }
+
+pub reads_failed : {A : Type 0} (bound : ℕ) (at : Read A) (a b : Device) (front : List ℕ) → HasFailed a b front → (a.calls ≤ bound → b.calls ≤ bound)
+    → Reads bound at a (Err fault.Device) b
+reads_failed bound at a b front had few = record { gave = blamed_given at a.known b.known; blames = inl had.fault; few = few }

@@ -1,0 +1,23 @@
+use Rattle.std.proofs.Common.{◌-◌, ◌+◌, arith}
+use Rattle.std.proofs.lemmas.List.{map_push}
+use Rattle.std.proofs.lemmas.Result.{err_from_is_err_and}
+use Rattle.pool_file_text.specs.Lengths.{object_at}
+use Rattle.pool_file_text.specs.Shown.{object_of, objects_of}
+use Rattle.pool_file_text.proofs.Readings.{goes_on, goes_fails, goes_done}
+use Rattle.pool_file_text.proofs.fields.read_many_objects.Goals as goal
+
+pub returns-in_err-object : goal.returns-in_err-object
+returns-in_err-object g c =
+    let p = err_from_is_err_and c.from_residual.result c.from_residual.ensures.1 in
+    rw (p.1, p.2) (goes_fails object_at c.args.count (c.args.count - c.loop.counter) (c.args.count - (c.loop.counter + 1)) c.in_err-object.field-0.0 _ _ _
+    (objects_of c.loop.objects.items) (let t = c.loop-test.true in omega (arith, t)) c.loop.invariant c.in_err-object.ensures)
+
+pub loop-preserved : goal.loop-preserved
+loop-preserved g c =
+    rw (c.in_ok-push.ensures.items, map_push object_of c.loop.objects.items c.in_ok-object.object)
+    (goes_on object_at c.args.count (c.args.count - c.loop.counter) (c.args.count - (c.loop.counter + 1)) _ _ _ (objects_of c.loop.objects.items) (object_of c.in_ok-object.object)
+    (let t = c.loop-test.true in omega (arith, t)) c.loop.invariant c.in_ok-object.ensures)
+
+pub returns : goal.returns
+returns g c =
+    goes_done object_at c.args.count (c.args.count - c.loop.counter) _ _ (objects_of c.loop.objects.items) (let t = c.loop-test.false in omega (arith, t)) c.loop.invariant

@@ -1,0 +1,23 @@
+use Rattle.std.proofs.Common.{◌-◌, ◌+◌, arith}
+use Rattle.std.proofs.lemmas.List.{map_push}
+use Rattle.std.proofs.lemmas.Result.{err_from_is_err_and}
+use Rattle.pool_file_text.specs.Lengths.{tenant_at}
+use Rattle.pool_file_text.specs.Shown.{tenant_of, tenants_of}
+use Rattle.pool_file_text.proofs.Readings.{goes_on, goes_fails, goes_done}
+use Rattle.pool_file_text.proofs.fields.read_many_tenants.Goals as goal
+
+pub returns-in_err-tenant : goal.returns-in_err-tenant
+returns-in_err-tenant g c =
+    let p = err_from_is_err_and c.from_residual.result c.from_residual.ensures.1 in
+    rw (p.1, p.2) (goes_fails (tenant_at c.args.version) c.args.count (c.args.count - c.loop.counter) (c.args.count - (c.loop.counter + 1)) c.in_err-tenant.field-0.0 _ _ _
+    (tenants_of c.loop.tenants.items) (let t = c.loop-test.true in omega (arith, t)) c.loop.invariant c.in_err-tenant.ensures)
+
+pub loop-preserved : goal.loop-preserved
+loop-preserved g c =
+    rw (c.in_ok-push.ensures.items, map_push tenant_of c.loop.tenants.items c.in_ok-tenant.tenant)
+    (goes_on (tenant_at c.args.version) c.args.count (c.args.count - c.loop.counter) (c.args.count - (c.loop.counter + 1)) _ _ _ (tenants_of c.loop.tenants.items) (tenant_of c.in_ok-tenant.tenant)
+    (let t = c.loop-test.true in omega (arith, t)) c.loop.invariant c.in_ok-tenant.ensures)
+
+pub returns : goal.returns
+returns g c =
+    goes_done (tenant_at c.args.version) c.args.count (c.args.count - c.loop.counter) _ _ (tenants_of c.loop.tenants.items) (let t = c.loop-test.false in omega (arith, t)) c.loop.invariant

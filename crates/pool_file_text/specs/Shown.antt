@@ -1,0 +1,37 @@
+-- Values of the code as values of the definitions.
+use Rattle.std.specs.Prelude.{List, map}
+use Rattle.pool_file_text.specs.declared.raw.RawObject.{RawObject as Object}
+use Rattle.pool_file_text.specs.declared.raw.RawRef.{RawRef as Ref}
+use Rattle.pool_file_text.specs.declared.raw.RawTenant.{RawTenant as Tenant}
+use Rattle.pool_file_text.specs.declared.raw.RawFile.{RawFile as File}
+use Rattle.pool_file_text.specs.Format.{RawObject, RawRef, RawTenant, RawFile}
+
+abbrev pub object_of : Object → RawObject
+object_of o = record { kind = o.kind; bytes = o.bytes.items }
+
+abbrev pub objects_of : List Object → List RawObject
+objects_of os = map object_of os
+
+abbrev pub ref_of : Ref → RawRef
+ref_of r = record { name = r.name.items; place = r.place }
+
+abbrev pub refs_of : List Ref → List RawRef
+refs_of rs = map ref_of rs
+
+abbrev pub tenant_of : Tenant → RawTenant
+tenant_of t = record {
+  name = t.name.items;
+  numbers = t.numbers.items;
+  refs = refs_of t.refs.items;
+  head = t.head.items;
+}
+
+abbrev pub tenants_of : List Tenant → List RawTenant
+tenants_of ts = map tenant_of ts
+
+abbrev pub file_of : File → RawFile
+file_of f = record {
+  version = f.version;
+  objects = objects_of f.objects.items;
+  tenants = tenants_of f.tenants.items;
+}

@@ -1,0 +1,24 @@
+//! The pool file as a text: all repositories of a service, number by number, and a digest.
+//!
+//! A file is read from a counted reader and written to a counted writer as raw values. What these say is
+//! not judged here, and nothing here knows a pool or a table.
+#![tactic(auto)]
+
+mod digesting;
+mod fault;
+mod fields;
+mod filling;
+pub mod laws;
+mod printing;
+mod raw;
+mod reading;
+mod refusal;
+mod sealing;
+mod sink;
+
+pub use digesting::{Running, Starting};
+pub use fault::Fault;
+pub use raw::{RawFile, RawObject, RawRef, RawTenant};
+pub use reading::{READS_LIMIT, read_file};
+pub use refusal::Refusal;
+pub use sealing::{digest_of, read_sealed, write_sealed};
