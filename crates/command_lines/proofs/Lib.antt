@@ -1,0 +1,4 @@
+mod FilledRows
+mod FilledWalk
+mod NamedLines
+mod WrittenLines

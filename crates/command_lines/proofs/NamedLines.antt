@@ -1,0 +1,237 @@
+-- Words in which `clap` finds no fault name a line: the subcommand is one of the program's own, and each of its arguments has a value.
+use Rattle.std.proofs.Common.{◌≡◌, ◌&&◌, ◌||◌, ℕ, Bool, cond, true, false, not, refl, sym, subst, codes, List, [], ◌∷◌, fold, Option, Some, None, is_some, option_map, option_and_then, true≢false}
+use Rattle.std.specs.List.{list_all, list_any}
+use Rattle.std.specs.Option.{option_map_or}
+use Rattle.std.specs.Str.{bytes_eq}
+use Rattle.std.proofs.lemmas.Slice.Eq.{bytes_eq-Decides}
+use Rattle.clap.specs.Lexer.{long_of, short_of}
+use Rattle.clap.specs.Words.{fault_of}
+use Rattle.clap.specs.Facts.{explicit_source}
+use Rattle.clap.specs.Walk.{Held, Names, Outcome, Row, Rule, Step, Text, Waiting, Walk, after_flag, after_step, arg_by_index, arg_by_long, bundle, done, finished, first_of, idle, long_met, long_or_other, next, nothing_held, option, plain, plain_word, positional, refused, rows_after, settled, short_or_plain, stop_after, subcommand, subcommand_met, subcommand_or_other, to_positional, trailing, value, waits, walk, walk_from, walked, walked_from, word_met}
+use Rattle.clap.specs.Kinds.{Kinds, check_kinds, or_else}
+use Rattle.clap.specs.Faults.{check_fault, defaults_fault, entered_fault, level_fault, other_fault, settle_fault, step_fault, turn_fault, walk_fault, word_fault}
+use Rattle.clap.specs.Simple.{Shape, built, built_leaf, entered, help_shape, inherited, label_of, marked_built, names_of, rows_at, with_leaf_noted}
+use Rattle.clap.specs.Walk.{answers_to}
+use Rattle.clap.specs.Takes.{is_given}
+use Rattle.clap.specs.declared.error.kind.ErrorKind.{ErrorKind}
+use Rattle.command_lines.specs.Lines.{Said, ask, import, said_by, said_in}
+use Rattle.command_lines.specs.Usage.{ask_usage, check_usage, gitpool, import_usage, serve_usage}
+use Rattle.command_lines.proofs.FilledRows.{defaults_filled, filled, no_nil, or_else_nil, settled_filled, wants_value}
+use Rattle.command_lines.proofs.FilledWalk.{given_value, walk_filled}
+
+-- ---- the subcommand that a walk meets is not `help`
+
+abbrev is_own : Option (Text × List Text) → Bool
+is_own stop = option_map_or (λ p. not (bytes_eq p.0 (codes "help"))) stop true
+
+abbrev is_own_step : Step → Bool
+is_own_step (subcommand name) = not (bytes_eq name (codes "help"))
+is_own_step _ = true
+
+plain_own : (c : List Rule) (waiting : Waiting) (word : Text) (h : Held) → is_own_step (plain_word c waiting word h).1 ≡ true
+plain_own c idle word h = refl
+plain_own c positional word h = refl
+plain_own c (option id) word h = refl
+
+after_own : (c : List Rule) (waiting : Waiting) (word : Text) (h : Held) (o : Outcome) → is_own_step (after_flag c waiting word h o).1 ≡ true
+after_own c waiting word h done = refl
+after_own c waiting word h (waits id) = refl
+after_own c waiting word h plain = plain_own c waiting word h
+after_own c waiting word h refused = plain_own c waiting word h
+
+flag_own : (c : List Rule) (waiting : Waiting) (word : Text) (o : Option (Text × Option Text)) (h : Held) → is_own_step (long_or_other c waiting word o h).1 ≡ true
+flag_own c waiting word (Some p) h = after_own c waiting word (long_met c (arg_by_long c p.0) p.1 h).0 (long_met c (arg_by_long c p.0) p.1 h).1
+flag_own c waiting word None h = go (short_of word)
+  where
+    go : (o : Option Text) → is_own_step (short_or_plain c waiting word o h).1 ≡ true
+    go None = plain_own c waiting word h
+    go (Some flags) = after_own c waiting word (bundle c flags h).0 (bundle c flags h).1
+
+is_other : (b d : Bool) (k : ErrorKind) (ks : Kinds) → d ≡ false → cond (b && not d) (k ∷ ks) [] ≡ [] → not b ≡ true
+is_other true true k ks off none = absurd (true≢false off)
+is_other true false k ks off none = absurd (no_nil k ks none)
+is_other false d k ks off none = refl
+
+word_own : (s : Shape) (names : Names) (is_trailing : Bool) (waiting : Waiting) (position : ℕ) (word : Text) (h : Held) → s.disable_help_subcommand ≡ false
+    → word_fault s names is_trailing waiting word h ≡ [] → is_own_step (word_met s.rules names is_trailing waiting position word h).1 ≡ true
+word_own s names true waiting position word h helps none = refl
+word_own s names false waiting position word h helps none = go (subcommand_met names waiting word) none
+  where
+    other : (b : Bool) → is_own_step (cond b (h, trailing position) (long_or_other s.rules waiting word (long_of word) h)).1 ≡ true
+    other true = refl
+    other false = flag_own s.rules waiting word (long_of word) h
+
+    go : (o : Option Text) → other_fault s o word h ≡ [] → is_own_step (subcommand_or_other s.rules o waiting position word h).1 ≡ true
+    go (Some name) n = is_other (bytes_eq name (codes "help")) s.disable_help_subcommand _ _ helps n
+    go None n = other (bytes_eq word (45 ∷ 45 ∷ []))
+
+step_own : (s : Shape) (word : Text) (w : Walk) (h : Held) (step : Step) → is_own w.stopped ≡ true → is_own_step step ≡ true
+    → is_own (after_step s.rules word w h step).stopped ≡ true
+step_own s word w h (next waiting) e own = e
+step_own s word w h (trailing position) e own = e
+step_own s word w h (subcommand name) e own = own
+step_own s word w h value e own = go (arg_by_index s.rules w.position)
+  where
+    go : (o : Option Rule) → is_own (to_positional s.rules o word w h).stopped ≡ true
+    go None = e
+    go (Some a) = refl
+
+turn_own : (s : Shape) (names : Names) (w : Walk) (word : Text) → s.disable_help_subcommand ≡ false → turn_fault s names w word ≡ [] → is_own w.stopped ≡ true
+    → is_own (walked s.rules names w word).stopped ≡ true
+unfolding walked
+turn_own s names w word helps none e = go w.stopped e none
+  where
+    met : Held × Step
+    met = word_met s.rules names w.is_trailing w.waiting w.position word w.held
+
+    go : (o : Option (Text × List Text)) → is_own o ≡ true
+        → cond (is_some o) [] (or_else (word_fault s names w.is_trailing w.waiting word w.held) (step_fault s w.position met.0 met.1)) ≡ []
+        → is_own (walked_from s.rules names o w word).stopped ≡ true
+    go (Some p) own n = own
+    go None own n =
+        let p = or_else_nil (word_fault s names w.is_trailing w.waiting word w.held) _ n in
+        step_own s word w met.0 met.1 e (word_own s names w.is_trailing w.waiting w.position word w.held helps p.0)
+
+walk_own : (s : Shape) (names : Names) (w : Walk) (words : List Text) → s.disable_help_subcommand ≡ false → walk_fault s names w words ≡ [] → is_own w.stopped ≡ true
+    → is_own (fold (walked s.rules names) w words).stopped ≡ true
+unfolding walk_fault
+walk_own s names w [] helps none e = e
+walk_own s names w (x ∷ xs) helps none e =
+    let p = or_else_nil (turn_fault s names w x) _ none in
+    walk_own s names (walked s.rules names w x) xs helps p.1 (turn_own s names w x helps p.0 e)
+
+-- no other name answers to `help`
+no_help : (n : Text) → not (bytes_eq n (codes "help")) ≡ true → (bytes_eq (codes "help") n || false) ≡ false
+no_help n own = go (bytes_eq (codes "help") n) refl
+  where
+    go : (b : Bool) → bytes_eq (codes "help") n ≡ b → (b || false) ≡ false
+    go false e = refl
+    go true e = absurd (true≢false (sym (subst (λ t. not (bytes_eq t (codes "help")) ≡ true) (sym ((bytes_eq-Decides (codes "help") n).0 e)) own)))
+
+-- ---- the arguments of a subcommand
+
+leaf_filled : (s : Shape) (words : List Text) → list_all wants_value s.rules ≡ true → level_fault s [] nothing_held words false [] ≡ []
+    → (filled (rows_after s.rules [] words) ≡ true) × (check_fault s (rows_after s.rules [] words) false ≡ [])
+leaf_filled s words all none =
+    let end = (walk s.rules [] nothing_held words).held in
+    let walk = or_else_nil (walk_fault s [] (walk_from nothing_held) words) _ none in
+    let settle = or_else_nil (settle_fault s.rules s.args_override_self end) _ walk.1 in
+    let default = or_else_nil (defaults_fault (settled s.rules end).rows s.rules) _ settle.1 in
+    (defaults_filled s.rules (settled s.rules end).rows (settled_filled s.rules s.args_override_self end all settle.0 (walk_filled s [] (walk_from nothing_held) words all walk.0 refl)), default.1)
+
+asked : (x y z : Bool) → check_kinds x y z ≡ [] → (y ≡ false) × (z ≡ false)
+asked true y z e = absurd (no_nil _ _ e)
+asked false true z e = absurd (no_nil _ _ e)
+asked false false true e = absurd (no_nil _ _ e)
+asked false false false e = (refl, refl)
+
+-- what is wanted is there: a subcommand, and each argument
+wanted : (s : Shape) (rows : List Row) (has : Bool) → check_fault s rows has ≡ [] → ((not has && s.subcommand_required) ≡ false)
+    × ((not (s.subcommand_negates_reqs && has) && list_any (λ a. a.required && not (is_given a.id rows)) s.rules) ≡ false)
+wanted s rows has e =
+    asked (not has && (s.arg_required_else_help && not (list_any (λ r. explicit_source r.source) rows))) (not has && s.subcommand_required)
+    (not (s.subcommand_negates_reqs && has) && list_any (λ a. a.required && not (is_given a.id rows)) s.rules) e
+
+first_given : (given rest : Bool) → (not given || rest) ≡ false → (given ≡ true) × (rest ≡ false)
+first_given true rest e = (refl, e)
+first_given false rest e = absurd (true≢false e)
+
+abbrev leaf : Shape → Shape
+leaf s = built_leaf (inherited (with_leaf_noted (marked_built gitpool.top)) s)
+
+some_said : (f : Text → Said) (o : Option Text) → is_some o ≡ true → is_some (option_and_then (λ pool. Some (f pool)) o) ≡ true
+some_said f None e = absurd (true≢false (sym e))
+some_said f (Some pool) e = refl
+
+some_import : (tenant pool : Option Text) → is_some tenant ≡ true → is_some pool ≡ true
+    → is_some (option_and_then (λ p. option_map (λ t. import t p) tenant) pool) ≡ true
+some_import None pool e f = absurd (true≢false (sym e))
+some_import (Some t) None e f = absurd (true≢false (sym f))
+some_import (Some t) (Some p) e f = refl
+
+some_ask : (tenant query pool : Option Text) → is_some tenant ≡ true → is_some query ≡ true → is_some pool ≡ true
+    → is_some (option_and_then (λ p. option_and_then (λ t. option_map (λ q. ask t q p) query) tenant) pool) ≡ true
+some_ask None query pool e f g = absurd (true≢false (sym e))
+some_ask (Some t) None pool e f g = absurd (true≢false (sym f))
+some_ask (Some t) (Some q) None e f g = absurd (true≢false (sym g))
+some_ask (Some t) (Some q) (Some p) e f g = refl
+
+abbrev Says : Shape → Type 0
+Says s = (words : List Text) → level_fault (leaf s) [] nothing_held words false [] ≡ [] → is_some (said_by (rows_at (leaf s) words)) ≡ true
+
+serve_says : Says serve_usage
+serve_says words none =
+    let all = leaf_filled (leaf serve_usage) words refl none in
+    let rows = rows_after (leaf serve_usage).rules [] words in
+    let pool = first_given (is_given (codes "pool") rows) false (wanted (leaf serve_usage) rows false all.1).1 in
+    some_said _ (first_of (codes "pool") rows) (given_value (codes "pool") rows all.0 pool.0)
+
+check_says : Says check_usage
+check_says words none =
+    let all = leaf_filled (leaf check_usage) words refl none in
+    let rows = rows_after (leaf check_usage).rules [] words in
+    let pool = first_given (is_given (codes "pool") rows) false (wanted (leaf check_usage) rows false all.1).1 in
+    some_said _ (first_of (codes "pool") rows) (given_value (codes "pool") rows all.0 pool.0)
+
+import_says : Says import_usage
+import_says words none =
+    let all = leaf_filled (leaf import_usage) words refl none in
+    let rows = rows_after (leaf import_usage).rules [] words in
+    let tenant = first_given (is_given (codes "tenant") rows) (not (is_given (codes "pool") rows) || false) (wanted (leaf import_usage) rows false all.1).1 in
+    let pool = first_given (is_given (codes "pool") rows) false tenant.1 in
+    some_import (first_of (codes "tenant") rows) (first_of (codes "pool") rows) (given_value (codes "tenant") rows all.0 tenant.0)
+    (given_value (codes "pool") rows all.0 pool.0)
+
+ask_says : Says ask_usage
+ask_says words none =
+    let all = leaf_filled (leaf ask_usage) words refl none in
+    let rows = rows_after (leaf ask_usage).rules [] words in
+    let tenant = first_given (is_given (codes "tenant") rows) (not (is_given (codes "query") rows) || (not (is_given (codes "pool") rows) || false))
+    (wanted (leaf ask_usage) rows false all.1).1 in
+    let query = first_given (is_given (codes "query") rows) (not (is_given (codes "pool") rows) || false) tenant.1 in
+    let pool = first_given (is_given (codes "pool") rows) false query.1 in
+    some_ask (first_of (codes "tenant") rows) (first_of (codes "query") rows) (first_of (codes "pool") rows) (given_value (codes "tenant") rows all.0 tenant.0)
+    (given_value (codes "query") rows all.0 query.0) (given_value (codes "pool") rows all.0 pool.0)
+
+-- ---- the whole command line
+
+-- the first subcommand whose test holds
+abbrev first : Bool → Bool → Bool → Bool → Bool → Option Shape
+first a b c d e =
+    cond a (Some (leaf serve_usage)) (cond b (Some (leaf import_usage)) (cond c (Some (leaf ask_usage))
+    (cond d (Some (leaf check_usage)) (cond e (Some (built_leaf help_shape)) None))))
+
+first_says : (words : List Text) (a b c d e : Bool) → e ≡ false
+    → option_map_or (λ s. level_fault s [] nothing_held words false []) (first a b c d e) [] ≡ []
+    → is_some (option_map (λ s. rows_at s words) (first a b c d e)) ≡ true
+    → is_some (option_and_then said_by (option_map (λ s. rows_at s words) (first a b c d e))) ≡ true
+first_says words true b c d e other none some = serve_says words none
+first_says words false true c d e other none some = import_says words none
+first_says words false false true d e other none some = ask_says words none
+first_says words false false false true e other none some = check_says words none
+first_says words false false false false true other none some = absurd (true≢false other)
+first_says words false false false false false other none some = absurd (true≢false (sym some))
+
+entered_says : (stop : Option (Text × List Text)) → is_own stop ≡ true → entered_fault (built gitpool) stop ≡ [] → is_some (entered (built gitpool) stop) ≡ true
+    → is_some (option_and_then said_by (entered (built gitpool) stop)) ≡ true
+entered_says None own none some = absurd (true≢false (sym some))
+entered_says (Some p) own none some =
+    let answers : Shape → Bool = λ s. answers_to p.0 (label_of s) in
+    first_says p.1 (answers (leaf serve_usage)) (answers (leaf import_usage)) (answers (leaf ask_usage)) (answers (leaf check_usage))
+    (answers (built_leaf help_shape)) (no_help p.0 own) none some
+
+is_met : (b : Bool) → (not b && true) ≡ false → b ≡ true
+is_met true e = refl
+is_met false e = absurd (true≢false e)
+
+pub always_said : (words : List Text) → fault_of gitpool words ≡ [] → is_some (said_in words) ≡ true
+always_said words none =
+    let a = built gitpool in
+    let end = (walk a.top.rules (names_of a) nothing_held words).held in
+    let stop = stop_after a.top.rules (names_of a) words in
+    let walk = or_else_nil (walk_fault a.top (names_of a) (walk_from nothing_held) words) _ none in
+    let below = or_else_nil (entered_fault a stop) _ walk.1 in
+    let settle = or_else_nil (settle_fault a.top.rules a.top.args_override_self end) _ below.1 in
+    let default = or_else_nil (defaults_fault (settled a.top.rules end).rows a.top.rules) _ settle.1 in
+    let met = is_met (is_some (entered a stop)) (wanted a.top (finished a.top.rules end) (is_some (entered a stop)) default.1).0 in
+    entered_says stop (walk_own a.top (names_of a) (walk_from nothing_held) words refl walk.0 refl) below.0 met

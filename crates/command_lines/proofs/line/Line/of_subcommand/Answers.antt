@@ -1,0 +1,33 @@
+use Rattle.std.proofs.Common.{◌≡◌, rules, refl, codes, Some, None}
+use Rattle.clap.specs.Words.{first_of, found_of, rows_of}
+use Rattle.command_lines.proofs.line.Line.of_subcommand.Goals as goal
+
+pub returns-in_err-pool : goal.returns-in_err-pool
+returns-in_err-pool c =
+    let out : c.from_residual.result ≡ None = search rules in
+    let pool : first_of (codes "pool") (rows_of (found_of c.args.given.now)) ≡ None = search rules in
+    rw (pool, out) refl
+
+pub returns-in-serve : goal.returns-in-serve
+returns-in-serve c =
+    let pool : first_of (codes "pool") (rows_of (found_of c.args.given.now)) ≡ Some c.in_ok-pool.pool.now = search rules in
+    let serve : c.args.name.now ≡ codes "serve" = search rules in
+    rw (pool, serve) refl
+
+pub returns-in-import : goal.returns-in-import
+returns-in-import c =
+    let pool : first_of (codes "pool") (rows_of (found_of c.args.given.now)) ≡ Some c.in_ok-pool.pool.now = search rules in
+    let import : c.args.name.now ≡ codes "import" = search rules in
+    rw (pool, import) c.import.ensures
+
+pub returns-in-ask : goal.returns-in-ask
+returns-in-ask c =
+    let pool : first_of (codes "pool") (rows_of (found_of c.args.given.now)) ≡ Some c.in_ok-pool.pool.now = search rules in
+    let ask : c.args.name.now ≡ codes "ask" = search rules in
+    rw (pool, ask) c.ask.ensures
+
+pub returns-in-check : goal.returns-in-check
+returns-in-check c =
+    let pool : first_of (codes "pool") (rows_of (found_of c.args.given.now)) ≡ Some c.in_ok-pool.pool.now = search rules in
+    let check : c.args.name.now ≡ codes "check" = search rules in
+    rw (pool, check) refl

@@ -1,0 +1,61 @@
+-- Command lines: which words name which line, by what `clap` matches them with.
+use Rattle.std.specs.Prelude.{List, [], ◌∷◌, ◌++◌, Option, Some, None, codes, if◌then◌else◌, option_and_then, option_map}
+use Rattle.std.specs.Str.{bytes_eq}
+use Rattle.clap.specs.Words.{Row, Text, first_of, subcommand_of}
+use Rattle.command_lines.specs.Usage.{gitpool}
+use Rattle.command_lines.specs.declared.line.Line.{Line}
+use Rattle.command_lines.specs.declared.line.Line.TheVariants as line
+
+-- What a command line says: a subcommand, the arguments that it takes, and the pool file.
+pub data Said : Type 0 where
+  serve : Text → Said
+  import : Text → Text → Said
+  ask : Text → Text → Text → Said
+  check : Text → Said
+
+-- What a line says, as text.
+abbrev pub said : Line → Said
+said (line.Serve pool) = serve pool.now
+said (line.Import tenant pool) = import tenant.now pool.now
+said (line.Ask tenant query pool) = ask tenant.now query.now pool.now
+said (line.Check pool) = check pool.now
+
+-- The value that the matches have under this name.
+abbrev pub given : List Row → Text → Option Text
+given rows id = first_of id rows
+
+abbrev pub import_in : List Row → Text → Option Said
+import_in rows pool = option_map (λ tenant. import tenant pool) (given rows (codes "tenant"))
+
+abbrev pub ask_in : List Row → Text → Option Said
+ask_in rows pool = option_and_then (λ tenant.
+    option_map (λ query. ask tenant query pool) (given rows (codes "query"))) (given rows (codes "tenant"))
+
+-- What a subcommand of this name with these matches says beside the pool file.
+abbrev pub said_with : Text → List Row → Text → Option Said
+said_with name rows pool =
+    if bytes_eq name (codes "serve") then Some (serve pool)
+    else (if bytes_eq name (codes "import") then import_in rows pool
+    else (if bytes_eq name (codes "ask") then ask_in rows pool
+    else (if bytes_eq name (codes "check") then Some (check pool) else None)))
+
+-- What a subcommand with its matches says.
+abbrev pub said_by : Text × List Row → Option Said
+said_by found = option_and_then (said_with found.0 found.1) (given found.1 (codes "pool"))
+
+-- What the words say: what the subcommand does that `clap` finds in them.
+abbrev pub said_in : List Text → Option Said
+said_in words = option_and_then said_by (subcommand_of gitpool words)
+
+-- `--pool=FILE` as one word.
+abbrev pub pool_word : Text → Text
+pool_word pool = codes "--pool=" ++ pool
+
+-- Words that say it, whatever texts it has: nothing behind `--` is an option (gitcli(7)).
+abbrev pub words_of : Said → List Text
+words_of (serve pool) = codes "serve" ∷ pool_word pool ∷ []
+words_of (import tenant pool) =
+    codes "import" ∷ pool_word pool ∷ codes "--" ∷ tenant ∷ []
+words_of (ask tenant query pool) =
+    codes "ask" ∷ pool_word pool ∷ codes "--" ∷ tenant ∷ query ∷ []
+words_of (check pool) = codes "check" ∷ pool_word pool ∷ []

@@ -1,0 +1,51 @@
+-- The subcommands of `gitpool` and what each takes: gitcli(7), as `clap` is told it.
+use Rattle.std.specs.Prelude.{◌≡◌, List, [], ◌∷◌, Some, codes, true, false}
+use Rattle.clap.specs.Words.{App, Rule, Shape, Text, app_of, new_rule}
+use Rattle.clap.specs.Simple.{new_shape}
+use Rattle.clap.specs.declared.builder.command.Command.{Command}
+use Rattle.clap.specs.declared.builder.command.Command.TheViews.{out-Command}
+
+-- An argument without a dash, which has to be there.
+abbrev pub argument : Text → Rule
+argument id = record (new_rule id) { value_names = 1; required = true }
+
+-- `--pool FILE`, which has to be there.
+abbrev pub pool_option : Rule
+pool_option = record (argument (codes "pool")) { long = Some (codes "pool") }
+
+-- A subcommand with what it takes, in order.
+abbrev pub subcommand : Text → List Rule → Shape
+subcommand name rules = record (new_shape name) { rules = rules }
+
+-- `serve --pool FILE`
+abbrev pub serve_usage : Shape
+serve_usage = subcommand (codes "serve") (pool_option ∷ [])
+
+-- `import TENANT --pool FILE`
+abbrev pub import_usage : Shape
+import_usage = subcommand (codes "import") (argument (codes "tenant") ∷ pool_option ∷ [])
+
+-- `ask TENANT QUERY --pool FILE`
+abbrev pub ask_usage : Shape
+ask_usage = subcommand (codes "ask")
+    (argument (codes "tenant") ∷ argument (codes "query") ∷ pool_option ∷ [])
+
+-- `check --pool FILE`
+abbrev pub check_usage : Shape
+check_usage = subcommand (codes "check") (pool_option ∷ [])
+
+-- The program: one of its subcommands has to be there, and its own name is none of the words.
+abbrev pub gitpool : App
+gitpool = record {
+  top = record (new_shape (codes "gitpool")) {
+    is_leaf = false;
+    no_binary_name = true;
+    subcommand_required = true;
+  };
+  subs = serve_usage ∷ import_usage ∷ ask_usage ∷ check_usage ∷ [];
+}
+
+-- A command that reads what the shape says, and has no subcommand.
+abbrev pub Reads : Command → Shape → Type 0
+Reads command shape = (app_of command ≡ record { top = shape; subs = [] })
+    × ((out-Command command).has_globals ≡ false)

@@ -1,0 +1,115 @@
+//! A command line: a subcommand with its arguments and the pool file.
+//!
+//! Not a run without words, which imports one stream and has no pool file: that is the program's.
+ghost use Rattle.std.specs.Prelude.{◌≡◌, IfErr, IfOk, MatchResult, Some, map};
+ghost use Rattle.std.specs.Prelude.{option_and_then, option_map, true};
+ghost use Rattle.clap.specs.Words.{FailsBy, fault_of, first_of, found_of, kind_of, rows_of};
+ghost use Rattle.clap.specs.Words.{subcommand_rows_of, takes};
+ghost use Rattle.clap.specs.declared.error.kind.ErrorKind.TheVariants.{OutOfMemory};
+ghost use Rattle.command_lines.specs.Lines.{Said, ask_in, import_in, said, said_by};
+ghost use Rattle.command_lines.specs.Lines.{said_in, words_of};
+ghost use Rattle.command_lines.specs.Usage.{gitpool};
+
+use crate::usage::gitpool;
+use clap::{ArgMatches, Error};
+use std::alloc::Global;
+use std::convert::AsStr;
+
+/// What the words after the program's name ask for.
+///
+/// The texts are those of the words. `pool` is the path of the pool file.
+#[derive(Clone, Copy, Debug, PartialEq, Eq)]
+pub enum Line<'a> {
+    /// `serve --pool FILE`: answer frames of steps.
+    Serve {
+        pool: &'a str,
+    },
+    /// `import TENANT --pool FILE`: import one stream into a tenant.
+    Import {
+        tenant: &'a str,
+        pool: &'a str,
+    },
+    /// `ask TENANT QUERY --pool FILE`: print the answer to one query.
+    Ask {
+        tenant: &'a str,
+        query: &'a str,
+        pool: &'a str,
+    },
+    /// `check --pool FILE`: count what the pool file has.
+    Check {
+        pool: &'a str,
+    },
+}
+
+// The value of an argument that takes one.
+fn value<'a>(given: &ArgMatches<'a>, id: &str) -> Option<&'a str>
+    ensures { option_map (λ s. s.now) result ≡ first_of id.now (rows_of (found_of given.now)) }
+{
+    given.get_str(id)
+}
+
+impl<'a> Line<'a> {
+    /// Reads the words after the program's name, by the rules of gitcli(7).
+    ///
+    /// The line has the texts of the words, each of which may be empty: what a tenant's name or a
+    /// query may be is not judged here.
+    ///
+    /// `Err` where the words name no line, as no words at all do, or ask for help: the error's text
+    /// is the usage or the help, for standard error. Its kind is `OutOfMemory` (90) where memory
+    /// ran out; words that parse are refused for nothing else. Takes memory.
+    pub fn read<S: AsStr>(alloc: Global, words: &'a [S]) -> Result<Line<'a>, Error>
+        ensures found { IfOk result (λ line.
+            said_in (map S.text words.entry.now) ≡ Some (said line)) }
+        ensures only { IfErr result (λ e. takes gitpool (map S.text words.entry.now) ≡ true
+            → kind_of e ≡ OutOfMemory) }
+        ensures written { (line : Said) → map S.text words.entry.now ≡ words_of line
+            → MatchResult result (λ read. said read ≡ line) (λ e. kind_of e ≡ OutOfMemory) }
+        ensures exact { FailsBy (fault_of gitpool (map S.text words.entry.now)) result }
+    {
+        let matches = gitpool(alloc)?.try_get_matches_from(words)?;
+        Ok(Line::of_matches(&matches).unwrap())
+    }
+
+    fn of_matches(matches: &ArgMatches<'a>) -> Option<Line<'a>>
+        ensures { option_map said result
+            ≡ option_and_then said_by (subcommand_rows_of matches.now) }
+    {
+        let (name, given) = matches.subcommand()?;
+        Line::of_subcommand(name, given)
+    }
+
+    fn of_subcommand(name: &str, given: &ArgMatches<'a>) -> Option<Line<'a>>
+        ensures { option_map said result
+            ≡ said_by (name.now, rows_of (found_of given.now)) }
+    {
+        let pool = value(given, "pool")?;
+        match name {
+            "serve" => Some(Line::Serve { pool }),
+            "import" => Line::import(given, pool),
+            "ask" => Line::ask(given, pool),
+            "check" => Some(Line::Check { pool }),
+            _ => None,
+        }
+    }
+
+    fn import(given: &ArgMatches<'a>, pool: &'a str) -> Option<Line<'a>>
+        ensures { option_map said result
+            ≡ import_in (rows_of (found_of given.now)) pool.entry.now }
+    {
+        let tenant = value(given, "tenant")?;
+        Some(Line::Import { tenant, pool })
+    }
+
+    fn ask(given: &ArgMatches<'a>, pool: &'a str) -> Option<Line<'a>>
+        ensures { option_map said result
+            ≡ ask_in (rows_of (found_of given.now)) pool.entry.now }
+    {
+        let tenant = value(given, "tenant")?;
+        let query = value(given, "query")?;
+        Some(Line::Ask {
+            tenant,
+            query,
+            pool,
+        })
+    }
+}

@@ -1,0 +1,94 @@
+//! The texts of help, of the program and of each subcommand.
+
+use crate::told::told;
+use clap::error::ErrorKind;
+
+const PROGRAM: &str = "\
+Git repositories of many tenants over one pool of objects
+
+Usage: gitpool <COMMAND>
+
+Commands:
+  serve   Answer frames of steps from standard input on standard output
+  import  Import a stream of git-fast-import(1) from standard input
+  ask     Print the answer to a query
+  check   Check the pool file and count what it has
+  help    Print this message or the help of the given subcommand(s)
+
+Options:
+  -h, --help  Print help
+";
+
+const SERVE: &str = "\
+Answer frames of steps from standard input on standard output
+
+Usage: gitpool serve --pool <FILE>
+
+Options:
+      --pool <FILE>  The pool file
+  -h, --help         Print help
+";
+
+const IMPORT: &str = "\
+Import a stream of git-fast-import(1) from standard input
+
+Usage: gitpool import --pool <FILE> <TENANT>
+
+Arguments:
+  <TENANT>  The tenant's name
+
+Options:
+      --pool <FILE>  The pool file
+  -h, --help         Print help
+";
+
+const ASK: &str = "\
+Print the answer to a query
+
+Usage: gitpool ask --pool <FILE> <TENANT> <QUERY>
+
+Arguments:
+  <TENANT>  The tenant's name
+  <QUERY>   The query, as one word
+
+Options:
+      --pool <FILE>  The pool file
+  -h, --help         Print help
+";
+
+const CHECK: &str = "\
+Check the pool file and count what it has
+
+Usage: gitpool check --pool <FILE>
+
+Options:
+      --pool <FILE>  The pool file
+  -h, --help         Print help
+";
+
+// Words that ask for help, and the help.
+const SHOWN: &[(&[&str], &str)] = &[
+    (&["-h"], PROGRAM),
+    (&["--help"], PROGRAM),
+    (&["help"], PROGRAM),
+    (&["-h", "serve"], PROGRAM),
+    (&["serve", "--help"], SERVE),
+    (&["help", "serve"], SERVE),
+    (&["import", "-h"], IMPORT),
+    (&["help", "import"], IMPORT),
+    (&["ask", "t", "--help"], ASK),
+    (&["help", "ask"], ASK),
+    (&["check", "--pool", "f", "-h"], CHECK),
+    (&["help", "check"], CHECK),
+];
+
+#[test]
+fn shows_the_help_of_the_program_and_of_each_subcommand(rt: HostRuntime) {
+    for (words, help) in SHOWN {
+        let (kind, text) = told(rt.alloc(), words);
+        assert!(rt;
+            kind == Some(ErrorKind::DisplayHelp) && text.as_str() == *help,
+            "{words:?}: {text}"
+        );
+    }
+}

@@ -1,0 +1,110 @@
+//! Command lines that name a line: each subcommand, the forms of an option, and values of any kind.
+
+use command_lines::Line;
+use std::alloc::Global;
+
+// Words, and the line that they name.
+const READ: &[(&[&str], Line<'static>)] = &[
+    (&["serve", "--pool", "f"], Line::Serve { pool: "f" }),
+    (&["serve", "--pool=f"], Line::Serve { pool: "f" }),
+    (
+        &["check", "--pool", "a b/f.pool"],
+        Line::Check { pool: "a b/f.pool" },
+    ),
+    (
+        &["import", "t", "--pool", "f"],
+        Line::Import {
+            tenant: "t",
+            pool: "f",
+        },
+    ),
+    (
+        &["import", "--pool", "f", "t"],
+        Line::Import {
+            tenant: "t",
+            pool: "f",
+        },
+    ),
+    (
+        &["import", "--pool=f", "--", "--pool"],
+        Line::Import {
+            tenant: "--pool",
+            pool: "f",
+        },
+    ),
+    (
+        &["import", "", "--pool", "f"],
+        Line::Import {
+            tenant: "",
+            pool: "f",
+        },
+    ),
+    (
+        &["import", "serve", "--pool", "ask"],
+        Line::Import {
+            tenant: "serve",
+            pool: "ask",
+        },
+    ),
+    (
+        &["ask", "t", "rev-parse refs/heads/m", "--pool", "f"],
+        Line::Ask {
+            tenant: "t",
+            query: "rev-parse refs/heads/m",
+            pool: "f",
+        },
+    ),
+    (
+        &["ask", "t", "--pool=f", "refs"],
+        Line::Ask {
+            tenant: "t",
+            query: "refs",
+            pool: "f",
+        },
+    ),
+    (
+        &["ask", "--pool", "f", "--", "-t", "-h"],
+        Line::Ask {
+            tenant: "-t",
+            query: "-h",
+            pool: "f",
+        },
+    ),
+    (
+        &["ask", "-", "", "--pool", "-"],
+        Line::Ask {
+            tenant: "-",
+            query: "",
+            pool: "-",
+        },
+    ),
+    (&["check", "--pool=-f"], Line::Check { pool: "-f" }),
+    (&["check", "--pool=a=b"], Line::Check { pool: "a=b" }),
+    (&["check", "--pool="], Line::Check { pool: "" }),
+    (&["check", "--pool", ""], Line::Check { pool: "" }),
+    (&["check", "--pool", "é"], Line::Check { pool: "é" }),
+];
+
+fn is_read_as(alloc: Global, words: &[&str], line: Line<'_>) -> bool {
+    matches!(Line::read(alloc, words), Ok(read) if read == line)
+}
+
+#[test]
+fn reads_each_subcommand_with_its_arguments_in_any_order(rt: HostRuntime) {
+    for (words, line) in READ {
+        assert!(rt; is_read_as(rt.alloc(), words, *line), "{words:?}");
+    }
+}
+
+// Words as a program has them.
+#[test]
+fn reads_words_that_are_owned(rt: HostRuntime) {
+    let alloc = rt.alloc();
+    let mut words: Vec<String> = Vec::new(alloc);
+    for word in ["check", "--pool", "f"] {
+        let word = String::from_str(alloc, word).expect(&rt, "memory");
+        words.push(word).expect(&rt, "memory");
+    }
+    let line = Line::read(alloc, words.as_slice());
+    assert!(rt; matches!(line, Ok(Line::Check { pool: "f" })));
+}
