@@ -7,6 +7,7 @@ pub mod Entries
 pub mod Placed
 pub mod Dropped
 pub mod Named
+pub mod Searched
 pub mod Opened
 pub mod Spread
 pub mod Rows

@@ -4,13 +4,14 @@ use Rattle.std.proofs.lemmas.Grind.{common_steps}
 use Rattle.std.proofs.lemmas.Bool.{ne_eqb}
 use Rattle.std.specs.Prelude.{Option, None, Some, length, position, slice_index_or, slice_set, eqb}
 use Rattle.std.specs.List.{insert, remove, position_or_len}
-use Rattle.std.specs.Str.{bytes_eq}
 use Rattle.git_paths.proofs.Cases.{by_cases}
 use Rattle.tree_build.specs.FileMap.{Path}
 use Rattle.branch_trees.specs.declared.dir.Node.{Node}
 use Rattle.branch_trees.specs.declared.dir.Node.TheVariants.{File, Unopened, Opened}
 use Rattle.branch_trees.specs.Shape.{What, file, unopened, opened, Shape, none, row, Held, Directory}
-use Rattle.branch_trees.specs.Nodes.{held, shape_of, is_after, has_name}
+use Rattle.branch_trees.specs.Nodes.{held, shape_of, has_name}
+use Rattle.branch_trees.specs.Branch.{key_of}
+use Rattle.branch_trees.specs.Searches.{is_behind}
 use Rattle.branch_trees.specs.Editing.{child, removed, inserted, changed, new_directory, inside_of, entries_in, is_opened, has_opened, put_next, placed, left, is_none}
 
 abbrev pub Rows : Type 0
@@ -44,17 +45,17 @@ module _ {A : Type 0} (p : A → Bool) where
 -- ---- one entry more
 
 pub shape_insert : (c : List ℕ) (n : Node) (xs : Rows)
-    → shape_of (insert xs (position_or_len (is_after c (held n)) xs) (c, n))
+    → shape_of (insert xs (position_or_len (is_behind (key_of c (held n).what)) xs) (c, n))
     ≡ inserted c (held n) (shape_of xs)
 shape_insert c n [] = refl
 shape_insert c n (x ∷ xs) =
-    by_cases (is_after c (held n) x)
+    by_cases (is_behind (key_of c (held n).what) x)
     (λ yea.
-    ap (λ (k : ℕ). shape_of (insert (x ∷ xs) k (c, n))) (here (is_after c (held n)) x xs yea)
+    ap (λ (k : ℕ). shape_of (insert (x ∷ xs) k (c, n))) (here (is_behind (key_of c (held n).what)) x xs yea)
     ∙ ap (λ (b : Bool). cond b (row c (held n).what (held n).inside (shape_of (x ∷ xs)))
     (row x.0 (held x.1).what (held x.1).inside (inserted c (held n) (shape_of xs)))) (sym yea))
     (λ nay.
-    ap (λ (k : ℕ). shape_of (insert (x ∷ xs) k (c, n))) (later (is_after c (held n)) x xs nay)
+    ap (λ (k : ℕ). shape_of (insert (x ∷ xs) k (c, n))) (later (is_behind (key_of c (held n).what)) x xs nay)
     ∙ ap (row x.0 (held x.1).what (held x.1).inside) (shape_insert c n xs)
     ∙ ap (λ (b : Bool). cond b (row c (held n).what (held n).inside (shape_of (x ∷ xs)))
     (row x.0 (held x.1).what (held x.1).inside (inserted c (held n) (shape_of xs)))) (sym nay))
@@ -161,14 +162,6 @@ put_new s c (d ∷ p) h below ne not is =
     (inserted c (new_directory (placed (d ∷ p) h (entries_in (child s c)))) (removed s c))) (sym not)
 
 -- ---- what is taken out again
-
-pub removed_changed : (s : Shape) (c : List ℕ) (h : Held) → removed (changed s c h) c ≡ removed s c
-removed_changed none c h = refl
-removed_changed (row d w inside rest) c h =
-    by_cases (bytes_eq d c)
-    (λ yea. rw yea (ap (λ (b : Bool). cond b rest (row d h.what h.inside (removed rest c))) yea))
-    (λ nay. rw nay (ap (λ (b : Bool). cond b (changed rest c h) (row d w inside (removed (changed rest c h) c))) nay
-    ∙ ap (row d w inside) (removed_changed rest c h)))
 
 pub none_left : (clear : Bool) (p : Path) (below : Shape) → left clear p None below ≡ None
 none_left clear [] below = refl

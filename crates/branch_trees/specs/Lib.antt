@@ -4,6 +4,7 @@ pub mod Branch
 pub mod Editing
 pub mod ShapeCode
 pub mod Nodes
+pub mod Searches
 pub mod Falls
 pub mod Opened
 pub mod Parts

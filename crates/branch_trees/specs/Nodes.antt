@@ -1,12 +1,9 @@
 -- How the values of the code are seen.
 use Rattle.std.specs.Prelude.{ℕ, Bool, List, [], ◌∷◌}
-use Rattle.std.specs.Ordering.{nat_cmp, is_lt}
-use Rattle.std.specs.Cmp.Lexicographic.{slice_cmp}
 use Rattle.std.specs.Str.{bytes_eq}
 use Rattle.branch_trees.specs.declared.dir.Node.{Node}
 use Rattle.branch_trees.specs.declared.dir.Node.TheVariants as node
 use Rattle.branch_trees.specs.Shape.{file, unopened, opened, Shape, none, row, Held}
-use Rattle.branch_trees.specs.Branch.{key_of}
 
 -- What is held at a node.
 abbrev pub held : Node → Held
@@ -21,10 +18,6 @@ with_row c h rest = row c h.what h.inside rest
 abbrev pub shape_of : List (List ℕ × Node) → Shape
 shape_of [] = none
 shape_of (e ∷ es) = with_row e.0 (held e.1) (shape_of es)
-
--- Whether another entry comes after one of this name.
-abbrev pub is_after : List ℕ → Held → List ℕ × Node → Bool
-is_after c h e = is_lt (slice_cmp nat_cmp (key_of c h.what) (key_of e.0 (held e.1).what))
 
 abbrev pub has_name : List ℕ → List ℕ × Node → Bool
 has_name c e = bytes_eq e.0 c

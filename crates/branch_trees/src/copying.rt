@@ -4,6 +4,7 @@ ghost use Rattle.std.specs.Prelude.{◌≡◌, Some, IfOk};
 ghost use Rattle.std.specs.Option.{option_map};
 ghost use Rattle.branch_trees.specs.Shape.{opened};
 ghost use Rattle.branch_trees.specs.Nodes.{held, shape_of};
+ghost use Rattle.branch_trees.specs.Searches.{AreOrdered};
 ghost use Rattle.branch_trees.specs.Editing.{child};
 ghost use Rattle.branch_trees.specs.Moving.{standing, copied_shape, copied_held};
 
@@ -58,6 +59,7 @@ fn copied_entries(
 /// What stands at a path below a node, where the directories on the way were opened.
 #[cycle(finding)]
 pub(crate) fn find_at<'a>(node: &'a Node, path: &Components<'_>) -> Option<&'a Node>
+    requires { AreOrdered (held node.now).inside }
     ensures { option_map (λ n. held n.now) result ≡ standing path.now (Some (held node.now)) }
 {
     let Some((name, rest)) = path.split_first() else {
@@ -75,6 +77,7 @@ fn find_below<'a>(
     name: &[u8],
     rest: &Components<'_>,
 ) -> Option<&'a Node>
+    requires { AreOrdered (shape_of entries.now) }
     ensures { option_map (λ n. held n.now) result
         ≡ standing rest.now (child (shape_of entries.now) name.now) }
 {
@@ -91,6 +94,7 @@ pub(crate) fn copy_at(
     node: &Node,
     path: &Components<'_>,
 ) -> Result<Option<Node>, Memory>
+    requires { AreOrdered (held node.now).inside }
     ensures { IfOk result (λ copy. option_map held copy
         ≡ option_map copied_held (standing path.now (Some (held node.now)))) }
 {

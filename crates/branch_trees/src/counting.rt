@@ -64,6 +64,7 @@ fn count_all<N: Naming>(pool: &Pool<N>, table: &Table, entries: &[(Component, No
 
 /// How many files go where a path of a directory is dropped, or where the way to it is to be clear.
 #[cycle(taking)]
+#[tactic(auto, using(crate::proofs::Searched::ordered))]
 pub(crate) fn taken<N: Naming>(
     pool: &Pool<N>,
     table: &Table,

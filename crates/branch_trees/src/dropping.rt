@@ -6,6 +6,7 @@ ghost use Rattle.std.specs.Prelude.{◌≡◌, ◌≢◌, [], Some, None, if◌t
 ghost use Rattle.std.specs.Option.{option_map};
 ghost use Rattle.branch_trees.specs.Shape.{opened};
 ghost use Rattle.branch_trees.specs.Nodes.{held, shape_of};
+ghost use Rattle.branch_trees.specs.Searches.{AreOrdered};
 ghost use Rattle.branch_trees.specs.Editing.{child, entries_in, left, put_back, dropped};
 ghost use Rattle.branch_trees.specs.Moving.{standing, rest_of};
 
@@ -20,6 +21,7 @@ use std::mem;
 /// file on the way. Answers what stood at the path.
 #[cycle(dropping)]
 pub(crate) fn take_at(dir: &mut Dir, path: &Components<'_>, clear: bool) -> Option<Node>
+    requires { AreOrdered dir.old.entries }
     ensures entries { dir.new.entries ≡ dropped clear path.now dir.old.entries }
     ensures tree { path.now ≢ [] → dir.new.tree ≡ None }
     ensures node { path.now ≢ [] → option_map held result ≡ standing path.now
@@ -40,6 +42,7 @@ fn take_below(
     rest: &Components<'_>,
     clear: bool,
 ) -> Option<Node>
+    requires { AreOrdered (shape_of entries.old.items) }
     ensures entries { shape_of entries.new.items
         ≡ put_back (shape_of entries.old.items) name.now
         (left clear rest.now (child (shape_of entries.old.items) name.now)
@@ -55,7 +58,7 @@ fn take_below(
     };
     let (taken, goes) = take_inside(&mut entries[at].1, rest, clear);
     if goes {
-        remove(entries, name);
+        entries.remove(at);
     }
     taken
 }
@@ -63,7 +66,8 @@ fn take_below(
 // Takes out what stands at a path inside a node, and says whether nothing is left of the node.
 #[cycle(dropping)]
 fn take_inside(node: &mut Node, rest: &Components<'_>, clear: bool) -> (Option<Node>, bool)
-    requires { rest.now ≢ [] }
+    requires ordered { AreOrdered (held node.old).inside }
+    requires rest { rest.now ≢ [] }
     ensures left { left clear rest.now (Some (held node.old))
         (dropped clear rest.now (entries_in (Some (held node.old))))
         ≡ (if result.1 then None else Some (held node.new)) }
@@ -81,6 +85,7 @@ fn take_inside(node: &mut Node, rest: &Components<'_>, clear: bool) -> (Option<N
 
 /// Takes out what stands at a path of the root. At the root itself that is all.
 pub(crate) fn take_from(alloc: Global, root: &mut Node, path: &Components<'_>) -> Option<Node>
+    requires { AreOrdered (held root.old).inside }
     ensures rest { held root.new ≡ rest_of path.now (held root.old) }
     ensures node { option_map held result ≡ standing path.now (Some (held root.old)) }
 {

@@ -50,6 +50,7 @@ pub(crate) fn entry_at<N: Naming>(
 }
 
 #[cycle(looking)]
+#[tactic(auto, using(crate::proofs::Searched::ordered))]
 fn entry_below<N: Naming>(
     alloc: Global,
     pool: &Pool<N>,

@@ -17,6 +17,7 @@ ghost use Rattle.tree_build.specs.StoredFiles.{stored_files};
 ghost use Rattle.branch_trees.specs.Shape.{held_files};
 ghost use Rattle.branch_trees.specs.Branch.{root_files, files_in, IsDirectory, IsHeld, IsBranch, Reads, closed_from};
 ghost use Rattle.branch_trees.specs.Nodes.{held};
+ghost use Rattle.branch_trees.specs.Searches.{AreOrdered};
 ghost use Rattle.branch_trees.specs.Opened.{recounted, too_many};
 ghost use Rattle.branch_trees.specs.Moving.{standing, rest_of, IsNoLonger, has_entries, IsMoved, path_fault, summary_fault};
 ghost use Rattle.branch_trees.specs.Sums.{IsSmall};
@@ -196,6 +197,7 @@ impl Files {
 
     // Takes out what stands at a path. The number of files stays as it was.
     fn take_source(&mut self, from: &Components<'_>) -> Option<Node>
+        requires { AreOrdered self.old.root.inside }
         ensures rest { self.new ≡ record {
           root = rest_of from.now self.old.root;
           files = self.old.files;

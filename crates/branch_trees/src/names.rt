@@ -1,63 +1,79 @@
 //! The entries of an opened directory: in Git's order, with distinct names.
+//!
+//! A name is sought by halves, first as that of a directory, after which Git's order has a slash,
+//! and then as that of a file.
 
-ghost use Rattle.std.specs.Prelude.{◌≡◌, ◌≤◌, length, position, OnOk};
-ghost use Rattle.std.specs.List.{position_or_len};
+ghost use Rattle.std.specs.Prelude.{◌≡◌, ◌≤◌, ◌++◌, length, position, OnOk, MatchOption};
 ghost use Rattle.std.specs.Option.{option_map};
-ghost use Rattle.std.specs.Ordering.{is_lt, nat_cmp};
-ghost use Rattle.std.specs.Cmp.Lexicographic.{slice_cmp};
-ghost use Rattle.std.specs.Str.{bytes_eq};
-ghost use Rattle.git_model.specs.Tree.{order_key};
+ghost use Rattle.git_model.specs.Tree.{order_key, slash_of};
 ghost use Rattle.git_objects.specs.Parts.{entry_of};
-ghost use Rattle.branch_trees.specs.Branch.{key_of};
+ghost use Rattle.branch_trees.specs.Branch.{slash_after};
 ghost use Rattle.branch_trees.specs.Editing.{child, inserted, removed};
-ghost use Rattle.branch_trees.specs.Nodes.{held, shape_of, is_after};
+ghost use Rattle.branch_trees.specs.Nodes.{held, shape_of, has_name};
+ghost use Rattle.branch_trees.specs.Searches.{AreOrdered, is_behind, IsPlaceBehind, HasNone};
 
 use crate::component::Component;
 use crate::dir::Node;
 use git_objects::{FileMode, Memory, Name, TreeEntry};
 
-/// Where the entry of a name stands.
-pub(crate) fn place_of(entries: &[(Component, Node)], name: &[u8]) -> Option<usize>
-    ensures { result ≡ position (λ e. bytes_eq e.0 name.now) entries.now }
-{
-    entries.iter().position(|entry| entry.0.as_bytes() == name)
-}
-
 // An entry as Git's order sees it.
-fn ordered<'a>(name: &'a [u8], node: &Node) -> TreeEntry<'a>
-    ensures { order_key (entry_of result) ≡ key_of name.now (held node.now).what }
+fn ordered(name: &[u8], mode: FileMode) -> TreeEntry<'_>
+    ensures { order_key (entry_of result) ≡ name.now ++ slash_of mode }
 {
-    let mode = match node {
-        Node::File(_) => FileMode::Regular,
-        _ => FileMode::Directory,
-    };
     let id = Name::from_bytes([0; 20]);
     TreeEntry { mode, name, id }
 }
 
+/// As what Git's order takes a node: as a file or as a directory.
+pub(crate) fn order_mode(node: &Node) -> FileMode
+    ensures { slash_of result ≡ slash_after (held node.now).what }
+{
+    match node {
+        Node::File(_) => FileMode::Regular,
+        _ => FileMode::Directory,
+    }
+}
+
 fn comes_before(entry: &TreeEntry<'_>, other: &(Component, Node)) -> bool
-    ensures { result ≡ is_lt (slice_cmp nat_cmp (order_key (entry_of entry.now))
-        (key_of other.now.0 (held other.now.1).what)) }
+    ensures { result ≡ is_behind (order_key (entry_of entry.now)) other.now }
 {
-    entry.order(&ordered(other.0.as_bytes(), &other.1)).is_lt()
+    let node = order_mode(&other.1);
+    entry.order(&ordered(other.0.as_bytes(), node)).is_lt()
 }
 
-// Where the first entry stands that comes after another.
-fn first_after(entries: &[(Component, Node)], name: &[u8], node: &Node) -> Option<usize>
-    ensures { result ≡ position (is_after name.now (held node.now)) entries.now }
-{
-    let entry = ordered(name, node);
-    entries.iter().position(|other| comes_before(&entry, other))
-}
-
-// Where an entry comes to stand.
-fn place_for(entries: &[(Component, Node)], name: &[u8], node: &Node) -> usize
-    ensures place { result ≡ position_or_len (is_after name.now (held node.now)) entries.now }
+// From where on all entries come after another in Git's order; none before it does.
+fn place_behind(entries: &[(Component, Node)], entry: &TreeEntry<'_>) -> usize
+    requires { AreOrdered (shape_of entries.now) }
     ensures within { result ≤ length entries.now }
+    ensures point { IsPlaceBehind (order_key (entry_of entry.now)) entries.now result }
 {
-    match first_after(entries, name, node) {
-        Some(place) => place,
-        None => entries.len(),
+    entries.partition_point(|other| !comes_before(entry, other))
+}
+
+// Where the entry of a name stands, if a new one of this mode would come right behind it. An entry
+// of this name and mode is always found.
+fn place_before(entries: &[(Component, Node)], name: &[u8], mode: FileMode) -> Option<usize>
+    requires { AreOrdered (shape_of entries.now) }
+    ensures { MatchOption result (HasNone name.now (slash_of mode) entries.now)
+        (λ at. position (has_name name.now) entries.now ≡ Some at) }
+{
+    let next = place_behind(entries, &ordered(name, mode));
+    if next == 0 {
+        return None;
+    }
+    let at = next - 1;
+    let is_named = entries[at].0.as_bytes() == name;
+    if is_named { Some(at) } else { None }
+}
+
+/// Where the entry of a name stands.
+pub(crate) fn place_of(entries: &[(Component, Node)], name: &[u8]) -> Option<usize>
+    requires { AreOrdered (shape_of entries.now) }
+    ensures { result ≡ position (has_name name.now) entries.now }
+{
+    match place_before(entries, name, FileMode::Directory) {
+        Some(at) => Some(at),
+        None => place_before(entries, name, FileMode::Regular),
     }
 }
 
@@ -67,16 +83,18 @@ pub(crate) fn insert(
     name: Component,
     node: Node,
 ) -> Result<(), Memory>
+    requires { AreOrdered (shape_of entries.old.items) }
     ensures { OnOk result (shape_of entries.new.items
         ≡ inserted name (held node) (shape_of entries.old.items)) }
 {
-    let place = place_for(entries, name.as_bytes(), &node);
+    let place = place_behind(entries, &ordered(name.as_bytes(), order_mode(&node)));
     entries.insert(place, (name, node))?;
     Ok(())
 }
 
 /// Takes out the entry of a name, if there is one, and answers what stood there.
 pub(crate) fn remove(entries: &mut Vec<(Component, Node)>, name: &[u8]) -> Option<Node>
+    requires { AreOrdered (shape_of entries.old.items) }
     ensures entries { shape_of entries.new.items ≡ removed (shape_of entries.old.items) name.now }
     ensures node { option_map held result ≡ child (shape_of entries.old.items) name.now }
 {

@@ -77,6 +77,7 @@ pub(crate) fn open<N: Naming>(
 /// Opens the directories on the way to a path, and counts the texts that are read. Takes memory for
 /// their entries.
 #[cycle(opening)]
+#[tactic(auto, using(crate::proofs::Searched::ordered))]
 pub(crate) fn open_along<N: Naming>(
     alloc: Global,
     pool: &Pool<N>,

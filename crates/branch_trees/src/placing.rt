@@ -5,14 +5,35 @@
 ghost use Rattle.std.specs.Prelude.{◌≡◌, ◌≢◌, [], true, false, position, None, OnOk, MatchOption};
 ghost use Rattle.git_paths.specs.Paths.{IsComponent};
 ghost use Rattle.branch_trees.specs.Nodes.{held, shape_of, has_name};
+ghost use Rattle.branch_trees.specs.Searches.{AreOrdered};
 ghost use Rattle.branch_trees.specs.Editing.{child, removed, inserted, new_directory, has_opened, is_opened, entries_in, put_next, placed};
 
 use crate::component::{Component, has_components};
 use crate::dir::{Dir, Node};
-use crate::names::{insert, place_of, remove};
+use crate::names::{insert, order_mode, place_of};
 use git_objects::Memory;
 use git_paths::Components;
 use std::alloc::Global;
+
+// Puts a node in place of the entry that stands at a place.
+fn put_instead(
+    entries: &mut Vec<(Component, Node)>,
+    at: usize,
+    name: &[u8],
+    node: Node,
+) -> Result<(), Memory>
+    requires ordered { AreOrdered (shape_of entries.old.items) }
+    requires there { position (has_name name.now) entries.old.items ≡ Some at }
+    ensures { OnOk result (shape_of entries.new.items
+        ≡ inserted name.now (held node) (removed (shape_of entries.old.items) name.now)) }
+{
+    if order_mode(&entries[at].1) == order_mode(&node) {
+        entries[at].1 = node;
+        return Ok(());
+    }
+    let (owned, _) = entries.remove(at);
+    insert(entries, owned, node)
+}
 
 // Puts an entry in place of that of its name.
 fn put_entry(
@@ -21,17 +42,20 @@ fn put_entry(
     name: &[u8],
     node: Node,
 ) -> Result<(), Memory>
-    requires { IsComponent name.now }
+    requires name { IsComponent name.now }
+    requires ordered { AreOrdered (shape_of entries.old.items) }
     ensures { OnOk result (shape_of entries.new.items
         ≡ inserted name.now (held node) (removed (shape_of entries.old.items) name.now)) }
 {
-    let owned = Component::new(alloc, name)?;
-    remove(entries, name);
-    insert(entries, owned, node)
+    match place_of(entries, name) {
+        Some(at) => put_instead(entries, at, name, node),
+        None => insert(entries, Component::new(alloc, name)?, node),
+    }
 }
 
 // Where the entry of a name stands, if it is an opened directory.
 fn opened_place(entries: &[(Component, Node)], name: &[u8]) -> Option<usize>
+    requires { AreOrdered (shape_of entries.now) }
     ensures { MatchOption result (has_opened (child (shape_of entries.now) name.now) ≡ false)
         (λ at. (position (has_name name.now) entries.now ≡ Some at)
         × (has_opened (child (shape_of entries.now) name.now) ≡ true)) }
@@ -53,6 +77,7 @@ pub(crate) fn place(
     path: &Components<'_>,
     node: Node,
 ) -> Result<(), Memory>
+    requires { AreOrdered dir.old.entries }
     ensures entries { OnOk result (dir.new.entries ≡ placed path.now (held node) dir.old.entries) }
     ensures tree { OnOk result (path.now ≢ [] → dir.new.tree ≡ None) }
 {
@@ -77,6 +102,7 @@ fn place_below(
     node: Node,
 ) -> Result<(), Memory>
     requires name { IsComponent name.now }
+    requires ordered { AreOrdered (shape_of entries.old.items) }
     requires rest { rest.now ≢ [] }
     ensures { OnOk result (shape_of entries.new.items
         ≡ put_next (shape_of entries.old.items) name.now rest.now (held node)
@@ -101,6 +127,7 @@ fn place_inside(
     node: Node,
 ) -> Result<(), Memory>
     requires opened { is_opened (held at.old).what ≡ true }
+    requires ordered { AreOrdered (held at.old).inside }
     requires rest { rest.now ≢ [] }
     ensures { OnOk result (held at.new
         ≡ new_directory (placed rest.now (held node) (held at.old).inside)) }

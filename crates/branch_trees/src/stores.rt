@@ -138,6 +138,7 @@ fn store_path<N: Naming>(
 
 // Stores the trees at a path of what stands in a directory.
 #[cycle(walking)]
+#[tactic(auto, using(crate::proofs::Searched::ordered))]
 fn store_below<N: Naming>(
     alloc: Global,
     pool: &mut Pool<N>,

@@ -1,18 +1,30 @@
-use Rattle.std.proofs.Common.{ℕ, List, sym, ap, ◌∙◌}
-use Rattle.std.specs.Prelude.{Option, Some}
+use Rattle.std.proofs.Common.{ℕ, arith, List, sym, ap, ◌∙◌, subst}
+use Rattle.std.specs.Prelude.{Some}
 use Rattle.tenant_tables.proofs.EntryLemmas.{position-found}
 use Rattle.tree_build.specs.FileMap.{Path}
 use Rattle.branch_trees.specs.declared.dir.Node.{Node}
 use Rattle.branch_trees.specs.Nodes.{held, has_name}
 use Rattle.branch_trees.specs.Moving.{standing}
+use Rattle.branch_trees.specs.Searches.{AreOrdered}
 use Rattle.branch_trees.proofs.Copies.{nothing_stands, none_below}
 use Rattle.branch_trees.proofs.Named.{shape_found, shape_lacks, found_within, not_found}
+use Rattle.branch_trees.proofs.Searched.{ordered_at}
 use Rattle.branch_trees.proofs.copying.+finding.Goals as goal
 
 pub find_at-returns-in_default-node : goal.find_at-returns-in_default-node
 find_at-returns-in_default-node t c =
     sym (ap (λ (p : Path). standing p (Some (held c.args.node.now))) c.in-Some.ensures
     ∙ none_below c.args.node.now c.in_default-node.not-Opened c.in-Some.name.now c.in-Some.rest)
+
+pub find_below-find_at-requires : goal.find_below-find_at-requires
+find_below-find_at-requires t c =
+    let d = c.decreases in
+    let at = sym c.place_of.ensures ∙ c.in-Some.is in
+    let some = ordered_at c.args.entries.now c.in-Some.place c.index-entries-place.result c.index-entries-place.is
+    (found_within (has_name c.args.name.now) c.args.entries.now c.in-Some.place at) c.requires in (
+      omega arith,
+      subst (λ (e : List ℕ × Node). AreOrdered (held e.1).inside) c.index-entries-place.is some,
+    )
 
 pub find_below-returns-in-Some : goal.find_below-returns-in-Some
 find_below-returns-in-Some t c =

@@ -1,19 +1,31 @@
-use Rattle.std.proofs.Common.{Bool, cond, sym, ap, ◌∙◌}
+use Rattle.std.proofs.Common.{rules, ℕ, Bool, cond, sym, ap, ◌∙◌}
 use Rattle.std.specs.Prelude.{Option, None, Some}
-use Rattle.std.specs.List.{position}
+use Rattle.std.specs.List.{position, remove}
 use Rattle.tree_build.specs.FileMap.{Path}
 use Rattle.tenant_tables.proofs.EntryLemmas.{position-found}
-use Rattle.branch_trees.specs.Shape.{Shape, Held}
+use Rattle.branch_trees.specs.Shape.{Held}
 use Rattle.branch_trees.specs.Nodes.{held, shape_of, has_name}
-use Rattle.branch_trees.specs.Editing.{removed, entries_in, left, put_back, dropped}
+use Rattle.branch_trees.specs.Editing.{entries_in, left, put_back, dropped}
 use Rattle.branch_trees.specs.Moving.{standing}
 use Rattle.branch_trees.proofs.Copies.{nothing_stands, stands_nowhere}
-use Rattle.branch_trees.proofs.Named.{shape_found, shape_lacks, found_within, not_found, removed_changed, none_left}
+use Rattle.branch_trees.proofs.Named.{shape_found, shape_lacks, found_within, not_found, shape_remove, none_left}
+use Rattle.branch_trees.proofs.Searched.{ordered_at, removed_set}
 use Rattle.branch_trees.proofs.dropping.+dropping.Goals as goal
 
 -- what is left of what stands under a name
 abbrev leaves : Bool → Path → Option Held → Option Held
 leaves clear rest o = left clear rest o (dropped clear rest (entries_in o))
+
+pub take_below-take_inside-taken-requires : goal.take_below-take_inside-taken-requires
+take_below-take_inside-taken-requires t c =
+    let at = ap (position (has_name c.args.name.now)) (sym c.deref.ensures.value) ∙ sym c.place_of.ensures ∙ c.in-Some.is in (
+      search rules,
+      (
+        ordered_at c.args.entries.now.items c.in-Some.at c.index_mut.result.now c.index_mut.ensures.value
+            (found_within (has_name c.args.name.now) c.args.entries.now.items c.in-Some.at at) c.requires,
+        search rules,
+      ),
+    )
 
 pub take_below-returns-in_default-clause-entries : goal.take_below-returns-in_default-clause-entries
 take_below-returns-in_default-clause-entries t c =
@@ -42,9 +54,11 @@ take_below-returns-then-goes-clause-entries t c =
     (position-found (has_name c.args.name.now) c.args.entries.now.items c.in-Some.at at)
     (found_within (has_name c.args.name.now) c.args.entries.now.items c.in-Some.at at)
     c.index_mut.result.now (sym c.index_mut.ensures.value) in
-    c.remove-then-goes.ensures.entries
-    ∙ ap (λ (x : Shape). removed x c.args.name.now) (found.1 c.take_inside-taken.new.node)
-    ∙ removed_changed s c.args.name.now (held c.take_inside-taken.new.node)
+    ap shape_of c.remove-then-goes.ensures.items
+    ∙ ap shape_of (removed_set c.args.entries.now.items c.in-Some.at (c.index_mut.result.now.0, c.take_inside-taken.new.node))
+    ∙ ap (λ (k : ℕ). shape_of (remove c.args.entries.now.items k))
+    (sym (position-found (has_name c.args.name.now) c.args.entries.now.items c.in-Some.at at))
+    ∙ shape_remove c.args.name.now c.args.entries.now.items
     ∙ ap (put_back s c.args.name.now)
     (sym (ap (leaves c.args.clear c.args.rest.now) found.0 ∙ c.take_inside-taken.ensures.left
     ∙ ap (λ (b : Bool). cond b None (Some (held c.take_inside-taken.new.node))) c.if-goes.true))
@@ -84,9 +98,9 @@ take_below-returns-else-goes-clause-node t c =
 
 pub take_inside-returns-in-File-clause-node : goal.take_inside-returns-in-File-clause-node
 take_inside-returns-in-File-clause-node t c =
-    sym (stands_nowhere c.args.node.now (λ d e. cc (sym c.in-File.is ∙ e)) c.args.rest.now c.requires)
+    sym (stands_nowhere c.args.node.now (λ d e. cc (sym c.in-File.is ∙ e)) c.args.rest.now c.requires.rest)
 
 pub take_inside-returns-in-Unopened-clause-node :
     goal.take_inside-returns-in-Unopened-clause-node
 take_inside-returns-in-Unopened-clause-node t c =
-    sym (stands_nowhere c.args.node.now (λ d e. cc (sym c.in-Unopened.is ∙ e)) c.args.rest.now c.requires)
+    sym (stands_nowhere c.args.node.now (λ d e. cc (sym c.in-Unopened.is ∙ e)) c.args.rest.now c.requires.rest)

@@ -1,9 +1,7 @@
-use Rattle.std.proofs.Common.{◌≡◌, ◌≢◌, [], sym, ap, ◌∙◌}
+use Rattle.std.proofs.Common.{◌≢◌, [], sym, ap, ◌∙◌}
 use Rattle.std.specs.Prelude.{Some}
 use Rattle.branch_trees.specs.declared.dir.Node.{Node}
-use Rattle.branch_trees.specs.declared.dir.Node.TheVariants.{Opened}
 use Rattle.branch_trees.specs.Shape.{opened}
-use Rattle.branch_trees.specs.Editing.{new_directory, dropped}
 use Rattle.branch_trees.specs.Moving.{standing, rest_of}
 use Rattle.branch_trees.specs.Nodes.{held}
 use Rattle.branch_trees.proofs.Copies.{stands_nowhere, rest_opened, rest_other}

@@ -1,5 +1,5 @@
 use Rattle.std.proofs.Common.{◌≡◌, ℕ, ap, ◌∙◌, sym}
-use Rattle.std.specs.Prelude.{None, Some}
+use Rattle.std.specs.Prelude.{Some}
 use Rattle.std.specs.List.{remove, position}
 use Rattle.tenant_tables.proofs.EntryLemmas.{position-found}
 use Rattle.branch_trees.specs.Nodes.{shape_of, has_name}

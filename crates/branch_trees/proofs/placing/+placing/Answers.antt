@@ -9,6 +9,9 @@ use Rattle.branch_trees.specs.Nodes.{held, shape_of, has_name}
 use Rattle.branch_trees.specs.Editing.{child, changed, has_opened}
 use Rattle.branch_trees.proofs.Named.{Rows, shape_found, found_within, put_in_place}
 use Rattle.tree_build.specs.FileMap.{Path}
+use Rattle.branch_trees.specs.Shape.{Directory}
+use Rattle.branch_trees.specs.Searches.{AreOrdered}
+use Rattle.branch_trees.proofs.Searched.{ordered_at}
 use Rattle.branch_trees.proofs.placing.+placing.Goals as goal
 
 not_empty : {c : List ℕ} {p : Path} → [] ≡ c ∷ p → ⊥
@@ -22,12 +25,15 @@ place-place_below-requires t c =
       (
         All-head IsComponent c.in-Some.name.now c.in-Some.rest
             (subst IsPath c.in-Some.ensures c.has_components.ensures),
-        λ e. not_empty (sym e ∙ c.in-Some-split_first.ensures),
+        (
+          subst (λ (d : Directory). AreOrdered d.entries) (sym c.dir.view_is) c.requires,
+          λ e. not_empty (sym e ∙ c.in-Some-split_first.ensures),
+        ),
       ),
     )
 
-pub place-put_entry-requires : goal.place-put_entry-requires
-place-put_entry-requires t c =
+pub place-put_entry-requires-clause-name : goal.place-put_entry-requires-clause-name
+place-put_entry-requires-clause-name t c =
     All-head IsComponent c.in-Some.name.now c.in-Some.rest (subst IsPath c.in-Some.ensures c.has_components.ensures)
 
 pub place_below-place_inside-requires : goal.place_below-place_inside-requires
@@ -40,11 +46,19 @@ place_below-place_inside-requires t c =
     (found_within (has_name c.args.name.now) c.args.entries.now.items c.in-Some.at at)
     c.index_mut.result.now (sym c.index_mut.ensures.value) in (
       omega arith,
-      (sym (ap has_opened found.0) ∙ opened, c.requires.rest),
+      (
+        sym (ap has_opened found.0) ∙ opened,
+        (
+          ordered_at c.args.entries.now.items c.in-Some.at c.index_mut.result.now c.index_mut.ensures.value
+              (found_within (has_name c.args.name.now) c.args.entries.now.items c.in-Some.at at) c.requires.ordered,
+          c.requires.rest,
+        ),
+      ),
     )
 
 pub place_below-place-requires : goal.place_below-place-requires
-place_below-place-requires t c = let d = c.decreases in (omega arith, tt)
+place_below-place-requires t c =
+    let d = c.decreases in (omega arith, subst AreOrdered (sym c.empty-below.ensures.entries) tt)
 
 pub place_below-returns-in-Some : goal.place_below-returns-in-Some
 place_below-returns-in-Some t c =

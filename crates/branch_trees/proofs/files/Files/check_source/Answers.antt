@@ -10,7 +10,13 @@ use Rattle.branch_trees.specs.Sums.{IsSmall}
 use Rattle.branch_trees.specs.Moving.{path_fault}
 use Rattle.branch_trees.proofs.Moved.{of_some, of_none, gone, stood, fault-there}
 use Rattle.branch_trees.proofs.NoLonger.{entries_have_files, clean_no_longer}
+use Rattle.branch_trees.proofs.Searched.{ordered_held}
 use Rattle.branch_trees.proofs.files.Files.check_source.Goals as goal
+
+pub find_at-requires : goal.find_at-requires
+find_at-requires g c =
+    let os = objects c.args.pool.now c.args.table.now.entries in
+    ordered_held os _ (subst (IsBranch os) (sym c.self.view_is) c.requires.branch).held
 
 pub extent-requires-clause-sound : goal.extent-requires-clause-sound
 extent-requires-clause-sound g c =

@@ -13,7 +13,13 @@ use Rattle.branch_trees.specs.Sums.{IsSmall}
 use Rattle.branch_trees.specs.Moving.{path_fault}
 use Rattle.branch_trees.proofs.Moved.{nothing-there, found, fault-there}
 use Rattle.tenant_tables.specs.declared.summary.Summary.{Summary}
+use Rattle.branch_trees.proofs.Searched.{ordered_held}
 use Rattle.branch_trees.proofs.files.Files.copy_from.Goals as goal
+
+pub copy_at-requires : goal.copy_at-requires
+copy_at-requires g c =
+    let os = objects c.args.pool.now c.args.table.now.entries in
+    ordered_held os _ (subst (IsBranch os) (sym c.self.view_is) c.in_ok-open_to.ensures.branch).held
 
 pub returns-in_default-clause-refusal : goal.returns-in_default-clause-refusal
 returns-in_default-clause-refusal g c = λ _.

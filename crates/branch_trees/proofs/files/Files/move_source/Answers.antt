@@ -1,5 +1,5 @@
-use Rattle.std.proofs.Common.{◌≡◌, ◌≤◌, ◌+◌, ℕ, length, sym, ap, ◌∙◌, subst, arith}
-use Rattle.std.specs.Prelude.{Option, None, Some, OnOk}
+use Rattle.std.proofs.Common.{◌≡◌, ◌≤◌, ◌+◌, length, sym, ap, ◌∙◌, subst, arith}
+use Rattle.std.specs.Prelude.{Option, Some}
 use Rattle.std.specs.FinMap as finmap
 use Rattle.std.proofs.lemmas.Result.{on_ok_weaker}
 use Rattle.git_paths.specs.Paths.{IsPath, behind}
@@ -9,14 +9,19 @@ use Rattle.tree_build.specs.Edits.{files_at, moved, without, put_tree_at}
 use Rattle.tree_build.specs.FileMap.{Path, Listed, FileMap, AreFiles, listed}
 use Rattle.tree_build.specs.StoredFiles.{stored_files}
 use Rattle.branch_trees.specs.Shape.{Held, held_files}
-use Rattle.branch_trees.specs.Branch.{Branch, root_files, files_in, IsHeld, IsBranch, closed_from}
+use Rattle.branch_trees.specs.Branch.{Branch, root_files, files_in, IsBranch, closed_from}
 use Rattle.branch_trees.specs.Nodes.{held}
 use Rattle.branch_trees.specs.Opened.{recounted, too_many}
 use Rattle.branch_trees.specs.Moving.{standing, files_of_held}
 use Rattle.branch_trees.proofs.Moved.{of_some, of_none, gone, stood, directory-there, full-there}
 use Rattle.branch_trees.proofs.Moves.{few-moved, good-put, good-rest, edits-renamed, branch-renamed, path-some}
 use Rattle.branch_trees.proofs.Taken.{rest_is}
+use Rattle.branch_trees.proofs.Searched.{ordered_held}
 use Rattle.branch_trees.proofs.files.Files.move_source.Goals as goal
+
+pub take_source-requires : goal.take_source-requires
+take_source-requires g c =
+    ordered_held (objects c.args.pool.now c.args.table.now.entries) _ c.in_ok-open_to.ensures.branch.held
 
 pub put_here-requires-clause-branch : goal.put_here-requires-clause-branch
 put_here-requires-clause-branch g c =

@@ -14,7 +14,14 @@ use Rattle.branch_trees.proofs.Named.{Rows}
 use Rattle.branch_trees.proofs.Branches.{branch_few}
 use Rattle.branch_trees.proofs.Puts.{total_few, total_len, total_files, total_branch, many, not_many, MayHave}
 use Rattle.branch_trees.proofs.OpenStays.{open_placed, closed_placed}
+use Rattle.branch_trees.proofs.Searched.{ordered}
 use Rattle.branch_trees.proofs.files.Files.put_node.Goals as goal
+
+pub place-requires : goal.place-requires
+place-requires g c =
+    let os = objects c.args.pool.now c.args.table.now.entries in
+    let b = subst (λ (x : Branch). IsBranch os (recounted os x)) (sym c.self.view_is) c.requires.branch in
+    ordered os c.in-Opened.dir.entries (subst (λ (n : Node). IsHeld os (held n)) c.in-Opened.is b.held).1
 
 pub taken-requires-clause-few : goal.taken-requires-clause-few
 taken-requires-clause-few g c =

@@ -1,5 +1,5 @@
-use Rattle.std.proofs.Common.{◌≡◌, ◌≢◌, sym, ap, ◌∙◌, subst, arith}
-use Rattle.std.specs.Prelude.{None, Err, OnOk}
+use Rattle.std.proofs.Common.{◌≡◌, sym, ap, ◌∙◌, subst}
+use Rattle.std.specs.Prelude.{None, Err}
 use Rattle.std.proofs.lemmas.Result.{err_from_is_err_and}
 use Rattle.tenant_tables.specs.Objects.{objects}
 use Rattle.tree_build.specs.declared.fault.Fault.{Fault}

@@ -13,7 +13,14 @@ use Rattle.branch_trees.proofs.Named.{Rows}
 use Rattle.branch_trees.proofs.Branches.{branch_few, drop_files, drop_branch, drop_few}
 use Rattle.branch_trees.proofs.OpenStays.{open_dropped}
 use Rattle.branch_trees.proofs.Taken.{none_gone}
+use Rattle.branch_trees.proofs.Searched.{ordered}
 use Rattle.branch_trees.proofs.files.Files.take_out.Goals as goal
+
+pub take_at-requires : goal.take_at-requires
+take_at-requires g c =
+    let os = objects c.args.pool.now c.args.table.now.entries in
+    let b = subst (IsBranch os) (sym c.self.view_is) c.requires.branch in
+    ordered os c.in-Opened.dir.entries (subst (λ (n : Node). IsHeld os (held n)) c.in-Opened.is b.held).1
 
 pub taken-gone-requires-clause-few : goal.taken-gone-requires-clause-few
 taken-gone-requires-clause-few g c =
