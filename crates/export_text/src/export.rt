@@ -28,7 +28,6 @@ const IMPORTED_REFS_LIMIT: usize = 65_535;
 const FIRST_HEAD: &[u8] = b"refs/heads/main";
 
 // HEAD, where it is not what a repository has at first.
-#[tactic(auto, unfolding(crate::specs::Export::head_items))]
 fn append_head(head: &[u8], out: &mut Vec<u8>) -> Result<(), Memory>
     ensures written { OnOk result (out.new.items
         ≡ out.old.items ++ items_text (head_items head.now)) }

@@ -1,0 +1,12 @@
+//! Tests of two tenants of one service, beside a service that each has alone. Nothing else stands
+//! here.
+#![tactic(auto)]
+
+#[cfg(test)]
+mod asks;
+#[cfg(test)]
+mod limits;
+#[cfg(test)]
+mod told;
+#[cfg(test)]
+mod twins;
