@@ -17,4 +17,5 @@ pub mod OwnGood
 pub mod OwnRefs
 pub mod Savable
 pub mod Texts
+pub mod Judging
 mod Examples

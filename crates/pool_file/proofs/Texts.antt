@@ -20,10 +20,10 @@ use Rattle.pool_file.proofs.Said.{file_again}
 use Rattle.pool_file.proofs.Saved.{saved_passes, saved_again}
 use Rattle.pool_file.proofs.Savable.{can_save}
 
-abbrev Whole : Type 0
+abbrev pub Whole : Type 0
 Whole = (RawFile × List ℕ) × List ℕ
 
-abbrev judged : (List ℕ → List ℕ) → Whole → Result (RawFile × List ℕ) Refusal
+abbrev pub judged : (List ℕ → List ℕ) → Whole → Result (RawFile × List ℕ) Refusal
 judged digest w =
     cond (bytes_eq w.0.1 (digest (body_text w.0.0))) (Ok (w.0.0, w.1)) (Err refusal.WrongDigest)
 

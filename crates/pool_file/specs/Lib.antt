@@ -2,3 +2,4 @@
 pub mod Repositories
 pub mod Saved
 pub mod Saving
+pub mod Judging

@@ -4,6 +4,8 @@
 #[cfg(test)]
 mod files;
 #[cfg(test)]
+mod judged;
+#[cfg(test)]
 mod objects;
 #[cfg(test)]
 mod own;

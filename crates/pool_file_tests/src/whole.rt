@@ -6,9 +6,9 @@ use pool_file_text::{Fault, RawFile, RawObject, RawRef, RawTenant};
 use std::alloc::Global;
 
 // The byte of a kind, and contents. The names in them are those that `git hash-object` gave.
-type Object<'a> = (u8, &'a [u8]);
+pub type Object<'a> = (u8, &'a [u8]);
 
-const OBJECTS: &[Object<'static>] = &[
+pub const OBJECTS: &[Object<'static>] = &[
     (
         1,
         b"tree 4b825dc642cb6eb9a060e54bf8d69288fbee4904\nauthor A <a@b> 0 +0000\ncommitter A <a@b> 0 +0000\n\nx\n",
@@ -35,7 +35,7 @@ const BLOB: u64 = 3;
 
 const TAG: u64 = 4;
 
-const ALL: &[u64] = &[TREE, COMMIT, BLOB, OF_FILE, TAG];
+pub const ALL: &[u64] = &[TREE, COMMIT, BLOB, OF_FILE, TAG];
 
 // The empty tree, a tree of the blob above, which is not here, and one with the empty tree as a
 // directory.
@@ -51,20 +51,20 @@ const TREES: &[Object<'static>] = &[
     ),
 ];
 
-const UNSORTED: &[Object<'static>] = &[(3, b"b"), (3, b"a")];
+pub const UNSORTED: &[Object<'static>] = &[(3, b"b"), (3, b"a")];
 
 const NO_COMMIT: &[Object<'static>] = &[(1, b"x")];
 
 // The name of a tenant, the numbers of its objects, and its refs with the places of their targets.
 // HEAD is the first one.
-type Tenant<'a> = (&'a [u8], &'a [u64], &'a [(&'a [u8], u64)]);
+pub type Tenant<'a> = (&'a [u8], &'a [u64], &'a [(&'a [u8], u64)]);
 
 // The version, the objects, the tenants, and the number of the refusal, 0 for none.
-type Row<'a> = (u32, &'a [Object<'a>], &'a [Tenant<'a>], u16);
+pub type Row<'a> = (u32, &'a [Object<'a>], &'a [Tenant<'a>], u16);
 
-const MAIN: (&[u8], u64) = (b"refs/namespaces/t/refs/heads/m", 1);
+pub const MAIN: (&[u8], u64) = (b"refs/namespaces/t/refs/heads/m", 1);
 
-const V: (&[u8], u64) = (b"refs/namespaces/t/refs/tags/v", 4);
+pub const V: (&[u8], u64) = (b"refs/namespaces/t/refs/tags/v", 4);
 
 const ROWS: &[Row<'static>] = &[
     (2, &[], &[], 0),
@@ -135,7 +135,7 @@ fn tenant_of(alloc: Global, tenant: &Tenant<'_>) -> Result<RawTenant, Fault> {
     })
 }
 
-fn file_of(alloc: Global, row: &Row<'_>) -> Result<RawFile, Fault> {
+pub fn file_of(alloc: Global, row: &Row<'_>) -> Result<RawFile, Fault> {
     let mut tenants = Vec::new(alloc);
     for tenant in row.2 {
         tenants.push(tenant_of(alloc, tenant)?)?;
