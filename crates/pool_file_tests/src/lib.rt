@@ -6,6 +6,8 @@ mod files;
 #[cfg(test)]
 mod judged;
 #[cfg(test)]
+mod lent;
+#[cfg(test)]
 mod objects;
 #[cfg(test)]
 mod own;

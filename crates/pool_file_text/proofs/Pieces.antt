@@ -1,11 +1,15 @@
 -- Pieces that a sink takes one behind another.
-use Rattle.std.proofs.Common.{◌≡◌, ℕ, suc, ◌+◌, ◌<◌, ◌/◌, ◌%◌, List, [], ◌∷◌, ◌++◌, length, get_or, drop, Option, Result, Ok, Err, refl, sym, ap, subst, ◌∙◌, append_assoc, append-nil, arith}
+use Rattle.std.proofs.Common.{◌≡◌, ◌≤◌, ℕ, suc, ◌+◌, ◌<◌, ◌/◌, ◌%◌, List, [], ◌∷◌, ◌++◌, length, map, get_or, drop, Option, Result, Ok, Err, refl, sym, ap, subst, ◌∙◌, append_assoc, append-nil, arith}
 use Rattle.std.specs.Int.{w16, to_be_bytes}
+use Rattle.std.specs.List.{flat_map}
 use Rattle.std.proofs.Math.Seq.{drop-cons}
+use Rattle.std.proofs.lemmas.List.{drop_all}
+use Rattle.std.proofs.lemmas.List.Concat.{flat_map-cons}
 use Rattle.byte_devices.specs.declared.device_fault.DeviceFault.{DeviceFault}
 use Rattle.byte_devices.specs.declared.counted.Counted.{Counted}
 use Rattle.byte_devices.specs.Device.{Device, device_of, seen}
-use Rattle.pool_file_text.specs.Sinks.{Moves, Gives, AddsUp, HasWritten, HasBroken, Writes}
+use Rattle.pool_file_text.specs.declared.gathering.Gathered.{Gathered}
+use Rattle.pool_file_text.specs.Sinks.{Moves, Gives, AddsUp, HasWritten, HasBroken, HasGathered, TookBlocks, FailedBlocks, Writes}
 
 -- A piece, and then what comes behind it.
 pub then_gives : {S : Type 0} (Took Failed : Moves S) (a b c : S) (r : Result Unit DeviceFault) (xs ys : List ℕ) → AddsUp Took Failed
@@ -70,6 +74,41 @@ taken_done Took a b whole left none p =
 pub item_next : {X : Type 0} (xs : List X) (i : ℕ) (x : X) → i < length xs → x ≡ get_or xs i x → drop i xs ≡ x ∷ drop (i + 1) xs
 item_next xs i x less is = let e : suc i ≡ i + 1 = omega arith in
     drop-cons xs i x less ∙ ap (λ y. y ∷ drop (suc i) xs) (sym is) ∙ ap (λ (n : ℕ). x ∷ drop n xs) e
+
+-- The texts of what values show: those at a place, and behind the last one.
+pub texts_next : {X Y : Type 0} (view : X → Y) (text : Y → List ℕ) (xs : List X) (i : ℕ) (x : X) → i < length xs → x ≡ get_or xs i x
+    → flat_map text (map view (drop i xs)) ≡ text (view x) ++ flat_map text (map view (drop (i + 1) xs))
+texts_next view text xs i x less is = ap (λ l. flat_map text (map view l)) (item_next xs i x less is) ∙ flat_map-cons text (view x) (map view (drop (i + 1) xs))
+
+pub texts_done : {X Y : Type 0} (view : X → Y) (text : Y → List ℕ) (xs : List X) (i : ℕ) → length xs ≤ i → flat_map text (map view (drop i xs)) ≡ []
+texts_done view text xs i all = ap (λ l. flat_map text (map view l)) (drop_all i xs all)
+
+-- ---- blocks
+
+-- What waited was sent, and then nothing waits, and a piece goes on as it is.
+pub gathers_gives : {S : Type 0} (Took Failed : Moves S) (old new : Gathered S) (b : S) (r : Result Unit DeviceFault) (bytes : List ℕ) → AddsUp Took Failed
+    → new.sink.ghost_name ≡ old.sink.ghost_name → new.block.items ≡ [] → Took old.sink.now b old.block.items → Gives Took Failed b r new.sink.now bytes
+    → Gives {S = Gathered S} (TookBlocks Took) (FailedBlocks Failed) old r new bytes
+gathers_gives Took Failed old new b (Ok u) bytes laws same none p q = (
+  same,
+  record {
+    sent = old.block.items ++ bytes;
+    took = laws.both old.sink.now b new.sink.now old.block.items bytes p q;
+    parts = sym (ap (λ (l : List ℕ). (old.block.items ++ bytes) ++ l) none ∙ append-nil (old.block.items ++ bytes));
+  },
+)
+gathers_gives Took Failed old new b (Err e) bytes laws same none p q = (same, laws.later old.sink.now b new.sink.now old.block.items bytes p q)
+
+-- Where nothing waited, a text was gathered, and what waits then is passed on.
+pub blocks_done : {S : Type 0} (Took Failed : Moves S) (a b c : S) (r : Result Unit DeviceFault) (waited waits text : List ℕ) → AddsUp Took Failed → waited ≡ []
+    → HasGathered Took a b waited waits text → Gives Took Failed b r c waits → Gives Took Failed a r c text
+blocks_done Took Failed a b c r waited waits text laws none p q =
+    subst (λ (l : List ℕ). Gives Took Failed a r c l) (sym p.parts ∙ ap (λ (l : List ℕ). l ++ text) none)
+    (then_gives Took Failed a b c r p.sent waits laws p.took q)
+
+-- Where nothing waited, the sink failed at the text alone.
+pub blocks_failed : {S : Type 0} (Failed : Moves S) (a b : S) (waited text : List ℕ) → waited ≡ [] → Failed a b (waited ++ text) → Failed a b text
+blocks_failed Failed a b waited text none p = subst (λ (l : List ℕ). Failed a b (l ++ text)) none p
 
 -- ---- writers
 

@@ -3,6 +3,8 @@ use Rattle.std.specs.Prelude.{◌≡◌, ◌%◌, ℕ, List, [], ◌++◌, sum, 
 use Rattle.std.specs.Io.KnownBytes.{Appends}
 use Rattle.byte_devices.specs.Device.{Device, AppendsFront, HasFault}
 use Rattle.pool_file_text.specs.declared.digesting.TailSum.{TailSum}
+use Rattle.pool_file_text.specs.declared.gathering.Digested.{Digested}
+use Rattle.pool_file_text.specs.declared.gathering.Gathered.{Gathered}
 use Rattle.byte_devices.specs.declared.device_fault.DeviceFault.{DeviceFault}
 
 -- What is said of a sink that went from one state to another by these bytes.
@@ -35,6 +37,33 @@ pub record HasBroken (old new : Device) (bytes : List ℕ) : Type 0 where
 -- A digest of what was fed before goes on to that of these bytes behind it.
 abbrev pub Goes : {D : Type 0} → (D → List ℕ → Type 0) → D → D → List ℕ → Type 0
 Goes Holds old new bytes = (message : List ℕ) → Holds old message → Holds new (message ++ bytes)
+
+-- A digest and a sink both took the bytes, or the sink failed.
+abbrev pub TookBoth : {D S : Type 0} → (D → List ℕ → Type 0) → Moves S → Moves (Digested D S)
+TookBoth Holds Took old new bytes = (new.running.ghost_name ≡ old.running.ghost_name)
+    × ((new.sink.ghost_name ≡ old.sink.ghost_name)
+    × (Goes Holds old.running.now new.running.now bytes × Took old.sink.now new.sink.now bytes))
+
+abbrev pub FailedBoth : {D S : Type 0} → Moves S → Moves (Digested D S)
+FailedBoth Failed old new bytes = (new.running.ghost_name ≡ old.running.ghost_name)
+    × ((new.sink.ghost_name ≡ old.sink.ghost_name) × Failed old.sink.now new.sink.now bytes)
+
+-- Some bytes waited, and these came behind them: what the sink took, and what waits now, are all
+-- of them.
+pub record HasGathered {S : Type 0} (Took : Moves S) (old new : S) (waited waits bytes : List ℕ)
+    : Type 0 where
+  pub sent : List ℕ
+  pub took : Took old new sent
+  pub parts : waited ++ bytes ≡ sent ++ waits
+
+-- Bytes went to a sink or wait before it, or the sink failed at them or at what waited.
+abbrev pub TookBlocks : {S : Type 0} → Moves S → Moves (Gathered S)
+TookBlocks Took old new bytes = (new.sink.ghost_name ≡ old.sink.ghost_name)
+    × HasGathered Took old.sink.now new.sink.now old.block.items new.block.items bytes
+
+abbrev pub FailedBlocks : {S : Type 0} → Moves S → Moves (Gathered S)
+FailedBlocks Failed old new bytes = (new.sink.ghost_name ≡ old.sink.ghost_name)
+    × Failed old.sink.now new.sink.now (old.block.items ++ bytes)
 
 -- The sum of a message modulo 256.
 abbrev pub SumsTo : TailSum → List ℕ → Type 0

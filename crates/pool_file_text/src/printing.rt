@@ -1,13 +1,14 @@
 //! The bytes of a file, piece by piece into a sink.
 
-ghost use Rattle.std.specs.Prelude.{◌++◌};
+ghost use Rattle.std.specs.Prelude.{◌++◌, map};
 ghost use Rattle.std.specs.Int.{w16, w32, w64, to_be_bytes};
 ghost use Rattle.std.specs.List.{flat_map};
 ghost use Rattle.pool_file_text.specs.Format.{sized, counted, number_text, object_text, ref_text, head_text, tenant_text, body_text};
-ghost use Rattle.pool_file_text.specs.Shown.{object_of, objects_of, ref_of, refs_of, tenant_of, tenants_of, file_of};
+ghost use Rattle.pool_file_text.specs.Shown.{ref_of, refs_of, tenant_of, tenants_of, listed_file};
 ghost use Rattle.pool_file_text.specs.Sinks.{Gives};
 
-use crate::raw::{RawFile, RawObject, RawRef, RawTenant};
+use crate::listed::{Listed, Printed};
+use crate::raw::{RawRef, RawTenant};
 use crate::reading::MAGIC;
 use crate::sink::Sink;
 use byte_devices::DeviceFault;
@@ -64,16 +65,16 @@ fn put_numbers<S: Sink>(sink: &mut S, numbers: &[u64]) -> Result<(), DeviceFault
     put_many_numbers(sink, numbers)
 }
 
-fn put_object<S: Sink>(sink: &mut S, object: &RawObject) -> Result<(), DeviceFault>
-    ensures { Gives S.Took S.Failed sink.old result sink.new (object_text (object_of object.now)) }
+fn put_object<S: Sink, O: Printed>(sink: &mut S, object: &O) -> Result<(), DeviceFault>
+    ensures { Gives S.Took S.Failed sink.old result sink.new (object_text (O.object object.now)) }
 {
-    sink.take(&[object.kind])?;
-    put_long(sink, &object.bytes)
+    sink.take(&[object.kind()])?;
+    put_long(sink, object.contents())
 }
 
-fn put_many_objects<S: Sink>(sink: &mut S, objects: &[RawObject]) -> Result<(), DeviceFault>
+fn put_many_objects<S: Sink, O: Printed>(sink: &mut S, objects: &[O]) -> Result<(), DeviceFault>
     ensures { Gives S.Took S.Failed sink.old result sink.new
-        (flat_map object_text (objects_of objects.now)) }
+        (flat_map object_text (map O.object objects.now)) }
 {
     for object in objects {
         put_object(sink, object)?;
@@ -82,9 +83,9 @@ fn put_many_objects<S: Sink>(sink: &mut S, objects: &[RawObject]) -> Result<(), 
 }
 
 // All objects, behind their count.
-fn put_objects<S: Sink>(sink: &mut S, objects: &[RawObject]) -> Result<(), DeviceFault>
+fn put_objects<S: Sink, O: Printed>(sink: &mut S, objects: &[O]) -> Result<(), DeviceFault>
     ensures { Gives S.Took S.Failed sink.old result sink.new
-        (counted object_text (objects_of objects.now)) }
+        (counted object_text (map O.object objects.now)) }
 {
     put_u64(sink, objects.len() as u64)?;
     put_many_objects(sink, objects)
@@ -173,18 +174,19 @@ fn put_tenants<S: Sink>(
 }
 
 // All objects, and all tenants.
-fn put_lists<S: Sink>(sink: &mut S, file: &RawFile) -> Result<(), DeviceFault>
+fn put_lists<S: Sink, O: Printed>(sink: &mut S, file: &Listed<'_, O>) -> Result<(), DeviceFault>
     ensures { Gives S.Took S.Failed sink.old result sink.new
-        (counted object_text (objects_of file.now.objects.items)
-        ++ counted (tenant_text file.now.version) (tenants_of file.now.tenants.items)) }
+        (counted object_text (map O.object file.now.objects.now)
+        ++ counted (tenant_text file.now.version) (tenants_of file.now.tenants.now)) }
 {
-    put_objects(sink, &file.objects)?;
-    put_tenants(sink, file.version, &file.tenants)
+    put_objects(sink, file.objects)?;
+    put_tenants(sink, file.version, file.tenants)
 }
 
 /// All bytes of a file before its digest.
-pub fn put_body<S: Sink>(sink: &mut S, file: &RawFile) -> Result<(), DeviceFault>
-    ensures { Gives S.Took S.Failed sink.old result sink.new (body_text (file_of file.now)) }
+pub fn put_body<S: Sink, O: Printed>(sink: &mut S, file: &Listed<'_, O>) -> Result<(), DeviceFault>
+    ensures { Gives S.Took S.Failed sink.old result sink.new
+        (body_text (listed_file O.object file.now)) }
 {
     sink.take(MAGIC)?;
     put_u32(sink, file.version)?;

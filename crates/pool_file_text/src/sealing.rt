@@ -1,24 +1,37 @@
 //! Whole files with their digests: read, and written.
 
-ghost use Rattle.std.specs.Prelude.{◌≡◌, ◌^◌};
+ghost use Rattle.std.specs.Prelude.{◌≡◌, ◌^◌, [], OnOk};
 ghost use Rattle.std.specs.Str.{bytes_eq};
 ghost use Rattle.byte_devices.specs.Device.{device_of, calls_of, counted_on, seen};
 ghost use Rattle.pool_file_text.specs.Format.{body_text, raw_text};
 ghost use Rattle.pool_file_text.specs.Lengths.{sealed_at};
-ghost use Rattle.pool_file_text.specs.Shown.{file_of};
-ghost use Rattle.pool_file_text.specs.Sinks.{Writes};
+ghost use Rattle.pool_file_text.specs.Shown.{file_of, lent_file, listed_file, listed_text, object_of};
+ghost use Rattle.pool_file_text.specs.Sinks.{Gives, Goes, Writes};
 ghost use Rattle.pool_file_text.specs.Taking.{shown, Reads};
 
-use crate::digesting::{Fed, Starting};
+use crate::digesting::{Fed, Running, Starting};
 use crate::fault::Fault;
+use crate::gathering::{Digested, Gathered};
+use crate::listed::{LentObject, Listed, Printed};
 use crate::printing::put_body;
-use crate::raw::RawFile;
+use crate::raw::{RawFile, RawObject, RawTenant};
 use crate::reading::read_file;
 use crate::refusal::Refusal;
 use crate::sink::Sink;
 use byte_devices::{Counted, DeviceFault};
 use std::alloc::Global;
 use std::io::{Read, Write};
+
+// The lists of a file, lent.
+fn listed(file: &RawFile) -> Listed<'_, RawObject>
+    ensures { listed_file object_of result ≡ file_of file.now }
+{
+    Listed {
+        version: file.version,
+        objects: &file.objects,
+        tenants: &file.tenants,
+    }
+}
 
 /// The digest of all bytes of a file that stand before its digest. Takes no memory.
 pub fn digest_of<N: Starting>(naming: &N, file: &RawFile) -> [u8; 20]
@@ -28,7 +41,7 @@ pub fn digest_of<N: Starting>(naming: &N, file: &RawFile) -> [u8; 20]
         running: naming.start(),
     };
     // A digest takes all, so this answers no fault.
-    let _fed = put_body(&mut fed, file);
+    let _fed = put_body(&mut fed, &listed(file));
     let Fed { running } = fed;
     N::end(running)
 }
@@ -79,7 +92,86 @@ pub fn write_sealed<N: Starting, W: Write>(
         (seen (W.contents (device_of writer.new)) writer.new)
         (raw_text N.digest_of (file_of file.now)) }
 {
-    put_body(writer, file)?;
+    put_body(writer, &listed(file))?;
     let digest = digest_of(naming, file);
     writer.take(&digest)
+}
+
+// All bytes of a file before its digest, into a sink that gathers and where nothing waits. Nothing
+// waits there after it.
+fn put_gathered<S: Sink, O: Printed>(
+    gathered: &mut Gathered<'_, S>,
+    file: &Listed<'_, O>,
+) -> Result<(), DeviceFault>
+    requires { gathered.old.block.items ≡ [] }
+    ensures gives { Gives S.Took S.Failed gathered.old.sink.now result gathered.new.sink.now
+        (listed_text O.object file.now) }
+    ensures same { gathered.new.sink.ghost_name ≡ gathered.old.sink.ghost_name }
+{
+    put_body(gathered, file)?;
+    gathered.pass_on()
+}
+
+// The same in blocks, into any sink.
+fn put_blocks<S: Sink, O: Printed>(
+    alloc: Global,
+    sink: &mut S,
+    file: &Listed<'_, O>,
+) -> Result<(), DeviceFault>
+    ensures { Gives S.Took S.Failed sink.old result sink.new
+        (listed_text O.object file.now) }
+{
+    let mut gathered = Gathered {
+        block: Vec::new(alloc),
+        sink,
+    };
+    let answer = put_gathered(&mut gathered, file);
+    let Gathered {
+        block: _block,
+        sink: _sink,
+    } = gathered;
+    answer
+}
+
+// The same in blocks, into a digest and a sink.
+fn put_both<D: Running, S: Sink, O: Printed>(
+    alloc: Global,
+    running: &mut D,
+    sink: &mut S,
+    file: &Listed<'_, O>,
+) -> Result<(), DeviceFault>
+    ensures gives { Gives S.Took S.Failed sink.old result sink.new
+        (listed_text O.object file.now) }
+    ensures fed { OnOk result (Goes D.Holds running.old running.new
+        (listed_text O.object file.now)) }
+{
+    let mut digested = Digested { running, sink };
+    put_blocks(alloc, &mut digested, file)
+}
+
+/// Writes a file of version 2 whose objects' contents are lent, and its digest behind it, in one
+/// pass: no contents are copied but those that are gathered into blocks of 64 KiB at most.
+///
+/// `DeviceFault` (68) where a call of `write` answered an error or took nothing; a prefix of the
+/// text then stands written. Takes memory for a block; where there is none, each piece is written
+/// by a call of its own.
+pub fn write_lent<N: Starting, W: Write>(
+    alloc: Global,
+    naming: &N,
+    objects: &[LentObject<'_>],
+    tenants: &[RawTenant],
+    writer: &mut Counted<W>,
+) -> Result<(), DeviceFault>
+    ensures { Writes (seen (W.contents (device_of writer.old)) writer.old) result
+        (seen (W.contents (device_of writer.new)) writer.new)
+        (raw_text N.digest_of (lent_file objects.now tenants.now)) }
+{
+    let file = Listed {
+        version: 2,
+        objects,
+        tenants,
+    };
+    let mut running = naming.start();
+    put_both(alloc, &mut running, writer, &file)?;
+    writer.take(&N::end(running))
 }
