@@ -120,7 +120,7 @@ same_behind kind.Blob id bytes a b same other = same other
 same_behind kind.Commit id bytes a b same other = same other
 same_behind kind.Tag id bytes a b same other = same other
 
-same_trees : (os : List Object) (a b : Sums) → SameSums a b → TreesFit a os → TreesFit b os
+pub same_trees : (os : List Object) (a b : Sums) → SameSums a b → TreesFit a os → TreesFit b os
 same_trees [] a b same t = t
 same_trees (o ∷ os) a b same t = (
   same_fits o.content.kind o.content.bytes a b same t.0,

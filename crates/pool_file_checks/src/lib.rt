@@ -21,10 +21,10 @@ mod whole;
 
 pub use held::check_held;
 pub use judging::check_objects;
-pub use naming::name_objects;
+pub use naming::{kind_of, name_objects};
 pub use own::index_objects;
 pub use references::check_references;
 pub use refs::check_refs;
-pub use sums::check_sums;
+pub use sums::{add_object as add_sum, check_sums};
 pub use tenants::{check_name, check_numbers};
 pub use whole::check_file;

@@ -10,8 +10,8 @@ use git_objects::Kind;
 use pool_file_text::RawObject;
 use std::alloc::Global;
 
-// The kind of a byte that is one's; every other is a blob's.
-fn kind_of(byte: u8) -> Kind
+/// The kind of a byte that is one's; every other is a blob's.
+pub fn kind_of(byte: u8) -> Kind
     ensures { result ≡ kind_of byte }
 {
     match byte {

@@ -144,8 +144,11 @@ fn add_tree(
     Ok(())
 }
 
-// Adds the sum of an object, where it is a tree.
-fn add_object(
+/// Adds the sum of an object to those of the trees before it, where it is a tree.
+///
+/// `Refused` with `BadObject` (65) for a tree that does not fit behind them, as `check_sums` says.
+/// `Memory` (90) where there is no room to read it or to note its size.
+pub fn add_object(
     alloc: Global,
     sums: &mut IndexMap<Name, Summary>,
     id: Name,

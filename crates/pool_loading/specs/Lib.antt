@@ -1,0 +1,5 @@
+-- In reading order.
+pub mod Refs
+pub mod Loading
+pub mod Building
+pub mod Tables
