@@ -1,0 +1,5 @@
+-- In reading order.
+pub mod Listing
+pub mod Worth
+pub mod Lent
+pub mod Saves
