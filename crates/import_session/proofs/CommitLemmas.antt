@@ -135,10 +135,11 @@ pub without_said : (digest : List ℕ → List ℕ) (workspace : Workspace) (sai
     → said ≡ None → IsSound digest workspace → IsSound digest (record workspace { said = said })
 without_said digest workspace said none sound = record {
   objects = sound.objects;
-  saved_head = sound.saved_head;
+  refs = sound.refs;
   next_head = sound.next_head;
   marks = sound.marks;
-  tips = sound.tips;
+  branches = sound.branches;
+  tags = sound.tags;
   said = rw none tt;
   commit = sound.commit;
   inline = sound.inline;

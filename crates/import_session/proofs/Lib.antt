@@ -9,5 +9,6 @@ mod HeldLemmas
 pub mod LentLemmas
 pub mod SoundObjects
 pub mod SoundCommits
+pub mod SoundRefs
 pub mod SoundChanges
 pub mod SoundLemmas

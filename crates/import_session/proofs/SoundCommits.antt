@@ -4,7 +4,7 @@ use Rattle.std.specs.Prelude.{IfOk, IfSome}
 use Rattle.std.specs.Map.{lookup}
 use Rattle.std.specs.Option.{option_and_then}
 use Rattle.std.specs.Str.{bytes_eq}
-use Rattle.std.proofs.lemmas.List.Elements.{All-head, All-tail}
+use Rattle.std.proofs.lemmas.List.Elements.{All-head, All-tail, All-weaker}
 use Rattle.git_model.specs.declared.kind.Kind.TheVariants as kind
 use Rattle.git_model.specs.GoodRepository.{AreObjects}
 use Rattle.git_model.specs.Peeling.{ComesFirstTo, at_once, later, is_of, next_to, peeled_to}
@@ -23,7 +23,7 @@ use Rattle.import_session.specs.Workspace.{Workspace}
 use Rattle.import_session.specs.Branches.{commit_at, tip_of}
 use Rattle.import_session.specs.CommitIshes.{commit_in, is_branch, named_in, start_in}
 use Rattle.import_session.specs.Commits.{tip_commit, IsTipCommit}
-use Rattle.import_session.specs.Sound.{IsSound, IsTip}
+use Rattle.import_session.specs.Sound.{IsBranch, IsSound, IsTip}
 use Rattle.import_session.proofs.SoundObjects.{by_test, then_any}
 
 -- a commit is there
@@ -91,4 +91,6 @@ pub tip_commit_is : (digest : List ℕ → List ℕ) (workspace : Workspace) →
     → (ref : List ℕ) → IsTipCommit workspace.objects (tip_commit workspace.branches ref)
 tip_commit_is digest workspace sound ref =
     tip_is workspace.objects (tip_of workspace.branches ref)
-    (lookup_has (IsTip workspace.objects) (bytes_eq ref) workspace.branches sound.tips)
+    (lookup_has (IsTip workspace.objects) (bytes_eq ref) workspace.branches
+    (All-weaker (IsBranch workspace.objects) (λ branch. IsTip workspace.objects branch.1)
+    (λ branch is. is.tip) workspace.branches sound.branches))

@@ -1,23 +1,25 @@
 -- A running stream stays sound.
-use Rattle.std.proofs.Common.{◌≡◌, ◌≢◌, ◌++◌, ◌≤◌, nat_eq, length, codes, ℕ, Bool, true, false, cond, List, [], ◌∷◌, Option, Some, None, Result, Ok, Err, refl, sym, ap, ◌∙◌, subst, inl, inr, All}
-use Rattle.std.specs.Prelude.{if◌then◌else◌, IfOk, IfSome, drop}
+use Rattle.std.proofs.Common.{◌≡◌, ◌≢◌, ◌++◌, ◌≤◌, nat_eq, length, codes, ℕ, Bool, true, false, List, [], ◌∷◌, Option, Some, None, Result, Ok, Err, refl, sym, ap, ◌∙◌, subst, inl, inr, All}
+use Rattle.std.specs.Prelude.{if◌then◌else◌, IfOk, IfSome, drop, unwrap_or}
+use Rattle.std.specs.Option.{option_map}
 use Rattle.std.specs.Result.{result_unwrap_or}
 use Rattle.std.specs.Str.{bytes_eq}
 use Rattle.std.proofs.lemmas.Bool.{false≢true}
-use Rattle.std.proofs.lemmas.List.Elements.{All-nil, All-cons, All-head, All-tail, All-weaker}
+use Rattle.std.proofs.lemmas.List.Elements.{All-nil, All-cons, All-head, All-push, All-tail, All-weaker}
 use Rattle.std.proofs.lemmas.Slice.Eq.{bytes_eq-Decides}
 use Rattle.indexmap.specs.IndexMap.{insert_entry}
 use Rattle.git_model.specs.declared.kind.Kind.{Kind}
 use Rattle.git_model.specs.declared.kind.Kind.TheVariants as kind
-use Rattle.git_model.specs.Content.{content_from, name_by}
+use Rattle.git_model.specs.Content.{Content, content_from, name_by, no_content}
 use Rattle.git_model.specs.GoodRepository.{AreObjects, IsShortRefName, StandsBefore}
 use Rattle.git_model.specs.Ident.{IsWrittenIdent}
 use Rattle.git_model.specs.ObjectName.{IsObjectName}
 use Rattle.git_model.specs.RefName.{IsRefName}
-use Rattle.git_model.specs.RefStore.{RefStore, no_refs, with_ref}
+use Rattle.git_model.specs.RefStore.{RefStore, no_refs}
 use Rattle.git_model.specs.References.{reference, kind_named}
 use Rattle.git_model.specs.Repository.{Object, Repository, object_named}
 use Rattle.git_model.specs.Tag.{Tag, CanWriteTag}
+use Rattle.git_model.specs.TagReading.{tag_read}
 use Rattle.git_model.proofs.GoodRefs.{kind_longer, no_refs_are}
 use Rattle.git_model.proofs.Growing.{none_are, taken_is}
 use Rattle.git_model.proofs.TagReadings.{tag_back}
@@ -37,21 +39,21 @@ use Rattle.import_session.specs.declared.branches.Tip.TheVariants.{Unborn, Delet
 use Rattle.import_session.specs.declared.fault.Fault.{Fault}
 use Rattle.import_session.specs.declared.said.Said.{Said}
 use Rattle.import_session.specs.Faults.{and_then, changed_or, text_first}
-use Rattle.import_session.specs.Workspace.{Branches, Marks, PendingTags, Workspace, Effect, opened, quiet, said_of}
+use Rattle.import_session.specs.Workspace.{Branches, Marks, Workspace, Effect, opened, quiet, said_of}
 use Rattle.import_session.specs.Marks.{marked_name, referred_name, room_for, with_mark}
 use Rattle.import_session.specs.Branches.{branch_set, has_branch_room, head_in, ref_meant, with_branch}
 use Rattle.import_session.specs.CommitIshes.{commit_in, named_in, start_in}
 use Rattle.import_session.specs.Resets.{alias_set, branch_placed, branch_reset, is_zeros, tip_from}
 use Rattle.import_session.specs.Storing.{with_content}
 use Rattle.import_session.specs.Tags.{is_tag_ref, room_for_tag, said_more, tag_content, tag_made, tag_stored, tagged, tagged_kind, tagger_said, target_said}
-use Rattle.import_session.specs.Checkpoints.{by_branches, by_head, by_tags, checkpoint, fit, moves, saved_by, saved_refs}
+use Rattle.import_session.specs.Checkpoints.{checkpoint, fit, saved_refs}
 use Rattle.import_session.specs.Meaning.{after_act, blob_stored, feature_set, head_set, placed_by, said_of_commit, said_of_tag, set_by, shown_by, shown_object, stored_or_shown, within_commit}
 use Rattle.git_paths.specs.Paths.{IsPath}
 use Rattle.tree_build.specs.FileMap.{Path}
 use Rattle.open_commits.specs.declared.fault.Fault.{Fault as CommitFault}
 use Rattle.open_commits.specs.Changes.{contents_put}
 use Rattle.open_commits.specs.Ends.{Closed, closed}
-use Rattle.open_commits.specs.GoodCommits.{GrowGood, HoldsCommit, IsGoodHeader}
+use Rattle.open_commits.specs.GoodCommits.{GrowGood, HoldsCommit}
 use Rattle.open_commits.specs.OpenCommit.{Header, OpenCommit as Opened, begun}
 use Rattle.open_commits.specs.Showing.{Shown, entry_shown}
 use Rattle.open_commits.proofs.GoodCommits.{end_keeps as commit_end, entry_keeps}
@@ -60,13 +62,14 @@ use Rattle.import_session.specs.Changes.{branch_entry_shown, changed_by, commit_
 use Rattle.import_session.specs.CommitIshes.{ref_in}
 use Rattle.import_session.specs.Commits.{begun_from, closed_at, closed_where, commit_opened, header_said, open_closed, opened_with, tip_commit, tip_for}
 use Rattle.import_session.specs.Printing.{prints}
-use Rattle.import_session.proofs.SoundChanges.{LeavesOpen, begun_open, changed_open, contents_open, open_grown}
-use Rattle.import_session.specs.Sound.{IsOpen, IsSound, IsSoundRepository, IsTip, IsWellSaid}
+use Rattle.import_session.proofs.SoundChanges.{IsReady, LeavesOpen, begun_open, changed_open, contents_open, open_grown}
+use Rattle.import_session.specs.Sound.{IsBranch, IsOpen, IsPending, IsSound, IsSoundRepository, IsTip, IsWellSaid}
 use Rattle.import_session.specs.Showing.{entry_shown as stored_entry_shown}
 use Rattle.import_session.specs.Stream.{Running, Step, commands_end, last_checkpoint, session_end, step, taken, unless_done_missing}
 use Rattle.import_session.proofs.SoundCommits.{IsCommitOf, commit_good, start_good, tip_commit_is}
-use Rattle.tenant_tables.proofs.StoredGood.{Grows, there}
-use Rattle.import_session.proofs.SoundObjects.{IsStorable, Keeps, by_test, content_good, named_by, then_any, then_good}
+use Rattle.import_session.proofs.SoundRefs.{refs_grown, refs_whole, saved_are, tags_grown}
+use Rattle.tenant_tables.proofs.StoredGood.{Grows, Holds, there}
+use Rattle.import_session.proofs.SoundObjects.{IsStorable, by_test, content_good, named_by, then_any, then_good}
 
 -- What an act leaves is sound.
 abbrev pub LeavesSound : (List ℕ → List ℕ) → Effect → Type 0
@@ -76,16 +79,17 @@ LeavesSound digest effect = IsSound digest effect.workspace
 
 pub empty_is_sound : (digest : List ℕ → List ℕ)
     → IsSoundRepository digest (record { objects = []; refs = no_refs })
-empty_is_sound digest = record { objects = none_are digest; head = (no_refs_are []).head }
+empty_is_sound digest = record { objects = none_are digest; refs = no_refs_are [] }
 
 pub new_is_sound : (digest : List ℕ → List ℕ) (repository : Repository)
     → IsSoundRepository digest repository → IsSound digest (opened repository)
 new_is_sound digest repository good = record {
   objects = good.objects;
-  saved_head = good.head;
+  refs = refs_whole repository.objects repository.refs good.refs;
   next_head = tt;
   marks = All-nil _;
-  tips = All-nil _;
+  branches = All-nil _;
+  tags = All-nil _;
   said = tt;
   commit = tt;
   inline = tt;
@@ -95,21 +99,23 @@ pub checkpoint_is_sound : (digest : List ℕ → List ℕ) (workspace : Workspac
     → IsSound digest workspace → IsSoundRepository digest (last_checkpoint workspace)
 checkpoint_is_sound digest workspace sound = record {
   objects = taken_is digest workspace.objects workspace.committed sound.objects;
-  head = sound.saved_head;
+  refs = sound.refs;
 }
 
 -- ---- entries of a map
 
-values_insert : {K V : Type 0} (eq : K → K → Bool) (P : V → Type 0) (entries : List (K × V)) (k : K)
-    (v : V) → All (λ (e : K × V). P e.1) entries → P v
-    → All (λ (e : K × V). P e.1) (insert_entry eq entries k v)
-values_insert eq P [] k v held new = All-cons (λ e. P e.1) (k, v) [] new (All-nil (λ e. P e.1))
-values_insert eq P (e ∷ entries) k v held new =
-    let rest = All-tail (λ e. P e.1) e entries held in
+-- what holds of each entry, and of an old key with the new value, holds of each where one is set
+entry_set : {K V : Type 0} (eq : K → K → Bool) (P : K × V → Type 0) (entries : List (K × V))
+    (k : K) (v : V) → All P entries → ((e : K × V) → P e → P (e.0, v)) → P (k, v)
+    → All P (insert_entry eq entries k v)
+entry_set eq P [] k v held anew new = All-cons P (k, v) [] new (All-nil P)
+entry_set eq P (e ∷ entries) k v held anew new =
+    let first = All-head P e entries held in
+    let rest = All-tail P e entries held in
     by_test (eq k e.0)
-    (λ same. rw same (All-cons (λ e. P e.1) (e.0, v) entries new rest))
-    (λ other. rw other (All-cons (λ e. P e.1) e (insert_entry eq entries k v)
-    (All-head (λ e. P e.1) e entries held) (values_insert eq P entries k v rest new)))
+    (λ same. rw same (All-cons P (e.0, v) entries (anew e first) rest))
+    (λ other. rw other (All-cons P e (insert_entry eq entries k v) first
+    (entry_set eq P entries k v rest anew new)))
 
 -- ---- more objects
 
@@ -120,17 +126,18 @@ tip_longer os new grows (At id) stands =
     subst (λ (objects : List Object). kind_named id objects ≡ Some kind.Commit) (sym grows.are)
     (kind_longer os grows.more id kind.Commit stands)
 
-tips_longer : (os new : List Object) → Grows os new → (branches : Branches)
-    → All (λ branch. IsTip os branch.1) branches → All (λ branch. IsTip new branch.1) branches
-tips_longer os new grows branches =
-    All-weaker (λ branch. IsTip os branch.1) (λ branch. IsTip new branch.1)
-    (λ branch stands. tip_longer os new grows branch.1 stands) branches
+branches_longer : (os new : List Object) → Grows os new → (branches : Branches)
+    → All (IsBranch os) branches → All (IsBranch new) branches
+branches_longer os new grows branches =
+    All-weaker (IsBranch os) (IsBranch new)
+    (λ branch is. record { name = is.name; tip = tip_longer os new grows branch.1 is.tip }) branches
 
 marks_with : (marks : Marks) (mark : Option ℕ) (id : List ℕ)
     → All (λ mark. IsObjectName mark.1) marks → IsObjectName id
     → All (λ mark. IsObjectName mark.1) (with_mark marks mark id)
 marks_with marks None id named new = named
-marks_with marks (Some mark) id named new = values_insert nat_eq IsObjectName marks mark id named new
+marks_with marks (Some mark) id named new =
+    entry_set nat_eq (λ (e : ℕ × List ℕ). IsObjectName e.1) marks mark id named (λ e old. new) new
 
 -- ---- blobs
 
@@ -140,17 +147,20 @@ blob_keeps : (digest : List ℕ → List ℕ) → AnswersNames digest → (works
 blob_keeps digest names workspace sound mark bytes =
     let content = content_from kind.Blob bytes in
     then_any (LeavesSound digest) (room_for workspace.marks mark) _ (λ _.
-    then_good (Keeps digest workspace.objects) (LeavesSound digest)
+    then_good (λ objects. Holds digest workspace.objects objects content) (LeavesSound digest)
     (with_content digest content workspace.objects) _
     (content_good digest names workspace.objects sound.objects content
     (record { valid = tt; connected = All-nil _ }))
     (λ objects keeps. record {
       objects = keeps.good;
-      saved_head = sound.saved_head;
+      refs = refs_grown workspace.objects objects keeps.grows workspace.committed workspace.refs
+          sound.refs;
       next_head = sound.next_head;
       marks = marks_with workspace.marks mark (name_by digest content) sound.marks
           (named_by digest names content);
-      tips = tips_longer workspace.objects objects keeps.grows workspace.branches sound.tips;
+      branches = branches_longer workspace.objects objects keeps.grows workspace.branches
+          sound.branches;
+      tags = tags_grown workspace.objects objects keeps.grows workspace.tags sound.tags;
       said = sound.said;
       commit = open_grown workspace.objects objects keeps.grows workspace.commit sound.commit;
       inline = sound.inline;
@@ -178,7 +188,7 @@ meant_named : (workspace : Workspace) (digest : List ℕ → List ℕ) → IsSou
 unfolding ref_meant
 meant_named workspace digest sound ref names =
     by_test (bytes_eq ref (codes "HEAD"))
-    (λ is. rw is (head_named workspace.head workspace.refs sound.next_head sound.saved_head))
+    (λ is. rw is (head_named workspace.head workspace.refs sound.next_head sound.refs.head))
     (λ other. rw other (no_head ref names other))
 
 -- ---- what the open command says
@@ -188,10 +198,11 @@ with_said : (digest : List ℕ → List ℕ) (workspace : Workspace) (said : Opt
     → IsSound digest (record workspace { said = said })
 with_said digest workspace said sound well = record {
   objects = sound.objects;
-  saved_head = sound.saved_head;
+  refs = sound.refs;
   next_head = sound.next_head;
   marks = sound.marks;
-  tips = sound.tips;
+  branches = sound.branches;
+  tags = sound.tags;
   said = well;
   commit = sound.commit;
   inline = sound.inline;
@@ -204,30 +215,33 @@ newly_said ref name = record { ref = name; author = tt; committer = tt; encoding
 
 branches_keep : (digest : List ℕ → List ℕ) (workspace : Workspace) (branches : Branches)
     (said : Option Said) → IsSound digest workspace
-    → All (λ branch. IsTip workspace.objects branch.1) branches → IfSome said IsWellSaid
+    → All (IsBranch workspace.objects) branches → IfSome said IsWellSaid
     → IsSound digest (record workspace { branches = branches; said = said })
-branches_keep digest workspace branches said sound tips well = record {
+branches_keep digest workspace branches said sound good well = record {
   objects = sound.objects;
-  saved_head = sound.saved_head;
+  refs = sound.refs;
   next_head = sound.next_head;
   marks = sound.marks;
-  tips = tips;
+  branches = good;
+  tags = sound.tags;
   said = well;
   commit = sound.commit;
   inline = sound.inline;
 }
 
 branch_keeps : (os : List Object) (branches : Branches) (ref : List ℕ) (tip : Tip)
-    → All (λ branch. IsTip os branch.1) branches → IsTip os tip
-    → All (λ branch. IsTip os branch.1) (with_branch branches ref tip)
-branch_keeps os branches ref tip = values_insert bytes_eq (IsTip os) branches ref tip
+    → All (IsBranch os) branches → IsBranch os (ref, tip)
+    → All (IsBranch os) (with_branch branches ref tip)
+branch_keeps os branches ref tip good new =
+    entry_set bytes_eq (IsBranch os) branches ref tip good
+    (λ old is. record { name = is.name; tip = new.tip }) new
 
 branch_set_keeps : (os : List Object) (branches : Branches) (ref : List ℕ) (tip : Tip)
-    → All (λ branch. IsTip os branch.1) branches → IsTip os tip
-    → IfOk (branch_set branches ref tip) (All (λ branch. IsTip os branch.1))
-branch_set_keeps os branches ref tip tips new =
+    → All (IsBranch os) branches → IsBranch os (ref, tip)
+    → IfOk (branch_set branches ref tip) (All (IsBranch os))
+branch_set_keeps os branches ref tip good new =
     by_test (has_branch_room branches ref)
-    (λ room. rw room (branch_keeps os branches ref tip tips new))
+    (λ room. rw room (branch_keeps os branches ref tip good new))
     (λ full. rw full tt)
 
 reset_keeps : (digest : List ℕ → List ℕ) (workspace : Workspace) → IsSound digest workspace
@@ -235,11 +249,13 @@ reset_keeps : (digest : List ℕ → List ℕ) (workspace : Workspace) → IsSou
     → IfOk (branch_reset ref workspace) (LeavesSound digest)
 reset_keeps digest workspace sound ref names =
     let meant = ref_meant workspace.head workspace.refs ref in
-    then_good (All (λ (branch : List ℕ × Tip). IsTip workspace.objects branch.1)) (LeavesSound digest)
+    let name = meant_named workspace digest sound ref names in
+    then_good (All (IsBranch workspace.objects)) (LeavesSound digest)
     (branch_set workspace.branches meant Unborn) _
-    (branch_set_keeps workspace.objects workspace.branches meant Unborn sound.tips tt)
-    (λ branches tips. branches_keep digest workspace branches (Some (said_of meant)) sound tips
-    (newly_said meant (meant_named workspace digest sound ref names)))
+    (branch_set_keeps workspace.objects workspace.branches meant Unborn sound.branches
+    (record { name = name; tip = tt }))
+    (λ branches good. branches_keep digest workspace branches (Some (said_of meant)) sound good
+    (newly_said meant name))
 
 -- 'from' in a reset
 tip_good : (digest : List ℕ → List ℕ) (workspace : Workspace) → IsSound digest workspace
@@ -253,15 +269,15 @@ tip_good digest workspace sound ref from =
     (start_good digest workspace sound.objects ref from) (λ id stands. stands)))
 
 placed_at : (digest : List ℕ → List ℕ) (workspace : Workspace) → IsSound digest workspace
-    → (from : CommitIsh) (said : Option Said)
+    → (from : CommitIsh) (said : Option Said) → IfSome said IsWellSaid
     → IfOk (branch_placed from said workspace) (LeavesSound digest)
-placed_at digest workspace sound from None = tt
-placed_at digest workspace sound from (Some said) =
+placed_at digest workspace sound from None well = tt
+placed_at digest workspace sound from (Some said) well =
     then_good (IsTip workspace.objects) (LeavesSound digest) (tip_from workspace said.ref_name from) _
     (tip_good digest workspace sound said.ref_name from)
     (λ tip stands. branches_keep digest workspace (with_branch workspace.branches said.ref_name tip)
-    None sound (branch_keeps workspace.objects workspace.branches said.ref_name tip sound.tips stands)
-    tt)
+    None sound (branch_keeps workspace.objects workspace.branches said.ref_name tip sound.branches
+    (record { name = well.ref; tip = stands })) tt)
 
 -- ---- aliases
 
@@ -272,11 +288,12 @@ alias_keeps digest workspace sound mark commit =
     (commit_good digest workspace sound.objects commit) (λ id stands.
     then_any (LeavesSound digest) (room_for workspace.marks (Some mark)) _ (λ _. record {
       objects = sound.objects;
-      saved_head = sound.saved_head;
+      refs = sound.refs;
       next_head = sound.next_head;
       marks = marks_with workspace.marks (Some mark) id sound.marks
           (there digest workspace.objects sound.objects id kind.Commit stands).name;
-      tips = sound.tips;
+      branches = sound.branches;
+      tags = sound.tags;
       said = sound.said;
       commit = sound.commit;
       inline = sound.inline;
@@ -358,6 +375,33 @@ tag_can said message target target_kind well is name no_tree =
       tagger = well.tagger;
     }
 
+tag_written : (digest : List ℕ → List ℕ) (os : List Object) → AreObjects digest os
+    → (said : Said) (message target : List ℕ) (target_kind : Kind) → IsWellSaid said
+    → is_tag_ref said.ref_name ≡ true → IsTagged os target target_kind
+    → CanWriteTag (tag_from said message target target_kind)
+tag_written digest os good said message target target_kind well is tagged =
+    tag_can said message target target_kind well is
+    (there digest os good target target_kind tagged.stands).name tagged.no_tree
+
+-- it waits under its own name
+tag_held : (said : Said) (message target : List ℕ) (target_kind : Kind) → IsWellSaid said
+    → is_tag_ref said.ref_name ≡ true → CanWriteTag (tag_from said message target target_kind)
+    → (os : List Object) (id : List ℕ)
+    → object_named id os ≡ Some (tag_content said message target target_kind)
+    → IsPending os (said.ref_name, id)
+tag_held said message target target_kind well is can os id held = record {
+  name = well.ref;
+  named = (
+    drop (length (codes "refs/tags/")) said.ref_name,
+    ref_spelt said is,
+    (
+      ap (λ (o : Option Content). option_map (λ (c : Content). c.kind) o) held,
+      ap (λ (o : Option Content). (tag_read (unwrap_or o no_content).bytes).name) held
+          ∙ ap (λ (t : Tag). t.name) (tag_back (tag_from said message target target_kind) can),
+    ),
+  );
+}
+
 tag_storable : (digest : List ℕ → List ℕ) (os : List Object) → AreObjects digest os
     → (said : Said) (message target : List ℕ) (target_kind : Kind) → IsWellSaid said
     → is_tag_ref said.ref_name ≡ true → IsTagged os target target_kind
@@ -365,7 +409,7 @@ tag_storable : (digest : List ℕ → List ℕ) (os : List Object) → AreObject
 tag_storable digest os good said message target target_kind well is tagged =
     let stands = there digest os good target target_kind tagged.stands in
     let tag = tag_from said message target target_kind in
-    let can = tag_can said message target target_kind well is stands.name tagged.no_tree in
+    let can = tag_written digest os good said message target target_kind well is tagged in
     record {
       valid = (
         tag,
@@ -410,25 +454,35 @@ tag_keeps digest names workspace sound mark message None well = tt
 tag_keeps digest names workspace sound mark message (Some said) well =
     then_good (IsTaggedBy workspace.objects said) (LeavesSound digest) (tagged mark said workspace) _
     (tagged_good workspace mark said)
-    (λ target is. made target.0 target.1 (tag_storable digest workspace.objects sound.objects said
-    message target.0 target.1 well is.is_open is.is_tagged))
+    (λ target is. made target.0 target.1 is.is_open is.is_tagged)
   where
-    made : (target : List ℕ) (target_kind : Kind)
-        → IsStorable workspace.objects (tag_content said message target target_kind)
+    made : (target : List ℕ) (target_kind : Kind) → is_tag_ref said.ref_name ≡ true
+        → IsTagged workspace.objects target target_kind
         → IfOk (tag_made digest mark said.ref_name (tag_content said message target target_kind)
         workspace) (LeavesSound digest)
-    made target target_kind storable =
+    made target target_kind is tagged =
+        let os = workspace.objects in
         let content = tag_content said message target target_kind in
-        then_good (Keeps digest workspace.objects) (LeavesSound digest)
+        let storable = tag_storable digest os sound.objects said message target target_kind well is
+        tagged in
+        let can = tag_written digest os sound.objects said message target target_kind well is tagged in
+        then_good (λ objects. Holds digest workspace.objects objects content) (LeavesSound digest)
         (with_content digest content workspace.objects) _
         (content_good digest names workspace.objects sound.objects content storable)
         (λ objects keeps. record {
           objects = keeps.good;
-          saved_head = sound.saved_head;
+          refs = refs_grown workspace.objects objects keeps.grows workspace.committed workspace.refs
+              sound.refs;
           next_head = sound.next_head;
           marks = marks_with workspace.marks mark (name_by digest content) sound.marks
               (named_by digest names content);
-          tips = tips_longer workspace.objects objects keeps.grows workspace.branches sound.tips;
+          branches = branches_longer workspace.objects objects keeps.grows workspace.branches
+              sound.branches;
+          tags = All-push (IsPending objects) workspace.tags
+              (said.ref_name, name_by digest content)
+              (tags_grown workspace.objects objects keeps.grows workspace.tags sound.tags)
+              (tag_held said message target target_kind well is can objects (name_by digest content)
+              keeps.held);
           said = tt;
           commit = open_grown workspace.objects objects keeps.grows workspace.commit sound.commit;
           inline = sound.inline;
@@ -436,53 +490,17 @@ tag_keeps digest names workspace sound mark message (Some said) well =
 
 -- ---- checkpoints
 
-set_or_kept-head : (b : Bool) (store : RefStore) (ref id : List ℕ)
-    → (cond b (with_ref store ref id) store).head ≡ store.head
-set_or_kept-head true store ref id = refl
-set_or_kept-head false store ref id = refl
-
-saved_by-head : (workspace : Workspace) (store : RefStore) (ref : List ℕ) (tip : Tip)
-    → (saved_by workspace store ref tip).head ≡ store.head
-saved_by-head workspace store ref Unborn = refl
-saved_by-head workspace store ref Deleted = refl
-saved_by-head workspace store ref (At id) = set_or_kept-head (moves workspace ref id) store ref id
-
-by_branches-head : (workspace : Workspace) (branches : Branches) (store : RefStore)
-    → (by_branches workspace store branches).head ≡ store.head
-by_branches-head workspace [] store = refl
-by_branches-head workspace (branch ∷ branches) store =
-    by_branches-head workspace branches (saved_by workspace store branch.0 branch.1)
-    ∙ saved_by-head workspace store branch.0 branch.1
-
-by_tags-head : (tags : PendingTags) (store : RefStore) → (by_tags store tags).head ≡ store.head
-by_tags-head [] store = refl
-by_tags-head (tag ∷ tags) store = by_tags-head tags (with_ref store tag.0 tag.1)
-
-by_head-named : (store : RefStore) (head : Option (List ℕ)) → IfSome head IsShortRefName
-    → IsShortRefName store.head → IsShortRefName (by_head store head).head
-by_head-named store None next saved = saved
-by_head-named store (Some ref) next saved = next
-
-saved_head_named : (digest : List ℕ → List ℕ) (workspace : Workspace) → IsSound digest workspace
-    → IsShortRefName (saved_refs workspace).head
-saved_head_named digest workspace sound =
-    let branched = by_branches workspace workspace.refs workspace.branches in
-    by_head-named (by_tags branched workspace.tags) workspace.head sound.next_head
-    (subst IsShortRefName
-    (sym (by_tags-head workspace.tags branched
-    ∙ by_branches-head workspace workspace.branches workspace.refs))
-    sound.saved_head)
-
 checkpoint_keeps : (digest : List ℕ → List ℕ) (workspace : Workspace) → IsSound digest workspace
     → IfOk (checkpoint workspace) (LeavesSound digest)
 checkpoint_keeps digest workspace sound =
     by_test (fit (saved_refs workspace))
     (λ few. rw few (record {
       objects = sound.objects;
-      saved_head = saved_head_named digest workspace sound;
+      refs = refs_whole workspace.objects (saved_refs workspace) (saved_are digest workspace sound few);
       next_head = tt;
       marks = sound.marks;
-      tips = sound.tips;
+      branches = sound.branches;
+      tags = All-nil _;
       said = sound.said;
       commit = sound.commit;
       inline = sound.inline;
@@ -498,20 +516,22 @@ feature_keeps digest workspace sound feature.Done = switched
     switched : IsSound digest (record workspace { needs_done = true })
     switched = record {
       objects = sound.objects;
-      saved_head = sound.saved_head;
+      refs = sound.refs;
       next_head = sound.next_head;
       marks = sound.marks;
-      tips = sound.tips;
+      branches = sound.branches;
+      tags = sound.tags;
       said = sound.said;
       commit = sound.commit;
       inline = sound.inline;
     }
 feature_keeps digest workspace sound feature.Force = record {
   objects = sound.objects;
-  saved_head = sound.saved_head;
+  refs = sound.refs;
   next_head = sound.next_head;
   marks = sound.marks;
-  tips = sound.tips;
+  branches = sound.branches;
+  tags = sound.tags;
   said = sound.said;
   commit = sound.commit;
   inline = sound.inline;
@@ -525,10 +545,11 @@ head_keeps digest workspace sound ref name =
     (λ is. rw is tt)
     (λ other. rw other (record {
       objects = sound.objects;
-      saved_head = sound.saved_head;
+      refs = sound.refs;
       next_head = name;
       marks = sound.marks;
-      tips = sound.tips;
+      branches = sound.branches;
+      tags = sound.tags;
       said = sound.said;
       commit = sound.commit;
       inline = sound.inline;
@@ -570,10 +591,11 @@ commit_lines digest workspace sound (Encoding encoding) well =
     })
 commit_lines digest workspace sound (ModifyInline file_mode path) well = record {
   objects = sound.objects;
-  saved_head = sound.saved_head;
+  refs = sound.refs;
   next_head = sound.next_head;
   marks = sound.marks;
-  tips = sound.tips;
+  branches = sound.branches;
+  tags = sound.tags;
   said = sound.said;
   commit = sound.commit;
   inline = well.1.components;
@@ -590,10 +612,11 @@ commit_lines digest workspace sound act well =
         (changed_open digest workspace sound.objects act well commit is)
         (λ next good. record {
           objects = sound.objects;
-          saved_head = sound.saved_head;
+          refs = sound.refs;
           next_head = sound.next_head;
           marks = sound.marks;
-          tips = sound.tips;
+          branches = sound.branches;
+          tags = sound.tags;
           said = sound.said;
           commit = good;
           inline = sound.inline;
@@ -624,49 +647,53 @@ first_tip os None is = tt
 first_tip os (Some id) is = is
 
 opened_keeps : (digest : List ℕ → List ℕ) (workspace : Workspace) → IsSound digest workspace
-    → (message : List ℕ) (header : Header) → IsGoodHeader header
+    → (message : List ℕ) (header : Header) → IsReady header
     → IfOk (opened_with workspace message header) (LeavesSound digest)
-opened_keeps digest workspace sound message header can =
+opened_keeps digest workspace sound message header ready =
     let os = workspace.objects in
     let first = tip_commit workspace.branches header.ref in
     let is = tip_commit_is digest workspace sound header.ref in
-    then_good (All (λ (branch : List ℕ × Tip). IsTip os branch.1)) (LeavesSound digest)
+    then_good (All (IsBranch os)) (LeavesSound digest)
     (branch_set workspace.branches header.ref (tip_for first)) _
-    (branch_set_keeps os workspace.branches header.ref (tip_for first) sound.tips (first_tip os first is))
-    (λ branches tips. then_good (IsOpen os) (LeavesSound digest)
+    (branch_set_keeps os workspace.branches header.ref (tip_for first) sound.branches
+    (record { name = ready.ref; tip = first_tip os first is }))
+    (λ branches all. then_good (IsOpen os) (LeavesSound digest)
     (begun_from os first (begun header message)) _
-    (begun_open digest os sound.objects header message can first is)
+    (begun_open digest os sound.objects header message ready first is)
     (λ commit good. record {
       objects = sound.objects;
-      saved_head = sound.saved_head;
+      refs = sound.refs;
       next_head = sound.next_head;
       marks = sound.marks;
-      tips = tips;
+      branches = all;
+      tags = sound.tags;
       said = tt;
       commit = good;
       inline = sound.inline;
     }))
 
 header_can : (mark : Option ℕ) (said : Said) → IsWellSaid said → (committer : Option (List ℕ))
-    → IfSome committer IsWrittenIdent → IfOk (header_said mark said committer) IsGoodHeader
+    → IfSome committer IsWrittenIdent → IfOk (header_said mark said committer) IsReady
 header_can mark said well None can = tt
-header_can mark said well (Some committer) can =
-    record { author = well.author; committer = can; encoding = well.encoding }
+header_can mark said well (Some committer) can = record {
+  ref = well.ref;
+  can = record { author = well.author; committer = can; encoding = well.encoding };
+}
 
 commit_keeps : (digest : List ℕ → List ℕ) (workspace : Workspace) → IsSound digest workspace
     → (mark : Option ℕ) (message : List ℕ) (said : Option Said) → IfSome said IsWellSaid
     → IfOk (commit_opened mark message said workspace) (LeavesSound digest)
 commit_keeps digest workspace sound mark message None well = tt
 commit_keeps digest workspace sound mark message (Some said) well =
-    then_good IsGoodHeader (LeavesSound digest) (header_said mark said said.committer) _
+    then_good IsReady (LeavesSound digest) (header_said mark said said.committer) _
     (header_can mark said well said.committer well.committer)
-    (λ header can. opened_keeps digest workspace sound message header can)
+    (λ header ready. opened_keeps digest workspace sound message header ready)
 
 placed_keeps : (digest : List ℕ → List ℕ) (workspace : Workspace) → IsSound digest workspace
     → (act : Act) → IsWellFormed act → IfOk (placed_by act workspace) (LeavesSound digest)
 unfolding placed_by
 placed_keeps digest workspace sound (ResetTo from) well =
-    placed_at digest workspace sound from workspace.said
+    placed_at digest workspace sound from workspace.said sound.said
 placed_keeps digest workspace sound (SetMark mark commit) well =
     alias_keeps digest workspace sound mark commit
 placed_keeps digest workspace sound (OpenCommit mark message) well =
@@ -706,11 +733,14 @@ contents_sound digest names workspace sound bytes (Some file) of_tree (Some comm
     (contents_open digest names os sound.objects commit is file.mode file.path of_tree bytes)
     (λ left good. record {
       objects = good.grows.good;
-      saved_head = sound.saved_head;
+      refs = refs_grown os left.objects (grown_by digest os left.objects good.grows)
+          workspace.committed workspace.refs sound.refs;
       next_head = sound.next_head;
       marks = sound.marks;
-      tips = tips_longer os left.objects (grown_by digest os left.objects good.grows)
-          workspace.branches sound.tips;
+      branches = branches_longer os left.objects (grown_by digest os left.objects good.grows)
+          workspace.branches sound.branches;
+      tags = tags_grown os left.objects (grown_by digest os left.objects good.grows)
+          workspace.tags sound.tags;
       said = sound.said;
       commit = good.open_commit;
       inline = tt;
@@ -737,10 +767,13 @@ entry_sound digest names workspace sound path (Some commit) is =
         let more = grown_by digest workspace.objects shown.objects grows in
         record {
           objects = grows.good;
-          saved_head = sound.saved_head;
+          refs = refs_grown workspace.objects shown.objects more workspace.committed workspace.refs
+              sound.refs;
           next_head = sound.next_head;
           marks = sound.marks;
-          tips = tips_longer workspace.objects shown.objects more workspace.branches sound.tips;
+          branches = branches_longer workspace.objects shown.objects more workspace.branches
+              sound.branches;
+          tags = tags_grown workspace.objects shown.objects more workspace.tags sound.tags;
           said = sound.said;
           commit = open_grown workspace.objects shown.objects more workspace.commit sound.commit;
           inline = sound.inline;
@@ -785,12 +818,15 @@ closed_keeps digest names workspace sound (Some commit) is =
         let more = grown_by digest workspace.objects end.objects held.grows in
         record {
           objects = held.grows.good;
-          saved_head = sound.saved_head;
+          refs = refs_grown workspace.objects end.objects more workspace.committed workspace.refs
+              sound.refs;
           next_head = sound.next_head;
           marks = marks_with workspace.marks commit.header.mark end.id sound.marks
               (there digest end.objects held.grows.good end.id kind.Commit held.commit).name;
-          tips = branch_keeps end.objects workspace.branches commit.header.ref (At end.id)
-              (tips_longer workspace.objects end.objects more workspace.branches sound.tips) held.commit;
+          branches = branch_keeps end.objects workspace.branches commit.header.ref (At end.id)
+              (branches_longer workspace.objects end.objects more workspace.branches sound.branches)
+              (record { name = is.ref; tip = held.commit });
+          tags = tags_grown workspace.objects end.objects more workspace.tags sound.tags;
           said = sound.said;
           commit = tt;
           inline = sound.inline;

@@ -9,7 +9,7 @@ use Rattle.git_model.specs.Repository.{Object}
 use Rattle.git_names.specs.Naming.{AnswersNames}
 use Rattle.tenant_tables.specs.declared.fault.Fault.{Fault as TableFault}
 use Rattle.tenant_tables.specs.Adding.{store_fault}
-use Rattle.tenant_tables.proofs.StoredGood.{Grows, MayStore, stored_good}
+use Rattle.tenant_tables.proofs.StoredGood.{Holds, MayStore, stored_good}
 use Rattle.import_session.specs.declared.fault.Fault.{Fault}
 use Rattle.import_session.specs.Faults.{and_then}
 use Rattle.import_session.specs.Storing.{stored_or, with_content}
@@ -41,11 +41,6 @@ named_by digest names content = names _
 
 -- ---- storing
 
--- objects that stay good, with others after them
-pub record Keeps (digest : List ℕ → List ℕ) (os new : List Object) : Type 0 where
-  pub good : AreObjects digest new
-  pub grows : Grows os new
-
 -- a content that may be stored among good objects
 pub record IsStorable (os : List Object) (content : Content) : Type 0 where
   pub valid : IsValid os content.kind content.bytes
@@ -53,7 +48,7 @@ pub record IsStorable (os : List Object) (content : Content) : Type 0 where
 
 pub content_good : (digest : List ℕ → List ℕ) → AnswersNames digest → (os : List Object)
     → AreObjects digest os → (content : Content) → IsStorable os content
-    → IfOk (with_content digest content os) (Keeps digest os)
+    → IfOk (with_content digest content os) (λ new. Holds digest os new content)
 content_good digest names os good content storable =
     by_fault (store_fault (name_by digest content) content os) refl
   where
@@ -66,8 +61,7 @@ content_good digest names os good content storable =
 
     by_fault : (refusal : Option TableFault)
         → store_fault (name_by digest content) content os ≡ refusal
-        → IfOk (stored_or (name_by digest content) content os refusal) (Keeps digest os)
-    by_fault None none =
-        let holds = stored_good digest os good content may none in
-        record { good = holds.good; grows = holds.grows }
+        → IfOk (stored_or (name_by digest content) content os refusal)
+        (λ new. Holds digest os new content)
+    by_fault None none = stored_good digest os good content may none
     by_fault (Some refusal) some = tt

@@ -1,13 +1,13 @@
 -- What a running stream keeps true of its workspace: git-fsck(1), the validity and the connectivity
 -- of objects.
-use Rattle.std.specs.Prelude.{◌≡◌, ℕ, List, All, Some, IfSome}
+use Rattle.std.specs.Prelude.{◌≡◌, ℕ, List, ◌++◌, take, All, Some, IfSome, codes}
 use Rattle.git_model.specs.declared.kind.Kind.TheVariants as kind
 use Rattle.git_model.specs.Commit.{IsEncoding}
 use Rattle.git_model.specs.Ident.{IsWrittenIdent}
 use Rattle.git_model.specs.ObjectName.{IsObjectName}
 use Rattle.git_model.specs.Repository.{Object, Repository}
 use Rattle.git_model.specs.References.{kind_named}
-use Rattle.git_model.specs.GoodRepository.{AreObjects, IsShortRefName}
+use Rattle.git_model.specs.GoodRepository.{AreObjects, AreRefs, IsShortRefName, IsTagNamed}
 use Rattle.git_paths.specs.Paths.{IsPath}
 use Rattle.open_commits.specs.GoodCommits.{IsGoodCommit}
 use Rattle.open_commits.specs.OpenCommit.{OpenCommit}
@@ -17,16 +17,26 @@ use Rattle.import_session.specs.declared.branches.Tip.TheVariants.{Unborn, Delet
 use Rattle.import_session.specs.declared.said.Said.{Said}
 use Rattle.import_session.specs.Workspace.{Workspace}
 
--- A repository that a stream may open on: its objects are good, and HEAD names a ref.
+-- A repository that a stream may open on, and that it leaves: its objects are good, and its refs.
 pub record IsSoundRepository (digest : List ℕ → List ℕ) (repository : Repository) : Type 0 where
   pub objects : AreObjects digest repository.objects
-  pub head : IsShortRefName repository.refs.head
+  pub refs : AreRefs repository.objects repository.refs
 
 -- A branch stands at no commit, or at one of the objects.
 abbrev pub IsTip : List Object → Tip → Type 0
 IsTip objects Unborn = Unit {0}
 IsTip objects Deleted = Unit {0}
 IsTip objects (At id) = kind_named id objects ≡ Some kind.Commit
+
+-- Its name is good for a ref, which a checkpoint may set.
+pub record IsBranch (objects : List Object) (branch : List ℕ × Tip) : Type 0 where
+  pub name : IsShortRefName branch.0
+  pub tip : IsTip objects branch.1
+
+-- A pending tag is one of the objects, and its ref is `refs/tags/` with the tag's own name.
+pub record IsPending (objects : List Object) (tag : List ℕ × List ℕ) : Type 0 where
+  pub name : IsShortRefName tag.0
+  pub named : (own : List ℕ) × (tag.0 ≡ codes "refs/tags/" ++ own) × IsTagNamed objects tag.1 own
 
 -- What the lines of the open command have said can be written.
 pub record IsWellSaid (said : Said) : Type 0 where
@@ -36,21 +46,25 @@ pub record IsWellSaid (said : Said) : Type 0 where
   pub encoding : IfSome said.encoding IsEncoding
   pub tagger : IfSome said.tagger IsWrittenIdent
 
--- An open commit is good among the objects, and its files are those of a branch.
+-- An open commit is good among the objects, the name of its branch is good for a ref, and its files
+-- are those of a branch.
 pub record IsOpen (objects : List Object) (commit : OpenCommit) : Type 0 where
+  pub ref : IsShortRefName commit.header.ref
   pub good : IsGoodCommit objects commit
   pub files : HasFiles commit
 
--- A workspace is sound where its objects are good, where HEAD names a ref, as saved and as it is to
--- be, where marks stand for object names and branches stand at no other commits than those of its
--- objects, where what the open command has said can be written, where the open commit is good, and
--- where the file that awaits its data has a path.
+-- A workspace is sound where its objects are good, and the refs as last saved are good among those
+-- that stood then; where HEAD is to name a ref, marks stand for object names, branches stand at no
+-- other commits than those of its objects, and pending tags are tags of theirs; where what the open
+-- command has said can be written, where the open commit is good, and where the file that awaits its
+-- data has a path.
 pub record IsSound (digest : List ℕ → List ℕ) (workspace : Workspace) : Type 0 where
   pub objects : AreObjects digest workspace.objects
-  pub saved_head : IsShortRefName workspace.refs.head
+  pub refs : AreRefs (take workspace.committed workspace.objects) workspace.refs
   pub next_head : IfSome workspace.head IsShortRefName
   pub marks : All (λ mark. IsObjectName mark.1) workspace.marks
-  pub tips : All (λ branch. IsTip workspace.objects branch.1) workspace.branches
+  pub branches : All (IsBranch workspace.objects) workspace.branches
+  pub tags : All (IsPending workspace.objects) workspace.tags
   pub said : IfSome workspace.said IsWellSaid
   pub commit : IfSome workspace.commit (IsOpen workspace.objects)
   pub inline : IfSome workspace.inline (λ file. IsPath file.path)
