@@ -1,0 +1,10 @@
+pub mod Acts
+pub mod Room
+pub mod Storing
+pub mod MarksSet
+pub mod Known
+pub mod Next
+pub mod Blobs
+pub mod Tags
+pub mod TagsTold
+pub mod FilesPut

@@ -1,0 +1,123 @@
+-- A tag is told: it is stored and marked, and its ref waits for the next checkpoint.
+use Rattle.std.proofs.Common.{◌≡◌, ◌≢◌, ℕ, ◌<◌, List, [], ◌∷◌, ◌++◌, length, Option, None, Some, Ok, refl, subst}
+use Rattle.std.proofs.lemmas.Bool.{lt-ltb}
+use Rattle.git_model.specs.declared.kind.Kind.{Kind}
+use Rattle.git_model.specs.declared.kind.Kind.TheVariants as kind
+use Rattle.git_model.specs.Content.{content_from, name_by}
+use Rattle.git_model.specs.References.{kind_named}
+use Rattle.git_model.specs.Repository.{with_object}
+use Rattle.git_model.specs.Tag.{Tag, tag_contents}
+use Rattle.tenant_tables.specs.Adding.{store_fault}
+use Rattle.stream_grammar.specs.Acts.{BeginTag, StoreTag, TagTarget, Tagger}
+use Rattle.stream_grammar.specs.Commands.{Done}
+use Rattle.stream_grammar.specs.Names.{Marked}
+use Rattle.import_session.specs.declared.said.Said.{Said}
+use Rattle.import_session.specs.Marks.{marked_name, room_for, with_mark}
+use Rattle.import_session.specs.Meaning.{after_act, placed_by, said_of_tag, set_by, shown_by, stored_or_shown}
+use Rattle.import_session.specs.Tags.{room_for_tag, tag_limit, tagged_kind}
+use Rattle.import_session.specs.Workspace.{Workspace, quiet, said_of}
+use Rattle.export_text.specs.ExportActs.{asks, asks_if, wait_if}
+use Rattle.export_text.specs.Reached.{tag_ref}
+use Rattle.export_laws.specs.Leaving.{Leaves, nothing}
+use Rattle.export_laws.proofs.Acts.{asked}
+use Rattle.export_laws.proofs.Blobs.{waits}
+
+-- ---- the lines of a tag
+
+abbrev with_said : Workspace → Said → Workspace
+with_said w said = record w { said = Some said }
+
+abbrev said_target : List ℕ → ℕ → Option (List ℕ) → Said
+said_target ref n tagger = record (said_of ref) { target = Marked n; tagger = tagger }
+
+begins : (digest : List ℕ → List ℕ) (w : Workspace) (ref : List ℕ)
+    → after_act digest (BeginTag ref) w ≡ quiet (with_said w (said_of ref))
+unfolding after_act stored_or_shown shown_by placed_by set_by said_of_tag
+begins digest w ref = refl
+
+targets : (digest : List ℕ → List ℕ) (w : Workspace) (ref : List ℕ) (n : ℕ)
+    → after_act digest (TagTarget (Marked n)) (with_said w (said_of ref))
+    ≡ quiet (with_said w (said_target ref n None))
+unfolding after_act stored_or_shown shown_by placed_by set_by said_of_tag
+targets digest w ref n = refl
+
+taggers : (digest : List ℕ → List ℕ) (w : Workspace) (ref : List ℕ) (n : ℕ) (ident : List ℕ)
+    → after_act digest (Tagger ident) (with_said w (said_target ref n None))
+    ≡ quiet (with_said w (said_target ref n (Some ident)))
+unfolding after_act stored_or_shown shown_by placed_by set_by said_of_tag
+taggers digest w ref n ident = refl
+
+-- ---- its data
+
+no_tree : (k : Kind) → k ≢ kind.Tree → tagged_kind (Some k) ≡ Ok k
+no_tree kind.Tree other = absurd (other refl)
+no_tree kind.Commit other = refl
+no_tree kind.Blob other = refl
+no_tree kind.Tag other = refl
+
+-- What is asked of a workspace in which a tag is to be stored.
+pub record MayTag (digest : List ℕ → List ℕ) (w : Workspace) (mark : Option ℕ) (t : Tag) (n : ℕ)
+    : Type 0 where
+  pub target : marked_name w.marks n ≡ Ok t.target
+  pub kind_is : kind_named t.target w.objects ≡ Some t.kind
+  pub no_tree : t.kind ≢ kind.Tree
+  pub marks : room_for w.marks mark ≡ Ok tt
+  pub tags : length w.tags < tag_limit
+  pub unrefused : store_fault (name_by digest (content_from kind.Tag (tag_contents t)))
+      (content_from kind.Tag (tag_contents t)) w.objects ≡ None
+
+abbrev pub tagged_in : (List ℕ → List ℕ) → Workspace → Option ℕ → Tag → Workspace
+tagged_in digest w mark t =
+    let c = content_from kind.Tag (tag_contents t) in
+    record w {
+      objects = with_object (name_by digest c) c w.objects;
+      marks = with_mark w.marks mark (name_by digest c);
+      tags = w.tags ++ (tag_ref t.name, name_by digest c) ∷ [];
+      said = None;
+    }
+
+tag-stored : (digest : List ℕ → List ℕ) (w : Workspace) (mark : Option ℕ) (t : Tag) (n : ℕ)
+    → MayTag digest w mark t n
+    → after_act digest (StoreTag mark t.message) (with_said w (said_target (tag_ref t.name) n t.tagger))
+    ≡ quiet (tagged_in digest w mark t)
+unfolding after_act
+tag-stored digest w mark t n may =
+    let few : room_for_tag w.tags ≡ Ok tt = room_there in
+    rw (may.target, may.kind_is, no_tree t.kind may.no_tree, may.marks, few, may.unrefused) refl
+  where
+    room_there : room_for_tag w.tags ≡ Ok tt
+    room_there = rw (lt-ltb (length w.tags) tag_limit may.tags) refl
+
+-- ---- all of them
+
+abbrev acts_for : ℕ → Option ℕ → Tag → List Done
+acts_for n mark t = asks (BeginTag (tag_ref t.name)) ∷ wait_if mark
+    ++ asks (TagTarget (Marked n)) ∷ []
+    ++ asks_if Tagger t.tagger ++ asks (StoreTag mark t.message) ∷ []
+
+module _ (digest : List ℕ → List ℕ) (w : Workspace) (n : ℕ) where
+  from-target : (mark : Option ℕ) (t : Tag) → MayTag digest w mark t n → (tagger : Option (List ℕ))
+      → t.tagger ≡ tagger
+      → Leaves digest (asks (TagTarget (Marked n)) ∷ [] ++ asks_if Tagger tagger ++ asks (StoreTag mark t.message) ∷ [])
+      (with_said w (said_of (tag_ref t.name))) (tagged_in digest w mark t)
+  from-target mark t may None is =
+      asked digest _ _ _ _ _ (targets digest w (tag_ref t.name) n)
+      (asked digest _ _ _ _ _
+      (subst (λ (tagger : Option (List ℕ)). after_act digest (StoreTag mark t.message) (with_said w (said_target (tag_ref t.name) n tagger)) ≡ quiet (tagged_in digest w mark t))
+      is (tag-stored digest w mark t n may)) (nothing _))
+  from-target mark t may (Some ident) is =
+      asked digest _ _ _ _ _ (targets digest w (tag_ref t.name) n)
+      (asked digest _ _ _ _ _ (taggers digest w (tag_ref t.name) n ident)
+      (asked digest _ _ _ _ _
+      (subst (λ (tagger : Option (List ℕ)). after_act digest (StoreTag mark t.message) (with_said w (said_target (tag_ref t.name) n tagger)) ≡ quiet (tagged_in digest w mark t))
+      is (tag-stored digest w mark t n may)) (nothing _)))
+
+  -- the acts of a tag, with or without a mark
+  pub tag-leaves : (mark : Option ℕ) (t : Tag) → MayTag digest w mark t n
+      → Leaves digest (acts_for n mark t) w (tagged_in digest w mark t)
+  tag-leaves None t may =
+      asked digest _ _ _ _ _ (begins digest w (tag_ref t.name))
+      (from-target None t may t.tagger refl)
+  tag-leaves (Some mark) t may =
+      asked digest _ _ _ _ _ (begins digest w (tag_ref t.name))
+      (asked digest _ _ _ _ _ (waits digest _) (from-target (Some mark) t may t.tagger refl))

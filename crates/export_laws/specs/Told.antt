@@ -1,0 +1,94 @@
+-- What the acts of exported objects leave of a stream, object by object.
+use Rattle.std.specs.Prelude.{◌≡◌, ◌≢◌, ℕ, ◌≤◌, ◌⊎◌, false, true, List, [], ◌∷◌, ◌++◌, length, map, filter, Option, None, Some, Ok}
+use Rattle.std.specs.List.{IsDistinct}
+use Rattle.std.specs.Str.{bytes_eq}
+use Rattle.git_model.specs.declared.kind.Kind.TheVariants as kind
+use Rattle.git_model.specs.Content.{Content}
+use Rattle.git_model.specs.Reach.{is_referred_to}
+use Rattle.git_model.specs.RefStore.{no_refs}
+use Rattle.git_model.specs.Repository.{Object, Repository, object_named}
+use Rattle.export_text.specs.ExportActs.{acts_of_object, number_of}
+use Rattle.export_text.specs.ExportItems.{scratch}
+use Rattle.export_text.specs.Reached.{is_tag, ref_of_tag}
+use Rattle.import_session.specs.declared.branches.Tip.{Tip}
+use Rattle.import_session.specs.declared.said.Said.{Said}
+use Rattle.import_session.specs.Marks.{marked_name}
+use Rattle.import_session.specs.Workspace.{Branches, Marks, PendingTags, Workspace}
+use Rattle.export_laws.specs.Leaving.{Leaves}
+
+-- What changes while objects are told, between two of them: the objects, marks, branches and
+-- pending tags, and what was last said, which the next command forgets.
+pub record Told : Type 0 where
+  pub objects : List Object
+  pub marks : Marks
+  pub branches : Branches
+  pub tags : PendingTags
+  pub said : Option Said
+
+-- The workspace then, of a stream that began in an empty repository: nothing is saved yet, no commit
+-- is open, and refs are updated by force.
+abbrev pub workspace_of : Option (List ℕ) → Told → Workspace
+workspace_of head told = record {
+  objects = told.objects;
+  committed = 0;
+  refs = no_refs;
+  marks = told.marks;
+  branches = told.branches;
+  tags = told.tags;
+  said = told.said;
+  commit = None;
+  inline = None;
+  head = head;
+  forces = true;
+  needs_done = false;
+}
+
+-- Before the first object.
+abbrev pub nothing_told : Told
+nothing_told = record { objects = []; marks = []; branches = []; tags = []; said = None }
+
+-- Each object that is there is one of the repository, which has it under the same name, and some
+-- ref of the repository reaches it. No two have one name.
+pub record AreOf (repository : Repository) (objects : List Object) : Type 0 where
+  pub same : (id : List ℕ) (content : Content) → object_named id objects ≡ Some content
+      → object_named id repository.objects ≡ Some content
+  pub reached : (id : List ℕ) (content : Content) → object_named id objects ≡ Some content
+      → is_referred_to repository id ≡ true
+  pub distinct : IsDistinct bytes_eq (map (λ (o : Object). o.id) objects)
+
+-- An object is there, under its name and under its mark.
+pub record IsThere (os : List Object) (told : Told) (id : List ℕ) (content : Content) : Type 0 where
+  pub object : object_named id told.objects ≡ Some content
+  pub mark : marked_name told.marks (number_of os id) ≡ Ok id
+
+-- No branch is there but the one on which commits are told.
+abbrev pub IsScratchAlone : Branches → Type 0
+IsScratchAlone branches = (branches ≡ []) ⊎ ((tip : Tip) × (branches ≡ (scratch, tip) ∷ []))
+
+-- Those of some objects that the refs reach.
+abbrev pub reached_among : Repository → List Object → List Object
+reached_among repository os = filter (λ o. is_referred_to repository o.id) os
+
+-- The refs that tags are imported under, in their order.
+abbrev pub tags_of : List Object → PendingTags
+tags_of os = map (λ o. (ref_of_tag o, o.id)) (filter is_tag os)
+
+-- The first objects of a repository were told: those that a ref reaches are there with their marks,
+-- trees left out; nothing is there that the repository has not, or that no ref reaches; and the tags
+-- wait for the next checkpoint.
+pub record AreTold (repository : Repository) (first : List Object) (told : Told) : Type 0 where
+  pub objects : AreOf repository told.objects
+  pub each : (id : List ℕ) (content : Content) → object_named id first ≡ Some content
+      → is_referred_to repository id ≡ true → content.kind ≢ kind.Tree
+      → IsThere repository.objects told id content
+  pub few : length told.marks ≤ length first
+  pub branches : IsScratchAlone told.branches
+  pub tags : told.tags ≡ tags_of (reached_among repository first)
+
+-- The acts of one more object lead to where it is told too, whatever HEAD is to name.
+pub record IsToldNext (digest : List ℕ → List ℕ) (repository : Repository) (first : List Object)
+    (o : Object) (told : Told) : Type 0 where
+  pub next : Told
+  pub leaves : (head : Option (List ℕ)) → Leaves digest (acts_of_object repository.objects o)
+      (workspace_of head told) (workspace_of head next)
+  pub tells : AreTold repository (first ++ o ∷ []) next
