@@ -1,16 +1,19 @@
 //! The service: many tenants' repositories over one pool of contents.
 //!
 //! A tenant is told what it would be told if nobody else were there: `Service::run` says so, for
-//! every list of steps of any tenants, however interleaved. `import_one` carries one stream from a
-//! reader to a writer, over the same stream.
+//! every list of steps of any tenants, however interleaved. `Service::save` writes all repositories
+//! to a pool file, and `Service::load` reads them. `import_one` carries one stream from a reader to
+//! a writer, over the same stream; `Line` is a command line of the program.
 #![tactic(auto)]
 
 mod import;
 mod import_fault;
 mod serving;
 
+pub use command_lines::Line;
 pub use import::import_one;
 pub use import_fault::ImportFault;
+pub use pool_file_text::{Fault as PoolFault, Refusal, Starting};
 pub use service_steps::{Answer, Reply, ServiceFault, Step};
 pub use serving::serve;
 pub use step_frames::FrameFault;

@@ -6,3 +6,8 @@ pub mod RunLemmas
 mod SoundLemmas
 mod RestartLemmas
 mod StoredLemmas
+mod LoadedLemmas
+mod LentLemmas
+mod SavedLemmas
+mod SavableLemmas
+mod BackLemmas

@@ -1,7 +1,9 @@
--- In reading order: a repository of its own, runs of many tenants, and what the service holds; then
--- where a tenant's parts lie, and what one step does to them.
+-- In reading order: a repository of its own, runs of many tenants, and what the service holds; what of
+-- it a pool file has; then where a tenant's parts lie, and what one step does to them.
 pub mod Alone
 pub mod Headline
 pub mod Holding
+pub mod Saved
 pub mod Tenants
 pub mod OneStep
+pub mod Entries

@@ -4,9 +4,12 @@
 //! every list of steps of any tenants, however interleaved. How steps lie in bytes is not known here.
 #![tactic(auto)]
 
+mod loading;
+mod saving;
 mod service;
 mod tenant;
 mod tenants;
 
+pub use pool_file_text::{Fault, Refusal, Starting};
 pub use service::Service;
 pub use service_steps::{Answer, Reply, ServiceFault, Step};

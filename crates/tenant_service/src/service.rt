@@ -12,24 +12,38 @@
 //!
 //! Each answers `Answer::Ok`, and `out` has what the stream prints: crates/two_tenants is a program.
 
-ghost use Rattle.std.specs.Prelude.{◌≡◌, ◌+◌, ◌++◌, ℕ, List, [], ◌∷◌, length, drop, count_by, IsNone, IfSome, OnErr, OnOk, ◌<◌};
+ghost use Rattle.std.specs.Prelude.{◌≡◌, ◌+◌, ◌^◌, ◌++◌, ℕ, List, [], ◌∷◌, length, drop, count_by, true, None, IsNone, IfSome, OnErr, OnOk, ◌<◌};
+ghost use Rattle.byte_devices.specs.Device.{device_of, calls_of, counted_on, seen};
 ghost use Rattle.content_pool.specs.LiveContents.{live_contents, stored_sizes};
+ghost use Rattle.git_model.specs.Content.{same_content};
+ghost use Rattle.pool_file.specs.Judging.{IsBlamed};
+ghost use Rattle.pool_file.specs.Repositories.{file_text};
+ghost use Rattle.pool_file.specs.Saving.{IsTextOf};
+ghost use Rattle.pool_saving.specs.Saves.{Saves};
 ghost use Rattle.std.specs.List.{AllByRecursion, IsDistinct};
 ghost use Rattle.std.specs.Map.{keys_of};
+ghost use Rattle.std.specs.Set.{unique_keys};
 ghost use Rattle.std.specs.Str.{bytes_eq};
-ghost use Rattle.tenant_service.specs.Alone.{added, State};
+ghost use Rattle.tenant_refs.specs.TenantName.{is_tenant_name};
+ghost use Rattle.tenant_service.specs.Alone.{added, Restart, State};
 ghost use Rattle.tenant_service.specs.Headline.{IsItsOwn, IsRefused, told_in, told_since, run_of};
-ghost use Rattle.tenant_service.specs.Holding.{LeadsTo, IsSoundHolding, Idle, empty_repository, held_of, held_contents, has_commit};
+ghost use Rattle.tenant_service.specs.Holding.{Holdings, LeadsTo, IsSoundHolding, Idle, empty_repository, held_of, held_contents, has_commit, step_held};
+ghost use Rattle.tenant_service.specs.Saved.{saved_of, AllTreesFit, IsLoadedFrom, LoadsAs, LoadsText, LoadsEach};
 ghost use Rattle.tenant_service.specs.Tenants.{Shows};
 ghost use Rattle.tenant_tables.specs.StandsIn.{StandsIn};
 
+use crate::loading::tenants_of;
+use crate::saving::lend_all;
 use crate::tenant::Tenant;
 use crate::tenants::{count_committed, name_of, take_step};
+use byte_devices::Counted;
 use content_pool::Pool;
 use git_objects::{Memory, Naming};
 use indexmap::IndexMap;
+use pool_file_text::{Fault, Starting};
 use service_steps::{Answer, Reply, Step};
 use std::alloc::Global;
+use std::io::{Read, Write};
 use std::marker::Model;
 use tenant_refs::{Refs, TenantName};
 use tenant_tables::Table;
@@ -92,6 +106,39 @@ impl<N: Naming> Service<N> {
         ensures { IsDistinct bytes_eq (keys_of self.now) }
     {
         let _many = self.tenants.len();
+    }
+
+    /// Where all trees are within the limits, what is saved has the text that is written; and a
+    /// service that was loaded from it has of every tenant what a restart leaves here: a fact for
+    /// proofs. A call does nothing.
+    pub fn comes_back(&self)
+        ensures text { AllTreesFit self.now → IsTextOf N.digest_of (saved_of self.now)
+            (file_text N.digest_of (saved_of self.now)) }
+        ensures same { AllTreesFit self.now → (loaded : Holdings)
+            → IsLoadedFrom N.digest_of (file_text N.digest_of (saved_of self.now)) loaded
+            → (tenant : List ℕ) → held_of tenant loaded
+            ≡ (step_held N.digest_of Restart None (held_of tenant self.now)).state }
+    {
+        self.is_sound();
+        self.has_distinct_names();
+        self.has_few_names();
+        self.has_few_contents();
+    }
+
+    // Every tenant has a good name, and there are fewer than 2^63 tenants: a fact for proofs.
+    fn has_few_names(&self)
+        ensures names { AllByRecursion (λ name. is_tenant_name name ≡ true) (keys_of self.now) }
+        ensures few { length self.now < 2 ^ 63 }
+    {
+        let _many = self.tenants.len();
+    }
+
+    // All tenants together have fewer than 2^64 distinct contents: a fact for proofs.
+    #[tactic(auto, unfolding(content_pool::specs::LiveContents::stored_sizes))]
+    fn has_few_contents(&self)
+        ensures { length (unique_keys same_content (held_contents self.now)) < 2 ^ 64 }
+    {
+        let (_contents, _size) = self.stored();
     }
 
     /// How many distinct contents all tenants hold together, those of running streams included, and
@@ -183,5 +230,58 @@ impl<N: Naming> Service<N> {
             replies.push(Reply { answer, bytes }).unwrap();
         }
         Ok(())
+    }
+}
+
+impl<N: Starting> Service<N> {
+    /// Reads a pool file up to the end of the input, in either version. Each tenant of the file has
+    /// its repository then, and no stream; what the service keeps later comes from `alloc`.
+    ///
+    /// `Refused` with the first thing that is wrong: `NoPoolFile` (60), `UnknownVersion` (61),
+    /// `CutOff` (62) and `TrailingBytes` (69) from left to right, then `WrongDigest` (63), then what
+    /// the file says may be `NotCanonical` (64), `BadObject` (65), `MissingReference` (66) or
+    /// `BadRef` (67). `Device` (68) where a call of `read` answered an error, or 2^32 calls were
+    /// made. `Memory` (90) where a growth was refused. What was read is gone from the reader; after a
+    /// service nothing is left in it.
+    pub fn load<R: Read>(
+        alloc: Global,
+        naming: N,
+        reader: &mut Counted<R>,
+    ) -> Result<Service<N>, Fault>
+        // What the bytes say, or the first refusal, where the reader tells its bytes.
+        ensures exact { LoadsAs N.digest_of (R.remaining (device_of reader.old)) result
+            (R.remaining (device_of reader.new)) }
+        // The bytes are a text of what the service has.
+        ensures found { LoadsText N.digest_of (R.remaining (device_of reader.old)) result }
+        // Each text is answered.
+        ensures only { LoadsEach N.digest_of (R.remaining (device_of reader.old)) result }
+        // Which calls are made, and when the device is blamed.
+        ensures cause { IsBlamed (counted_on (calls_of reader.old) (2 ^ 32))
+            (seen (R.remaining (device_of reader.old)) reader.old) result
+            (seen (R.remaining (device_of reader.new)) reader.new) }
+    {
+        let (pool, loaded) = pool_loading::load(alloc, naming, reader)?;
+        let tenants = tenants_of(alloc, loaded)?;
+        Ok(Service {
+            alloc,
+            pool,
+            tenants,
+        })
+    }
+
+    /// Writes the repositories of all tenants at their last checkpoints as a pool file, in version 2.
+    /// What a stream that runs has not saved is left out, and so is a tenant that has neither an
+    /// object nor another HEAD than the first.
+    ///
+    /// `Device` (68) where a call of `write` answered an error or took nothing; a prefix of the file
+    /// then stands written. `Memory` (90) where a growth was refused, after a prefix of it. Nothing
+    /// is refused. The service is as it was.
+    pub fn save<W: Write>(&self, writer: &mut Counted<W>) -> Result<(), Fault>
+        ensures { Saves (seen (W.contents (device_of writer.old)) writer.old) result
+            (seen (W.contents (device_of writer.new)) writer.new)
+            (file_text N.digest_of (saved_of self.now)) }
+    {
+        let lent = lend_all(self.alloc, &self.tenants)?;
+        pool_saving::save(self.alloc, &self.pool, &lent, writer)
     }
 }

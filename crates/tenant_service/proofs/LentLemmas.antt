@@ -1,0 +1,82 @@
+-- Tenants are lent one after the other, and what is saved of them.
+use Rattle.std.proofs.Common.{◌≡◌, ℕ, zero, suc, ◌+◌, List, [], ◌∷◌, ◌++◌, map, take, Some, slice_get, refl, sym, ap, subst, ◌∙◌, add-one}
+use Rattle.std.specs.List.{AllByRecursion}
+use Rattle.std.proofs.lemmas.List.{map-append}
+use Rattle.content_pool.specs.Pool.{Cells}
+use Rattle.tenant_tables.specs.Objects.{objects}
+use Rattle.tenant_tables.specs.StandsIn.{StandsIn}
+use Rattle.pool_file.specs.Repositories.{Named}
+use Rattle.pool_saving.specs.declared.saved.Saved.{Saved}
+use Rattle.pool_saving.specs.Worth.{AllStand, named_in, to_save, worth_saving}
+use Rattle.tenant_service.specs.declared.tenant.Tenant.{Tenant}
+use Rattle.tenant_service.specs.Entries.{Parts, parts_lent, parts_of}
+use Rattle.tenant_service.specs.Saved.{last_named, saved_of}
+use Rattle.tenant_service.specs.Tenants.{Tenants, Stands, holdings}
+use Rattle.tenant_service.proofs.StoredLemmas.{shows}
+
+take-next : {X : Type 0} (xs : List X) (i : ℕ) (x : X) → slice_get xs i ≡ Some x
+    → take (suc i) xs ≡ take i xs ++ x ∷ []
+take-next [] i x h = cc h
+take-next (y ∷ ys) zero x h = let same : y ≡ x = cc h in ap (λ z. z ∷ []) same
+take-next (y ∷ ys) (suc i) x h = ap (λ zs. y ∷ zs) (take-next ys i x h)
+
+pub lent-next : (es : List (List ℕ × Tenant)) (lent more : List Saved) (i : ℕ)
+    (e : List ℕ × Tenant) (s : Saved) → map parts_lent lent ≡ map parts_of (take i es)
+    → slice_get es i ≡ Some e → more ≡ lent ++ s ∷ [] → parts_lent s ≡ parts_of e
+    → map parts_lent more ≡ map parts_of (take (i + 1) es)
+lent-next es lent more i e s before got is same =
+    ap (map parts_lent) is ∙ map-append parts_lent lent (s ∷ [])
+    ∙ (λ j. before j ++ same j ∷ [])
+    ∙ sym (ap (λ n. map parts_of (take n es)) (add-one i)
+    ∙ ap (map parts_of) (take-next es i e got) ∙ map-append parts_of (take i es) (e ∷ []))
+
+-- ---- what is saved of those that are lent
+
+pub all-stand : (digest : List ℕ → List ℕ) (p : Cells) (es : Tenants) (lent : List Saved)
+    → AllByRecursion (λ e. Stands digest p e.1) es → map parts_lent lent ≡ map parts_of es
+    → AllStand digest p lent
+all-stand digest p es [] all is = tt
+all-stand digest p [] (s ∷ lent) all is = cc is
+all-stand digest p (e ∷ es) (s ∷ lent) all is =
+    let first : parts_lent s ≡ parts_of e = cc is in
+    let rest : map parts_lent lent ≡ map parts_of es = cc is in (
+      subst (λ (parts : Parts). StandsIn digest p parts.table.entries) (sym first) all.0.entries,
+      all-stand digest p es lent all.1 rest,
+    )
+
+named_by : Cells → Parts → Named
+named_by p parts = record {
+  tenant = parts.name;
+  repository = record {
+    objects = take parts.table.committed (objects p parts.table.entries);
+    refs = parts.refs;
+  };
+}
+
+named-parts : (p : Cells) (lent : List Saved)
+    → map (named_in p) lent ≡ map (named_by p) (map parts_lent lent)
+unfolding named_by
+named-parts p [] = refl
+named-parts p (s ∷ lent) = ap (λ (ns : List Named). named_in p s ∷ ns) (named-parts p lent)
+
+named-last : (digest : List ℕ → List ℕ) (p : Cells) (es : Tenants)
+    → AllByRecursion (λ e. Stands digest p e.1) es
+    → map (named_by p) (map parts_of es) ≡ last_named (holdings p es)
+unfolding named_by
+named-last digest p [] all = refl
+named-last digest p (e ∷ es) all =
+    let shown = shows e.1.phase p e.1.table e.1.refs all.0.settled in
+    let objects_are = shown.committed in
+    let refs_are = shown.saved in
+    let rest = named-last digest p es all.1 in
+    λ i. record {
+      tenant = e.0;
+      repository = record { objects = objects_are i; refs = refs_are i };
+    } ∷ rest i
+
+pub saved-lent : (digest : List ℕ → List ℕ) (p : Cells) (es : Tenants) (lent : List Saved)
+    → AllByRecursion (λ e. Stands digest p e.1) es → map parts_lent lent ≡ map parts_of es
+    → to_save p lent ≡ saved_of (holdings p es)
+saved-lent digest p es lent all is =
+    ap worth_saving
+    (named-parts p lent ∙ ap (map (named_by p)) is ∙ named-last digest p es all)

@@ -1,0 +1,35 @@
+-- Tenants as they are lent to be saved, and as they were loaded: what the proofs of the service's
+-- calls say to one another. No public clause cites it.
+use Rattle.std.specs.Prelude.{◌≡◌, ℕ, List, ◌++◌, map}
+use Rattle.git_model.specs.RefStore.{RefStore}
+use Rattle.tenant_tables.specs.View.{View}
+use Rattle.pool_loading.specs.declared.tenant.Tenant.{Tenant as Loaded}
+use Rattle.pool_saving.specs.declared.saved.Saved.{Saved}
+use Rattle.tenant_service.specs.declared.tenant.Phase.TheVariants as phase
+use Rattle.tenant_service.specs.declared.tenant.Tenant.{Tenant}
+use Rattle.tenant_service.specs.Tenants.{Tenants}
+
+-- A tenant that was loaded has no stream.
+abbrev pub entry_of : Loaded → List ℕ × Tenant
+entry_of loaded =
+    (loaded.name, record { table = loaded.table; refs = loaded.refs; phase = phase.Closed })
+
+-- Those that were taken in, and behind them those that are left, are all.
+abbrev pub AreAll : Tenants → List Loaded → List Loaded → Type 0
+AreAll taken rest all = taken ++ map entry_of rest ≡ map entry_of all
+
+-- A tenant's name, table and refs, as they are lent and where they lie.
+pub record Parts : Type 0 where
+  pub name : List ℕ
+  pub table : View
+  pub refs : RefStore
+
+abbrev pub parts_lent : Saved → Parts
+parts_lent saved = record {
+  name = saved.name.now;
+  table = saved.table.now;
+  refs = saved.refs.now;
+}
+
+abbrev pub parts_of : List ℕ × Tenant → Parts
+parts_of e = record { name = e.0; table = e.1.table; refs = e.1.refs }

@@ -1,0 +1,79 @@
+-- The repositories of a service in a pool file: those that are saved, and what is held of those that
+-- were loaded.
+use Rattle.std.specs.Prelude.{◌≡◌, ◌<◌, ℕ, List, [], All, map, Option, None, Some, unwrap_or, Result, Ok, Err}
+use Rattle.std.specs.Map.{lookup}
+use Rattle.std.specs.Str.{bytes_eq}
+use Rattle.git_model.specs.Repository.{Repository}
+use Rattle.pool_file_text.specs.declared.fault.Fault.{Fault}
+use Rattle.pool_file_text.specs.declared.fault.Fault.TheVariants as fault
+use Rattle.pool_file_checks.specs.Sums.{TreesFit}
+use Rattle.pool_file.specs.Repositories.{Named}
+use Rattle.pool_file.specs.Saving.{IsTextOf}
+use Rattle.pool_file.specs.Judging.{IsRefused}
+use Rattle.pool_loading.specs.Loading.{AreRead}
+use Rattle.pool_saving.specs.Worth.{worth_saving}
+use Rattle.tenant_service.specs.Holding.{Holdings, Idle, empty_repository, held_of, last_held}
+
+-- The repository of each tenant at its last checkpoint, under the tenant's name.
+abbrev pub last_named : Holdings → List Named
+last_named all = map (λ e. record { tenant = e.0; repository = last_held e.1 }) all
+
+-- Those that are saved: they have an object, or another HEAD than the first.
+abbrev pub saved_of : Holdings → List Named
+saved_of all = worth_saving (last_named all)
+
+-- The repository of a tenant among some; an empty one, where it has none there.
+abbrev pub repository_of : List ℕ → List Named → Repository
+repository_of tenant all =
+    unwrap_or (lookup (bytes_eq tenant) (map (λ n. (n.tenant, n.repository)) all)) empty_repository
+
+-- Of each tenant its repository among these is held, and no stream.
+abbrev pub HasJust : List Named → Holdings → Type 0
+HasJust all held = (tenant : List ℕ) → held_of tenant held ≡ Idle (repository_of tenant all)
+
+-- The trees of every tenant's repository at its last checkpoint are within the limits.
+abbrev pub AllTreesFit : Holdings → Type 0
+AllTreesFit all = (tenant : List ℕ) → TreesFit [] (last_held (held_of tenant all)).objects
+
+-- What is held is of the repositories that a file says, which all of the bytes are read as.
+pub record IsReadFrom (digest : List ℕ → List ℕ) (bytes : List ℕ) (held : Holdings) : Type 0 where
+  pub all : List Named
+  pub read : AreRead digest bytes all
+  pub has : HasJust all held
+
+-- What is held is of repositories that the bytes are a text of.
+pub record IsLoadedFrom (digest : List ℕ → List ℕ) (bytes : List ℕ) (held : Holdings)
+    : Type 0 where
+  pub all : List Named
+  pub text : IsTextOf digest all bytes
+  pub has : HasJust all held
+
+-- What is answered where the reader has these bytes, and which it has after it. Device and memory may
+-- fail in place of any answer.
+abbrev pub LoadsAs : (List ℕ → List ℕ) → Option (List ℕ) → Result Holdings Fault
+    → Option (List ℕ) → Type 0
+LoadsAs digest None r new = Unit {0}
+LoadsAs digest (Some bytes) (Ok held) new = IsReadFrom digest bytes held × (new ≡ Some [])
+LoadsAs digest (Some bytes) (Err (fault.Refused r)) new = IsRefused digest bytes r
+LoadsAs digest (Some bytes) (Err fault.Device) new = Unit {0}
+LoadsAs digest (Some bytes) (Err fault.Memory) new = Unit {0}
+
+-- Where a service is answered, the bytes are a text of what it has.
+abbrev pub LoadsText : (List ℕ → List ℕ) → Option (List ℕ) → Result Holdings Fault → Type 0
+LoadsText digest None r = Unit {0}
+LoadsText digest (Some bytes) (Ok held) =
+    All (λ byte. byte < 256) bytes → IsLoadedFrom digest bytes held
+LoadsText digest (Some bytes) (Err e) = Unit {0}
+
+-- The answer is a service that has these repositories, unless device or memory fails.
+abbrev pub IsAnswer : List Named → Result Holdings Fault → Type 0
+IsAnswer all (Ok held) = HasJust all held
+IsAnswer all (Err (fault.Refused r)) = ⊥
+IsAnswer all (Err fault.Device) = Unit {0}
+IsAnswer all (Err fault.Memory) = Unit {0}
+
+-- Each text of repositories is answered by a service that has just these.
+abbrev pub LoadsEach : (List ℕ → List ℕ) → Option (List ℕ) → Result Holdings Fault → Type 0
+LoadsEach digest None r = Unit {0}
+LoadsEach digest (Some bytes) r =
+    (all : List Named) → IsTextOf digest all bytes → IsAnswer all r

@@ -1,0 +1,57 @@
+//! The tenants of a service as they were loaded: each has its repository, and no stream.
+
+ghost use Rattle.std.specs.Prelude.{◌≡◌, ◌++◌, ◌∷◌, [], map, IfOk, OnOk, None};
+ghost use Rattle.std.specs.List.{IsDistinct};
+ghost use Rattle.std.specs.Map.{lookup};
+ghost use Rattle.std.specs.Str.{bytes_eq};
+ghost use Rattle.tenant_service.specs.Entries.{entry_of};
+
+use crate::tenant::{Phase, Tenant};
+use git_objects::Memory;
+use indexmap::IndexMap;
+use pool_loading::Tenant as Loaded;
+use std::alloc::Global;
+use tenant_refs::TenantName;
+
+// One tenant more. Its name is new.
+fn take_in(tenants: &mut IndexMap<TenantName, Tenant>, loaded: Loaded) -> Result<(), Memory>
+    requires { lookup (bytes_eq loaded.name) tenants.old.entries ≡ None }
+    ensures { OnOk result (tenants.new.entries ≡ tenants.old.entries ++ entry_of loaded ∷ []) }
+{
+    let Loaded { name, table, refs } = loaded;
+    let phase = Phase::Closed;
+    tenants.insert(name, Tenant { table, refs, phase })?;
+    Ok(())
+}
+
+// All of them, in their order.
+fn take_all_in(
+    tenants: &mut IndexMap<TenantName, Tenant>,
+    loaded: Vec<Loaded>,
+) -> Result<(), Memory>
+    requires empty { tenants.old.entries ≡ [] }
+    requires distinct { IsDistinct bytes_eq (map (λ t. t.name) loaded.items) }
+    ensures { OnOk result (tenants.new.entries ≡ map entry_of loaded.items) }
+{
+    let mut rest = loaded.into_iter();
+    while let Some(tenant) = rest.next() {
+        take_in(tenants, tenant)?;
+    }
+    Ok(())
+}
+
+/// Tenants that were loaded, under their names, which are distinct. `Memory` where there is no room
+/// for their entries.
+pub fn tenants_of(
+    alloc: Global,
+    loaded: Vec<Loaded>,
+) -> Result<IndexMap<TenantName, Tenant>, Memory>
+    requires { IsDistinct bytes_eq (map (λ t. t.name) loaded.items) }
+    ensures { IfOk result (λ tenants. tenants.entries ≡ map entry_of loaded.items) }
+{
+    let mut tenants = IndexMap::new(alloc);
+    match take_all_in(&mut tenants, loaded) {
+        Ok(()) => Ok(tenants),
+        Err(memory) => Err(memory),
+    }
+}

@@ -1,0 +1,29 @@
+//! The tenants of a service as they are lent to be saved.
+
+ghost use Rattle.std.specs.Prelude.{◌≡◌, map, IfOk};
+ghost use Rattle.tenant_service.specs.Entries.{parts_lent, parts_of};
+
+use crate::tenant::Tenant;
+use indexmap::IndexMap;
+use pool_saving::Saved;
+use std::alloc::{AllocError, Global};
+use tenant_refs::TenantName;
+
+/// Each tenant's name, table and refs, in the order in which the tenants were seen. Takes memory for
+/// the list alone.
+pub fn lend_all<'a>(
+    alloc: Global,
+    tenants: &'a IndexMap<TenantName, Tenant>,
+) -> Result<Vec<Saved<'a>>, AllocError>
+    ensures { IfOk result (λ lent.
+        map parts_lent lent.items ≡ map parts_of tenants.entry.now.entries) }
+{
+    let mut lent = Vec::new(alloc);
+    for place in 0..tenants.len() {
+        let (name, tenant) = tenants.get_index(place).unwrap();
+        let table = &tenant.table;
+        let refs = &tenant.refs;
+        lent.push(Saved { name, table, refs })?;
+    }
+    Ok(lent)
+}
