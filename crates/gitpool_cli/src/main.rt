@@ -1,61 +1,74 @@
 //! The program `gitpool`: without words, one stream of git-fast-import(1) from standard input over
-//! an empty repository, and its replies to standard output.
+//! an empty repository, and its replies to standard output; with words, the repositories of a pool
+//! file.
 #![tactic(auto)]
 
+mod pools;
+mod run_fault;
+mod runs;
+mod steps;
+
+use crate::run_fault::RunFault;
+use clap::error::ErrorKind as UsageKind;
 use git_objects::{Counted, Sha1Naming};
-use gitpool::{ImportFault, import_one};
+use gitpool::{Line, import_one};
 use std::env;
 use std::io::ErrorKind;
 use std::process::ExitCode;
 
-// Exit statuses beside 0: what refused the import, or words that nothing takes.
-const REFUSED: u8 = 1;
-
+// The exit status where the words name no line.
 const USAGE: u8 = 2;
 
-const DEVICE: u8 = 4;
-
-const MEMORY: u8 = 5;
-
-fn status(fault: ImportFault) -> u8 {
-    match fault {
-        ImportFault::Stream(_) => REFUSED,
-        ImportFault::Device => DEVICE,
-        ImportFault::Memory => MEMORY,
-    }
-}
-
-// Whether words stand after the program's name; a word that is no text is one too.
-fn has_words(rt: &HostRuntime) -> Result<bool, ImportFault> {
+// The words after the program's name; none where one of them is no text.
+fn words(rt: &HostRuntime) -> Result<Option<Vec<String>>, RunFault> {
     match env::args(rt) {
-        Ok(words) => Ok(words.len() > 1),
-        Err(error) if error.kind() == ErrorKind::OutOfMemory => Err(ImportFault::Memory),
-        Err(_) => Ok(true),
+        Ok(words) => Ok(Some(words.skip(1).collect(rt.alloc())?)),
+        Err(error) if error.kind() == ErrorKind::OutOfMemory => Err(RunFault::Memory),
+        Err(_) => Ok(None),
     }
 }
 
-fn import(rt: &HostRuntime) -> Result<(), ImportFault> {
+fn import(rt: &HostRuntime) -> Result<(), RunFault> {
     let mut reader = Counted::new(rt.stdin());
     let mut writer = Counted::new(rt.stdout());
-    import_one(rt.alloc(), Sha1Naming, &mut reader, &mut writer)
+    Ok(import_one(rt.alloc(), Sha1Naming, &mut reader, &mut writer)?)
 }
 
 // The status of a run, once a fault was told.
-fn ended(rt: &HostRuntime, outcome: Result<(), ImportFault>) -> ExitCode {
+fn ended(rt: &HostRuntime, outcome: Result<(), RunFault>) -> ExitCode {
     match outcome {
         Ok(()) => ExitCode::SUCCESS,
         Err(fault) => {
             let _ = eprintln!(rt; "gitpool: {fault}");
-            ExitCode::from(status(fault))
+            ExitCode::from(fault.status())
         }
     }
 }
 
+// Usage and help go to standard error.
+fn refused(rt: &HostRuntime, error: &clap::Error) -> ExitCode {
+    if error.kind() == UsageKind::OutOfMemory {
+        return ended(rt, Err(RunFault::Memory));
+    }
+    let _ = eprint!(rt; "{error}");
+    ExitCode::from(USAGE)
+}
+
+fn run(rt: &HostRuntime, words: &[String]) -> ExitCode {
+    if words.is_empty() {
+        return ended(rt, import(rt));
+    }
+    match Line::read(rt.alloc(), words) {
+        Ok(line) => ended(rt, runs::run(rt, line)),
+        Err(error) => refused(rt, &error),
+    }
+}
+
 fn main(rt: HostRuntime) -> ExitCode {
-    match has_words(&rt) {
-        Ok(false) => ended(&rt, import(&rt)),
-        Ok(true) => {
-            let _ = eprintln!(rt; "usage: gitpool < STREAM");
+    match words(&rt) {
+        Ok(Some(words)) => run(&rt, &words),
+        Ok(None) => {
+            let _ = eprintln!(rt; "error: a word is not text");
             ExitCode::from(USAGE)
         }
         Err(fault) => ended(&rt, Err(fault)),

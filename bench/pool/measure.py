@@ -1,0 +1,136 @@
+"""Loads and saves the pool file of a history of bench/history/make_history, and that of many tenants who share it, and prints
+the best of some rounds and the most memory: measure.py PROGRAM [ROUNDS [TENANTS [COMMITS]]]; 3 rounds, 1,000 tenants and
+5,000 commits where no number is given.
+
+A load is `check`; an import of an empty stream loads and saves, and must leave the same bytes; what it takes beyond a load is a
+save. Beside them stands `sha1sum` of the file. The file of many tenants is made here from that of one, number by number."""
+import hashlib
+import os
+import struct
+import subprocess
+import sys
+import tempfile
+import time
+
+program = os.path.abspath(sys.argv[1])
+rounds = int(sys.argv[2]) if len(sys.argv) > 2 else 3
+tenants = int(sys.argv[3]) if len(sys.argv) > 3 else 1000
+commits = sys.argv[4] if len(sys.argv) > 4 else "5000"
+here = os.path.dirname(os.path.abspath(__file__))
+HEAD = struct.Struct(">8sI")
+ONE = b"t"
+
+
+class Text:
+    """Bytes that are read from the front."""
+
+    def __init__(self, bytes_):
+        self.bytes, self.place = bytes_, 0
+
+    def take(self, size):
+        self.place += size
+        return self.bytes[self.place - size : self.place]
+
+    def number(self, size=8):
+        return int.from_bytes(self.take(size), "big")
+
+    def sized(self):
+        return self.take(self.number(2))
+
+
+def sized(bytes_):
+    return len(bytes_).to_bytes(2, "big") + bytes_
+
+
+def parts(path):
+    """A file's bytes up to its tenants, and of its one tenant the numbers, the refs and HEAD."""
+    with open(path, "rb") as file:
+        text = Text(memoryview(file.read()))
+    magic, version = HEAD.unpack(text.take(HEAD.size))
+    assert (magic, version) == (b"gitpool\n", 2), "no pool file of version 2"
+    objects = text.number()
+    for _ in range(objects):
+        text.take(1)
+        text.take(text.number())
+    front = bytes(text.bytes[: text.place])
+    assert text.number() == 1, "more than one tenant"
+    assert text.sized() == ONE, "another tenant"
+    count = text.number()
+    numbers = count.to_bytes(8, "big") + bytes(text.take(8 * count))
+    refs = [(bytes(text.sized()), text.number()) for _ in range(text.number())]
+    head = bytes(text.sized())
+    assert len(text.bytes) - text.place == 20, "more or less behind the tenant than a digest"
+    return objects, front, numbers, refs, head
+
+
+def renamed(ref, name):
+    """A ref's full name has its tenant's name in it."""
+    before = b"refs/namespaces/" + ONE + b"/"
+    assert ref.startswith(before)
+    return b"refs/namespaces/" + name + b"/" + ref[len(before) :]
+
+
+def shared(path, other):
+    """Writes the file of as many tenants as are wanted, each of which has all that the one tenant has."""
+    _, front, numbers, refs, head = parts(path)
+    digest = hashlib.sha1()
+    with open(other, "wb") as file:
+
+        def put(bytes_):
+            digest.update(bytes_)
+            file.write(bytes_)
+
+        put(front + tenants.to_bytes(8, "big"))
+        for place in range(tenants):
+            name = b"t%06d" % place
+            listed = b"".join(sized(renamed(ref, name)) + target.to_bytes(8, "big") for ref, target in refs)
+            put(sized(name) + numbers + len(refs).to_bytes(8, "big") + listed + sized(head))
+        file.write(digest.digest())
+
+
+def once(words, given=os.devnull):
+    """Seconds, the most memory in MB, and what is printed. GNU time asks for the memory of the process alone."""
+    with tempfile.NamedTemporaryFile() as peak, open(given, "rb") as stdin:
+        start = time.monotonic()
+        done = subprocess.run(["/usr/bin/time", "-f", "%M", "-o", peak.name, *words], stdin=stdin, stdout=subprocess.PIPE, check=True)
+        took = time.monotonic() - start
+        return took, int(peak.read()) * 1024 / 1e6, done.stdout
+
+
+def best(words):
+    """The least time, the most memory, and what the last round printed."""
+    all_of_them = [once(words) for _ in range(rounds)]
+    return min(it[0] for it in all_of_them), max(it[1] for it in all_of_them), all_of_them[-1][2]
+
+
+def digest_of(path):
+    """The digest of a file, and the seconds of `sha1sum` over it."""
+    took, _, printed = best(["sha1sum", path])
+    return printed.split()[0], took
+
+
+def measure(what, path):
+    pool = ["--pool", path]
+    size = os.path.getsize(path)
+    digest, summed = digest_of(path)
+    load, held, said = best([program, "check", *pool])
+    both, most, _ = best([program, "import", "none", *pool])
+    assert digest_of(path)[0] == digest, f"{what}: a save left other bytes"
+    print(f"{what}: {said.decode().strip()}; {size / 1e6:.1f} MB; load {load:.3f} s, {size / load / 1e6:.0f} MB/s, at most {held:.0f} MB;"
+          f" and a save {both - load:.3f} s more, at most {most:.0f} MB; sha1sum {summed:.3f} s, {size / summed / 1e6:.0f} MB/s", flush=True)
+
+
+def main():
+    with tempfile.TemporaryDirectory() as folder:
+        stream, one, many = (os.path.join(folder, it) for it in ("stream", "one", "many"))
+        with open(stream, "wb") as file:
+            subprocess.run([os.path.join(here, "..", "history", "make_history"), "--commits", commits], check=True, stdout=file)
+        took, most, _ = once([program, "import", ONE.decode(), "--pool", one], stream)
+        print(f"import and save: {os.path.getsize(stream) / 1e6:.1f} MB, {took:.3f} s, at most {most:.0f} MB", flush=True)
+        measure("one tenant", one)
+        shared(one, many)
+        measure(f"{tenants} tenants", many)
+    print(f"load {os.getloadavg()[0]:.1f}")
+
+
+main()

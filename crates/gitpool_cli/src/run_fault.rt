@@ -1,0 +1,103 @@
+//! What a run ends badly by, with its number and its exit status.
+
+use git_objects::DeviceFault;
+use gitpool::{FrameFault, ImportFault, PoolFault};
+use std::alloc::AllocError;
+use std::io::ErrorKind;
+use std::{fmt, io};
+
+// Exit statuses beside 0.
+const REFUSED: u8 = 1;
+
+const NO_POOL: u8 = 3;
+
+const DEVICE: u8 = 4;
+
+const MEMORY: u8 = 5;
+
+/// The first fault of a run. Its text is `fault` and its number.
+#[derive(Clone, Copy)]
+pub enum RunFault {
+    /// A step was refused, under this number.
+    Step(u16),
+    /// The one stream of a run without words was refused.
+    Import(ImportFault),
+    /// The frames of steps were refused.
+    Frames(FrameFault),
+    /// The pool file was refused, or not written.
+    Pool(PoolFault),
+    /// Standard input or output failed, or the pool file was not there or took no other: 68.
+    Device,
+    /// Memory ran out: 90.
+    Memory,
+}
+
+impl RunFault {
+    /// The number of the fault.
+    pub fn code(self) -> u16 {
+        match self {
+            RunFault::Step(code) => code,
+            RunFault::Import(fault) => fault.code(),
+            RunFault::Frames(fault) => fault.code(),
+            RunFault::Pool(fault) => fault.code(),
+            RunFault::Device => 68,
+            RunFault::Memory => 90,
+        }
+    }
+
+    /// The exit status of a run that ended by it: 1 for a tenant's fault and for bad frames, 3 for a
+    /// file that is no pool file, 4 for a device, 5 for want of memory.
+    pub fn status(self) -> u8 {
+        match self.code() {
+            68 => DEVICE,
+            90 => MEMORY,
+            60..=69 => NO_POOL,
+            _ => REFUSED,
+        }
+    }
+}
+
+impl fmt::Display for RunFault {
+    fn fmt<W: fmt::Write>(&self, f: &mut fmt::Formatter<W>) -> fmt::Result {
+        write!(f, "fault {}", self.code())
+    }
+}
+
+impl From<DeviceFault> for RunFault {
+    fn from(_failed: DeviceFault) -> RunFault {
+        RunFault::Device
+    }
+}
+
+impl From<AllocError> for RunFault {
+    fn from(_refused: AllocError) -> RunFault {
+        RunFault::Memory
+    }
+}
+
+impl From<io::Error> for RunFault {
+    fn from(error: io::Error) -> RunFault {
+        match error.kind() {
+            ErrorKind::OutOfMemory => RunFault::Memory,
+            _ => RunFault::Device,
+        }
+    }
+}
+
+impl From<PoolFault> for RunFault {
+    fn from(fault: PoolFault) -> RunFault {
+        RunFault::Pool(fault)
+    }
+}
+
+impl From<FrameFault> for RunFault {
+    fn from(fault: FrameFault) -> RunFault {
+        RunFault::Frames(fault)
+    }
+}
+
+impl From<ImportFault> for RunFault {
+    fn from(fault: ImportFault) -> RunFault {
+        RunFault::Import(fault)
+    }
+}
