@@ -23,11 +23,12 @@ use Rattle.tree_build.proofs.Sums.{IsKnown, is-tree}
 use Rattle.tree_build.proofs.ListedLater.{lists-later}
 use Rattle.tree_build.proofs.StoredTable.{table-summary}
 use Rattle.tree_build.proofs.StoringHeld.{name-unopened}
+use Rattle.tree_build.proofs.ListedLater.{named-added}
 use Rattle.tree_build.proofs.TreeOf.{depth-groups}
 use Rattle.branch_trees.specs.Parts.{spread, AreParts}
 use Rattle.branch_trees.specs.Rows.{IsPart, a_file, a_directory, HaveParts}
 use Rattle.branch_trees.proofs.Spread.{grouped-spread}
-use Rattle.branch_trees.proofs.Rows.{lists-parts, no_file, named-added}
+use Rattle.branch_trees.proofs.Rows.{lists-parts, no_file}
 
 module _ (digest : List ℕ → List ℕ) (pool : Cells) (entries : Entries) (stands : StandsIn digest pool entries) where
   abbrev os : List Object

@@ -1,17 +1,7 @@
 -- Entries whose directories are stored make a tree that lists their files.
-use Rattle.std.proofs.Common.{◌≡◌, ℕ, Bool, true, false, List, [], ◌∷◌, ◌++◌, length, map, Option, Some, None, refl, sym, ap, ◌∙◌, arith}
-use Rattle.std.specs.Prelude.{is_some, nat_lt, nat_le, cond}
-use Rattle.std.specs.Option.{option_map_or}
-use Rattle.std.specs.Str.{bytes_eq}
-use Rattle.std.proofs.lemmas.Slice.Eq.{bytes_eq-Decides}
-use Rattle.git_paths.proofs.Cases.{by_cases}
-use Rattle.git_model.specs.Content.{Content, same_content}
-use Rattle.git_model.specs.Repository.{Object, object_named, with_object}
+use Rattle.std.proofs.Common.{◌≡◌, ℕ, List, [], ◌∷◌, map, Option, None, refl, sym, ap, ◌∙◌, arith}
+use Rattle.git_model.specs.Repository.{Object}
 use Rattle.git_model.specs.Tree.{TreeEntry}
-use Rattle.content_pool.proofs.StoredLemmas.{same_content-decides}
-use Rattle.tenant_tables.specs.declared.fault.Fault.TheVariants as table
-use Rattle.tenant_tables.specs.declared.table.TheConstants.{CONTENTS_LIMIT, OBJECTS_LIMIT}
-use Rattle.tenant_tables.specs.Adding.{store_fault}
 use Rattle.tree_build.specs.declared.entry.Entry.{Entry}
 use Rattle.tree_build.specs.FileMap.{Listed}
 use Rattle.tree_build.specs.Trees.{Groups, file_of, direct, depth_of, tree_name, tree_id}
@@ -65,40 +55,3 @@ module _ (digest : List ℕ → List ℕ) (os : List Object) (good : AreTreesGoo
   rows-again (e ∷ es) [] h = absurd h
   rows-again (e ∷ es) (g ∷ parts) h =
       let one = entry-again h.0 in let rest = rows-again es parts h.1 in λ i. one i ∷ rest i
-
--- ---- an object that was added
-
-named_last : (id : List ℕ) (c : Content) (os : List Object) → object_named id os ≡ None
-    → object_named id (os ++ record { id = id; content = c } ∷ []) ≡ Some c
-unfolding object_named
-named_last id c [] h = rw ((bytes_eq-Decides id id).1 refl) refl
-named_last id c (o ∷ os) h =
-    by_cases (bytes_eq id o.id)
-    (λ yea. let no : Some o.content ≡ None =
-    ap (λ (b : Bool). cond b (Some o.content) (object_named id os)) (sym yea) ∙ h in cc no)
-    (λ nay. rw nay (named_last id c os
-    (ap (λ (b : Bool). cond b (Some o.content) (object_named id os)) (sym nay) ∙ h)))
-
-pub named-added : (id : List ℕ) (c : Content) (os : List Object) → store_fault id c os ≡ None
-    → object_named id (with_object id c os) ≡ Some c
-unfolding store_fault
-named-added id c os h =
-    by (nat_lt CONTENTS_LIMIT (length c.bytes)) (object_named id os) (nat_le OBJECTS_LIMIT (length os)) refl h
-  where
-    same : (d : Content) (full : Bool) → object_named id os ≡ Some d → (b : Bool)
-        → same_content c d ≡ b
-        → cond b None (cond full (Some table.Limit) (Some table.NameCollision)) ≡ None
-        → object_named id (with_object id c os) ≡ Some c
-    same d full is true at k =
-        rw is (is ∙ ap (λ (x : Content). Some x) (sym ((same_content-decides c d).0 at)))
-    same d true is false at k = cc k
-    same d false is false at k = cc k
-
-    by : (long : Bool) (o : Option Content) (full : Bool) → object_named id os ≡ o
-        → cond long (Some table.Limit) (cond (option_map_or (same_content c) o false) None
-        (cond full (Some table.Limit) (cond (is_some o) (Some table.NameCollision) None))) ≡ None
-        → object_named id (with_object id c os) ≡ Some c
-    by true o full is k = cc k
-    by false None true is k = cc k
-    by false None false is k = rw is (named_last id c os is)
-    by false (Some d) full is k = same d full is (same_content c d) refl k

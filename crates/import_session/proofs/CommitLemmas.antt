@@ -135,6 +135,7 @@ pub without_said : (digest : List ℕ → List ℕ) (workspace : Workspace) (sai
     → said ≡ None → IsSound digest workspace → IsSound digest (record workspace { said = said })
 without_said digest workspace said none sound = record {
   objects = sound.objects;
+  trees = sound.trees;
   refs = sound.refs;
   next_head = sound.next_head;
   marks = sound.marks;

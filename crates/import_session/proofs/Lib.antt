@@ -8,6 +8,7 @@ mod CommitLemmas
 mod HeldLemmas
 pub mod LentLemmas
 pub mod SoundObjects
+pub mod SoundTrees
 pub mod SoundCommits
 pub mod SoundRefs
 pub mod SoundChanges

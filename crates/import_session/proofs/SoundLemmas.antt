@@ -56,6 +56,7 @@ use Rattle.open_commits.specs.Ends.{Closed, closed}
 use Rattle.open_commits.specs.GoodCommits.{GrowGood, HoldsCommit}
 use Rattle.open_commits.specs.OpenCommit.{Header, OpenCommit as Opened, begun}
 use Rattle.open_commits.specs.Showing.{Shown, entry_shown}
+use Rattle.open_commits.proofs.FitCommits.{end_fits, entry_fits}
 use Rattle.open_commits.proofs.GoodCommits.{end_keeps as commit_end, entry_keeps}
 use Rattle.import_session.specs.declared.said.Inline.{Inline}
 use Rattle.import_session.specs.Changes.{branch_entry_shown, changed_by, commit_changed, contents_stored, entry_line}
@@ -70,6 +71,8 @@ use Rattle.import_session.proofs.SoundCommits.{IsCommitOf, commit_good, start_go
 use Rattle.import_session.proofs.SoundRefs.{refs_grown, refs_whole, saved_are, tags_grown}
 use Rattle.tenant_tables.proofs.StoredGood.{Grows, Holds, there}
 use Rattle.import_session.proofs.SoundObjects.{IsStorable, by_test, content_good, named_by, then_any, then_good}
+use Rattle.import_session.proofs.SoundTrees.{both_ok, content_fits, contents_left, fits_taken}
+use Rattle.tenant_tables.specs.Sums.{TreesFit}
 
 -- What an act leaves is sound.
 abbrev pub LeavesSound : (List ℕ → List ℕ) → Effect → Type 0
@@ -79,12 +82,13 @@ LeavesSound digest effect = IsSound digest effect.workspace
 
 pub empty_is_sound : (digest : List ℕ → List ℕ)
     → IsSoundRepository digest (record { objects = []; refs = no_refs })
-empty_is_sound digest = record { objects = none_are digest; refs = no_refs_are [] }
+empty_is_sound digest = record { objects = none_are digest; trees = tt; refs = no_refs_are [] }
 
 pub new_is_sound : (digest : List ℕ → List ℕ) (repository : Repository)
     → IsSoundRepository digest repository → IsSound digest (opened repository)
 new_is_sound digest repository good = record {
   objects = good.objects;
+  trees = good.trees;
   refs = refs_whole repository.objects repository.refs good.refs;
   next_head = tt;
   marks = All-nil _;
@@ -99,6 +103,7 @@ pub checkpoint_is_sound : (digest : List ℕ → List ℕ) (workspace : Workspac
     → IsSound digest workspace → IsSoundRepository digest (last_checkpoint workspace)
 checkpoint_is_sound digest workspace sound = record {
   objects = taken_is digest workspace.objects workspace.committed sound.objects;
+  trees = fits_taken workspace.committed [] workspace.objects sound.trees;
   refs = sound.refs;
 }
 
@@ -139,6 +144,10 @@ marks_with marks None id named new = named
 marks_with marks (Some mark) id named new =
     entry_set nat_eq (λ (e : ℕ × List ℕ). IsObjectName e.1) marks mark id named (λ e old. new) new
 
+-- a content is held, and all trees fit
+abbrev HoldsFitting : (List ℕ → List ℕ) → List Object → Content → List Object → Type 0
+HoldsFitting digest os content objects = Holds digest os objects content × TreesFit [] objects
+
 -- ---- blobs
 
 blob_keeps : (digest : List ℕ → List ℕ) → AnswersNames digest → (workspace : Workspace)
@@ -147,12 +156,15 @@ blob_keeps : (digest : List ℕ → List ℕ) → AnswersNames digest → (works
 blob_keeps digest names workspace sound mark bytes =
     let content = content_from kind.Blob bytes in
     then_any (LeavesSound digest) (room_for workspace.marks mark) _ (λ _.
-    then_good (λ objects. Holds digest workspace.objects objects content) (LeavesSound digest)
+    then_good (HoldsFitting digest workspace.objects content) (LeavesSound digest)
     (with_content digest content workspace.objects) _
+    (both_ok (λ objects. Holds digest workspace.objects objects content) (TreesFit []) _
     (content_good digest names workspace.objects sound.objects content
     (record { valid = tt; connected = All-nil _ }))
-    (λ objects keeps. record {
+    (content_fits digest workspace.objects sound.trees content (λ tree. cc)))
+    (λ objects both. let keeps = both.0 in record {
       objects = keeps.good;
+      trees = both.1;
       refs = refs_grown workspace.objects objects keeps.grows workspace.committed workspace.refs
           sound.refs;
       next_head = sound.next_head;
@@ -198,6 +210,7 @@ with_said : (digest : List ℕ → List ℕ) (workspace : Workspace) (said : Opt
     → IsSound digest (record workspace { said = said })
 with_said digest workspace said sound well = record {
   objects = sound.objects;
+  trees = sound.trees;
   refs = sound.refs;
   next_head = sound.next_head;
   marks = sound.marks;
@@ -219,6 +232,7 @@ branches_keep : (digest : List ℕ → List ℕ) (workspace : Workspace) (branch
     → IsSound digest (record workspace { branches = branches; said = said })
 branches_keep digest workspace branches said sound good well = record {
   objects = sound.objects;
+  trees = sound.trees;
   refs = sound.refs;
   next_head = sound.next_head;
   marks = sound.marks;
@@ -288,6 +302,7 @@ alias_keeps digest workspace sound mark commit =
     (commit_good digest workspace sound.objects commit) (λ id stands.
     then_any (LeavesSound digest) (room_for workspace.marks (Some mark)) _ (λ _. record {
       objects = sound.objects;
+      trees = sound.trees;
       refs = sound.refs;
       next_head = sound.next_head;
       marks = marks_with workspace.marks (Some mark) id sound.marks
@@ -466,11 +481,14 @@ tag_keeps digest names workspace sound mark message (Some said) well =
         let storable = tag_storable digest os sound.objects said message target target_kind well is
         tagged in
         let can = tag_written digest os sound.objects said message target target_kind well is tagged in
-        then_good (λ objects. Holds digest workspace.objects objects content) (LeavesSound digest)
+        then_good (HoldsFitting digest workspace.objects content) (LeavesSound digest)
         (with_content digest content workspace.objects) _
+        (both_ok (λ objects. Holds digest workspace.objects objects content) (TreesFit []) _
         (content_good digest names workspace.objects sound.objects content storable)
-        (λ objects keeps. record {
+        (content_fits digest workspace.objects sound.trees content (λ tree. cc)))
+        (λ objects both. let keeps = both.0 in record {
           objects = keeps.good;
+          trees = both.1;
           refs = refs_grown workspace.objects objects keeps.grows workspace.committed workspace.refs
               sound.refs;
           next_head = sound.next_head;
@@ -496,6 +514,7 @@ checkpoint_keeps digest workspace sound =
     by_test (fit (saved_refs workspace))
     (λ few. rw few (record {
       objects = sound.objects;
+      trees = sound.trees;
       refs = refs_whole workspace.objects (saved_refs workspace) (saved_are digest workspace sound few);
       next_head = tt;
       marks = sound.marks;
@@ -516,6 +535,7 @@ feature_keeps digest workspace sound feature.Done = switched
     switched : IsSound digest (record workspace { needs_done = true })
     switched = record {
       objects = sound.objects;
+      trees = sound.trees;
       refs = sound.refs;
       next_head = sound.next_head;
       marks = sound.marks;
@@ -527,6 +547,7 @@ feature_keeps digest workspace sound feature.Done = switched
     }
 feature_keeps digest workspace sound feature.Force = record {
   objects = sound.objects;
+  trees = sound.trees;
   refs = sound.refs;
   next_head = sound.next_head;
   marks = sound.marks;
@@ -545,6 +566,7 @@ head_keeps digest workspace sound ref name =
     (λ is. rw is tt)
     (λ other. rw other (record {
       objects = sound.objects;
+      trees = sound.trees;
       refs = sound.refs;
       next_head = name;
       marks = sound.marks;
@@ -591,6 +613,7 @@ commit_lines digest workspace sound (Encoding encoding) well =
     })
 commit_lines digest workspace sound (ModifyInline file_mode path) well = record {
   objects = sound.objects;
+  trees = sound.trees;
   refs = sound.refs;
   next_head = sound.next_head;
   marks = sound.marks;
@@ -612,6 +635,7 @@ commit_lines digest workspace sound act well =
         (changed_open digest workspace sound.objects act well commit is)
         (λ next good. record {
           objects = sound.objects;
+          trees = sound.trees;
           refs = sound.refs;
           next_head = sound.next_head;
           marks = sound.marks;
@@ -662,6 +686,7 @@ opened_keeps digest workspace sound message header ready =
     (begun_open digest os sound.objects header message ready first is)
     (λ commit good. record {
       objects = sound.objects;
+      trees = sound.trees;
       refs = sound.refs;
       next_head = sound.next_head;
       marks = sound.marks;
@@ -728,11 +753,14 @@ contents_sound digest names workspace sound bytes None of_tree commit is = tt
 contents_sound digest names workspace sound bytes (Some file) of_tree None is = tt
 contents_sound digest names workspace sound bytes (Some file) of_tree (Some commit) is =
     let os = workspace.objects in
-    then_good (LeavesOpen digest os) (LeavesSound digest)
+    then_good (λ left. LeavesOpen digest os left × TreesFit [] left.objects) (LeavesSound digest)
     (changed_or (contents_put digest os file.mode file.path bytes commit)) _
+    (both_ok (LeavesOpen digest os) (λ left. TreesFit [] left.objects) _
     (contents_open digest names os sound.objects commit is file.mode file.path of_tree bytes)
-    (λ left good. record {
+    (contents_left digest os sound.trees commit file.mode file.path bytes))
+    (λ left both. let good = both.0 in record {
       objects = good.grows.good;
+      trees = both.1;
       refs = refs_grown os left.objects (grown_by digest os left.objects good.grows)
           workspace.committed workspace.refs sound.refs;
       next_head = sound.next_head;
@@ -755,18 +783,22 @@ entry_sound digest names workspace sound path (Some commit) is =
     by_shown (entry_shown digest workspace.objects commit.files path)
     (λ shown e. entry_keeps digest names workspace.objects sound.objects commit is.good is.files path
     shown e)
+    (λ shown e. entry_fits digest names workspace.objects sound.objects sound.trees commit is.good
+    is.files path shown e)
   where
     by_shown : (r : Result Shown CommitFault)
         → ((shown : Shown) → r ≡ Ok shown → GrowGood digest workspace.objects shown.objects)
+        → ((shown : Shown) → r ≡ Ok shown → TreesFit [] shown.objects)
         → IfOk (and_then (changed_or r) (λ shown.
         prints (record workspace { objects = shown.objects }) (entry_line path shown.entry)))
         (LeavesSound digest)
-    by_shown (Err e) good = tt
-    by_shown (Ok shown) good =
+    by_shown (Err e) good fit = tt
+    by_shown (Ok shown) good fit =
         let grows = good shown refl in
         let more = grown_by digest workspace.objects shown.objects grows in
         record {
           objects = grows.good;
+          trees = fit shown refl;
           refs = refs_grown workspace.objects shown.objects more workspace.committed workspace.refs
               sound.refs;
           next_head = sound.next_head;
@@ -806,18 +838,22 @@ closed_keeps digest names workspace sound None is = sound
 closed_keeps digest names workspace sound (Some commit) is =
     then_any (IsSound digest) (room_for workspace.marks commit.header.mark) _ (λ _.
     by_end (closed digest workspace.objects commit)
-    (λ end e. commit_end digest names workspace.objects sound.objects commit is.good is.files end e))
+    (λ end e. commit_end digest names workspace.objects sound.objects commit is.good is.files end e)
+    (λ end e. end_fits digest names workspace.objects sound.objects sound.trees commit is.good is.files
+    end e))
   where
     by_end : (r : Result Closed CommitFault)
         → ((end : Closed) → r ≡ Ok end → HoldsCommit digest workspace.objects end.objects end.id)
+        → ((end : Closed) → r ≡ Ok end → TreesFit [] end.objects)
         → IfOk (and_then (changed_or r) (λ end. Ok (closed_at workspace commit.header end)))
         (IsSound digest)
-    by_end (Err e) holds = tt
-    by_end (Ok end) holds =
+    by_end (Err e) holds fit = tt
+    by_end (Ok end) holds fit =
         let held = holds end refl in
         let more = grown_by digest workspace.objects end.objects held.grows in
         record {
           objects = held.grows.good;
+          trees = fit end refl;
           refs = refs_grown workspace.objects end.objects more workspace.committed workspace.refs
               sound.refs;
           next_head = sound.next_head;

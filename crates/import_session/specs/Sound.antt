@@ -1,6 +1,6 @@
 -- What a running stream keeps true of its workspace: git-fsck(1), the validity and the connectivity
 -- of objects.
-use Rattle.std.specs.Prelude.{◌≡◌, ℕ, List, ◌++◌, take, All, Some, IfSome, codes}
+use Rattle.std.specs.Prelude.{◌≡◌, ℕ, List, [], ◌++◌, take, All, Some, IfSome, codes}
 use Rattle.git_model.specs.declared.kind.Kind.TheVariants as kind
 use Rattle.git_model.specs.Commit.{IsEncoding}
 use Rattle.git_model.specs.Ident.{IsWrittenIdent}
@@ -9,6 +9,7 @@ use Rattle.git_model.specs.Repository.{Object, Repository}
 use Rattle.git_model.specs.References.{kind_named}
 use Rattle.git_model.specs.GoodRepository.{AreObjects, AreRefs, IsShortRefName, IsTagNamed}
 use Rattle.git_paths.specs.Paths.{IsPath}
+use Rattle.tenant_tables.specs.Sums.{TreesFit}
 use Rattle.open_commits.specs.GoodCommits.{IsGoodCommit}
 use Rattle.open_commits.specs.OpenCommit.{OpenCommit}
 use Rattle.open_commits.specs.OpenFiles.{HasFiles}
@@ -17,9 +18,11 @@ use Rattle.import_session.specs.declared.branches.Tip.TheVariants.{Unborn, Delet
 use Rattle.import_session.specs.declared.said.Said.{Said}
 use Rattle.import_session.specs.Workspace.{Workspace}
 
--- A repository that a stream may open on, and that it leaves: its objects are good, and its refs.
+-- A repository that a stream may open on, and that it leaves: its objects are good, with all trees
+-- within the limits, and its refs.
 pub record IsSoundRepository (digest : List ℕ → List ℕ) (repository : Repository) : Type 0 where
   pub objects : AreObjects digest repository.objects
+  pub trees : TreesFit [] repository.objects
   pub refs : AreRefs repository.objects repository.refs
 
 -- A branch stands at no commit, or at one of the objects.
@@ -53,13 +56,14 @@ pub record IsOpen (objects : List Object) (commit : OpenCommit) : Type 0 where
   pub good : IsGoodCommit objects commit
   pub files : HasFiles commit
 
--- A workspace is sound where its objects are good, and the refs as last saved are good among those
--- that stood then; where HEAD is to name a ref, marks stand for object names, branches stand at no
+-- A workspace is sound where its objects are good, with all trees within the limits, and the refs as
+-- last saved are good among those that stood then; where HEAD is to name a ref, marks stand for object names, branches stand at no
 -- other commits than those of its objects, and pending tags are tags of theirs; where what the open
 -- command has said can be written, where the open commit is good, and where the file that awaits its
 -- data has a path.
 pub record IsSound (digest : List ℕ → List ℕ) (workspace : Workspace) : Type 0 where
   pub objects : AreObjects digest workspace.objects
+  pub trees : TreesFit [] workspace.objects
   pub refs : AreRefs (take workspace.committed workspace.objects) workspace.refs
   pub next_head : IfSome workspace.head IsShortRefName
   pub marks : All (λ mark. IsObjectName mark.1) workspace.marks

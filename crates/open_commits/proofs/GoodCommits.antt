@@ -63,16 +63,16 @@ use Rattle.open_commits.proofs.StoredCommits.{stored_commit}
 
 -- ---- steps that were not refused
 
-ok_is : {A : Type 0} (a b : A) → ◌≡◌ {A = Result A Fault} (Ok a) (Ok b) → a ≡ b
+pub ok_is : {A : Type 0} (a b : A) → ◌≡◌ {A = Result A Fault} (Ok a) (Ok b) → a ≡ b
 ok_is a b e = cc
 
 -- what came before a step that was not refused
-record Went {A B : Type 0} (first : Result A Fault) (next : A → Result B Fault) (b : B) : Type 0 where
-  value : A
-  was : first ≡ Ok value
-  then : next value ≡ Ok b
+pub record Went {A B : Type 0} (first : Result A Fault) (next : A → Result B Fault) (b : B) : Type 0 where
+  pub value : A
+  pub was : first ≡ Ok value
+  pub then : next value ≡ Ok b
 
-went : {A B : Type 0} (first : Result A Fault) (next : A → Result B Fault) (b : B)
+pub went : {A B : Type 0} (first : Result A Fault) (next : A → Result B Fault) (b : B)
     → and_then first next ≡ Ok b → Went first next b
 went (Ok a) next b e = record { value = a; was = refl; then = e }
 went (Err x) next b e = absurd (cc e)
@@ -111,9 +111,9 @@ pub stored-ok : (digest : List ℕ → List ℕ) (content : Content) (os more : 
 stored-ok digest content os more e =
     stored-from digest content os more (store_fault (name_by digest content) content os) refl e
 
-record TreesWere (digest : List ℕ → List ℕ) (files : Listed) (os more : List Object) : Type 0 where
-  none : trees_fault digest (nested_trees digest files) os ≡ None
-  is : with_trees digest (nested_trees digest files) os ≡ more
+pub record TreesWere (digest : List ℕ → List ℕ) (files : Listed) (os more : List Object) : Type 0 where
+  pub none : trees_fault digest (nested_trees digest files) os ≡ None
+  pub is : with_trees digest (nested_trees digest files) os ≡ more
 
 trees-from : (digest : List ℕ → List ℕ) (files : Listed) (os more : List Object)
     (refusal : Option FilesFault) → trees_fault digest (nested_trees digest files) os ≡ refusal
@@ -122,7 +122,7 @@ trees-from : (digest : List ℕ → List ℕ) (files : Listed) (os more : List O
 trees-from digest files os more None at e = record { none = at; is = ok_is _ more e }
 trees-from digest files os more (Some f) at e = absurd (cc e)
 
-trees-ok : (digest : List ℕ → List ℕ) (files : Listed) (os more : List Object)
+pub trees-ok : (digest : List ℕ → List ℕ) (files : Listed) (os more : List Object)
     → trees_stored digest files os ≡ Ok more → TreesWere digest files os more
 trees-ok digest files os more e =
     trees-from digest files os more (trees_fault digest (nested_trees digest files) os) refl e

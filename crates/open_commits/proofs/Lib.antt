@@ -6,3 +6,4 @@ pub mod Starting
 pub mod Staying
 pub mod GoodFiles
 pub mod GoodCommits
+pub mod FitCommits

@@ -1,6 +1,6 @@
 //! Laws of open commits: functions over the definitions alone, which run nothing.
 
-ghost use Rattle.std.specs.Prelude.{◌≡◌, ℕ, List, ◌++◌, Ok, Some};
+ghost use Rattle.std.specs.Prelude.{◌≡◌, ℕ, List, [], ◌++◌, Ok, Some};
 ghost use Rattle.git_model.specs.declared.file_mode.FileMode.{FileMode};
 ghost use Rattle.git_model.specs.declared.kind.Kind.TheVariants as kind;
 ghost use Rattle.git_model.specs.GoodRepository.{AreObjects};
@@ -8,6 +8,7 @@ ghost use Rattle.git_model.specs.References.{kind_named};
 ghost use Rattle.git_model.specs.Repository.{Object};
 ghost use Rattle.git_names.specs.Naming.{AnswersNames};
 ghost use Rattle.stream_grammar.specs.declared.data_ref.DataRef.{DataRef};
+ghost use Rattle.tenant_tables.specs.Sums.{TreesFit};
 ghost use Rattle.tree_build.specs.FileMap.{Path, AreFiles, listed};
 ghost use Rattle.open_commits.specs.OpenCommit.{Header, OpenCommit, begun};
 ghost use Rattle.open_commits.specs.Parents.{started_from, merged};
@@ -92,4 +93,28 @@ pub fn an_end_keeps_objects_good()
         → (commit : OpenCommit) → IsGoodCommit os commit → AreFiles (listed commit.files)
         → (end : Closed) → closed digest os commit ≡ Ok end
         → HoldsCommit digest os end.objects end.id }
+{}
+
+/// Where contents are put at a path, all trees stay within the limits.
+pub fn contents_keep_trees_fitting()
+    ensures { (digest : List ℕ → List ℕ) (os : List Object) → TreesFit [] os
+        → (commit : OpenCommit) (mode : FileMode) (path : Path) (bytes : List ℕ) (left : Left)
+        → contents_put digest os mode path bytes commit ≡ Ok left → TreesFit [] left.objects }
+{}
+
+/// With the trees that `ls` stores, all trees are within the limits.
+pub fn shown_trees_keep_trees_fitting()
+    ensures { (digest : List ℕ → List ℕ) → AnswersNames digest
+        → (os : List Object) → AreObjects digest os → TreesFit [] os
+        → (commit : OpenCommit) → IsGoodCommit os commit → AreFiles (listed commit.files)
+        → (path : Path) (shown : Shown) → entry_shown digest os commit.files path ≡ Ok shown
+        → TreesFit [] shown.objects }
+{}
+
+/// With the trees that a commit stores at its end, all trees are within the limits.
+pub fn an_end_keeps_trees_fitting()
+    ensures { (digest : List ℕ → List ℕ) → AnswersNames digest
+        → (os : List Object) → AreObjects digest os → TreesFit [] os
+        → (commit : OpenCommit) → IsGoodCommit os commit → AreFiles (listed commit.files)
+        → (end : Closed) → closed digest os commit ≡ Ok end → TreesFit [] end.objects }
 {}

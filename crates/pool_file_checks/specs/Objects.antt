@@ -6,11 +6,12 @@ use Rattle.std.specs.Cmp.Lexicographic.{slice_cmp}
 use Rattle.std.specs.declared.cmp.Ordering.TheVariants.{Less}
 use Rattle.git_model.specs.declared.kind.Kind.{Kind}
 use Rattle.git_model.specs.declared.kind.Kind.TheVariants as kind
-use Rattle.git_model.specs.Tree.{TreeEntry, CanWriteTree, tree_contents}
+use Rattle.git_model.specs.Tree.{TreeEntry}
 use Rattle.git_model.specs.Commit.{Commit}
 use Rattle.git_model.specs.Tag.{Tag}
 use Rattle.git_model.specs.Content.{Content}
 use Rattle.git_model.specs.GoodRepository.{IsCommit, IsTag, contents_limit}
+pub use Rattle.tenant_tables.specs.Sums.{IsTreeText}
 use Rattle.pool_file_text.specs.declared.refusal.Refusal.TheVariants as refusal
 use Rattle.pool_file_text.specs.Format.{RawObject}
 use Rattle.pool_file_checks.specs.Checks.{Checks}
@@ -21,11 +22,6 @@ kind_byte kind.Commit = 1
 kind_byte kind.Tree = 2
 kind_byte kind.Blob = 3
 kind_byte kind.Tag = 4
-
--- Bytes are a tree's where they are the contents of entries that can be written.
-pub record IsTreeText (bytes : List ℕ) (es : List TreeEntry) : Type 0 where
-  pub writable : CanWriteTree es
-  pub contents : bytes ≡ tree_contents es
 
 -- Bytes write an object of a kind, whatever else there is. All bytes are a blob's.
 abbrev pub IsText : Kind → List ℕ → Type 0

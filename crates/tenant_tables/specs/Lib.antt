@@ -7,5 +7,6 @@ pub mod Lent
 pub mod Room
 pub mod Adding
 pub mod Trees
+pub mod Sums
 pub mod Abbreviation
 pub mod Index

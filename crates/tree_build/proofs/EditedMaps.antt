@@ -1,5 +1,5 @@
 -- A file map after an edit is one again; its files are those that stayed and those that were put.
-use Rattle.std.proofs.Common.{◌≡◌, ◌≢◌, ℕ, Bool, true, false, cond, List, [], ◌∷◌, ◌++◌, length, filter, Option, None, Some, refl, sym, ap, ◌∙◌, subst}
+use Rattle.std.proofs.Common.{◌≡◌, ◌≢◌, Bool, true, false, cond, [], ◌∷◌, ◌++◌, length, filter, Option, None, Some, refl, sym, ap, ◌∙◌, subst}
 use Rattle.std.specs.List.{AllByRecursion}
 use Rattle.std.specs.Map.{keys_of}
 use Rattle.std.specs.FinMap as finmap
@@ -15,7 +15,7 @@ use Rattle.tree_build.specs.declared.entry.Entry.{Entry}
 use Rattle.tree_build.specs.declared.fault.Fault.TheVariants as fault
 use Rattle.tree_build.specs.FileMap.{Path, Listed, FileMap, listed, IsFile, ArePairwiseApart, AreFiles}
 use Rattle.tree_build.specs.Edits.{cut, files_at, moved, with_files, put_at, put_tree_at, copied, renamed, without, is_outside, is_empty, put_fault, move_fault}
-use Rattle.tree_build.specs.Kept.{stays, put_all, IsBelow, refusal_beside}
+use Rattle.tree_build.specs.Kept.{stays, put_all, IsBelow}
 use Rattle.tree_build.proofs.Apart.{all-map, all-weaker, all-filter, cut-all, moved-apart}
 use Rattle.tree_build.proofs.Edited.{kept, edited, edited-is, refusal-is, AreFiles-edited, moved-below, one-below, one-apart}
 use Rattle.tree_build.proofs.Listing.{apart-moved}

@@ -51,14 +51,14 @@ module _ (digest : List ℕ → List ℕ) (os : List Object) (good : AreObjects 
       (subst (λ (xs : List TreeEntry). All (StandsBefore os (place_of id os)) (tree_references xs))
       (tree_back es h.entries) (refers-before id (tree_content es) h.content))
 
-  falls : (id : List ℕ) (es : List TreeEntry) → HasTree os id es
+  pub falls : (id : List ℕ) (es : List TreeEntry) → HasTree os id es
       → RanksBelow (λ k. place_of k os) (place_of id os) es
   falls id es h =
       all-weaker (Stands (place_of id os))
       (λ (e : TreeEntry). e.mode ≡ mode.Directory → place_of e.id os < place_of id os)
       (λ e s is. (s is).before) es (directories id es h)
 
-  tree-from : (id : List ℕ) (o : Option Content) → object_named id os ≡ o
+  pub tree-from : (id : List ℕ) (o : Option Content) → object_named id os ≡ o
       → option_map (λ (c : Content). c.kind) o ≡ Some kind.Tree
       → (es : List TreeEntry) × HasTree os id es
   tree-from id None e k = cc

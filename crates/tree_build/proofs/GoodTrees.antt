@@ -23,7 +23,7 @@ use Rattle.tree_build.specs.GoodTrees.{IsTreeOfFiles, IsRepository}
 -- ---- what a tree lists, among more objects
 
 module _ (os more : List Object) where
-  has-longer : (id : List ℕ) (es : List TreeEntry) → HasTree os id es → HasTree (os ++ more) id es
+  pub has-longer : (id : List ℕ) (es : List TreeEntry) → HasTree os id es → HasTree (os ++ more) id es
   has-longer id es h =
       record {
         content =
@@ -32,7 +32,7 @@ module _ (os more : List Object) where
         entries = h.entries;
       }
 
-  lists-longer : {es : List TreeEntry} {fs : Listed} → Lists os es fs → Lists (os ++ more) es fs
+  pub lists-longer : {es : List TreeEntry} {fs : Listed} → Lists os es fs → Lists (os ++ more) es fs
   lists-longer nothing = nothing
   lists-longer (first_file e es files ne l) = first_file e es files ne (lists-longer l)
   lists-longer (first_directory e es inside under files is has sub l) =

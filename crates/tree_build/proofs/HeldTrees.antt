@@ -1,24 +1,23 @@
 -- The files of a stored tree of good objects name objects that are there.
-use Rattle.std.proofs.Common.{◌≡◌, ◌≢◌, ℕ, List, [], ◌∷◌, ◌++◌, All, Option, None, Some, refl, sym, ap, ◌∙◌, subst}
+use Rattle.std.proofs.Common.{◌≡◌, ◌≢◌, ℕ, List, [], ◌∷◌, All, Some, refl, sym, ap, ◌∙◌, subst}
 use Rattle.std.specs.List.{AllByRecursion}
 use Rattle.std.proofs.lemmas.List.Elements.{All-head, All-tail}
 use Rattle.git_model.specs.declared.file_mode.FileMode.{FileMode}
 use Rattle.git_model.specs.declared.file_mode.FileMode.TheVariants as mode
 use Rattle.git_model.specs.declared.kind.Kind.TheVariants as kind
 use Rattle.git_model.specs.Modes.{kind_of_mode}
-use Rattle.git_model.specs.Content.{Content}
 use Rattle.git_model.specs.Tree.{TreeEntry}
 use Rattle.git_model.specs.Repository.{Object}
-use Rattle.git_model.specs.References.{Reference, reference, tree_references, references_in, kind_named, place_of}
+use Rattle.git_model.specs.References.{tree_references, kind_named, place_of}
 use Rattle.git_model.specs.GoodRepository.{StandsBefore, AreObjects}
 use Rattle.git_model.proofs.TreeReadings.{tree_back}
 use Rattle.tree_build.specs.declared.entry.Entry.{Entry}
 use Rattle.tree_build.specs.FileMap.{Path, Listed}
 use Rattle.tree_build.specs.HeldFiles.{IsHeld}
 use Rattle.tree_build.specs.StoredFiles.{stored_files}
-use Rattle.tree_build.specs.StoredTree.{HasTree, Lists, nothing, first_file, first_directory, ListsTree}
+use Rattle.tree_build.specs.StoredTree.{HasTree, Lists, nothing, first_file, first_directory}
 use Rattle.tree_build.specs.Trees.{tree_content}
-use Rattle.tree_build.proofs.Apart.{all-map, all-weaker}
+use Rattle.tree_build.proofs.Apart.{all-map}
 use Rattle.tree_build.proofs.Listing.{all-append}
 use Rattle.tree_build.proofs.GoodObjects.{refers-before, files-of}
 

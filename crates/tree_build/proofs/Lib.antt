@@ -35,3 +35,5 @@ pub mod EditedMaps
 pub mod HeldTrees
 pub mod StoredPut
 pub mod TreesAdded
+pub mod SumsBehind
+pub mod FitTrees

@@ -92,7 +92,7 @@ the_summary None h = cc h
 the_summary (Some s) h = (s, refl)
 
 -- a mode is a directory's or not
-directory_or : (m : FileMode) → (m ≡ mode.Directory) ⊎ (m ≢ mode.Directory)
+pub directory_or : (m : FileMode) → (m ≡ mode.Directory) ⊎ (m ≢ mode.Directory)
 directory_or mode.Directory = inl refl
 directory_or mode.Regular = inr (λ h. cc h)
 directory_or mode.Executable = inr (λ h. cc h)
@@ -115,7 +115,7 @@ list_all_of os (e ∷ es) h =
 
 -- ---- summaries of files
 
-both-summary : (xs ys : Listed)
+pub both-summary : (xs ys : Listed)
     → files_summary (xs ++ ys) ≡ table.both (files_summary xs) (files_summary ys)
 both-summary [] ys = sym (none-both (files_summary ys))
 both-summary (x ∷ xs) ys =
@@ -124,7 +124,7 @@ both-summary (x ∷ xs) ys =
     ∙ ap (λ (s : Summary). table.both s (files_summary ys)) (sym (files-first x.0 x.1 xs))
 
 -- the files of a directory, below its name
-below-summary : (c : List ℕ) (fs : Listed) → AllByRecursion IsSound fs
+pub below-summary : (c : List ℕ) (fs : Listed) → AllByRecursion IsSound fs
     → table.below c (files_summary fs) ≡ files_summary (moved (c ∷ []) fs)
 below-summary c [] h = refl
 below-summary c (([], e) ∷ fs) h = absurd (h.0.below_the_root refl)

@@ -60,7 +60,7 @@ pub files-first : (p : Path) (e : Entry) (fs : Listed)
 files-first p e fs = same_summary _ _ (omega arith) refl refl
 
 -- what a group adds
-abbrev group_sum : Bytes × Listed → Summary
+abbrev pub group_sum : Bytes × Listed → Summary
 group_sum (c, []) = table.no_files
 group_sum (c, (([], e) ∷ fs)) = table.one_file c
 group_sum (c, (((d ∷ q), e) ∷ fs)) = table.below c (files_summary (((d ∷ q), e) ∷ fs))

@@ -1,11 +1,12 @@
 //! Laws of file maps: functions over the definitions alone, which run nothing.
 
-ghost use Rattle.std.specs.Prelude.{◌≡◌, ℕ, List, [], ◌∷◌, ◌++◌, All, None, Some};
+ghost use Rattle.std.specs.Prelude.{◌≡◌, ◌≢◌, ◌↔◌, ℕ, List, [], ◌∷◌, ◌++◌, All, None, Some};
 ghost use Rattle.std.specs.FinMap as finmap;
 ghost use Rattle.git_model.specs.declared.kind.Kind.TheVariants as kind;
 ghost use Rattle.git_model.specs.GoodRepository.{AreObjects, MayAdd};
 ghost use Rattle.git_model.specs.References.{kind_named};
-ghost use Rattle.git_model.specs.Repository.{Object, Repository};
+ghost use Rattle.git_model.specs.Content.{Content};
+ghost use Rattle.git_model.specs.Repository.{Object, Repository, with_object};
 ghost use Rattle.git_model.specs.RefStore.{no_refs};
 ghost use Rattle.git_model.specs.Tree.{TreeEntry};
 ghost use Rattle.git_names.specs.Naming.{AnswersNames};
@@ -13,6 +14,7 @@ ghost use Rattle.content_pool.specs.Pool.{Cells};
 ghost use Rattle.tenant_tables.specs.View.{Entries, summary_of};
 ghost use Rattle.tenant_tables.specs.Objects.{objects};
 ghost use Rattle.tenant_tables.specs.StandsIn.{StandsIn};
+ghost use Rattle.tenant_tables.specs.Sums.{IsWithin, TreesFit};
 ghost use Rattle.tree_build.specs.FileMap.{FileMap, Path, Listed, AreFiles, listed};
 ghost use Rattle.tree_build.specs.HeldFiles.{IsHeld};
 ghost use Rattle.tree_build.specs.Edits.{files_at, with_files};
@@ -90,6 +92,14 @@ pub fn good_objects_have_good_trees()
         → AreTreesGood digest os }
 {}
 
+/// Good objects have trees that fit, each behind those before it, exactly where the files of each
+/// tree are within the limits.
+pub fn trees_fit_where_their_files_do()
+    ensures { (digest : List ℕ → List ℕ) (os : List Object) → AreObjects digest os
+        → TreesFit [] os ↔ ((id : List ℕ) (files : Listed) → ListsTree os id files
+        → IsWithin (files_summary files)) }
+{}
+
 /// A stored tree lists its files in the order of a file map.
 pub fn stored_files_are_in_order()
     ensures { (os : List Object) (id : List ℕ) (files : Listed) → ListsTree os id files
@@ -128,4 +138,20 @@ pub fn trees_keep_objects_good()
         → (path : Path) → trees_fault digest (nested_trees digest (files_at m path)) os ≡ None
         → StayGood digest os (with_trees digest (nested_trees digest (files_at m path)) os)
         (tree_id digest (files_at m path)) }
+{}
+
+/// Where trees fit before, they fit with those too: the trees of files within the limits are within
+/// them.
+pub fn trees_keep_fitting()
+    ensures { (digest : List ℕ → List ℕ) → AnswersNames digest
+        → (os : List Object) → AreObjects digest os → TreesFit [] os
+        → (m : FileMap) → AreFiles (listed m) → All (IsHeld os) (listed m)
+        → (path : Path) → trees_fault digest (nested_trees digest (files_at m path)) os ≡ None
+        → TreesFit [] (with_trees digest (nested_trees digest (files_at m path)) os) }
+{}
+
+/// An object that is no tree leaves them so.
+pub fn other_objects_keep_trees_fitting()
+    ensures { (os : List Object) → TreesFit [] os → (id : List ℕ) (content : Content)
+        → content.kind ≢ kind.Tree → TreesFit [] (with_object id content os) }
 {}
