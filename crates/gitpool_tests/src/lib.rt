@@ -15,5 +15,3 @@ mod single_frames;
 mod streams;
 #[cfg(test)]
 mod watched;
-#[cfg(test)]
-mod worked;

@@ -110,8 +110,6 @@ const FROM_MARK: Step<'static> = Step::Take(Item::Line(b"from :1"));
 
 const ALIAS: Step<'static> = Step::Take(Item::Line(b"alias"));
 
-const TO_FIRST: Step<'static> = Step::Take(Item::Line(b"to :1"));
-
 const TAGGER: Step<'static> = Step::Take(Item::Line(
     b"tagger A U Thor <author@example.com> 1700000000 +0100",
 ));
@@ -162,45 +160,6 @@ const HELLO_KEPT: Left = Left {
 };
 
 const CASES: &[Case] = &[
-    Case {
-        does: "prints the name that a mark stands for as git does",
-        steps: &[BLOB, MARK, HELLO, Step::Take(Item::Line(b"get-mark :1"))],
-        printed: b"ce013625030ba8dba906f756967f9e9ca394464a\n",
-        left: HELLO_GIVEN_UP,
-    },
-    Case {
-        does: "prints the blob that a mark stands for as git does",
-        steps: &[BLOB, MARK, HELLO, Step::Take(Item::Line(b"cat-blob :1"))],
-        printed: b"ce013625030ba8dba906f756967f9e9ca394464a blob 6\nhello\n\n",
-        left: HELLO_GIVEN_UP,
-    },
-    Case {
-        does: "prints the empty blob as git does",
-        steps: &[
-            BLOB,
-            Step::Take(Item::Data(b"")),
-            Step::Take(Item::Line(b"cat-blob e69de29bb2d1d6434b8b29ae775ad8c2e48c5391")),
-        ],
-        printed: b"e69de29bb2d1d6434b8b29ae775ad8c2e48c5391 blob 0\n\n",
-        left: Left {
-            number: 0,
-            is_done: false,
-            stored: (1, 0),
-            given_up: (0, 0),
-        },
-    },
-    Case {
-        does: "prints that a blob is missing as git does",
-        steps: &[Step::Take(Item::Line(b"cat-blob ce013625030ba8dba906f756967f9e9ca394464a"))],
-        printed: b"ce013625030ba8dba906f756967f9e9ca394464a missing\n",
-        left: NOTHING,
-    },
-    Case {
-        does: "prints progress as git does",
-        steps: &[Step::Take(Item::Line(b"progress half way"))],
-        printed: b"progress half way\n",
-        left: NOTHING,
-    },
     Case {
         does: "passes items over after done",
         steps: &[DONE, BLOB, HELLO, WRONG, Step::Finish],
@@ -326,28 +285,6 @@ const CASES: &[Case] = &[
         },
     },
     Case {
-        does: "keeps an open commit at the end, under the name that git gives it",
-        steps: &[
-            BLOB,
-            MARK,
-            HELLO,
-            COMMIT,
-            SECOND_MARK,
-            COMMITTER,
-            MESSAGE,
-            FILE,
-            Step::Take(Item::Line(b"get-mark :2")),
-            DONE,
-        ],
-        printed: b"26e2a0f90dcf1cdf9f348baeda73dcbe52441f58\n",
-        left: Left {
-            number: 0,
-            is_done: true,
-            stored: (4, 227),
-            given_up: (4, 227),
-        },
-    },
-    Case {
         does: "stores the directory that ls shows of an open commit, and gives it up",
         steps: &[
             BLOB,
@@ -369,51 +306,9 @@ const CASES: &[Case] = &[
             given_up: (1, 6),
         },
     },
-    Case {
-        does: "takes features and options",
-        steps: &[
-            FEATURE_DONE,
-            Step::Take(Item::Line(b"feature force")),
-            Step::Take(Item::Line(b"feature get-mark")),
-            Step::Take(Item::Line(b"feature cat-blob")),
-            Step::Take(Item::Line(b"feature ls")),
-            Step::Take(Item::Line(b"feature date-format=raw")),
-            Step::Take(Item::Line(b"option git quiet")),
-            Step::Take(Item::Line(b"option of another system")),
-            DONE,
-        ],
-        printed: b"",
-        left: Left {
-            number: 0,
-            is_done: true,
-            stored: (0, 0),
-            given_up: (0, 0),
-        },
-    },
-    Case {
-        does: "keeps what was checkpointed alone",
-        steps: &[BLOB, HELLO, CHECKPOINT, BLOB, OTHER],
-        printed: b"",
-        left: Left {
-            number: 0,
-            is_done: false,
-            stored: (2, 11),
-            given_up: (1, 6),
-        },
-    },
 ];
 
 const COMMIT_REFUSALS: &[Refusal] = &[
-    Refusal {
-        refuses: "a commit without a committer",
-        steps: &[COMMIT, MESSAGE],
-        number: 5,
-    },
-    Refusal {
-        refuses: "an end in the place of a message",
-        steps: &[COMMIT, COMMITTER, Step::Finish],
-        number: 5,
-    },
     Refusal {
         refuses: "an end without done before that of a commit of which another content has the name",
         steps: &[
@@ -480,74 +375,18 @@ const COMMIT_REFUSALS: &[Refusal] = &[
         ],
         number: 24,
     },
-    Refusal {
-        refuses: "contents of a file in the place of the root",
-        steps: &[
-            COMMIT,
-            COMMITTER,
-            MESSAGE,
-            Step::Take(Item::Line(b"M 100644 inline ")),
-            HELLO,
-        ],
-        number: 20,
-    },
 ];
 
 const REFUSALS: &[Refusal] = &[
-    Refusal {
-        refuses: "a tag of a bad name",
-        steps: &[Step::Take(Item::Line(b"tag .v"))],
-        number: 11,
-    },
-    Refusal {
-        refuses: "an alias without a mark",
-        steps: &[ALIAS, TO_FIRST],
-        number: 5,
-    },
-    Refusal {
-        refuses: "an alias to a mark that is not there",
-        steps: &[ALIAS, SECOND_MARK, TO_FIRST],
-        number: 13,
-    },
-    Refusal {
-        refuses: "an alias to a blob",
-        steps: &[BLOB, MARK, HELLO, ALIAS, SECOND_MARK, TO_FIRST],
-        number: 15,
-    },
-    Refusal {
-        refuses: "an alias to a branch that is unborn, though its ref is there",
-        steps: &[
-            RESET,
-            ALIAS,
-            MARK,
-            Step::Take(Item::Line(b"to refs/heads/m")),
-        ],
-        number: 16,
-    },
     Refusal {
         refuses: "an alias to what is no expression",
         steps: &[ALIAS, MARK, Step::Take(Item::Line(b"to m^{x}"))],
         number: 3,
     },
     Refusal {
-        refuses: "an ls of a mark that is not there",
-        steps: &[Step::Take(Item::Line(b"ls :1 a"))],
-        number: 13,
-    },
-    Refusal {
         refuses: "a tag in the place of data",
         steps: &[BLOB, Step::Take(Item::Line(b"tag .v"))],
         number: 5,
-    },
-    Refusal {
-        refuses: "a tag of a mark that is not there",
-        steps: &[TAG, FROM_MARK, MESSAGE],
-        number: 13,
-    },
-    Refusal {
-        refuses: "a tag of a branch that is not there",
-        steps: &[TAG, Step::Take(Item::Line(b"from refs/heads/n")), MESSAGE],
-        number: 16,
     },
     Refusal {
         refuses: "a tag of forty zeros, which in a tag are a name like others",
@@ -584,23 +423,6 @@ const REFUSALS: &[Refusal] = &[
         number: 15,
     },
     Refusal {
-        refuses: "a tag without what it is of",
-        steps: &[BLOB, MARK, HELLO, TAG, MESSAGE],
-        number: 5,
-    },
-    Refusal {
-        refuses: "a tagger without a date",
-        steps: &[
-            BLOB,
-            MARK,
-            HELLO,
-            TAG,
-            FROM_MARK,
-            Step::Take(Item::Line(b"tagger A <a@b> x")),
-        ],
-        number: 22,
-    },
-    Refusal {
         refuses: "a tag whose name is that of another content",
         steps: &[
             BLOB,
@@ -616,74 +438,14 @@ const REFUSALS: &[Refusal] = &[
         number: 24,
     },
     Refusal {
-        refuses: "an end without done",
-        steps: &[FEATURE_DONE, Step::Finish],
-        number: 7,
-    },
-    Refusal {
         refuses: "an end in the place of data before one without done",
         steps: &[FEATURE_DONE, BLOB, Step::Finish],
         number: 5,
     },
     Refusal {
-        refuses: "a feature after a blob",
-        steps: &[BLOB, HELLO, FEATURE_DONE],
-        number: 9,
-    },
-    Refusal {
-        refuses: "an option after a blob",
-        steps: &[BLOB, HELLO, OTHER_HEAD],
-        number: 9,
-    },
-    Refusal {
         refuses: "a feature after a reset",
         steps: &[RESET, FEATURE_DONE],
         number: 9,
-    },
-    Refusal {
-        refuses: "an unknown feature",
-        steps: &[Step::Take(Item::Line(b"feature undo"))],
-        number: 8,
-    },
-    Refusal {
-        refuses: "an unknown option of Git",
-        steps: &[Step::Take(Item::Line(b"option git loud"))],
-        number: 8,
-    },
-    Refusal {
-        refuses: "HEAD as the ref that HEAD names",
-        steps: &[Step::Take(Item::Line(b"option gitpool head HEAD"))],
-        number: 11,
-    },
-    Refusal {
-        refuses: "a reset of a bad ref name",
-        steps: &[Step::Take(Item::Line(b"reset refs/heads/.."))],
-        number: 11,
-    },
-    Refusal {
-        refuses: "a reset to a branch that is not there",
-        steps: &[RESET, Step::Take(Item::Line(b"from refs/heads/n"))],
-        number: 16,
-    },
-    Refusal {
-        refuses: "a reset to a blob",
-        steps: &[BLOB, MARK, HELLO, RESET, FROM_MARK],
-        number: 15,
-    },
-    Refusal {
-        refuses: "a reset to a mark that is not there",
-        steps: &[RESET, FROM_MARK],
-        number: 13,
-    },
-    Refusal {
-        refuses: "a reset of a branch to itself",
-        steps: &[RESET, Step::Take(Item::Line(b"from refs/heads/m"))],
-        number: 19,
-    },
-    Refusal {
-        refuses: "a reset of the branch that HEAD names to HEAD",
-        steps: &[HEAD_AT_M, RESET, Step::Take(Item::Line(b"from HEAD"))],
-        number: 19,
     },
     Refusal {
         refuses: "a reset of HEAD to the branch that HEAD names",
@@ -700,11 +462,6 @@ const REFUSALS: &[Refusal] = &[
         number: 2,
     },
     Refusal {
-        refuses: "the name of a mark that is not there",
-        steps: &[Step::Take(Item::Line(b"get-mark :1"))],
-        number: 13,
-    },
-    Refusal {
         refuses: "the blob of a mark that is not there",
         steps: &[Step::Take(Item::Line(b"cat-blob :1"))],
         number: 13,
@@ -718,16 +475,6 @@ const REFUSALS: &[Refusal] = &[
             Step::Take(Item::Data(b"ba")),
         ],
         number: 24,
-    },
-    Refusal {
-        refuses: "an unknown line",
-        steps: &[Step::Take(Item::Line(b"blobs"))],
-        number: 2,
-    },
-    Refusal {
-        refuses: "an end in the place of data",
-        steps: &[BLOB, Step::Finish],
-        number: 5,
     },
 ];
 
