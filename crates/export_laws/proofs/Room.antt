@@ -23,7 +23,7 @@ any-named id (o ∷ os) = elim (cases_Bool (bytes_eq id o.id)) [
   | inr nay ↦ rw (nay, later_named id o os nay) (any-named id os)
 ]
 
-turned : (a b : List ℕ) → bytes_eq a b ≡ false → bytes_eq b a ≡ false
+pub turned : (a b : List ℕ) → bytes_eq a b ≡ false → bytes_eq b a ≡ false
 turned a b h = elim (cases_Bool (bytes_eq b a)) [
   | inl yea ↦ absurd (false≢true (sym h ∙ (bytes_eq-Decides a b).1 (sym ((bytes_eq-Decides b a).0 yea))))
   | inr nay ↦ nay

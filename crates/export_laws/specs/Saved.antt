@@ -1,5 +1,5 @@
 -- What stands once all objects of an export were told and saved: git-fast-import(1), "checkpoint".
-use Rattle.std.specs.Prelude.{◌≡◌, ℕ, true, false, List, [], ◌∷◌, length, Option, None, Some}
+use Rattle.std.specs.Prelude.{◌≡◌, ℕ, true, false, List, [], ◌∷◌, length, None, Some}
 use Rattle.std.specs.List.{Contains}
 use Rattle.git_model.specs.RefStore.{target_of}
 use Rattle.git_model.specs.Repository.{Repository}

@@ -1,0 +1,142 @@
+-- The files of an open commit: all go, and those of its tree are put one by one.
+use Rattle.std.proofs.Common.{◌≡◌, ◌≢◌, ℕ, Bool, true, nat_eq, if◌then◌else◌, List, [], ◌∷◌, map, Option, None, Some, Result, Ok, Err, refl, ap, ◌∙◌}
+use Rattle.std.specs.FinMap as finmap
+use Rattle.std.specs.List.{AllByRecursion}
+use Rattle.std.specs.Map.{lookup}
+use Rattle.std.specs.Option.{option_map}
+use Rattle.git_model.specs.declared.file_mode.FileMode.{FileMode}
+use Rattle.git_model.specs.declared.file_mode.FileMode.TheVariants as mode
+use Rattle.git_model.specs.declared.kind.Kind.{Kind}
+use Rattle.git_model.specs.declared.kind.Kind.TheVariants as kind
+use Rattle.git_model.specs.Content.{Content}
+use Rattle.git_model.specs.Peeling.{is_of}
+use Rattle.git_model.specs.Repository.{Object, object_named}
+use Rattle.git_model.proofs.Peelings.{is_of_kind}
+use Rattle.tree_build.specs.declared.entry.Entry.{Entry}
+use Rattle.tree_build.specs.Edits.{moved, put_at, put_fault}
+use Rattle.tree_build.specs.FileMap.{FileMap, Listed, Path}
+use Rattle.stream_grammar.specs.Acts.{DeleteAll, Modify}
+use Rattle.open_commits.specs.declared.fault.Fault.{Fault as CommitFault}
+use Rattle.open_commits.specs.declared.fault.Fault.TheVariants as commit_fault
+use Rattle.open_commits.specs.Changes.{blob_of, entry_of, file_put, held_as, modified}
+use Rattle.open_commits.specs.Changes.{marked_name as name_by_mark}
+use Rattle.open_commits.specs.Faults.{and_then as commit_then, or_fault}
+use Rattle.open_commits.specs.OpenCommit.{OpenCommit}
+use Rattle.open_commits.specs.Parents.{changed_to}
+use Rattle.import_session.specs.Changes.{changed_by, moved_by}
+use Rattle.import_session.specs.Faults.{and_then, changed_or}
+use Rattle.import_session.specs.Marks.{found_mark, marked_name}
+use Rattle.import_session.specs.Meaning.{after_act, placed_by, said_of_commit, said_of_tag, set_by, shown_by, stored_or_shown, within_commit}
+use Rattle.import_session.specs.Workspace.{Marks, Workspace, quiet}
+use Rattle.export_text.specs.ExportActs.{act_of_file, asks, dataref, number_of}
+use Rattle.export_laws.specs.Leaving.{Leaves, nothing}
+use Rattle.export_laws.specs.Putting.{Puts, nothing as none_put, first_file}
+use Rattle.export_laws.proofs.Acts.{asked}
+use Rattle.export_laws.proofs.OpenParents.{IsToldAs, with_open}
+
+-- A file may be told: it is no directory, and where it is no gitlink its blob was told.
+pub record MayTell (os : List Object) (w : Workspace) (f : Path × Entry) : Type 0 where
+  pub no_tree : f.1.mode ≢ mode.Directory
+  pub blob : f.1.mode ≢ mode.Gitlink → IsToldAs os w f.1.name kind.Blob
+
+-- ---- what a file names
+
+found-is : (o : Option (List ℕ)) (id : List ℕ) → found_mark o ≡ Ok id → o ≡ Some id
+found-is None id h = cc
+found-is (Some other) id h = cc
+
+marked-alike : (marks : Marks) (n : ℕ) (id : List ℕ) → marked_name marks n ≡ Ok id
+    → name_by_mark marks n ≡ Ok id
+marked-alike marks n id is =
+    ap (or_fault commit_fault.MarkUnknown) (found-is (lookup (nat_eq n) marks) id is)
+
+abbrev if_so : List ℕ → Bool → Result (List ℕ) CommitFault
+if_so id yea = if yea then Ok id else Err commit_fault.WrongKind
+
+held-by : (os : List Object) (k : Kind) (id : List ℕ) (found : Option Content)
+    → object_named id os ≡ found → option_map (λ (c : Content). c.kind) found ≡ Some k
+    → held_as os k id ≡ Ok id
+held-by os k id None e h = cc
+held-by os k id (Some c) e h =
+    let yea : is_of os k id ≡ true = (is_of_kind os k id).1 (ap (option_map (λ (c : Content). c.kind)) e ∙ h) in
+    ap (λ (o : Option Content). commit_then (or_fault commit_fault.ObjectUnknown o)
+    (λ _. if_so id (is_of os k id))) e
+    ∙ ap (if_so id) yea
+
+blob-named : (os : List Object) (w : Workspace) (id : List ℕ) → IsToldAs os w id kind.Blob
+    → (m : FileMode) → dataref os m id ≡ dataref os mode.Regular id
+    → blob_of w.objects w.marks (dataref os m id) ≡ Ok id
+blob-named os w id told m same =
+    ap (blob_of w.objects w.marks) same
+    ∙ ap (λ (r : Result (List ℕ) CommitFault). commit_then r (held_as w.objects kind.Blob))
+    (marked-alike w.marks (number_of os id) id told.mark)
+    ∙ held-by w.objects kind.Blob id (object_named id w.objects) refl told.is
+
+-- ---- one file
+
+put-so : (path : Path) (e : Entry) (commit : OpenCommit) (next : FileMap)
+    → put_at commit.files path e ≡ next → put_fault (moved path (([], e) ∷ [])) next ≡ None
+    → file_put path e commit ≡ Ok (record commit { files = next })
+put-so path e commit next is none =
+    ap (λ (m : FileMap). changed_to commit m (put_fault (moved path (([], e) ∷ [])) m)) is
+    ∙ ap (changed_to commit next) none
+
+named-put : (named : Result (List ℕ) CommitFault) (m : FileMode) (id : List ℕ) (path : Path)
+    (commit next : OpenCommit) → named ≡ Ok id → file_put path (entry_of m id) commit ≡ Ok next
+    → commit_then named (λ id. file_put path (entry_of m id) commit) ≡ Ok next
+named-put named m id path commit next is put =
+    ap (λ (r : Result (List ℕ) CommitFault). commit_then r (λ id. file_put path (entry_of m id) commit)) is ∙ put
+
+modifies : (os : List Object) (w : Workspace) (m : FileMode) (id : List ℕ) (path : Path)
+    (commit next : OpenCommit) → m ≢ mode.Directory
+    → (m ≢ mode.Gitlink → IsToldAs os w id kind.Blob)
+    → file_put path (entry_of m id) commit ≡ Ok next
+    → modified w.objects w.marks m (dataref os m id) path commit ≡ Ok next
+modifies os w mode.Directory id path commit next no_tree blob put = absurd (no_tree refl)
+modifies os w mode.Gitlink id path commit next no_tree blob put = put
+modifies os w mode.Regular id path commit next no_tree blob put =
+    named-put (blob_of w.objects w.marks (dataref os mode.Regular id)) mode.Regular id path commit next
+    (blob-named os w id (blob (λ e. cc)) mode.Regular refl) put
+modifies os w mode.Executable id path commit next no_tree blob put =
+    named-put (blob_of w.objects w.marks (dataref os mode.Executable id)) mode.Executable id path commit next
+    (blob-named os w id (blob (λ e. cc)) mode.Executable refl) put
+modifies os w mode.Symlink id path commit next no_tree blob put =
+    named-put (blob_of w.objects w.marks (dataref os mode.Symlink id)) mode.Symlink id path commit next
+    (blob-named os w id (blob (λ e. cc)) mode.Symlink refl) put
+
+file-told : (digest : List ℕ → List ℕ) (os : List Object) (w : Workspace) (f : Path × Entry)
+    (commit next : OpenCommit) → MayTell os w f → file_put f.0 f.1 commit ≡ Ok next
+    → after_act digest (Modify f.1.mode (dataref os f.1.mode f.1.name) f.0) (with_open w commit)
+    ≡ quiet (with_open w next)
+unfolding after_act stored_or_shown shown_by placed_by set_by said_of_tag said_of_commit within_commit changed_by
+file-told digest os w f commit next may put =
+    ap (λ (r : Result OpenCommit CommitFault). and_then (changed_or r) (λ next. quiet (with_open w next)))
+    (modifies os w f.1.mode f.1.name f.0 commit next may.no_tree may.blob put)
+
+-- ---- all of them
+
+deletes-all : (digest : List ℕ → List ℕ) (w : Workspace) (commit : OpenCommit)
+    → after_act digest DeleteAll (with_open w commit)
+    ≡ quiet (with_open w (record commit { files = finmap.empty }))
+unfolding after_act stored_or_shown shown_by placed_by set_by said_of_tag said_of_commit within_commit changed_by moved_by
+deletes-all digest w commit = refl
+
+module _ (digest : List ℕ → List ℕ) (os : List Object) (w : Workspace) (commit : OpenCommit) where
+  abbrev with_map : FileMap → Workspace
+  with_map m = with_open w (record commit { files = m })
+
+  files-told : {files : Listed} {m left : FileMap} → Puts files m left
+      → AllByRecursion (MayTell os w) files
+      → Leaves digest (map (act_of_file os) files) (with_map m) (with_map left)
+  files-told (none_put m) may = nothing _
+  files-told (first_file f files m next left is none rest) may =
+      asked digest _ _ _ _ _
+      (file-told digest os w f (record commit { files = m }) (record commit { files = next }) may.0
+      (put-so f.0 f.1 (record commit { files = m }) next is none))
+      (files-told rest may.1)
+
+  pub changes-told : (files : Listed) (left : FileMap) → Puts files finmap.empty left
+      → AllByRecursion (MayTell os w) files
+      → Leaves digest (asks DeleteAll ∷ map (act_of_file os) files) (with_open w commit) (with_map left)
+  changes-told files left puts may =
+      asked digest _ _ _ _ _ (deletes-all digest w commit) (files-told puts may)

@@ -1,0 +1,182 @@
+-- The lines of a commit before its parents: it begins, and is open with its message.
+use Rattle.std.proofs.Common.{◌≡◌, ℕ, List, [], ◌∷◌, ◌++◌, Option, None, Some, Result, Ok, refl, sym, ap, ◌∙◌, inl, inr, All, subst}
+use Rattle.std.proofs.lemmas.List.Elements.{All-head}
+use Rattle.git_model.specs.GoodRepository.{AreObjects}
+use Rattle.git_model.specs.Repository.{Object}
+use Rattle.tenant_tables.specs.Sums.{TreesFit}
+use Rattle.tree_build.specs.FileMap.{FileMap}
+use Rattle.tree_build.specs.StoredFiles.{commit_map}
+use Rattle.stream_grammar.specs.Acts.{Author, BeginCommit, Committer, Encoding, OpenCommit, Reset, Wait}
+use Rattle.stream_grammar.specs.Names.{Expression}
+use Rattle.open_commits.specs.OpenCommit.{Header, OpenCommit as Open, begun}
+use Rattle.import_session.specs.declared.branches.Tip.{Tip}
+use Rattle.import_session.specs.declared.branches.Tip.TheVariants.{Unborn, Deleted, At}
+use Rattle.import_session.specs.declared.fault.Fault.{Fault}
+use Rattle.import_session.specs.declared.said.Said.{Said}
+use Rattle.import_session.specs.Branches.{branch_set, has_branch_room, ref_meant}
+use Rattle.import_session.specs.Commits.{begun_from, tip_commit, tip_for}
+use Rattle.import_session.specs.Faults.{and_then, changed_or}
+use Rattle.import_session.specs.Meaning.{after_act, placed_by, said_of_commit, said_of_tag, set_by, shown_by, stored_or_shown}
+use Rattle.import_session.specs.Sound.{IsBranch}
+use Rattle.import_session.specs.Workspace.{Branches, Workspace, quiet, said_of}
+use Rattle.export_text.specs.ExportActs.{asks, asks_if}
+use Rattle.export_text.specs.ExportItems.{scratch}
+use Rattle.export_laws.specs.Leaving.{Leaves, nothing}
+use Rattle.export_laws.specs.Told.{IsScratchAlone}
+use Rattle.export_laws.proofs.Acts.{asked, both}
+use Rattle.export_laws.proofs.Blobs.{waits}
+use Rattle.export_laws.proofs.OpenTrees.{started}
+
+-- ---- the branch on which commits are told
+
+scratch-set : (branches : Branches) → IsScratchAlone branches → (tip : Tip)
+    → branch_set branches scratch tip ≡ Ok ((scratch, tip) ∷ [])
+unfolding has_branch_room
+scratch-set branches (inl none) tip = rw none refl
+scratch-set branches (inr found) tip = rw found.1 refl
+
+-- a reset leaves it unborn
+pub resets : (digest : List ℕ → List ℕ) (w : Workspace) → IsScratchAlone w.branches
+    → after_act digest (Reset scratch) w
+    ≡ quiet (record w { branches = (scratch, Unborn) ∷ []; said = Some (said_of scratch) })
+unfolding after_act stored_or_shown shown_by placed_by set_by ref_meant
+resets digest w alone =
+    ap (λ (r : Result Branches Fault). and_then r (λ branches.
+    quiet (record w { branches = branches; said = Some (said_of scratch) })))
+    (scratch-set w.branches alone Unborn)
+
+-- ---- the lines before the message
+
+abbrev with_said : Workspace → Said → Workspace
+with_said w said = record w { said = Some said }
+
+abbrev said_by : List ℕ → List ℕ → Option (List ℕ) → Said
+said_by author committer encoding = record {
+  ref_name = scratch;
+  author = Some author;
+  committer = Some committer;
+  encoding = encoding;
+  target = Expression [];
+  tagger = None;
+}
+
+begins : (digest : List ℕ → List ℕ) (w : Workspace)
+    → after_act digest (BeginCommit scratch) w ≡ quiet (with_said w (said_of scratch))
+unfolding after_act stored_or_shown shown_by placed_by set_by said_of_tag said_of_commit ref_meant
+begins digest w = refl
+
+authors : (digest : List ℕ → List ℕ) (w : Workspace) (said : Said) (ident : List ℕ)
+    → after_act digest (Author ident) (with_said w said)
+    ≡ quiet (with_said w (record said { author = Some ident }))
+unfolding after_act stored_or_shown shown_by placed_by set_by said_of_tag said_of_commit
+authors digest w said ident = refl
+
+committers : (digest : List ℕ → List ℕ) (w : Workspace) (said : Said) (ident : List ℕ)
+    → after_act digest (Committer ident) (with_said w said)
+    ≡ quiet (with_said w (record said { committer = Some ident }))
+unfolding after_act stored_or_shown shown_by placed_by set_by said_of_tag said_of_commit
+committers digest w said ident = refl
+
+encodings : (digest : List ℕ → List ℕ) (w : Workspace) (said : Said) (text : List ℕ)
+    → after_act digest (Encoding text) (with_said w said)
+    ≡ quiet (with_said w (record said { encoding = Some text }))
+unfolding after_act stored_or_shown shown_by placed_by set_by said_of_tag said_of_commit
+encodings digest w said text = refl
+
+encoding-said : (digest : List ℕ → List ℕ) (w : Workspace) (author committer : List ℕ)
+    (encoding : Option (List ℕ))
+    → Leaves digest (asks_if Encoding encoding) (with_said w (said_by author committer None))
+    (with_said w (said_by author committer encoding))
+encoding-said digest w author committer None = nothing _
+encoding-said digest w author committer (Some text) =
+    asked digest _ _ _ _ _ (encodings digest w (said_by author committer None) text) (nothing _)
+
+lines-said : (digest : List ℕ → List ℕ) (w : Workspace) (author committer : List ℕ)
+    (encoding : Option (List ℕ))
+    → Leaves digest
+    (asks (BeginCommit scratch) ∷ asks Wait ∷ asks (Author author) ∷ asks (Committer committer)
+    ∷ asks_if Encoding encoding) w (with_said w (said_by author committer encoding))
+lines-said digest w author committer encoding =
+    asked digest _ _ _ _ _ (begins digest w)
+    (asked digest _ _ _ _ _ (waits digest _)
+    (asked digest _ _ _ _ _ (authors digest w (said_of scratch) author)
+    (asked digest _ _ _ _ _ (committers digest w (record (said_of scratch) { author = Some author }) committer)
+    (encoding-said digest w author committer encoding))))
+
+-- ---- its message
+
+abbrev header_by : Option ℕ → List ℕ → List ℕ → Option (List ℕ) → Header
+header_by mark author committer encoding = record {
+  ref = scratch;
+  mark = mark;
+  author = Some author;
+  committer = committer;
+  encoding = encoding;
+}
+
+opens : (digest : List ℕ → List ℕ) (w : Workspace) → IsScratchAlone w.branches
+    → (mark : Option ℕ) (message author committer : List ℕ) (encoding : Option (List ℕ)) (opening : Open)
+    → begun_from w.objects (tip_commit w.branches scratch) (begun (header_by mark author committer encoding) message) ≡ Ok opening
+    → after_act digest (OpenCommit mark message) (with_said w (said_by author committer encoding))
+    ≡ quiet (record w {
+      branches = (scratch, tip_for (tip_commit w.branches scratch)) ∷ [];
+      said = None;
+      commit = Some opening;
+    })
+unfolding after_act stored_or_shown shown_by placed_by
+opens digest w alone mark message author committer encoding opening is =
+    let tip = tip_for (tip_commit w.branches scratch) in
+    let new = begun (header_by mark author committer encoding) message in
+    ap (λ (r : Result Branches Fault). and_then r (λ branches.
+    and_then (begun_from w.objects (tip_commit w.branches scratch) new) (λ opening.
+    quiet (record w { branches = branches; said = None; commit = Some opening }))))
+    (scratch-set w.branches alone tip)
+    ∙ ap (λ (r : Result Open Fault). and_then r (λ opening.
+    quiet (record w { branches = (scratch, tip) ∷ []; said = None; commit = Some opening }))) is
+
+-- The lines of a commit up to its message leave it open.
+pub opened : (digest : List ℕ → List ℕ) (w : Workspace) → IsScratchAlone w.branches
+    → (mark : Option ℕ) (message author committer : List ℕ) (encoding : Option (List ℕ)) (opening : Open)
+    → begun_from w.objects (tip_commit w.branches scratch) (begun (header_by mark author committer encoding) message) ≡ Ok opening
+    → Leaves digest
+    ((asks (BeginCommit scratch) ∷ asks Wait ∷ asks (Author author) ∷ asks (Committer committer)
+    ∷ asks_if Encoding encoding) ++ asks (OpenCommit mark message) ∷ []) w
+    (record w {
+      branches = (scratch, tip_for (tip_commit w.branches scratch)) ∷ [];
+      said = None;
+      commit = Some opening;
+    })
+opened digest w alone mark message author committer encoding opening is =
+    both digest (lines-said digest w author committer encoding)
+    (asked digest _ _ _ _ _ (opens digest w alone mark message author committer encoding opening is) (nothing _))
+
+-- ---- the files that it begins with
+
+-- A commit begins with some parents and files, whatever its branch stood at.
+pub record Begins (objects : List Object) (branches : Branches) (header : Header) (message : List ℕ)
+    : Type 0 where
+  pub parents : List (List ℕ)
+  pub files : FileMap
+  pub are : begun_from objects (tip_commit branches scratch) (begun header message)
+      ≡ Ok (record { header = header; message = message; parents = parents; files = files })
+
+module _ (digest : List ℕ → List ℕ) (objects : List Object) (good : AreObjects digest objects)
+    (fit : TreesFit [] objects) (header : Header) (message : List ℕ) where
+  begins-at : (tip : Tip) → IsBranch objects (scratch, tip)
+      → Begins objects ((scratch, tip) ∷ []) header message
+  begins-at Unborn is = record { parents = []; files = (begun header message).files; are = refl }
+  begins-at Deleted is = record { parents = []; files = (begun header message).files; are = refl }
+  begins-at (At id) is = record {
+    parents = id ∷ [];
+    files = commit_map objects id;
+    are = ap changed_or (started digest objects good fit id is.tip (begun header message));
+  }
+
+  pub begins-with : (branches : Branches) → IsScratchAlone branches → All (IsBranch objects) branches
+      → Begins objects branches header message
+  begins-with branches (inl none) are =
+      subst (λ (b : Branches). Begins objects b header message) (sym none)
+      (record { parents = []; files = (begun header message).files; are = refl })
+  begins-with branches (inr found) are =
+      subst (λ (b : Branches). Begins objects b header message) (sym found.1)
+      (begins-at found.0 (All-head (IsBranch objects) (scratch, found.0) [] (rw found.1 at are)))

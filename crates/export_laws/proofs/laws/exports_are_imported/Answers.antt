@@ -1,0 +1,5 @@
+use Rattle.export_laws.proofs.EndImported.{export-imported}
+use Rattle.export_laws.proofs.laws.exports_are_imported.Goals as goal
+
+pub returns : goal.returns
+returns c = export-imported
