@@ -1,11 +1,12 @@
-"""Loads and saves the pool file of a history of bench/history/make_history, and that of many tenants who share it, and prints
-the best of some rounds and the most memory: measure.py PROGRAM [ROUNDS [TENANTS [COMMITS]]]; 3 rounds, 1,000 tenants and
-5,000 commits where no number is given.
+"""Loads and saves the pool file of a history of bench/history/make_history, that of many tenants who share it, and one of large
+blobs, and prints the best of some rounds and the most memory: measure.py PROGRAM [ROUNDS [TENANTS [COMMITS]]]; 3 rounds, 1,000
+tenants and 5,000 commits where no number is given.
 
 A load is `check`; an import of an empty stream loads and saves, and must leave the same bytes; what it takes beyond a load is a
 save. Beside them stands `sha1sum` of the file. The file of many tenants is made here from that of one, number by number."""
 import hashlib
 import os
+import random
 import struct
 import subprocess
 import sys
@@ -88,6 +89,13 @@ def shared(path, other):
         file.write(digest.digest())
 
 
+def large_blobs(stream):
+    draw = random.Random(7)
+    with open(stream, "wb") as file:
+        for _ in range(100):
+            file.write(b"blob\ndata 1000000\n" + draw.randbytes(1_000_000) + b"\n")
+
+
 def once(words, given=os.devnull):
     """Seconds, the most memory in MB, and what is printed. GNU time asks for the memory of the process alone."""
     with tempfile.NamedTemporaryFile() as peak, open(given, "rb") as stdin:
@@ -120,16 +128,23 @@ def measure(what, path):
           f" and a save {both - load:.3f} s more, at most {most:.0f} MB; sha1sum {summed:.3f} s, {size / summed / 1e6:.0f} MB/s", flush=True)
 
 
+def imported(stream, path):
+    took, most, _ = once([program, "import", ONE.decode(), "--pool", path], stream)
+    print(f"import and save: {os.path.getsize(stream) / 1e6:.1f} MB, {took:.3f} s, at most {most:.0f} MB", flush=True)
+
+
 def main():
     with tempfile.TemporaryDirectory() as folder:
-        stream, one, many = (os.path.join(folder, it) for it in ("stream", "one", "many"))
+        stream, one, many, large = (os.path.join(folder, it) for it in ("stream", "one", "many", "large"))
         with open(stream, "wb") as file:
             subprocess.run([os.path.join(here, "..", "history", "make_history"), "--commits", commits], check=True, stdout=file)
-        took, most, _ = once([program, "import", ONE.decode(), "--pool", one], stream)
-        print(f"import and save: {os.path.getsize(stream) / 1e6:.1f} MB, {took:.3f} s, at most {most:.0f} MB", flush=True)
+        imported(stream, one)
         measure("one tenant", one)
         shared(one, many)
         measure(f"{tenants} tenants", many)
+        large_blobs(stream)
+        imported(stream, large)
+        measure("large blobs", large)
     print(f"load {os.getloadavg()[0]:.1f}")
 
 

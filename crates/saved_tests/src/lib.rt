@@ -3,3 +3,5 @@
 
 #[cfg(test)]
 mod services;
+#[cfg(test)]
+mod tenants;

@@ -17,7 +17,7 @@ use Rattle.pool_file.specs.Saving.{IsGood, IsTextOf}
 use Rattle.pool_file.proofs.Members.{Has, has_map, from_map, has_flat_map, of_flat_map}
 use Rattle.pool_file.proofs.Texts.{one_list}
 use Rattle.tenant_service.specs.Holding.{Holding, Holdings, Idle, Busy, empty_repository, held_of, held_contents, held_objects, last_held}
-use Rattle.tenant_service.specs.Saved.{last_named, saved_of, repository_of, AllTreesFit, IsLoadedFrom}
+use Rattle.tenant_service.specs.Saved.{last_named, saved_of, repository_of, IsLoadedFrom}
 use Rattle.tenant_service.specs.Tenants.{Tenants, AreSound, holdings}
 use Rattle.tenant_service.proofs.SoundLemmas.{last-sound}
 use Rattle.tenant_service.proofs.SavedLemmas.{LosesNothing, saved-repository, empty_of}
@@ -27,11 +27,10 @@ use Rattle.tenant_service.proofs.SavableLemmas.{IsSavable, take-has, of-saved, c
 abbrev AreGood : (List ℕ → List ℕ) → Holdings → Type 0
 AreGood digest all = (tenant : List ℕ) → IsGood digest (last_held (held_of tenant all))
 
-good-sound : (digest : List ℕ → List ℕ) (all : Holdings) → AreSound digest all → AllTreesFit all
-    → AreGood digest all
-good-sound digest all sound fit tenant =
+good-sound : (digest : List ℕ → List ℕ) (all : Holdings) → AreSound digest all → AreGood digest all
+good-sound digest all sound tenant =
     let last = last-sound digest (held_of tenant all) (sound tenant) in
-    record { objects = last.objects; trees = fit tenant; refs = last.refs }
+    record { objects = last.objects; trees = last.trees; refs = last.refs }
 
 -- ---- each tenant's repository
 
@@ -113,10 +112,9 @@ length-last (e ∷ all) = ap (λ n. suc n) (length-last all)
 
 module _ (digest : List ℕ → List ℕ) (all : Holdings)
     (names : AllByRecursion (λ name. is_tenant_name name ≡ true) (keys_of all))
-    (distinct : IsDistinct bytes_eq (keys_of all)) (sound : AreSound digest all)
-    (fit : AllTreesFit all) where
+    (distinct : IsDistinct bytes_eq (keys_of all)) (sound : AreSound digest all) where
   good : AreGood digest all
-  good = good-sound digest all sound fit
+  good = good-sound digest all sound
 
   savable : (n : Named) → Has (last_named all) n → IsSavable digest n
   savable n h = record {

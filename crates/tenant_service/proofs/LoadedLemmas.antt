@@ -65,7 +65,7 @@ has-loaded p ts tenant =
 
 sound-good : (digest : List ℕ → List ℕ) (r : Repository) → IsGood digest r
     → IsSoundRepository digest r
-sound-good digest r good = record { objects = good.objects; refs = good.refs }
+sound-good digest r good = record { objects = good.objects; trees = good.trees; refs = good.refs }
 
 sound-or : (digest : List ℕ → List ℕ) (p : Cells) (tenant : List ℕ) (ts : List Loaded)
     → AllByRecursion (IsTenant digest p) ts

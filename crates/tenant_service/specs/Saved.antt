@@ -6,7 +6,6 @@ use Rattle.std.specs.Str.{bytes_eq}
 use Rattle.git_model.specs.Repository.{Repository}
 use Rattle.pool_file_text.specs.declared.fault.Fault.{Fault}
 use Rattle.pool_file_text.specs.declared.fault.Fault.TheVariants as fault
-use Rattle.pool_file_checks.specs.Sums.{TreesFit}
 use Rattle.pool_file.specs.Repositories.{Named}
 use Rattle.pool_file.specs.Saving.{IsTextOf}
 use Rattle.pool_file.specs.Judging.{IsRefused}
@@ -30,10 +29,6 @@ repository_of tenant all =
 -- Of each tenant its repository among these is held, and no stream.
 abbrev pub HasJust : List Named → Holdings → Type 0
 HasJust all held = (tenant : List ℕ) → held_of tenant held ≡ Idle (repository_of tenant all)
-
--- The trees of every tenant's repository at its last checkpoint are within the limits.
-abbrev pub AllTreesFit : Holdings → Type 0
-AllTreesFit all = (tenant : List ℕ) → TreesFit [] (last_held (held_of tenant all)).objects
 
 -- What is held is of the repositories that a file says, which all of the bytes are read as.
 pub record IsReadFrom (digest : List ℕ → List ℕ) (bytes : List ℕ) (held : Holdings) : Type 0 where

@@ -28,7 +28,7 @@ ghost use Rattle.tenant_refs.specs.TenantName.{is_tenant_name};
 ghost use Rattle.tenant_service.specs.Alone.{added, Restart, State};
 ghost use Rattle.tenant_service.specs.Headline.{IsItsOwn, IsRefused, told_in, told_since, run_of};
 ghost use Rattle.tenant_service.specs.Holding.{Holdings, LeadsTo, IsSoundHolding, Idle, empty_repository, held_of, held_contents, has_commit, step_held};
-ghost use Rattle.tenant_service.specs.Saved.{saved_of, AllTreesFit, IsLoadedFrom, LoadsAs, LoadsText, LoadsEach};
+ghost use Rattle.tenant_service.specs.Saved.{saved_of, IsLoadedFrom, LoadsAs, LoadsText, LoadsEach};
 ghost use Rattle.tenant_service.specs.Tenants.{Shows};
 ghost use Rattle.tenant_tables.specs.StandsIn.{StandsIn};
 
@@ -108,13 +108,12 @@ impl<N: Naming> Service<N> {
         let _many = self.tenants.len();
     }
 
-    /// Where all trees are within the limits, what is saved has the text that is written; and a
-    /// service that was loaded from it has of every tenant what a restart leaves here: a fact for
-    /// proofs. A call does nothing.
+    /// What is saved has the text that is written; and a service that was loaded from it has of
+    /// every tenant what a restart leaves here: a fact for proofs. A call does nothing.
     pub fn comes_back(&self)
-        ensures text { AllTreesFit self.now → IsTextOf N.digest_of (saved_of self.now)
+        ensures text { IsTextOf N.digest_of (saved_of self.now)
             (file_text N.digest_of (saved_of self.now)) }
-        ensures same { AllTreesFit self.now → (loaded : Holdings)
+        ensures same { (loaded : Holdings)
             → IsLoadedFrom N.digest_of (file_text N.digest_of (saved_of self.now)) loaded
             → (tenant : List ℕ) → held_of tenant loaded
             ≡ (step_held N.digest_of Restart None (held_of tenant self.now)).state }

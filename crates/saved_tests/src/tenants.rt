@@ -1,0 +1,144 @@
+//! Files of many tenants that share their contents: loaded and saved unchanged, and devices that
+//! fail at each call.
+
+use git_objects::{Counted, FailingReader, FailingWriter, Naming, Sha1Naming};
+use std::alloc::{AllocError, Global};
+use std::io::Read;
+use tenant_service::{Fault, Service};
+
+// A file up to its tenants, with five objects under the names that `git hash-object` gave: a commit
+// of the empty tree, that tree, a tree of one file, its blob, and a tag of the commit.
+const OBJECTS: &[u8] = b"gitpool\n\0\0\0\x02\0\0\0\0\0\0\0\x05\
+\x01\0\0\0\0\0\0\0\x62tree 4b825dc642cb6eb9a060e54bf8d69288fbee4904\n\
+author A <a@b> 0 +0000\ncommitter A <a@b> 0 +0000\n\nx\n\
+\x02\0\0\0\0\0\0\0\0\
+\x02\0\0\0\0\0\0\0\x1d100644 a\0\xce\x016%\x03\x0b\xa8\xdb\xa9\x06\xf7V\x96\x7f\x9e\x9c\xa3\x94FJ\
+\x03\0\0\0\0\0\0\0\x06hello\n\
+\x04\0\0\0\0\0\0\0\x43object 7b8051db3dcc0fcfd006919cfa7376ddbd7bdc1a\ntype commit\ntag v\n\n";
+
+// What stands before the three places of a tenant's name of four bytes: its length; the numbers of
+// all objects, two refs and the front of the first; the end of that one and the front of the second.
+const BEFORE_NAME: [&[u8]; 3] = [
+    b"\0\x04",
+    b"\0\0\0\0\0\0\0\x05\0\0\0\0\0\0\0\x01\0\0\0\0\0\0\0\0\0\0\0\0\0\0\0\x03\0\0\0\0\0\0\0\x02\
+\0\0\0\0\0\0\0\x04\0\0\0\0\0\0\0\x02\0\x21refs/namespaces/",
+    b"/refs/heads/m\0\0\0\0\0\0\0\x01\0\x20refs/namespaces/",
+];
+
+// What stands behind the last of them: the end of the second ref, and HEAD.
+const BEHIND_NAMES: &[u8] = b"/refs/tags/v\0\0\0\0\0\0\0\x04\0\x0frefs/heads/main";
+
+fn digit(number: u64) -> u8 {
+    b'0' + (number % 10) as u8
+}
+
+fn append_tenant(file: &mut Vec<u8>, number: u64) -> Result<(), AllocError> {
+    let name = [b't', digit(number / 100), digit(number / 10), digit(number)];
+    for piece in BEFORE_NAME {
+        file.extend_from_slice(piece)?;
+        file.extend_from_slice(&name)?;
+    }
+    file.extend_from_slice(BEHIND_NAMES)
+}
+
+// A file of so many tenants, at most a thousand, each of whom has all objects.
+fn file_of(alloc: Global, tenants: u64) -> Result<Vec<u8>, AllocError> {
+    let mut file = Vec::from_slice(alloc, OBJECTS)?;
+    file.extend_from_slice(&tenants.to_be_bytes())?;
+    for number in 0..tenants {
+        append_tenant(&mut file, number)?;
+    }
+    let digest = Sha1Naming.digest(&file);
+    file.extend_from_slice(&digest)?;
+    Ok(file)
+}
+
+fn is_saved_as(alloc: Global, service: &Service<Sha1Naming>, file: &[u8]) -> Result<bool, Fault> {
+    let mut writer = Counted::new(Vec::new(alloc));
+    service.save(&mut writer)?;
+    let written = writer.into_inner();
+    Ok(written.as_slice() == file)
+}
+
+fn load<R: Read + Drop>(alloc: Global, reader: R) -> Result<Service<Sha1Naming>, Fault> {
+    let mut counted = Counted::new(reader);
+    Service::load(alloc, Sha1Naming, &mut counted)
+}
+
+// Whether the file of so many tenants comes back byte for byte from a service that has each content
+// once.
+fn goes_unchanged(alloc: Global, tenants: u64) -> Result<bool, Fault> {
+    let file = file_of(alloc, tenants)?;
+    let service = load(alloc, file.as_slice())?;
+    let counts = service.stored() == (5, 200) && service.tenants() == tenants;
+    Ok(counts && is_saved_as(alloc, &service, &file)?)
+}
+
+#[test]
+fn three_tenants_go_unchanged(rt: HostRuntime) {
+    assert!(rt; goes_unchanged(rt.alloc(), 3) == Ok(true));
+}
+
+#[test]
+fn a_thousand_tenants_go_unchanged(rt: HostRuntime) {
+    assert!(rt; goes_unchanged(rt.alloc(), 1000) == Ok(true));
+}
+
+// How many calls one loading makes over a slice.
+fn calls_of(alloc: Global, file: &[u8]) -> Result<u64, Fault> {
+    let mut counted = Counted::new(file);
+    let _service = Service::load(alloc, Sha1Naming, &mut counted)?;
+    Ok(counted.calls())
+}
+
+fn is_blamed(alloc: Global, file: &[u8], nth: u64) -> bool {
+    match load(alloc, FailingReader::new(file, nth)) {
+        Err(Fault::Device) => true,
+        _ => false,
+    }
+}
+
+// A reader that fails at any of these calls is blamed, and one that fails later is not.
+fn are_readers_blamed(alloc: Global) -> Result<bool, Fault> {
+    let file = file_of(alloc, 3)?;
+    let calls = calls_of(alloc, &file)?;
+    for nth in 0..calls {
+        if !is_blamed(alloc, &file, nth) {
+            return Ok(false);
+        }
+    }
+    Ok(!is_blamed(alloc, &file, calls))
+}
+
+#[test]
+fn readers_are_blamed_at_each_call(rt: HostRuntime) {
+    assert!(rt; are_readers_blamed(rt.alloc()) == Ok(true));
+}
+
+// What stands written where a writer of one byte a call fails at its nth.
+fn is_front_saved(alloc: Global, service: &Service<Sha1Naming>, file: &[u8], nth: usize) -> bool {
+    let mut writer = Counted::new(FailingWriter::new(Vec::new(alloc), nth as u64));
+    let answer = service.save(&mut writer);
+    let written = writer.into_inner().into_inner();
+    answer == Err(Fault::Device) && Some(written.as_slice()) == file.get(..nth)
+}
+
+fn are_fronts_saved_of(alloc: Global, service: &Service<Sha1Naming>, file: &[u8]) -> bool {
+    for nth in 0..file.len() {
+        if !is_front_saved(alloc, service, file, nth) {
+            return false;
+        }
+    }
+    true
+}
+
+fn are_fronts_saved(alloc: Global) -> Result<bool, Fault> {
+    let file = file_of(alloc, 3)?;
+    let service = load(alloc, file.as_slice())?;
+    Ok(are_fronts_saved_of(alloc, &service, &file))
+}
+
+#[test]
+fn a_front_is_saved_where_a_writer_fails(rt: HostRuntime) {
+    assert!(rt; are_fronts_saved(rt.alloc()) == Ok(true));
+}
