@@ -5,3 +5,4 @@ pub mod Answers
 pub mod CommitsAt
 pub mod Orders
 pub mod LogOrder
+pub mod HeaderLines

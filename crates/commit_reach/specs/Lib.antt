@@ -1,3 +1,4 @@
 -- In reading order.
 pub mod Marks
 pub mod Logs
+pub mod HeaderLines

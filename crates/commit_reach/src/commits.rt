@@ -4,9 +4,9 @@ ghost use Rattle.std.specs.Prelude.{◌≡◌, ◌<◌, length, true, false, Mat
 ghost use Rattle.git_model.specs.References.{place_of, object_at, parents_of};
 ghost use Rattle.git_model.specs.GoodRepository.{AreObjects};
 ghost use Rattle.git_model.specs.Peeling.{is_of};
-ghost use Rattle.git_model.specs.Commit.{Commit, CanWriteCommit, commit_contents};
 
-use git_objects::{Kind, Memory, Name, Naming, read_commit};
+use crate::lines::parents_in;
+use git_objects::{Kind, Memory, Name, Naming};
 use objects_in_sight::Objects;
 use std::alloc::Global;
 
@@ -45,15 +45,4 @@ pub fn parents_at<N: Naming>(
     }
     let parents = parents_in(alloc, contents)?;
     Ok(parents)
-}
-
-// The names of the parents that a commit's contents give.
-fn parents_in(alloc: Global, contents: &[u8]) -> Result<Vec<Name>, Memory>
-    ensures { (c : Commit) → CanWriteCommit c → contents.now ≡ commit_contents c
-        → IfOk result (λ parents. parents.items ≡ c.parents) }
-{
-    match read_commit(alloc, contents)? {
-        Some(parts) => Ok(parts.ancestors),
-        None => Ok(Vec::new(alloc)),
-    }
 }

@@ -6,10 +6,13 @@
 #![tactic(auto)]
 
 mod commits;
+mod digits;
+mod lines;
 mod log;
 mod log_key;
 mod marks;
 mod reach;
 
+pub use lines::first_parent_in;
 pub use log::{a_log_is_one_list, log_of};
 pub use reach::{reached_from, reaches};

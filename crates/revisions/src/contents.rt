@@ -12,6 +12,7 @@ ghost use Rattle.git_model.specs.Tree.{TreeEntry as Entry, CanWriteTree, tree_co
 ghost use Rattle.git_model.specs.TreeReading.{tree_read};
 ghost use Rattle.git_objects.specs.Parts.{entry_of, entries_of};
 
+use commit_reach::first_parent_in;
 use git_objects::{Memory, Name, TreeEntry, read_commit, read_tag, read_tree};
 use std::alloc::Global;
 
@@ -39,7 +40,8 @@ pub(crate) fn tree_in(alloc: Global, contents: &[u8]) -> Result<Option<Name>, Me
 }
 
 /// The parent of a commit at a position, counted from 0; `None` from the number of its parents on.
-/// `Memory` (90) where there is no room to read the commit.
+/// The first one is read alone, since steps go by it. `Memory` (90) where there is no room to read
+/// the commit.
 pub(crate) fn parent_in(
     alloc: Global,
     contents: &[u8],
@@ -48,6 +50,9 @@ pub(crate) fn parent_in(
     ensures { (c : Commit) → CanWriteCommit c → contents.now ≡ commit_contents c
         → IfOk result (λ r. r ≡ slice_get (commit_read contents.now).parents position) }
 {
+    if position == 0 {
+        return Ok(first_parent_in(contents));
+    }
     match read_commit(alloc, contents)? {
         Some(parts) => Ok(parts.ancestors.get(position).copied()),
         None => Ok(None),
