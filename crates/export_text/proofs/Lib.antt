@@ -2,6 +2,7 @@ pub mod Reaching
 pub mod Pieces
 pub mod Marked
 pub mod Listing
+pub mod Again
 pub mod Flagged
 pub mod Standing
 pub mod ReadBack

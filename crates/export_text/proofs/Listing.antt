@@ -1,36 +1,135 @@
--- The files of a stored tree as items, entry by entry.
-use Rattle.std.proofs.Common.{◌≡◌, ◌≢◌, ℕ, suc, ◌+◌, ◌<◌, ◌≤◌, List, [], ◌∷◌, ◌++◌, length, get_or, map, take, Some, All, refl, sym, ap, ◌∙◌, subst, arith, append-nil}
+-- The lines of a stored tree's files, entry by entry, and that they are those of its file map.
+use Rattle.std.proofs.Common.{◌≡◌, ◌≢◌, ℕ, zero, suc, ◌+◌, ◌<◌, ◌≤◌, List, [], ◌∷◌, ◌++◌, length, get_or, map, take, Some, codes, refl, sym, ap, ◌∙◌, append-nil}
 use Rattle.std.specs.List.{flat_map}
 use Rattle.std.proofs.lemmas.Grind.{flat_map-append}
-use Rattle.std.proofs.lemmas.List.{append_assoc, map-append, take_all, get_or-map, length-map}
+use Rattle.std.proofs.lemmas.List.{append_assoc, map-append, take_all}
 use Rattle.git_model.specs.declared.file_mode.FileMode.{FileMode}
 use Rattle.git_model.specs.declared.file_mode.FileMode.TheVariants as mode
 use Rattle.git_model.specs.declared.kind.Kind.TheVariants as kind
-use Rattle.git_model.specs.Tree.{TreeEntry, CanWriteEntry, IsEntryName}
+use Rattle.git_model.specs.Modes.{six_digits}
+use Rattle.git_model.specs.Tree.{TreeEntry}
 use Rattle.git_model.specs.Repository.{Object}
 use Rattle.git_model.specs.References.{kind_named}
 use Rattle.git_model.specs.GoodRepository.{AreObjects}
 use Rattle.git_model.specs.StoredPath.{entries_of}
 use Rattle.git_objects.specs.declared.tree_entry.TreeEntry as entry
 use Rattle.git_objects.specs.Parts.{entry_of, entries_of as parts_of}
+use Rattle.git_paths.specs.Paths.{joined}
+use Rattle.git_paths.specs.Quoting.{quoted}
 use Rattle.tree_build.specs.FileMap.{Path, Listed, listed}
 use Rattle.tree_build.specs.Edits.{moved}
 use Rattle.tree_build.specs.StoredTree.{file_from}
 use Rattle.tree_build.specs.StoredFiles.{listed_by, listed_within, stored_files, stored_map}
 use Rattle.tree_build.proofs.GoodObjects.{files-of}
 use Rattle.tree_build.proofs.ListedOrder.{tree-in-order, listed-with}
-use Rattle.stream_lex.specs.Items.{Item}
+use Rattle.stream_lex.specs.Items.{Item, Line}
 use Rattle.export_text.specs.ItemText.{items_text}
-use Rattle.export_text.specs.ExportItems.{item_of_file, file_item}
-use Rattle.export_text.proofs.Pieces.{two, next-of}
+use Rattle.export_text.specs.ExportItems.{dataref_text, item_of_file}
+use Rattle.export_text.specs.Lines.{prefix_below, file_line, lines_by, lines_within}
+use Rattle.export_text.proofs.Again.{no-lines}
+use Rattle.export_text.proofs.Pieces.{text-append, next-of}
+
+-- The lines of entries, with so many levels below them.
+abbrev pub lines_from : List Object → ℕ → List ℕ → List TreeEntry → List ℕ
+lines_from os n prefix es =
+    flat_map (λ e. lines_by os e.mode prefix e (lines_within os n (prefix_below prefix e.name) e.id)) es
+
+one_file : (os : List Object) (m : FileMode) (prefix : List ℕ) (e : TreeEntry) (below : List ℕ)
+    → m ≢ mode.Directory → lines_by os m prefix e below ≡ file_line os prefix e
+one_file os mode.Directory prefix e below ne = absurd (ne refl)
+one_file os mode.Regular prefix e below ne = refl
+one_file os mode.Executable prefix e below ne = refl
+one_file os mode.Symlink prefix e below ne = refl
+one_file os mode.Gitlink prefix e below ne = refl
+
+-- ---- one entry more
+
+module _ (os : List Object) (n : ℕ) (prefix : List ℕ) (es : List entry.TreeEntry) (i : ℕ)
+    (e : entry.TreeEntry) (lt : i < length es) (is : e ≡ get_or es i e) where
+  abbrev below : List ℕ
+  below = lines_within os n (prefix_below prefix e.name.now) e.id
+
+  lines-next : lines_from os n prefix (parts_of (take (i + 1) es))
+      ≡ lines_from os n prefix (parts_of (take i es)) ++ lines_by os e.mode prefix (entry_of e) below
+  lines-next =
+      let f : TreeEntry → List ℕ = λ x. lines_by os x.mode prefix x (lines_within os n (prefix_below prefix x.name) x.id) in
+      ap (λ xs. flat_map f (map entry_of xs)) (next-of es i e lt is)
+      ∙ ap (flat_map f) (map-append entry_of (take i es) (e ∷ []))
+      ∙ flat_map-append f (map entry_of (take i es)) (entry_of e ∷ [])
+      ∙ ap (λ last. flat_map f (map entry_of (take i es)) ++ last) (append-nil _)
+
+  turn : (last old mid new : List ℕ) → lines_by os e.mode prefix (entry_of e) below ≡ last
+      → mid ≡ old ++ lines_from os n prefix (parts_of (take i es)) → new ≡ mid ++ last
+      → new ≡ old ++ lines_from os n prefix (parts_of (take (i + 1) es))
+  turn last old mid new same before later =
+      later ∙ ap (λ front. front ++ last) before
+      ∙ append_assoc old (lines_from os n prefix (parts_of (take i es))) last
+      ∙ ap (λ l. old ++ (lines_from os n prefix (parts_of (take i es)) ++ l)) (sym same)
+      ∙ ap (λ text. old ++ text) (sym lines-next)
+
+  pub file-turn : (now old mid new : List ℕ) → e.mode ≢ mode.Directory → now ≡ prefix
+      → mid ≡ old ++ lines_from os n prefix (parts_of (take i es))
+      → new ≡ mid ++ file_line os now (entry_of e)
+      → new ≡ old ++ lines_from os n prefix (parts_of (take (i + 1) es))
+  file-turn now old mid new ne at before later =
+      turn (file_line os prefix (entry_of e)) old mid new (one_file os e.mode prefix (entry_of e) below ne)
+      before (later ∙ ap (λ (p : List ℕ). mid ++ file_line os p (entry_of e)) at)
+
+  pub directory-turn : (inner old mid new : List ℕ) → e.mode ≡ mode.Directory
+      → inner ≡ prefix_below prefix e.name.now
+      → mid ≡ old ++ lines_from os n prefix (parts_of (take i es))
+      → new ≡ mid ++ lines_within os n inner e.id
+      → new ≡ old ++ lines_from os n prefix (parts_of (take (i + 1) es))
+  directory-turn inner old mid new is_directory at before later =
+      turn below old mid new
+      (ap (λ (m : FileMode). lines_by os m prefix (entry_of e) below) is_directory)
+      before (later ∙ ap (λ (p : List ℕ). mid ++ lines_within os n p e.id) at)
+
+-- ---- all entries, and all levels
+
+level-next : (os : List Object) (n : ℕ) (prefix tree : List ℕ)
+    → lines_within os (suc n) prefix tree ≡ lines_from os n prefix (entries_of os tree)
+unfolding lines_within
+level-next os n prefix tree = refl
+
+pub level-ends : (os : List Object) (levels n : ℕ) (prefix tree : List ℕ)
+    (es : List entry.TreeEntry) (i : ℕ) → levels ≡ suc n → length es ≤ i
+    → parts_of es ≡ entries_of os tree
+    → lines_from os n prefix (parts_of (take i es)) ≡ lines_within os levels prefix tree
+level-ends os levels n prefix tree es i is all are =
+    ap (λ xs. lines_from os n prefix (map entry_of xs)) (take_all i es all)
+    ∙ ap (lines_from os n prefix) are ∙ sym (level-next os n prefix tree)
+    ∙ ap (λ m. lines_within os m prefix tree) (sym is)
+
+pub no-level : (os : List Object) (levels : ℕ) (prefix tree : List ℕ) → levels ≡ 0
+    → lines_within os levels prefix tree ≡ []
+no-level os levels prefix tree is =
+    ap (λ n. lines_within os n prefix tree) is ∙ no-lines os prefix tree
+
+-- ---- the lines are those of the files, moved below their directories
 
 -- The items of files that are moved below a path.
-abbrev pub items_below : List Object → Path → Listed → List Item
+abbrev items_below : List Object → Path → Listed → List Item
 items_below os top files = map (item_of_file os) (moved top files)
 
--- What entries list, with so many levels below them.
-abbrev pub listed_from : List Object → ℕ → List TreeEntry → Listed
-listed_from os n es = flat_map (λ e. listed_by e.mode e (listed_within os n e.id)) es
+-- What stands before the name of an entry in its path.
+abbrev prefix_of : Path → List ℕ
+prefix_of top = flat_map (λ c. c ++ 47 ∷ []) top
+
+prefix-child : (top : Path) (c : List ℕ) → prefix_of (top ++ c ∷ []) ≡ prefix_below (prefix_of top) c
+prefix-child top c =
+    flat_map-append (λ (c : List ℕ). c ++ 47 ∷ []) top (c ∷ [])
+    ∙ ap (λ last. prefix_of top ++ last) (append-nil (c ++ 47 ∷ []))
+    ∙ sym (append_assoc (prefix_of top) c (47 ∷ []))
+
+joined-last : (top : Path) (name : List ℕ) → joined (top ++ name ∷ []) ≡ prefix_of top ++ name
+joined-last [] name = refl
+joined-last (c ∷ []) name =
+    sym (append_assoc c (47 ∷ []) name) ∙ ap (λ p. p ++ name) (sym (append-nil (c ++ 47 ∷ [])))
+joined-last (c ∷ d ∷ top) name =
+    ap (λ rest. c ++ 47 ∷ rest) (joined-last (d ∷ top) name)
+    ∙ sym (append_assoc c (47 ∷ []) (prefix_of (d ∷ top) ++ name))
+    ∙ sym (append_assoc (c ++ 47 ∷ []) (prefix_of (d ∷ top)) name)
 
 module _ (os : List Object) (top : Path) where
   below-append : (xs ys : Listed) → items_below os top (xs ++ ys)
@@ -46,106 +145,56 @@ module _ (os : List Object) (top : Path) where
       ap (λ (p : Path). item_of_file os (p, f.1) ∷ items_below os top (moved (c ∷ []) files)) (sym (append_assoc top (c ∷ []) f.0))
       ∙ ap (λ is. item_of_file os ((top ++ c ∷ []) ++ f.0, f.1) ∷ is) (twice c files)
 
-one_file : (m : FileMode) (e : TreeEntry) (b : Listed) → m ≢ mode.Directory
-    → listed_by m e b ≡ file_from e ∷ []
-one_file mode.Directory e b ne = absurd (ne refl)
-one_file mode.Regular e b ne = refl
-one_file mode.Executable e b ne = refl
-one_file mode.Symlink e b ne = refl
-one_file mode.Gitlink e b ne = refl
+  own : (e : TreeEntry)
+      → items_text (items_below os top (file_from e ∷ [])) ≡ file_line os (prefix_of top) e
+  own e =
+      ap (λ (path : List ℕ). items_text (Line (codes "M " ++ six_digits e.mode ++ codes " " ++ dataref_text os e.mode e.id ++ codes " " ++ quoted path) ∷ []))
+      (joined-last top e.name)
 
--- ---- one entry more
+  each : (m : FileMode) (e : TreeEntry) (files : Listed) (text : List ℕ)
+      → items_text (items_below os (top ++ e.name ∷ []) files) ≡ text
+      → items_text (items_below os top (listed_by m e files)) ≡ lines_by os m (prefix_of top) e text
+  each mode.Directory e files text is = ap items_text (twice e.name files) ∙ is
+  each mode.Regular e files text is = own e
+  each mode.Executable e files text is = own e
+  each mode.Symlink e files text is = own e
+  each mode.Gitlink e files text is = own e
 
-module _ (os : List Object) (n : ℕ) (top : Path) (es : List entry.TreeEntry) (i : ℕ)
-    (e : entry.TreeEntry) (lt : i < length es) (is : e ≡ get_or es i e) where
-  listed-next : listed_from os n (parts_of (take (i + 1) es))
-      ≡ listed_from os n (parts_of (take i es)) ++ listed_by e.mode (entry_of e) (listed_within os n e.id)
-  listed-next =
-      let f : TreeEntry → Listed = λ x. listed_by x.mode x (listed_within os n x.id) in
-      ap (λ xs. flat_map f (map entry_of xs)) (next-of es i e lt is)
-      ∙ ap (flat_map f) (map-append entry_of (take i es) (e ∷ []))
-      ∙ flat_map-append f (map entry_of (take i es)) (entry_of e ∷ [])
-      ∙ ap (λ last. flat_map f (map entry_of (take i es)) ++ last) (append-nil _)
+  over : (n : ℕ) → ((c id : List ℕ) → items_text (items_below os (top ++ c ∷ []) (listed_within os n id))
+      ≡ lines_within os n (prefix_below (prefix_of top) c) id) → (es : List TreeEntry)
+      → items_text (items_below os top (flat_map (λ e. listed_by e.mode e (listed_within os n e.id)) es))
+      ≡ lines_from os n (prefix_of top) es
+  over n inner [] = refl
+  over n inner (e ∷ es) =
+      let first : Listed = listed_by e.mode e (listed_within os n e.id) in
+      let others : Listed = flat_map (λ e. listed_by e.mode e (listed_within os n e.id)) es in
+      ap items_text (below-append first others)
+      ∙ text-append (items_below os top first) (items_below os top others)
+      ∙ ap (λ text. text ++ items_text (items_below os top others))
+      (each e.mode e (listed_within os n e.id) (lines_within os n (prefix_below (prefix_of top) e.name) e.id) (inner e.name e.id))
+      ∙ ap (λ rest. lines_by os e.mode (prefix_of top) e (lines_within os n (prefix_below (prefix_of top) e.name) e.id) ++ rest)
+      (over n inner es)
 
-  next : (last : List Item)
-      → items_below os top (listed_by e.mode (entry_of e) (listed_within os n e.id)) ≡ last
-      → items_below os top (listed_from os n (parts_of (take (i + 1) es)))
-      ≡ items_below os top (listed_from os n (parts_of (take i es))) ++ last
-  next last same =
-      ap (items_below os top) listed-next
-      ∙ below-append os top (listed_from os n (parts_of (take i es))) (listed_by e.mode (entry_of e) (listed_within os n e.id))
-      ∙ ap (λ l. items_below os top (listed_from os n (parts_of (take i es))) ++ l) same
-
-  pub file-turn : (path : Path) (old mid new : List ℕ) → path ≡ top ++ e.name.now ∷ []
-      → e.mode ≢ mode.Directory
-      → mid ≡ old ++ items_text (items_below os top (listed_from os n (parts_of (take i es))))
-      → new ≡ mid ++ items_text (file_item os path (record { mode = e.mode; name = e.id }) ∷ [])
-      → new ≡ old ++ items_text (items_below os top (listed_from os n (parts_of (take (i + 1) es))))
-  file-turn path old mid new at ne before later =
-      two old mid new _ (file_item os path (record { mode = e.mode; name = e.id }) ∷ []) before later
-      ∙ ap (λ is. old ++ items_text is) (sym (next _ last))
-    where
-      last : items_below os top (listed_by e.mode (entry_of e) (listed_within os n e.id))
-          ≡ file_item os path (record { mode = e.mode; name = e.id }) ∷ []
-      last =
-          ap (items_below os top) (one_file e.mode (entry_of e) (listed_within os n e.id) ne)
-          ∙ ap (λ (p : Path). file_item os p (record { mode = e.mode; name = e.id }) ∷ []) (sym at)
-
-  pub directory-turn : (path : Path) (old mid new : List ℕ) → path ≡ top ++ e.name.now ∷ []
-      → e.mode ≡ mode.Directory
-      → mid ≡ old ++ items_text (items_below os top (listed_from os n (parts_of (take i es))))
-      → new ≡ mid ++ items_text (items_below os path (listed_within os n e.id))
-      → new ≡ old ++ items_text (items_below os top (listed_from os n (parts_of (take (i + 1) es))))
-  directory-turn path old mid new at is_directory before later =
-      two old mid new _ (items_below os path (listed_within os n e.id)) before later
-      ∙ ap (λ is. old ++ items_text is) (sym (next _ last))
-    where
-      last : items_below os top (listed_by e.mode (entry_of e) (listed_within os n e.id))
-          ≡ items_below os path (listed_within os n e.id)
-      last =
-          ap (λ (m : FileMode). items_below os top (listed_by m (entry_of e) (listed_within os n e.id))) is_directory
-          ∙ twice os top e.name.now (listed_within os n e.id)
-          ∙ ap (λ (p : Path). items_below os p (listed_within os n e.id)) (sym at)
-
--- ---- all entries, and all levels
-
-level-next : (os : List Object) (n : ℕ) (tree : List ℕ)
-    → listed_within os (suc n) tree ≡ listed_from os n (entries_of os tree)
-unfolding listed_within
-level-next os n tree = refl
-
-pub level-ends : (os : List Object) (levels n : ℕ) (tree : List ℕ) (es : List entry.TreeEntry) (i : ℕ)
-    → levels ≡ suc n → length es ≤ i → parts_of es ≡ entries_of os tree
-    → listed_from os n (parts_of (take i es)) ≡ listed_within os levels tree
-level-ends os levels n tree es i is all are =
-    ap (λ xs. listed_from os n (map entry_of xs)) (take_all i es all) ∙ ap (listed_from os n) are
-    ∙ sym (level-next os n tree) ∙ ap (λ m. listed_within os m tree) (sym is)
-
-no-files : (os : List Object) (tree : List ℕ) → listed_within os 0 tree ≡ []
-unfolding listed_within
-no-files os tree = refl
-
-pub no-level : (os : List Object) (levels : ℕ) (top : Path) (tree : List ℕ) → levels ≡ 0
-    → items_below os top (listed_within os levels tree) ≡ []
-no-level os levels top tree is =
-    ap (λ n. items_below os top (listed_within os n tree)) is ∙ ap (items_below os top) (no-files os tree)
-
-pub component : (es : List entry.TreeEntry) (i : ℕ) (e : entry.TreeEntry)
-    → All CanWriteEntry (parts_of es) → i < length es → e ≡ get_or es i e → IsEntryName e.name.now
-component es i e all lt is =
-    (subst CanWriteEntry (get_or-map entry_of es i e (entry_of e) lt ∙ ap entry_of (sym is))
-    (all i (entry_of e) (let n = length-map es entry_of in omega arith))).name
+lines-of : (os : List Object) (n : ℕ) (top : Path) (tree : List ℕ)
+    → items_text (items_below os top (listed_within os n tree)) ≡ lines_within os n (prefix_of top) tree
+unfolding listed_within lines_within
+lines-of os zero top tree = refl
+lines-of os (suc n) top tree =
+    over os top n
+    (λ c id. lines-of os n (top ++ c ∷ []) id ∙ ap (λ (p : List ℕ). lines_within os n p id) (prefix-child top c))
+    (entries_of os tree)
 
 at_root : (os : List Object) (files : Listed) → items_below os [] files ≡ map (item_of_file os) files
 at_root os [] = refl
 at_root os (f ∷ files) = ap (λ is. item_of_file os f ∷ is) (at_root os files)
 
--- the files of a good tree in the order of their map
-pub all-listed : (digest : List ℕ → List ℕ) (os : List Object) → AreObjects digest os
+-- the lines of a good tree are those of its file map, in the order of the map
+pub all-lines : (digest : List ℕ → List ℕ) (os : List Object) → AreObjects digest os
     → (tree : List ℕ) → kind_named tree os ≡ Some kind.Tree
-    → items_below os [] (stored_files os tree) ≡ map (item_of_file os) (listed (stored_map os tree))
-all-listed digest os good tree is =
+    → lines_within os (length os) [] tree ≡ items_text (map (item_of_file os) (listed (stored_map os tree)))
+all-lines digest os good tree is =
     let lists = (files-of digest os good tree is).listed in
-    at_root os (stored_files os tree)
+    sym (lines-of os (length os) [] tree)
+    ∙ ap items_text (at_root os (stored_files os tree)
     ∙ ap (map (item_of_file os)) (sym (listed-with (stored_files os tree)
-    (tree-in-order os tree (stored_files os tree) lists)))
+    (tree-in-order os tree (stored_files os tree) lists))))

@@ -17,6 +17,11 @@ kept_twice old mid new first later =
     kept_front old mid new (drop (length old) mid)
     (sym (take-append-drop (length old) mid) ∙ ap (λ front. front ++ drop (length old) mid) first) later
 
+pub kept_thrice : (old n₁ n₂ new : List ℕ) → take (length old) n₁ ≡ old → take (length n₁) n₂ ≡ n₁
+    → take (length n₂) new ≡ n₂ → take (length old) new ≡ old
+kept_thrice old n₁ n₂ new first next last =
+    kept_twice old n₂ new (kept_twice old n₁ n₂ first next) last
+
 pub two : (old mid new : List ℕ) (xs ys : List Item) → mid ≡ old ++ items_text xs
     → new ≡ mid ++ items_text ys → new ≡ old ++ items_text (xs ++ ys)
 two old mid new xs ys first later =

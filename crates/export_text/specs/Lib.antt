@@ -8,3 +8,4 @@ pub mod Export
 pub mod ExportActs
 pub mod Limits
 pub mod Marking
+pub mod Lines

@@ -9,10 +9,12 @@ ghost use Rattle.git_model.specs.declared.kind.Kind.TheVariants as kind;
 ghost use Rattle.git_objects.specs.Parts.{commit_of};
 ghost use Rattle.export_text.specs.ItemText.{items_text};
 ghost use Rattle.export_text.specs.ExportItems.{commit_head, commit_items, fresh_branch, marked, parent_items};
+ghost use Rattle.export_text.specs.Lines.{AreTold};
 
 use crate::file_text::append_all_files;
 use crate::item_text::{append_blank, append_data, append_line, append_line_if};
 use crate::mark_text::append_marked;
+use crate::told::Directories;
 use git_objects::{CommitParts, Memory, Name, Naming, read_commit};
 use objects_in_sight::Objects;
 use std::alloc::Global;
@@ -88,18 +90,21 @@ fn append_parts_of_commit<N: Naming>(
     objects: &Objects<'_, N>,
     id: &Name,
     parts: &CommitParts<'_>,
+    told: &mut Directories,
     out: &mut Vec<u8>,
 ) -> Result<(), Memory>
-    ensures written { AreObjects N.digest_of objects.now
+    ensures written { AreObjects N.digest_of objects.now → AreTold objects.now out.old.items told.old
         → kind_named parts.now.tree objects.now ≡ Some kind.Tree
         → OnOk result (out.new.items
         ≡ out.old.items ++ items_text (commit_items objects.now id.now (commit_of parts.now))) }
+    ensures in_mind { AreObjects N.digest_of objects.now → AreTold objects.now out.old.items told.old
+        → OnOk result (AreTold objects.now out.new.items told.new) }
     ensures kept { take (length out.old.items) out.new.items ≡ out.old.items }
 {
     append_head(objects, id, parts, out)?;
     append_data(parts.message, out)?;
     append_parents(objects, &parts.ancestors, out)?;
-    append_all_files(alloc, objects, &parts.tree, out)?;
+    append_all_files(alloc, objects, &parts.tree, told, out)?;
     append_blank(out)
 }
 
@@ -110,17 +115,21 @@ pub fn append_commit<N: Naming>(
     objects: &Objects<'_, N>,
     id: &Name,
     contents: &[u8],
+    told: &mut Directories,
     out: &mut Vec<u8>,
 ) -> Result<(), Memory>
-    ensures written { AreObjects N.digest_of objects.now → (c : Commit) → CanWriteCommit c
+    ensures written { AreObjects N.digest_of objects.now → AreTold objects.now out.old.items told.old
+        → (c : Commit) → CanWriteCommit c
         → contents.now ≡ commit_contents c
         → kind_named (commit_read contents.now).tree objects.now ≡ Some kind.Tree
         → OnOk result (out.new.items
         ≡ out.old.items ++ items_text (commit_items objects.now id.now (commit_read contents.now))) }
+    ensures in_mind { AreObjects N.digest_of objects.now → AreTold objects.now out.old.items told.old
+        → OnOk result (AreTold objects.now out.new.items told.new) }
     ensures kept { take (length out.old.items) out.new.items ≡ out.old.items }
 {
     match read_commit(alloc, contents)? {
-        Some(parts) => append_parts_of_commit(alloc, objects, id, &parts, out),
+        Some(parts) => append_parts_of_commit(alloc, objects, id, &parts, told, out),
         None => Ok(()),
     }
 }

@@ -1,25 +1,26 @@
 //! The files of a commit in a stream: git-fast-import(1), `M` and `deleteall`.
 
-ghost use Rattle.std.specs.Prelude.{◌≡◌, ◌++◌, [], ◌∷◌, All, List, length, map, take, IfOk, OnOk, Some};
+ghost use Rattle.std.specs.Prelude.{◌≡◌, ◌++◌, All, List, length, take, IfOk, OnOk, Some};
 ghost use Rattle.git_model.specs.declared.kind.Kind.TheVariants as kind;
 ghost use Rattle.git_model.specs.GoodRepository.{AreObjects, IsValid};
 ghost use Rattle.git_model.specs.References.{kind_named};
 ghost use Rattle.git_model.specs.Repository.{Object};
 ghost use Rattle.git_model.specs.StoredPath.{entries_in as stored_entries_in, entries_of as stored_entries};
-ghost use Rattle.git_model.specs.Tree.{TreeEntry as Entry, CanWriteEntry, CanWriteTree, IsEntryName, tree_contents};
+ghost use Rattle.git_model.specs.Tree.{TreeEntry as Entry, CanWriteEntry, CanWriteTree, tree_contents};
 ghost use Rattle.git_model.specs.TreeReading.{tree_read};
-ghost use Rattle.git_objects.specs.Parts.{entries_of};
-ghost use Rattle.tree_build.specs.Edits.{moved};
-ghost use Rattle.tree_build.specs.StoredFiles.{listed_within};
+ghost use Rattle.git_objects.specs.Parts.{entry_of, entries_of};
+ghost use Rattle.git_paths.specs.Quoting.{quoted};
 ghost use Rattle.export_text.specs.ItemText.{items_text};
-ghost use Rattle.export_text.specs.ExportItems.{dataref_text, file_item, file_items, item_of_file};
+ghost use Rattle.export_text.specs.ExportItems.{dataref_text, file_items};
+ghost use Rattle.export_text.specs.Lines.{AreTold, file_line, lines_within, prefix_below};
 
 use crate::item_text::append_line;
 use crate::mark_text::append_mark;
+use crate::told::{Directories, Lines};
 use git_objects::{
     FileMode, Kind, Memory, Name, Naming, TreeEntry, append_parts, read_tree, six_digits,
 };
-use git_paths::Path;
+use git_paths::quote_into;
 use objects_in_sight::Objects;
 use std::alloc::Global;
 
@@ -40,20 +41,35 @@ fn append_dataref<N: Naming>(
     }
 }
 
+// Appends a path, in quotes where it needs them. The name stands behind the prefix meanwhile.
+fn append_path(prefix: &mut Vec<u8>, name: &[u8], out: &mut Vec<u8>) -> Result<(), Memory>
+    ensures written { OnOk result (out.new.items
+        ≡ out.old.items ++ quoted (prefix.old.items ++ name.now)) }
+    ensures prefix { OnOk result (prefix.new.items ≡ prefix.old.items) }
+    ensures kept { take (length out.old.items) out.new.items ≡ out.old.items }
+{
+    let above = prefix.len();
+    prefix.extend_from_slice(name)?;
+    quote_into(prefix, out)?;
+    prefix.truncate(above);
+    Ok(())
+}
+
 fn append_file<N: Naming>(
     objects: &Objects<'_, N>,
-    path: &Path,
+    prefix: &mut Vec<u8>,
     entry: &TreeEntry<'_>,
     out: &mut Vec<u8>,
 ) -> Result<(), Memory>
-    ensures written { OnOk result (out.new.items ≡ out.old.items ++ items_text (file_item objects.now
-        path.now (record { mode = entry.now.mode; name = entry.now.id }) ∷ [])) }
+    ensures written { OnOk result (out.new.items
+        ≡ out.old.items ++ file_line objects.now prefix.old.items (entry_of entry.now)) }
+    ensures prefix { OnOk result (prefix.new.items ≡ prefix.old.items) }
     ensures kept { take (length out.old.items) out.new.items ≡ out.old.items }
 {
     append_parts(&[b"M ", six_digits(entry.mode), b" "], out)?;
     append_dataref(objects, entry.mode, &entry.id, out)?;
     out.push(b' ')?;
-    path.quote_into(out)?;
+    append_path(prefix, entry.name, out)?;
     out.push(b'\n')?;
     Ok(())
 }
@@ -97,57 +113,73 @@ fn entries_of<'a, N: Naming>(
     }
 }
 
-fn child(alloc: Global, top: &Path, name: &[u8]) -> Result<Path, Memory>
-    requires { IsEntryName name.now }
-    ensures { IfOk result (λ path. path ≡ top.now ++ name.now ∷ []) }
+// Puts a directory's name behind the prefix of its entry.
+fn enter(prefix: &mut Vec<u8>, name: &[u8]) -> Result<(), Memory>
+    ensures { OnOk result (prefix.new.items ≡ prefix_below prefix.old.items name.now) }
 {
-    Ok(top.child(alloc, name)?)
+    append_parts(&[name, b"/"], prefix)
 }
 
-// Appends the files of a tree, each below a path. A directory's tree stands before its own, so
-// there are fewer levels than objects.
+// Appends the files of a tree, each below a prefix: again, where they were written before. A
+// directory's tree stands before its own, so there are fewer levels than objects.
 fn append_files<N: Naming>(
     alloc: Global,
     objects: &Objects<'_, N>,
     levels: usize,
-    top: &Path,
+    prefix: &mut Vec<u8>,
     tree: &Name,
+    told: &mut Directories,
     out: &mut Vec<u8>,
 ) -> Result<(), Memory>
-    ensures written { AreObjects N.digest_of objects.now → OnOk result (out.new.items
-        ≡ out.old.items ++ items_text (map (item_of_file objects.now)
-        (moved top.now (listed_within objects.now levels tree.now)))) }
+    ensures written { AreObjects N.digest_of objects.now → AreTold objects.now out.old.items told.old
+        → OnOk result (out.new.items
+        ≡ out.old.items ++ lines_within objects.now levels prefix.old.items tree.now) }
+    ensures in_mind { AreObjects N.digest_of objects.now → AreTold objects.now out.old.items told.old
+        → OnOk result (AreTold objects.now out.new.items told.new) }
+    ensures prefix { OnOk result (prefix.new.items ≡ prefix.old.items) }
     ensures kept { take (length out.old.items) out.new.items ≡ out.old.items }
 {
     if levels == 0 {
         return Ok(());
     }
+    if told.append_again(alloc, levels, prefix, tree, out)? {
+        return Ok(());
+    }
+    let start = out.len();
+    let above = prefix.len();
     let entries = entries_of(alloc, objects, tree)?;
     for entry in &entries {
-        let path = child(alloc, top, entry.name)?;
         match entry.mode {
             FileMode::Directory => {
-                append_files(alloc, objects, levels - 1, &path, &entry.id, out)?
+                enter(prefix, entry.name)?;
+                append_files(alloc, objects, levels - 1, prefix, &entry.id, told, out)?;
+                prefix.truncate(above);
             }
-            _ => append_file(objects, &path, entry, out)?,
+            _ => append_file(objects, prefix, entry, out)?,
         }
     }
-    Ok(())
+    let end = out.len();
+    told.keep(alloc, levels, prefix, tree, Lines { start, end })
 }
 
 /// Appends all files of a tree, in the order of the paths' bytes, in place of what was there; as
-/// `append_parts` after `Memory` (90).
+/// `append_parts` after `Memory` (90). The lines of directories that were told are copied, and those
+/// of the others are told then.
 pub fn append_all_files<N: Naming>(
     alloc: Global,
     objects: &Objects<'_, N>,
     tree: &Name,
+    told: &mut Directories,
     out: &mut Vec<u8>,
 ) -> Result<(), Memory>
-    ensures written { AreObjects N.digest_of objects.now
+    ensures written { AreObjects N.digest_of objects.now → AreTold objects.now out.old.items told.old
         → kind_named tree.now objects.now ≡ Some kind.Tree → OnOk result (out.new.items
         ≡ out.old.items ++ items_text (file_items objects.now tree.now)) }
+    ensures in_mind { AreObjects N.digest_of objects.now → AreTold objects.now out.old.items told.old
+        → OnOk result (AreTold objects.now out.new.items told.new) }
     ensures kept { take (length out.old.items) out.new.items ≡ out.old.items }
 {
     append_line(b"deleteall", b"", out)?;
-    append_files(alloc, objects, objects.len(), &Path::root(alloc), tree, out)
+    let mut prefix = Vec::new(alloc);
+    append_files(alloc, objects, objects.len(), &mut prefix, tree, told, out)
 }

@@ -18,6 +18,7 @@ mod ref_text;
 mod referring;
 mod tag_refs;
 mod tag_text;
+mod told;
 
 pub use export::append_export;
 pub use fault::Fault;

@@ -8,12 +8,14 @@ ghost use Rattle.git_model.specs.Repository.{Repository};
 ghost use Rattle.export_text.specs.ItemText.{items_text};
 ghost use Rattle.export_text.specs.Export.{object_items};
 ghost use Rattle.export_text.specs.ExportItems.{blob_items, items_of, items_of_object};
+ghost use Rattle.export_text.specs.Lines.{AreTold};
 ghost use Rattle.export_text.specs.Marking.{reached_flags};
 
 use crate::commit_text::append_commit;
 use crate::item_text::{append_data, append_line};
 use crate::mark_text::append_marked;
 use crate::tag_text::append_tag;
+use crate::told::Directories;
 use git_objects::{Kind, Memory, Name, Naming};
 use objects_in_sight::Objects;
 use std::alloc::Global;
@@ -40,19 +42,22 @@ fn append_content<N: Naming>(
     id: Name,
     kind: Kind,
     contents: &[u8],
+    told: &mut Directories,
     out: &mut Vec<u8>,
 ) -> Result<(), Memory>
-    ensures written { (place : ℕ) → AreObjects N.digest_of objects.now
+    ensures written { (place : ℕ) → AreObjects N.digest_of objects.now → AreTold objects.now out.old.items told.old
         → IsValid objects.now kind contents.now
         → All (StandsBefore objects.now place) (references_of kind contents.now)
         → OnOk result (out.new.items
         ≡ out.old.items ++ items_text (items_of objects.now id kind contents.now)) }
+    ensures in_mind { AreObjects N.digest_of objects.now → AreTold objects.now out.old.items told.old
+        → OnOk result (AreTold objects.now out.new.items told.new) }
     ensures kept { take (length out.old.items) out.new.items ≡ out.old.items }
 {
     match kind {
         Kind::Blob => append_blob(objects, &id, contents, out),
         Kind::Tree => Ok(()),
-        Kind::Commit => append_commit(alloc, objects, &id, contents, out),
+        Kind::Commit => append_commit(alloc, objects, &id, contents, told, out),
         Kind::Tag => append_tag(alloc, objects, Some(id), contents, out),
     }
 }
@@ -62,17 +67,21 @@ fn append_object<N: Naming>(
     alloc: Global,
     objects: &Objects<'_, N>,
     place: usize,
+    told: &mut Directories,
     out: &mut Vec<u8>,
 ) -> Result<(), Memory>
-    ensures written { AreObjects N.digest_of objects.now → place < length objects.now
+    ensures written { AreObjects N.digest_of objects.now → AreTold objects.now out.old.items told.old
+        → place < length objects.now
         → OnOk result (out.new.items ≡ out.old.items
         ++ items_text (items_of_object objects.now (object_at place objects.now))) }
+    ensures in_mind { AreObjects N.digest_of objects.now → AreTold objects.now out.old.items told.old
+        → OnOk result (AreTold objects.now out.new.items told.new) }
     ensures kept { take (length out.old.items) out.new.items ≡ out.old.items }
 {
     let Some(found) = objects.at(place) else {
         return Ok(());
     };
-    append_content(alloc, objects, found.0, found.1, found.2, out)
+    append_content(alloc, objects, found.0, found.1, found.2, told, out)
 }
 
 /// Appends the objects that have a flag, in their order; as `append_parts` after `Memory` (90).
@@ -88,9 +97,10 @@ pub fn append_objects<N: Naming>(
         → OnOk result (out.new.items ≡ out.old.items ++ items_text (object_items r)) }
     ensures kept { take (length out.old.items) out.new.items ≡ out.old.items }
 {
+    let mut told = Directories::among(alloc, objects.len())?;
     for (place, is_reached) in reached.iter().enumerate() {
         if *is_reached {
-            append_object(alloc, objects, place, out)?;
+            append_object(alloc, objects, place, &mut told, out)?;
         }
     }
     Ok(())

@@ -15,6 +15,7 @@ pub loop-place-init : goal.loop-place-init
 loop-place-init g c = record {
   kept = take_all (length c.args.out.now.items) c.args.out.now.items (omega arith);
   written = λ refs good are. sym (append-nil c.args.out.now.items);
+  in_mind = λ good. c.in_ok-told.ensures c.args.objects.now c.args.out.now.items;
 }
 
 pub loop-place-preserved : goal.loop-place-preserved
@@ -32,7 +33,8 @@ loop-place-preserved g c =
             (filter set (take i os)) (filter set (take (i + 1) os)) (object_at i os)
             (kept-one os set c.args.reached.now i are lt w.if-is_reached.true)
             (c.loop-place.invariant.written refs good are)
-            (w.in_ok-append_object.ensures.written good (within os set c.args.reached.now i are lt)));
+            (w.in_ok-append_object.ensures.written good (c.loop-place.invariant.in_mind good) (within os set c.args.reached.now i are lt)));
+        in_mind = λ good. rw w.out-is (rw w.told-is (w.in_ok-append_object.ensures.in_mind good (c.loop-place.invariant.in_mind good)));
       }
       | else-is_reached w ↦ record {
         kept = rw w.out-is c.loop-place.invariant.kept;
@@ -41,6 +43,7 @@ loop-place-preserved g c =
             rw w.out-is (c.loop-place.invariant.written refs good are
             ∙ ap (λ xs. c.args.out.now.items ++ items_text (flat_map (items_of_object os) xs))
             (sym (kept-none os set c.args.reached.now i are lt w.if-is_reached.false)));
+        in_mind = λ good. rw w.out-is (rw w.told-is (c.loop-place.invariant.in_mind good));
       }
     ]
 
