@@ -57,6 +57,10 @@ whole_read digest bytes f rest e =
 
 -- ---- the answer
 
+pub no_room : (digest : List ℕ → List ℕ) (old new : Option (List ℕ)) → Judges digest old (Err fault.Memory) new
+no_room digest None new = tt
+no_room digest (Some bytes) new = tt
+
 pub not_read : (digest : List ℕ → List ℕ) (old new : Option (List ℕ)) (e : Fault)
     → Gave {A = RawFile} (sealed_at digest) old (Err e) new → Judges digest old (Err e) new
 not_read digest None new e g = tt

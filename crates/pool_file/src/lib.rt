@@ -7,4 +7,4 @@
 mod judged;
 pub mod laws;
 
-pub use judged::read_judged;
+pub use judged::{Judged, read_judged};

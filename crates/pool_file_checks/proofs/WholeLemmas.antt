@@ -1,8 +1,9 @@
 -- Checks of a whole file, one call behind another.
-use Rattle.std.proofs.Common.{◌≡◌, ℕ, ◌<◌, List, [], ◌∷◌, ◌++◌, length, get_or, Option, None, Some, Result, Ok, Err, sym, ap, subst, ◌∙◌}
+use Rattle.std.proofs.Common.{◌≡◌, ℕ, ◌<◌, List, [], ◌∷◌, ◌++◌, length, get_or, Option, None, Some, Result, Ok, Err, sym, ap, subst, ◌∙◌, arith}
 use Rattle.std.specs.Prelude.{All}
 use Rattle.std.proofs.lemmas.List.{length-map}
 use Rattle.std.proofs.lemmas.List.Elements.{All-nil, All-cons}
+use Rattle.std.specs.List.{IsDistinct}
 use Rattle.pool_file_text.specs.declared.raw.RawObject.{RawObject as Read}
 use Rattle.pool_file_text.specs.declared.raw.RawTenant.{RawTenant as Tenant}
 use Rattle.pool_file_text.specs.declared.refusal.Refusal.TheVariants as refusal
@@ -112,6 +113,16 @@ refs_decide digest version xs last t r p q h =
     let numbers : Checks = number_checks (length (objects_of xs)) t in
     front_passes (name_checks version last t) (numbers ++ (own ++ refs)) r p.name
     (front_passes numbers (own ++ refs) r p.numbers (front_passes own refs r q h))
+
+-- what a tenant's own objects are judged by
+pub own_passed : (digest : List ℕ → List ℕ) (version : ℕ) (os : List RawObject) (last : Option (List ℕ)) (t : RawTenant)
+    → Passes (one_tenant_checks digest version os last t) → Passes (own_checks digest os t.numbers)
+own_passed digest version os last t p = let q = p.1.1.1.1.1.1 in (q.0, (q.1.0, (q.1.1.0, tt)))
+
+-- no objects pass
+pub none_judged : (digest : List ℕ → List ℕ) (os : List RawObject) → Passes (own_checks digest os [])
+unfolding objects_in IsDistinct
+none_judged digest os = (tt, ((λ i l. absurd (omega (arith, l))), (tt, tt)))
 
 -- ---- tenants in turn
 

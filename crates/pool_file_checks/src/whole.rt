@@ -2,7 +2,8 @@
 
 ghost use Rattle.std.specs.Prelude.{◌≡◌, ◌<◌, ℕ, List, length, All, None};
 ghost use Rattle.std.specs.Option.{option_map};
-ghost use Rattle.pool_file_checks.specs.Checks.{Checked};
+ghost use Rattle.std.specs.Bool.{OnTrue};
+ghost use Rattle.pool_file_checks.specs.Checks.{Passes, Checked};
 ghost use Rattle.pool_file_checks.specs.Objects.{CanStore};
 ghost use Rattle.pool_file_checks.specs.Own.{names_of};
 ghost use Rattle.pool_file_checks.specs.Whole.{own_checks, one_tenant_checks, tenant_checks, file_checks};
@@ -10,15 +11,21 @@ ghost use Rattle.pool_file_text.specs.Shown.{objects_of, tenant_of, tenants_of, 
 
 use crate::held::check_held;
 use crate::judging::check_objects;
-use crate::naming::name_objects;
 use crate::own::index_objects;
 use crate::references::check_references;
 use crate::refs::check_refs;
 use crate::sums::check_sums;
 use crate::tenants::{check_name, check_numbers};
-use git_names::{Name, Naming};
+use git_names::Name;
 use pool_file_text::{Fault, RawFile, RawObject, RawTenant};
 use std::alloc::Global;
+
+// Whether these are the same numbers.
+fn are_same(numbers: &[u64], others: &[u64]) -> bool
+    ensures { OnTrue result (numbers.now ≡ others.now) }
+{
+    numbers == others
+}
 
 // Judges the objects of a tenant by their names, by what they refer to and by their trees' sizes.
 fn check_own(
@@ -36,22 +43,43 @@ fn check_own(
     check_sums(alloc, objects, &index)
 }
 
+// The same, where the objects of the numbers in `judged` have passed: they do not stand here again.
+fn check_unless_judged(
+    alloc: Global,
+    objects: &[RawObject],
+    names: &[Name],
+    judged: &[u64],
+    numbers: &[u64],
+) -> Result<(), Fault>
+    ensures { (digest : List ℕ → List ℕ) → names.now ≡ names_of digest (objects_of objects.now)
+        → All CanStore (objects_of objects.now) → All (λ n. n < length objects.now) numbers.now
+        → Passes (own_checks digest (objects_of objects.now) judged.now)
+        → Checked (own_checks digest (objects_of objects.now) numbers.now) result }
+{
+    if are_same(judged, numbers) {
+        return Ok(());
+    }
+    check_own(alloc, objects, names, numbers)
+}
+
 fn check_tenant(
     alloc: Global,
     version: u32,
     objects: &[RawObject],
     names: &[Name],
     last: Option<&[u8]>,
+    judged: &[u64],
     tenant: &RawTenant,
 ) -> Result<(), Fault>
     ensures { (digest : List ℕ → List ℕ) → names.now ≡ names_of digest (objects_of objects.now)
         → All CanStore (objects_of objects.now)
+        → Passes (own_checks digest (objects_of objects.now) judged.now)
         → Checked (one_tenant_checks digest version (objects_of objects.now)
         (option_map (λ o. o.now) last.entry) (tenant_of tenant.now)) result }
 {
     check_name(version, last, tenant)?;
     check_numbers(objects.len() as u64, tenant)?;
-    check_own(alloc, objects, names, &tenant.numbers)?;
+    check_unless_judged(alloc, objects, names, judged, &tenant.numbers)?;
     check_refs(alloc, objects, tenant)
 }
 
@@ -68,25 +96,29 @@ fn check_tenants(
         (tenants_of tenants.now)) result }
 {
     let mut last: Option<&[u8]> = None;
+    let mut judged: &[u64] = &[];
     for tenant in tenants {
-        check_tenant(alloc, version, objects, names, last, tenant)?;
+        check_tenant(alloc, version, objects, names, last, judged, tenant)?;
         last = Some(tenant.name.as_slice());
+        judged = tenant.numbers.as_slice();
     }
     Ok(())
 }
 
-/// Judges what a pool file says, whose objects are named by this naming.
+/// Judges what a pool file says, whose objects have these names, as `name_objects` answers them.
+/// Objects of the same numbers as those of the tenant before are judged once for both.
 ///
 /// `Refused` with the first thing that is wrong, where all objects come before all tenants, and the
 /// tenants in turn: `BadObject` (65) and `NotCanonical` (64) of the objects, as `check_objects`; of
 /// each tenant what `check_name`, `check_numbers`, `index_objects`, `check_references`, `check_sums`
 /// and `check_refs` refuse, in this order; and `NotCanonical` for an object that no tenant has.
-/// `Memory` (90) where there is no room for what is read, named or marked. Changes nothing.
-pub fn check_file<N: Naming>(alloc: Global, naming: &N, file: &RawFile) -> Result<(), Fault>
-    ensures { Checked (file_checks N.digest_of (file_of file.now)) result }
+/// `Memory` (90) where there is no room for what is read or marked. Changes nothing.
+pub fn check_file(alloc: Global, names: &[Name], file: &RawFile) -> Result<(), Fault>
+    ensures { (digest : List ℕ → List ℕ)
+        → names.now ≡ names_of digest (objects_of file.now.objects.items)
+        → Checked (file_checks digest (file_of file.now)) result }
 {
     check_objects(alloc, &file.objects)?;
-    let names = name_objects(alloc, naming, &file.objects)?;
-    check_tenants(alloc, file.version, &file.objects, &names, &file.tenants)?;
+    check_tenants(alloc, file.version, &file.objects, names, &file.tenants)?;
     check_held(alloc, file.objects.as_slice().len(), &file.tenants)
 }

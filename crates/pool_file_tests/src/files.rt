@@ -44,7 +44,7 @@ const CODES_2: [u16; 103] = [
     63, 63, 63, 63, 63, 63, 63,
 ];
 
-pub fn code_of(answer: Result<RawFile, Fault>) -> u16 {
+pub fn code_of<T: Drop>(answer: Result<T, Fault>) -> u16 {
     match answer {
         Ok(_) => 0,
         Err(fault) => fault.code(),

@@ -1,7 +1,7 @@
 //! What whole files say, in the order of the checks.
 
 use git_names::Sha1Naming;
-use pool_file_checks::check_file;
+use pool_file_checks::{check_file, name_objects};
 use pool_file_text::{Fault, RawFile, RawObject, RawRef, RawTenant};
 use std::alloc::Global;
 
@@ -94,6 +94,23 @@ const ROWS: &[Row<'static>] = &[
     (2, OBJECTS, &[(b"u", ALL, &[]), (b"t", ALL, &[])], 64),
     // One tenant comes before the next.
     (2, OBJECTS, &[(b"t", &[OF_FILE], &[]), (b"-", ALL, &[])], 66),
+    // Tenants of the same objects, whose refs are judged each by themselves, and one of others.
+    (2, OBJECTS, &[(b"t", ALL, &[MAIN, V]), (b"u", ALL, &[])], 0),
+    (
+        2,
+        OBJECTS,
+        &[
+            (b"s", ALL, &[]),
+            (b"t", ALL, &[(b"refs/namespaces/t/refs/heads/m", 0)]),
+        ],
+        67,
+    ),
+    (
+        2,
+        OBJECTS,
+        &[(b"t", ALL, &[]), (b"u", ALL, &[]), (b"v", &[OF_FILE], &[])],
+        66,
+    ),
     // What no tenant has comes last.
     (
         2,
@@ -157,7 +174,8 @@ fn code_of(answer: Result<(), Fault>) -> u16 {
 fn are_judged_so(alloc: Global, rows: &[Row<'_>]) -> Result<bool, Fault> {
     for row in rows {
         let file = file_of(alloc, row)?;
-        if code_of(check_file(alloc, &Sha1Naming, &file)) != row.3 {
+        let names = name_objects(alloc, &Sha1Naming, &file.objects)?;
+        if code_of(check_file(alloc, &names, &file)) != row.3 {
             return Ok(false);
         }
     }

@@ -44,7 +44,7 @@ use Rattle.pool_loading.specs.Tables.{AreNoted, object_of, CanLoad, Loads}
 
 -- ---- the object of a number
 
-pub any_default : (xs : List ℕ) (i d e : ℕ) → i < length xs → get_or xs i d ≡ get_or xs i e
+pub any_default : {A : Type 0} (xs : List A) (i : ℕ) (d e : A) → i < length xs → get_or xs i d ≡ get_or xs i e
 any_default [] i d e l = absurd (omega (arith, l))
 any_default (x ∷ xs) zero d e l = refl
 any_default (x ∷ xs) (suc i) d e l = any_default xs i d e (omega (arith, l))
@@ -218,6 +218,16 @@ module _ (digest : List ℕ → List ℕ) (p : Cells) (old : View) (sums more : 
       (subst (λ (t : Option Summary). Adds digest (content p slot) t p old q new) sum_found adds)
   loaded_as (Err e) q new stands others adds = tt
 
+-- each number has a name
+pub names_reach : (digest : List ℕ → List ℕ) (pool : Cells) (slots : List ℕ) (n : ℕ) → n < length slots
+    → (names : List (List ℕ)) → names ≡ names_of digest (objects_at pool slots) → n < length names
+unfolding objects_at
+names_reach digest pool slots n within names named =
+    let a = ap (λ (l : List (List ℕ)). length l) named in
+    let b = length-map (objects_at pool slots) (λ x. name_by digest (content_of x)) in
+    let d = length-map slots (λ s. raw_object (content pool s)) in
+    omega (arith, a, b, d, within)
+
 -- ---- one object after another
 
 -- The table has the objects before those that are left, and its holds are all that the pool has more.
@@ -272,6 +282,14 @@ module _ (digest : List ℕ → List ℕ) (p0 p : Cells) (slots numbers : List �
         new_name p entries o (drop (i + 1) own)
         (subst (λ (os : List Object). IsDistinct bytes_eq (ids os)) (sym first.objects)
         (own_distinct digest (objects_at p0 slots) numbers may.distinct))
+
+    pub named_here : (names : List (List ℕ)) (name : List ℕ) → names ≡ names_of digest (objects_at p0 slots)
+        → name ≡ get_or names n name → name ≡ name_by digest (content p slot)
+    named_here names name named is_name =
+        is_name ∙ any_default names n name [] (names_reach digest p0 slots n within names named)
+        ∙ ap (λ (l : List (List ℕ)). slice_index_or l n []) named
+        ∙ ap (λ (x : Object). x.id) (object_is p0 slots n slot within at digest)
+        ∙ ap (name_by digest) (sym same)
 
     pub may_load : CanLoad digest p entries sums slot
     may_load = record {

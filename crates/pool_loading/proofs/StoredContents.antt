@@ -8,7 +8,8 @@ use Rattle.content_pool.specs.Pool.{Cells, holds, content, HasRoom, IsLive, IsVa
 use Rattle.pool_file_text.specs.Format.{RawObject}
 use Rattle.pool_file_checks.specs.Checks.{Passes}
 use Rattle.pool_file_checks.specs.Objects.{raw_object, object_key, object_checks}
-use Rattle.pool_file_checks.specs.Own.{content_of}
+use Rattle.git_model.specs.Content.{name_by}
+use Rattle.pool_file_checks.specs.Own.{content_of, names_of}
 use Rattle.pool_file_checks.proofs.TenantLemmas.{left_at}
 use Rattle.pool_file.proofs.FileContents.{raw_again}
 use Rattle.pool_loading.specs.Building.{objects_at, times_in}
@@ -69,6 +70,29 @@ room_to_store pool slots o rest whole h s =
     let all = sym (length-append (objects_at pool slots) (o ∷ rest)) ∙ ap (λ (l : List RawObject). length l) h.objects in
     let times = times-few slots s in
     omega arith
+
+pub place_in : (pool : Cells) (slots : List ℕ) (o : RawObject) (rest whole : List RawObject) (digest : List ℕ → List ℕ)
+    (names : List (List ℕ)) → AreStored pool slots (o ∷ rest) whole → names ≡ names_of digest whole
+    → length slots < length names
+place_in pool slots o rest whole digest names h named =
+    let size = objects_at-length pool slots in
+    let all = sym (length-append (objects_at pool slots) (o ∷ rest)) ∙ ap (λ (l : List RawObject). length l) h.objects in
+    let a = ap (λ (l : List (List ℕ)). length l) named in
+    let b = length-map whole (λ x. name_by digest (content_of x)) in
+    omega arith
+
+behind : (digest : List ℕ → List ℕ) (xs : List RawObject) (o : RawObject) (rest : List RawObject) (d : List ℕ)
+    → get_or (names_of digest (xs ++ o ∷ rest)) (length xs) d ≡ name_by digest (content_of o)
+behind digest [] o rest d = refl
+behind digest (x ∷ xs) o rest d = behind digest xs o rest d
+
+pub name_in : (pool : Cells) (slots : List ℕ) (o : RawObject) (rest whole : List RawObject) (digest : List ℕ → List ℕ)
+    (names : List (List ℕ)) (k : ℕ) (id d : List ℕ) → AreStored pool slots (o ∷ rest) whole → names ≡ names_of digest whole
+    → k ≡ length slots → id ≡ get_or names k d → id ≡ name_by digest (content_of o)
+name_in pool slots o rest whole digest names k id d h named place is =
+    is ∙ ap (λ (i : ℕ). get_or names i d) (place ∙ sym (objects_at-length pool slots))
+    ∙ ap (λ (l : List (List ℕ)). get_or l (length (objects_at pool slots)) d) (named ∙ ap (names_of digest) (sym h.objects))
+    ∙ behind digest (objects_at pool slots) o rest d
 
 objects_at-push : (pool : Cells) (slots : List ℕ) (t : ℕ)
     → objects_at pool (slots ++ t ∷ []) ≡ objects_at pool slots ++ raw_object (content pool t) ∷ []

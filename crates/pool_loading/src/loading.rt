@@ -47,7 +47,7 @@ pub fn load<N: Starting, R: Read>(
     // The tenants are good ones over this pool, whatever the reader tells.
     ensures tenants { IfOk result (λ r. AreTenants N.digest_of r.0 r.1.items) }
 {
-    let file = read_judged(alloc, &naming, reader)?;
-    let loaded = build(alloc, naming, file)?;
+    let judged = read_judged(alloc, &naming, reader)?;
+    let loaded = build(alloc, naming, judged)?;
     Ok(loaded)
 }

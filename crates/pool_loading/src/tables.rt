@@ -1,7 +1,8 @@
 //! The table of a tenant, from the numbers of its objects in the file.
 
 ghost use Rattle.std.specs.Prelude.{◌≡◌, ◌<◌, ◌≤◌, [], length, All, IfOk, OnOk, None};
-ghost use Rattle.content_pool.specs.Pool.{IsLive};
+ghost use Rattle.content_pool.specs.Pool.{IsLive, content};
+ghost use Rattle.git_model.specs.Content.{name_by};
 ghost use Rattle.git_model.specs.GoodRepository.{objects_limit};
 ghost use Rattle.tenant_tables.specs.Objects.{objects};
 ghost use Rattle.tenant_tables.specs.Room.{HasRoomBeside};
@@ -42,26 +43,28 @@ fn note_sum(
     }
 }
 
-// Adds the object whose content lies in this slot.
+// Adds the object of this name whose content lies in this slot.
 fn load_object<N: Naming>(
     alloc: Global,
     pool: &mut Pool<N>,
     table: &mut Table,
     sums: &mut IndexMap<Name, Summary>,
+    id: Name,
     slot: Slot,
 ) -> Result<(), Memory>
-    requires { CanLoad N.digest_of pool.old table.old.entries sums.old.entries slot }
+    requires named { id ≡ name_by N.digest_of (content pool.old slot) }
+    requires can { CanLoad N.digest_of pool.old table.old.entries sums.old.entries slot }
     ensures { OnOk result (Loads N.digest_of slot pool.old table.old.entries sums.old.entries
         pool.new table.new.entries sums.new.entries) }
 {
     let (kind, bytes) = pool.get(slot);
-    let id = pool.name_of(kind, bytes)?;
     note_sum(alloc, sums, id, kind, bytes)?;
     table.add_held(pool, id, slot, sums.get(&id).copied())
 }
 
 /// A table of the objects of these numbers, in their order and all committed, from the slots of a
-/// file's contents. Each slot is held once more for each of its numbers, and no other.
+/// file's contents, whose objects have these names. Each slot is held once more for each of its
+/// numbers, and no other.
 ///
 /// The numbers are those of a tenant of a file that passed its checks. `Memory` (90) where there is
 /// no room for the table; the pool may then hold some contents once more.
@@ -69,10 +72,12 @@ pub fn load_table<N: Naming>(
     alloc: Global,
     pool: &mut Pool<N>,
     slots: &[Slot],
+    names: &[Name],
     numbers: &[u64],
 ) -> Result<Table, Memory>
     requires live { All (IsLive pool.old) slots.now }
     requires room { HasRoomBeside pool.old [] }
+    requires named { names.now ≡ names_of N.digest_of (objects_at pool.old slots.now) }
     requires contents { Passes (object_checks None (objects_at pool.old slots.now)) }
     requires numbers { All (λ n. n < length slots.now) numbers.now }
     requires few { length numbers.now ≤ objects_limit }
@@ -87,7 +92,15 @@ pub fn load_table<N: Naming>(
     let mut table = Table::new(alloc);
     let mut sums = IndexMap::new(alloc);
     for number in numbers {
-        load_object(alloc, pool, &mut table, &mut sums, slots[*number as usize])?;
+        let place = *number as usize;
+        load_object(
+            alloc,
+            pool,
+            &mut table,
+            &mut sums,
+            names[place],
+            slots[place],
+        )?;
     }
     table.commit();
     Ok(table)

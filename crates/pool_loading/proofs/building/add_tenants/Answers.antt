@@ -1,7 +1,8 @@
-use Rattle.std.proofs.Common.{List, take, take_all, sym, subst}
+use Rattle.std.proofs.Common.{List, take, take_all, sym, ap, subst, ◌∙◌}
 use Rattle.pool_file_text.specs.declared.raw.RawTenant.{RawTenant as Tenant}
 use Rattle.pool_file_text.specs.Format.{RawObject, RawTenant}
 use Rattle.pool_file_text.specs.Shown.{tenant_of, tenants_of}
+use Rattle.pool_file_checks.specs.Own.{names_of}
 use Rattle.pool_loading.specs.Building.{objects_at, IsChecked, Adds}
 use Rattle.pool_loading.proofs.Items.{all_at, shown_on}
 use Rattle.pool_loading.proofs.Built.{adds_none, adds_on}
@@ -11,6 +12,10 @@ pub loop-tenant-init : goal.loop-tenant-init
 loop-tenant-init g c =
     adds_none g.N.Naming.digest_of c.args.slots.now c.args.pool.now c.args.tenants.now.items
     c.requires.under
+
+pub add_tenant-requires-clause-named : goal.add_tenant-requires-clause-named
+add_tenant-requires-clause-named g c =
+    c.requires.named ∙ ap (names_of g.N.Naming.digest_of) (sym c.loop-tenant.invariant.objects)
 
 pub add_tenant-requires-clause-checked : goal.add_tenant-requires-clause-checked
 add_tenant-requires-clause-checked g c =

@@ -3,6 +3,7 @@ use Rattle.std.specs.Prelude.{All}
 use Rattle.pool_file_text.specs.declared.raw.RawTenant.{RawTenant as Raw}
 use Rattle.pool_file_text.specs.Format.{RawObject}
 use Rattle.pool_file_text.specs.Shown.{objects_of, tenant_of, tenants_of, file_of}
+use Rattle.pool_file_checks.specs.Own.{names_of}
 use Rattle.pool_file.proofs.Passing.{holds_all}
 use Rattle.pool_loading.specs.declared.tenant.Tenant.{Tenant}
 use Rattle.pool_loading.specs.Building.{objects_at, IsChecked, AreUnder}
@@ -12,6 +13,11 @@ use Rattle.pool_loading.proofs.building.fill.Goals as goal
 pub store_contents-requires-clause-checked : goal.store_contents-requires-clause-checked
 store_contents-requires-clause-checked g c =
     (holds_all g.N.Naming.digest_of (file_of c.args.file) c.requires.checked).objects
+
+pub add_tenants-requires-clause-named : goal.add_tenants-requires-clause-named
+add_tenants-requires-clause-named g c =
+    let D = g.N.Naming.digest_of in
+    c.requires.named ∙ ap (names_of D) (sym (ap (objects_at c.store_contents.new.pool) c.deref.ensures.value ∙ c.in_ok-slots.ensures.stored))
 
 pub add_tenants-requires-clause-under : goal.add_tenants-requires-clause-under
 add_tenants-requires-clause-under g c =

@@ -4,7 +4,7 @@ use Rattle.tenant_tables.specs.Objects.{objects}
 use Rattle.pool_file_checks.specs.Own.{own_objects}
 use Rattle.pool_file.proofs.OwnObjects.{own_length}
 use Rattle.pool_loading.specs.Building.{objects_at}
-use Rattle.pool_loading.proofs.LoadedTables.{MayLoad, any_default, loaded_none, loaded_all, may_load, loaded_on}
+use Rattle.pool_loading.proofs.LoadedTables.{MayLoad, any_default, loaded_none, loaded_all, names_reach, named_here, may_load, loaded_on}
 use Rattle.pool_loading.proofs.tables.load_table.Goals as goal
 
 pub loop-number-init : goal.loop-number-init
@@ -13,8 +13,22 @@ loop-number-init g c =
     (loaded_none g.N.Naming.digest_of c.args.pool.now
     (own_objects g.N.Naming.digest_of (objects_at c.args.pool.now c.args.slots.now) c.args.numbers.now) c.requires.trees)
 
-pub load_object-requires : goal.load_object-requires
-load_object-requires g c =
+pub bounds-names-place : goal.bounds-names-place
+bounds-names-place g c =
+    let q = c.requires in
+    let at = c.loop-number in
+    let i = at.number-index in
+    let numbers = c.args.numbers.now in
+    let n = get_or numbers i 0 in
+    names_reach g.N.Naming.digest_of c.args.pool.now c.args.slots.now n (q.numbers i 0 c.loop-number-test.true) c.args.names.now q.named
+
+pub offset_bounds-names-place : goal.offset_bounds-names-place
+offset_bounds-names-place g c =
+    let reach = bounds-names-place g c in
+    omega (arith, reach)
+
+pub load_object-requires-clause-named : goal.load_object-requires-clause-named
+load_object-requires-clause-named g c =
     let q = c.requires in
     let at = c.loop-number in
     let i = at.number-index in
@@ -22,8 +36,21 @@ load_object-requires g c =
     let n = get_or numbers i 0 in
     let may : MayLoad g.N.Naming.digest_of c.args.pool.now c.args.slots.now numbers =
     record { live = q.live; room = q.room; contents = q.contents; few = q.few; distinct = q.distinct } in
-    may_load g.N.Naming.digest_of c.args.pool.now at.pool c.args.slots.now numbers at.table.entries at.sums.entries may i n c.index-slots-number.result
-    c.loop-number-test.true (any_default numbers i 0 n c.loop-number-test.true) (q.numbers i 0 c.loop-number-test.true) c.index-slots-number.is at.invariant
+    named_here g.N.Naming.digest_of c.args.pool.now at.pool c.args.slots.now numbers at.table.entries at.sums.entries may i n c.index-slots-place.result
+    c.loop-number-test.true (any_default numbers i 0 n c.loop-number-test.true) (q.numbers i 0 c.loop-number-test.true) c.index-slots-place.is at.invariant
+    c.args.names.now c.index-names-place.result q.named c.index-names-place.is
+
+pub load_object-requires-clause-can : goal.load_object-requires-clause-can
+load_object-requires-clause-can g c =
+    let q = c.requires in
+    let at = c.loop-number in
+    let i = at.number-index in
+    let numbers = c.args.numbers.now in
+    let n = get_or numbers i 0 in
+    let may : MayLoad g.N.Naming.digest_of c.args.pool.now c.args.slots.now numbers =
+    record { live = q.live; room = q.room; contents = q.contents; few = q.few; distinct = q.distinct } in
+    may_load g.N.Naming.digest_of c.args.pool.now at.pool c.args.slots.now numbers at.table.entries at.sums.entries may i n c.index-slots-place.result
+    c.loop-number-test.true (any_default numbers i 0 n c.loop-number-test.true) (q.numbers i 0 c.loop-number-test.true) c.index-slots-place.is at.invariant
 
 pub loop-number-preserved : goal.loop-number-preserved
 loop-number-preserved g c =
@@ -34,8 +61,8 @@ loop-number-preserved g c =
     let n = get_or numbers i 0 in
     let may : MayLoad g.N.Naming.digest_of c.args.pool.now c.args.slots.now numbers =
     record { live = q.live; room = q.room; contents = q.contents; few = q.few; distinct = q.distinct } in
-    loaded_on g.N.Naming.digest_of c.args.pool.now at.pool c.args.slots.now numbers at.table.entries at.sums.entries may i n c.index-slots-number.result
-    c.loop-number-test.true (any_default numbers i 0 n c.loop-number-test.true) (q.numbers i 0 c.loop-number-test.true) c.index-slots-number.is at.invariant
+    loaded_on g.N.Naming.digest_of c.args.pool.now at.pool c.args.slots.now numbers at.table.entries at.sums.entries may i n c.index-slots-place.result
+    c.loop-number-test.true (any_default numbers i 0 n c.loop-number-test.true) (q.numbers i 0 c.loop-number-test.true) c.index-slots-place.is at.invariant
     c.load_object.new.pool c.load_object.new.table.entries c.load_object.new.sums.entries c.in_ok-load_object.ensures
 
 pub returns-clause-objects : goal.returns-clause-objects
