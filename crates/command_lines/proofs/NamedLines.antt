@@ -14,8 +14,8 @@ use Rattle.clap.specs.Simple.{Shape, built, built_leaf, entered, help_shape, inh
 use Rattle.clap.specs.Walk.{answers_to}
 use Rattle.clap.specs.Takes.{is_given}
 use Rattle.clap.specs.declared.error.kind.ErrorKind.{ErrorKind}
-use Rattle.command_lines.specs.Lines.{Said, ask, import, said_by, said_in}
-use Rattle.command_lines.specs.Usage.{ask_usage, check_usage, gitpool, import_usage, serve_usage}
+use Rattle.command_lines.specs.Lines.{Said, ask, copy, import, said_by, said_in}
+use Rattle.command_lines.specs.Usage.{ask_usage, check_usage, copy_usage, gitpool, import_usage, serve_usage}
 use Rattle.command_lines.proofs.FilledRows.{defaults_filled, filled, no_nil, or_else_nil, settled_filled, wants_value}
 use Rattle.command_lines.proofs.FilledWalk.{given_value, walk_filled}
 
@@ -149,12 +149,12 @@ some_import None pool e f = absurd (true≢false (sym e))
 some_import (Some t) None e f = absurd (true≢false (sym f))
 some_import (Some t) (Some p) e f = refl
 
-some_ask : (tenant query pool : Option Text) → is_some tenant ≡ true → is_some query ≡ true → is_some pool ≡ true
-    → is_some (option_and_then (λ p. option_and_then (λ t. option_map (λ q. ask t q p) query) tenant) pool) ≡ true
-some_ask None query pool e f g = absurd (true≢false (sym e))
-some_ask (Some t) None pool e f g = absurd (true≢false (sym f))
-some_ask (Some t) (Some q) None e f g = absurd (true≢false (sym g))
-some_ask (Some t) (Some q) (Some p) e f g = refl
+some_two : (line : Text → Text → Text → Said) (first second pool : Option Text) → is_some first ≡ true → is_some second ≡ true → is_some pool ≡ true
+    → is_some (option_and_then (λ p. option_and_then (λ f. option_map (λ s. line f s p) second) first) pool) ≡ true
+some_two line None second pool e f g = absurd (true≢false (sym e))
+some_two line (Some x) None pool e f g = absurd (true≢false (sym f))
+some_two line (Some x) (Some y) None e f g = absurd (true≢false (sym g))
+some_two line (Some x) (Some y) (Some p) e f g = refl
 
 abbrev Says : Shape → Type 0
 Says s = (words : List Text) → level_fault (leaf s) [] nothing_held words false [] ≡ [] → is_some (said_by (rows_at (leaf s) words)) ≡ true
@@ -190,27 +190,39 @@ ask_says words none =
     (wanted (leaf ask_usage) rows false all.1).1 in
     let query = first_given (is_given (codes "query") rows) (not (is_given (codes "pool") rows) || false) tenant.1 in
     let pool = first_given (is_given (codes "pool") rows) false query.1 in
-    some_ask (first_of (codes "tenant") rows) (first_of (codes "query") rows) (first_of (codes "pool") rows) (given_value (codes "tenant") rows all.0 tenant.0)
+    some_two ask (first_of (codes "tenant") rows) (first_of (codes "query") rows) (first_of (codes "pool") rows) (given_value (codes "tenant") rows all.0 tenant.0)
     (given_value (codes "query") rows all.0 query.0) (given_value (codes "pool") rows all.0 pool.0)
+
+copy_says : Says copy_usage
+copy_says words none =
+    let all = leaf_filled (leaf copy_usage) words refl none in
+    let rows = rows_after (leaf copy_usage).rules [] words in
+    let from = first_given (is_given (codes "from") rows) (not (is_given (codes "to") rows) || (not (is_given (codes "pool") rows) || false))
+    (wanted (leaf copy_usage) rows false all.1).1 in
+    let to = first_given (is_given (codes "to") rows) (not (is_given (codes "pool") rows) || false) from.1 in
+    let pool = first_given (is_given (codes "pool") rows) false to.1 in
+    some_two copy (first_of (codes "from") rows) (first_of (codes "to") rows) (first_of (codes "pool") rows) (given_value (codes "from") rows all.0 from.0)
+    (given_value (codes "to") rows all.0 to.0) (given_value (codes "pool") rows all.0 pool.0)
 
 -- ---- the whole command line
 
 -- the first subcommand whose test holds
-abbrev first : Bool → Bool → Bool → Bool → Bool → Option Shape
-first a b c d e =
+abbrev first : Bool → Bool → Bool → Bool → Bool → Bool → Option Shape
+first a b c d e f =
     cond a (Some (leaf serve_usage)) (cond b (Some (leaf import_usage)) (cond c (Some (leaf ask_usage))
-    (cond d (Some (leaf check_usage)) (cond e (Some (built_leaf help_shape)) None))))
+    (cond d (Some (leaf check_usage)) (cond e (Some (leaf copy_usage)) (cond f (Some (built_leaf help_shape)) None)))))
 
-first_says : (words : List Text) (a b c d e : Bool) → e ≡ false
-    → option_map_or (λ s. level_fault s [] nothing_held words false []) (first a b c d e) [] ≡ []
-    → is_some (option_map (λ s. rows_at s words) (first a b c d e)) ≡ true
-    → is_some (option_and_then said_by (option_map (λ s. rows_at s words) (first a b c d e))) ≡ true
-first_says words true b c d e other none some = serve_says words none
-first_says words false true c d e other none some = import_says words none
-first_says words false false true d e other none some = ask_says words none
-first_says words false false false true e other none some = check_says words none
-first_says words false false false false true other none some = absurd (true≢false other)
-first_says words false false false false false other none some = absurd (true≢false (sym some))
+first_says : (words : List Text) (a b c d e f : Bool) → f ≡ false
+    → option_map_or (λ s. level_fault s [] nothing_held words false []) (first a b c d e f) [] ≡ []
+    → is_some (option_map (λ s. rows_at s words) (first a b c d e f)) ≡ true
+    → is_some (option_and_then said_by (option_map (λ s. rows_at s words) (first a b c d e f))) ≡ true
+first_says words true b c d e f other none some = serve_says words none
+first_says words false true c d e f other none some = import_says words none
+first_says words false false true d e f other none some = ask_says words none
+first_says words false false false true e f other none some = check_says words none
+first_says words false false false false true f other none some = copy_says words none
+first_says words false false false false false true other none some = absurd (true≢false other)
+first_says words false false false false false false other none some = absurd (true≢false (sym some))
 
 entered_says : (stop : Option (Text × List Text)) → is_own stop ≡ true → entered_fault (built gitpool) stop ≡ [] → is_some (entered (built gitpool) stop) ≡ true
     → is_some (option_and_then said_by (entered (built gitpool) stop)) ≡ true
@@ -218,7 +230,7 @@ entered_says None own none some = absurd (true≢false (sym some))
 entered_says (Some p) own none some =
     let answers : Shape → Bool = λ s. answers_to p.0 (label_of s) in
     first_says p.1 (answers (leaf serve_usage)) (answers (leaf import_usage)) (answers (leaf ask_usage)) (answers (leaf check_usage))
-    (answers (built_leaf help_shape)) (no_help p.0 own) none some
+    (answers (leaf copy_usage)) (answers (built_leaf help_shape)) (no_help p.0 own) none some
 
 is_met : (b : Bool) → (not b && true) ≡ false → b ≡ true
 is_met true e = refl

@@ -12,6 +12,7 @@ pub data Said : Type 0 where
   import : Text → Text → Said
   ask : Text → Text → Text → Said
   check : Text → Said
+  copy : Text → Text → Text → Said
 
 -- What a line says, as text.
 abbrev pub said : Line → Said
@@ -19,6 +20,7 @@ said (line.Serve pool) = serve pool.now
 said (line.Import tenant pool) = import tenant.now pool.now
 said (line.Ask tenant query pool) = ask tenant.now query.now pool.now
 said (line.Check pool) = check pool.now
+said (line.Copy from to pool) = copy from.now to.now pool.now
 
 -- The value that the matches have under this name.
 abbrev pub given : List Row → Text → Option Text
@@ -31,13 +33,18 @@ abbrev pub ask_in : List Row → Text → Option Said
 ask_in rows pool = option_and_then (λ tenant.
     option_map (λ query. ask tenant query pool) (given rows (codes "query"))) (given rows (codes "tenant"))
 
+abbrev pub copy_in : List Row → Text → Option Said
+copy_in rows pool = option_and_then (λ from.
+    option_map (λ to. copy from to pool) (given rows (codes "to"))) (given rows (codes "from"))
+
 -- What a subcommand of this name with these matches says beside the pool file.
 abbrev pub said_with : Text → List Row → Text → Option Said
 said_with name rows pool =
     if bytes_eq name (codes "serve") then Some (serve pool)
     else (if bytes_eq name (codes "import") then import_in rows pool
     else (if bytes_eq name (codes "ask") then ask_in rows pool
-    else (if bytes_eq name (codes "check") then Some (check pool) else None)))
+    else (if bytes_eq name (codes "check") then Some (check pool)
+    else (if bytes_eq name (codes "copy") then copy_in rows pool else None))))
 
 -- What a subcommand with its matches says.
 abbrev pub said_by : Text × List Row → Option Said
@@ -59,3 +66,5 @@ words_of (import tenant pool) =
 words_of (ask tenant query pool) =
     codes "ask" ∷ pool_word pool ∷ codes "--" ∷ tenant ∷ query ∷ []
 words_of (check pool) = codes "check" ∷ pool_word pool ∷ []
+words_of (copy from to pool) =
+    codes "copy" ∷ pool_word pool ∷ codes "--" ∷ from ∷ to ∷ []

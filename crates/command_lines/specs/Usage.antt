@@ -34,6 +34,11 @@ ask_usage = subcommand (codes "ask")
 abbrev pub check_usage : Shape
 check_usage = subcommand (codes "check") (pool_option ∷ [])
 
+-- `copy FROM TO --pool FILE`
+abbrev pub copy_usage : Shape
+copy_usage = subcommand (codes "copy")
+    (argument (codes "from") ∷ argument (codes "to") ∷ pool_option ∷ [])
+
 -- The program: one of its subcommands has to be there, and its own name is none of the words.
 abbrev pub gitpool : App
 gitpool = record {
@@ -42,7 +47,7 @@ gitpool = record {
     no_binary_name = true;
     subcommand_required = true;
   };
-  subs = serve_usage ∷ import_usage ∷ ask_usage ∷ check_usage ∷ [];
+  subs = serve_usage ∷ import_usage ∷ ask_usage ∷ check_usage ∷ copy_usage ∷ [];
 }
 
 -- A command that reads what the shape says, and has no subcommand.

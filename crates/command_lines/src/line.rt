@@ -6,7 +6,7 @@ ghost use Rattle.std.specs.Prelude.{option_and_then, option_map, true};
 ghost use Rattle.clap.specs.Words.{FailsBy, fault_of, first_of, found_of, kind_of, rows_of};
 ghost use Rattle.clap.specs.Words.{subcommand_rows_of, takes};
 ghost use Rattle.clap.specs.declared.error.kind.ErrorKind.TheVariants.{OutOfMemory};
-ghost use Rattle.command_lines.specs.Lines.{Said, ask_in, import_in, said, said_by};
+ghost use Rattle.command_lines.specs.Lines.{Said, ask_in, copy_in, import_in, said, said_by};
 ghost use Rattle.command_lines.specs.Lines.{said_in, words_of};
 ghost use Rattle.command_lines.specs.Usage.{gitpool};
 
@@ -37,6 +37,12 @@ pub enum Line<'a> {
     },
     /// `check --pool FILE`: count what the pool file has.
     Check {
+        pool: &'a str,
+    },
+    /// `copy FROM TO --pool FILE`: copy one tenant's repository to an empty one.
+    Copy {
+        from: &'a str,
+        to: &'a str,
         pool: &'a str,
     },
 }
@@ -88,6 +94,7 @@ impl<'a> Line<'a> {
             "import" => Line::import(given, pool),
             "ask" => Line::ask(given, pool),
             "check" => Some(Line::Check { pool }),
+            "copy" => Line::copy(given, pool),
             _ => None,
         }
     }
@@ -111,5 +118,14 @@ impl<'a> Line<'a> {
             query,
             pool,
         })
+    }
+
+    fn copy(given: &ArgMatches<'a>, pool: &'a str) -> Option<Line<'a>>
+        ensures { option_map said result
+            ≡ copy_in (rows_of (found_of given.now)) pool.entry.now }
+    {
+        let from = value(given, "from")?;
+        let to = value(given, "to")?;
+        Some(Line::Copy { from, to, pool })
     }
 }

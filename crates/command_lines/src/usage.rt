@@ -3,8 +3,9 @@
 //! What each takes is `specs/Usage.antt`. The texts are for the user; no clause reads them.
 ghost use Rattle.std.specs.Prelude.{◌≡◌, IfOk, codes, false, []};
 ghost use Rattle.clap.specs.Words.{app_of, rule_of};
-ghost use Rattle.command_lines.specs.Usage.{Reads, argument, ask_usage, check_usage, gitpool};
-ghost use Rattle.command_lines.specs.Usage.{import_usage, pool_option, serve_usage, subcommand};
+ghost use Rattle.command_lines.specs.Usage.{Reads, argument, ask_usage, check_usage, copy_usage};
+ghost use Rattle.command_lines.specs.Usage.{gitpool, import_usage, pool_option, serve_usage};
+ghost use Rattle.command_lines.specs.Usage.{subcommand};
 
 use clap::{Arg, Command};
 use std::alloc::{AllocError, Global};
@@ -71,6 +72,19 @@ fn check<'a>(alloc: Global) -> Result<Command<'a>, AllocError>
     subcommand(alloc, "check", about).arg(pool(alloc))
 }
 
+fn copy<'a>(alloc: Global) -> Result<Command<'a>, AllocError>
+    ensures { IfOk result (λ c. Reads c copy_usage) }
+{
+    subcommand(
+        alloc,
+        "copy",
+        "Copy a tenant's repository to an empty tenant",
+    )
+    .arg(argument(alloc, "from", "FROM", "The tenant that is copied"))?
+    .arg(argument(alloc, "to", "TO", "The tenant that the copy is for"))?
+    .arg(pool(alloc))
+}
+
 /// The program with its subcommands. Takes memory.
 pub(crate) fn gitpool<'a>(alloc: Global) -> Result<Command<'a>, AllocError>
     ensures { IfOk result (λ c. app_of c ≡ gitpool) }
@@ -83,5 +97,6 @@ pub(crate) fn gitpool<'a>(alloc: Global) -> Result<Command<'a>, AllocError>
         .subcommand(serve(alloc)?)?
         .subcommand(import(alloc)?)?
         .subcommand(ask(alloc)?)?
-        .subcommand(check(alloc)?)
+        .subcommand(check(alloc)?)?
+        .subcommand(copy(alloc)?)
 }

@@ -13,6 +13,7 @@ Commands:
   import  Import a stream of git-fast-import(1) from standard input
   ask     Print the answer to a query
   check   Check the pool file and count what it has
+  copy    Copy a tenant's repository to an empty tenant
   help    Print this message or the help of the given subcommand(s)
 
 Options:
@@ -66,6 +67,20 @@ Options:
   -h, --help         Print help
 ";
 
+const COPY: &str = "\
+Copy a tenant's repository to an empty tenant
+
+Usage: gitpool copy --pool <FILE> <FROM> <TO>
+
+Arguments:
+  <FROM>  The tenant that is copied
+  <TO>    The tenant that the copy is for
+
+Options:
+      --pool <FILE>  The pool file
+  -h, --help         Print help
+";
+
 // Words that ask for help, and the help.
 const SHOWN: &[(&[&str], &str)] = &[
     (&["-h"], PROGRAM),
@@ -80,6 +95,8 @@ const SHOWN: &[(&[&str], &str)] = &[
     (&["help", "ask"], ASK),
     (&["check", "--pool", "f", "-h"], CHECK),
     (&["help", "check"], CHECK),
+    (&["copy", "t", "-h"], COPY),
+    (&["help", "copy"], COPY),
 ];
 
 #[test]

@@ -78,6 +78,30 @@ const READ: &[(&[&str], Line<'static>)] = &[
             pool: "-",
         },
     ),
+    (
+        &["copy", "t", "u", "--pool", "f"],
+        Line::Copy {
+            from: "t",
+            to: "u",
+            pool: "f",
+        },
+    ),
+    (
+        &["copy", "t", "--pool=f", "t"],
+        Line::Copy {
+            from: "t",
+            to: "t",
+            pool: "f",
+        },
+    ),
+    (
+        &["copy", "--pool", "f", "--", "-t", "--pool"],
+        Line::Copy {
+            from: "-t",
+            to: "--pool",
+            pool: "f",
+        },
+    ),
     (&["check", "--pool=-f"], Line::Check { pool: "-f" }),
     (&["check", "--pool=a=b"], Line::Check { pool: "a=b" }),
     (&["check", "--pool="], Line::Check { pool: "" }),

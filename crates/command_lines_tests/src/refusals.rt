@@ -8,7 +8,7 @@ const REFUSED: &[(&[&str], ErrorKind, &str, &str)] = &[
     (
         &[],
         ErrorKind::MissingSubcommand,
-        "'gitpool' requires a subcommand but one was not provided\n  [subcommands: serve, import, ask, check, help]",
+        "'gitpool' requires a subcommand but one was not provided\n  [subcommands: serve, import, ask, check, copy, help]",
         "Usage: gitpool <COMMAND>\n\n",
     ),
     (
@@ -34,6 +34,18 @@ const REFUSED: &[(&[&str], ErrorKind, &str, &str)] = &[
         ErrorKind::MissingRequiredArgument,
         "the following required arguments were not provided:\n  <QUERY>",
         "Usage: gitpool ask --pool <FILE> <TENANT> <QUERY>\n\n",
+    ),
+    (
+        &["copy"],
+        ErrorKind::MissingRequiredArgument,
+        "the following required arguments were not provided:\n  --pool <FILE>\n  <FROM>\n  <TO>",
+        "Usage: gitpool copy --pool <FILE> <FROM> <TO>\n\n",
+    ),
+    (
+        &["copy", "t", "--pool", "f"],
+        ErrorKind::MissingRequiredArgument,
+        "the following required arguments were not provided:\n  <TO>",
+        "Usage: gitpool copy --pool <FILE> <FROM> <TO>\n\n",
     ),
     (
         &["serve", "--pool"],
@@ -94,6 +106,12 @@ const REFUSED: &[(&[&str], ErrorKind, &str, &str)] = &[
         ErrorKind::UnknownArgument,
         "unexpected argument 'm' found",
         "Usage: gitpool ask --pool <FILE> <TENANT> <QUERY>\n\n",
+    ),
+    (
+        &["copy", "t", "u", "v", "--pool", "f"],
+        ErrorKind::UnknownArgument,
+        "unexpected argument 'v' found",
+        "Usage: gitpool copy --pool <FILE> <FROM> <TO>\n\n",
     ),
     (
         &["ask", "-t", "refs", "--pool", "f"],

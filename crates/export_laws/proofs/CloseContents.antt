@@ -19,7 +19,6 @@ use Rattle.tree_build.specs.StoredTree.{ListsTree}
 use Rattle.tree_build.specs.Storing.{trees_fault, with_trees}
 use Rattle.tree_build.specs.Trees.{nested_trees, tree_id}
 use Rattle.tree_build.proofs.GoodObjects.{files-of, good-trees}
-use Rattle.tree_build.proofs.ListedOrder.{listed-with, tree-in-order}
 use Rattle.tree_build.proofs.StoredAgain.{stored-already}
 use Rattle.open_commits.specs.declared.fault.Fault.{Fault}
 use Rattle.open_commits.specs.Ends.{Closed, closed, commit_content, commit_of}
@@ -31,6 +30,7 @@ use Rattle.export_laws.specs.Told.{AreOf}
 use Rattle.export_laws.proofs.CloseStored.{AreStored, trees-stored}
 use Rattle.export_laws.proofs.CloseTrees.{trees-reached}
 use Rattle.export_laws.proofs.Known.{IsEarlier, IsKnown, reached-on}
+use Rattle.export_laws.proofs.OpenTrees.{files-listed}
 use Rattle.export_laws.proofs.Storing.{IsStored, object_of, stored}
 
 -- the bytes of a commit are those of what they read as
@@ -106,12 +106,12 @@ module _ (digest : List ℕ → List ℕ) (repository : Repository) (good : AreO
   lists : ListsTree os c.tree fs
   lists = (files-of digest os good c.tree tree-kind).listed
 
-  files-listed : listed (stored_map os c.tree) ≡ fs
-  files-listed = listed-with fs (tree-in-order os c.tree fs lists)
+  of-tree : listed (stored_map os c.tree) ≡ fs
+  of-tree = files-listed digest os good c.tree tree-kind
 
   same-tree : tree_id digest (listed (stored_map os c.tree)) ≡ c.tree
   same-tree =
-      ap (tree_id digest) files-listed
+      ap (tree_id digest) of-tree
       ∙ (stored-already digest os (good-trees digest os good) c.tree fs lists).name
 
   content-is : commit_content digest (commit_told os id c) ≡ content_from kind.Commit bytes
@@ -142,7 +142,7 @@ module _ (digest : List ℕ → List ℕ) (repository : Repository) (good : AreO
     pub closed-itself : closed digest held (commit_told os id c) ≡ Ok (record { id = id; objects = more })
     closed-itself =
         closes digest held fs id (content_from kind.Commit bytes) what.is.named (commit_told os id c)
-        files-listed content-is trees.unrefused now.unrefused
+        of-tree content-is trees.unrefused now.unrefused
 
     pub left-of : AreOf repository more
     left-of = now.of

@@ -69,7 +69,9 @@ module _ (digest : List ℕ → List ℕ) (names : AnswersNames digest) (reposit
         ap (λ (o : Outcome). finished digest o.standing) stands
         ∙ finished-well digest refs.last refs.done rest asks.end refs.needs_done refs.ends
         (refs.committed ∙ sym (ap (λ (l : List Object). length l) refs.objects));
-    refs = refs.refs;
-    whole = subst (HasReached repository) (sym refs.objects) saved.whole;
-    only = subst (AreOf repository) (sym refs.objects) saved.tells.objects;
+    copy = record {
+      refs = refs.refs;
+      whole = subst (HasReached repository) (sym refs.objects) saved.whole;
+      only = subst (AreOf repository) (sym refs.objects) saved.tells.objects;
+    };
   }

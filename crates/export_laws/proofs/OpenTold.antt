@@ -210,7 +210,7 @@ module _ (digest : List ℕ → List ℕ) (repository : Repository) (good : AreO
       (listed (stored_map os c.tree)) (stored_map os c.tree)
       (files-put (stored_map os c.tree) (files-good digest os good fit c.tree (kind-of os tree.here)))
       (subst (AllByRecursion (MayTell os (workspace_at head tip)))
-      (sym (files-listed digest os good fit c.tree (kind-of os tree.here)))
+      (sym (files-listed digest os good c.tree (kind-of os tree.here)))
       (files-there repository first told all head tip (stored_files os c.tree)
       (files-tellable digest repository good first (o ∷ rest) is c.tree (kind-of first tree.before) (kind-of os tree.here)
       refers-reached.0)))

@@ -59,14 +59,18 @@ unrefused files after below short few = rw (below, short, few) refl
 
 -- ---- the files of a tree
 
+module _ (digest : List ℕ → List ℕ) (os : List Object) (good : AreObjects digest os) (tree : List ℕ)
+    (is : kind_named tree os ≡ Some kind.Tree) where
+  -- the map lists them as the tree does
+  pub files-listed : listed (stored_map os tree) ≡ stored_files os tree
+  files-listed =
+      listed-with (stored_files os tree)
+      (tree-in-order os tree (stored_files os tree) (files-of digest os good tree is).listed)
+
 module _ (digest : List ℕ → List ℕ) (os : List Object) (good : AreObjects digest os)
     (fit : TreesFit [] os) (tree : List ℕ) (is : kind_named tree os ≡ Some kind.Tree) where
   lists : ListsTree os tree (stored_files os tree)
   lists = (files-of digest os good tree is).listed
-
-  -- the map lists them as the tree does
-  pub files-listed : listed (stored_map os tree) ≡ stored_files os tree
-  files-listed = listed-with (stored_files os tree) (tree-in-order os tree (stored_files os tree) lists)
 
   within : IsWithin (files_summary (stored_files os tree))
   within = within-from digest os good fit tree (stored_files os tree) lists
@@ -74,7 +78,8 @@ module _ (digest : List ℕ → List ℕ) (os : List Object) (good : AreObjects 
   few : nat_le (finmap.len (stored_map os tree)) FILES_LIMIT ≡ true
   few =
       let n : finmap.len (stored_map os tree) ≡ length (stored_files os tree) =
-      len-entries (stored_map os tree) ∙ ap (λ (l : Listed). length l) files-listed in
+      len-entries (stored_map os tree)
+      ∙ ap (λ (l : Listed). length l) (files-listed digest os good tree is) in
       let files = within.files in
       le-leb (finmap.len (stored_map os tree)) FILES_LIMIT (omega (arith, n, files))
 

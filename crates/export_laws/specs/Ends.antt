@@ -10,9 +10,10 @@ use Rattle.export_text.specs.Reached.{extra_tag_refs}
 use Rattle.import_session.specs.Checkpoints.{checkpoint}
 use Rattle.import_session.specs.Stream.{Outcome, begun, carried, finished}
 use Rattle.import_session.specs.Workspace.{Workspace, opened, quiet}
+use Rattle.export_laws.specs.Copies.{IsCopyOf}
 use Rattle.export_laws.specs.Leaving.{Leaves}
-use Rattle.export_laws.specs.Told.{AreOf, Told}
-use Rattle.export_laws.specs.Whole.{HasReached, nothing_there}
+use Rattle.export_laws.specs.Told.{Told}
+use Rattle.export_laws.specs.Whole.{nothing_there}
 
 -- What an export asks for once all its objects are saved: the refs are taken away that the tags have
 -- left and the repository has not, and each of its refs is set.
@@ -41,13 +42,11 @@ imported digest text =
     let read = reading false text in
     carried digest (begun (opened nothing_there)) read.items read.tail
 
--- The export of a repository is imported: nothing is refused and nothing printed, and what is left
--- are its refs and HEAD, each object that these reach, and nothing else.
+-- The export of a repository is imported: nothing is refused and nothing printed, and what is left is
+-- a copy.
 pub record IsImported (digest : List ℕ → List ℕ) (repository : Repository) : Type 0 where
   pub left : Repository
   pub prints : (imported digest (export_text repository)).replies ≡ []
   pub ends : finished digest (imported digest (export_text repository)).standing
       ≡ record { fault = None; reply = []; repository = left }
-  pub refs : left.refs ≡ repository.refs
-  pub whole : HasReached repository left.objects
-  pub only : AreOf repository left.objects
+  pub copy : IsCopyOf repository left

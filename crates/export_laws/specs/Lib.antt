@@ -1,10 +1,11 @@
 -- In reading order: acts that are carried out in turn, and what they leave of exported objects; a commit
--- while it is told; what stands once all is saved, and that all is; where an import ends; and files that
--- are put one by one.
+-- while it is told; what stands once all is saved, and that all is; copies of repositories; where an
+-- import ends; and files that are put one by one.
 pub mod Leaving
 pub mod Told
 pub mod Commits
 pub mod Saved
 pub mod Whole
+pub mod Copies
 pub mod Ends
 pub mod Putting

@@ -11,11 +11,11 @@ ghost use Rattle.git_model.specs.Repository.{Object, Repository};
 ghost use Rattle.git_names.specs.Naming.{AnswersNames};
 ghost use Rattle.tenant_tables.specs.Sums.{TreesFit};
 ghost use Rattle.tree_build.specs.FileMap.{AreFiles, FileMap, listed};
-ghost use Rattle.export_text.specs.Limits.{CanExport};
 ghost use Rattle.export_text.specs.Reached.{is_exportable, reached_tags};
 ghost use Rattle.import_session.specs.Sound.{IsSound, IsSoundRepository};
 ghost use Rattle.import_session.specs.Tags.{tag_limit};
 ghost use Rattle.import_session.specs.Workspace.{Workspace};
+ghost use Rattle.export_laws.specs.Copies.{CanBeCopied};
 ghost use Rattle.export_laws.specs.Ends.{AreRefsLeft, IsImported};
 ghost use Rattle.export_laws.specs.Putting.{Puts};
 ghost use Rattle.export_laws.specs.Saved.{IsSaved};
@@ -103,7 +103,6 @@ pub fn refs_are_left()
 /// have them, it may be exported, and its refs reach at most 65,536 tags.
 pub fn exports_are_imported()
     ensures { (digest : List ℕ → List ℕ) → AnswersNames digest → (repository : Repository)
-        → IsSoundRepository digest repository → CanExport repository
-        → length (reached_tags repository) ≤ tag_limit → is_exportable repository ≡ true
+        → IsSoundRepository digest repository → CanBeCopied repository
         → IsImported digest repository }
 {}

@@ -1,2 +1,3 @@
 mod ServeLemmas
 pub mod ImportLemmas
+mod ExportLemmas

@@ -6,5 +6,6 @@ pub use Rattle.tenant_service.specs.Holding
 pub use Rattle.tenant_service.specs.Tenants
 pub mod ImportFaults
 pub mod Import
+pub mod Exports
 pub mod Importing
 pub mod Serving

@@ -5,6 +5,10 @@
 ghost use Rattle.std.specs.Prelude.{◌≡◌, [], false, OnOk, OnErr};
 ghost use Rattle.std.specs.Io.KnownBytes.{Appends};
 ghost use Rattle.git_objects.specs.Device.{device_of, faults_of, AppendsFront, HasFault, seen};
+ghost use Rattle.git_model.specs.Repository.{Repository};
+ghost use Rattle.import_session.specs.Sound.{IsSoundRepository};
+ghost use Rattle.export_laws.specs.Copies.{CanBeCopied};
+ghost use Rattle.gitpool.specs.Exports.{HasExport, TakesExport};
 ghost use Rattle.gitpool.specs.ImportFaults.{as_import};
 ghost use Rattle.gitpool.specs.Import.{Imports};
 ghost use Rattle.gitpool.specs.Importing.{IsReady, IsNewImport, PassesOn, ReadsAll, EndsImport};
@@ -182,15 +186,25 @@ impl<N: Naming> Importer<N> {
 /// where 2^32 reads have not come to the end; then a prefix of the replies to what was read, that
 /// of the end among them where the end was read, stands written, and all of them where no write
 /// failed. `ImportFault::Memory` (90) after a prefix of them.
+///
+/// What a good repository exports, from a reader that has that text and nothing behind it, is never
+/// refused, and nothing is written, where each of its lines and data fits into a stream and its refs
+/// reach at most 65,536 tags; what it leaves at its end is a copy (`exports`).
 pub fn import_one<N: Naming, R: Read, W: Write>(
     alloc: Global,
     naming: N,
     reader: &mut Counted<R>,
     writer: &mut Counted<W>,
 ) -> Result<(), ImportFault>
-    ensures { Imports N.digest_of
+    ensures imported { Imports N.digest_of
         (seen (R.remaining (device_of reader.old)) reader.old)
         (seen (R.remaining (device_of reader.new)) reader.new)
+        (seen (W.contents (device_of writer.old)) writer.old)
+        (seen (W.contents (device_of writer.new)) writer.new) result }
+    ensures exports { (repository : Repository) → IsSoundRepository N.digest_of repository
+        → CanBeCopied repository
+        → HasExport (R.remaining (device_of reader.old)) repository
+        → TakesExport N.digest_of repository
         (seen (W.contents (device_of writer.old)) writer.old)
         (seen (W.contents (device_of writer.new)) writer.new) result }
 {

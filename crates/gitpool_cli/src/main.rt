@@ -3,6 +3,7 @@
 //! file.
 #![tactic(auto)]
 
+mod new_file;
 mod pools;
 mod run_fault;
 mod runs;

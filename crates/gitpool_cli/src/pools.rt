@@ -1,29 +1,55 @@
 //! Services in pool files: loaded at the begin of a run, saved at its end.
 
+use crate::new_file::NewFile;
 use crate::run_fault::RunFault;
 use git_objects::{Counted, Sha1Naming};
 use gitpool::Service;
-use std::fs;
 use std::fs::File;
 use std::io::{BufReader, ErrorKind};
 
-// What a new file has behind the name of the one that it replaces.
-const NEW: &str = ".new";
+/// What is begun with where there is no pool file.
+#[derive(Clone, Copy)]
+pub enum Missing {
+    /// A service that has seen no tenant.
+    Empty,
+    /// Nothing: it is refused.
+    Refused,
+}
 
 /// The service that a pool file has.
 pub fn load(rt: &HostRuntime, pool: &str) -> Result<Service<Sha1Naming>, RunFault> {
-    let file = File::open(rt, pool)?;
-    load_from(rt, file)
+    load_or(rt, pool, Missing::Refused)
 }
 
-/// The service that a pool file has; where there is no file, one that has seen no tenant.
-pub fn load_or_begin(rt: &HostRuntime, pool: &str) -> Result<Service<Sha1Naming>, RunFault> {
+/// The service that a pool file has, and the new file that is to take its place. No other run that
+/// saves is at work on it meanwhile; where one is, this one is refused. Where the file is refused
+/// nothing is left beside it.
+pub fn load_to_save<'a>(
+    rt: &HostRuntime,
+    pool: &'a str,
+    missing: Missing,
+) -> Result<(Service<Sha1Naming>, NewFile<'a>), RunFault> {
+    let new = NewFile::take(rt, pool)?;
+    match load_or(rt, pool, missing) {
+        Ok(service) => Ok((service, new)),
+        Err(fault) => {
+            new.remove(rt);
+            Err(fault)
+        }
+    }
+}
+
+fn load_or(
+    rt: &HostRuntime,
+    pool: &str,
+    missing: Missing,
+) -> Result<Service<Sha1Naming>, RunFault> {
     match File::open(rt, pool) {
         Ok(file) => load_from(rt, file),
-        Err(error) if error.kind() == ErrorKind::NotFound => {
-            Ok(Service::new(rt.alloc(), Sha1Naming))
-        }
-        Err(error) => Err(RunFault::from(error)),
+        Err(error) => match (error.kind(), missing) {
+            (ErrorKind::NotFound, Missing::Empty) => Ok(Service::new(rt.alloc(), Sha1Naming)),
+            _ => Err(RunFault::from(error)),
+        },
     }
 }
 
@@ -32,13 +58,16 @@ fn load_from(rt: &HostRuntime, file: File) -> Result<Service<Sha1Naming>, RunFau
     Ok(Service::load(rt.alloc(), Sha1Naming, &mut reader)?)
 }
 
-/// Saves what every tenant has at its last checkpoint. The file is written beside the one that
-/// stands, and takes its name when it is whole and on the disk; after a fault that one stays.
-pub fn save(rt: &HostRuntime, service: &Service<Sha1Naming>, pool: &str) -> Result<(), RunFault> {
-    let new = format!(in rt.alloc(); "{pool}{NEW}")?;
-    let outcome = save_as(rt, service, &new, pool);
+/// Saves what every tenant has at its last checkpoint: the new file takes the place of the pool file
+/// when it is whole and on the disk. After a fault the pool file stays, and the new one is removed.
+pub fn save(
+    rt: &HostRuntime,
+    service: &Service<Sha1Naming>,
+    new: &NewFile<'_>,
+) -> Result<(), RunFault> {
+    let outcome = save_as(rt, service, new);
     if outcome.is_err() {
-        let _ = fs::remove_file(rt, &new);
+        new.remove(rt);
     }
     outcome
 }
@@ -46,12 +75,9 @@ pub fn save(rt: &HostRuntime, service: &Service<Sha1Naming>, pool: &str) -> Resu
 fn save_as(
     rt: &HostRuntime,
     service: &Service<Sha1Naming>,
-    new: &str,
-    pool: &str,
+    new: &NewFile<'_>,
 ) -> Result<(), RunFault> {
-    let mut writer = Counted::new(File::create(rt, new)?);
+    let mut writer = Counted::new(new.file()?);
     service.save(&mut writer)?;
-    writer.into_inner().sync_all()?;
-    fs::rename(rt, new, pool)?;
-    Ok(())
+    new.replace(rt)
 }

@@ -11,8 +11,8 @@ const PIECE: usize = 65_536;
 // How many pieces are read before their sender counts as one that never ends.
 const PIECES_LIMIT: u64 = 1 << 32;
 
-// What an answer is to the run.
-fn outcome(answer: Answer) -> Result<(), RunFault> {
+/// What an answer is to the run.
+pub fn outcome(answer: Answer) -> Result<(), RunFault> {
     match answer {
         Answer::Ok => Ok(()),
         Answer::Fault(code) => Err(RunFault::Step(code)),

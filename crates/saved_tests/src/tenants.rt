@@ -4,7 +4,7 @@
 use git_objects::{Counted, FailingReader, FailingWriter, Naming, Sha1Naming};
 use std::alloc::{AllocError, Global};
 use std::io::Read;
-use tenant_service::{Fault, Service};
+use tenant_service::{Answer, Fault, Service};
 
 // A file up to its tenants, with five objects under the names that `git hash-object` gave: a commit
 // of the empty tree, that tree, a tree of one file, its blob, and a tag of the commit.
@@ -41,16 +41,27 @@ fn append_tenant(file: &mut Vec<u8>, number: u64) -> Result<(), AllocError> {
     file.extend_from_slice(BEHIND_NAMES)
 }
 
-// A file of so many tenants, at most a thousand, each of whom has all objects.
-fn file_of(alloc: Global, tenants: u64) -> Result<Vec<u8>, AllocError> {
+// A file of so many tenants, at most a thousand, each of whom has all objects, and of further ones
+// that stand behind them.
+fn file_with(
+    alloc: Global,
+    tenants: u64,
+    further: u64,
+    behind: &[u8],
+) -> Result<Vec<u8>, AllocError> {
     let mut file = Vec::from_slice(alloc, OBJECTS)?;
-    file.extend_from_slice(&tenants.to_be_bytes())?;
+    file.extend_from_slice(&tenants.saturating_add(further).to_be_bytes())?;
     for number in 0..tenants {
         append_tenant(&mut file, number)?;
     }
+    file.extend_from_slice(behind)?;
     let digest = Sha1Naming.digest(&file);
     file.extend_from_slice(&digest)?;
     Ok(file)
+}
+
+fn file_of(alloc: Global, tenants: u64) -> Result<Vec<u8>, AllocError> {
+    file_with(alloc, tenants, 0, b"")
 }
 
 fn is_saved_as(alloc: Global, service: &Service<Sha1Naming>, file: &[u8]) -> Result<bool, Fault> {
@@ -82,6 +93,35 @@ fn three_tenants_go_unchanged(rt: HostRuntime) {
 #[test]
 fn a_thousand_tenants_go_unchanged(rt: HostRuntime) {
     assert!(rt; goes_unchanged(rt.alloc(), 1000) == Ok(true));
+}
+
+// The tenant that a copy of any of them leaves: the objects that its refs reach, in the order of an
+// export, which has no part for the tree of one file and its blob.
+const COPY: &[u8] = b"\0\x04tzzz\0\0\0\0\0\0\0\x03\
+\0\0\0\0\0\0\0\x01\0\0\0\0\0\0\0\0\0\0\0\0\0\0\0\x04\0\0\0\0\0\0\0\x02\
+\0\x21refs/namespaces/tzzz/refs/heads/m\0\0\0\0\0\0\0\x01\
+\0\x20refs/namespaces/tzzz/refs/tags/v\0\0\0\0\0\0\0\x02\0\x0frefs/heads/main";
+
+// Whether a copy of the last of so many tenants is taken, and saved behind them.
+fn copies_last(
+    alloc: Global,
+    service: &mut Service<Sha1Naming>,
+    tenants: u64,
+) -> Result<bool, Fault> {
+    let file = file_with(alloc, tenants, 1, COPY)?;
+    let copied = service.copy_tenant(b"t999", b"tzzz") == Answer::Ok;
+    Ok(copied && service.stored() == (5, 200) && is_saved_as(alloc, service, &file)?)
+}
+
+fn is_copied(alloc: Global, tenants: u64) -> Result<bool, Fault> {
+    let file = file_of(alloc, tenants)?;
+    let mut service = load(alloc, file.as_slice())?;
+    copies_last(alloc, &mut service, tenants)
+}
+
+#[test]
+fn one_of_a_thousand_tenants_is_copied(rt: HostRuntime) {
+    assert!(rt; is_copied(rt.alloc(), 1000) == Ok(true));
 }
 
 // How many calls one loading makes over a slice.

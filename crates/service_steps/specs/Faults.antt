@@ -8,3 +8,4 @@ abbrev pub code_of : ServiceFault → ℕ
 code_of fault.NoStream = 30
 code_of fault.StreamIsOpen = 31
 code_of fault.BadTenantName = 32
+code_of fault.TenantNotEmpty = 33

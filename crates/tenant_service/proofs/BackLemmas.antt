@@ -40,7 +40,7 @@ among P [] e each h = absurd h
 among P (x ∷ all) e each (inl same) = subst (λ (y : List ℕ × Holding). P y.0) same each.0
 among P (x ∷ all) e each (inr h) = among P all e each.1 h
 
-found-once : (all : Holdings) (e : List ℕ × Holding) → IsDistinct bytes_eq (keys_of all)
+pub found-once : (all : Holdings) (e : List ℕ × Holding) → IsDistinct bytes_eq (keys_of all)
     → Has all e → lookup (bytes_eq e.0) all ≡ Some e.1
 unfolding IsDistinct
 found-once [] e distinct h = absurd h

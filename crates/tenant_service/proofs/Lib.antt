@@ -11,3 +11,7 @@ mod LentLemmas
 mod SavedLemmas
 mod SavableLemmas
 mod BackLemmas
+mod CopyLemmas
+pub mod ExportLemmas
+mod ExportRunLemmas
+mod StoredCopies

@@ -286,7 +286,7 @@ opened-leads digest (Some zero) repository = record { told = refl; leads = refl 
 opened-leads digest (Some (suc count)) repository = record { told = refl; leads = refl }
 
 -- what leads to what is held leads to its last checkpoint
-last-leads : (digest : List ℕ → List ℕ) (state : State) (held : Holding) → LeadsTo digest state held → last_alone digest state ≡ last_held held
+pub last-leads : (digest : List ℕ → List ℕ) (state : State) (held : Holding) → LeadsTo digest state held → last_alone digest state ≡ last_held held
 last-leads digest (Closed r) (Idle r') h = h
 last-leads digest (Streaming r bytes) (Busy (Runs now tail)) h = ap last_of h
 last-leads digest (Dead code r) (Busy standing) h = sym (ap last_of h)

@@ -116,7 +116,7 @@ own-none digest tenant held = record { told = λ state leads. refl; left = λ st
 
 -- ---- what a step of the service is to each tenant
 
-apart-back : (a b : List ℕ) → bytes_eq a b ≡ false → bytes_eq b a ≡ false
+pub apart-back : (a b : List ℕ) → bytes_eq a b ≡ false → bytes_eq b a ≡ false
 apart-back a b apart = by (bytes_eq b a) refl
   where
     by : (x : Bool) → bytes_eq b a ≡ x → x ≡ false

@@ -20,6 +20,7 @@ use Rattle.tenant_stream.specs.Carrying.{outcome_behind}
 use Rattle.tenant_service.specs.Alone.{Call, Turn, stop_behind}
 use Rattle.tenant_service.specs.Headline.{call_of, stop_told}
 use Rattle.tenant_service.specs.Holding.{Holding, Idle, Holdings, held_of, last_held, step_held}
+use Rattle.tenant_service.specs.StepName.{name_of}
 use Rattle.tenant_service.specs.Tenants.{Tenants, Accounts, holdings}
 
 -- A call was answered and printed as a turn says, and left what it says.
@@ -111,14 +112,6 @@ pub record Restarts (digest : List ℕ → List ℕ) (before : Store) (answer : 
   pub answered : answer ≡ answers.Ok
   pub printed : out' ≡ out
   pub closed : holdings after.pool after.tenants ≡ restarted (holdings before.pool before.tenants)
-
--- The name that a step is under. A restart is under none.
-abbrev pub name_of : Step → List ℕ
-name_of (step.Open given) = given.now
-name_of (step.Feed given bytes) = given.now
-name_of (step.End given) = given.now
-name_of (step.Ask given query) = given.now
-name_of step.Restart = []
 
 -- What a step did: a restart, or a call under a name.
 abbrev pub Steps : (List ℕ → List ℕ) → Step → Store → Answer → List ℕ → List ℕ → Store → Type 0

@@ -4,6 +4,8 @@
 //! every list of steps of any tenants, however interleaved. How steps lie in bytes is not known here.
 #![tactic(auto)]
 
+mod copying;
+pub mod laws;
 mod loading;
 mod saving;
 mod service;

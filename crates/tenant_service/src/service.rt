@@ -12,9 +12,10 @@
 //!
 //! Each answers `Answer::Ok`, and `out` has what the stream prints: crates/two_tenants is a program.
 
-ghost use Rattle.std.specs.Prelude.{◌≡◌, ◌+◌, ◌^◌, ◌++◌, ℕ, List, [], ◌∷◌, length, drop, count_by, true, None, IsNone, IfSome, OnErr, OnOk, ◌<◌};
+ghost use Rattle.std.specs.Prelude.{◌≡◌, ◌+◌, ◌^◌, ◌++◌, ℕ, List, [], ◌∷◌, length, drop, count_by, true, false, None, IsNone, IsSome, IfSome, OnErr, OnOk, ◌<◌};
 ghost use Rattle.byte_devices.specs.Device.{device_of, calls_of, counted_on, seen};
 ghost use Rattle.content_pool.specs.LiveContents.{live_contents, stored_sizes};
+ghost use Rattle.export_laws.specs.Copies.{CanBeCopied};
 ghost use Rattle.git_model.specs.Content.{same_content};
 ghost use Rattle.pool_file.specs.Judging.{IsBlamed};
 ghost use Rattle.pool_file.specs.Repositories.{file_text};
@@ -26,12 +27,15 @@ ghost use Rattle.std.specs.Set.{unique_keys};
 ghost use Rattle.std.specs.Str.{bytes_eq};
 ghost use Rattle.tenant_refs.specs.TenantName.{is_tenant_name};
 ghost use Rattle.tenant_service.specs.Alone.{added, Restart, State};
+ghost use Rattle.tenant_service.specs.Copies.{CopiesAs, StoresAs};
+ghost use Rattle.tenant_service.specs.Copying.{HasTaken, IsCopyRun, copy_refusal};
 ghost use Rattle.tenant_service.specs.Headline.{IsItsOwn, IsRefused, told_in, told_since, run_of};
-ghost use Rattle.tenant_service.specs.Holding.{Holdings, LeadsTo, IsSoundHolding, Idle, empty_repository, held_of, held_contents, has_commit, step_held};
+ghost use Rattle.tenant_service.specs.Holding.{Holdings, LeadsTo, IsSoundHolding, Idle, empty_repository, held_of, held_contents, has_commit, last_held, step_held};
 ghost use Rattle.tenant_service.specs.Saved.{saved_of, IsLoadedFrom, LoadsAs, LoadsText, LoadsEach};
 ghost use Rattle.tenant_service.specs.Tenants.{Shows};
 ghost use Rattle.tenant_tables.specs.StandsIn.{StandsIn};
 
+use crate::copying::{copy, copy_refusal};
 use crate::loading::tenants_of;
 use crate::saving::lend_all;
 use crate::tenant::Tenant;
@@ -229,6 +233,47 @@ impl<N: Naming> Service<N> {
             replies.push(Reply { answer, bytes }).unwrap();
         }
         Ok(())
+    }
+
+    /// Copies the repository of `from`, as it is at its last checkpoint, to the empty tenant `to`.
+    /// For the operator. It is an Ask `export` of `from`, and then Open, one Feed of that text, and
+    /// End of `to`; the answer is the first of theirs that is not Ok, else Ok. Each tenant is told
+    /// what these steps tell it.
+    ///
+    /// `ServiceFault`, in this order: a bad name of one of them is 32; a stream of `to`, be it dead,
+    /// is 31; an object, a ref, or another HEAD of `to` than `refs/heads/main` is 33. A refused Ask
+    /// (25, where there are too many refs for an export, and `Memory`) and a refused Open (`Memory`)
+    /// are answered next. All is as it was after these. A fault of the text, and `Memory`, in a Feed
+    /// or an End leave what of `to` was saved until then, and no stream. `from` and all others have
+    /// what they had.
+    ///
+    /// Where each line and each data of the export fits into a stream, and the refs of `from` reach
+    /// at most 65,536 tags, no step is refused: a copy that is not refused before them is Ok or
+    /// `Memory`, and after Ok `to` has the refs and HEAD of `from`, each object that these reach, with
+    /// the same name, kind and bytes, and no object besides (`copies`). Then nothing more is stored
+    /// than before: `stored` answers what it did.
+    pub fn copy_tenant(&mut self, from: &[u8], to: &[u8]) -> Answer
+        ensures copied { HasTaken N.digest_of self.old self.new (λ run.
+            IsCopyRun (copy_refusal from.now to.now self.old) from.now to.now run result) }
+        ensures others { (tenant : List ℕ) → bytes_eq tenant to.now ≡ false
+            → held_of tenant self.new ≡ held_of tenant self.old }
+        ensures refused { IsSome (copy_refusal from.now to.now self.old) → self.new ≡ self.old }
+        ensures copies { copy_refusal from.now to.now self.old ≡ None
+            → CanBeCopied (last_held (held_of from.now self.old))
+            → CopiesAs result (last_held (held_of from.now self.old)) (held_of to.now self.new) }
+        ensures stored { copy_refusal from.now to.now self.old ≡ None
+            → CanBeCopied (last_held (held_of from.now self.old))
+            → StoresAs result self.old self.new }
+    {
+        match copy_refusal(&self.tenants, from, to) {
+            Some(refusal) => refusal.answer(),
+            None => {
+                self.has_distinct_names();
+                let answer = copy(self.alloc, self, from, to);
+                self.has_distinct_names();
+                answer
+            }
+        }
     }
 }
 

@@ -5,6 +5,10 @@
 #[cfg(test)]
 mod asks;
 #[cfg(test)]
+mod copies;
+#[cfg(test)]
+mod exports;
+#[cfg(test)]
 mod limits;
 #[cfg(test)]
 mod told;

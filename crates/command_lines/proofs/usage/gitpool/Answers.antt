@@ -15,4 +15,5 @@ returns c =
     let one = c.in_ok-subcommand.ensures.shape c.in_ok-serve.ensures.1 ∙ ap₂ with_subcommand base (ap top c.in_ok-serve.ensures.0) in
     let two = c.in_ok-subcommand-2.ensures.shape c.in_ok-import.ensures.1 ∙ ap₂ with_subcommand one (ap top c.in_ok-import.ensures.0) in
     let three = c.in_ok-subcommand-3.ensures.shape c.in_ok-ask.ensures.1 ∙ ap₂ with_subcommand two (ap top c.in_ok-ask.ensures.0) in
-    IfOk-weaker c.subcommand-4.result _ _ (λ r adds. adds.shape c.in_ok-check.ensures.1 ∙ ap₂ with_subcommand three (ap top c.in_ok-check.ensures.0)) c.subcommand-4.ensures
+    let four = c.in_ok-subcommand-4.ensures.shape c.in_ok-check.ensures.1 ∙ ap₂ with_subcommand three (ap top c.in_ok-check.ensures.0) in
+    IfOk-weaker c.subcommand-5.result _ _ (λ r adds. adds.shape c.in_ok-copy.ensures.1 ∙ ap₂ with_subcommand four (ap top c.in_ok-copy.ensures.0)) c.subcommand-5.ensures

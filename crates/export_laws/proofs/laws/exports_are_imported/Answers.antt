@@ -2,4 +2,5 @@ use Rattle.export_laws.proofs.EndImported.{export-imported}
 use Rattle.export_laws.proofs.laws.exports_are_imported.Goals as goal
 
 pub returns : goal.returns
-returns c = export-imported
+returns c = λ digest names repository sound can.
+    export-imported digest names repository sound can.fits can.few_tags can.few_refs

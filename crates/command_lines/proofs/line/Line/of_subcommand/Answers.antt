@@ -26,6 +26,12 @@ returns-in-ask c =
     let ask : c.args.name.now ≡ codes "ask" = search rules in
     rw (pool, ask) c.ask.ensures
 
+pub returns-in-copy : goal.returns-in-copy
+returns-in-copy c =
+    let pool : first_of (codes "pool") (rows_of (found_of c.args.given.now)) ≡ Some c.in_ok-pool.pool.now = search rules in
+    let copy : c.args.name.now ≡ codes "copy" = search rules in
+    rw (pool, copy) c.copy.ensures
+
 pub returns-in-check : goal.returns-in-check
 returns-in-check c =
     let pool : first_of (codes "pool") (rows_of (found_of c.args.given.now)) ≡ Some c.in_ok-pool.pool.now = search rules in

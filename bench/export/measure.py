@@ -1,0 +1,87 @@
+"""Copies the history of bench/history/make_history from one tenant of a pool file to another, and imports its export into a tenant
+of the same file, in one run; prints the best of some rounds: measure.py PROGRAM [ROUNDS [COMMITS]].
+
+Each run of the program loads the file and saves it, so the import of an empty stream, which does that alone, stands beside them.
+The copy has to leave what the import leaves: refs, HEAD, exports and counts. Real git reads the export too, and has to have the refs
+of the history."""
+import hashlib
+import os
+import subprocess
+import sys
+import tempfile
+import time
+
+program = os.path.abspath(sys.argv[1])
+rounds = int(sys.argv[2]) if len(sys.argv) > 2 else 3
+commits = sys.argv[3] if len(sys.argv) > 3 else "5000"
+here = os.path.dirname(os.path.abspath(__file__))
+GIT = ["git", "-c", "core.compression=0", "-c", "pack.compression=0"]
+
+
+def ran(words, given=b"", folder=None):
+    """What a process prints, and its seconds."""
+    start = time.monotonic()
+    done = subprocess.run(words, input=given, cwd=folder, stdout=subprocess.PIPE, check=True)
+    return done.stdout, time.monotonic() - start
+
+
+class Pool:
+    """A pool file in which the tenant `a` has the history."""
+
+    def __init__(self, folder, stream):
+        self.first, self.path = os.path.join(folder, "first"), os.path.join(folder, "pool")
+        ran([program, "import", "a", "--pool", self.first], stream)
+
+    def told(self, query, path):
+        return ran([program, "ask", *query, "--pool", path])
+
+    def left(self, words, given=b""):
+        """The seconds of a run over a file as it was at first."""
+        subprocess.run(["cp", self.first, self.path], check=True)
+        return ran([program, *words, "--pool", self.path], given)[1]
+
+    def tenants(self):
+        """What the file has now: its counts, and digests of what both tenants tell."""
+        looks = [self.told([tenant, query], self.path)[0] for tenant in "ab" for query in ("refs", "head", "export")]
+        return ran([program, "check", "--pool", self.path])[0], [hashlib.sha1(it).digest() for it in looks]
+
+
+def fresh(folder, name, stream):
+    """The refs of a bare repository that git fast-import filled, and its seconds."""
+    path = os.path.join(folder, name)
+    ran(["git", "init", "-q", "--bare", path])
+    took = ran([*GIT, "fast-import", "--quiet"], stream, path)[1]
+    refs = ran(["git", "for-each-ref"], folder=path)[0]
+    subprocess.run(["rm", "-rf", path], check=True)
+    return refs, took
+
+
+def main():
+    stream = ran([os.path.join(here, "..", "history", "make_history"), "--commits", commits])[0]
+    with tempfile.TemporaryDirectory() as folder:
+        pool = Pool(folder, stream)
+        export = pool.told(["a", "export"], pool.first)[0]
+        runs = {
+            "load and save": (["import", "b"], b""),
+            "import": (["import", "b"], export),
+            "copy": (["copy", "a", "b"], b""),
+        }
+        best, left = dict.fromkeys([*runs, "git"], float("inf")), {}
+        refs = fresh(folder, "git", stream)[0]
+        for _ in range(rounds):
+            for name, (words, given) in runs.items():
+                best[name] = min(best[name], pool.left(words, given))
+                left[name] = left.get(name) or pool.tenants()
+            read, took = fresh(folder, "export", export)
+            best["git"] = min(best["git"], took)
+            assert read == refs, "git reads other refs from the export"
+        assert left["copy"] == left["import"], "the copy leaves another repository than the import"
+        alone = best.pop("load and save")
+        own = best["copy"] - alone, best["import"] - alone
+        print(f"{commits} commits, an export of {len(export) / 1e6:.1f} MB, a pool file of {os.path.getsize(pool.path) / 1e6:.1f} MB with both; "
+              f"load and save {alone:.2f} s; import {best['import']:.2f} s; copy {best['copy']:.2f} s,"
+              f" {best['copy'] / best['import']:.2f} of the import, {own[0] / own[1]:.2f} without load and save;"
+              f" git fast-import of the export {best['git']:.2f} s; load {os.getloadavg()[0]:.1f}")
+
+
+main()

@@ -1,0 +1,30 @@
+-- The import of what a repository exports, from a reader to a writer: git-fast-export(1) and
+-- git-fast-import(1).
+use Rattle.std.specs.Prelude.{ℕ, List, Option, Some, Result, Ok, Err, ◌≡◌}
+use Rattle.std.specs.Io.KnownBytes.{Keeps}
+use Rattle.git_model.specs.Repository.{Repository}
+use Rattle.git_objects.specs.Device.{Device}
+use Rattle.export_text.specs.Export.{export_text}
+use Rattle.export_laws.specs.Copies.{IsCopyOf}
+use Rattle.gitpool.specs.Import.{end_of}
+use Rattle.gitpool.specs.declared.import_fault.ImportFault.{ImportFault}
+use Rattle.gitpool.specs.declared.import_fault.ImportFault.TheVariants as fault
+
+-- A reader has the text of a repository's export, and nothing behind it.
+abbrev pub HasExport : Option (List ℕ) → Repository → Type 0
+HasExport known repository = known ≡ Some (export_text repository)
+
+-- The stream was not refused: a device or want of memory alone keeps it from its end.
+abbrev pub IsNotRefused : Result Unit ImportFault → Type 0
+IsNotRefused (Ok u) = Unit {0}
+IsNotRefused (Err (fault.Stream code)) = ⊥
+IsNotRefused (Err fault.Device) = Unit {0}
+IsNotRefused (Err fault.Memory) = Unit {0}
+
+-- What a repository exports was imported: it was not refused, and nothing was written, however it
+-- was answered. What it leaves where it comes to its end is a copy.
+pub record TakesExport (digest : List ℕ → List ℕ) (repository : Repository)
+    (writer writer' : Device) (answer : Result Unit ImportFault) : Type 0 where
+  pub accepted : IsNotRefused answer
+  pub silent : Keeps writer.known writer'.known
+  pub copy : IsCopyOf repository (end_of digest (export_text repository)).repository

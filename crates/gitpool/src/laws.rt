@@ -1,0 +1,16 @@
+//! The laws of exports: what a repository exports is the repository.
+//!
+//! Functions over the definitions alone, which run nothing. The commands of an export's text are its
+//! acts (`exports_ask_for_their_acts`). The acts up to the last object leave each object that the
+//! refs reach, under its name and its mark (`objects_are_told`, by `blobs_are_told`,
+//! `tags_are_told`, `commits_are_told` and `files_are_put`). The others leave the refs and HEAD
+//! (`refs_are_left`). So the import of the text into an empty repository leaves a copy
+//! (`exports_are_imported`), and so do Open, one Feed and End of a tenant that has nothing
+//! (`exports_are_taken`). `import_one` and `Service::copy_tenant` say it of themselves.
+
+pub use export_laws::laws::{
+    blobs_are_told, commits_are_told, exports_are_imported, files_are_put, objects_are_told,
+    refs_are_left, tags_are_told,
+};
+pub use export_text::laws::{exports_are_read_back, exports_ask_for_their_acts};
+pub use tenant_service::laws::exports_are_taken;

@@ -1,0 +1,119 @@
+//! Copies of a tenant's repository to an empty tenant, by the steps of a service.
+//!
+//! Here stands which steps these are. What they leave is the law of exports: `Service::copy_tenant`
+//! says it.
+
+ghost use Rattle.std.specs.Prelude.{◌≡◌};
+ghost use Rattle.content_pool.specs.Pool.{Cells};
+ghost use Rattle.import_session.specs.Session.{repository_in};
+ghost use Rattle.tenant_service.specs.Copying.{HasTaken, IsExport, IsImport};
+ghost use Rattle.tenant_service.specs.Copying.{copy_refusal, first_refusal as first_refused};
+ghost use Rattle.tenant_service.specs.Copying.{has_nothing, held_refusal};
+ghost use Rattle.tenant_service.specs.Tenants.{holding_in, holdings};
+
+use crate::service::Service;
+use crate::tenant::{Phase, Tenant};
+use crate::tenants::name_of;
+use git_objects::Naming;
+use indexmap::IndexMap;
+use service_steps::{Answer, ServiceFault, Step};
+use std::alloc::Global;
+use tenant_refs::{FIRST_HEAD, Refs, TenantName};
+use tenant_tables::Table;
+
+// What the tenant that is copied is asked.
+const EXPORT: &[u8] = b"export";
+
+// Whether a repository has no object, no ref, and the first HEAD.
+fn has_nothing(table: &Table, refs: &Refs) -> bool
+    ensures { (pool : Cells) → result ≡ has_nothing (repository_in pool table.now refs.now) }
+{
+    table.len() == 0 && refs.len() == 0 && refs.head() == FIRST_HEAD
+}
+
+// Why a tenant takes no copy.
+fn refusal_of(tenant: &Tenant) -> Option<ServiceFault>
+    ensures { (pool : Cells) → result ≡ held_refusal (holding_in pool tenant.now) }
+{
+    match &tenant.phase {
+        Phase::Closed => {
+            if has_nothing(&tenant.table, &tenant.refs) {
+                None
+            } else {
+                Some(ServiceFault::TenantNotEmpty)
+            }
+        }
+        _ => Some(ServiceFault::StreamIsOpen),
+    }
+}
+
+/// Why a copy is refused before its first step: a bad name of one of the two tenants (32), a stream
+/// of the second, be it dead (31), or an object, a ref or another HEAD than the first (33). Takes no
+/// memory.
+pub fn copy_refusal(
+    tenants: &IndexMap<TenantName, Tenant>,
+    from: &[u8],
+    to: &[u8],
+) -> Option<ServiceFault>
+    ensures { (pool : Cells)
+        → result ≡ copy_refusal from.now to.now (holdings pool tenants.now.entries) }
+{
+    if let Err(fault) = name_of(from) {
+        return Some(fault);
+    }
+    match name_of(to) {
+        Ok(name) => match tenants.get(&name) {
+            Some(tenant) => refusal_of(tenant),
+            None => None,
+        },
+        Err(fault) => Some(fault),
+    }
+}
+
+// The first of two answers that is not Ok, else Ok.
+fn first_refusal(first: Answer, second: Answer) -> Answer
+    ensures { result ≡ first_refused first second }
+{
+    match first {
+        Answer::Ok => second,
+        refusal => refusal,
+    }
+}
+
+// Opens a stream, feeds it a text, and ends it, also where the text was refused.
+fn import<N: Naming>(alloc: Global, service: &mut Service<N>, to: &[u8], text: &[u8]) -> Answer
+    ensures { HasTaken N.digest_of service.old service.new
+        (λ run. IsImport to.now text.now run result) }
+{
+    let mut out = Vec::new(alloc);
+    match service.step(Step::Open { tenant: to }, &mut out) {
+        Answer::Ok => {}
+        refusal => return refusal,
+    }
+    let fed = service.step(
+        Step::Feed {
+            tenant: to,
+            bytes: text,
+        },
+        &mut out,
+    );
+    let ended = service.step(Step::End { tenant: to }, &mut out);
+    first_refusal(fed, ended)
+}
+
+/// Takes the steps of a copy, and answers the first refusal of them, else Ok. What they print comes
+/// from `alloc`.
+pub fn copy<N: Naming>(alloc: Global, service: &mut Service<N>, from: &[u8], to: &[u8]) -> Answer
+    ensures { HasTaken N.digest_of service.old service.new
+        (λ run. IsExport from.now to.now run result) }
+{
+    let mut text = Vec::new(alloc);
+    let export = Step::Ask {
+        tenant: from,
+        query: EXPORT,
+    };
+    match service.step(export, &mut text) {
+        Answer::Ok => import(alloc, service, to, &text),
+        refusal => refusal,
+    }
+}
