@@ -1,12 +1,13 @@
 -- The lines at the front of a commit's contents, and the digits of their names.
-use Rattle.std.proofs.Common.{◌≡◌, ℕ, zero, suc, ◌+◌, ◌*◌, ◌/◌, ◌%◌, ◌<◌, ◌≤◌, List, [], ◌∷◌, ◌++◌, length, take, drop, slice_get, slice_index, Option, Some, None, All, refl, sym, ap, ◌∙◌, arith, codes}
+use Rattle.std.proofs.Common.{◌≡◌, ℕ, ◌+◌, ◌≤◌, List, [], ◌∷◌, ◌++◌, length, take, drop, slice_get, slice_index, Some, All, Ok, refl, sym, ap, ◌∙◌, arith, codes}
 use Rattle.std.specs.List.{flat_map}
 use Rattle.std.proofs.lemmas.List.{append_assoc, append-nil, length-append, take_at, drop_at}
-use Rattle.std.proofs.lemmas.List.Elements.{All-head, All-tail, All-nil}
-use Rattle.hex.specs.Hex.{encode_lower, encode_with, lower_digits}
+use Rattle.std.proofs.lemmas.List.Elements.{All-head, All-tail}
+use Rattle.hex.specs.Hex.{encode_lower, lower_digits, decode_sized}
 use Rattle.hex.proofs.HexLemmas.{length-encode_with}
 use Rattle.git_model.specs.ObjectName.{IsObjectName}
-use Rattle.git_model.specs.Commit.{Commit, CanWriteCommit, commit_contents, line, name_line, optional_line}
+use Rattle.git_model.proofs.OneLine.{name_decodes}
+use Rattle.git_model.specs.Commit.{Commit, commit_contents, line, name_line, optional_line}
 use Rattle.commit_reach.specs.HeaderLines.{parent_line, after_parents, after_tree}
 
 -- ---- the line of a name
@@ -60,6 +61,15 @@ parent_begins id rest text is e = (
   omega (arith, ap length e, length-append (parent_line id) rest, long_line (codes "parent ") id is),
 )
 
+-- the name is read from the digits on it
+pub parent_read : (id rest text line : List ℕ) → IsObjectName id → text ≡ parent_line id ++ rest
+    → line ≡ take 48 text → decode_sized (take 40 (drop 7 line)) 20 ≡ Ok id
+parent_read id rest text line is e cut =
+    ap (λ (t : List ℕ). decode_sized (take 40 (drop 7 t)) 20)
+    (cut ∙ ap (take 48) e ∙ take_at (parent_line id) rest 48 (long_line (codes "parent ") id is))
+    ∙ ap (λ (digits : List ℕ). decode_sized digits 20) (digits_alone (codes "parent ") id 7 is refl)
+    ∙ name_decodes id is
+
 -- ---- the parents in turn
 
 more_parents : (p : List ℕ) (ps : List (List ℕ)) (k : Commit)
@@ -107,23 +117,3 @@ module _ (k : Commit) (text : List ℕ) where
       sym (append-nil items)
       ∙ ap (λ (xs : List (List ℕ)). items ++ xs) (sym (first_missing ps left.0 left.2 none))
       ∙ left.1
-
--- ---- the two digits of a byte
-
-pub high_digit : (t xs : List ℕ) (k : ℕ) → k < length xs
-    → slice_index (encode_with t xs) (2 * k) ≡ slice_index t (slice_index xs k / 16)
-unfolding encode_with
-high_digit t [] k lt = absurd (omega arith)
-high_digit t (b ∷ rest) zero lt = refl
-high_digit t (b ∷ rest) (suc k) lt =
-    let at : 2 * suc k ≡ suc (suc (2 * k)) = omega arith in
-    rw at (high_digit t rest k (omega arith))
-
-pub low_digit : (t xs : List ℕ) (k : ℕ) → k < length xs
-    → slice_index (encode_with t xs) (2 * k + 1) ≡ slice_index t (slice_index xs k % 16)
-unfolding encode_with
-low_digit t [] k lt = absurd (omega arith)
-low_digit t (b ∷ rest) zero lt = refl
-low_digit t (b ∷ rest) (suc k) lt =
-    let at : 2 * suc k + 1 ≡ suc (suc (2 * k + 1)) = omega arith in
-    rw at (low_digit t rest k (omega arith))

@@ -6,3 +6,4 @@ pub mod CommitsAt
 pub mod Orders
 pub mod LogOrder
 pub mod HeaderLines
+pub mod CommitTimes

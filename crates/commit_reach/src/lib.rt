@@ -6,12 +6,12 @@
 #![tactic(auto)]
 
 mod commits;
-mod digits;
 mod lines;
 mod log;
 mod log_key;
 mod marks;
 mod reach;
+mod times;
 
 pub use lines::first_parent_in;
 pub use log::{a_log_is_one_list, log_of};

@@ -9,7 +9,6 @@ ghost use Rattle.git_model.specs.ObjectName.{IsObjectName};
 ghost use Rattle.git_model.specs.Commit.{Commit, CanWriteCommit, commit_contents, name_line};
 ghost use Rattle.commit_reach.specs.HeaderLines.{after_parents, after_tree};
 
-use crate::digits::name_of;
 use git_objects::{Memory, Name};
 use std::alloc::Global;
 
@@ -19,7 +18,7 @@ const TREE_LINE: usize = 46;
 const PARENT_LINE: usize = 48;
 
 // What follows the line of the tree. Less than that line is nothing.
-fn after_tree(contents: &[u8]) -> &[u8]
+pub(crate) fn after_tree(contents: &[u8]) -> &[u8]
     ensures { (c : Commit) → CanWriteCommit c → contents.now ≡ commit_contents c
         → result.now ≡ after_tree c }
 {
@@ -38,7 +37,8 @@ fn take_parent(text: &[u8]) -> Option<(Name, &[u8])>
         return None;
     }
     let (line, rest) = text.split_at(PARENT_LINE);
-    Some((name_of(&line[7..47]), rest))
+    let id = Name::from_hex(&line[7..47])?;
+    Some((id, rest))
 }
 
 /// The first parent of the commit with these contents, where it has one. Takes no memory.

@@ -10,7 +10,8 @@ ghost use Rattle.git_model.specs.Peeling.{is_of};
 ghost use Rattle.commit_reach.specs.Logs.{log_key, log_of, in_log_order, IsLogOf};
 
 use crate::log_key::LogKey;
-use git_objects::{Ident, Kind, Memory, Name, Naming, read_commit};
+use crate::times::time_in;
+use git_objects::{Kind, Memory, Name, Naming};
 use objects_in_sight::Objects;
 use std::alloc::Global;
 use std::cmp::Reverse;
@@ -60,7 +61,7 @@ fn keys_of<N: Naming>(
     let mut keys = Vec::with_capacity(alloc, count)?;
     for (place, flag) in flags.iter().enumerate() {
         if *flag {
-            push_key(alloc, objects, place, &mut keys)?;
+            push_key(objects, place, &mut keys)?;
         }
     }
     Ok(keys)
@@ -68,7 +69,6 @@ fn keys_of<N: Naming>(
 
 // Appends the key of the commit at a position.
 fn push_key<N: Naming>(
-    alloc: Global,
     objects: &Objects<'_, N>,
     place: usize,
     keys: &mut Vec<LogKey>,
@@ -82,35 +82,19 @@ fn push_key<N: Naming>(
         return Ok(());
     };
     let (id, _, contents) = found;
-    let key = key_in(alloc, id, contents)?;
-    keys.push(key)?;
+    keys.push(key_in(id, contents))?;
     Ok(())
 }
 
 // The key of the commit with this name and these contents.
-fn key_in(alloc: Global, id: Name, contents: &[u8]) -> Result<LogKey, Memory>
+fn key_in(id: Name, contents: &[u8]) -> LogKey
     ensures { (c : Commit) → CanWriteCommit c → contents.now ≡ commit_contents c
-        → IfOk result (λ key. key ≡ record { time = commit_time c; id = id }) }
+        → result ≡ record { time = commit_time c; id = id } }
 {
-    let time = time_in(alloc, contents)?;
-    Ok(LogKey {
-        newest: Reverse(time),
+    LogKey {
+        newest: Reverse(time_in(contents)),
         id,
-    })
-}
-
-// When the commit with these contents was made.
-fn time_in(alloc: Global, contents: &[u8]) -> Result<u64, Memory>
-    ensures { (c : Commit) → CanWriteCommit c → contents.now ≡ commit_contents c
-        → IfOk result (λ time. time ≡ commit_time c) }
-{
-    let Some(parts) = read_commit(alloc, contents)? else {
-        return Ok(0);
-    };
-    let Some(committer) = Ident::from_written(alloc, parts.committer)? else {
-        return Ok(0);
-    };
-    Ok(committer.time())
+    }
 }
 
 /// The log of a set of commits is one list and no other: each list that has the set's members, each

@@ -1,7 +1,8 @@
-use Rattle.std.proofs.Common.{◌≡◌, ℕ, List, take, drop, ap, ◌∙◌, arith, codes, refl}
-use Rattle.std.proofs.lemmas.List.{take_at, drop_at}
+use Rattle.std.proofs.Common.{take, drop, ap, ◌∙◌, arith, codes}
+use Rattle.std.proofs.lemmas.List.{drop_at}
+use Rattle.git_objects.proofs.Lines.{decoded_same}
 use Rattle.commit_reach.specs.HeaderLines.{parent_line}
-use Rattle.commit_reach.proofs.HeaderLines.{long_line, digits_alone, parent_begins}
+use Rattle.commit_reach.proofs.HeaderLines.{long_line, parent_begins, parent_read}
 use Rattle.commit_reach.proofs.lines.take_parent.Goals as goal
 use Rattle.commit_reach.proofs.lines.take_parent.Goals.{then-text-lt-PARENT_LINE-via-then-text-lt-PARENT_LINE, then-text-lt-PARENT_LINE-via-else-text-lt-PARENT_LINE+then-text-ne112}
 
@@ -15,12 +16,14 @@ returns-then-text-lt-PARENT_LINE-clause-there c = λ id rest is e.
       | then-text-lt-PARENT_LINE-via-else-text-lt-PARENT_LINE+then-text-ne112 w ↦ (let other = w.if-text-ne112.true in omega arith)
     ]
 
+pub returns-in_err-id-clause-there : goal.returns-in_err-id-clause-there
+returns-in_err-id-clause-there c = λ id rest is e.
+    absurd (c.in_err-id.ensures id (parent_read id rest c.args.text.now _ is e c.split_at.ensures.front))
+
 pub returns-clause-there : goal.returns-clause-there
-returns-clause-there c = λ id rest is e.
-    let long = long_line (codes "parent ") id is in (
-      c.name_of.ensures id is
-          (ap (λ (t : List ℕ). take 40 (drop 7 t))
-          (c.split_at.ensures.front ∙ ap (take 48) e ∙ take_at (parent_line id) rest 48 long)
-          ∙ digits_alone (codes "parent ") id 7 is refl),
-      c.split_at.ensures.back ∙ ap (drop 48) e ∙ drop_at (parent_line id) rest 48 long,
-    )
+returns-clause-there c = λ id rest is e. (
+  decoded_same (take 40 (drop 7 c.split_at.result.0.now)) c.in_ok-id.id id c.in_ok-id.ensures
+      (parent_read id rest c.args.text.now _ is e c.split_at.ensures.front),
+  c.split_at.ensures.back ∙ ap (drop 48) e
+      ∙ drop_at (parent_line id) rest 48 (long_line (codes "parent ") id is),
+)
