@@ -90,7 +90,7 @@ fn tell_log<N: Naming>(
     ensures kept { take (length out.old.items) out.new.items ≡ out.old.items }
 {
     let ids = resolve_range(alloc, objects, refs, range)?;
-    append_log(alloc, objects, &ids, out)?;
+    append_log(objects, &ids, out)?;
     Ok(())
 }
 
