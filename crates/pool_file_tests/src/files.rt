@@ -78,6 +78,13 @@ fn are_refused_in_version_2(alloc: Global) -> bool {
     true
 }
 
+// The count of objects says that there are none.
+fn code_without_objects(alloc: Global) -> u16 {
+    let mut changed = VERSION_1;
+    changed[19] = 0;
+    code_of_reading(alloc, &changed[..])
+}
+
 fn are_fronts_refused(alloc: Global, file: &[u8]) -> bool {
     for size in 0..file.len() {
         if code_of_reading(alloc, file.split_at(size).0) != 62 {
@@ -156,6 +163,7 @@ fn reads_both_versions(rt: HostRuntime) {
 fn refuses_each_changed_byte(rt: HostRuntime) {
     assert!(rt; are_refused_in_version_1(rt.alloc()));
     assert!(rt; are_refused_in_version_2(rt.alloc()));
+    assert!(rt; code_without_objects(rt.alloc()) == 62);
 }
 
 #[test]

@@ -48,8 +48,38 @@ const ROWS: &[(Row<'static>, &[u8])] = &[
         ),
         FIRST_HEAD,
     ),
+    // A commit before its tree, and a ref to a blob.
+    (
+        (2, OBJECTS, &[(b"t", &[0, 1, 3, 2, 4], &[MAIN, V])], 66),
+        FIRST_HEAD,
+    ),
+    (
+        (
+            1,
+            &[(3, b"ab")],
+            &[(b"t", &[0], &[(b"refs/namespaces/t/refs/heads/m", 0)])],
+            67,
+        ),
+        FIRST_HEAD,
+    ),
     // A bad object.
     ((2, &[(1, b"x")], &[(b"t", &[0], &[])], 65), FIRST_HEAD),
+];
+
+// What is answered where one byte of version 1 is greater by one and the digest is made right, place
+// by place.
+const CODES_1: [u16; 66] = [
+    60, 60, 60, 60, 60, 60, 60, 60, 61, 61, 61, 62, 62, 62, 62, 62, 62, 62, 62, 62, 65, 62, 62, 62,
+    62, 62, 62, 62, 62, 0, 0, 62, 62, 62, 62, 62, 62, 62, 62, 62, 62, 0, 62, 62, 62, 62, 62, 62,
+    62, 62, 64, 64, 64, 64, 64, 64, 64, 64, 62, 62, 62, 62, 62, 62, 62, 62,
+];
+
+// The same of version 2.
+const CODES_2: [u16; 83] = [
+    60, 60, 60, 60, 60, 60, 60, 60, 61, 61, 61, 61, 62, 62, 62, 62, 62, 62, 62, 62, 65, 62, 62, 62,
+    62, 62, 62, 62, 62, 0, 0, 62, 62, 62, 62, 62, 62, 62, 62, 62, 62, 0, 62, 62, 62, 62, 62, 62,
+    62, 62, 64, 64, 64, 64, 64, 64, 64, 64, 62, 62, 62, 62, 62, 62, 62, 62, 62, 62, 67, 67, 67, 67,
+    67, 0, 0, 0, 0, 0, 0, 0, 0, 0, 0,
 ];
 
 fn file_with_head(alloc: Global, row: &(Row<'_>, &[u8])) -> Result<RawFile, Fault> {
@@ -85,6 +115,31 @@ fn code_of_judging(alloc: Global, bytes: &[u8]) -> u16 {
     code_of(read_judged(alloc, &TailNaming, &mut reader))
 }
 
+// The last byte of a digest is the sum of all bytes before it, so it is greater by one too.
+fn are_judged_in_version_1(alloc: Global) -> bool {
+    for place in 0..66 {
+        let mut changed = VERSION_1;
+        changed[place] = changed[place].wrapping_add(1);
+        changed[85] = changed[85].wrapping_add(1);
+        if code_of_judging(alloc, &changed) != CODES_1[place] {
+            return false;
+        }
+    }
+    true
+}
+
+fn are_judged_in_version_2(alloc: Global) -> bool {
+    for place in 0..83 {
+        let mut changed = VERSION_2;
+        changed[place] = changed[place].wrapping_add(1);
+        changed[102] = changed[102].wrapping_add(1);
+        if code_of_judging(alloc, &changed) != CODES_2[place] {
+            return false;
+        }
+    }
+    true
+}
+
 #[test]
 fn judges_both_versions_byte_for_byte(rt: HostRuntime) {
     assert!(rt; code_of_judging(rt.alloc(), &VERSION_1) == 0);
@@ -94,4 +149,10 @@ fn judges_both_versions_byte_for_byte(rt: HostRuntime) {
 #[test]
 fn judges_each_changed_file(rt: HostRuntime) {
     assert_eq!(rt; first_wrong(rt.alloc()), Ok(None));
+}
+
+#[test]
+fn judges_each_changed_byte_under_its_own_digest(rt: HostRuntime) {
+    assert!(rt; are_judged_in_version_1(rt.alloc()));
+    assert!(rt; are_judged_in_version_2(rt.alloc()));
 }
