@@ -1,13 +1,12 @@
 -- An export as the answer to a query.
-use Rattle.std.proofs.Common.{◌≡◌, ℕ, Bool, true, false, List, ◌++◌, refl, sym, ◌∙◌}
-use Rattle.std.specs.Prelude.{Result, Ok, Err}
+use Rattle.std.proofs.Common.{◌≡◌, ℕ, Bool, true, false, List, refl}
+use Rattle.std.specs.Prelude.{Ok, Err}
 use Rattle.git_model.specs.Repository.{Repository}
 use Rattle.export_text.specs.declared.fault.Fault.{Fault as ExportFault}
 use Rattle.export_text.specs.declared.fault.Fault.TheVariants as export_fault
-use Rattle.export_text.specs.Export.{Exports, export_text}
+use Rattle.export_text.specs.Export.{Exports}
 use Rattle.export_text.specs.Reached.{is_exportable}
 use Rattle.answers.specs.declared.fault.Fault.{Fault}
-use Rattle.answers.specs.declared.fault.Fault.TheVariants as fault
 use Rattle.answers.specs.Answers.{export_asked}
 use Rattle.answers.specs.Faults.{Prints, exporting_fault}
 

@@ -1,6 +1,6 @@
 -- Queries, and texts that are none.
 use Rattle.std.specs.Prelude.{◌≡◌, [], Ok, Err, refl, codes}
-use Rattle.revisions.specs.ExpressionReading.{count_of, braced, after_caret, suffix_of, with_byte, expression_of, parted, dotted}
+use Rattle.revisions.specs.ExpressionReading.{count_of, braced, after_caret, suffix_of, with_byte, expression_of}
 use Rattle.answers.specs.declared.query.Query.TheVariants.{RevParse, Refs}
 use Rattle.answers.specs.declared.fault.Fault.TheVariants as fault
 use Rattle.answers.specs.Queries.{word_of, query_of}

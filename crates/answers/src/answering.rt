@@ -6,6 +6,7 @@ ghost use Rattle.tenant_tables.specs.Objects.{objects};
 ghost use Rattle.tenant_tables.specs.StandsIn.{StandsIn};
 ghost use Rattle.tenant_tables.specs.View.{in_sight};
 ghost use Rattle.tenant_tables.specs.declared.sight.Sight.TheVariants.{Committed};
+ghost use Rattle.revisions.specs.FirstParents.{IsFirstParentChain};
 ghost use Rattle.answers.specs.Answers.{answer_to, export_asked, log_asked, object_asked, told, tree_asked};
 ghost use Rattle.answers.specs.Faults.{Gives, Prints, and_then};
 ghost use Rattle.answers.specs.Printed.{line, log_lines, name_line, object_text, shortest_front, tree_lines};
@@ -22,7 +23,7 @@ use content_pool::Pool;
 use export_text::append_export;
 use git_objects::{Kind, Name, Naming};
 use objects_in_sight::Objects;
-use revisions::{Expression, Range, peel, resolve_expression, resolve_range};
+use revisions::{Expression, FirstParentChain, Range, peel, resolve_expression, resolve_range};
 use std::alloc::Global;
 use tenant_refs::Refs;
 use tenant_tables::{Sight, Table};
@@ -32,12 +33,16 @@ fn resolve<N: Naming>(
     alloc: Global,
     objects: &Objects<'_, N>,
     refs: &Refs,
+    chain: &mut FirstParentChain,
     of: &Expression<'_>,
 ) -> Result<Name, Fault>
-    ensures { AreObjects N.digest_of objects.now → Gives result
+    ensures found { AreObjects N.digest_of objects.now → IsFirstParentChain objects.now chain.old
+        → Gives result
         (object_asked (record { objects = objects.now; refs = refs.now }) of.now) }
+    ensures chain { AreObjects N.digest_of objects.now → IsFirstParentChain objects.now chain.old
+        → IsFirstParentChain objects.now chain.new }
 {
-    let id = resolve_expression(alloc, objects, refs, of)?;
+    let id = resolve_expression(alloc, objects, refs, chain, of)?;
     Ok(id)
 }
 
@@ -45,15 +50,19 @@ fn tell_front<N: Naming>(
     alloc: Global,
     objects: &Objects<'_, N>,
     refs: &Refs,
+    chain: &mut FirstParentChain,
     of: &Expression<'_>,
     out: &mut Vec<u8>,
 ) -> Result<(), Fault>
-    ensures told { AreObjects N.digest_of objects.now → Prints
+    ensures told { AreObjects N.digest_of objects.now → IsFirstParentChain objects.now chain.old
+        → Prints
         (and_then (object_asked (record { objects = objects.now; refs = refs.now }) of.now)
         (λ id. Ok (line (shortest_front objects.now id)))) out.old.items out.new.items result }
     ensures kept { take (length out.old.items) out.new.items ≡ out.old.items }
+    ensures chain { AreObjects N.digest_of objects.now → IsFirstParentChain objects.now chain.old
+        → IsFirstParentChain objects.now chain.new }
 {
-    let id = resolve(alloc, objects, refs, of)?;
+    let id = resolve(alloc, objects, refs, chain, of)?;
     let digits = shortest_front(objects, &id);
     append_line(&id.to_hex()[..digits], out)?;
     Ok(())
@@ -63,15 +72,19 @@ fn tell_tree<N: Naming>(
     alloc: Global,
     objects: &Objects<'_, N>,
     refs: &Refs,
+    chain: &mut FirstParentChain,
     of: &Expression<'_>,
     out: &mut Vec<u8>,
 ) -> Result<(), Fault>
-    ensures told { AreObjects N.digest_of objects.now → Prints
+    ensures told { AreObjects N.digest_of objects.now → IsFirstParentChain objects.now chain.old
+        → Prints
         (and_then (tree_asked (record { objects = objects.now; refs = refs.now }) of.now)
         (λ tree. Ok (tree_lines objects.now tree))) out.old.items out.new.items result }
     ensures kept { take (length out.old.items) out.new.items ≡ out.old.items }
+    ensures chain { AreObjects N.digest_of objects.now → IsFirstParentChain objects.now chain.old
+        → IsFirstParentChain objects.now chain.new }
 {
-    let id = resolve(alloc, objects, refs, of)?;
+    let id = resolve(alloc, objects, refs, chain, of)?;
     let tree = peel(alloc, objects, Kind::Tree, id)?;
     append_tree(alloc, objects, &tree, out)?;
     Ok(())
@@ -81,15 +94,19 @@ fn tell_log<N: Naming>(
     alloc: Global,
     objects: &Objects<'_, N>,
     refs: &Refs,
+    chain: &mut FirstParentChain,
     range: &Range<Expression<'_>>,
     out: &mut Vec<u8>,
 ) -> Result<(), Fault>
-    ensures told { AreObjects N.digest_of objects.now → Prints
+    ensures told { AreObjects N.digest_of objects.now → IsFirstParentChain objects.now chain.old
+        → Prints
         (and_then (log_asked (record { objects = objects.now; refs = refs.now }) range.now)
         (λ ids. Ok (log_lines objects.now ids))) out.old.items out.new.items result }
     ensures kept { take (length out.old.items) out.new.items ≡ out.old.items }
+    ensures chain { AreObjects N.digest_of objects.now → IsFirstParentChain objects.now chain.old
+        → IsFirstParentChain objects.now chain.new }
 {
-    let ids = resolve_range(alloc, objects, refs, range)?;
+    let ids = resolve_range(alloc, objects, refs, chain, range)?;
     append_log(objects, &ids, out)?;
     Ok(())
 }
@@ -98,15 +115,19 @@ fn tell_name<N: Naming>(
     alloc: Global,
     objects: &Objects<'_, N>,
     refs: &Refs,
+    chain: &mut FirstParentChain,
     of: &Expression<'_>,
     out: &mut Vec<u8>,
 ) -> Result<(), Fault>
-    ensures told { AreObjects N.digest_of objects.now → Prints
+    ensures told { AreObjects N.digest_of objects.now → IsFirstParentChain objects.now chain.old
+        → Prints
         (and_then (object_asked (record { objects = objects.now; refs = refs.now }) of.now)
         (λ id. Ok (name_line id))) out.old.items out.new.items result }
     ensures kept { take (length out.old.items) out.new.items ≡ out.old.items }
+    ensures chain { AreObjects N.digest_of objects.now → IsFirstParentChain objects.now chain.old
+        → IsFirstParentChain objects.now chain.new }
 {
-    let id = resolve(alloc, objects, refs, of)?;
+    let id = resolve(alloc, objects, refs, chain, of)?;
     append_name(id, out)?;
     Ok(())
 }
@@ -115,15 +136,19 @@ fn tell_object<N: Naming>(
     alloc: Global,
     objects: &Objects<'_, N>,
     refs: &Refs,
+    chain: &mut FirstParentChain,
     of: &Expression<'_>,
     out: &mut Vec<u8>,
 ) -> Result<(), Fault>
-    ensures told { AreObjects N.digest_of objects.now → Prints
+    ensures told { AreObjects N.digest_of objects.now → IsFirstParentChain objects.now chain.old
+        → Prints
         (and_then (object_asked (record { objects = objects.now; refs = refs.now }) of.now)
         (λ id. Ok (object_text objects.now id))) out.old.items out.new.items result }
     ensures kept { take (length out.old.items) out.new.items ≡ out.old.items }
+    ensures chain { AreObjects N.digest_of objects.now → IsFirstParentChain objects.now chain.old
+        → IsFirstParentChain objects.now chain.new }
 {
-    let id = resolve(alloc, objects, refs, of)?;
+    let id = resolve(alloc, objects, refs, chain, of)?;
     append_object(objects, id, out)?;
     Ok(())
 }
@@ -150,20 +175,24 @@ fn tell<N: Naming>(
     alloc: Global,
     objects: &Objects<'_, N>,
     refs: &Refs,
+    chain: &mut FirstParentChain,
     query: &Query<'_>,
     out: &mut Vec<u8>,
 ) -> Result<(), Fault>
-    ensures told { AreObjects N.digest_of objects.now → Prints
+    ensures told { AreObjects N.digest_of objects.now → IsFirstParentChain objects.now chain.old
+        → Prints
         (told (record { objects = objects.now; refs = refs.now }) query.now)
         out.old.items out.new.items result }
     ensures kept { take (length out.old.items) out.new.items ≡ out.old.items }
+    ensures chain { AreObjects N.digest_of objects.now → IsFirstParentChain objects.now chain.old
+        → IsFirstParentChain objects.now chain.new }
 {
     match query {
-        Query::RevParse(of) => tell_name(alloc, objects, refs, of, out),
-        Query::Abbrev(of) => tell_front(alloc, objects, refs, of, out),
-        Query::Cat(of) => tell_object(alloc, objects, refs, of, out),
-        Query::Ls(of) => tell_tree(alloc, objects, refs, of, out),
-        Query::Log(range) => tell_log(alloc, objects, refs, range, out),
+        Query::RevParse(of) => tell_name(alloc, objects, refs, chain, of, out),
+        Query::Abbrev(of) => tell_front(alloc, objects, refs, chain, of, out),
+        Query::Cat(of) => tell_object(alloc, objects, refs, chain, of, out),
+        Query::Ls(of) => tell_tree(alloc, objects, refs, chain, of, out),
+        Query::Log(range) => tell_log(alloc, objects, refs, chain, range, out),
         Query::Refs => Ok(append_refs(refs, out)?),
         Query::Head => Ok(append_line(refs.head(), out)?),
         Query::Export => tell_export(alloc, objects, refs, out),
@@ -175,16 +204,20 @@ fn tell_or_nothing<N: Naming>(
     alloc: Global,
     objects: &Objects<'_, N>,
     refs: &Refs,
+    chain: &mut FirstParentChain,
     query: &Query<'_>,
     out: &mut Vec<u8>,
 ) -> Result<(), Fault>
-    ensures told { AreObjects N.digest_of objects.now → Prints
+    ensures told { AreObjects N.digest_of objects.now → IsFirstParentChain objects.now chain.old
+        → Prints
         (told (record { objects = objects.now; refs = refs.now }) query.now)
         out.old.items out.new.items result }
     ensures same { OnErr result (out.new.items ≡ out.old.items) }
+    ensures chain { AreObjects N.digest_of objects.now → IsFirstParentChain objects.now chain.old
+        → IsFirstParentChain objects.now chain.new }
 {
     let start = out.len();
-    let told = tell(alloc, objects, refs, query, out);
+    let told = tell(alloc, objects, refs, chain, query, out);
     if told.is_err() {
         out.truncate(start);
     }
@@ -207,27 +240,33 @@ fn tell_or_nothing<N: Naming>(
 /// `Fault::MalformedQuery` (41) above 8,192 bytes, else `Fault::UnknownQuery` (40), else
 /// `Fault::MalformedQuery` (41); then `Fault::WrongKind` (15), `Fault::UnknownRevision` (16) and
 /// `Fault::Ambiguous` (17) in the order in which expressions are decided; `Fault::Limit` (25) where
-/// there are too many refs to be exported (export_text). Takes memory for the answer and to read what it passes; `Fault::Memory` (90) where there is none. After a refusal
-/// `out` is unchanged.
+/// there are too many refs to be exported (export_text). Takes memory for the answer, to read what
+/// it passes, and to keep the commits of `~<n>` in the chain; `Fault::Memory` (90) where there is
+/// none. After a refusal `out` is unchanged.
 ///
 /// The pool is the one that the table stands in. The answer is the defined one where the committed
-/// objects are good (AreObjects of git_model).
+/// objects are good (AreObjects of git_model) and the chain is one of theirs, be it empty. A chain
+/// that a call leaves serves the next one over the same objects.
 pub fn answer<N: Naming>(
     alloc: Global,
     pool: &Pool<N>,
     table: &Table,
     refs: &Refs,
+    chain: &mut FirstParentChain,
     text: &[u8],
     out: &mut Vec<u8>,
 ) -> Result<(), Fault>
     requires { StandsIn N.digest_of pool.now table.now.entries }
     ensures told { let os = objects pool.now (in_sight Committed table.now) in
-        AreObjects N.digest_of os → Prints
+        AreObjects N.digest_of os → IsFirstParentChain os chain.old → Prints
         (answer_to (record { objects = os; refs = refs.now }) text.now)
         out.old.items out.new.items result }
     ensures same { OnErr result (out.new.items ≡ out.old.items) }
+    ensures chain { let os = objects pool.now (in_sight Committed table.now) in
+        AreObjects N.digest_of os → IsFirstParentChain os chain.old
+        → IsFirstParentChain os chain.new }
 {
     let query = read_query(alloc, text)?;
     let objects = Objects::of(pool, table, Sight::Committed);
-    tell_or_nothing(alloc, &objects, refs, &query, out)
+    tell_or_nothing(alloc, &objects, refs, chain, &query, out)
 }

@@ -1,11 +1,11 @@
-//! Parents of commits: gitrevisions(7), `<rev>^<n>` and `<rev>~<n>`.
+//! Parents of commits: gitrevisions(7), `<rev>^<n>`.
 
 ghost use Rattle.std.specs.Prelude.{◌≡◌, List, IfOk, slice_get};
 ghost use Rattle.git_model.specs.Repository.{Object};
 ghost use Rattle.git_model.specs.References.{parents_in, parents_of};
 ghost use Rattle.git_model.specs.GoodRepository.{AreObjects, IsValid};
 ghost use Rattle.revisions.specs.Faults.{Gives};
-ghost use Rattle.revisions.specs.Resolution.{nth_parent, nth_ancestor};
+ghost use Rattle.revisions.specs.Resolution.{nth_parent};
 
 use crate::contents::parent_in;
 use crate::fault::Fault;
@@ -64,22 +64,4 @@ pub(crate) fn nth_parent<N: Naming>(
         Some(parent) => Ok(parent),
         None => Err(Fault::UnknownRevision),
     }
-}
-
-/// The commit that n steps to the first parent lead to. The refusals are those of `nth_parent`.
-pub(crate) fn nth_ancestor<N: Naming>(
-    alloc: Global,
-    objects: &Objects<'_, N>,
-    n: u32,
-    commit: Name,
-) -> Result<Name, Fault>
-    ensures { AreObjects N.digest_of objects.now → Gives result (nth_ancestor objects.now n commit) }
-{
-    let mut at = commit;
-    let mut steps = n;
-    'way: while steps > 0 {
-        at = nth_parent(alloc, objects, 1, at)?;
-        steps -= 1;
-    }
-    Ok(at)
 }

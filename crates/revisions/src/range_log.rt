@@ -7,12 +7,14 @@ ghost use Rattle.tenant_tables.specs.Objects.{objects};
 ghost use Rattle.tenant_tables.specs.StandsIn.{StandsIn};
 ghost use Rattle.tenant_tables.specs.View.{in_sight};
 ghost use Rattle.revisions.specs.Faults.{Gives, GivesBy};
+ghost use Rattle.revisions.specs.FirstParents.{IsFirstParentChain};
 ghost use Rattle.revisions.specs.Ranges.{both_named, range_named, reaches_without, is_in_range};
 ghost use Rattle.revisions.specs.Logs.{named_log, range_log};
 
 use crate::commit_range::Range;
 use crate::expression::Expression;
 use crate::fault::Fault;
+use crate::first_parents::FirstParentChain;
 use crate::range_reading::read_range;
 use crate::resolving::resolve_commit;
 use commit_reach::{log_of, reached_from};
@@ -42,27 +44,32 @@ pub fn range<N: Naming>(
 {
     let range = read_range(alloc, text)?;
     let objects = Objects::of(pool, table, sight);
-    resolve_range(alloc, &objects, refs, &range)
+    let mut chain = FirstParentChain::new(alloc);
+    resolve_range(alloc, &objects, refs, &mut chain, &range)
 }
 
 /// The commits of a range, among the objects in sight and with these refs: by the committer's time
 /// from new to old, and of one time by rising name.
 ///
 /// The left side is decided wholly before the right, with the refusals of `resolve_commit`. Takes
-/// memory for the walks and the list; `Fault::Memory` (90) where there is none. The answer is that
-/// of gitrevisions(7) where the objects in sight are good (AreObjects of git_model).
+/// memory for the walks, their chain and the list; `Fault::Memory` (90) where there is none. The
+/// answer is that of gitrevisions(7) where the objects in sight are good (AreObjects of git_model)
+/// and the chain is one of theirs.
 pub fn resolve_range<N: Naming>(
     alloc: Global,
     objects: &Objects<'_, N>,
     refs: &Refs,
+    chain: &mut FirstParentChain,
     range: &Range<Expression<'_>>,
 ) -> Result<Vec<Name>, Fault>
-    ensures log { AreObjects N.digest_of objects.now → GivesBy (λ ids. ids.items) result
-        (named_log objects.now refs.now range.now) }
+    ensures log { AreObjects N.digest_of objects.now → IsFirstParentChain objects.now chain.old
+        → GivesBy (λ ids. ids.items) result (named_log objects.now refs.now range.now) }
     ensures commits { AreObjects N.digest_of objects.now
         → IfOk result (λ ids. All (λ id. is_of objects.now Kind.Commit id ≡ true) ids.items) }
+    ensures chain { AreObjects N.digest_of objects.now → IsFirstParentChain objects.now chain.old
+        → IsFirstParentChain objects.now chain.new }
 {
-    let range = range_named(alloc, objects, refs, range)?;
+    let range = range_named(alloc, objects, refs, chain, range)?;
     let flags = flags_of(alloc, objects, &range)?;
     let ids = log_of(alloc, objects, &flags)?;
     Ok(ids)
@@ -73,22 +80,25 @@ fn range_named<N: Naming>(
     alloc: Global,
     objects: &Objects<'_, N>,
     refs: &Refs,
+    chain: &mut FirstParentChain,
     range: &Range<Expression<'_>>,
 ) -> Result<Range<Name>, Fault>
-    ensures { AreObjects N.digest_of objects.now
+    ensures named { AreObjects N.digest_of objects.now → IsFirstParentChain objects.now chain.old
         → Gives result (range_named objects.now refs.now range.now) }
+    ensures chain { AreObjects N.digest_of objects.now → IsFirstParentChain objects.now chain.old
+        → IsFirstParentChain objects.now chain.new }
 {
     match range {
         Range::From(tip) => {
-            let tip = resolve_commit(alloc, objects, refs, tip)?;
+            let tip = resolve_commit(alloc, objects, refs, chain, tip)?;
             Ok(Range::From(tip))
         }
         Range::Between(old, tip) => {
-            let (old, tip) = both_named(alloc, objects, refs, old, tip)?;
+            let (old, tip) = both_named(alloc, objects, refs, chain, old, tip)?;
             Ok(Range::Between(old, tip))
         }
         Range::Either(left, right) => {
-            let (left, right) = both_named(alloc, objects, refs, left, right)?;
+            let (left, right) = both_named(alloc, objects, refs, chain, left, right)?;
             Ok(Range::Either(left, right))
         }
     }
@@ -99,14 +109,17 @@ fn both_named<N: Naming>(
     alloc: Global,
     objects: &Objects<'_, N>,
     refs: &Refs,
+    chain: &mut FirstParentChain,
     left: &Expression<'_>,
     right: &Expression<'_>,
 ) -> Result<(Name, Name), Fault>
-    ensures { AreObjects N.digest_of objects.now
+    ensures named { AreObjects N.digest_of objects.now → IsFirstParentChain objects.now chain.old
         → Gives result (both_named objects.now refs.now left.now right.now) }
+    ensures chain { AreObjects N.digest_of objects.now → IsFirstParentChain objects.now chain.old
+        → IsFirstParentChain objects.now chain.new }
 {
-    let left = resolve_commit(alloc, objects, refs, left)?;
-    let right = resolve_commit(alloc, objects, refs, right)?;
+    let left = resolve_commit(alloc, objects, refs, chain, left)?;
+    let right = resolve_commit(alloc, objects, refs, chain, right)?;
     Ok((left, right))
 }
 

@@ -6,13 +6,15 @@ ghost use Rattle.tenant_tables.specs.Objects.{objects};
 ghost use Rattle.tenant_tables.specs.StandsIn.{StandsIn};
 ghost use Rattle.tenant_tables.specs.View.{in_sight};
 ghost use Rattle.revisions.specs.Faults.{Gives};
+ghost use Rattle.revisions.specs.FirstParents.{IsFirstParentChain};
 ghost use Rattle.revisions.specs.Ranges.{commit_named};
 ghost use Rattle.revisions.specs.Resolution.{at_path, after_suffix, after_suffixes, named_by, resolved};
 
 use crate::base::{base_named, if_there};
 use crate::expression::Expression;
 use crate::fault::Fault;
-use crate::parents::{nth_ancestor, nth_parent};
+use crate::first_parents::FirstParentChain;
+use crate::parents::nth_parent;
 use crate::peeling::{peel, peel_tags};
 use crate::stored_path::entry_below;
 use crate::suffix::Suffix;
@@ -53,11 +55,14 @@ fn at_path<N: Naming>(
 fn after_suffix<N: Naming>(
     alloc: Global,
     objects: &Objects<'_, N>,
+    chain: &mut FirstParentChain,
     suffix: &Suffix,
     id: Name,
 ) -> Result<Name, Fault>
-    ensures { AreObjects N.digest_of objects.now
+    ensures found { AreObjects N.digest_of objects.now → IsFirstParentChain objects.now chain.old
         → Gives result (after_suffix objects.now suffix.now id) }
+    ensures chain { AreObjects N.digest_of objects.now → IsFirstParentChain objects.now chain.old
+        → IsFirstParentChain objects.now chain.new }
 {
     match suffix {
         Suffix::Parent(n) => {
@@ -66,7 +71,7 @@ fn after_suffix<N: Naming>(
         }
         Suffix::Ancestor(n) => {
             let commit = peel(alloc, objects, Kind::Commit, id)?;
-            nth_ancestor(alloc, objects, *n, commit)
+            chain.ancestor(alloc, objects, *n, commit)
         }
         Suffix::PeelTo(kind) => peel(alloc, objects, *kind, id),
         Suffix::PeelTags => peel_tags(alloc, objects, id),
@@ -82,15 +87,18 @@ fn after_suffix<N: Naming>(
 fn after_suffixes<N: Naming>(
     alloc: Global,
     objects: &Objects<'_, N>,
+    chain: &mut FirstParentChain,
     suffixes: &[Suffix],
     id: Name,
 ) -> Result<Name, Fault>
-    ensures { AreObjects N.digest_of objects.now
+    ensures found { AreObjects N.digest_of objects.now → IsFirstParentChain objects.now chain.old
         → Gives result (after_suffixes objects.now suffixes.now id) }
+    ensures chain { AreObjects N.digest_of objects.now → IsFirstParentChain objects.now chain.old
+        → IsFirstParentChain objects.now chain.new }
 {
     let mut at = id;
     for suffix in suffixes {
-        at = after_suffix(alloc, objects, suffix, at)?;
+        at = after_suffix(alloc, objects, chain, suffix, at)?;
     }
     Ok(at)
 }
@@ -105,22 +113,27 @@ fn after_suffixes<N: Naming>(
 /// `Fault::WrongKind` (15) where an object cannot be peeled to the kind that is asked for,
 /// `Fault::UnknownRevision` (16) where there is no such object, ref, parent or entry, or the path
 /// is past the limits, `Fault::Ambiguous` (17) where several names begin with the digits. Takes
-/// memory for ref names and to read what it passes; `Fault::Memory` (90) where there is none.
+/// memory for ref names, to read what it passes, and to keep the commits of `~<n>` in the chain;
+/// `Fault::Memory` (90) where there is none.
 ///
-/// The answer is that of gitrevisions(7) among the objects of a good repository; among others it is
-/// any.
+/// The answer is that of gitrevisions(7) among the objects of a good repository, with a chain of
+/// these objects; among others it is any. A chain that a call leaves serves the next one over the
+/// same objects.
 #[tactic(auto, unfolding(crate::specs::Resolution::named_by))]
 pub fn resolve_expression<N: Naming>(
     alloc: Global,
     objects: &Objects<'_, N>,
     refs: &Refs,
+    chain: &mut FirstParentChain,
     expression: &Expression<'_>,
 ) -> Result<Name, Fault>
-    ensures { AreObjects N.digest_of objects.now
+    ensures found { AreObjects N.digest_of objects.now → IsFirstParentChain objects.now chain.old
         → Gives result (named_by objects.now refs.now expression.now) }
+    ensures chain { AreObjects N.digest_of objects.now → IsFirstParentChain objects.now chain.old
+        → IsFirstParentChain objects.now chain.new }
 {
     let id = base_named(alloc, objects, refs, expression.base())?;
-    after_suffixes(alloc, objects, expression.suffixes(), id)
+    after_suffixes(alloc, objects, chain, expression.suffixes(), id)
 }
 
 /// The commit that one side of a range names: `resolve_expression`, peeled to a commit.
@@ -131,12 +144,15 @@ pub fn resolve_commit<N: Naming>(
     alloc: Global,
     objects: &Objects<'_, N>,
     refs: &Refs,
+    chain: &mut FirstParentChain,
     expression: &Expression<'_>,
 ) -> Result<Name, Fault>
-    ensures { AreObjects N.digest_of objects.now
+    ensures found { AreObjects N.digest_of objects.now → IsFirstParentChain objects.now chain.old
         → Gives result (commit_named objects.now refs.now expression.now) }
+    ensures chain { AreObjects N.digest_of objects.now → IsFirstParentChain objects.now chain.old
+        → IsFirstParentChain objects.now chain.new }
 {
-    let id = resolve_expression(alloc, objects, refs, expression)?;
+    let id = resolve_expression(alloc, objects, refs, chain, expression)?;
     peel(alloc, objects, Kind::Commit, id)
 }
 
@@ -161,5 +177,6 @@ pub fn resolve<N: Naming>(
 {
     let expression = Expression::read(alloc, text)?;
     let objects = Objects::of(pool, table, sight);
-    resolve_expression(alloc, &objects, refs, &expression)
+    let mut chain = FirstParentChain::new(alloc);
+    resolve_expression(alloc, &objects, refs, &mut chain, &expression)
 }

@@ -7,6 +7,7 @@ use crate::made_by_git::{
     THIRD, VV,
 };
 use git_objects::{Naming, Sha1Naming};
+use revisions::FirstParentChain;
 use std::alloc::Global;
 use std::test::Fail;
 use tenant_refs::{RefName, Refs};
@@ -325,7 +326,8 @@ impl<N: Naming> History<N> {
         let mut refs = Refs::new(self.alloc);
         set_all(&mut refs, self.alloc, export.refs)?;
         set_head(&mut refs, RefName::read(self.alloc, export.head)?);
-        self.prints(&refs, b"export", Ok(export.text))
+        let mut chain = FirstParentChain::new(self.alloc);
+        self.prints(&refs, &mut chain, b"export", Ok(export.text))
     }
 }
 

@@ -10,7 +10,7 @@ use answers::answer;
 use content_pool::Pool;
 use git_objects::{FileMode, Kind, Name, Naming, Sha1Naming};
 use git_paths::Path;
-use revisions::{Fault, resolve};
+use revisions::{Fault, FirstParentChain, resolve};
 use std::alloc::Global;
 use std::marker::Model;
 use std::test::Fail;
@@ -219,9 +219,11 @@ impl<N: Naming> History<N> {
         self.first_wrong_printed(&refs, queries.printed)
     }
 
+    // Each query goes on along the first parents that the ones before it met.
     fn first_wrong_printed(&self, refs: &Refs, all: &[Printed]) -> Result<Option<usize>, Fail> {
+        let mut chain = FirstParentChain::new(self.alloc);
         for (position, (text, printed)) in all.iter().enumerate() {
-            if !self.prints(refs, text, *printed)? {
+            if !self.prints(refs, &mut chain, text, *printed)? {
                 return Ok(Some(position));
             }
         }
@@ -232,12 +234,14 @@ impl<N: Naming> History<N> {
     pub fn prints(
         &self,
         refs: &Refs,
+        chain: &mut FirstParentChain,
         text: &[u8],
         printed: Result<&[u8], u16>,
     ) -> Result<bool, Fail> {
         let mut out = Vec::new(self.alloc);
         out.extend_from_slice(ASKED)?;
-        let answer = answer(self.alloc, &self.pool, &self.table, refs, text, &mut out);
+        let (pool, table) = (&self.pool, &self.table);
+        let answer = answer(self.alloc, pool, table, refs, chain, text, &mut out);
         is_printed(answer, &out, printed)
     }
 

@@ -25,7 +25,23 @@ const NAMES: &[Printed] = &[
         Ok(b"cf0e55a85504cc4cb40293de4e194b7f4e584893\n"),
     ),
     (b"rev-parse main^{tag}", Err(15)),
+    (
+        b"rev-parse main~1",
+        Ok(b"538eca3bc5adea9abe246f65b99ac61354f6ae52\n"),
+    ),
     (b"rev-parse main~3", Err(16)),
+    (
+        b"rev-parse side~1",
+        Ok(b"0d25961d6e542d9a79724e7f0b40fe87fe47fcd2\n"),
+    ),
+    (
+        b"rev-parse main~2",
+        Ok(b"0d25961d6e542d9a79724e7f0b40fe87fe47fcd2\n"),
+    ),
+    (
+        b"rev-parse main~0",
+        Ok(b"d257927dd0b4991858864b12862325a6587d882f\n"),
+    ),
     (b"rev-parse ce01db81", Err(16)),
     (b"rev-parse main^{/a}", Err(41)),
     (b"rev-parse a b", Err(16)),

@@ -1,5 +1,5 @@
 -- The accounts of all tenants, through a call of one.
-use Rattle.std.proofs.Common.{◌≡◌, ℕ, ◌+◌, ◌<◌, ◌≤◌, ◌^◌, Bool, true, false, cond, List, [], ◌∷◌, ◌++◌, length, None, Some, refl, sym, ap, subst, ◌∙◌, arith, append-nil}
+use Rattle.std.proofs.Common.{◌≡◌, ℕ, ◌+◌, ◌<◌, ◌≤◌, ◌^◌, Bool, true, false, cond, List, [], ◌∷◌, ◌++◌, length, take, None, Some, refl, sym, ap, subst, ◌∙◌, arith, append-nil}
 use Rattle.std.specs.List.{AllByRecursion}
 use Rattle.std.specs.Map.{lookup, set_value}
 use Rattle.std.specs.Option.{option_map, unwrap_or}
@@ -15,8 +15,9 @@ use Rattle.tenant_tables.specs.View.{View, Entries, held}
 use Rattle.tenant_tables.specs.Objects.{objects}
 use Rattle.tenant_tables.specs.StandsIn.{LeavesOthers, AreCounted}
 use Rattle.tenant_tables.proofs.HoldLemmas.{held-nil}
-use Rattle.tenant_tables.proofs.TableLemmas.{LeavesOthers-refl, other_stands, other_objects}
+use Rattle.tenant_tables.proofs.TableLemmas.{LeavesOthers-refl, other_stands, other_objects, objects-take}
 use Rattle.open_commits.specs.OpenCommit.{commit_in}
+use Rattle.revisions.specs.FirstParents.{IsFirstParentChain}
 use Rattle.import_session.specs.Session.{workspace_in}
 use Rattle.import_session.specs.Stream.{Runs, Refused}
 use Rattle.service_steps.specs.declared.answer.Answer.{Answer}
@@ -65,6 +66,10 @@ stands_beside digest p q old new leaves (e ∷ es) bound all = (
     settled = all.0.settled;
     files = subst (λ (os : List Object). HoldsIn os e.1.phase)
         (sym (other_objects p q old new e.1.table.entries (counted_beside p e es old bound) leaves)) all.0.files;
+    chain = subst (λ (os : List Object). IsFirstParentChain os e.1.chain)
+        (objects-take p e.1.table.committed e.1.table.entries
+        ∙ ap (take e.1.table.committed) (sym (other_objects p q old new e.1.table.entries (counted_beside p e es old bound) leaves))
+        ∙ sym (objects-take q e.1.table.committed e.1.table.entries)) all.0.chain;
   },
   stands_beside digest p q old new leaves es (bound_beside p e es old bound) all.1,
 )

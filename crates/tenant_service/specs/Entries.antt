@@ -1,6 +1,6 @@
 -- Tenants as they are lent to be saved, and as they were loaded: what the proofs of the service's
 -- calls say to one another. No public clause cites it.
-use Rattle.std.specs.Prelude.{◌≡◌, ℕ, List, ◌++◌, map}
+use Rattle.std.specs.Prelude.{◌≡◌, ℕ, List, [], ◌++◌, map}
 use Rattle.git_model.specs.RefStore.{RefStore}
 use Rattle.tenant_tables.specs.View.{View}
 use Rattle.pool_loading.specs.declared.tenant.Tenant.{Tenant as Loaded}
@@ -11,8 +11,15 @@ use Rattle.tenant_service.specs.Tenants.{Tenants}
 
 -- A tenant that was loaded has no stream.
 abbrev pub entry_of : Loaded → List ℕ × Tenant
-entry_of loaded =
-    (loaded.name, record { table = loaded.table; refs = loaded.refs; phase = phase.Closed })
+entry_of loaded = (
+  loaded.name,
+  record {
+    table = loaded.table;
+    refs = loaded.refs;
+    phase = phase.Closed;
+    chain = [];
+  },
+)
 
 -- Those that were taken in, and behind them those that are left, are all.
 abbrev pub AreAll : Tenants → List Loaded → List Loaded → Type 0

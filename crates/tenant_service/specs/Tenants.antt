@@ -6,9 +6,11 @@ use Rattle.git_model.specs.RefStore.{RefStore}
 use Rattle.git_model.specs.Repository.{Object}
 use Rattle.content_pool.specs.Pool.{Cells, holds}
 use Rattle.tenant_refs.specs.TenantName.{is_tenant_name}
-use Rattle.tenant_tables.specs.View.{View, held}
+use Rattle.tenant_tables.specs.View.{View, held, in_sight}
+use Rattle.tenant_tables.specs.declared.sight.Sight.TheVariants.{Committed}
 use Rattle.tenant_tables.specs.Objects.{objects}
 use Rattle.tenant_tables.specs.StandsIn.{StandsIn}
+use Rattle.revisions.specs.FirstParents.{IsFirstParentChain}
 use Rattle.stream_lex.specs.Items.{Tail, Rest}
 use Rattle.import_session.specs.Held.{HoldsFiles}
 use Rattle.import_session.specs.Session.{repository_in}
@@ -49,11 +51,13 @@ HoldsIn objects phase.Closed = Unit {0}
 HoldsIn objects (phase.Running stream) = HoldsFiles objects stream.session.own
 HoldsIn objects (phase.Dead code) = Unit {0}
 
--- A tenant's table stands in the pool, and among its objects what its stream holds.
+-- A tenant's table stands in the pool, among its objects what its stream holds, and among those of the
+-- last checkpoint the first parents that queries met.
 pub record Stands (digest : List ℕ → List ℕ) (pool : Cells) (tenant : Tenant) : Type 0 where
   pub entries : StandsIn digest pool tenant.table.entries
   pub settled : IsSettled tenant.phase tenant.table
   pub files : HoldsIn (objects pool tenant.table.entries) tenant.phase
+  pub chain : IsFirstParentChain (objects pool (in_sight Committed tenant.table)) tenant.chain
 
 -- All tenants, by their names.
 abbrev pub Tenants : Type 0

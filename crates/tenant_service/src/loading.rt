@@ -10,22 +10,33 @@ use crate::tenant::{Phase, Tenant};
 use git_objects::Memory;
 use indexmap::IndexMap;
 use pool_loading::Tenant as Loaded;
+use revisions::FirstParentChain;
 use std::alloc::Global;
 use tenant_refs::TenantName;
 
 // One tenant more. Its name is new.
-fn take_in(tenants: &mut IndexMap<TenantName, Tenant>, loaded: Loaded) -> Result<(), Memory>
+fn take_in(
+    alloc: Global,
+    tenants: &mut IndexMap<TenantName, Tenant>,
+    loaded: Loaded,
+) -> Result<(), Memory>
     requires { lookup (bytes_eq loaded.name) tenants.old.entries ≡ None }
     ensures { OnOk result (tenants.new.entries ≡ tenants.old.entries ++ entry_of loaded ∷ []) }
 {
     let Loaded { name, table, refs } = loaded;
-    let phase = Phase::Closed;
-    tenants.insert(name, Tenant { table, refs, phase })?;
+    let tenant = Tenant {
+        table,
+        refs,
+        phase: Phase::Closed,
+        chain: FirstParentChain::new(alloc),
+    };
+    tenants.insert(name, tenant)?;
     Ok(())
 }
 
 // All of them, in their order.
 fn take_all_in(
+    alloc: Global,
     tenants: &mut IndexMap<TenantName, Tenant>,
     loaded: Vec<Loaded>,
 ) -> Result<(), Memory>
@@ -35,7 +46,7 @@ fn take_all_in(
 {
     let mut rest = loaded.into_iter();
     while let Some(tenant) = rest.next() {
-        take_in(tenants, tenant)?;
+        take_in(alloc, tenants, tenant)?;
     }
     Ok(())
 }
@@ -50,7 +61,7 @@ pub fn tenants_of(
     ensures { IfOk result (λ tenants. tenants.entries ≡ map entry_of loaded.items) }
 {
     let mut tenants = IndexMap::new(alloc);
-    match take_all_in(&mut tenants, loaded) {
+    match take_all_in(alloc, &mut tenants, loaded) {
         Ok(()) => Ok(tenants),
         Err(memory) => Err(memory),
     }

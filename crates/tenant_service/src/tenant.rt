@@ -19,6 +19,7 @@ ghost use Rattle.tenant_service.specs.OneStep.{Takes, Fed, refusal_told};
 use answers::{Fault, answer};
 use content_pool::Pool;
 use git_objects::Naming;
+use revisions::FirstParentChain;
 use service_steps::{Answer, ServiceFault};
 use std::alloc::Global;
 use std::mem;
@@ -40,12 +41,13 @@ pub enum Phase {
     Dead(u16),
 }
 
-/// A tenant: its objects, its refs, and its stream.
+/// A tenant: its objects, its refs, its stream, and the first parents that the last query met.
 #[derive(Drop)]
 pub struct Tenant {
     pub table: Table,
     pub refs: Refs,
     pub phase: Phase,
+    pub chain: FirstParentChain,
 }
 
 /// A tenant with nothing. Takes no memory.
@@ -58,6 +60,7 @@ pub fn new_tenant(alloc: Global) -> Tenant
         table: Table::new(alloc),
         refs: Refs::new(alloc),
         phase: Phase::Closed,
+        chain: FirstParentChain::new(alloc),
     }
 }
 
@@ -84,6 +87,7 @@ pub fn give_up<N: Naming>(pool: &mut Pool<N>, tenant: &mut Tenant, phase: Phase)
     requires stands { StandsIn N.digest_of pool.old tenant.old.table.entries }
     requires settled { IsSettled tenant.old.phase tenant.old.table }
     ensures phase { tenant.new.phase ≡ phase }
+    ensures chain { tenant.new.chain ≡ [] }
     ensures stands { StandsIn N.digest_of pool.new tenant.new.table.entries }
     ensures others { LeavesOthers pool.old tenant.old.table.entries pool.new tenant.new.table.entries }
     ensures settled { tenant.new.table.committed ≡ length tenant.new.table.entries }
@@ -92,6 +96,7 @@ pub fn give_up<N: Naming>(pool: &mut Pool<N>, tenant: &mut Tenant, phase: Phase)
 {
     let _within = tenant.table.committed_len();
     tenant.table.roll_back(pool);
+    tenant.chain.clear();
     tenant.phase = phase;
 }
 
@@ -142,6 +147,7 @@ pub fn feed<N: Naming>(
         Phase::Closed => return ServiceFault::NoStream.answer(),
         Phase::Dead(code) => return Answer::Fault(*code),
         Phase::Running(stream) => {
+            tenant.chain.clear();
             feed_stream(
                 pool,
                 &mut tenant.table,
@@ -183,6 +189,7 @@ pub fn end<N: Naming>(pool: &mut Pool<N>, tenant: &mut Tenant, out: &mut Vec<u8>
         Phase::Closed => ServiceFault::NoStream.answer(),
         Phase::Dead(code) => Answer::Fault(code),
         Phase::Running(stream) => {
+            tenant.chain.clear();
             match stream.finish(pool, &mut tenant.table, &mut tenant.refs, out) {
                 Ok(()) => Answer::Ok,
                 Err(Stop::Fault(code)) => Answer::Fault(code),
@@ -205,21 +212,31 @@ fn refusal_told(refusal: Fault) -> Answer
 /// Answers a query on the repository at the last checkpoint, after what `out` holds: crate answers
 /// has the queries, and the numbers under which they are refused. A stream that runs is not seen.
 ///
-/// `Memory(0)` where memory ran out. Where there is no answer `out` is unchanged.
+/// `Memory(0)` where memory ran out. Where there is no answer `out` is unchanged. Of the tenant
+/// nothing changes but the first parents that the next query need not read again.
 pub fn ask<N: Naming>(
     alloc: Global,
     pool: &Pool<N>,
-    tenant: &Tenant,
+    tenant: &mut Tenant,
     query: &[u8],
     out: &mut Vec<u8>,
 ) -> Answer
-    requires stands { Stands N.digest_of pool.now tenant.now }
-    requires sound { IsSoundHolding N.digest_of (holding_in pool.now tenant.now) }
-    ensures { let held = holding_in pool.now tenant.now in
+    requires stands { Stands N.digest_of pool.now tenant.old }
+    requires sound { IsSoundHolding N.digest_of (holding_in pool.now tenant.old) }
+    ensures stands { Stands N.digest_of pool.now tenant.new }
+    ensures table { tenant.new.table ≡ tenant.old.table }
+    ensures held { holding_in pool.now tenant.new ≡ holding_in pool.now tenant.old }
+    ensures own { let held = holding_in pool.now tenant.old in
         Takes (step_held N.digest_of (Ask query.now) (stop_told result) held) result
         out.old.items out.new.items held }
 {
-    match answer(alloc, pool, &tenant.table, &tenant.refs, query, out) {
+    let Tenant {
+        table,
+        refs,
+        chain,
+        ..
+    } = tenant;
+    match answer(alloc, pool, table, refs, chain, query, out) {
         Ok(()) => Answer::Ok,
         Err(refusal) => refusal_told(refusal),
     }
@@ -236,8 +253,8 @@ pub fn ask_nobody<N: Naming>(
         (step_held N.digest_of (Ask query.now) (stop_told result) (Idle empty_repository)) result
         out.old.items out.new.items (Idle empty_repository) }
 {
-    let nobody = new_tenant(alloc);
-    ask(alloc, pool, &nobody, query, out)
+    let mut nobody = new_tenant(alloc);
+    ask(alloc, pool, &mut nobody, query, out)
 }
 
 /// Closes the stream, if there is one, and goes back to the last checkpoint. Takes no memory.

@@ -68,22 +68,23 @@ pub fn end_one<N: Naming>(
     }
 }
 
-/// Answers a query of the tenant of this name, after what `out` holds. Nothing else changes.
+/// Answers a query of the tenant of this name, after what `out` holds. What is held of all tenants
+/// stays.
 pub fn ask_one<N: Naming>(
     alloc: Global,
     pool: &Pool<N>,
-    tenants: &IndexMap<TenantName, Tenant>,
+    tenants: &mut IndexMap<TenantName, Tenant>,
     name: &TenantName,
     query: &[u8],
     out: &mut Vec<u8>,
 ) -> Answer
-    requires accounts { Accounts N.digest_of pool.now tenants.now.entries }
-    requires sound { AreSound N.digest_of (holdings pool.now tenants.now.entries) }
+    requires accounts { Accounts N.digest_of pool.now tenants.old.entries }
+    requires sound { AreSound N.digest_of (holdings pool.now tenants.old.entries) }
     ensures { Serves N.digest_of name.now (Ask query.now)
-        (store pool.now tenants.now.entries) result out.old.items out.new.items
-        (store pool.now tenants.now.entries) }
+        (store pool.now tenants.old.entries) result out.old.items out.new.items
+        (store pool.now tenants.new.entries) }
 {
-    match tenants.get(name) {
+    match tenants.get_mut(name) {
         Some(tenant) => ask(alloc, pool, tenant, query, out),
         None => ask_nobody(alloc, pool, query, out),
     }

@@ -11,11 +11,11 @@ use std::alloc::Global;
 use std::test::Fail;
 use tenant_service::{Service, Step};
 
-// What a tenant asks, the number of the refusal, 0 where there is none, and what is printed.
-struct Asked {
-    query: &'static [u8],
-    code: u16,
-    printed: &'static [u8],
+/// What a tenant asks, the number of the refusal, 0 where there is none, and what is printed.
+pub struct Asked {
+    pub query: &'static [u8],
+    pub code: u16,
+    pub printed: &'static [u8],
 }
 
 // The streams of two tenants, a commit with one file and a tag of it, and what each asks then.
@@ -228,8 +228,8 @@ const TENANTS: &[Tenant] = &[
     },
 ];
 
-// The first of these queries, by its place, that is told otherwise.
-fn first_otherwise<N: Naming>(
+/// The first of these queries, by its place, that is told otherwise.
+pub fn first_otherwise<N: Naming>(
     alloc: Global,
     service: &mut Service<N>,
     tenant: &[u8],
@@ -250,8 +250,8 @@ fn first_otherwise<N: Naming>(
     Ok(None)
 }
 
-// Whether a whole stream of a tenant is taken, and prints nothing.
-fn takes<N: Naming>(
+/// Whether a whole stream of a tenant is taken, and prints nothing.
+pub fn takes<N: Naming>(
     alloc: Global,
     service: &mut Service<N>,
     tenant: &[u8],

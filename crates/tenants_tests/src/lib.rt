@@ -9,6 +9,8 @@ mod copies;
 #[cfg(test)]
 mod exports;
 #[cfg(test)]
+mod first_parents;
+#[cfg(test)]
 mod limits;
 #[cfg(test)]
 mod told;

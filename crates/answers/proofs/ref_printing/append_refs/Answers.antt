@@ -1,4 +1,3 @@
-use Rattle.std.proofs.Common.{sym, ap, ◌∙◌, ◌++◌, take, length}
 use Rattle.git_model.specs.RefStore.{listed_refs}
 use Rattle.git_objects.proofs.Kept.{kept_front}
 use Rattle.answers.specs.Printed.{ref_line}

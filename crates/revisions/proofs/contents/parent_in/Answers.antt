@@ -1,4 +1,4 @@
-use Rattle.std.proofs.Common.{◌≡◌, ℕ, List, slice_get, sym, ap, ◌∙◌}
+use Rattle.std.proofs.Common.{◌≡◌, slice_get, sym, ap, ◌∙◌}
 use Rattle.git_model.specs.Commit.{Commit}
 use Rattle.git_model.specs.CommitReading.{commit_read}
 use Rattle.git_model.proofs.CommitReadings.{commit_back}

@@ -10,13 +10,13 @@ use Rattle.revisions.proofs.Differences.{range_commit}
 use Rattle.revisions.proofs.range_log.resolve_range.Goals as goal
 
 pub returns-clause-log : goal.returns-clause-log
-returns-clause-log g c good =
+returns-clause-log g c good chain =
     let os = c.args.objects.now in
     let range = c.in_ok-range.range in
     let flags = c.deref.ensures.value ∙ c.in_ok-flags.ensures good in
     let log = c.in_ok-ids.ensures (is_in_range os range) good flags (range_commit os range) in
     ap (λ (r : Result (Range (List ℕ)) Fault). and_then r
-    (λ (range : Range (List ℕ)). Ok (log_of os (is_in_range os range)))) (c.in_ok-range.ensures good)
+    (λ (range : Range (List ℕ)). Ok (log_of os (is_in_range os range)))) (c.in_ok-range.ensures.named good chain)
     ∙ ap (λ (ids : List (List ℕ)). Ok ids) (sym log)
 
 pub returns-clause-commits : goal.returns-clause-commits

@@ -1,9 +1,13 @@
 use Rattle.std.proofs.Common.{◌≡◌, drop}
 use Rattle.git_model.specs.GoodRepository.{AreObjects}
+use Rattle.revisions.specs.FirstParents.{IsFirstParentChain}
 use Rattle.revisions.specs.Resolution.{after_suffixes}
 use Rattle.revisions.proofs.resolving.after_suffixes.Given as goal
 
 abbrev pub invariant-loop-suffix : goal.invariant-loop-suffix
 invariant-loop-suffix g l = AreObjects g.N.Naming.digest_of l.objects
-    → after_suffixes l.objects l.suffixes l.fn.id ≡ after_suffixes l.objects
-    (drop l.suffix-index l.suffixes) l.at
+    → IsFirstParentChain l.objects l.fn.chain → record {
+      rest : after_suffixes l.objects l.suffixes l.fn.id
+          ≡ after_suffixes l.objects (drop l.suffix-index l.suffixes) l.at;
+      chain : IsFirstParentChain l.objects l.chain;
+    }

@@ -6,6 +6,6 @@ use Rattle.tenant_service.proofs.loading.take_in.Goals as goal
 
 pub returns : goal.returns
 returns c =
-    c.in_ok-insert.ensures.entries
+    (rw c.new.ensures at c.in_ok-insert.ensures.entries)
     ∙ insert_entry-new bytes_eq c.args.tenants.now c.args.loaded.name (entry_of c.args.loaded).1
     c.requires

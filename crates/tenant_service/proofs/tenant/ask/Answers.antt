@@ -1,25 +1,53 @@
-use Rattle.std.proofs.Common.{List, ap, sym, subst}
+use Rattle.std.proofs.Common.{ℕ, List, take, ap, sym, subst}
 use Rattle.git_model.specs.GoodRepository.{AreObjects}
 use Rattle.git_model.specs.Repository.{Object, Repository}
-use Rattle.tenant_service.specs.Tenants.{holding_in}
+use Rattle.content_pool.specs.Pool.{Cells}
+use Rattle.tenant_tables.specs.Objects.{objects}
+use Rattle.tenant_service.specs.declared.tenant.Tenant.{Tenant}
+use Rattle.tenant_service.specs.Holding.{IsSoundHolding}
+use Rattle.tenant_service.specs.Tenants.{IsSettled, holding_in}
 use Rattle.tenant_service.proofs.SoundLemmas.{last-sound}
 use Rattle.tenant_service.proofs.TenantLemmas.{saved_is, took-told, took-refused_query}
 use Rattle.tenant_service.proofs.tenant.ask.Goals as goal
 
-pub returns-in-Ok : goal.returns-in-Ok
-returns-in-Ok g c =
-    let held = holding_in c.args.pool.now c.args.tenant.now in
-    let saved = saved_is c.args.tenant.now.phase c.args.pool.now c.args.tenant.now.table c.args.tenant.now.refs c.requires.stands.settled in
-    let good = subst (λ (os : List Object). AreObjects g.N.Naming.digest_of os) (sym (ap (λ (r : Repository). r.objects) saved))
-    (last-sound g.N.Naming.digest_of held c.requires.sound).objects in
-    took-told g.N.Naming.digest_of c.args.query.now _ held c.args.out.now.items c.answer.new.out.items saved (c.in-Ok.ensures.told good)
+-- the objects of the last checkpoint are good
+good-saved : (digest : List ℕ → List ℕ) (pool : Cells) (t : Tenant) → IsSettled t.phase t.table
+    → IsSoundHolding digest (holding_in pool t) → AreObjects digest (objects pool (take t.table.committed t.table.entries))
+good-saved digest pool t settled sound =
+    subst (λ (os : List Object). AreObjects digest os)
+    (sym (ap (λ (r : Repository). r.objects) (saved_is t.phase pool t.table t.refs settled))) (last-sound digest (holding_in pool t) sound).objects
 
-pub returns-in-Err : goal.returns-in-Err
-returns-in-Err g c =
-    let held = holding_in c.args.pool.now c.args.tenant.now in
-    let saved = saved_is c.args.tenant.now.phase c.args.pool.now c.args.tenant.now.table c.args.tenant.now.refs c.requires.stands.settled in
-    let good = subst (λ (os : List Object). AreObjects g.N.Naming.digest_of os) (sym (ap (λ (r : Repository). r.objects) saved))
-    (last-sound g.N.Naming.digest_of held c.requires.sound).objects in
+pub returns-in-Ok-clause-stands : goal.returns-in-Ok-clause-stands
+returns-in-Ok-clause-stands g c =
+    let was = c.requires.stands in record {
+      entries = was.entries;
+      settled = was.settled;
+      files = was.files;
+      chain = c.answer.ensures.chain (good-saved g.N.Naming.digest_of c.args.pool.now c.args.tenant.now was.settled c.requires.sound) was.chain;
+    }
+
+pub returns-in-Ok-clause-own : goal.returns-in-Ok-clause-own
+returns-in-Ok-clause-own g c =
+    let t = c.args.tenant.now in
+    let saved = saved_is t.phase c.args.pool.now t.table t.refs c.requires.stands.settled in
+    let good = good-saved g.N.Naming.digest_of c.args.pool.now t c.requires.stands.settled c.requires.sound in
+    took-told g.N.Naming.digest_of c.args.query.now _ (holding_in c.args.pool.now t) c.args.out.now.items c.answer.new.out.items saved
+    (c.in-Ok.ensures.told good c.requires.stands.chain)
+
+pub returns-in-Err-clause-stands : goal.returns-in-Err-clause-stands
+returns-in-Err-clause-stands g c =
+    let was = c.requires.stands in record {
+      entries = was.entries;
+      settled = was.settled;
+      files = was.files;
+      chain = c.answer.ensures.chain (good-saved g.N.Naming.digest_of c.args.pool.now c.args.tenant.now was.settled c.requires.sound) was.chain;
+    }
+
+pub returns-in-Err-clause-own : goal.returns-in-Err-clause-own
+returns-in-Err-clause-own g c =
+    let t = c.args.tenant.now in
+    let saved = saved_is t.phase c.args.pool.now t.table t.refs c.requires.stands.settled in
+    let good = good-saved g.N.Naming.digest_of c.args.pool.now t c.requires.stands.settled c.requires.sound in
     rw c.refusal_told.ensures
-    (took-refused_query g.N.Naming.digest_of c.args.query.now _ held c.args.out.now.items c.answer.new.out.items c.in-Err.refusal saved
-    (c.in-Err.ensures.told good) c.in-Err.ensures.same)
+    (took-refused_query g.N.Naming.digest_of c.args.query.now _ (holding_in c.args.pool.now t) c.args.out.now.items c.answer.new.out.items
+    c.in-Err.refusal saved (c.in-Err.ensures.told good c.requires.stands.chain) c.in-Err.ensures.same)

@@ -11,4 +11,4 @@ ask-requires g c = record {
 }
 
 pub returns : goal.returns
-returns g c = rw (c.new_tenant-nobody.ensures.held c.args.pool.now) at c.ask.ensures
+returns g c = rw (c.new_tenant-nobody.ensures.held c.args.pool.now) at c.ask.ensures.own

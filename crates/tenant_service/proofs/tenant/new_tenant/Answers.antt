@@ -8,6 +8,7 @@ returns-clause-stands c = λ digest pool. record {
   entries = rw c.new.ensures.entries (StandsIn-nil digest pool);
   settled = c.new.ensures.committed ∙ sym (ap length c.new.ensures.entries);
   files = tt;
+  chain = rw c.new-3.ensures tt;
 }
 
 pub returns-clause-held : goal.returns-clause-held

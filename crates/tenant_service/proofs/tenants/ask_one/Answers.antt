@@ -1,7 +1,10 @@
-use Rattle.std.proofs.Common.{sym}
+use Rattle.std.proofs.Common.{sym, subst}
 use Rattle.tenant_service.specs.Alone.{Ask}
+use Rattle.tenant_service.specs.Headline.{stop_told}
+use Rattle.tenant_service.specs.Holding.{Holding, step_held}
+use Rattle.tenant_service.specs.OneStep.{Takes}
 use Rattle.tenant_service.specs.Tenants.{holding_in}
-use Rattle.tenant_service.proofs.AccountLemmas.{stands-found, held-found, held-missing, serves-same}
+use Rattle.tenant_service.proofs.AccountLemmas.{stands-found, held-missing, serves-found, serves-same, leaves-same}
 use Rattle.tenant_service.proofs.SoundLemmas.{sound-found}
 use Rattle.tenant_service.proofs.tenants.ask_one.Goals as goal
 
@@ -13,12 +16,17 @@ ask-requires g c = record {
 
 pub returns-in-Some : goal.returns-in-Some
 returns-in-Some g c =
-    serves-same g.N.Naming.digest_of c.args.name.now (Ask c.args.query.now) c.args.pool.now c.args.tenants.now.entries (holding_in c.args.pool.now c.in-Some.tenant.now)
-    c.ask.result c.args.out.now.items c.ask.new.out.items c.requires.accounts
-    (held-found c.args.pool.now c.args.name.now c.args.tenants.now.entries c.in-Some.tenant.now (sym c.in-Some.ensures.value)) c.ask.ensures
+    rw (c.get_mut.follows.holds c.ask.new.tenant).0
+    (serves-found g.N.Naming.digest_of c.args.name.now (Ask c.args.query.now) c.args.pool.now c.args.pool.now c.args.tenants.now.entries
+    c.in-Some.tenant.now c.ask.new.tenant c.ask.result c.args.out.now.items c.ask.new.out.items c.requires.accounts (sym c.in-Some.ensures.value)
+    c.ask.ensures.stands (leaves-same c.args.pool.now c.in-Some.tenant.now.table c.ask.new.tenant.table c.ask.ensures.table)
+    (subst (λ (held : Holding). Takes (step_held g.N.Naming.digest_of (Ask c.args.query.now) (stop_told c.ask.result)
+    (holding_in c.args.pool.now c.in-Some.tenant.now)) c.ask.result c.args.out.now.items c.ask.new.out.items held) (sym c.ask.ensures.held)
+    c.ask.ensures.own))
 
 pub returns-in-None : goal.returns-in-None
 returns-in-None g c =
-    serves-same g.N.Naming.digest_of c.args.name.now (Ask c.args.query.now) c.args.pool.now c.args.tenants.now.entries _
+    rw c.get_mut.follows.holds-at-none
+    (serves-same g.N.Naming.digest_of c.args.name.now (Ask c.args.query.now) c.args.pool.now c.args.tenants.now.entries _
     c.ask_nobody.result c.args.out.now.items c.ask_nobody.new.out.items c.requires.accounts
-    (held-missing c.args.pool.now c.args.name.now c.args.tenants.now.entries (sym c.in-None.ensures.value)) c.ask_nobody.ensures
+    (held-missing c.args.pool.now c.args.name.now c.args.tenants.now.entries (sym c.in-None.ensures.value)) c.ask_nobody.ensures)

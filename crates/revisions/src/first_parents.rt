@@ -1,0 +1,97 @@
+//! First parents: gitrevisions(7), `<rev>~<n>`. What a walk met is kept for the next one.
+
+ghost use Rattle.std.specs.Prelude.{◌≡◌, [], Some, IsTrue, OnOk, List, slice_get};
+ghost use Rattle.git_model.specs.Repository.{Object};
+ghost use Rattle.git_model.specs.GoodRepository.{AreObjects};
+ghost use Rattle.revisions.specs.Faults.{Gives};
+ghost use Rattle.revisions.specs.FirstParents.{IsFirstParentChain};
+ghost use Rattle.revisions.specs.Resolution.{nth_ancestor};
+
+use crate::fault::Fault;
+use crate::parents::nth_parent;
+use git_objects::{Memory, Name, Naming};
+use objects_in_sight::Objects;
+use std::alloc::Global;
+use std::marker::Model;
+
+/// The commits that the last walk along first parents met, from the one that it began at on. The
+/// next walk that begins there looks them up, and goes on after the last.
+#[derive(Drop)]
+pub struct FirstParentChain {
+    commits: Vec<Name>,
+}
+
+impl Model for FirstParentChain {
+    ghost use Rattle.std.specs.Prelude.{ℕ, List};
+
+    ghost Value = { List (List ℕ) };
+
+    ghost view = { λ chain. chain.commits.items };
+}
+
+impl FirstParentChain {
+    /// A chain of no commits. Takes no memory.
+    pub fn new(alloc: Global) -> FirstParentChain
+        ensures { result ≡ [] }
+    {
+        FirstParentChain {
+            commits: Vec::new(alloc),
+        }
+    }
+
+    /// Forgets the commits: they are those of other objects. Takes no memory.
+    pub fn clear(&mut self)
+        ensures { self.new ≡ [] }
+    {
+        self.commits.clear();
+    }
+
+    // Whether it begins at this commit.
+    fn begins_at(&self, commit: &Name) -> bool
+        ensures { IsTrue result → slice_get self.now 0 ≡ Some commit.now }
+    {
+        match self.commits.first() {
+            Some(first) => first == commit,
+            None => false,
+        }
+    }
+
+    // Begins at this commit: what stands stays where it does so.
+    fn begin_at(&mut self, commit: Name) -> Result<(), Memory>
+        ensures begun { OnOk result (slice_get self.new 0 ≡ Some commit) }
+        ensures chain { (os : List Object) → IsFirstParentChain os self.old
+            → IsFirstParentChain os self.new }
+    {
+        if !self.begins_at(&commit) {
+            self.clear();
+            self.commits.push(commit)?;
+        }
+        Ok(())
+    }
+
+    /// The commit that n steps to the first parent lead to. The chain has what was met on the way.
+    ///
+    /// `Fault::UnknownRevision` (16) where a commit on the way has no parent; `Fault::Memory` (90)
+    /// where there is no room to read a commit or to keep it.
+    pub(crate) fn ancestor<N: Naming>(
+        &mut self,
+        alloc: Global,
+        objects: &Objects<'_, N>,
+        n: u32,
+        commit: Name,
+    ) -> Result<Name, Fault>
+        ensures found { AreObjects N.digest_of objects.now → IsFirstParentChain objects.now self.old
+            → Gives result (nth_ancestor objects.now n commit) }
+        ensures chain { AreObjects N.digest_of objects.now → IsFirstParentChain objects.now self.old
+            → IsFirstParentChain objects.now self.new }
+    {
+        self.begin_at(commit)?;
+        let n = n as usize;
+        'way: while self.commits.len() <= n {
+            let last = self.commits[self.commits.len() - 1];
+            let parent = nth_parent(alloc, objects, 1, last)?;
+            self.commits.push(parent)?;
+        }
+        Ok(self.commits[n])
+    }
+}
