@@ -84,8 +84,8 @@ impl<T: Drop> From<AllocFailed<T>> for Fault {
 }
 
 impl Fault {
-    /// The number of the fault: 15 wrong kind, 16 unknown revision, 17 ambiguous, 25 limit, 40 unknown
-    /// query, 41 malformed query, 90 out of memory.
+    /// The number of the fault: 15 wrong kind, 16 unknown revision, 17 ambiguous, 25 limit, 40
+    /// unknown query, 41 malformed query, 90 out of memory.
     pub fn code(self) -> u16
         ensures { result ≡ code_of self }
     {

@@ -61,7 +61,8 @@ pub fn append_object<N: Naming>(
 }
 
 fn append_entry(entry: &TreeEntry<'_>, out: &mut Vec<u8>) -> Result<(), Memory>
-    ensures written { OnOk result (out.new.items ≡ out.old.items ++ entry_line (entry_of entry.now)) }
+    ensures written { OnOk result (out.new.items ≡ out.old.items
+        ++ entry_line (entry_of entry.now)) }
     ensures kept { take (length out.old.items) out.new.items ≡ out.old.items }
 {
     append_listing(entry.mode, entry.id, entry.name, out)?;

@@ -116,10 +116,10 @@ fn read_after<'a>(alloc: Global, word: Word, rest: Option<&'a [u8]>) -> Result<Q
 
 /// Reads a query: a word, and after its first space what it asks of.
 ///
-/// `rev-parse`, `abbrev`, `cat` and `ls` ask of an expression, `log` of a range; `refs`, `head`
-/// and `export` stand alone. `Fault::MalformedQuery` (41) above 8,192 bytes, else `Fault::UnknownQuery` (40)
-/// where no query has this word, else `Fault::MalformedQuery` (41) where what stands after the word
-/// is not what it asks for. Takes memory for what an expression has after its base;
+/// `rev-parse`, `abbrev`, `cat` and `ls` ask of an expression, `log` of a range; `refs`, `head` and
+/// `export` stand alone. `Fault::MalformedQuery` (41) above 8,192 bytes, else `Fault::UnknownQuery`
+/// (40) where no query has this word, else `Fault::MalformedQuery` (41) where what stands after the
+/// word is not what it asks for. Takes memory for what an expression has after its base;
 /// `Fault::Memory` (90) where there is none. Nothing is looked up.
 #[tactic(auto, unfolding(crate::specs::Queries::query_of))]
 pub fn read_query<'a>(alloc: Global, text: &'a [u8]) -> Result<Query<'a>, Fault>

@@ -1,4 +1,4 @@
--- Summaries of files: of some behind others, and of some below a name.
+-- Summaries of files: of some after others, and of some below a name.
 use Rattle.std.proofs.Common.{◌≡◌, ◌≢◌, ℕ, suc, ◌+◌, ◌<◌, List, [], ◌∷◌, ◌++◌, length, refl, sym, ap, ◌∙◌, subst, arith}
 use Rattle.std.specs.List.{AllByRecursion}
 use Rattle.std.specs.Prelude.{drop, slice_index_or}

@@ -72,14 +72,14 @@ pair_at (e ∷ es) h i zero d lt within = absurd (omega arith)
 pair_at (e ∷ es) h zero (suc j) d lt within = before_at e.0 (held e.1).what es h.0 j d (omega arith)
 pair_at (e ∷ es) h (suc i) (suc j) d lt within = pair_at es h.2 i j d (omega arith) (omega arith)
 
--- ---- the place behind a key
+-- ---- the place after a key
 
 less : (o : Ordering) → is_lt o ≡ true → o ≡ Less
 less Less h = refl
 less Equal h = cc h
 less Greater h = cc h
 
--- what stands behind an entry that comes after a key comes after it too
+-- what stands after an entry that comes after a key comes after it too
 pub parted : (key : List ℕ) (es : Rows) → AreOrdered (shape_of es) → IsPartitionedBy (λ e. not (is_behind key e)) es
 parted key es h i j d le within passes =
     by_cases (is_behind key (slice_index_or es i d))
@@ -114,7 +114,7 @@ first_named c es h at d within is =
     let found = lt-ltb at (length es) within in
     ap (λ (k : ℕ). cond (nat_lt k (length es)) (Some k) None) n ∙ ap (λ (b : Bool). cond b (Some at) None) found
 
--- an entry of a name and a kind stands right before the place behind its key
+-- an entry of a name and a kind stands right before the place after its key
 pub none_named : (c slash : List ℕ) (es : Rows) → AreOrdered (shape_of es) → (next : ℕ) → next ≤ length es
     → IsPlaceBehind (c ++ slash) es next
     → ((d : List ℕ × Node) → 0 < next → (slice_index_or es (next - 1) d).0 ≢ c) → HasNone c slash es

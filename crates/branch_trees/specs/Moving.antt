@@ -86,7 +86,7 @@ has_entries_by (opened tree) inside = not (is_none inside)
 abbrev pub has_entries : Held → Bool
 has_entries h = has_entries_by h.what h.inside
 
--- The slash between a path and another below it; the root has none before or behind it.
+-- The slash between a path and another below it; the root has none before or after it.
 abbrev pub slash_between : Path → ℕ → ℕ
 slash_between [] depth = 0
 slash_between (c ∷ path) zero = 0

@@ -28,7 +28,8 @@ what_cases (opened tree) = refl
 
 abbrev pub what_code : Coded What
 what_code =
-    code_by Cases (coded⊎ entry_code (coded⊎ (coded_list coded_ℕ) (coded_option (coded_list coded_ℕ))))
+    code_by Cases (coded⊎ entry_code
+    (coded⊎ (coded_list coded_ℕ) (coded_option (coded_list coded_ℕ))))
     cases what what_cases
 
 abbrev bytes_code : Coded (List ℕ)

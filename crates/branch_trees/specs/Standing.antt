@@ -21,4 +21,5 @@ row_named (e ∷ es) c = if bytes_eq e.name c then Some e else row_named es c
 -- What was found at a path of a stored tree has these files there.
 abbrev pub IsFoundAt : List Object → Option Entry → Listed → Type 0
 IsFoundAt os None files = files ≡ []
-IsFoundAt os (Some e) files = IsPart os (record { mode = e.mode; name = []; id = e.name }) ([], files)
+IsFoundAt os (Some e) files =
+    IsPart os (record { mode = e.mode; name = []; id = e.name }) ([], files)

@@ -138,9 +138,11 @@ impl Files {
         requires shut { closed_from self.old.root path.now ≡ 0 }
         requires some { path.now ≢ [] }
         requires held { IsHeld (objects pool.now table.now.entries) (held node) }
-        requires full { held_files (stored_files (objects pool.now table.now.entries)) (held node) ≢ [] }
+        requires full { held_files (stored_files (objects pool.now table.now.entries)) (held node)
+            ≢ [] }
         requires total { let os = objects pool.now table.now.entries in
-            total ≡ length (root_files os self.old) + length (held_files (stored_files os) (held node)) }
+            total ≡ length (root_files os self.old)
+            + length (held_files (stored_files os) (held node)) }
         requires good { let os = objects pool.now table.now.entries in
             let after = put_tree_at (files_in os self.old) path.now
             (held_files (stored_files os) (held node)) in
@@ -150,12 +152,14 @@ impl Files {
             let after = put_tree_at m path.now (held_files (stored_files os) (held node)) in
             Edits result m (files_in os self.new) (too_many (finmap.len after)) after }
         ensures branch { OnOk result (IsBranch (objects pool.now table.now.entries) self.new) }
-        ensures still { result ≢ Err fault.Memory → IsBranch (objects pool.now table.now.entries) self.old
+        ensures still { result ≢ Err fault.Memory
+            → IsBranch (objects pool.now table.now.entries) self.old
             → IsBranch (objects pool.now table.now.entries) self.new }
         ensures reads { self.new.reads ≡ self.old.reads }
         ensures open { OnOk result ((q : FilePath) → behind path.now q ≡ None
             → closed_from self.new.root q ≤ closed_from self.old.root q) }
-        ensures there { OnOk result ((rest : FilePath) → closed_from self.new.root (path.now ++ rest)
+        ensures there { OnOk result ((rest : FilePath)
+            → closed_from self.new.root (path.now ++ rest)
             ≡ closed_from (held node) rest) }
     {
         has_components(path);

@@ -86,7 +86,8 @@ impl Files {
         requires stands { StandsIn N.digest_of pool.now table.now.entries }
         requires branch { IsBranch (objects pool.now table.now.entries) self.old }
         ensures moved { let os = objects pool.now table.now.entries in
-            IfOk result (λ r. IsMoved os (files_at (files_in os self.old) from.now) (held r.0) r.1) }
+            IfOk result (λ r. IsMoved os (files_at (files_in os self.old) from.now)
+            (held r.0) r.1) }
         ensures clean { let os = objects pool.now table.now.entries in
             IfOk result (λ r. path_fault (moved to.now (files_at (files_in os self.old) from.now))
             ≡ None) }
@@ -129,9 +130,11 @@ impl Files {
         requires shut { closed_from self.old.root to.now ≡ 0 }
         requires held { IsHeld (objects pool.now table.now.entries) (held node) }
         requires directory { to.now ≡ [] → IsDirectory (held node).what }
-        requires full { held_files (stored_files (objects pool.now table.now.entries)) (held node) ≢ [] }
+        requires full { held_files (stored_files (objects pool.now table.now.entries)) (held node)
+            ≢ [] }
         requires total { let os = objects pool.now table.now.entries in
-            total ≡ length (root_files os self.old) + length (held_files (stored_files os) (held node)) }
+            total ≡ length (root_files os self.old)
+            + length (held_files (stored_files os) (held node)) }
         requires few { length (held_files (stored_files (objects pool.now table.now.entries))
             (held node)) ≤ 1048576 }
         requires good { let os = objects pool.now table.now.entries in
@@ -143,7 +146,8 @@ impl Files {
             let after = put_tree_at m to.now (held_files (stored_files os) (held node)) in
             Edits result m (files_in os self.new) (too_many (finmap.len after)) after }
         ensures branch { OnOk result (IsBranch (objects pool.now table.now.entries) self.new) }
-        ensures still { result ≢ Err fault.Memory → IsBranch (objects pool.now table.now.entries) self.old
+        ensures still { result ≢ Err fault.Memory
+            → IsBranch (objects pool.now table.now.entries) self.old
             → IsBranch (objects pool.now table.now.entries) self.new }
         ensures reads { self.new.reads ≡ self.old.reads }
         ensures open { OnOk result ((q : FilePath) → behind to.now q ≡ None
@@ -171,8 +175,10 @@ impl Files {
         requires branch { IsBranch (objects pool.now table.now.entries) self.old }
         requires held { IsHeld (objects pool.now table.now.entries) (held node) }
         requires directory { to.now ≡ [] → IsDirectory (held node).what }
-        requires full { held_files (stored_files (objects pool.now table.now.entries)) (held node) ≢ [] }
-        requires added { files ≡ length (held_files (stored_files (objects pool.now table.now.entries))
+        requires full { held_files (stored_files (objects pool.now table.now.entries)) (held node)
+            ≢ [] }
+        requires added { files
+            ≡ length (held_files (stored_files (objects pool.now table.now.entries))
             (held node)) }
         requires few { files ≤ 1048576 }
         requires good { let os = objects pool.now table.now.entries in
@@ -213,12 +219,12 @@ impl Files {
     ///
     /// A directory that nobody looked into, or that is a stored tree as it stands, is put by the
     /// name of that tree, and no text below it is read. The source is read first.
-    /// `Fault::SourceMissing` (18) where it has no file; `Fault::RootNotDirectory` (20) where a file
-    /// would stand at the root; else `Fault::Limit` (25) where a path would be too long, or there
-    /// would be too many files, as in `put`. The files have not changed after these. Takes memory
-    /// for the entries of the trees that it reads and of edited directories that it copies; after
-    /// `Fault::Memory` (90) the value may only be cleared or dropped. The pool and the table are
-    /// those of the value.
+    /// `Fault::SourceMissing` (18) where it has no file; `Fault::RootNotDirectory` (20) where a
+    /// file would stand at the root; else `Fault::Limit` (25) where a path would be too long, or
+    /// there would be too many files, as in `put`. The files have not changed after these. Takes
+    /// memory for the entries of the trees that it reads and of edited directories that it copies;
+    /// after `Fault::Memory` (90) the value may only be cleared or dropped. The pool and the table
+    /// are those of the value.
     pub fn copy<N: Naming>(
         &mut self,
         pool: &Pool<N>,
@@ -245,8 +251,8 @@ impl Files {
         self.put_moved(pool, table, to, node, files)
     }
 
-    // Refuses what stands at a path where it cannot be moved to another. Where that is no longer, no
-    // path gets too long, and nothing is walked.
+    // Refuses what stands at a path where it cannot be moved to another. Where that is no longer,
+    // no path gets too long, and nothing is walked.
     fn check_source<N: Naming>(
         &self,
         pool: &Pool<N>,
@@ -258,7 +264,8 @@ impl Files {
         requires branch { IsBranch (objects pool.now table.now.entries) self.now }
         requires shut { closed_from self.now.root from.now ≡ 0 }
         ensures ok { let os = objects pool.now table.now.entries in
-            OnOk result (path_fault (moved to.now (files_at (files_in os self.now) from.now)) ≡ None) }
+            OnOk result (path_fault (moved to.now (files_at (files_in os self.now) from.now))
+            ≡ None) }
         ensures err { let os = objects pool.now table.now.entries in
             IfErr result (λ e. path_fault (moved to.now (files_at (files_in os self.now) from.now))
             ≡ Some e) }
@@ -272,8 +279,8 @@ impl Files {
         check_move(to, extent(pool, table, node))
     }
 
-    // Opens the directories on the way to a path. Refuses what stands there where it cannot be moved
-    // to another.
+    // Opens the directories on the way to a path. Refuses what stands there where it cannot be
+    // moved to another.
     fn open_source<N: Naming>(
         &mut self,
         pool: &Pool<N>,
@@ -284,7 +291,8 @@ impl Files {
         requires stands { StandsIn N.digest_of pool.now table.now.entries }
         requires branch { IsBranch (objects pool.now table.now.entries) self.old }
         ensures clean { let os = objects pool.now table.now.entries in
-            OnOk result (path_fault (moved to.now (files_at (files_in os self.old) from.now)) ≡ None) }
+            OnOk result (path_fault (moved to.now (files_at (files_in os self.old) from.now))
+            ≡ None) }
         ensures refusal { let os = objects pool.now table.now.entries in
             IfErr result (λ e. e ≢ fault.Memory
             → path_fault (moved to.now (files_at (files_in os self.old) from.now)) ≡ Some e) }

@@ -50,7 +50,7 @@ fn place_behind(entries: &[(Component, Node)], entry: &TreeEntry<'_>) -> usize
     entries.partition_point(|other| !comes_before(entry, other))
 }
 
-// Where the entry of a name stands, if a new one of this mode would come right behind it. An entry
+// Where the entry of a name stands, if a new one of this mode would come right after it. An entry
 // of this name and mode is always found.
 fn place_before(entries: &[(Component, Node)], name: &[u8], mode: FileMode) -> Option<usize>
     requires { AreOrdered (shape_of entries.now) }

@@ -1,6 +1,7 @@
 //! Putting something at a path of an opened directory.
 //!
-//! What stands there, below it or on the way to it goes; each directory on the way is opened before.
+//! What stands there, below it or on the way to it goes; each directory on the way is opened
+//! before.
 
 ghost use Rattle.std.specs.Prelude.{◌≡◌, ◌≢◌, [], true, false, position, None, OnOk, MatchOption};
 ghost use Rattle.git_paths.specs.Paths.{IsComponent};

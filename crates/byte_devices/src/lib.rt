@@ -1,5 +1,5 @@
-//! Readers and writers whose calls are counted, so that a call that fails can say whether the device
-//! was to blame.
+//! Readers and writers whose calls are counted, so that a call that fails can say whether the
+//! device was to blame.
 //!
 //! Bytes go out whole or as a prefix, and come in until a room is full, or with the cause why not.
 //! Nothing here knows what the bytes mean.

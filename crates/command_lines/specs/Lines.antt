@@ -31,7 +31,8 @@ import_in rows pool = option_map (λ tenant. import tenant pool) (given rows (co
 
 abbrev pub ask_in : List Row → Text → Option Said
 ask_in rows pool = option_and_then (λ tenant.
-    option_map (λ query. ask tenant query pool) (given rows (codes "query"))) (given rows (codes "tenant"))
+    option_map (λ query. ask tenant query pool) (given rows (codes "query")))
+    (given rows (codes "tenant"))
 
 abbrev pub copy_in : List Row → Text → Option Said
 copy_in rows pool = option_and_then (λ from.
@@ -58,7 +59,7 @@ said_in words = option_and_then said_by (subcommand_of gitpool words)
 abbrev pub pool_word : Text → Text
 pool_word pool = codes "--pool=" ++ pool
 
--- Words that say it, whatever texts it has: nothing behind `--` is an option (gitcli(7)).
+-- Words that say it, whatever texts it has: nothing after `--` is an option (gitcli(7)).
 abbrev pub words_of : Said → List Text
 words_of (serve pool) = codes "serve" ∷ pool_word pool ∷ []
 words_of (import tenant pool) =

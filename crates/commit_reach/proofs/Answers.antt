@@ -152,7 +152,7 @@ module _ (digest : List ℕ → List ℕ) (os : List Object) (good : AreObjects 
       let told = mark_tells tip floor flags (rw tip_is at r) commit old (omega arith) (omega arith) in
       sym e ∙ (rw floor_is at told)
 
-  -- what stands behind the tip is not reached
+  -- what stands after the tip is not reached
   pub not_behind : (tip old : List ℕ) → place_of tip os < place_of old os → reaches os tip old ≡ false
   not_behind tip old behind = elim (cases_Bool (reaches os tip old)) [
     | inl yea ↦

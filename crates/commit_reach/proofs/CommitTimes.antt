@@ -1,4 +1,4 @@
--- Where a commit's contents say when it was made: behind their second `>`.
+-- Where a commit's contents say when it was made: after their second `>`.
 use Rattle.std.proofs.Common.{◌≡◌, ◌≢◌, ℕ, Bool, true, false, not, ◌==◌, ◌||◌, ◌&&◌, List, [], ◌∷◌, ◌++◌, ◌+◌, ◌≤◌, length, take, drop, position, All, Option, None, Some, refl, sym, subst, ap, ◌∙◌, codes, arith}
 use Rattle.std.specs.Prelude.{unwrap_or}
 use Rattle.std.specs.Option.{option_map}
@@ -85,7 +85,7 @@ to_email_none person is =
     (All-append (λ b. b ≢ 62) (60 ∷ []) person.email (from_test is_other refl (60 ∷ []) refl)
     (from_test is_person_byte refl person.email is.email))
 
--- ---- behind the first `>`
+-- ---- after the first `>`
 
 email_split : (front rest : List ℕ)
     → front ++ 62 ∷ 32 ∷ rest ≡ (front ++ 62 ∷ []) ++ 32 ∷ rest

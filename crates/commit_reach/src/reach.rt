@@ -21,7 +21,7 @@ use tenant_tables::{Sight, Table};
 ///
 /// The pool is the one that the table stands in. The answer is right where the table's objects are
 /// good (AreObjects of git_model): then nothing that stands before `old` need be looked at, and
-/// what is read are the commits behind it. `Memory` (90) where there is no room for the walk.
+/// what is read are the commits after it. `Memory` (90) where there is no room for the walk.
 pub fn reaches<N: Naming>(
     alloc: Global,
     pool: &Pool<N>,

@@ -10,7 +10,7 @@ ghost use Rattle.git_model.specs.CommitReading.{commit_time};
 use crate::lines::after_tree;
 use numerals::read_number;
 
-/// When the commit with these contents was made. The date stands behind the second `>`: the emails
+/// When the commit with these contents was made. The date stands after the second `>`: the emails
 /// of the author and of the committer end in one, and nothing before has any.
 pub(crate) fn time_in(contents: &[u8]) -> u64
     ensures { (c : Commit) → CanWriteCommit c → contents.now ≡ commit_contents c
@@ -21,7 +21,7 @@ pub(crate) fn time_in(contents: &[u8]) -> u64
     seconds_of(committed)
 }
 
-// What follows the first `>` of a text and the space behind it.
+// What follows the first `>` of a text and the space after it.
 fn behind_email(text: &[u8]) -> &[u8]
     ensures { (front rest : List ℕ) → All (λ byte. byte ≢ 62) front
         → text.now ≡ front ++ 62 ∷ 32 ∷ rest → result.now ≡ rest }
@@ -40,7 +40,8 @@ fn end_of_email(text: &[u8]) -> Option<usize>
 
 // The seconds that a text begins with; 0 where it begins with none.
 fn seconds_of(date: &[u8]) -> u64
-    ensures { result ≡ unwrap_or (number_of (take (prefix_len is_ascii_digit date.now) date.now)) 0 }
+    ensures { result
+        ≡ unwrap_or (number_of (take (prefix_len is_ascii_digit date.now) date.now)) 0 }
 {
     let (seconds, _) = date.split_at(digits_len(date));
     read_number(seconds).unwrap_or(0)

@@ -19,7 +19,7 @@ abbrev pub running : Workspace → Parsing → Running
 running workspace parsing =
     record { workspace = workspace; parsing = parsing; is_done = false }
 
--- How it stands behind its items, where nothing was printed.
+-- How it stands after its items, where nothing was printed.
 abbrev pub standing : Workspace → Parsing → Bool → List ℕ → Outcome
 standing workspace parsing skips bytes = record {
   replies = [];

@@ -20,7 +20,7 @@ header_told mark c = record {
   encoding = c.encoding;
 }
 
--- What is open behind its last file: its parents, and the files of its tree.
+-- What is open after its last file: its parents, and the files of its tree.
 abbrev pub commit_told : List Object → List ℕ → Commit → OpenCommit
 commit_told os id c = record {
   header = header_told (number_of os id) c;

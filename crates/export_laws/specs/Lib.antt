@@ -1,6 +1,6 @@
--- In reading order: acts that are carried out in turn, and what they leave of exported objects; a commit
--- while it is told; what stands once all is saved, and that all is; copies of repositories; where an
--- import ends; and files that are put one by one.
+-- In reading order: acts that are carried out in turn, and what they leave of exported objects; a
+-- commit while it is told; what stands once all is saved, and that all is; copies of repositories;
+-- where an import ends; and files that are put one by one.
 pub mod Leaving
 pub mod Told
 pub mod Commits

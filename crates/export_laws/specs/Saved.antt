@@ -14,7 +14,8 @@ use Rattle.export_laws.specs.Told.{Told}
 pub record IsSaved (repository : Repository) (told : Told) (saved : Workspace) : Type 0 where
   pub objects : saved.objects ≡ told.objects
   pub committed : saved.committed ≡ length told.objects
-  pub of_tags : (ref id : List ℕ) → target_of saved.refs ref ≡ Some id → Contains (tag_refs repository) ref
+  pub of_tags : (ref id : List ℕ) → target_of saved.refs ref ≡ Some id
+      → Contains (tag_refs repository) ref
   pub head : saved.refs.head ≡ repository.refs.head
   pub marks : saved.marks ≡ told.marks
   pub branches : saved.branches ≡ (scratch, Unborn) ∷ []

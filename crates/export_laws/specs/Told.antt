@@ -25,8 +25,8 @@ pub record Told : Type 0 where
   pub tags : PendingTags
   pub said : Option Said
 
--- The workspace then, of a stream that began in an empty repository: nothing is saved yet, no commit
--- is open, and refs are updated by force.
+-- The workspace then, of a stream that began in an empty repository: nothing is saved yet, no
+-- commit is open, and refs are updated by force.
 abbrev pub workspace_of : Option (List ℕ) → Told → Workspace
 workspace_of head told = record {
   objects = told.objects;
@@ -74,8 +74,8 @@ abbrev pub tags_of : List Object → PendingTags
 tags_of os = map (λ o. (ref_of_tag o, o.id)) (filter is_tag os)
 
 -- The first objects of a repository were told: those that a ref reaches are there with their marks,
--- trees left out; nothing is there that the repository has not, or that no ref reaches; and the tags
--- wait for the next checkpoint.
+-- trees left out; nothing is there that the repository has not, or that no ref reaches; and the
+-- tags wait for the next checkpoint.
 pub record AreTold (repository : Repository) (first : List Object) (told : Told) : Type 0 where
   pub objects : AreOf repository told.objects
   pub each : (id : List ℕ) (content : Content) → object_named id first ≡ Some content

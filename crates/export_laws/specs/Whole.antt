@@ -28,7 +28,7 @@ HasReached repository objects = (id : List ℕ) (content : Content)
     → object_named id repository.objects ≡ Some content → is_referred_to repository id ≡ true
     → object_named id objects ≡ Some content
 
--- The acts of an export up to the checkpoint behind its last object.
+-- The acts of an export up to the checkpoint after its last object.
 abbrev pub acts_to_saved : Repository → List Done
 acts_to_saved repository =
     opening_acts repository.refs ++ object_acts repository ++ saving_acts

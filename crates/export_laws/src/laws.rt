@@ -67,7 +67,7 @@ pub fn files_are_put()
     ensures { (m : FileMap) → AreFiles (listed m) → Puts (listed m) finmap.empty m }
 {}
 
-/// The acts of an export up to the checkpoint behind its last object lead from an empty repository
+/// The acts of an export up to the checkpoint after its last object lead from an empty repository
 /// to where all its objects are told and saved, and none is refused, where the repository is good,
 /// with all trees within the limits, and its refs and reached tags are no more than may be imported
 /// at once. Then whatever its refs reach is there, trees too, with the name and the content that it
@@ -81,11 +81,11 @@ pub fn objects_are_told()
         → AreSaved digest repository }
 {}
 
-/// Where all objects of a good repository were told and saved, the rest of its export takes away the
-/// refs that the tags have left and the repository has not, and sets each of its refs: to a commit by
-/// a reset, and to a tag by the tag once more. None of these commands is refused, and none prints
-/// anything. The checkpoint at the end is not refused and keeps nothing back: it leaves the refs and
-/// HEAD of the repository, and no others, and all objects that were told.
+/// Where all objects of a good repository were told and saved, the rest of its export takes away
+/// the refs that the tags have left and the repository has not, and sets each of its refs: to a
+/// commit by a reset, and to a tag by the tag once more. None of these commands is refused, and
+/// none prints anything. The checkpoint at the end is not refused and keeps nothing back: it leaves
+/// the refs and HEAD of the repository, and no others, and all objects that were told.
 pub fn refs_are_left()
     ensures { (digest : List ℕ → List ℕ) (repository : Repository)
         → AreObjects digest repository.objects → AreRefs repository.objects repository.refs
@@ -95,9 +95,9 @@ pub fn refs_are_left()
 {}
 
 /// The text that a repository exports, imported into an empty one as `git fast-import` would: no
-/// command is refused, nothing is printed, and the stream ends well. What it leaves has the refs and
-/// HEAD of the repository and no other refs; each object that these reach, with the same name, kind
-/// and bytes; and no object besides. So each commit, tree, blob and tag has its name again.
+/// command is refused, nothing is printed, and the stream ends well. What it leaves has the refs
+/// and HEAD of the repository and no other refs; each object that these reach, with the same name,
+/// kind and bytes; and no object besides. So each commit, tree, blob and tag has its name again.
 ///
 /// The repository is good as one is that a stream leaves, its lines are no longer than a stream may
 /// have them, it may be exported, and its refs reach at most 65,536 tags.

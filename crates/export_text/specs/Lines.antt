@@ -1,5 +1,5 @@
--- The lines of a directory's files, from its tree and the bytes before their names in their paths, for
--- private contracts.
+-- The lines of a directory's files, from its tree and the bytes before their names in their paths,
+-- for private contracts.
 use Rattle.std.specs.Prelude.{◌≡◌, ℕ, zero, suc, ◌≤◌, List, [], ◌∷◌, ◌++◌, length, slice_range, All, codes}
 use Rattle.std.specs.List.{flat_map}
 use Rattle.git_model.specs.declared.file_mode.FileMode.{FileMode}
@@ -35,7 +35,8 @@ lines_by os mode.Gitlink prefix e below = file_line os prefix e
 unfoldable pub lines_within : List Object → ℕ → List ℕ → List ℕ → List ℕ
 lines_within os zero prefix tree = []
 lines_within os (suc levels) prefix tree =
-    flat_map (λ e. lines_by os e.mode prefix e (lines_within os levels (prefix_below prefix e.name) e.id))
+    flat_map (λ e. lines_by os e.mode prefix e
+    (lines_within os levels (prefix_below prefix e.name) e.id))
     (entries_of os tree)
 
 -- ---- directories whose lines were written
@@ -43,7 +44,8 @@ lines_within os (suc levels) prefix tree =
 pub record IsTold (os : List Object) (out : List ℕ) (d : Directory) : Type 0 where
   pub forward : d.lines.start ≤ d.lines.end
   pub within : d.lines.end ≤ length out
-  pub lines : slice_range out d.lines.start d.lines.end ≡ lines_within os d.levels d.prefix.items d.tree
+  pub lines : slice_range out d.lines.start d.lines.end
+      ≡ lines_within os d.levels d.prefix.items d.tree
 
 abbrev pub AreTold : List Object → List ℕ → Directories → Type 0
 AreTold os out told = All (IsTold os out) told.directories.items

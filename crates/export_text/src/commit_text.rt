@@ -93,11 +93,13 @@ fn append_parts_of_commit<N: Naming>(
     told: &mut Directories,
     out: &mut Vec<u8>,
 ) -> Result<(), Memory>
-    ensures written { AreObjects N.digest_of objects.now → AreTold objects.now out.old.items told.old
+    ensures written { AreObjects N.digest_of objects.now
+        → AreTold objects.now out.old.items told.old
         → kind_named parts.now.tree objects.now ≡ Some kind.Tree
         → OnOk result (out.new.items
         ≡ out.old.items ++ items_text (commit_items objects.now id.now (commit_of parts.now))) }
-    ensures in_mind { AreObjects N.digest_of objects.now → AreTold objects.now out.old.items told.old
+    ensures in_mind { AreObjects N.digest_of objects.now
+        → AreTold objects.now out.old.items told.old
         → OnOk result (AreTold objects.now out.new.items told.new) }
     ensures kept { take (length out.old.items) out.new.items ≡ out.old.items }
 {
@@ -118,13 +120,16 @@ pub fn append_commit<N: Naming>(
     told: &mut Directories,
     out: &mut Vec<u8>,
 ) -> Result<(), Memory>
-    ensures written { AreObjects N.digest_of objects.now → AreTold objects.now out.old.items told.old
+    ensures written { AreObjects N.digest_of objects.now
+        → AreTold objects.now out.old.items told.old
         → (c : Commit) → CanWriteCommit c
         → contents.now ≡ commit_contents c
         → kind_named (commit_read contents.now).tree objects.now ≡ Some kind.Tree
         → OnOk result (out.new.items
-        ≡ out.old.items ++ items_text (commit_items objects.now id.now (commit_read contents.now))) }
-    ensures in_mind { AreObjects N.digest_of objects.now → AreTold objects.now out.old.items told.old
+        ≡ out.old.items ++ items_text (commit_items objects.now id.now
+        (commit_read contents.now))) }
+    ensures in_mind { AreObjects N.digest_of objects.now
+        → AreTold objects.now out.old.items told.old
         → OnOk result (AreTold objects.now out.new.items told.new) }
     ensures kept { take (length out.old.items) out.new.items ≡ out.old.items }
 {

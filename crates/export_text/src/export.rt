@@ -95,7 +95,8 @@ fn append_pieces<N: Naming>(
     out: &mut Vec<u8>,
 ) -> Result<(), Fault>
     ensures exports { AreObjects N.digest_of objects.now
-        → Exports (record { objects = objects.now; refs = refs.now }) out.old.items out.new.items result }
+        → Exports (record { objects = objects.now; refs = refs.now })
+        out.old.items out.new.items result }
     ensures kept { take (length out.old.items) out.new.items ≡ out.old.items }
 {
     let reached = reached(alloc, objects, refs)?;
@@ -120,7 +121,8 @@ pub fn append_export<N: Naming>(
     out: &mut Vec<u8>,
 ) -> Result<(), Fault>
     ensures exports { AreObjects N.digest_of objects.now
-        → Exports (record { objects = objects.now; refs = refs.now }) out.old.items out.new.items result }
+        → Exports (record { objects = objects.now; refs = refs.now })
+        out.old.items out.new.items result }
     ensures same { OnErr result (out.new.items ≡ out.old.items) }
     ensures kept { take (length out.old.items) out.new.items ≡ out.old.items }
 {

@@ -41,7 +41,7 @@ fn append_dataref<N: Naming>(
     }
 }
 
-// Appends a path, in quotes where it needs them. The name stands behind the prefix meanwhile.
+// Appends a path, in quotes where it needs them. The name stands after the prefix meanwhile.
 fn append_path(prefix: &mut Vec<u8>, name: &[u8], out: &mut Vec<u8>) -> Result<(), Memory>
     ensures written { OnOk result (out.new.items
         ≡ out.old.items ++ quoted (prefix.old.items ++ name.now)) }
@@ -113,7 +113,7 @@ fn entries_of<'a, N: Naming>(
     }
 }
 
-// Puts a directory's name behind the prefix of its entry.
+// Puts a directory's name after the prefix of its entry.
 fn enter(prefix: &mut Vec<u8>, name: &[u8]) -> Result<(), Memory>
     ensures { OnOk result (prefix.new.items ≡ prefix_below prefix.old.items name.now) }
 {
@@ -131,10 +131,12 @@ fn append_files<N: Naming>(
     told: &mut Directories,
     out: &mut Vec<u8>,
 ) -> Result<(), Memory>
-    ensures written { AreObjects N.digest_of objects.now → AreTold objects.now out.old.items told.old
+    ensures written { AreObjects N.digest_of objects.now
+        → AreTold objects.now out.old.items told.old
         → OnOk result (out.new.items
         ≡ out.old.items ++ lines_within objects.now levels prefix.old.items tree.now) }
-    ensures in_mind { AreObjects N.digest_of objects.now → AreTold objects.now out.old.items told.old
+    ensures in_mind { AreObjects N.digest_of objects.now
+        → AreTold objects.now out.old.items told.old
         → OnOk result (AreTold objects.now out.new.items told.new) }
     ensures prefix { OnOk result (prefix.new.items ≡ prefix.old.items) }
     ensures kept { take (length out.old.items) out.new.items ≡ out.old.items }
@@ -163,8 +165,8 @@ fn append_files<N: Naming>(
 }
 
 /// Appends all files of a tree, in the order of the paths' bytes, in place of what was there; as
-/// `append_parts` after `Memory` (90). The lines of directories that were told are copied, and those
-/// of the others are told then.
+/// `append_parts` after `Memory` (90). The lines of directories that were told are copied, and
+/// those of the others are told then.
 pub fn append_all_files<N: Naming>(
     alloc: Global,
     objects: &Objects<'_, N>,
@@ -172,10 +174,12 @@ pub fn append_all_files<N: Naming>(
     told: &mut Directories,
     out: &mut Vec<u8>,
 ) -> Result<(), Memory>
-    ensures written { AreObjects N.digest_of objects.now → AreTold objects.now out.old.items told.old
+    ensures written { AreObjects N.digest_of objects.now
+        → AreTold objects.now out.old.items told.old
         → kind_named tree.now objects.now ≡ Some kind.Tree → OnOk result (out.new.items
         ≡ out.old.items ++ items_text (file_items objects.now tree.now)) }
-    ensures in_mind { AreObjects N.digest_of objects.now → AreTold objects.now out.old.items told.old
+    ensures in_mind { AreObjects N.digest_of objects.now
+        → AreTold objects.now out.old.items told.old
         → OnOk result (AreTold objects.now out.new.items told.new) }
     ensures kept { take (length out.old.items) out.new.items ≡ out.old.items }
 {

@@ -32,7 +32,8 @@ pub fn append_line_if(word: &[u8], text: Option<&[u8]>, out: &mut Vec<u8>) -> Re
 
 /// Appends bytes as a data by their count; as `append_line` after `Memory` (90).
 pub fn append_data(raw: &[u8], out: &mut Vec<u8>) -> Result<(), Memory>
-    ensures written { OnOk result (out.new.items ≡ out.old.items ++ items_text (Data raw.now ∷ [])) }
+    ensures written { OnOk result (out.new.items ≡ out.old.items
+        ++ items_text (Data raw.now ∷ [])) }
     ensures kept { take (length out.old.items) out.new.items ≡ out.old.items }
 {
     let mut count = Buffer::new();

@@ -16,8 +16,8 @@ pub fn items_are_read_back()
         → reading false (items_text items) ≡ record { items = items; tail = Rest false [] } }
 {}
 
-/// The text of an export, read again, gives its items and leaves nothing, where the objects are good
-/// and fit into a stream, and the refs have good names.
+/// The text of an export, read again, gives its items and leaves nothing, where the objects are
+/// good and fit into a stream, and the refs have good names.
 pub fn exports_are_read_back()
     ensures { (digest : List ℕ → List ℕ) (repository : Repository)
         → AreObjects digest repository.objects → CanExport repository

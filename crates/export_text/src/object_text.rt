@@ -45,12 +45,14 @@ fn append_content<N: Naming>(
     told: &mut Directories,
     out: &mut Vec<u8>,
 ) -> Result<(), Memory>
-    ensures written { (place : ℕ) → AreObjects N.digest_of objects.now → AreTold objects.now out.old.items told.old
+    ensures written { (place : ℕ) → AreObjects N.digest_of objects.now
+        → AreTold objects.now out.old.items told.old
         → IsValid objects.now kind contents.now
         → All (StandsBefore objects.now place) (references_of kind contents.now)
         → OnOk result (out.new.items
         ≡ out.old.items ++ items_text (items_of objects.now id kind contents.now)) }
-    ensures in_mind { AreObjects N.digest_of objects.now → AreTold objects.now out.old.items told.old
+    ensures in_mind { AreObjects N.digest_of objects.now
+        → AreTold objects.now out.old.items told.old
         → OnOk result (AreTold objects.now out.new.items told.new) }
     ensures kept { take (length out.old.items) out.new.items ≡ out.old.items }
 {
@@ -70,11 +72,13 @@ fn append_object<N: Naming>(
     told: &mut Directories,
     out: &mut Vec<u8>,
 ) -> Result<(), Memory>
-    ensures written { AreObjects N.digest_of objects.now → AreTold objects.now out.old.items told.old
+    ensures written { AreObjects N.digest_of objects.now
+        → AreTold objects.now out.old.items told.old
         → place < length objects.now
         → OnOk result (out.new.items ≡ out.old.items
         ++ items_text (items_of_object objects.now (object_at place objects.now))) }
-    ensures in_mind { AreObjects N.digest_of objects.now → AreTold objects.now out.old.items told.old
+    ensures in_mind { AreObjects N.digest_of objects.now
+        → AreTold objects.now out.old.items told.old
         → OnOk result (AreTold objects.now out.new.items told.new) }
     ensures kept { take (length out.old.items) out.new.items ≡ out.old.items }
 {
@@ -92,7 +96,8 @@ pub fn append_objects<N: Naming>(
     reached: &[bool],
     out: &mut Vec<u8>,
 ) -> Result<(), Memory>
-    ensures written { (refs : RefStore) → let r : Repository = record { objects = objects.now; refs = refs } in
+    ensures written { (refs : RefStore)
+        → let r : Repository = record { objects = objects.now; refs = refs } in
         AreObjects N.digest_of objects.now → reached.now ≡ reached_flags r
         → OnOk result (out.new.items ≡ out.old.items ++ items_text (object_items r)) }
     ensures kept { take (length out.old.items) out.new.items ≡ out.old.items }

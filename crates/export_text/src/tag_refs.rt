@@ -84,7 +84,8 @@ fn refs_of_tags<N: Naming>(
     objects: &Objects<'_, N>,
     reached: &[bool],
 ) -> Result<Vec<RefName>, Memory>
-    ensures { (refs : RefStore) → let r : Repository = record { objects = objects.now; refs = refs } in
+    ensures { (refs : RefStore)
+        → let r : Repository = record { objects = objects.now; refs = refs } in
         AreObjects N.digest_of objects.now → reached.now ≡ reached_flags r
         → IfOk result (λ names. names.items ≡ map ref_of_tag (reached_tags r)) }
 {
@@ -106,7 +107,8 @@ pub fn tag_refs<N: Naming>(
     objects: &Objects<'_, N>,
     reached: &[bool],
 ) -> Result<Vec<RefName>, Memory>
-    ensures { (refs : RefStore) → let r : Repository = record { objects = objects.now; refs = refs } in
+    ensures { (refs : RefStore)
+        → let r : Repository = record { objects = objects.now; refs = refs } in
         AreObjects N.digest_of objects.now → reached.now ≡ reached_flags r
         → IfOk result (λ names. names.items ≡ tag_refs r) }
 {

@@ -126,7 +126,8 @@ impl Directories {
     }
 
     fn put(&mut self, directory: Directory)
-        ensures { (os : List Object) (out : List ℕ) → AreTold os out self.old → IsTold os out directory
+        ensures { (os : List Object) (out : List ℕ) → AreTold os out self.old
+            → IsTold os out directory
             → AreTold os out self.new }
     {
         let slot = self.slot(&directory.tree);

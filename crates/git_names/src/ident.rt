@@ -41,7 +41,8 @@ impl Ident {
     pub fn read(alloc: Global, text: &[u8]) -> Result<Ident, IdentFault>
         ensures found { IfOk result (λ ident. IsIdent text.now × (ident ≡ written_ident text.now)) }
         ensures identity { (result ≡ Err IdentFault.BadIdentity) ↔ (¬ NamesPerson text.now) }
-        ensures date { (result ≡ Err IdentFault.BadDate) ↔ (NamesPerson text.now × ¬ IsIdent text.now) }
+        ensures date { (result ≡ Err IdentFault.BadDate)
+            ↔ (NamesPerson text.now × ¬ IsIdent text.now) }
         // The same in one: what reading from left to right gives.
         ensures exact { Answers result (read_ident text.now) }
     {

@@ -24,7 +24,8 @@ pub fn kind_word(kind: Kind) -> &'static [u8]
 }
 
 fn header_of(alloc: Global, kind: Kind, size: usize) -> Result<Vec<u8>, Memory>
-    ensures { IfOk result (λ header. header.items ≡ kind_word kind ++ codes " " ++ decimal size ++ 0 ∷ []) }
+    ensures { IfOk result (λ header. header.items
+        ≡ kind_word kind ++ codes " " ++ decimal size ++ 0 ∷ []) }
 {
     let mut digits = Buffer::new();
     let mut header = Vec::with_capacity(alloc, 28)?;

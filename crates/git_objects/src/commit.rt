@@ -117,7 +117,8 @@ pub fn read_commit(alloc: Global, contents: &[u8]) -> Result<Option<CommitParts<
         × (contents.now ≡ commit_contents (commit_of parts)))) }
     ensures only { (c : Commit) → CanWriteCommit c → contents.now ≡ commit_contents c
         → IfOk result (λ r. IsSomeAnd r (λ parts. commit_of parts ≡ c)) }
-    ensures read { IfOk result (λ r. IfSome r (λ parts. commit_of parts ≡ commit_read contents.now)) }
+    ensures read { IfOk result (λ r. IfSome r (λ parts. commit_of parts
+        ≡ commit_read contents.now)) }
     ensures exact { IfOk result (λ r. IsNone r → (c : Commit) → CanWriteCommit c
         → contents.now ≢ commit_contents c) }
 {

@@ -14,7 +14,8 @@ use git_names::{Memory, Name, is_written_ident};
 
 /// Appends a line. After `Memory` (90) a piece of it may stand after what stood there.
 pub fn append_line(word: &[u8], text: &[u8], contents: &mut Vec<u8>) -> Result<(), Memory>
-    ensures written { OnOk result (contents.new.items ≡ contents.old.items ++ line word.now text.now) }
+    ensures written { OnOk result (contents.new.items ≡ contents.old.items
+        ++ line word.now text.now) }
     ensures kept { take (length contents.old.items) contents.new.items ≡ contents.old.items }
 {
     contents.extend_from_slice(word)?;
@@ -26,7 +27,8 @@ pub fn append_line(word: &[u8], text: &[u8], contents: &mut Vec<u8>) -> Result<(
 /// Appends the line of an object name, in 40 hexadecimal digits; as `append_line` after `Memory`
 /// (90).
 pub fn append_name_line(word: &[u8], id: &Name, contents: &mut Vec<u8>) -> Result<(), Memory>
-    ensures written { OnOk result (contents.new.items ≡ contents.old.items ++ name_line word.now id.now) }
+    ensures written { OnOk result (contents.new.items ≡ contents.old.items
+        ++ name_line word.now id.now) }
     ensures kept { take (length contents.old.items) contents.new.items ≡ contents.old.items }
 {
     append_line(word, &id.to_hex(), contents)

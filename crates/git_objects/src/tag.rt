@@ -36,7 +36,8 @@ pub struct TagParts<'a> {
 }
 
 fn append_tag(parts: &TagParts<'_>, contents: &mut Vec<u8>) -> Result<(), Memory>
-    ensures written { OnOk result (contents.new.items ≡ contents.old.items ++ tag_contents (tag_of parts.now)) }
+    ensures written { OnOk result (contents.new.items ≡ contents.old.items
+        ++ tag_contents (tag_of parts.now)) }
     ensures kept { take (length contents.old.items) contents.new.items ≡ contents.old.items }
 {
     append_name_line(b"object ", &parts.target, contents)?;
@@ -52,7 +53,8 @@ fn append_tag(parts: &TagParts<'_>, contents: &mut Vec<u8>) -> Result<(), Memory
 /// `refs/tags/` and the name are a ref name, and the tagger, if there is one, is an ident that does
 /// not begin with `<`.
 pub fn write_tag(parts: &TagParts<'_>, contents: &mut Vec<u8>) -> Result<(), Memory>
-    ensures written { OnOk result (contents.new.items ≡ contents.old.items ++ tag_contents (tag_of parts.now)) }
+    ensures written { OnOk result (contents.new.items ≡ contents.old.items
+        ++ tag_contents (tag_of parts.now)) }
     ensures same { OnErr result (contents.new.items ≡ contents.old.items) }
 {
     let start = contents.len();
@@ -129,7 +131,8 @@ pub fn read_tag(alloc: Global, contents: &[u8]) -> Result<Option<TagParts<'_>>, 
     ensures only { (t : Tag) → CanWriteTag t → contents.now ≡ tag_contents t
         → IfOk result (λ r. IsSomeAnd r (λ parts. tag_of parts ≡ t)) }
     ensures read { IfOk result (λ r. IfSome r (λ parts. tag_of parts ≡ tag_read contents.now)) }
-    ensures exact { IfOk result (λ r. IsNone r → (t : Tag) → CanWriteTag t → contents.now ≢ tag_contents t) }
+    ensures exact { IfOk result (λ r. IsNone r → (t : Tag) → CanWriteTag t → contents.now
+        ≢ tag_contents t) }
 {
     let Some(first) = take_name_line(b"object ", contents) else {
         return Ok(None);

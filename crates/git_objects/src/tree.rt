@@ -16,7 +16,8 @@ use git_names::{Memory, Name};
 use std::alloc::Global;
 
 fn append_entry(entry: &TreeEntry<'_>, contents: &mut Vec<u8>) -> Result<(), Memory>
-    ensures written { OnOk result (contents.new.items ≡ contents.old.items ++ entry_text (entry_of entry.now)) }
+    ensures written { OnOk result (contents.new.items ≡ contents.old.items
+        ++ entry_text (entry_of entry.now)) }
     ensures kept { take (length contents.old.items) contents.new.items ≡ contents.old.items }
 {
     contents.extend_from_slice(mode_digits(entry.mode))?;
@@ -65,7 +66,8 @@ fn take_mode(contents: &[u8]) -> Option<(FileMode, &[u8])>
 }
 
 fn take_name(contents: &[u8]) -> Option<(&[u8], &[u8])>
-    ensures { IsFront IsEntryName name_text contents.now (option_map (λ x. (x.0.now, x.1.now)) result) }
+    ensures { IsFront IsEntryName name_text contents.now
+        (option_map (λ x. (x.0.now, x.1.now)) result) }
 {
     let (name, rest) = split_at_byte(contents, 0)?;
     if is_entry_name(name) {
@@ -164,7 +166,8 @@ pub fn read_tree(alloc: Global, contents: &[u8]) -> Result<Option<Vec<TreeEntry<
         × (contents.now ≡ tree_contents (entries_of es.items)))) }
     ensures only { (es : List Entry) → CanWriteTree es → contents.now ≡ tree_contents es
         → IfOk result (λ r. IsSomeAnd r (λ v. entries_of v.items ≡ es)) }
-    ensures read { IfOk result (λ r. IfSome r (λ es. entries_of es.items ≡ tree_read contents.now)) }
+    ensures read { IfOk result (λ r. IfSome r (λ es. entries_of es.items
+        ≡ tree_read contents.now)) }
     ensures exact { IfOk result (λ r. IsNone r → (es : List Entry) → CanWriteTree es
         → contents.now ≢ tree_contents es) }
 {

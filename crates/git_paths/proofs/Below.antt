@@ -36,7 +36,7 @@ behind_none p q apart = behind_is p q apart (behind p q) refl
 
 -- ---- by bytes
 
--- what the bytes of a path have behind those of its prefix
+-- what the bytes of a path have after those of its prefix
 abbrev pub tail : List (List ℕ) → List ℕ
 tail [] = []
 tail (c ∷ r) = 47 ∷ joined (c ∷ r)
@@ -98,14 +98,14 @@ cut_middle : (a : List ℕ) (t : List ℕ)
 cut_middle [] t = refl
 cut_middle (b ∷ a) t = refl
 
--- the parts behind a prefix, in a path, are those of a path
+-- the parts after a prefix, in a path, are those of a path
 last_parts : (p : List (List ℕ)) (t : List ℕ) → IsPath (p ++ slice_split is_slash t)
     → slice_split is_slash t ≡ components_of t
 last_parts [] [] is = absurd ((All-head IsComponent [] [] is).not_empty refl)
 last_parts [] (b ∷ t) is = refl
 last_parts (c ∷ p) t is = last_parts p t (All-tail IsComponent c (p ++ slice_split is_slash t) is)
 
--- a slash behind the bytes of a path, and the bytes of what it has below
+-- a slash after the bytes of a path, and the bytes of what it has below
 pub below_bytes : (p q : List (List ℕ)) (t : List ℕ) → IsPath p → IsPath q → joined p ≢ []
     → joined q ≡ joined p ++ 47 ∷ t → behind p q ≡ Some (components_of t)
 below_bytes p q t is_p is_q some e =
@@ -120,7 +120,7 @@ tail_first : (r : List (List ℕ)) (b : ℕ) (t : List ℕ) → tail r ≡ b ∷
 tail_first [] b t e = absurd cc
 tail_first (c ∷ r) b t e = cc
 
--- another byte behind the bytes of a path
+-- another byte after the bytes of a path
 pub longer_bytes : (p q : List (List ℕ)) (b : ℕ) (t : List ℕ) → joined p ≢ [] → b ≢ 47
     → joined q ≡ joined p ++ b ∷ t → behind p q ≡ None
 longer_bytes p q b t some other e =
@@ -205,7 +205,7 @@ name_joined [] path some e = some refl
 name_joined (b ∷ name) [] some e = cc
 name_joined (b ∷ name) (next ∷ path) some e = cc
 
--- the bytes of two paths, one behind the other, are those of the two together
+-- the bytes of two paths, one after the other, are those of the two together
 pub joined_both-joined : (p r : List (List ℕ)) → IsPath p → IsPath r
     → joined_both (joined p) (joined r) ≡ joined (p ++ r)
 joined_both-joined [] r is_p is_r = refl

@@ -8,7 +8,7 @@ by_cases false yea nay = nay refl
 pub some_is : {A : Type 0} (x y : A) → Some x ≡ Some y → x ≡ y
 some_is x y h = cc
 
--- bytes that were read, and the rest behind them
+-- bytes that were read, and the rest after them
 abbrev pub parts : List ℕ → List ℕ → Option (List ℕ × List ℕ)
 parts bytes rest = Some (bytes, rest)
 

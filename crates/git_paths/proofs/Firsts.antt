@@ -21,7 +21,7 @@ one_component [] some none = absurd (omega arith)
 one_component (b ∷ bytes) some none =
     slice_split_none is_slash (b ∷ bytes) (no_test (b ∷ bytes) none)
 
--- what stands behind a slash of a path has its components by cutting
+-- what stands after a slash of a path has its components by cutting
 behind_slash : (name rest : List ℕ) → IsPath (name ∷ slice_split is_slash rest)
     → slice_split is_slash rest ≡ components_of rest
 behind_slash name [] h =
@@ -41,7 +41,7 @@ cut_some : (bytes : List ℕ) → 0 < length bytes → components_of bytes ≡ s
 cut_some [] some = absurd (omega arith)
 cut_some (b ∷ bytes) some = refl
 
--- the component before the first slash, and those behind it
+-- the component before the first slash, and those after it
 pub first_component : (bytes : List ℕ) (at : ℕ) → at < length bytes → get_or bytes at 0 ≡ 47
     → ((k : ℕ) → k < at → get_or bytes k 0 ≢ 47) → IsPath (components_of bytes)
     → components_of bytes ≡ take at bytes ∷ components_of (drop (at + 1) bytes)

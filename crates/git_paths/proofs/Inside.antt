@@ -30,7 +30,7 @@ octals_give x [] b long test is = absurd (omega arith)
 octals_give x (y ∷ []) b long test is = absurd (omega arith)
 octals_give x (y ∷ z ∷ text) b long test is = rw (test, is) refl
 
--- what a pattern leaves of a list behind its first n
+-- what a pattern leaves of a list after its first n
 pub rest_of : (n : ℕ) (text : List ℕ) → take (length text - n) (drop n text) ≡ drop n text
 rest_of n text = take_all (length text - n) (drop n text) (omega (arith, length-drop n text))
 
@@ -39,7 +39,7 @@ pub first_and_rest : (text : List ℕ) → 1 ≤ length text → text ≡ get_or
 first_and_rest [] some = absurd (omega arith)
 first_and_rest (b ∷ text) some = refl
 
--- behind a backslash: nothing, a letter, or another byte
+-- after a backslash: nothing, a letter, or another byte
 pub escaped_nothing : (text : List ℕ) → length text < 1 → escaped text ≡ None
 unfolding escaped
 escaped_nothing [] none = refl

@@ -46,7 +46,7 @@ unquoted-Quotes rest (octal x y z inside bytes dx dy dz fits q) =
 abbrev pub Read : List ℕ → List ℕ → List ℕ → Type 0
 Read text bytes rest = (inside : List ℕ) × (text ≡ inside ++ 34 ∷ rest) × Quotes inside bytes
 
--- what was read behind one more byte
+-- what was read after one more byte
 before_some : (b : ℕ) (o : Option (List ℕ × List ℕ)) (bytes rest : List ℕ)
     → before b o ≡ Some (bytes, rest)
     → (others : List ℕ) × (o ≡ Some (others, rest)) × (bytes ≡ b ∷ others)
@@ -55,7 +55,7 @@ before_some b (Some (others, end)) bytes rest h =
     let both = parts_are (b ∷ others) end bytes rest h in
     (others, ap (parts others) both.1, sym both.0)
 
--- a step of reading: what stands first, and what it means, before what was read behind it
+-- a step of reading: what stands first, and what it means, before what was read after it
 step : (first : List ℕ) (b : ℕ) (text bytes others rest : List ℕ) → bytes ≡ b ∷ others
     → ((inside : List ℕ) → Quotes inside others → Quotes (first ++ inside) (b ∷ others))
     → Read text others rest → Read (first ++ text) bytes rest

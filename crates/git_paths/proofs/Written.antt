@@ -20,7 +20,7 @@ use Rattle.git_paths.proofs.Quoted.{unquoted-Quotes, Read-from_unquoted}
 
 -- ---- what is written is read
 
--- the first space stands behind what has none
+-- the first space stands after what has none
 first_space : (bytes rest : List ℕ) → All (λ b. b ≢ 32) bytes
     → position (λ b. eqb b 32) (bytes ++ 32 ∷ rest) ≡ Some (length bytes)
 first_space bytes rest none =
@@ -62,7 +62,7 @@ bytes_at-Writes (quoted_last inside bytes q) =
 
 -- ---- what is read is written
 
--- text that is cut at a space is what stands before it, the space, and what stands behind it
+-- text that is cut at a space is what stands before it, the space, and what stands after it
 Source-from_cut : (text bytes rest : List ℕ) → IsUnquoted text → (at : Option ℕ)
     → position (λ b. eqb b 32) text ≡ at
     → option_map {U = List ℕ × List ℕ} (λ i. (take i text, drop (i + 1) text)) at
@@ -102,7 +102,7 @@ ended_parts place read behind bytes rest (Some r) is h =
     let both = parts_are read r bytes rest h in
     (behind, ap (λ (bs : List ℕ). parts bs behind) both.0, is ∙ ap (λ (r : List ℕ). Some r) both.1)
 
--- a quoted path, from what stands behind its first quote
+-- a quoted path, from what stands after its first quote
 quoted_parts : (place : Place) (o : Option (List ℕ × List ℕ)) (bytes rest : List ℕ)
     → quoted_end place o ≡ Some (bytes, rest)
     → (behind : List ℕ) × (o ≡ Some (bytes, behind)) × (after_quote place behind ≡ Some rest)

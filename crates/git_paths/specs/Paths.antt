@@ -36,13 +36,13 @@ pub record IsWithinLimits (path : List (List ℕ)) : Type 0 where
   pub bytes : length (joined path) ≤ 16383
   pub components : length path ≤ 256
 
--- what the path q has behind its prefix p, if p is a prefix of it
+-- what the path q has after its prefix p, if p is a prefix of it
 abbrev pub behind : List (List ℕ) → List (List ℕ) → Option (List (List ℕ))
 behind [] q = Some q
 behind (c ∷ p) [] = None
 behind (c ∷ p) (d ∷ q) = if bytes_eq c d then behind p q else None
 
--- the bytes of a path and, behind it, those of another
+-- the bytes of a path and, after it, those of another
 abbrev pub joined_both : List ℕ → List ℕ → List ℕ
 joined_both [] rest = rest
 joined_both (b ∷ top) [] = b ∷ top

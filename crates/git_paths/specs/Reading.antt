@@ -10,7 +10,7 @@ use Rattle.git_paths.specs.declared.fault.Fault.TheVariants.{BadPath, Limit}
 use Rattle.git_paths.specs.Paths.{components_of, is_path, is_within_limits}
 use Rattle.git_paths.specs.Quoting.{byte_of_letter, octal_value}
 
--- bytes that were read, and the rest behind them, if the text is good so far
+-- bytes that were read, and the rest after them, if the text is good so far
 abbrev pub Parts : Type 0
 Parts = Option (List ℕ × List ℕ)
 
@@ -33,7 +33,7 @@ is_octal digit = nat_le 48 digit && nat_lt digit 56
 abbrev pub are_octal : ℕ → ℕ → ℕ → Bool
 are_octal x y z = is_octal x && is_octal y && is_octal z && nat_lt (octal_value x y z) 256
 
--- the bytes up to the closing quote, and what stands behind it
+-- the bytes up to the closing quote, and what stands after it
 unfoldable mutual
   pub unquoted : List ℕ → Parts
   unquoted [] = None
@@ -41,12 +41,12 @@ unfoldable mutual
       if b == 34 then Some ([], text) else if b == 92 then escaped text
       else before b (unquoted text)
 
-  -- the same behind a backslash
+  -- the same after a backslash
   pub escaped : List ℕ → Parts
   escaped [] = None
   escaped (c ∷ text) = by_letter (byte_of_letter c) (unquoted text) (octals c text)
 
-  -- the same behind a backslash and a byte that is no letter
+  -- the same after a backslash and a byte that is no letter
   pub octals : ℕ → List ℕ → Parts
   octals x [] = None
   octals x (y ∷ []) = None
@@ -60,7 +60,7 @@ TakesByte (Some (b, rest)) read = read ≡ before b (unquoted rest.now)
 
 -- ---- at a place
 
--- what stands behind a quoted path
+-- what stands after a quoted path
 abbrev pub after_quote : Place → List ℕ → Option (List ℕ)
 after_quote Source [] = None
 after_quote Source (b ∷ rest) = if b == 32 then Some rest else None
@@ -105,7 +105,7 @@ abbrev pub judged : Parts → Result (List (List ℕ) × List ℕ) Fault
 judged None = Err BadPath
 judged (Some (bytes, rest)) = path_and_rest (path_of bytes) rest
 
--- the path that a text begins with and what stands behind it, or the fault
+-- the path that a text begins with and what stands after it, or the fault
 abbrev pub path_at : Place → List ℕ → Result (List (List ℕ) × List ℕ) Fault
 path_at place text = judged (bytes_at place text)
 

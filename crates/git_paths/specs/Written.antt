@@ -12,8 +12,8 @@ abbrev pub IsUnquoted : List ℕ → Type 0
 IsUnquoted [] = Unit {0}
 IsUnquoted (b ∷ text) = b ≢ 34
 
--- The bytes of a path, in a text that begins with them at this place, and the rest behind the path.
--- A source has a space behind it; a last path has nothing behind it.
+-- The bytes of a path, in a text that begins with them at this place, and the rest after the path.
+-- A source has a space after it; a last path has nothing after it.
 pub data Writes : Place → List ℕ → List ℕ → List ℕ → Type 0 where
   unquoted_source : (bytes rest : List ℕ) → IsUnquoted (bytes ++ 32 ∷ rest)
       → All (λ b. b ≢ 32) bytes
@@ -25,7 +25,7 @@ pub data Writes : Place → List ℕ → List ℕ → List ℕ → Type 0 where
   quoted_last : (inside bytes : List ℕ) → Quotes inside bytes
       → Writes Last (34 ∷ inside ++ 34 ∷ []) bytes []
 
--- A text begins with a path within the limits at this place, and has the rest behind it.
+-- A text begins with a path within the limits at this place, and has the rest after it.
 pub record BeginsWith (place : Place) (text : List ℕ) (path : List (List ℕ))
     (rest : List ℕ) : Type 0 where
   pub is_path : IsPath path

@@ -30,7 +30,8 @@ impl PartialOrd for Path {
 
     ghost partial_cmp = { as_partial_cmp path_cmp };
 
-    ghost laws = { partial_order_from_own_ties (partial_order_from_total path_cmp-total) path_cmp-ties };
+    ghost laws = { partial_order_from_own_ties (partial_order_from_total path_cmp-total)
+        path_cmp-ties };
 
     fn partial_cmp(&self, other: &Path) -> Option<Ordering> {
         Some(self.cmp(other))

@@ -134,7 +134,8 @@ impl Path {
     /// Takes memory for the bytes.
     pub fn from_canonical(alloc: Global, bytes: &[u8]) -> Result<Option<Path>, AllocError>
         // What is given has these bytes.
-        ensures found { IfOk result (λ o. IfSome o (λ path. IsPath path × (joined path ≡ bytes.now))) }
+        ensures found { IfOk result (λ o. IfSome o (λ path. IsPath path
+            × (joined path ≡ bytes.now))) }
         // A path with these bytes is given, unless memory runs out.
         ensures only { (path : List (List ℕ)) → IsPath path → joined path ≡ bytes.now
             → IfOk result (λ o. o ≡ Some path) }

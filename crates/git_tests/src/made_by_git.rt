@@ -1,6 +1,6 @@
-//! Commits, trees and tags that git 2.39 made, with the names that it gave them: merges, an encoding, a
-//! message that is empty, each mode, names around a dot and a slash, a tag of a tag and one without a
-//! tagger.
+//! Commits, trees and tags that git 2.39 made, with the names that it gave them: merges, an
+//! encoding, a message that is empty, each mode, names around a dot and a slash, a tag of a tag and
+//! one without a tagger.
 
 use git_names::{Kind, Memory, Sha1Naming, name_of};
 use git_objects::{

@@ -10,7 +10,7 @@ use Rattle.gitpool.specs.Import.{end_of}
 use Rattle.gitpool.specs.declared.import_fault.ImportFault.{ImportFault}
 use Rattle.gitpool.specs.declared.import_fault.ImportFault.TheVariants as fault
 
--- A reader has the text of a repository's export, and nothing behind it.
+-- A reader has the text of a repository's export, and nothing after it.
 abbrev pub HasExport : Option (List ℕ) → Repository → Type 0
 HasExport known repository = known ≡ Some (export_text repository)
 

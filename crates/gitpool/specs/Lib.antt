@@ -1,5 +1,5 @@
--- In reading order: one stream from a reader to a writer, and frames of steps. What a service is told
--- and holds stands in tenant_service.
+-- In reading order: one stream from a reader to a writer, and frames of steps. What a service is
+-- told and holds stands in tenant_service.
 pub use Rattle.tenant_service.specs.Alone
 pub use Rattle.tenant_service.specs.Headline
 pub use Rattle.tenant_service.specs.Holding

@@ -187,9 +187,9 @@ impl<N: Naming> Importer<N> {
 /// of the end among them where the end was read, stands written, and all of them where no write
 /// failed. `ImportFault::Memory` (90) after a prefix of them.
 ///
-/// What a good repository exports, from a reader that has that text and nothing behind it, is never
-/// refused, and nothing is written, where each of its lines and data fits into a stream and its refs
-/// reach at most 65,536 tags; what it leaves at its end is a copy (`exports`).
+/// What a good repository exports, from a reader that has that text and nothing after it, is never
+/// refused, and nothing is written, where each of its lines and data fits into a stream and its
+/// refs reach at most 65,536 tags; what it leaves at its end is a copy (`exports`).
 pub fn import_one<N: Naming, R: Read, W: Write>(
     alloc: Global,
     naming: N,

@@ -1,8 +1,8 @@
 //! The laws of exports: what a repository exports is the repository.
 //!
-//! Functions over the definitions alone, which run nothing. The commands of an export's text are its
-//! acts (`exports_ask_for_their_acts`). The acts up to the last object leave each object that the
-//! refs reach, under its name and its mark (`objects_are_told`, by `blobs_are_told`,
+//! Functions over the definitions alone, which run nothing. The commands of an export's text are
+//! its acts (`exports_ask_for_their_acts`). The acts up to the last object leave each object that
+//! the refs reach, under its name and its mark (`objects_are_told`, by `blobs_are_told`,
 //! `tags_are_told`, `commits_are_told` and `files_are_put`). The others leave the refs and HEAD
 //! (`refs_are_left`). So the import of the text into an empty repository leaves a copy
 //! (`exports_are_imported`), and so do Open, one Feed and End of a tenant that has nothing

@@ -1,5 +1,5 @@
-//! The new file beside a pool file, which takes its name when a run saves. A run has it locked from before
-//! it loads the pool file, so that of the runs that save one is at work at a time.
+//! The new file beside a pool file, which takes its name when a run saves. A run has it locked from
+//! before it loads the pool file, so that of the runs that save one is at work at a time.
 
 use crate::run_fault::RunFault;
 use std::fs::{File, OpenOptions, Permissions};
@@ -8,7 +8,7 @@ use std::os::unix::fs::{MetadataExt, OpenOptionsExt, PermissionsExt, fchown};
 use std::os::unix::io::AsFd;
 use std::{fs, io};
 
-// What the new file has behind the name of the pool file.
+// What the new file has after the name of the pool file.
 const NEW: &str = ".new";
 
 // The mode of a new file until it has that of the pool file.
@@ -53,8 +53,8 @@ impl<'a> NewFile<'a> {
         }
     }
 
-    /// Gives it the name of the pool file, once it is on the disk. The pool file's mode is kept, and
-    /// its owner and group where the system allows it.
+    /// Gives it the name of the pool file, once it is on the disk. The pool file's mode is kept,
+    /// and its owner and group where the system allows it.
     pub fn replace(&self, rt: &HostRuntime) -> Result<(), RunFault> {
         let file = self.file()?;
         file.sync_all()?;
@@ -81,9 +81,9 @@ fn is_taken(kind: ErrorKind) -> bool {
     matches!(kind, ErrorKind::WouldBlock | ErrorKind::AlreadyExists)
 }
 
-// The file is always a new one, so that nobody has it open already, nor has chosen what it leads to.
-// It is used by a duplicate, whose number is none of the standard streams': where one of these is
-// closed, what is written to it would go into the file.
+// The file is always a new one, so that nobody has it open already, nor has chosen what it leads
+// to. It is used by a duplicate, whose number is none of the standard streams': where one of these
+// is closed, what is written to it would go into the file.
 fn make(rt: &HostRuntime, pool: &str, name: &str) -> io::Result<File> {
     remove_left(rt, name)?;
     let mode = if fs::exists(rt, pool)? {

@@ -58,8 +58,9 @@ fn load_from(rt: &HostRuntime, file: File) -> Result<Service<Sha1Naming>, RunFau
     Ok(Service::load(rt.alloc(), Sha1Naming, &mut reader)?)
 }
 
-/// Saves what every tenant has at its last checkpoint: the new file takes the place of the pool file
-/// when it is whole and on the disk. After a fault the pool file stays, and the new one is removed.
+/// Saves what every tenant has at its last checkpoint: the new file takes the place of the pool
+/// file when it is whole and on the disk. After a fault the pool file stays, and the new one is
+/// removed.
 pub fn save(
     rt: &HostRuntime,
     service: &Service<Sha1Naming>,

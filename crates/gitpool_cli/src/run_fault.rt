@@ -45,8 +45,8 @@ impl RunFault {
         }
     }
 
-    /// The exit status of a run that ended by it: 1 for a tenant's fault and for bad frames, 3 for a
-    /// file that is no pool file, 4 for a device, 5 for want of memory.
+    /// The exit status of a run that ended by it: 1 for a tenant's fault and for bad frames, 3 for
+    /// a file that is no pool file, 4 for a device, 5 for want of memory.
     pub fn status(self) -> u8 {
         match self.code() {
             68 => DEVICE,

@@ -1,4 +1,5 @@
-//! Imports of streams, and what else ends an import. What each worked stream prints is asked of frames (crate gitpool_frames).
+//! Imports of streams, and what else ends an import. What each worked stream prints is asked of
+//! frames (crate gitpool_frames).
 
 use git_objects::{Counted, Sha1Naming, TailNaming};
 use gitpool::{ImportFault, import_one};

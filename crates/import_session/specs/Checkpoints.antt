@@ -21,8 +21,8 @@ reaches_old objects tip (Some old) = reaches objects tip old
 abbrev pub is_fast_forward : List Object → List ℕ → List ℕ → Bool
 is_fast_forward objects old tip = reaches_old objects tip (peeled_to objects kind.Commit old)
 
--- A ref may be set to a tip where there is none yet, or by a fast-forward, or by force. It is judged
--- against the refs as last saved.
+-- A ref may be set to a tip where there is none yet, or by a fast-forward, or by force. It is
+-- judged against the refs as last saved.
 abbrev pub may_set : Workspace → List ℕ → Option (List ℕ) → Bool
 may_set workspace tip None = true
 may_set workspace tip (Some old) =

@@ -56,11 +56,11 @@ pub record IsOpen (objects : List Object) (commit : OpenCommit) : Type 0 where
   pub good : IsGoodCommit objects commit
   pub files : HasFiles commit
 
--- A workspace is sound where its objects are good, with all trees within the limits, and the refs as
--- last saved are good among those that stood then; where HEAD is to name a ref, marks stand for object names, branches stand at no
--- other commits than those of its objects, and pending tags are tags of theirs; where what the open
--- command has said can be written, where the open commit is good, and where the file that awaits its
--- data has a path.
+-- A workspace is sound where its objects are good, with all trees within the limits, and the refs
+-- as last saved are good among those that stood then; where HEAD is to name a ref, marks stand for
+-- object names, branches stand at no other commits than those of its objects, and pending tags are
+-- tags of theirs; where what the open command has said can be written, where the open commit is
+-- good, and where the file that awaits its data has a path.
 pub record IsSound (digest : List ℕ → List ℕ) (workspace : Workspace) : Type 0 where
   pub objects : AreObjects digest workspace.objects
   pub trees : TreesFit [] workspace.objects

@@ -173,8 +173,8 @@ fn is_branch(own: &Own, refs: &Refs, ref_name: &RefName, commit: &CommitIsh<'_>)
 
 /// The commit that a branch starts from.
 ///
-/// `Fault::BranchFromItself` (19) where that is to be the branch itself, perhaps as `HEAD`, which is
-/// judged first; the other refusals are those of `commit_named`.
+/// `Fault::BranchFromItself` (19) where that is to be the branch itself, perhaps as `HEAD`, which
+/// is judged first; the other refusals are those of `commit_named`.
 pub fn start_of<N: Naming>(
     pool: &Pool<N>,
     table: &Table,

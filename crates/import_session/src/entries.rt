@@ -103,9 +103,9 @@ fn print_below<N: Naming>(
 /// missing.
 ///
 /// `Fault::MarkUnknown` (13) where the mark is not set, `Fault::ObjectUnknown` (14) where there is
-/// no such object, `Fault::WrongKind` (15) where it is peeled to no tree, `Fault::Memory` (90) where
-/// there is no room to read the trees or for the line. The objects are good; among others what is
-/// printed is any.
+/// no such object, `Fault::WrongKind` (15) where it is peeled to no tree, `Fault::Memory` (90)
+/// where there is no room to read the trees or for the line. The objects are good; among others
+/// what is printed is any.
 pub fn print_stored<N: Naming>(
     pool: &Pool<N>,
     table: &Table,

@@ -25,7 +25,8 @@ commit_of tree commit = record {
 
 abbrev pub commit_content : (List ℕ → List ℕ) → OpenCommit → Content
 commit_content digest commit =
-    content_from kind.Commit (commit_contents (commit_of (tree_id digest (listed commit.files)) commit))
+    content_from kind.Commit (commit_contents
+    (commit_of (tree_id digest (listed commit.files)) commit))
 
 -- The commit's name, and the objects then.
 pub record Closed : Type 0 where

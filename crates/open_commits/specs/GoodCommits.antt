@@ -33,6 +33,7 @@ pub record GrowGood (digest : List ℕ → List ℕ) (os new : List Object) : Ty
   pub are : new ≡ os ++ more
 
 -- The same, and the commit of this name is among them.
-pub record HoldsCommit (digest : List ℕ → List ℕ) (os new : List Object) (id : List ℕ) : Type 0 where
+pub record HoldsCommit (digest : List ℕ → List ℕ) (os new : List Object) (id : List ℕ)
+    : Type 0 where
   pub grows : GrowGood digest os new
   pub commit : kind_named id new ≡ Some kind.Commit

@@ -22,8 +22,9 @@ use tenant_tables::Table;
 
 impl OpenCommit {
     /// The end of the commit: stores its trees, children first, and then itself, and answers its
-    /// name. What is there already is not stored again. The commit may then only be dropped, or give
-    /// its files to the next one: they are what they were, and known to be the tree that was stored.
+    /// name. What is there already is not stored again. The commit may then only be dropped, or
+    /// give its files to the next one: they are what they were, and known to be the tree that was
+    /// stored.
     ///
     /// `Fault::Limit` (25) where an object's contents are too long or the table is full, else
     /// `Fault::NameCollision` (24) where the table has another object of its name, object by object

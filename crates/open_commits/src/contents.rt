@@ -76,7 +76,8 @@ impl OpenCommit {
         ensures room { HasRoomBeside pool.new table.new.entries }
         ensures adds { AddsOnly pool.old table.old pool.new table.new }
         ensures done { Gives (blob_put N.digest_of (objects pool.old table.old.entries) mode
-            path.now (content_from Kind.Blob contents.now) (shown_in (objects pool.old table.old.entries) self.old))
+            path.now (content_from Kind.Blob contents.now)
+            (shown_in (objects pool.old table.old.entries) self.old))
             (λ _. left_with (objects pool.new table.new.entries)
             (shown_in (objects pool.new table.new.entries) self.new)) result }
         ensures held { OnOk result (IsHeld (objects pool.new table.new.entries) self.new) }

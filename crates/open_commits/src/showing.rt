@@ -42,7 +42,8 @@ impl OpenCommit {
         ensures adds { AddsOnly pool.old table.old pool.new table.new }
         ensures done { Gives (entry_shown N.digest_of (objects pool.old table.old.entries)
             (shown_in (objects pool.old table.old.entries) self.old).files path.now)
-            (λ entry. record { entry = entry; objects = objects pool.new table.new.entries }) result }
+            (λ entry. record { entry = entry; objects = objects pool.new table.new.entries })
+            result }
         ensures commit { shown_in (objects pool.new table.new.entries) self.new
             ≡ shown_in (objects pool.old table.old.entries) self.old }
         ensures held { IsHeld (objects pool.new table.new.entries) self.new }

@@ -113,7 +113,8 @@ fn code_of(answer: Result<(), Fault>) -> Result<u16, Fail>
 
 // The open commit, which is let go where it is not put back.
 fn taken(commit: &mut Option<OpenCommit>) -> Result<OpenCommit, Fail>
-    ensures held { (os : List StoredObject) → IfSome commit.old (IsHeld os) → IfOk result (IsHeld os) }
+    ensures held { (os : List StoredObject) → IfSome commit.old (IsHeld os)
+        → IfOk result (IsHeld os) }
     ensures none { commit.new ≡ None }
 {
     Ok(commit.take().ok_or("no commit")?)

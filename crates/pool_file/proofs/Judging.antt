@@ -17,7 +17,7 @@ use Rattle.pool_file_checks.proofs.CheckLemmas.{passes_or_refuses}
 use Rattle.pool_file.specs.Judging.{IsRefused, Judges, Finds, Says, ReadsTexts, IsBlamed}
 use Rattle.pool_file.proofs.Texts.{Whole, judged, text_found, text_read}
 
--- ---- nothing is left behind a file
+-- ---- nothing is left after a file
 
 end_left : (bytes : List ℕ) (x : Unit {0} × List ℕ) → end_at bytes ≡ Ok x → x.1 ≡ []
 unfolding end_at

@@ -93,7 +93,7 @@ more_sums whole sums id bytes es have text is other s found files none =
         ∙ ap (λ (xs : List TreeEntry). (sum_of_tree sums xs).files) (no_entries bytes es text empty))
     by false t f = have other s f files none
 
--- What is known of an object that fits, and behind it.
+-- What is known of an object that fits, and after it.
 record IsFitting (whole : List Object) (k : Kind) (id bytes : List ℕ) (sums : Sums) : Type 0 where
   have : HaveBytes whole (sums_behind k id bytes sums)
   tree : k ≡ kind.Tree → (es : List TreeEntry) × IsTree whole bytes es

@@ -23,8 +23,9 @@ abbrev pub IsRefused : (List ℕ → List ℕ) → List ℕ → Refusal → Type
 IsRefused digest bytes r = (sealed_at digest bytes ≡ Err r)
     ⊎ ((f : RawFile) × (sealed_at digest bytes ≡ Ok (f, [])) × Refuses (file_checks digest f) r)
 
--- What is answered where the reader has these bytes, and which it has after it. Device and memory may
--- fail in place of any answer; a file passes its checks even where the reader does not tell its bytes.
+-- What is answered where the reader has these bytes, and which it has after it. Device and memory
+-- may fail in place of any answer; a file passes its checks even where the reader does not tell its
+-- bytes.
 abbrev pub Judges : (List ℕ → List ℕ) → Option (List ℕ) → Result RawFile Fault
     → Option (List ℕ) → Type 0
 Judges digest None (Ok f) new = Passes (file_checks digest f)
@@ -51,10 +52,11 @@ Says digest all (Err fault.Memory) = Unit {0}
 -- Each text of repositories is answered so.
 abbrev pub ReadsTexts : (List ℕ → List ℕ) → Option (List ℕ) → Result RawFile Fault → Type 0
 ReadsTexts digest None r = Unit {0}
-ReadsTexts digest (Some bytes) r = (all : List Named) → IsTextOf digest all bytes → Says digest all r
+ReadsTexts digest (Some bytes) r = (all : List Named) → IsTextOf digest all bytes
+    → Says digest all r
 
--- No call failed, unless the answer blames the device: then one did, or the count of calls is at its
--- bound. No call is made past it.
+-- No call failed, unless the answer blames the device: then one did, or the count of calls is at
+-- its bound. No call is made past it.
 pub record IsBlamed {A : Type 0} (bound : ℕ) (old : Device) (r : Result A Fault) (new : Device)
     : Type 0 where
   pub blames : Blames bound r old new

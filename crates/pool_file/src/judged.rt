@@ -28,11 +28,11 @@ pub struct Judged {
 /// `Refused` with the first thing that is wrong. From left to right as the bytes are read:
 /// `NoPoolFile` (60) at the first byte that is none of `gitpool LF`, `UnknownVersion` (61) for a
 /// version that is not 1 or 2, `CutOff` (62) where the input ends early, `TrailingBytes` (69) where
-/// it goes on behind the digest. Then `WrongDigest` (63). Then what `check_file` refuses, in its
+/// it goes on after the digest. Then `WrongDigest` (63). Then what `check_file` refuses, in its
 /// order: `NotCanonical` (64), `BadObject` (65), `MissingReference` (66), `BadRef` (67). `Device`
-/// (68) where a call of `read` answered an error, or 2^32 calls were made. `Memory` (90) where there
-/// is no room for what is read, named and marked. What was read is gone from the reader; after an answer
-/// that is a file nothing is left in it.
+/// (68) where a call of `read` answered an error, or 2^32 calls were made. `Memory` (90) where
+/// there is no room for what is read, named and marked. What was read is gone from the reader;
+/// after an answer that is a file nothing is left in it.
 pub fn read_judged<N: Starting, R: Read>(
     alloc: Global,
     naming: &N,

@@ -1,7 +1,7 @@
 //! The pool file: all repositories of a service in one file.
 //!
-//! Which repositories have a file, which bytes it has, and which repositories a file says; and a file
-//! is read and judged.
+//! Which repositories have a file, which bytes it has, and which repositories a file says; and a
+//! file is read and judged.
 #![tactic(auto)]
 
 mod judged;

@@ -1,4 +1,4 @@
--- The sums of a tenant's trees, one behind another.
+-- The sums of a tenant's trees, one after another.
 use Rattle.std.proofs.Common.{◌≡◌, ◌≢◌, ℕ, ◌+◌, ◌<◌, Bool, true, false, cond, length, List, [], ◌∷◌, ◌++◌, is_some, drop, get_or, map, Option, None, Some, Ok, Err, refl, sym, ap, subst, ◌∙◌, arith, inl}
 use Rattle.std.specs.Prelude.{◌↔◌, All, IsSomeAnd, fold}
 use Rattle.std.specs.Map.{lookup}
@@ -207,7 +207,7 @@ pub noted_sum : (sums : Sums) (entries : Entries) (es : List TreeEntry) → AreN
     → sum_of_tree sums es ≡ tree_summary entries es
 noted_sum sums entries es noted = ap (λ (named : List ℕ → Option Summary). sum_by named es) (λ i id. noted id i)
 
--- an object that fits is summed behind the table
+-- an object that fits is summed after the table
 pub summed_behind : (k : Kind) (bytes : List ℕ) (sums : Sums) (entries : Entries) → AreNoted sums entries → Fits k bytes sums
     → SummedBehind entries (content_from k bytes) (own_sum k bytes sums)
 summed_behind kind.Tree bytes sums entries noted f = (

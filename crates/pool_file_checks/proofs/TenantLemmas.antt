@@ -45,7 +45,7 @@ fails_at shown P xs i x l e not_one h =
 
 -- ---- names that rise
 
--- The names that are left rise behind the last one where all do.
+-- The names that are left rise after the last one where all do.
 pub record Rises (last : Option (List ℕ)) (rest whole : List (List ℕ)) : Type 0 where
   pub forth : AreRising last rest → AreRising None whole
   pub back : AreRising None whole → AreRising last rest

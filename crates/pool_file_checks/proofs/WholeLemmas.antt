@@ -1,4 +1,4 @@
--- Checks of a whole file, one call behind another.
+-- Checks of a whole file, one call after another.
 use Rattle.std.proofs.Common.{◌≡◌, ℕ, ◌<◌, List, [], ◌∷◌, ◌++◌, length, get_or, Option, None, Some, Result, Ok, Err, sym, ap, subst, ◌∙◌, arith}
 use Rattle.std.specs.Prelude.{All}
 use Rattle.std.proofs.lemmas.List.{length-map}
@@ -23,7 +23,7 @@ use Rattle.pool_file_checks.specs.Held.{held_checks}
 use Rattle.pool_file_checks.specs.Whole.{own_checks, one_tenant_checks, tenant_checks}
 use Rattle.pool_file_checks.proofs.CheckLemmas.{Leads, leads_same, leads_front, stops}
 
--- ---- checks behind others
+-- ---- checks after others
 
 -- Those in front refuse, or memory ran out there.
 pub front_stops : (front rest : Checks) (e : Fault) → Checked front (Err e) → Checked (front ++ rest) (Err e)

@@ -29,13 +29,14 @@ MayTarget ref o = (o.kind ≡ kind_byte kind.Commit)
 
 -- A ref stands in the tenant's namespaces, under a good name, and may hold its target. A place that
 -- is none has no target.
-pub record IsGoodRef (front : List ℕ) (os : List RawObject) (numbers : List ℕ) (r : RawRef) : Type 0 where
+pub record IsGoodRef (front : List ℕ) (os : List RawObject) (numbers : List ℕ) (r : RawRef)
+    : Type 0 where
   pub ref : List ℕ
   pub full : r.name ≡ front ++ ref
   pub name : IsShortRefName ref
   pub target : IfSome (target_at os numbers r.place) (MayTarget ref)
 
--- Names rise, each behind the one before it.
+-- Names rise, each after the one before it.
 unfoldable pub AreRising : Option (List ℕ) → List (List ℕ) → Type 0
 AreRising last [] = Unit {0}
 AreRising last (text ∷ more) = IsBehind last text × AreRising (Some text) more

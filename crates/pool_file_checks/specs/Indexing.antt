@@ -10,7 +10,8 @@ use Rattle.pool_file_checks.specs.Own.{Rows, AreDistinct}
 -- The rows have one more at their end, under a name that is new; or the name is there.
 abbrev pub Adds : Rows → List ℕ → ℕ → Result Unit Fault → Rows → Type 0
 Adds old id n (Ok u) new = (new ≡ old ++ (id, n) ∷ []) × AreDistinct new
-Adds old id n (Err (fault.Refused r)) new = IsSome (lookup (bytes_eq id) old) × (r ≡ refusal.NotCanonical)
+Adds old id n (Err (fault.Refused r)) new = IsSome (lookup (bytes_eq id) old)
+    × (r ≡ refusal.NotCanonical)
 Adds old id n (Err fault.Memory) new = Unit {0}
 Adds old id n (Err fault.Device) new = ⊥
 

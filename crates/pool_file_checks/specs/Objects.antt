@@ -1,5 +1,5 @@
--- Which objects a file may say, and in which order: git-fsck(1), the validity of objects; limits and
--- the order are this service's own.
+-- Which objects a file may say, and in which order: git-fsck(1), the validity of objects; limits
+-- and the order are this service's own.
 use Rattle.std.specs.Prelude.{◌≡◌, ℕ, ◌≤◌, List, [], ◌∷◌, length, Option, None, Some}
 use Rattle.std.specs.Ordering.{nat_cmp}
 use Rattle.std.specs.Cmp.Lexicographic.{slice_cmp}
@@ -45,12 +45,12 @@ CanStore o = (c : Content) × (o ≡ raw_object c) × IsContent c
 abbrev pub object_key : RawObject → List ℕ
 object_key o = o.kind ∷ o.bytes
 
--- Texts rise, each behind the one before it.
+-- Texts rise, each after the one before it.
 abbrev pub IsBehind : Option (List ℕ) → List ℕ → Type 0
 IsBehind None text = Unit {0}
 IsBehind (Some last) text = slice_cmp nat_cmp last text ≡ Less
 
--- Each object in turn can be stored, and comes behind the one before it.
+-- Each object in turn can be stored, and comes after the one before it.
 abbrev pub object_checks : Option (List ℕ) → List RawObject → Checks
 object_checks last [] = []
 object_checks last (o ∷ os) =

@@ -18,7 +18,7 @@ pub record IsNameIn (version : ℕ) (text : List ℕ) : Type 0 where
 abbrev pub IsWorthSaving : RawTenant → Type 0
 IsWorthSaving t = (t.numbers ≢ []) ⊎ (t.head ≢ first_head)
 
--- The name, behind that of the tenant before; and that there is something under it.
+-- The name, after that of the tenant before; and that there is something under it.
 abbrev pub name_checks : ℕ → Option (List ℕ) → RawTenant → Checks
 name_checks version last t =
     (IsNameIn version t.name, refusal.NotCanonical)
@@ -27,7 +27,7 @@ name_checks version last t =
     ∷ []
 
 -- The numbers are those of objects, of which there are so many, and not too many objects and refs
--- are counted. Equal numbers are objects of one name, which is judged behind these.
+-- are counted. Equal numbers are objects of one name, which is judged after these.
 abbrev pub number_checks : ℕ → RawTenant → Checks
 number_checks count t =
     (All (λ n. n < count) t.numbers, refusal.NotCanonical)

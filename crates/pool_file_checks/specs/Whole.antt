@@ -19,7 +19,7 @@ own_checks digest os numbers =
     ∷ (TreesFit [] (own_objects digest os numbers), refusal.BadObject)
     ∷ []
 
--- One tenant behind the name of the one before.
+-- One tenant after the name of the one before.
 abbrev pub one_tenant_checks : (List ℕ → List ℕ) → ℕ → List RawObject → Option (List ℕ) → RawTenant
     → Checks
 one_tenant_checks digest version os last t = name_checks version last t

@@ -14,7 +14,7 @@ const CONTENTS_LIMIT: usize = 134_217_728;
 // How many parents a commit may have.
 const PARENTS_LIMIT: usize = 1024;
 
-// How long the name of a tag may be, which stands behind `refs/tags/` in that of a ref.
+// How long the name of a tag may be, which stands after `refs/tags/` in that of a ref.
 const TAG_NAME_LIMIT: usize = 1014;
 
 /// The kind of a byte of the file.

@@ -25,7 +25,7 @@ fn can_store(alloc: Global, object: &RawObject) -> Result<bool, Memory>
     }
 }
 
-// Whether an object comes behind another one.
+// Whether an object comes after another one.
 fn is_above(last: &RawObject, object: &RawObject) -> bool
     ensures { IsTrue result ↔ (slice_cmp nat_cmp (object_key (object_of last.now))
         (object_key (object_of object.now)) ≡ Less) }
@@ -37,7 +37,7 @@ fn is_above(last: &RawObject, object: &RawObject) -> bool
     }
 }
 
-// Whether an object comes behind the one before it.
+// Whether an object comes after the one before it.
 fn is_behind(last: Option<&RawObject>, object: &RawObject) -> bool
     ensures { IsTrue result ↔ IsBehind (option_map (λ o. object_key (object_of o.now)) last.entry)
         (object_key (object_of object.now)) }
@@ -66,7 +66,7 @@ fn check_object(alloc: Global, last: Option<&RawObject>, object: &RawObject) -> 
 /// `Refused` with the first thing that is wrong: `BadObject` (65) for a byte that is no kind's, for
 /// contents that no tree, commit or tag has, and for what is past a limit (134,217,728 bytes, 1,024
 /// parents, a tag under a ref name of 1,024 bytes); `NotCanonical` (64) for an object that does not
-/// come behind the one before it. `Memory` (90) where there is no room to read one.
+/// come after the one before it. `Memory` (90) where there is no room to read one.
 pub fn check_objects(alloc: Global, objects: &[RawObject]) -> Result<(), Fault>
     ensures { Checked (object_checks None (objects_of objects.now)) result }
 {

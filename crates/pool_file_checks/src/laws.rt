@@ -16,7 +16,8 @@ pub fn one_refusal_is_first()
 
 /// Of all checks of a file one refusal at most is the first, and none where all hold.
 pub fn one_refusal_of_a_file_is_first()
-    ensures once { (digest : List ℕ → List ℕ) (f : RawFile) (r s : _) → Refuses (file_checks digest f) r
+    ensures once { (digest : List ℕ → List ℕ) (f : RawFile) (r s : _)
+        → Refuses (file_checks digest f) r
         → Refuses (file_checks digest f) s → r ≡ s }
     ensures none { (digest : List ℕ → List ℕ) (f : RawFile) (r : _) → Passes (file_checks digest f)
         → Refuses (file_checks digest f) r → ⊥ }

@@ -6,7 +6,7 @@ ghost use Rattle.pool_file_checks.specs.Objects.{IsBehind};
 
 use std::cmp::Ordering;
 
-/// Whether a text comes behind the one before it, if there is one.
+/// Whether a text comes after the one before it, if there is one.
 pub fn is_behind(last: Option<&[u8]>, text: &[u8]) -> bool
     ensures { IsTrue result ↔ IsBehind (option_map (λ o. o.now) last.entry) text.now }
 {

@@ -23,7 +23,8 @@ fn add_number(index: &mut IndexMap<Name, usize>, id: Name, number: usize) -> Res
 // Adds the object of a number.
 fn add_object(index: &mut IndexMap<Name, usize>, names: &[Name], number: u64) -> Result<(), Fault>
     ensures { number < length names.now
-        → Adds index.old.entries (slice_index_or names.now number []) number result index.new.entries }
+        → Adds index.old.entries (slice_index_or names.now number [])
+        number result index.new.entries }
 {
     let number = number as usize;
     match names.get(number) {

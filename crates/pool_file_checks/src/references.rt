@@ -102,7 +102,8 @@ fn place_is_connected(
 ) -> Result<bool, Memory>
     ensures { All CanStore (objects_of objects.now) → IfOk result (λ b. IsTrue b
         ↔ All (StandsBefore (objects_in (objects_of objects.now) index.now.entries) place)
-        (references_in (object_at place (objects_in (objects_of objects.now) index.now.entries)).content)) }
+        (references_in (object_at place
+        (objects_in (objects_of objects.now) index.now.entries)).content)) }
 {
     match index.get_index(place) {
         Some((_, number)) => {
@@ -117,9 +118,9 @@ fn place_is_connected(
 /// names, in its order; `objects` are those of the file, each of which can be stored, as
 /// `check_objects` judges. Of other objects nothing is promised but that the call returns.
 ///
-/// `Refused` with `MissingReference` (66) where an object refers to one that does not stand before it
-/// in the tenant's order, or not of the kind that the mode, the header or the tag's type asks for. A
-/// gitlink refers to nothing. `Memory` (90) where there is no room to read an object.
+/// `Refused` with `MissingReference` (66) where an object refers to one that does not stand before
+/// it in the tenant's order, or not of the kind that the mode, the header or the tag's type asks
+/// for. A gitlink refers to nothing. `Memory` (90) where there is no room to read an object.
 pub fn check_references(
     alloc: Global,
     objects: &[RawObject],

@@ -70,10 +70,10 @@ fn are_placed(count: u64, refs: &[RawRef]) -> bool
 ///
 /// `Refused` with the first thing that is wrong: `BadRef` (67) for a ref outside of the tenant's
 /// namespaces, of a bad name or one above 1,024 bytes, or to a target that is neither a commit nor
-/// the tag whose own name the ref has; `NotCanonical` (64) for one that does not come behind the ref
-/// before it; `MissingReference` (66) for a place that the tenant has no object at; and `BadRef` for a
-/// HEAD of a bad name. Each is looked for in all refs before the next. `Memory` (90) where there is
-/// no room to read a tag.
+/// the tag whose own name the ref has; `NotCanonical` (64) for one that does not come after the ref
+/// before it; `MissingReference` (66) for a place that the tenant has no object at; and `BadRef`
+/// for a HEAD of a bad name. Each is looked for in all refs before the next. `Memory` (90) where
+/// there is no room to read a tag.
 pub fn check_refs(alloc: Global, objects: &[RawObject], tenant: &RawTenant) -> Result<(), Fault>
     ensures { Checked (ref_checks (objects_of objects.now) (tenant_of tenant.now)) result }
 {

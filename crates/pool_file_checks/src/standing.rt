@@ -64,7 +64,8 @@ pub fn entries_stand(
     place: usize,
     entries: &[TreeEntry<'_>],
 ) -> bool
-    ensures { IsTrue result ↔ All (EntryStands (objects_in (objects_of objects.now) index.now.entries)
+    ensures { IsTrue result
+        ↔ All (EntryStands (objects_in (objects_of objects.now) index.now.entries)
         place) (entries_of entries.now) }
 {
     for entry in entries {

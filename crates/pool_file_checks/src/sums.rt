@@ -146,7 +146,7 @@ fn add_tree(
 
 /// Adds the sum of an object to those of the trees before it, where it is a tree.
 ///
-/// `Refused` with `BadObject` (65) for a tree that does not fit behind them, as `check_sums` says.
+/// `Refused` with `BadObject` (65) for a tree that does not fit after them, as `check_sums` says.
 /// `Memory` (90) where there is no room to read it or to note its size.
 pub fn add_object(
     alloc: Global,

@@ -41,10 +41,10 @@ fn is_worth_saving(tenant: &RawTenant) -> bool
     !tenant.numbers.as_slice().is_empty() || !has_first_head(tenant)
 }
 
-/// Judges the name of a tenant in a file of a version, behind the name of the tenant before it.
+/// Judges the name of a tenant in a file of a version, after the name of the tenant before it.
 ///
-/// `Refused` with `NotCanonical` (64) for a bad name, for one of several parts in version 1, for one
-/// that does not come behind the name before it, and for a tenant that has neither an object nor
+/// `Refused` with `NotCanonical` (64) for a bad name, for one of several parts in version 1, for
+/// one that does not come after the name before it, and for a tenant that has neither an object nor
 /// another HEAD than `refs/heads/main`. Takes no memory.
 pub fn check_name(version: u32, last: Option<&[u8]>, tenant: &RawTenant) -> Result<(), Fault>
     ensures { Checked (name_checks version (option_map (λ o. o.now) last.entry)
@@ -69,8 +69,8 @@ fn are_below(count: u64, numbers: &[u64]) -> bool
     numbers.iter().all(|number| *number < count)
 }
 
-/// Judges the numbers of a tenant's objects, of which the file has so many, and how many objects and
-/// refs it has.
+/// Judges the numbers of a tenant's objects, of which the file has so many, and how many objects
+/// and refs it has.
 ///
 /// `Refused` with `NotCanonical` (64) for a number that is none of an object, and for more than
 /// 4,194,304 objects or 65,536 refs. Takes no memory.

@@ -110,9 +110,9 @@ fn check_tenants(
 ///
 /// `Refused` with the first thing that is wrong, where all objects come before all tenants, and the
 /// tenants in turn: `BadObject` (65) and `NotCanonical` (64) of the objects, as `check_objects`; of
-/// each tenant what `check_name`, `check_numbers`, `index_objects`, `check_references`, `check_sums`
-/// and `check_refs` refuse, in this order; and `NotCanonical` for an object that no tenant has.
-/// `Memory` (90) where there is no room for what is read or marked. Changes nothing.
+/// each tenant what `check_name`, `check_numbers`, `index_objects`, `check_references`,
+/// `check_sums` and `check_refs` refuse, in this order; and `NotCanonical` for an object that no
+/// tenant has. `Memory` (90) where there is no room for what is read or marked. Changes nothing.
 pub fn check_file(alloc: Global, names: &[Name], file: &RawFile) -> Result<(), Fault>
     ensures { (digest : List ℕ → List ℕ)
         → names.now ≡ names_of digest (objects_of file.now.objects.items)

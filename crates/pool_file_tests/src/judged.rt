@@ -66,8 +66,8 @@ const ROWS: &[(Row<'static>, &[u8])] = &[
     ((2, &[(1, b"x")], &[(b"t", &[0], &[])], 65), FIRST_HEAD),
 ];
 
-// What is answered where one byte of version 1 is greater by one and the digest is made right, place
-// by place.
+// What is answered where one byte of version 1 is greater by one and the digest is made right,
+// place by place.
 const CODES_1: [u16; 66] = [
     60, 60, 60, 60, 60, 60, 60, 60, 61, 61, 61, 62, 62, 62, 62, 62, 62, 62, 62, 62, 65, 62, 62, 62,
     62, 62, 62, 62, 62, 0, 0, 62, 62, 62, 62, 62, 62, 62, 62, 62, 62, 0, 62, 62, 62, 62, 62, 62,

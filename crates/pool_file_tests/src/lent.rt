@@ -1,4 +1,5 @@
-//! Files whose contents are lent: written in blocks, byte for byte, and a front of them where a writer fails.
+//! Files whose contents are lent: written in blocks, byte for byte, and a front of them where a
+//! writer fails.
 
 use crate::files::VERSION_2;
 use byte_devices::{Counted, DeviceFault, FailingWriter};

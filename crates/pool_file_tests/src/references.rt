@@ -29,7 +29,7 @@ const OBJECTS: &[Object<'static>] = &[
         2,
         b"160000 a\0\xce\x016%\x03\x0b\xa8\xdb\xa9\x06\xf7V\x96\x7f\x9e\x9c\xa3\x94FJ",
     ),
-    // A commit of the empty tree, and one behind it.
+    // A commit of the empty tree, and one after it.
     (
         1,
         b"tree 4b825dc642cb6eb9a060e54bf8d69288fbee4904\nauthor A <a@b> 0 +0000\ncommitter A <a@b> 0 +0000\n\nx\n",
@@ -88,7 +88,8 @@ type Row<'a> = (&'a [u64], u16);
 const ROWS: &[Row<'static>] = &[
     (&[], 0),
     (&[BLOB], 0),
-    // What an entry names is missing, behind, or of another kind; a gitlink names nothing here.
+    // What an entry names is missing, stands after it, or is of another kind; a gitlink names
+    // nothing here.
     (&[BLOB, OF_FILE], 0),
     (&[OF_FILE], 66),
     (&[OF_FILE, BLOB], 66),
@@ -115,8 +116,8 @@ const ROWS: &[Row<'static>] = &[
     (&[TREE, BLOB, COMMIT, OF_FILE, CHILD, TAG_OF_BLOB], 66),
 ];
 
-// As `TailNaming` names it, counted by hand: 171 is the sum modulo 256 of the bytes of `tree 30`, of
-// a NUL and of these, so the directory `XXX` is the tree itself.
+// As `TailNaming` names it, counted by hand: 171 is the sum modulo 256 of the bytes of `tree 30`,
+// of a NUL and of these, so the directory `XXX` is the tree itself.
 const OF_ITSELF: &[Object<'static>] = &[(
     2,
     b"40000 XXX\0\xab\xab\xab\xab\xab\xab\xab\xab\xab\xab\xab\xab\xab\xab\xab\xab\xab\xab\xab\xab",

@@ -56,7 +56,7 @@ const ROWS: &[Row<'static>] = &[
     (&[EMPTY], 0),
     (&[BLOB, OF_FILE, OF_DIRECTORY], 0),
     (&[OF_GITLINK], 0),
-    // An empty directory, alone and behind what is well.
+    // An empty directory, alone and after what is well.
     (&[EMPTY, OF_EMPTY], 65),
     (&[EMPTY, BLOB, OF_FILE, OF_EMPTY, OF_DIRECTORY], 65),
     // A tree that is missing or comes later has no files here.

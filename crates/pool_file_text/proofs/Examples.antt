@@ -53,7 +53,7 @@ git_p : by_lengths (0x67 ∷ 0x69 ∷ 0x74 ∷ 0x70 ∷ []) ≡ Err refusal.CutO
 unfolding by_lengths body_at byte_at expected_at front_at
 git_p = refl
 
--- One byte more stands behind the digest.
+-- One byte more stands after the digest.
 has_one_more : by_lengths (whole ++ 0 ∷ []) ≡ Err refusal.TrailingBytes
 unfolding by_lengths body_at bytes_at number_at sized_at many_at counted_at byte_at object_at ref_at head_at tenant_at expected_at front_at version_at end_at
 has_one_more = refl

@@ -1,4 +1,4 @@
--- The parts of a file, read one behind another.
+-- The parts of a file, read one after another.
 use Rattle.std.proofs.Common.{◌≡◌, ℕ, suc, Bool, cond, eqb, List, [], ◌∷◌, length, Option, None, Some, Result, Ok, Err, refl, sym, ap, subst, arith, slice_index_or}
 use Rattle.std.specs.Int.{w16, w64}
 use Rattle.std.proofs.lemmas.Bool.{ne_eqb}

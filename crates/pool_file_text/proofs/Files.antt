@@ -220,7 +220,7 @@ reads_body =
           ∙ rw (front_again magic (v ++ (os ++ (ts ++ rest))) magic_bytes, version.again f.version (os ++ (ts ++ rest)) fits.version, objects.again f.objects (ts ++ rest) fits.objects, (tenants f.version).again f.tenants rest fits.tenants) refl;
     }
 
--- What a whole file is: its body, and 20 bytes behind it.
+-- What a whole file is: its body, and 20 bytes after it.
 pub record IsWhole (bytes : List ℕ) (f : RawFile) (digest : List ℕ) : Type 0 where
   pub parts : bytes ≡ body_text f ++ digest
   pub fits : FitsFile f

@@ -142,7 +142,7 @@ reads_sized w wide = let number = reads_number w wide in record {
       ∙ rw (number.again (length x) (x ++ rest) fits) (bytes_again (length x) x rest refl);
 }
 
--- ---- one value behind another
+-- ---- one value after another
 
 pub two_take : {A B : Type 0} (ta : A → List ℕ) (at : Read A) (Fa : A → Type 0) (tb : B → List ℕ) (bt : Read B) (Fb : B → Type 0)
     → IsRead ta at Fa → IsRead tb bt Fb → (bytes : List ℕ) (x : A) (middle : List ℕ) (y : B) (rest : List ℕ) → IsBytes bytes

@@ -1,4 +1,4 @@
--- Pieces that a sink takes one behind another.
+-- Pieces that a sink takes one after another.
 use Rattle.std.proofs.Common.{◌≡◌, ◌≤◌, ℕ, suc, ◌+◌, ◌<◌, ◌/◌, ◌%◌, List, [], ◌∷◌, ◌++◌, length, map, get_or, drop, Option, Result, Ok, Err, refl, sym, ap, subst, ◌∙◌, append_assoc, append-nil, arith}
 use Rattle.std.specs.Int.{w16, to_be_bytes}
 use Rattle.std.specs.List.{flat_map}
@@ -11,7 +11,7 @@ use Rattle.byte_devices.specs.Device.{Device, device_of, seen}
 use Rattle.pool_file_text.specs.declared.gathering.Gathered.{Gathered}
 use Rattle.pool_file_text.specs.Sinks.{Moves, Gives, AddsUp, HasWritten, HasBroken, HasGathered, TookBlocks, FailedBlocks, Writes}
 
--- A piece, and then what comes behind it.
+-- A piece, and then what comes after it.
 pub then_gives : {S : Type 0} (Took Failed : Moves S) (a b c : S) (r : Result Unit DeviceFault) (xs ys : List ℕ) → AddsUp Took Failed
     → Gives Took Failed a (Ok tt) b xs → Gives Took Failed b r c ys → Gives Took Failed a r c (xs ++ ys)
 then_gives Took Failed a b c (Ok u) xs ys laws p q = laws.both a b c xs ys p q
@@ -75,7 +75,7 @@ pub item_next : {X : Type 0} (xs : List X) (i : ℕ) (x : X) → i < length xs �
 item_next xs i x less is = let e : suc i ≡ i + 1 = omega arith in
     drop-cons xs i x less ∙ ap (λ y. y ∷ drop (suc i) xs) (sym is) ∙ ap (λ (n : ℕ). x ∷ drop n xs) e
 
--- The texts of what values show: those at a place, and behind the last one.
+-- The texts of what values show: those at a place, and after the last one.
 pub texts_next : {X Y : Type 0} (view : X → Y) (text : Y → List ℕ) (xs : List X) (i : ℕ) (x : X) → i < length xs → x ≡ get_or xs i x
     → flat_map text (map view (drop i xs)) ≡ text (view x) ++ flat_map text (map view (drop (i + 1) xs))
 texts_next view text xs i x less is = ap (λ l. flat_map text (map view l)) (item_next xs i x less is) ∙ flat_map-cons text (view x) (map view (drop (i + 1) xs))

@@ -1,4 +1,4 @@
--- Readings one behind another, and the same one many times.
+-- Readings one after another, and the same one many times.
 use Rattle.std.proofs.Common.{◌≡◌, ℕ, suc, ◌+◌, ◌-◌, ◌<◌, ◌≤◌, Bool, true, false, cond, ltb, List, [], ◌∷◌, ◌++◌, length, take, drop, Option, None, Some, Result, Ok, Err, refl, sym, ap, subst, ◌∙◌, append_assoc, append-nil, arith, inl, inr}
 use Rattle.std.specs.Int.{Width, w64, byte_len, from_be_bytes}
 use Rattle.std.proofs.lemmas.Bool.{ltb-false, ltb-true}
@@ -36,7 +36,7 @@ blames_as bound A B fault.Device a b q = q
 blames_as bound A B fault.Memory a b q = q
 blames_as bound A B (fault.Refused refusal) a b q = q
 
--- ---- one behind another
+-- ---- one after another
 
 gave_then : {A B : Type 0} (at : Read A) (k : A × List ℕ → Result (B × List ℕ) Refusal) (old mid new : Option (List ℕ)) (x : A) (r : Result B Fault)
     → Gave at old (Ok x) mid → Gave (λ rest. k (x, rest)) mid r new → Gave (λ bytes. at bytes >>= k) old r new
@@ -73,14 +73,14 @@ value_given x (Some bytes) = refl
 pub reads_value : {A : Type 0} {bound : ℕ} (x : A) (a : Device) → Reads bound (λ rest. Ok (x, rest)) a (Ok x) a
 reads_value x a = record { gave = value_given x a.known; few = λ l. l; blames = refl }
 
--- No room was found before anything was read, or behind a value.
+-- No room was found before anything was read, or after a value.
 pub reads_starved : {A : Type 0} {bound : ℕ} (at : Read A) (a : Device) → Reads bound at a (Err fault.Memory) a
 reads_starved at a = record { gave = starved_given at a.known a.known; few = λ l. l; blames = refl }
 
 pub reads_stops : {A B : Type 0} {bound : ℕ} (at : Read A) (f : Read B) (a b : Device) (x : A) → Reads bound at a (Ok x) b → Reads bound f a (Err fault.Memory) b
 reads_stops at f a b x p = record { gave = starved_given f a.known b.known; few = p.few; blames = p.blames }
 
--- ---- numbers, bytes behind their length
+-- ---- numbers, bytes after their length
 
 pub number_reads : {bound : ℕ} (w : Width) (size : ℕ) (room : List ℕ) (n : ℕ) (a b : Device) → size ≡ byte_len w → n ≡ from_be_bytes w room
     → Reads bound (bytes_at size) a (Ok room) b → Reads bound (number_at w) a (Ok n) b

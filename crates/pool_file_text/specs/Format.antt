@@ -32,11 +32,11 @@ pub record RawFile : Type 0 where
 
 -- ---- the bytes
 
--- Bytes behind their length.
+-- Bytes after their length.
 abbrev pub sized : Width → List ℕ → List ℕ
 sized width bytes = to_be_bytes width (length bytes) ++ bytes
 
--- Texts behind their count.
+-- Texts after their count.
 abbrev pub counted : {A : Type 0} → (A → List ℕ) → List A → List ℕ
 counted text xs = to_be_bytes w64 (length xs) ++ flat_map text xs
 

@@ -7,7 +7,7 @@ use Rattle.pool_file_text.specs.declared.refusal.Refusal.TheVariants as refusal
 use Rattle.std.specs.Str.{bytes_eq}
 use Rattle.pool_file_text.specs.Format.{RawObject, RawRef, RawTenant, RawFile, magic, body_text}
 
--- What is read is a value and the bytes behind it.
+-- What is read is a value and the bytes after it.
 abbrev pub Read : Type 0 → Type 0
 Read A = List ℕ → Result (A × List ℕ) Refusal
 
@@ -28,7 +28,7 @@ number_at width bytes = do
   front ← bytes_at (byte_len width) bytes
   Ok (from_be_bytes width front.0, front.1)
 
--- Bytes behind their length.
+-- Bytes after their length.
 unfoldable pub sized_at : Width → Read (List ℕ)
 sized_at width bytes = do
   n ← number_at width bytes
@@ -103,12 +103,12 @@ body_at bytes = do
   tenants ← counted_at (tenant_at version.0) objects.1
   Ok (record { version = version.0; objects = objects.0; tenants = tenants.0 }, tenants.1)
 
--- Nothing stands behind the digest.
+-- Nothing stands after the digest.
 unfoldable pub end_at : Read Unit
 end_at [] = Ok (tt, [])
 end_at (byte ∷ rest) = Err refusal.TrailingBytes
 
--- A file by its lengths, with the digest that stands behind it: all of the bytes.
+-- A file by its lengths, with the digest that stands after it: all of the bytes.
 unfoldable pub by_lengths : Read (RawFile × List ℕ)
 by_lengths bytes = do
   body ← body_at bytes

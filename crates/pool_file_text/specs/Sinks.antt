@@ -34,7 +34,7 @@ pub record HasBroken (old new : Device) (bytes : List ℕ) : Type 0 where
   pub front : AppendsFront old.known new.known bytes
   pub fault : HasFault old.faults new.faults
 
--- A digest of what was fed before goes on to that of these bytes behind it.
+-- A digest of what was fed before goes on to that of these bytes after it.
 abbrev pub Goes : {D : Type 0} → (D → List ℕ → Type 0) → D → D → List ℕ → Type 0
 Goes Holds old new bytes = (message : List ℕ) → Holds old message → Holds new (message ++ bytes)
 
@@ -48,7 +48,7 @@ abbrev pub FailedBoth : {D S : Type 0} → Moves S → Moves (Digested D S)
 FailedBoth Failed old new bytes = (new.running.ghost_name ≡ old.running.ghost_name)
     × ((new.sink.ghost_name ≡ old.sink.ghost_name) × Failed old.sink.now new.sink.now bytes)
 
--- Some bytes waited, and these came behind them: what the sink took, and what waits now, are all
+-- Some bytes waited, and these came after them: what the sink took, and what waits now, are all
 -- of them.
 pub record HasGathered {S : Type 0} (Took : Moves S) (old new : S) (waited waits bytes : List ℕ)
     : Type 0 where

@@ -17,7 +17,7 @@ Fails (fault.Refused refusal) read = read ≡ Err refusal
 Fails fault.Device read = Unit {0}
 Fails fault.Memory read = Unit {0}
 
--- Of known bytes, the reader gave just what the reading gives, and keeps just what is behind it.
+-- Of known bytes, the reader gave just what the reading gives, and keeps just what is after it.
 abbrev pub Gave : {A : Type 0} → Read A → Option (List ℕ) → Result A Fault → Option (List ℕ)
     → Type 0
 Gave at None r new = Unit {0}
@@ -40,7 +40,7 @@ pub record Reads {A : Type 0} (bound : ℕ) (at : Read A) (old : Device) (r : Re
   pub blames : Blames bound r old new
   pub few : old.calls ≤ bound → new.calls ≤ bound
 
--- So many more bytes were read behind these.
+-- So many more bytes were read after these.
 abbrev pub Adds : ℕ → ℕ → List ℕ → Device → Result Unit Fault → List ℕ → Device → Type 0
 Adds bound n bytes old (Ok u) after new = (more : List ℕ) × (after ≡ bytes ++ more)
     × (length more ≡ n) × Reads bound (bytes_at n) old (Ok more) new

@@ -25,7 +25,7 @@ pub fn read_byte<R: Read>(reader: &mut Counted<R>, bound: u64) -> Result<u8, Fau
     Ok(bytes[0])
 }
 
-// Bytes behind their length in two bytes.
+// Bytes after their length in two bytes.
 fn read_short<R: Read>(alloc: Global, reader: &mut Counted<R>, bound: u64) -> Result<Vec<u8>, Fault>
     ensures { Reads bound (sized_at w16)
         (seen (R.remaining (device_of reader.old)) reader.old) (shown (λ bytes. bytes.items) result)
@@ -35,7 +35,7 @@ fn read_short<R: Read>(alloc: Global, reader: &mut Counted<R>, bound: u64) -> Re
     read_bytes(alloc, reader, bound, count as u64)
 }
 
-// Bytes behind their length in eight bytes.
+// Bytes after their length in eight bytes.
 fn read_long<R: Read>(alloc: Global, reader: &mut Counted<R>, bound: u64) -> Result<Vec<u8>, Fault>
     ensures { Reads bound (sized_at w64)
         (seen (R.remaining (device_of reader.old)) reader.old) (shown (λ bytes. bytes.items) result)
@@ -80,7 +80,7 @@ fn read_many_objects<R: Read>(
     Ok(objects)
 }
 
-/// All objects, behind their count.
+/// All objects, after their count.
 pub fn read_objects<R: Read>(
     alloc: Global,
     reader: &mut Counted<R>,
@@ -114,7 +114,7 @@ fn read_many_numbers<R: Read>(
     Ok(numbers)
 }
 
-// All numbers, behind their count.
+// All numbers, after their count.
 fn read_numbers<R: Read>(
     alloc: Global,
     reader: &mut Counted<R>,
@@ -159,7 +159,7 @@ fn read_many_refs<R: Read>(
     Ok(refs)
 }
 
-// All refs, behind their count.
+// All refs, after their count.
 fn read_refs<R: Read>(
     alloc: Global,
     reader: &mut Counted<R>,
@@ -235,7 +235,7 @@ fn read_many_tenants<R: Read>(
     Ok(tenants)
 }
 
-/// All tenants, behind their count.
+/// All tenants, after their count.
 pub fn read_tenants<R: Read>(
     alloc: Global,
     reader: &mut Counted<R>,

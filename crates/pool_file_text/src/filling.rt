@@ -71,7 +71,7 @@ pub fn read_u64<R: Read>(reader: &mut Counted<R>, bound: u64) -> Result<u64, Fau
     Ok(u64::from_be_bytes(bytes))
 }
 
-// The next bytes behind those of a vector.
+// The next bytes after those of a vector.
 fn fill_more<R: Read>(
     reader: &mut Counted<R>,
     bound: u64,

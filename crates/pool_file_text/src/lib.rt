@@ -1,7 +1,7 @@
 //! The pool file as a text: all repositories of a service, number by number, and a digest.
 //!
-//! A file is read from a counted reader and written to a counted writer as raw values. What these say is
-//! not judged here, and nothing here knows a pool or a table.
+//! A file is read from a counted reader and written to a counted writer as raw values. What these
+//! say is not judged here, and nothing here knows a pool or a table.
 #![tactic(auto)]
 
 mod digesting;

@@ -31,7 +31,7 @@ fn put_u64<S: Sink>(sink: &mut S, number: u64) -> Result<(), DeviceFault>
     sink.take(&number.to_be_bytes())
 }
 
-// Bytes behind their length in two bytes, which is cut to them.
+// Bytes after their length in two bytes, which is cut to them.
 fn put_short<S: Sink>(sink: &mut S, bytes: &[u8]) -> Result<(), DeviceFault>
     ensures { Gives S.Took S.Failed sink.old result sink.new (sized w16 bytes.now) }
 {
@@ -39,7 +39,7 @@ fn put_short<S: Sink>(sink: &mut S, bytes: &[u8]) -> Result<(), DeviceFault>
     sink.take(bytes)
 }
 
-// Bytes behind their length in eight bytes.
+// Bytes after their length in eight bytes.
 fn put_long<S: Sink>(sink: &mut S, bytes: &[u8]) -> Result<(), DeviceFault>
     ensures { Gives S.Took S.Failed sink.old result sink.new (sized w64 bytes.now) }
 {
@@ -56,7 +56,7 @@ fn put_many_numbers<S: Sink>(sink: &mut S, numbers: &[u64]) -> Result<(), Device
     Ok(())
 }
 
-// All numbers, behind their count.
+// All numbers, after their count.
 fn put_numbers<S: Sink>(sink: &mut S, numbers: &[u64]) -> Result<(), DeviceFault>
     ensures { Gives S.Took S.Failed sink.old result sink.new
         (counted number_text numbers.now) }
@@ -82,7 +82,7 @@ fn put_many_objects<S: Sink, O: Printed>(sink: &mut S, objects: &[O]) -> Result<
     Ok(())
 }
 
-// All objects, behind their count.
+// All objects, after their count.
 fn put_objects<S: Sink, O: Printed>(sink: &mut S, objects: &[O]) -> Result<(), DeviceFault>
     ensures { Gives S.Took S.Failed sink.old result sink.new
         (counted object_text (map O.object objects.now)) }
@@ -108,7 +108,7 @@ fn put_many_refs<S: Sink>(sink: &mut S, refs: &[RawRef]) -> Result<(), DeviceFau
     Ok(())
 }
 
-// All refs, behind their count.
+// All refs, after their count.
 fn put_refs<S: Sink>(sink: &mut S, refs: &[RawRef]) -> Result<(), DeviceFault>
     ensures { Gives S.Took S.Failed sink.old result sink.new
         (counted ref_text (refs_of refs.now)) }
@@ -160,7 +160,7 @@ fn put_many_tenants<S: Sink>(
     Ok(())
 }
 
-// All tenants, behind their count.
+// All tenants, after their count.
 fn put_tenants<S: Sink>(
     sink: &mut S,
     version: u32,

@@ -109,7 +109,7 @@ fn read_end<R: Read>(reader: &mut Counted<R>, bound: u64) -> Result<(), Fault>
     }
 }
 
-// A file, and the digest that stands behind it.
+// A file, and the digest that stands after it.
 fn read_whole<R: Read>(
     alloc: Global,
     reader: &mut Counted<R>,
@@ -126,12 +126,12 @@ fn read_whole<R: Read>(
     Ok((file, digest))
 }
 
-/// Reads a file by its lengths, up to the end of the input, and the digest that stands behind it.
+/// Reads a file by its lengths, up to the end of the input, and the digest that stands after it.
 /// Nothing is judged yet but the lengths: neither the digest nor what the file says.
 ///
 /// `Refused` with the first thing that is wrong from left to right: `NoPoolFile` (60) at the first
 /// byte that is none of `gitpool LF`, `UnknownVersion` (61) for a version that is not 1 or 2,
-/// `CutOff` (62) where the input ends early, `TrailingBytes` (69) where it goes on behind the
+/// `CutOff` (62) where the input ends early, `TrailingBytes` (69) where it goes on after the
 /// digest. `Device` (68) where a call of `read` answered an error, or 2^32 calls were made.
 /// `Memory` (90) where there is no room for what is read.
 pub fn read_file<R: Read>(

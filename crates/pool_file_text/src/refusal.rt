@@ -32,7 +32,7 @@ pub enum Refusal {
     /// A bad ref, or one to a target of a wrong kind: 67.
     #[error("fault 67")]
     BadRef,
-    /// Bytes stand behind the digest: 69.
+    /// Bytes stand after the digest: 69.
     #[error("fault 69")]
     TrailingBytes,
 }

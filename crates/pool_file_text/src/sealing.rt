@@ -58,7 +58,7 @@ fn is_same(digest: &[u8], other: &[u8]) -> bool
 ///
 /// `Refused` with the first thing that is wrong from left to right: `NoPoolFile` (60) at the first
 /// byte that is none of `gitpool LF`, `UnknownVersion` (61) for a version that is not 1 or 2,
-/// `CutOff` (62) where the input ends early, `TrailingBytes` (69) where it goes on behind the
+/// `CutOff` (62) where the input ends early, `TrailingBytes` (69) where it goes on after the
 /// digest; and then `WrongDigest` (63) where that is not the digest of the bytes before it.
 /// `Device` (68) where a call of `read` answered an error, or 2^32 calls were made. `Memory` (90)
 /// where there is no room for what is read.
@@ -79,7 +79,7 @@ pub fn read_sealed<N: Starting, R: Read>(
     Ok(file)
 }
 
-/// Writes a file, and its digest behind it. Takes no memory.
+/// Writes a file, and its digest after it. Takes no memory.
 ///
 /// `DeviceFault` (68) where a call of `write` answered an error or took nothing; a prefix of the
 /// text then stands written.
@@ -149,7 +149,7 @@ fn put_both<D: Running, S: Sink, O: Printed>(
     put_blocks(alloc, &mut digested, file)
 }
 
-/// Writes a file of version 2 whose objects' contents are lent, and its digest behind it, in one
+/// Writes a file of version 2 whose objects' contents are lent, and its digest after it, in one
 /// pass: no contents are copied but those that are gathered into blocks of 64 KiB at most.
 ///
 /// `DeviceFault` (68) where a call of `write` answered an error or took nothing; a prefix of the

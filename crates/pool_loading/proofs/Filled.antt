@@ -34,7 +34,7 @@ none_under digest slots pool os stored p counts = record {
   each = tt;
 }
 
--- ---- behind all tenants
+-- ---- after all tenants
 
 pub record IsReleased (slots : List ℕ) (q z : Cells) : Type 0 where
   pub counts : (s : ℕ) → holds z s + times_in slots s ≡ holds q s

@@ -107,7 +107,7 @@ made_again refs =
     sym (ap made nil ∙ same_entries_map (made (finite.entries refs)) refs
     (entries-from_sorted key_cmp (finite.entries refs) (finite.entries_sorted refs)))
 
--- an entry above all others is put behind them
+-- an entry above all others is put after them
 put_last : (refs : RefMap) (k v : List ℕ) (es : List (List ℕ × List ℕ))
     → T (is_sorted key_cmp (finite.entries refs ++ (k, v) ∷ es))
     → finite.entries (finite.insert refs k v) ≡ finite.entries refs ++ (k, v) ∷ []

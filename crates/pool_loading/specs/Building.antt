@@ -48,7 +48,7 @@ pub record Builds (digest : List ℕ → List ℕ) (os : List RawObject) (r : Ra
   pub says : named_in after t ≡ named_at digest os r
   pub others : LeavesOthers before [] after t.table.entries
 
--- Tenants are built behind others, and are what the file says of them.
+-- Tenants are built after others, and are what the file says of them.
 pub record Adds (digest : List ℕ → List ℕ) (slots : List ℕ) (before : Cells) (old : List Tenant)
     (rs : List RawTenant) (after : Cells) (new : List Tenant) : Type 0 where
   pub under : AreUnder digest slots after new

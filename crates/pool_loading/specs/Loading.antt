@@ -31,7 +31,8 @@ said pool tenants = map (named_in pool) tenants
 abbrev pub all_held : List Tenant → ℕ → ℕ
 all_held tenants s = sum_by (λ t. held t.table.entries s) tenants
 
--- A tenant has a good name and a good repository, whose objects stand in the pool and are committed.
+-- A tenant has a good name and a good repository, whose objects stand in the pool and are
+-- committed.
 pub record IsTenant (digest : List ℕ → List ℕ) (pool : Cells) (t : Tenant) : Type 0 where
   pub name : is_tenant_name t.name ≡ true
   pub stands : StandsIn digest pool t.table.entries
@@ -52,8 +53,8 @@ pub record AreRead (digest : List ℕ → List ℕ) (bytes : List ℕ) (all : Li
   pub judged : IsJudged digest bytes file
   pub says : saved_in digest file ≡ all
 
--- What is answered where the reader has these bytes, and which it has after it. Device and memory may
--- fail in place of any answer.
+-- What is answered where the reader has these bytes, and which it has after it. Device and memory
+-- may fail in place of any answer.
 abbrev pub LoadsAs : (List ℕ → List ℕ) → Option (List ℕ) → Result (List Named) Fault
     → Option (List ℕ) → Type 0
 LoadsAs digest None r new = Unit {0}

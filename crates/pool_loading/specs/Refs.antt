@@ -5,7 +5,7 @@ use Rattle.git_model.specs.GoodRepository.{IsShortRefName}
 use Rattle.git_model.specs.RefStore.{RefStore, with_ref}
 use Rattle.pool_file_text.specs.Format.{RawRef}
 
--- A ref has a good name behind the namespaces, and the place of one of so many objects.
+-- A ref has a good name after the namespaces, and the place of one of so many objects.
 pub record IsRefIn (front : List ℕ) (count : ℕ) (r : RawRef) : Type 0 where
   pub ref : List ℕ
   pub full : r.name ≡ front ++ ref

@@ -45,7 +45,8 @@ fn build_tenant<N: Naming>(
     requires live { All (IsLive pool.old) slots.now }
     requires room { HasRoomBeside pool.old [] }
     requires named { names.now ≡ names_of N.digest_of (objects_at pool.old slots.now) }
-    requires checked { IsChecked N.digest_of (objects_at pool.old slots.now) (tenant_of tenant.now) }
+    requires checked { IsChecked N.digest_of (objects_at pool.old slots.now)
+        (tenant_of tenant.now) }
     ensures { IfOk result (λ t. Builds N.digest_of (objects_at pool.old slots.now)
         (tenant_of tenant.now) pool.old pool.new t) }
 {
@@ -73,7 +74,8 @@ fn add_tenant<N: Naming>(
 ) -> Result<(), Memory>
     requires under { AreUnder N.digest_of slots.now pool.old tenants.old.items }
     requires named { names.now ≡ names_of N.digest_of (objects_at pool.old slots.now) }
-    requires checked { IsChecked N.digest_of (objects_at pool.old slots.now) (tenant_of tenant.now) }
+    requires checked { IsChecked N.digest_of (objects_at pool.old slots.now)
+        (tenant_of tenant.now) }
     ensures { OnOk result (Adds N.digest_of slots.now pool.old tenants.old.items
         (tenant_of tenant.now ∷ []) pool.new tenants.new.items) }
 {
@@ -93,7 +95,8 @@ fn add_tenants<N: Naming>(
 ) -> Result<(), Memory>
     requires under { AreUnder N.digest_of slots.now pool.old tenants.old.items }
     requires named { names.now ≡ names_of N.digest_of (objects_at pool.old slots.now) }
-    requires checked { All (IsChecked N.digest_of (objects_at pool.old slots.now)) (tenants_of all.now) }
+    requires checked { All (IsChecked N.digest_of (objects_at pool.old slots.now))
+        (tenants_of all.now) }
     ensures { OnOk result (Adds N.digest_of slots.now pool.old tenants.old.items
         (tenants_of all.now) pool.new tenants.new.items) }
 {
@@ -115,7 +118,8 @@ fn fill<N: Naming>(
     requires vacant { IsVacant pool.old }
     requires none { tenants.old.items ≡ [] }
     requires checked { Passes (file_checks N.digest_of (file_of file)) }
-    ensures says { OnOk result (said pool.new tenants.new.items ≡ saved_in N.digest_of (file_of file)) }
+    ensures says { OnOk result (said pool.new tenants.new.items
+        ≡ saved_in N.digest_of (file_of file)) }
     ensures tenants { OnOk result (AreTenants N.digest_of pool.new tenants.new.items) }
 {
     let RawFile {

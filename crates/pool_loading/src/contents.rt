@@ -28,8 +28,8 @@ fn store_content<N: Naming>(pool: &mut Pool<N>, id: Name, object: RawObject) -> 
 /// Moves the contents of a file's objects into a pool that holds nothing, and answers their slots
 /// in the order of the objects. The pool then holds each of them once, and nothing else.
 ///
-/// The objects are those of a file that passed its checks, and have these names. `Memory` (90) where
-/// there is no room for them; the pool may then hold some.
+/// The objects are those of a file that passed its checks, and have these names. `Memory` (90)
+/// where there is no room for them; the pool may then hold some.
 pub fn store_contents<N: Naming>(
     alloc: Global,
     pool: &mut Pool<N>,
@@ -39,7 +39,8 @@ pub fn store_contents<N: Naming>(
     requires vacant { IsVacant pool.old }
     requires named { names.now ≡ names_of N.digest_of (objects_of objects.items) }
     requires checked { Passes (object_checks None (objects_of objects.items)) }
-    ensures stored { IfOk result (λ slots. objects_at pool.new slots.items ≡ objects_of objects.items) }
+    ensures stored { IfOk result (λ slots. objects_at pool.new slots.items
+        ≡ objects_of objects.items) }
     ensures counts { IfOk result (λ slots. (s : ℕ) → holds pool.new s ≡ times_in slots.items s) }
 {
     let mut slots = Vec::new(alloc);

@@ -20,11 +20,11 @@ use std::io::Read;
 /// the digest and the names of objects.
 ///
 /// `Refused` with the first thing that is wrong: `NoPoolFile` (60), `UnknownVersion` (61), `CutOff`
-/// (62) and `TrailingBytes` (69) from left to right, then `WrongDigest` (63), then what the file says
-/// may be `NotCanonical` (64), `BadObject` (65), `MissingReference` (66) or `BadRef` (67). `Device`
-/// (68) where a call of `read` answered an error, or 2^32 calls were made. `Memory` (90) where there
-/// is no room for what is read, marked or made. What was read is gone from the reader; after an
-/// answer of repositories nothing is left in it.
+/// (62) and `TrailingBytes` (69) from left to right, then `WrongDigest` (63), then what the file
+/// says may be `NotCanonical` (64), `BadObject` (65), `MissingReference` (66) or `BadRef` (67).
+/// `Device` (68) where a call of `read` answered an error, or 2^32 calls were made. `Memory` (90)
+/// where there is no room for what is read, marked or made. What was read is gone from the reader;
+/// after an answer of repositories nothing is left in it.
 pub fn load<N: Starting, R: Read>(
     alloc: Global,
     naming: N,

@@ -32,7 +32,7 @@ fn read_ref_name(alloc: Global, text: &[u8]) -> Result<RefName, Memory>
     }
 }
 
-// Sets a ref whose name stands behind a prefix to the object at its place.
+// Sets a ref whose name stands after a prefix to the object at its place.
 fn set_ref(
     alloc: Global,
     table: &Table,

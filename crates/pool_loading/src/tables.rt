@@ -23,7 +23,7 @@ use pool_file_text::Fault;
 use std::alloc::Global;
 use tenant_tables::{Summary, Table};
 
-// Notes the sum of an object that fits behind the trees so far.
+// Notes the sum of an object that fits after the trees so far.
 fn note_sum(
     alloc: Global,
     sums: &mut IndexMap<Name, Summary>,
@@ -81,8 +81,10 @@ pub fn load_table<N: Naming>(
     requires contents { Passes (object_checks None (objects_at pool.old slots.now)) }
     requires numbers { All (λ n. n < length slots.now) numbers.now }
     requires few { length numbers.now ≤ objects_limit }
-    requires distinct { AreDistinct (rows_of (names_of N.digest_of (objects_at pool.old slots.now)) numbers.now) }
-    requires trees { TreesFit [] (own_objects N.digest_of (objects_at pool.old slots.now) numbers.now) }
+    requires distinct { AreDistinct
+        (rows_of (names_of N.digest_of (objects_at pool.old slots.now)) numbers.now) }
+    requires trees { TreesFit []
+        (own_objects N.digest_of (objects_at pool.old slots.now) numbers.now) }
     ensures stands { IfOk result (λ table. StandsIn N.digest_of pool.new table.entries) }
     ensures others { IfOk result (λ table. LeavesOthers pool.old [] pool.new table.entries) }
     ensures objects { IfOk result (λ table. objects pool.new table.entries

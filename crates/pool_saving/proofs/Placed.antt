@@ -13,7 +13,7 @@ use Rattle.pool_file.specs.Repositories.{Named, raw_ref}
 abbrev Entry : Type 0
 Entry = List ℕ × List ℕ
 
--- a ref behind the namespaces of its tenant, and the place of its target
+-- a ref after the namespaces of its tenant, and the place of its target
 pub ref_is : (n : Named) (e : Entry) (front name : List ℕ) (place : ℕ)
     → front ≡ namespaces n.tenant → name ≡ front ++ e.0
     → place ≡ place_of e.1 n.repository.objects

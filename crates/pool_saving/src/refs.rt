@@ -24,7 +24,7 @@ fn place_of<N: Naming>(objects: &Objects<'_, N>, id: &Name) -> usize
     }
 }
 
-// One text behind another.
+// One text after another.
 fn joined(alloc: Global, front: &[u8], rest: &[u8]) -> Result<Vec<u8>, Memory>
     ensures { IfOk result (λ whole. whole.items ≡ front.now ++ rest.now) }
 {

@@ -1,8 +1,8 @@
 //! A table as a plain list, to compare the one that is used with: pairs of an object name and an
 //! entry, with a committed prefix.
 //!
-//! It has the calls of `Table` under the same clauses, but `add_tree` and `summary`, and looks for a
-//! name by going through all of them.
+//! It has the calls of `Table` under the same clauses, but `add_tree` and `summary`, and looks for
+//! a name by going through all of them.
 
 ghost use Rattle.std.specs.Prelude.{◌≡◌, ◌≢◌, ◌<◌, ◌≤◌, ◌-◌, [], All, length, take, Option, None};
 ghost use Rattle.std.specs.Prelude.{position, slice_get, nat_le, OnOk, OnErr};

@@ -1,5 +1,5 @@
-//! What no clause says of tables: names from git, that calls succeed, and that the conditions of callers can
-//! be met.
+//! What no clause says of tables: names from git, that calls succeed, and that the conditions of
+//! callers can be met.
 
 mod beside;
 mod forest;

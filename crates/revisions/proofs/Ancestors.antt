@@ -5,7 +5,7 @@ use Rattle.revisions.specs.declared.fault.Fault.{Fault}
 use Rattle.revisions.specs.FirstParents.{FollowFirstParents, IsFirstParentChain}
 use Rattle.revisions.specs.Resolution.{nth_parent, nth_ancestor}
 
--- each commit is so many first parents behind the first one
+-- each commit is so many first parents after the first one
 follows-at : (os : List Object) (commit id : List ℕ) (more : List (List ℕ)) (n : ℕ) → FollowFirstParents os commit more
     → slice_get (commit ∷ more) n ≡ Some id → nth_ancestor os n commit ≡ Ok id
 unfolding nth_ancestor
@@ -33,7 +33,7 @@ chain-more os [] last parent h got next = tt
 chain-more os (c ∷ more) last parent h got next =
     let less : suc (length more) - 1 ≡ length more = omega arith in follows-more os c last parent more h (rw less at got) next
 
--- a first parent that is refused, on the way to one behind it
+-- a first parent that is refused, on the way to one after it
 follows-refused : (os : List Object) (commit last : List ℕ) (more : List (List ℕ)) (n : ℕ) (e : Fault)
     → FollowFirstParents os commit more → slice_get (commit ∷ more) (length more) ≡ Some last
     → nth_parent os 1 last ≡ Err e → length more < n → nth_ancestor os n commit ≡ Err e

@@ -34,7 +34,8 @@ fn at_path<N: Naming>(
     path: &Path,
     tree: Name,
 ) -> Result<Name, Fault>
-    ensures { AreObjects N.digest_of objects.now → Gives result (at_path objects.now path.now tree) }
+    ensures { AreObjects N.digest_of objects.now
+        → Gives result (at_path objects.now path.now tree) }
 {
     if !path.is_within_limits() {
         return Err(Fault::UnknownRevision);

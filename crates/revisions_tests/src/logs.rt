@@ -1,5 +1,5 @@
 //! What ranges list and what commits reach. Which commits a range has is what `git rev-list`
-//! answers; in their order the two differ, for git looks at a commit only behind one of its
+//! answers; in their order the two differ, for git looks at a commit only after one of its
 //! children.
 
 use crate::history::{Added, Held, History, Step, set_all, set_head};

@@ -17,7 +17,8 @@ author A <a@b> 0 +0000\ncommitter A <a@b> 0 +0000\n\nx\n\
 \x04\0\0\0\0\0\0\0\x43object 7b8051db3dcc0fcfd006919cfa7376ddbd7bdc1a\ntype commit\ntag v\n\n";
 
 // What stands before the three places of a tenant's name of four bytes: its length; the numbers of
-// all objects, two refs and the front of the first; the end of that one and the front of the second.
+// all objects, two refs and the front of the first; the end of that one and the front of the
+// second.
 const BEFORE_NAME: [&[u8]; 3] = [
     b"\0\x04",
     b"\0\0\0\0\0\0\0\x05\0\0\0\0\0\0\0\x01\0\0\0\0\0\0\0\0\0\0\0\0\0\0\0\x03\0\0\0\0\0\0\0\x02\
@@ -25,7 +26,7 @@ const BEFORE_NAME: [&[u8]; 3] = [
     b"/refs/heads/m\0\0\0\0\0\0\0\x01\0\x20refs/namespaces/",
 ];
 
-// What stands behind the last of them: the end of the second ref, and HEAD.
+// What stands after the last of them: the end of the second ref, and HEAD.
 const BEHIND_NAMES: &[u8] = b"/refs/tags/v\0\0\0\0\0\0\0\x04\0\x0frefs/heads/main";
 
 fn digit(number: u64) -> u8 {
@@ -42,7 +43,7 @@ fn append_tenant(file: &mut Vec<u8>, number: u64) -> Result<(), AllocError> {
 }
 
 // A file of so many tenants, at most a thousand, each of whom has all objects, and of further ones
-// that stand behind them.
+// that stand after them.
 fn file_with(
     alloc: Global,
     tenants: u64,
@@ -102,7 +103,7 @@ const COPY: &[u8] = b"\0\x04tzzz\0\0\0\0\0\0\0\x03\
 \0\x21refs/namespaces/tzzz/refs/heads/m\0\0\0\0\0\0\0\x01\
 \0\x20refs/namespaces/tzzz/refs/tags/v\0\0\0\0\0\0\0\x02\0\x0frefs/heads/main";
 
-// Whether a copy of the last of so many tenants is taken, and saved behind them.
+// Whether a copy of the last of so many tenants is taken, and saved after them.
 fn copies_last(
     alloc: Global,
     service: &mut Service<Sha1Naming>,

@@ -1,4 +1,5 @@
-//! Why a service refuses a step, before the step reaches a stream, or a copy, before its first step.
+//! Why a service refuses a step, before the step reaches a stream, or a copy, before its first
+//! step.
 
 ghost use Rattle.std.specs.Prelude.{◌≡◌};
 ghost use Rattle.service_steps.specs.Faults.{code_of};

@@ -1,7 +1,7 @@
 //! What a service is asked and what it tells: its steps, their answers, and its own refusals.
 //!
-//! Types alone: nothing here takes a step. How a step lies in bytes is step_frames, and what it does
-//! is tenant_service.
+//! Types alone: nothing here takes a step. How a step lies in bytes is step_frames, and what it
+//! does is tenant_service.
 #![tactic(auto)]
 
 mod answer;

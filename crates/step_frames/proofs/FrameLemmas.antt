@@ -180,7 +180,7 @@ tenant_fails a b c k fault.Device room h r =
 tenant_fails a b c k fault.Memory room h r =
     (h.byte ∷ r.0, tenant_unfinished h.byte k r.0 h.small h.is r.1, well_more a b c (h.byte ∷ []) r.0 h.read r.2)
 
--- A name was read behind it.
+-- A name was read after it.
 pub record Names (a b : Device) (k : Kind) (tenant : List ℕ) : Type 0 where
   pub byte : ℕ
   pub small : byte < 256

@@ -1,4 +1,4 @@
--- Bytes behind their length: what a part of them lacks, and what was read of them.
+-- Bytes after their length: what a part of them lacks, and what was read of them.
 use Rattle.std.proofs.Common.{◌≡◌, ◌≢◌, ℕ, zero, suc, ◌-◌, ◌<◌, ◌≤◌, List, [], ◌∷◌, ◌++◌, length, replicate, Result, Ok, Err, refl, sym, ap, subst, ◌∙◌, append-nil, append_assoc, arith}
 use Rattle.std.specs.Int.{Width, w16, w32, byte_len, to_be_bytes, from_be_bytes}
 use Rattle.std.proofs.lemmas.List.{length-append, length-replicate}
@@ -81,7 +81,7 @@ length_short width numbers limit bytes short =
       limited = λ there. let l = short.lacks in absurd (omega (arith, there, l));
     }
 
--- Bytes that are cut off behind their length.
+-- Bytes that are cut off after their length.
 room_short : (width : Width) (limit n : ℕ) (bytes : List ℕ) → n < bound width → n ≤ limit → IsShort n bytes
     → IsUnfinishedPart width limit (to_be_bytes width n ++ bytes)
 room_short width limit n bytes fits within short =
@@ -99,7 +99,7 @@ room_short width limit n bytes fits within short =
 none-short : (n : ℕ) → 0 < n → IsShort n []
 none-short n some = record { lacks = some; small = λ i. omega arith }
 
--- A length was read, and then what is behind it.
+-- A length was read, and then what is after it.
 pub sized_more : (width : Width) (limit n : ℕ) (a b c : Device) (r : Result Unit FrameFault) (room : List ℕ)
     → n < bound width → HasReadWell a b (to_be_bytes width n) → ReadsRoom n limit b r c room → ReadsSized width limit a r c room
 sized_more width limit n a b c (Ok u) room fits first later =

@@ -17,11 +17,11 @@ pub record Frame : Type 0 where
   pub tenant : List ℕ
   pub body : List ℕ
 
--- Bytes behind their length.
+-- Bytes after their length.
 abbrev pub sized : Width → List ℕ → List ℕ
 sized width bytes = to_be_bytes width (length bytes) ++ bytes
 
--- The bytes of a frame: its kind, the name behind a length of two bytes, and the body behind a
+-- The bytes of a frame: its kind, the name after a length of two bytes, and the body after a
 -- length of four.
 abbrev pub frame_text : Frame → List ℕ
 frame_text f = f.kind ∷ sized w16 f.tenant ++ sized w32 f.body
@@ -53,7 +53,7 @@ body_limit kind.Ask = 16777216
 body_limit _ = 0
 
 -- A wrong part of a frame shows with its last byte: the kind as the first one, the length of the
--- name as the third, and that of the body behind the name. This many bytes show it.
+-- name as the third, and that of the body after the name. This many bytes show it.
 unfoldable pub wrong_part : Kind → ℕ → ℕ → Option ℕ
 wrong_part k tenant body =
     if nat_lt (tenant_limit k) tenant then Some 3

@@ -10,7 +10,7 @@ use Rattle.service_steps.specs.declared.step.Step.{Step}
 use Rattle.step_frames.specs.Frames.{sized, kind_of, frame_of, step_text, IsGood, IsUnfinished, IsCutOff, IsBad}
 
 -- A step was read as its frame; or the reader was at its end before one; or what was read refuses
--- all that is behind it.
+-- all that is after it.
 abbrev pub ReadsStep : Device → Result (Option Step) FrameFault → Device → Type 0
 ReadsStep old (Ok (Some s)) new = IsGood (frame_of s) × HasReadWell old new (step_text s)
 ReadsStep old (Ok None) new = HasReadAll old new []
@@ -58,7 +58,7 @@ ReadsRoom n limit old (Err fault.Device) new room =
     (n ≤ limit) × (bytes : List ℕ) × IsShort n bytes × HasFailed old new bytes
 ReadsRoom n limit old (Err fault.Memory) new room = (n ≤ limit) × (0 < n) × HasReadWell old new []
 
--- Bytes begin some behind their length, and lack something. Where the length is there, it is within
+-- Bytes begin some after their length, and lack something. Where the length is there, it is within
 -- the limit.
 pub record IsUnfinishedPart (width : Width) (limit : ℕ) (bytes : List ℕ) : Type 0 where
   pub room : List ℕ
@@ -68,7 +68,7 @@ pub record IsUnfinishedPart (width : Width) (limit : ℕ) (bytes : List ℕ) : T
   pub fits : length room < bound width
   pub limited : byte_len width ≤ length bytes → length room ≤ limit
 
--- Bytes behind their length were read, no more than a limit.
+-- Bytes after their length were read, no more than a limit.
 abbrev pub ReadsSized : Width → ℕ → Device → Result Unit FrameFault → Device → List ℕ → Type 0
 ReadsSized width limit old (Ok u) new room =
     (length room ≤ limit) × (length room < bound width) × HasReadWell old new (sized width room)

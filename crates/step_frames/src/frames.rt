@@ -1,7 +1,7 @@
 //! The steps that a reader gives, frame by frame.
 //!
-//! Nothing is read ahead: where a frame is whole, no byte behind it was asked for, and where a part
-//! is wrong, none behind that part.
+//! Nothing is read ahead: where a frame is whole, no byte after it was asked for, and where a part
+//! is wrong, none after that part.
 
 ghost use Rattle.std.specs.Prelude.{◌≡◌, ◌≤◌, length};
 ghost use Rattle.step_frames.specs.Frames.{tenant_limit, body_limit, framed, frame_of};
@@ -53,7 +53,7 @@ impl Frames {
     /// `BadFrame` (50) as soon as a part is there that is wrong: a kind that is none, a name in a
     /// restart, a body that the kind has not or that has more than 16,777,216 bytes. `CutOff` (51)
     /// where the input ends inside a frame. `Device` (68) where a call of the reader failed.
-    /// `Memory` (90) where there is no room for a name or a body. No frame can be read behind
+    /// `Memory` (90) where there is no room for a name or a body. No frame can be read after
     /// these.
     pub fn next<R: Read>(&mut self, reader: &mut Counted<R>) -> Result<Option<Step<'_>>, FrameFault>
         ensures { ReadsStep (seen (R.remaining (device_of reader.old)) reader.old) result

@@ -1,4 +1,4 @@
-//! Bytes behind their length.
+//! Bytes after their length.
 
 ghost use Rattle.std.specs.Prelude.{◌≡◌};
 ghost use Rattle.std.specs.Int.{w16, w32};
@@ -48,7 +48,7 @@ fn read_room<R: Read>(
     Ok(())
 }
 
-/// Bytes behind their length in two bytes, at most so many.
+/// Bytes after their length in two bytes, at most so many.
 pub fn read_behind_u16<R: Read>(
     reader: &mut Counted<R>,
     limit: usize,
@@ -61,7 +61,7 @@ pub fn read_behind_u16<R: Read>(
     read_room(reader, n as usize, limit, room)
 }
 
-/// Bytes behind their length in four bytes, at most so many.
+/// Bytes after their length in four bytes, at most so many.
 pub fn read_behind_u32<R: Read>(
     reader: &mut Counted<R>,
     limit: usize,

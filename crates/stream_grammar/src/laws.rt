@@ -20,7 +20,8 @@ use crate::data_ref::DataRef;
 pub fn in_turn()
     ensures { (parsing : Parsing) (front more : List items.Item)
         → commands parsing (front ++ more)
-        ≡ given_before (commands parsing front).given (commands (commands parsing front).rest more) }
+        ≡ given_before (commands parsing front).given
+        (commands (commands parsing front).rest more) }
 {}
 
 /// After a fault nothing is given, and the fault stays.
@@ -64,8 +65,8 @@ pub fn written_names()
 {}
 
 /// What an item asks for is well formed: its refs are ref names of at most 1,024 bytes, or `HEAD`
-/// where that may stand; its idents can be written, and its encoding is on one line; a tree may have
-/// its paths, which are within the limits; and its object names are names.
+/// where that may stand; its idents can be written, and its encoding is on one line; a tree may
+/// have its paths, which are within the limits; and its object names are names.
 pub fn acts_are_well_formed()
     ensures { (parsing : Parsing) (item : items.Item) (done : Done) → done_by parsing item ≡ Ok done
         → IsWellFormed done.act }

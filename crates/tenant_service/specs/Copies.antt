@@ -17,8 +17,8 @@ import_steps text = (Open, None) ∷ (Feed text, None) ∷ (End, None) ∷ []
 abbrev pub told_ok : Told
 told_ok = record { answer = answer.Ok; reply = [] }
 
--- In an empty repository of its own each step of the import of a text is answered Ok without a reply,
--- and they leave no stream, and a copy of a repository.
+-- In an empty repository of its own each step of the import of a text is answered Ok without a
+-- reply, and they leave no stream, and a copy of a repository.
 pub record Takes (digest : List ℕ → List ℕ) (text : List ℕ) (repository : Repository) : Type 0 where
   pub told : told_alone digest (Closed empty_repository) (import_steps text)
       ≡ told_ok ∷ told_ok ∷ told_ok ∷ []
@@ -31,8 +31,8 @@ abbrev pub HoldsCopy : Repository → Holding → Type 0
 HoldsCopy repository (Idle left) = IsCopyOf repository left
 HoldsCopy repository (Busy standing) = ⊥
 
--- What a copy of a repository is answered that may be copied, and what is held then: Ok, and a copy;
--- or want of memory, which alone may stop it.
+-- What a copy of a repository is answered that may be copied, and what is held then: Ok, and a
+-- copy; or want of memory, which alone may stop it.
 abbrev pub CopiesAs : Answer → Repository → Holding → Type 0
 CopiesAs answer.Ok repository held = HoldsCopy repository held
 CopiesAs (answer.Memory items) repository held = Unit {0}

@@ -1,5 +1,5 @@
--- Copies of a tenant's repository to an empty tenant: which steps one is, by git-fast-import(1) and the
--- query `export`, and what refuses it before them.
+-- Copies of a tenant's repository to an empty tenant: which steps one is, by git-fast-import(1) and
+-- the query `export`, and what refuses it before them.
 use Rattle.std.specs.Prelude.{◌≡◌, ℕ, ◌==◌, Bool, ◌&&◌, if◌then◌else◌, List, [], ◌∷◌, length, codes, Option, None, Some}
 use Rattle.std.specs.Str.{bytes_eq}
 use Rattle.git_model.specs.RefStore.{first_head, listed_refs}

@@ -21,7 +21,7 @@ entry_of loaded = (
   },
 )
 
--- Those that were taken in, and behind them those that are left, are all.
+-- Those that were taken in, and after them those that are left, are all.
 abbrev pub AreAll : Tenants → List Loaded → List Loaded → Type 0
 AreAll taken rest all = taken ++ map entry_of rest ≡ map entry_of all
 

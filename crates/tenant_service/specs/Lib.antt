@@ -1,5 +1,6 @@
--- In reading order: a repository of its own, runs of many tenants, and what the service holds; what of
--- it a pool file has; copies, and what one leaves; then where a tenant's parts lie, and what one step does to them.
+-- In reading order: a repository of its own, runs of many tenants, and what the service holds; what
+-- of it a pool file has; copies, and what one leaves; then where a tenant's parts lie, and what one
+-- step does to them.
 pub mod Alone
 pub mod Headline
 pub mod Holding

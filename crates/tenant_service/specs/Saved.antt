@@ -1,5 +1,5 @@
--- The repositories of a service in a pool file: those that are saved, and what is held of those that
--- were loaded.
+-- The repositories of a service in a pool file: those that are saved, and what is held of those
+-- that were loaded.
 use Rattle.std.specs.Prelude.{◌≡◌, ◌<◌, ℕ, List, [], All, map, Option, None, Some, unwrap_or, Result, Ok, Err}
 use Rattle.std.specs.Map.{lookup}
 use Rattle.std.specs.Str.{bytes_eq}
@@ -43,8 +43,8 @@ pub record IsLoadedFrom (digest : List ℕ → List ℕ) (bytes : List ℕ) (hel
   pub text : IsTextOf digest all bytes
   pub has : HasJust all held
 
--- What is answered where the reader has these bytes, and which it has after it. Device and memory may
--- fail in place of any answer.
+-- What is answered where the reader has these bytes, and which it has after it. Device and memory
+-- may fail in place of any answer.
 abbrev pub LoadsAs : (List ℕ → List ℕ) → Option (List ℕ) → Result Holdings Fault
     → Option (List ℕ) → Type 0
 LoadsAs digest None r new = Unit {0}

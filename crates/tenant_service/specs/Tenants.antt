@@ -51,8 +51,8 @@ HoldsIn objects phase.Closed = Unit {0}
 HoldsIn objects (phase.Running stream) = HoldsFiles objects stream.session.own
 HoldsIn objects (phase.Dead code) = Unit {0}
 
--- A tenant's table stands in the pool, among its objects what its stream holds, and among those of the
--- last checkpoint the first parents that queries met.
+-- A tenant's table stands in the pool, among its objects what its stream holds, and among those of
+-- the last checkpoint the first parents that queries met.
 pub record Stands (digest : List ℕ → List ℕ) (pool : Cells) (tenant : Tenant) : Type 0 where
   pub entries : StandsIn digest pool tenant.table.entries
   pub settled : IsSettled tenant.phase tenant.table

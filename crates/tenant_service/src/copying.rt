@@ -48,8 +48,8 @@ fn refusal_of(tenant: &Tenant) -> Option<ServiceFault>
 }
 
 /// Why a copy is refused before its first step: a bad name of one of the two tenants (32), a stream
-/// of the second, be it dead (31), or an object, a ref or another HEAD than the first (33). Takes no
-/// memory.
+/// of the second, be it dead (31), or an object, a ref or another HEAD than the first (33). Takes
+/// no memory.
 pub fn copy_refusal(
     tenants: &IndexMap<TenantName, Tenant>,
     from: &[u8],

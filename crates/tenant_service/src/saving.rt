@@ -9,8 +9,8 @@ use pool_saving::Saved;
 use std::alloc::{AllocError, Global};
 use tenant_refs::TenantName;
 
-/// Each tenant's name, table and refs, in the order in which the tenants were seen. Takes memory for
-/// the list alone.
+/// Each tenant's name, table and refs, in the order in which the tenants were seen. Takes memory
+/// for the list alone.
 pub fn lend_all<'a>(
     alloc: Global,
     tenants: &'a IndexMap<TenantName, Tenant>,

@@ -10,7 +10,8 @@
 //! service.step(Step::End { tenant: b"a" }, &mut out);          the last checkpoint, and no stream
 //! ```
 //!
-//! Each answers `Answer::Ok`, and `out` has what the stream prints: crates/two_tenants is a program.
+//! Each answers `Answer::Ok`, and `out` has what the stream prints: crates/two_tenants is a
+//! program.
 
 ghost use Rattle.std.specs.Prelude.{◌≡◌, ◌+◌, ◌^◌, ◌++◌, ℕ, List, [], ◌∷◌, length, drop, count_by, true, false, None, IsNone, IsSome, IfSome, OnErr, OnOk, ◌<◌};
 ghost use Rattle.byte_devices.specs.Device.{device_of, calls_of, counted_on, seen};
@@ -191,7 +192,8 @@ impl<N: Naming> Service<N> {
     /// End, is answered under its number, and leaves the last checkpoint; each later Feed answers
     /// the number again, and so does the End, which always closes the stream. An Ask is answered of
     /// the last checkpoint, also while a stream runs, and changes nothing; what refuses the query
-    /// (40, 41) or what it asks of (15, 16, 17, 25) is answered under its number, and prints nothing.
+    /// (40, 41) or what it asks of (15, 16, 17, 25) is answered under its number, and prints
+    /// nothing.
     ///
     /// `Memory` tells that a growth was refused: in an Open or an Ask, where nothing has changed
     /// then; in an End, which leaves the last checkpoint and no stream; or in a Feed after so many
@@ -240,18 +242,18 @@ impl<N: Naming> Service<N> {
     /// End of `to`; the answer is the first of theirs that is not Ok, else Ok. Each tenant is told
     /// what these steps tell it.
     ///
-    /// `ServiceFault`, in this order: a bad name of one of them is 32; a stream of `to`, be it dead,
-    /// is 31; an object, a ref, or another HEAD of `to` than `refs/heads/main` is 33. A refused Ask
-    /// (25, where there are too many refs for an export, and `Memory`) and a refused Open (`Memory`)
-    /// are answered next. All is as it was after these. A fault of the text, and `Memory`, in a Feed
-    /// or an End leave what of `to` was saved until then, and no stream. `from` and all others have
-    /// what they had.
+    /// `ServiceFault`, in this order: a bad name of one of them is 32; a stream of `to`, be it
+    /// dead, is 31; an object, a ref, or another HEAD of `to` than `refs/heads/main` is 33. A
+    /// refused Ask (25, where there are too many refs for an export, and `Memory`) and a refused
+    /// Open (`Memory`) are answered next. All is as it was after these. A fault of the text, and
+    /// `Memory`, in a Feed or an End leave what of `to` was saved until then, and no stream. `from`
+    /// and all others have what they had.
     ///
     /// Where each line and each data of the export fits into a stream, and the refs of `from` reach
     /// at most 65,536 tags, no step is refused: a copy that is not refused before them is Ok or
-    /// `Memory`, and after Ok `to` has the refs and HEAD of `from`, each object that these reach, with
-    /// the same name, kind and bytes, and no object besides (`copies`). Then nothing more is stored
-    /// than before: `stored` answers what it did.
+    /// `Memory`, and after Ok `to` has the refs and HEAD of `from`, each object that these reach,
+    /// with the same name, kind and bytes, and no object besides (`copies`). Then nothing more is
+    /// stored than before: `stored` answers what it did.
     pub fn copy_tenant(&mut self, from: &[u8], to: &[u8]) -> Answer
         ensures copied { HasTaken N.digest_of self.old self.new (λ run.
             IsCopyRun (copy_refusal from.now to.now self.old) from.now to.now run result) }
@@ -282,11 +284,11 @@ impl<N: Starting> Service<N> {
     /// its repository then, and no stream; what the service keeps later comes from `alloc`.
     ///
     /// `Refused` with the first thing that is wrong: `NoPoolFile` (60), `UnknownVersion` (61),
-    /// `CutOff` (62) and `TrailingBytes` (69) from left to right, then `WrongDigest` (63), then what
-    /// the file says may be `NotCanonical` (64), `BadObject` (65), `MissingReference` (66) or
+    /// `CutOff` (62) and `TrailingBytes` (69) from left to right, then `WrongDigest` (63), then
+    /// what the file says may be `NotCanonical` (64), `BadObject` (65), `MissingReference` (66) or
     /// `BadRef` (67). `Device` (68) where a call of `read` answered an error, or 2^32 calls were
-    /// made. `Memory` (90) where a growth was refused. What was read is gone from the reader; after a
-    /// service nothing is left in it.
+    /// made. `Memory` (90) where a growth was refused. What was read is gone from the reader; after
+    /// a service nothing is left in it.
     pub fn load<R: Read>(
         alloc: Global,
         naming: N,
@@ -313,13 +315,13 @@ impl<N: Starting> Service<N> {
         })
     }
 
-    /// Writes the repositories of all tenants at their last checkpoints as a pool file, in version 2.
-    /// What a stream that runs has not saved is left out, and so is a tenant that has neither an
+    /// Writes the repositories of all tenants at their last checkpoints as a pool file, in version
+    /// 2. What a stream that runs has not saved is left out, and so is a tenant that has neither an
     /// object nor another HEAD than the first.
     ///
-    /// `Device` (68) where a call of `write` answered an error or took nothing; a prefix of the file
-    /// then stands written. `Memory` (90) where a growth was refused, after a prefix of it. Nothing
-    /// is refused. The service is as it was.
+    /// `Device` (68) where a call of `write` answered an error or took nothing; a prefix of the
+    /// file then stands written. `Memory` (90) where a growth was refused, after a prefix of it.
+    /// Nothing is refused. The service is as it was.
     pub fn save<W: Write>(&self, writer: &mut Counted<W>) -> Result<(), Fault>
         ensures { Saves (seen (W.contents (device_of writer.old)) writer.old) result
             (seen (W.contents (device_of writer.new)) writer.new)

@@ -89,7 +89,8 @@ pub fn give_up<N: Naming>(pool: &mut Pool<N>, tenant: &mut Tenant, phase: Phase)
     ensures phase { tenant.new.phase ≡ phase }
     ensures chain { tenant.new.chain ≡ [] }
     ensures stands { StandsIn N.digest_of pool.new tenant.new.table.entries }
-    ensures others { LeavesOthers pool.old tenant.old.table.entries pool.new tenant.new.table.entries }
+    ensures others { LeavesOthers pool.old tenant.old.table.entries
+        pool.new tenant.new.table.entries }
     ensures settled { tenant.new.table.committed ≡ length tenant.new.table.entries }
     ensures left { repository_in pool.new tenant.new.table tenant.new.refs
         ≡ last_held (holding_in pool.old tenant.old) }
@@ -138,7 +139,8 @@ pub fn feed<N: Naming>(
     requires room { HasAmpleRoom pool.old }
     requires sound { IsSoundHolding N.digest_of (holding_in pool.old tenant.old) }
     ensures stands { Stands N.digest_of pool.new tenant.new }
-    ensures others { LeavesOthers pool.old tenant.old.table.entries pool.new tenant.new.table.entries }
+    ensures others { LeavesOthers pool.old tenant.old.table.entries
+        pool.new tenant.new.table.entries }
     ensures own { Takes
         (step_held N.digest_of (Feed piece.now) (stop_told result) (holding_in pool.old tenant.old))
         result out.old.items out.new.items (holding_in pool.new tenant.new) }
@@ -180,7 +182,8 @@ pub fn end<N: Naming>(pool: &mut Pool<N>, tenant: &mut Tenant, out: &mut Vec<u8>
     requires room { HasAmpleRoom pool.old }
     requires sound { IsSoundHolding N.digest_of (holding_in pool.old tenant.old) }
     ensures stands { Stands N.digest_of pool.new tenant.new }
-    ensures others { LeavesOthers pool.old tenant.old.table.entries pool.new tenant.new.table.entries }
+    ensures others { LeavesOthers pool.old tenant.old.table.entries
+        pool.new tenant.new.table.entries }
     ensures own { Takes
         (step_held N.digest_of End (stop_told result) (holding_in pool.old tenant.old)) result
         out.old.items out.new.items (holding_in pool.new tenant.new) }
@@ -261,8 +264,10 @@ pub fn ask_nobody<N: Naming>(
 pub fn restart<N: Naming>(pool: &mut Pool<N>, tenant: &mut Tenant)
     requires stands { Stands N.digest_of pool.old tenant.old }
     ensures stands { Stands N.digest_of pool.new tenant.new }
-    ensures others { LeavesOthers pool.old tenant.old.table.entries pool.new tenant.new.table.entries }
-    ensures own { holding_in pool.new tenant.new ≡ Idle (last_held (holding_in pool.old tenant.old)) }
+    ensures others { LeavesOthers pool.old tenant.old.table.entries
+        pool.new tenant.new.table.entries }
+    ensures own { holding_in pool.new tenant.new
+        ≡ Idle (last_held (holding_in pool.old tenant.old)) }
 {
     give_up(pool, tenant, Phase::Closed);
 }

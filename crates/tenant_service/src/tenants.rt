@@ -38,7 +38,8 @@ pub fn feed_one<N: Naming>(
 ) -> Answer
     requires accounts { Accounts N.digest_of pool.old tenants.old.entries }
     requires sound { AreSound N.digest_of (holdings pool.old tenants.old.entries) }
-    ensures { Serves N.digest_of name.now (Feed piece.now) (store pool.old tenants.old.entries) result
+    ensures { Serves N.digest_of name.now (Feed piece.now)
+        (store pool.old tenants.old.entries) result
         out.old.items out.new.items (store pool.new tenants.new.entries) }
 {
     has_room(pool, tenants);

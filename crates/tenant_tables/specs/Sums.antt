@@ -36,7 +36,7 @@ pub record IsWithin (s : Summary) : Type 0 where
   pub depth : s.depth ≤ 256
   pub longest : s.longest ≤ 16383
 
--- A tree with these entries fits behind the trees so far.
+-- A tree with these entries fits after the trees so far.
 pub record FitsBehind (sums : Sums) (es : List TreeEntry) : Type 0 where
   pub directories : All (HasFiles sums) es
   pub within : IsWithin (sum_of_tree sums es)
@@ -46,7 +46,7 @@ pub record IsTreeText (bytes : List ℕ) (es : List TreeEntry) : Type 0 where
   pub writable : CanWriteTree es
   pub contents : bytes ≡ tree_contents es
 
--- The contents are those of a tree that fits behind the trees so far; every other object fits.
+-- The contents are those of a tree that fits after the trees so far; every other object fits.
 abbrev pub Fits : Kind → List ℕ → Sums → Type 0
 Fits kind.Tree bytes sums = IsTreeText bytes (tree_read bytes) × FitsBehind sums (tree_read bytes)
 Fits kind.Blob bytes sums = Unit {0}
@@ -60,7 +60,7 @@ sums_behind kind.Blob id bytes sums = sums
 sums_behind kind.Commit id bytes sums = sums
 sums_behind kind.Tag id bytes sums = sums
 
--- Each object fits behind those before it.
+-- Each object fits after those before it.
 abbrev pub TreesFit : Sums → List Object → Type 0
 TreesFit sums [] = Unit {0}
 TreesFit sums (o ∷ os) = Fits o.content.kind o.content.bytes sums

@@ -209,7 +209,8 @@ impl Table {
         requires tree { FitsTree self.old.entries bytes.now summary }
         ensures stands { StandsIn N.digest_of pool.new self.new.entries }
         ensures others { LeavesOthers pool.old self.old.entries pool.new self.new.entries }
-        ensures answer { let c = content_from Kind.Tree bytes.now in let id = name_by N.digest_of c in
+        ensures answer { let c = content_from Kind.Tree bytes.now in
+            let id = name_by N.digest_of c in
             Answers result id (store_fault id c (objects pool.old self.old.entries)) }
         ensures ok { OnOk result (Adds N.digest_of (content_from Kind.Tree bytes.now)
             (Some summary) pool.old self.old pool.new self.new) }
@@ -378,7 +379,8 @@ impl Table {
         requires stands { StandsIn N.digest_of pool.old self.old.entries }
         ensures stands { StandsIn N.digest_of pool.new self.new.entries }
         ensures others { LeavesOthers pool.old self.old.entries pool.new self.new.entries }
-        ensures entries { self.new ≡ record self.old { entries = take self.old.committed self.old.entries } }
+        ensures entries { self.new
+            ≡ record self.old { entries = take self.old.committed self.old.entries } }
         ensures objects { objects pool.new self.new.entries
             ≡ take self.old.committed (objects pool.old self.old.entries) }
     {

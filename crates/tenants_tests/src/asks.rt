@@ -1,7 +1,7 @@
 //! An Ask of each kind of query, of two tenants of one service whose blobs differ: beside what git
-//! prints of the same repositories, by `git fast-import`, and then `git rev-parse`,
-//! `git cat-file --batch`, `git ls-tree`, `git log --format='%H %s'`, `git show-ref` and
-//! `git symbolic-ref HEAD`. An export is as crates/export_text shows it; `git fast-import` reads it.
+//! prints of the same repositories, by `git fast-import`, and then `git rev-parse`, `git cat-file
+//! --batch`, `git ls-tree`, `git log --format='%H %s'`, `git show-ref` and `git symbolic-ref HEAD`.
+//! An export is as crates/export_text shows it; `git fast-import` reads it.
 //!
 //! And digits with which two names begin, under a naming where they are few.
 

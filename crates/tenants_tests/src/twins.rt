@@ -80,7 +80,7 @@ const QUERIES: &[&[u8]] = &[
 // How many bytes each Feed has.
 const PIECE: usize = 19;
 
-// Appends the steps of a tenant: its stream in pieces, with a query behind each, and each query.
+// Appends the steps of a tenant: its stream in pieces, with a query after each, and each query.
 fn add_steps<'a>(
     tenant: &'a [u8],
     stream: &'a [u8],

@@ -1,4 +1,4 @@
--- The sums of the trees of good objects, one behind another, are those of their files.
+-- The sums of the trees of good objects, one after another, are those of their files.
 use Rattle.std.proofs.Common.{◌≡◌, ◌≢◌, ℕ, ◌+◌, ◌<◌, ◌⊎◌, inl, inr, Bool, cond, List, [], ◌∷◌, ◌++◌, length, map, fold, Option, None, Some, refl, sym, ap, ◌∙◌, subst, append_assoc, arith}
 use Rattle.std.specs.Prelude.{IsSomeAnd}
 use Rattle.std.specs.List.{AllByRecursion}
@@ -41,7 +41,7 @@ use Rattle.tree_build.proofs.Standing.{directory_or, both-summary, below-summary
 use Rattle.tree_build.proofs.StoredAgain.{filled-in}
 use Rattle.tree_build.proofs.Sums.{none-both, sums, fold-sums, files-first, by_file}
 
--- ---- sums behind objects
+-- ---- sums after objects
 
 abbrev pub sums_after : Sums → List Object → Sums
 sums_after so_far [] = so_far
@@ -245,7 +245,7 @@ last-object : (os : List Object) (o : Object) → object_at (length os) (os ++ o
 last-object [] o = first_object o []
 last-object (x ∷ os) o = later_object (length os) x (os ++ o ∷ []) ∙ last-object os o
 
--- what is known of a tree that comes behind the others
+-- what is known of a tree that comes after the others
 record IsNext (os : List Object) (so_far : Sums) (o : Object) (es : List TreeEntry) : Type 0 where
   has : HasTree (os ++ o ∷ []) o.id es
   files : AllByRecursion (HasFiles so_far) es

@@ -42,4 +42,5 @@ pub record Grafts {A : Type 0} (result : Result A Fault) (os : List Object) (id 
   pub files : Listed
   pub listed : tree_fault os id ≡ None → AreFilesOf os id files
   pub edits : Edits result old new
-      (graft_fault os id (moved path files) (put_tree_at old path files)) (put_tree_at old path files)
+      (graft_fault os id (moved path files) (put_tree_at old path files))
+      (put_tree_at old path files)

@@ -28,7 +28,8 @@ pub(crate) struct Group<'a> {
 }
 
 fn split_first<'a>(file: &Below<'a>) -> Option<(&'a [u8], Below<'a>)>
-    ensures { option_map (λ r. (r.0.now, file_below r.1)) result ≡ split_first (file_below file.now) }
+    ensures { option_map (λ r. (r.0.now, file_below r.1)) result
+        ≡ split_first (file_below file.now) }
 {
     let (name, path) = file.path.split_first()?;
     let entry = file.entry;

@@ -92,7 +92,7 @@ pub fn good_objects_have_good_trees()
         → AreTreesGood digest os }
 {}
 
-/// Good objects have trees that fit, each behind those before it, exactly where the files of each
+/// Good objects have trees that fit, each after those before it, exactly where the files of each
 /// tree are within the limits.
 pub fn trees_fit_where_their_files_do()
     ensures { (digest : List ℕ → List ℕ) (os : List Object) → AreObjects digest os

@@ -39,7 +39,8 @@ pub(crate) fn stays(from: Option<&Path>, to: &Path, path: &Path) -> bool
 
 /// How many paths stay.
 pub(crate) fn count_staying(map: &Entries, from: Option<&Path>, to: &Path) -> usize
-    ensures { result ≡ length (filter (stays (option_copied from.entry) to.now) (keys_of map.now.entries)) }
+    ensures { result ≡ length (filter (stays (option_copied from.entry) to.now)
+        (keys_of map.now.entries)) }
 {
     map.keys().filter(|path| stays(from, to, path)).count()
 }

@@ -77,8 +77,8 @@ pub fn add_entries<N: Naming>(
     requires fits { FitsTree table.old.entries (tree_contents (entries_of entries.now)) summary }
     ensures stores { StoresTrees result N.digest_of pool.old table.old pool.new table.new
         (entries_of entries.now ∷ []) (tree_name N.digest_of (entries_of entries.now)) }
-    ensures known { OnOk result (summary_of (tree_name N.digest_of (entries_of entries.now)) table.new.entries
-        ≡ Some summary) }
+    ensures known { OnOk result (summary_of (tree_name N.digest_of (entries_of entries.now))
+        table.new.entries ≡ Some summary) }
 {
     let contents = contents_of(alloc, entries)?;
     match table.add_tree(pool, &contents, summary) {
@@ -105,8 +105,8 @@ pub(crate) fn store_trees<N: Naming>(
         (trees_within N.digest_of deep (files_below files.now))
         (tree_name N.digest_of (entries_within N.digest_of deep (files_below files.now))) }
     ensures known { OnOk result (summary_of
-        (tree_name N.digest_of (entries_within N.digest_of deep (files_below files.now))) table.new.entries
-        ≡ Some (files_summary (files_below files.now))) }
+        (tree_name N.digest_of (entries_within N.digest_of deep (files_below files.now)))
+        table.new.entries ≡ Some (files_summary (files_below files.now))) }
 {
     let groups = match grouped(alloc, files) {
         Ok(groups) => groups,
@@ -139,8 +139,10 @@ fn store_group<N: Naming>(
     requires stands { StandsIn N.digest_of pool.old table.old.entries }
     requires room { HasRoomBeside pool.old table.old.entries }
     ensures stores { StoresTrees result N.digest_of pool.old table.old pool.new table.new
-        (group_trees N.digest_of deep (group_of group.now)) (id_of N.digest_of deep (group_of group.now)) }
-    ensures known { OnOk result (IsKnownGroup N.digest_of deep table.new.entries (group_of group.now)) }
+        (group_trees N.digest_of deep (group_of group.now))
+        (id_of N.digest_of deep (group_of group.now)) }
+    ensures known { OnOk result (IsKnownGroup N.digest_of deep table.new.entries
+        (group_of group.now)) }
 {
     match file_of(&group.below) {
         Some(file) => Ok(file.name),

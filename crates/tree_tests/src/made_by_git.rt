@@ -1,5 +1,5 @@
-//! Twenty trees of a real repository: the name that Git gave each, and its files as `git ls-tree -r`
-//! lists them, a mode, a blob and a path on each line.
+//! Twenty trees of a real repository: the name that Git gave each, and its files as `git ls-tree
+//! -r` lists them, a mode, a blob and a path on each line.
 
 pub(crate) const TREES: [(&[u8; 40], &[u8]); 20] = [
     (

@@ -18,7 +18,7 @@ loop-tenant-preserved c =
     c.loop-tenant.invariant)
     (λ numbers m. subst (λ (l : List ℕ). AreMarked c.mark_all.new.flags c.args.count (numbers ++ l)) c.deref.ensures.value (c.mark_all.ensures c.args.count numbers m))
 
--- what was marked behind the loop
+-- what was marked after the loop
 all_marked : (flags : List Bool) (count i : ℕ) (ts : List RawTenant) → length ts ≤ i → Marks flags count (numbers_of (tenants_of (drop i ts))) (numbers_of (tenants_of ts))
     → AreMarked flags count (numbers_of (tenants_of ts))
 all_marked flags count i ts past m =
