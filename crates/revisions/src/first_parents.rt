@@ -1,6 +1,6 @@
 //! First parents: gitrevisions(7), `<rev>~<n>`. What a walk met is kept for the next one.
 
-ghost use Rattle.std.specs.Prelude.{◌≡◌, [], Some, IsTrue, OnOk, List, slice_get};
+ghost use Rattle.std.specs.Prelude.{◌≡◌, ◌↔◌, [], Some, IsTrue, OnOk, List, slice_get};
 ghost use Rattle.git_model.specs.Repository.{Object};
 ghost use Rattle.git_model.specs.GoodRepository.{AreObjects};
 ghost use Rattle.revisions.specs.Faults.{Gives};
@@ -48,7 +48,7 @@ impl FirstParentChain {
 
     // Whether it begins at this commit.
     fn begins_at(&self, commit: &Name) -> bool
-        ensures { IsTrue result → slice_get self.now 0 ≡ Some commit.now }
+        ensures { IsTrue result ↔ (slice_get self.now 0 ≡ Some commit.now) }
     {
         match self.commits.first() {
             Some(first) => first == commit,
@@ -59,6 +59,7 @@ impl FirstParentChain {
     // Begins at this commit: what stands stays where it does so.
     fn begin_at(&mut self, commit: Name) -> Result<(), Memory>
         ensures begun { OnOk result (slice_get self.new 0 ≡ Some commit) }
+        ensures stays { slice_get self.old 0 ≡ Some commit → self.new ≡ self.old }
         ensures chain { (os : List Object) → IsFirstParentChain os self.old
             → IsFirstParentChain os self.new }
     {

@@ -2,10 +2,13 @@ use Rattle.std.proofs.Common.{ℕ, List, take, ap, sym, subst}
 use Rattle.git_model.specs.GoodRepository.{AreObjects}
 use Rattle.git_model.specs.Repository.{Object, Repository}
 use Rattle.content_pool.specs.Pool.{Cells}
+use Rattle.tenant_tables.specs.View.{in_sight}
+use Rattle.tenant_tables.specs.declared.sight.Sight.TheVariants.{Committed}
 use Rattle.tenant_tables.specs.Objects.{objects}
+use Rattle.revisions.specs.FirstParents.{IsFirstParentChain}
 use Rattle.tenant_service.specs.declared.tenant.Tenant.{Tenant}
 use Rattle.tenant_service.specs.Holding.{IsSoundHolding}
-use Rattle.tenant_service.specs.Tenants.{IsSettled, holding_in}
+use Rattle.tenant_service.specs.Tenants.{Stands, IsSettled, holding_in}
 use Rattle.tenant_service.proofs.SoundLemmas.{last-sound}
 use Rattle.tenant_service.proofs.TenantLemmas.{saved_is, took-told, took-refused_query}
 use Rattle.tenant_service.proofs.tenant.ask.Goals as goal
@@ -17,14 +20,23 @@ good-saved digest pool t settled sound =
     subst (λ (os : List Object). AreObjects digest os)
     (sym (ap (λ (r : Repository). r.objects) (saved_is t.phase pool t.table t.refs settled))) (last-sound digest (holding_in pool t) sound).objects
 
+-- an answer changes the chain alone
+stands-with : (digest : List ℕ → List ℕ) (pool : Cells) (t : Tenant) (chain : List (List ℕ)) → Stands digest pool t
+    → IsSoundHolding digest (holding_in pool t)
+    → (AreObjects digest (objects pool (in_sight Committed t.table)) → IsFirstParentChain (objects pool (in_sight Committed t.table)) t.chain
+    → IsFirstParentChain (objects pool (in_sight Committed t.table)) chain)
+    → Stands digest pool (record { table = t.table; refs = t.refs; phase = t.phase; chain = chain })
+stands-with digest pool t chain was sound stays = record {
+  entries = was.entries;
+  settled = was.settled;
+  files = was.files;
+  chain = stays (good-saved digest pool t was.settled sound) was.chain;
+}
+
 pub returns-in-Ok-clause-stands : goal.returns-in-Ok-clause-stands
 returns-in-Ok-clause-stands g c =
-    let was = c.requires.stands in record {
-      entries = was.entries;
-      settled = was.settled;
-      files = was.files;
-      chain = c.answer.ensures.chain (good-saved g.N.Naming.digest_of c.args.pool.now c.args.tenant.now was.settled c.requires.sound) was.chain;
-    }
+    stands-with g.N.Naming.digest_of c.args.pool.now c.args.tenant.now c.answer.new.chain c.requires.stands c.requires.sound
+    c.answer.ensures.chain
 
 pub returns-in-Ok-clause-own : goal.returns-in-Ok-clause-own
 returns-in-Ok-clause-own g c =
@@ -36,12 +48,8 @@ returns-in-Ok-clause-own g c =
 
 pub returns-in-Err-clause-stands : goal.returns-in-Err-clause-stands
 returns-in-Err-clause-stands g c =
-    let was = c.requires.stands in record {
-      entries = was.entries;
-      settled = was.settled;
-      files = was.files;
-      chain = c.answer.ensures.chain (good-saved g.N.Naming.digest_of c.args.pool.now c.args.tenant.now was.settled c.requires.sound) was.chain;
-    }
+    stands-with g.N.Naming.digest_of c.args.pool.now c.args.tenant.now c.answer.new.chain c.requires.stands c.requires.sound
+    c.answer.ensures.chain
 
 pub returns-in-Err-clause-own : goal.returns-in-Err-clause-own
 returns-in-Err-clause-own g c =
