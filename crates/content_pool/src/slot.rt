@@ -4,7 +4,7 @@ use std::marker::Model;
 
 /// Where a pool keeps a content. A slot means something to the pool that answered it alone, and
 /// only while it is held; after its last release the pool may answer it for another content.
-#[derive(Clone, Copy, Debug, PartialEq, Eq)]
+#[derive(Clone, Copy, PartialEq, Eq)]
 pub struct Slot {
     pub(crate) key: usize,
 }
