@@ -268,6 +268,26 @@ found_many p ids rest id seen some =
     by (x ∷ []) none = refl
     by (x ∷ y ∷ xs) none = refl
 
+-- a walk that has seen these names passes the next one by, or finds it as the first
+pub walked_past : (p : List ℕ → Bool) (ids : List (List ℕ)) (id : List ℕ) → p id ≡ false
+    → only_of (filter p ids) ≡ only_of (filter p (ids ++ id ∷ []))
+walked_past p ids id outside =
+    ap only_of
+    (sym (filter-append p ids (id ∷ []) ∙ ap (λ b. filter p ids ++ cond b (id ∷ []) []) outside ∙ append-nil _))
+
+pub walked_first : (p : List ℕ → Bool) (ids : List (List ℕ)) (id : List ℕ) → p id ≡ true
+    → found.None ≡ only_of (filter p ids)
+    → found.One id ≡ only_of (filter p (ids ++ id ∷ []))
+walked_first p ids id inside none =
+    by (filter p ids) none
+    ∙ ap only_of
+    (sym (filter-append p ids (id ∷ []) ∙ ap (λ b. filter p ids ++ cond b (id ∷ []) []) inside))
+  where
+    by : (xs : List (List ℕ)) → found.None ≡ only_of xs → found.One id ≡ only_of (xs ++ id ∷ [])
+    by [] h = refl
+    by (x ∷ []) h = cc h
+    by (x ∷ y ∷ xs) h = cc h
+
 -- a walk over the range, at its end and where a second name is seen
 module _ (ds first last : List ℕ) (sight : Sight) (table : View) (index : BTreeSet (List ℕ)) (indexed : IsIndexed table.entries index)
     (sorted : IsStrictlySortedBy (slice_cmp nat_cmp) index.keys) (bounds : Bounds ds first last) (range : List (List ℕ))

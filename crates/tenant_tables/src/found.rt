@@ -3,7 +3,7 @@
 use git_objects::Name;
 
 /// How many object names in sight begin with some digits, and which, where it is one.
-#[derive(Clone, Copy, Debug, PartialEq, Eq)]
+#[derive(Clone, Copy, PartialEq, Eq)]
 pub enum Found {
     /// No name begins with them.
     None,

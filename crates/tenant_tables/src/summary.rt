@@ -1,7 +1,7 @@
 //! What limits need to know of a stored tree without reading it.
 
 /// The size of the file map that a tree stands for. All three are 0 for the empty tree.
-#[derive(Clone, Copy, Debug, PartialEq, Eq)]
+#[derive(Clone, Copy, PartialEq, Eq)]
 pub struct Summary {
     /// How many files lie below the tree, gitlinks and symbolic links included.
     pub files: u32,

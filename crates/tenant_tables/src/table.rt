@@ -268,10 +268,10 @@ impl Table {
         ensures { result ≡ option_map (same_content (content_from kind bytes.now))
             (object_named id.now (objects pool.now self.now.entries)) }
     {
-        let Some(slot) = self.find(id) else {
-            return None;
-        };
-        Some((kind, bytes) == pool.get(slot))
+        match self.find(id) {
+            Some(slot) => Some((kind, bytes) == pool.get(slot)),
+            None => None,
+        }
     }
 
     fn is_full(&self) -> bool

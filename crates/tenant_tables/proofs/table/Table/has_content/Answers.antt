@@ -2,15 +2,15 @@ use Rattle.std.proofs.Common.{refl}
 use Rattle.tenant_tables.proofs.AddLemmas.{found_none, found_some, found_live, same_kind}
 use Rattle.tenant_tables.proofs.table.Table.has_content.Goals as goal
 
-pub returns-in_default : goal.returns-in_default
-returns-in_default g c =
-    rw (found_none c.args.pool.now c.args.id.now c.args.self.now.entries c.in_default.ensures) refl
+pub returns-in-None : goal.returns-in-None
+returns-in-None g c =
+    rw (found_none c.args.pool.now c.args.id.now c.args.self.now.entries c.in-None.ensures) refl
 
 pub get-requires : goal.get-requires
 get-requires g c = found_live _ _ _ _ _ c.requires c.in-Some.ensures
 
-pub returns : goal.returns
-returns g c =
+pub returns-in-Some : goal.returns-in-Some
+returns-in-Some g c =
     let same = c.eq.ensures in
     let kinds = same_kind c.args.kind c.get.result.0 in
     let stored = c.get.ensures in

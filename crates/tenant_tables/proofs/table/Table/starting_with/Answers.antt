@@ -1,8 +1,10 @@
-use Rattle.std.proofs.Common.{ℕ, List, ◌++◌, map, sym, ap, ◌∙◌}
+use Rattle.std.proofs.Common.{ℕ, List, [], ◌∷◌, ◌++◌, map, filter, sym, ap, ◌∙◌}
 use Rattle.std.specs.Map.Iter.{deref}
 use Rattle.std.proofs.lemmas.Map.Iter.{rest_so_far}
 use Rattle.tenant_tables.specs.View.{View}
-use Rattle.tenant_tables.proofs.FoundLemmas.{at_end, at_second, found_none}
+use Rattle.std.proofs.lemmas.List.{map-append}
+use Rattle.tenant_tables.specs.Abbreviation.{only_of}
+use Rattle.tenant_tables.proofs.FoundLemmas.{at_end, at_second, found_none, is_seen, walked_first, walked_past}
 use Rattle.tenant_tables.proofs.table.Table.starting_with.Goals as goal
 
 pub returns-in_default : goal.returns-in_default
@@ -19,6 +21,21 @@ returns-in_default-found c =
     at_second _ _ _ _ _ _ indexed c.range-id-items.ensures.ordered bounds _ range _ _ _
     (sym c.into_iter-id-iterator.ensures.into_iter_gives ∙ so_far ∙ ap (λ (t : List (List ℕ)). map deref c.loop-id.yielded ++ t) c.in-Some-id.ensures.steps)
     (sym c.if-sees.ensures) (λ none. c.in_default-found.not-None (c.loop-id.invariant ∙ none))
+
+pub loop-id-preserved : goal.loop-id-preserved
+loop-id-preserved c =
+    c.loop-id.invariant
+    ∙ walked_past (is_seen c.args.sight c.args.self.now) (map deref c.loop-id.yielded) c.in-Some-id.id.now
+    (sym c.if-sees.ensures)
+    ∙ ap (λ (ids : List (List ℕ)). only_of (filter (is_seen c.args.sight c.args.self.now) ids))
+    (sym (map-append deref c.loop-id.yielded (c.in-Some-id.id ∷ [])))
+
+pub loop-id-preserved-in-None-found : goal.loop-id-preserved-in-None-found
+loop-id-preserved-in-None-found c =
+    walked_first (is_seen c.args.sight c.args.self.now) (map deref c.loop-id.yielded) c.in-Some-id.id.now
+    (sym c.if-sees.ensures) (sym c.in-None-found.is ∙ c.loop-id.invariant)
+    ∙ ap (λ (ids : List (List ℕ)). only_of (filter (is_seen c.args.sight c.args.self.now) ids))
+    (sym (map-append deref c.loop-id.yielded (c.in-Some-id.id ∷ [])))
 
 pub returns : goal.returns
 returns c =
