@@ -18,7 +18,7 @@ use std::marker::Model;
 pub const FIRST_HEAD: &[u8] = b"refs/heads/main";
 
 /// Refs in the order of their bytes, with the object name that each holds, and HEAD.
-#[derive(Debug, Drop)]
+#[derive(Drop)]
 pub struct Refs {
     alloc: Global,
     pub(crate) entries: Vec<(RefName, Name)>,
