@@ -122,13 +122,25 @@ impl<N: Naming> PlainPool<N> {
         ensures err { OnErr result (self.new ≡ self.old) }
     {
         let id = name_of(self.alloc, &self.naming, kind, bytes)?;
+        let position = self.put_named(id, kind, bytes)?;
+        Ok((position, id))
+    }
+
+    // `put` under the object name of the content.
+    fn put_named(&mut self, id: Name, kind: Kind, bytes: &[u8]) -> Result<usize, Memory>
+        requires named { id ≡ object_name N.digest_of kind bytes.now }
+        requires room { HasRoom self.old }
+        ensures puts { IfOk result
+            (λ position. Puts self.old self.new position (content_from kind bytes.now)) }
+        ensures once { HoldsEachOnce self.new }
+        ensures err { OnErr result (self.new ≡ self.old) }
+    {
         if let Some(position) = self.find(kind, bytes) {
             self.hold(position);
-            return Ok((position, id));
+            return Ok(position);
         }
         let bytes = Vec::from_slice(self.alloc, bytes)?;
-        let position = self.store(id, kind, bytes)?;
-        Ok((position, id))
+        self.store(id, kind, bytes)
     }
 
     /// Holds the content at a position once more. Takes no memory.

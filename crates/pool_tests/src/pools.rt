@@ -1,7 +1,7 @@
 //! What no clause says of a pool: names from git, that calls succeed, and which slot is used again.
 
-ghost use Rattle.std.specs.Prelude.{◌≡◌, ℕ, ◌<◌, IfOk};
-ghost use Rattle.content_pool.specs.Pool.{IsVacant, holds};
+ghost use Rattle.std.specs.Prelude.{◌≡◌, ℕ, ◌+◌, ◌<◌, ◌≤◌, IfOk};
+ghost use Rattle.content_pool.specs.Pool.{HasRoom, IsVacant, holds};
 
 use crate::plain_pool::PlainPool;
 use content_pool::{Pool, Slot};
@@ -76,19 +76,34 @@ fn tells_two_contents_of_one_name_apart(alloc: Global) -> Result<bool, Fail> {
     Ok(bytes == b"ba".as_slice() && pool.stored() == (1, 2))
 }
 
-// Whether the pool is as it was after so many contents, each in the slot of the first.
-fn is_as_it_was_after_ten_thousand_contents(alloc: Global) -> Result<bool, Fail> {
+fn is_as_it_was_after_ten_thousand_contents(alloc: Global) -> Result<bool, Memory> {
     let mut pool = Pool::new(alloc, Sha1Naming);
+    takes_ten_thousand_contents(&mut pool)
+}
+
+// Whether the pool is as it was after so many contents, each in the slot of the first.
+fn takes_ten_thousand_contents(pool: &mut Pool<Sha1Naming>) -> Result<bool, Memory>
+    requires { IsVacant pool.old }
+{
     let (first, _) = pool.put(Kind::Blob, b"first")?;
     pool.release(first);
     for number in 0..10_000u32 {
-        let (slot, _) = pool.put(Kind::Blob, &number.to_be_bytes())?;
-        if slot != first || pool.stored() != (1, 4) {
+        if !goes_into(pool, first, &number.to_be_bytes())? {
             return Ok(false);
         }
-        pool.release(slot);
     }
     Ok(pool.stored() == (0, 0))
+}
+
+// Whether these four bytes are put into this slot, alone, and given up again.
+fn goes_into(pool: &mut Pool<Sha1Naming>, slot: Slot, bytes: &[u8]) -> Result<bool, Memory>
+    requires { IsVacant pool.old }
+    ensures { IsVacant pool.new }
+{
+    let (taken, _) = pool.put(Kind::Blob, bytes)?;
+    let is_alone = taken == slot && pool.stored() == (1, 4);
+    pool.release(taken);
+    Ok(is_alone)
 }
 
 #[test]
@@ -114,14 +129,28 @@ fn answer_alike(
     requires plain_vacant { IsVacant plain.old }
 {
     for bytes in PUT {
-        let (slot, id) = pool.put(Kind::Blob, bytes)?;
-        let (position, plain_id) = plain.put(Kind::Blob, bytes)?;
-        let answer = (id, pool.get(slot), pool.stored());
-        if answer != (plain_id, plain.get(position), plain.stored()) {
+        if !put_alike(pool, plain, bytes)? {
             return Ok(false);
         }
     }
     Ok(pool.stored() == (4, 8))
+}
+
+// Whether both answer alike when these bytes are put, which adds one hold at most.
+fn put_alike(
+    pool: &mut Pool<TailNaming>,
+    plain: &mut PlainPool<TailNaming>,
+    bytes: &[u8],
+) -> Result<bool, Memory>
+    requires room { HasRoom pool.old }
+    requires plain_room { HasRoom plain.old }
+    ensures one { (s : ℕ) → holds pool.new s ≤ holds pool.old s + 1 }
+    ensures plain_one { (s : ℕ) → holds plain.new s ≤ holds plain.old s + 1 }
+{
+    let (slot, id) = pool.put(Kind::Blob, bytes)?;
+    let (position, plain_id) = plain.put(Kind::Blob, bytes)?;
+    let is_same = id == plain_id && pool.stored() == plain.stored();
+    Ok(is_same && pool.get(slot) == plain.get(position))
 }
 
 fn new_pools_answer_alike(alloc: Global) -> Result<bool, Memory> {
@@ -153,19 +182,21 @@ fn stays_after_a_refusal(alloc: Global) -> Result<bool, Memory> {
 fn put_both(pool: &mut Pool<TailNaming>) -> Result<bool, Memory>
     requires { IsVacant pool.old }
 {
+    let first = stays_and_takes(pool, b"ab")?;
+    let second = stays_and_takes(pool, b"ba")?;
+    Ok(first && second && pool.stored() == (2, 4))
+}
+
+// Whether these bytes are put, a second time where a growth was refused and changed nothing.
+fn stays_and_takes(pool: &mut Pool<TailNaming>, bytes: &[u8]) -> Result<bool, Memory>
+    requires { HasRoom pool.old }
+    ensures { (s : ℕ) → holds pool.new s ≤ holds pool.old s + 1 }
+{
     let before = pool.stored();
-    if pool.put(Kind::Blob, b"ab").is_err() {
-        if pool.stored() != before {
-            return Ok(false);
-        }
-        pool.put(Kind::Blob, b"ab")?;
+    if pool.put(Kind::Blob, bytes).is_ok() {
+        return Ok(true);
     }
-    let before = pool.stored();
-    if pool.put(Kind::Blob, b"ba").is_err() {
-        if pool.stored() != before {
-            return Ok(false);
-        }
-        pool.put(Kind::Blob, b"ba")?;
-    }
-    Ok(pool.stored() == (2, 4))
+    let is_unchanged = pool.stored() == before;
+    pool.put(Kind::Blob, bytes)?;
+    Ok(is_unchanged)
 }

@@ -1,4 +1,4 @@
-use Rattle.std.proofs.Common.{◌≡◌, ◌++◌, ◌∷◌, [], None, ap}
+use Rattle.std.proofs.Common.{◌≡◌, ◌++◌, ◌∷◌, [], None, ap, refl}
 use Rattle.tenant_tables.specs.View.{View}
 use Rattle.pool_tests.proofs.TablesInLists.{IsList-push}
 use Rattle.pool_tests.proofs.plain_table.PlainTable.push_new.Given as given
@@ -15,3 +15,9 @@ pub invariant_of-self-2 : goal.invariant_of-self-2
 invariant_of-self-2 g c =
     let seen : c.self.inside.objects.items ≡ c.args.self.now.entries = ap (λ (v : View). v.entries) c.self.view_is in
     rw (grown g c) (IsList-push _ _ _ _ c.self.invariant (rw seen c.requires.spare) c.has_twenty_bytes.ensures (rw seen c.requires.new))
+
+pub returns-clause-ok : goal.returns-clause-ok
+returns-clause-ok g c = (
+  c.in_ok-slot.slot,
+  record { puts = c.in_ok-slot.ensures.puts; entries = rw (grown g c, ← c.self.view_is) refl },
+)

@@ -1,5 +1,5 @@
 use Rattle.content_pool.specs.Pool.{IsVacant}
-use Rattle.pool_tests.proofs.pools.is_as_it_was_after_ten_thousand_contents.Given as goal
+use Rattle.pool_tests.proofs.pools.takes_ten_thousand_contents.Given as goal
 
 abbrev pub invariant-loop-number : goal.invariant-loop-number
 invariant-loop-number l = IsVacant l.pool
