@@ -6,3 +6,7 @@
 mod commits;
 #[cfg(test)]
 mod repository;
+#[cfg(test)]
+mod taking;
+#[cfg(test)]
+mod words;

@@ -1,76 +1,28 @@
-//! A repository with marks and an open commit, for tests.
+//! A repository with marks and an open commit, for tests, which is taken through steps.
 
-ghost use Rattle.std.specs.Prelude.{◌≡◌, ◌≢◌, List, None, Err, IfOk, IfSome, OnOk};
-ghost use Rattle.git_model.specs.Repository.{Object as StoredObject};
-ghost use Rattle.open_commits.specs.declared.fault.Fault.TheVariants as fault;
-ghost use Rattle.open_commits.specs.OpenCommit.{IsHeld};
-
+use crate::taking::{answers, begin_on, code_of, files_left, put_back, taken};
+use crate::words::{header_with, is, long_path, mark_of, mode, number, object, word};
 use branch_trees::Files;
 use content_pool::Pool;
-use git_names::{Ident, RefName};
 use git_objects::{FileMode, Kind, Name, Naming, Sha1Naming};
 use git_paths::{Path, Place};
 use indexmap::IndexMap;
-use open_commits::{Fault, Header, OpenCommit};
+use open_commits::{Header, OpenCommit};
 use std::alloc::Global;
 use std::marker::Model;
 use std::test::Fail;
 use stream_grammar::{DataRef, Mark};
-use tenant_tables::Table;
-
-/// What a change names: an object by its mark, or by its name.
-#[derive(Clone, Copy)]
-pub enum Object<'a> {
-    Mark(u64),
-    Name(&'a [u8; 40]),
-}
-
-/// The parts of a commit before its message that may be left out.
-#[derive(Clone, Copy)]
-pub struct Lines<'a> {
-    pub author: Option<&'a [u8]>,
-    pub encoding: Option<&'a [u8]>,
-}
-
-/// No author but the committer, and no encoding.
-pub const PLAIN: Lines<'static> = Lines {
-    author: None,
-    encoding: None,
-};
-
-/// What is done, and what is then answered: a refusal by its number, 0 where there is none; what
-/// stands at a path; the name of a commit. A long path has so many components. A commit begins
-/// without files, or goes on with the files that the last one left, for which so many texts of
-/// trees were read.
-#[derive(Clone, Copy)]
-pub enum Step<'a> {
-    Blob(u64, &'a [u8]),
-    Begin(Lines<'a>, &'a [u8]),
-    GoOn(&'a [u8], u64),
-    From(u64),
-    Merge(u64, u16),
-    Merges(u64, usize),
-    Modify(FileMode, Object<'a>, &'a [u8], u16),
-    ModifyLong(usize, u16),
-    Inline(FileMode, &'a [u8], &'a [u8], u16),
-    Delete(&'a [u8]),
-    Copy(&'a [u8], &'a [u8], u16),
-    Rename(&'a [u8], &'a [u8], u16),
-    DeleteAll,
-    Shows(&'a [u8], FileMode, &'a [u8; 40]),
-    ShowsNone(&'a [u8]),
-    Close(u64, &'a [u8; 40]),
-    Stored(usize),
-}
+use tenant_tables::{Fault, Table};
+use tree_build::Entry;
 
 /// What happens, in words and as steps over an empty repository.
 pub struct Case {
     pub does: &'static str,
-    pub steps: &'static [Step<'static>],
+    pub steps: &'static [u8],
 }
 
 /// The first of these steps, by its position, that is answered otherwise.
-pub fn first_wrong(alloc: Global, steps: &[Step<'_>]) -> Result<Option<usize>, Fail> {
+pub fn first_wrong(alloc: Global, steps: &[u8]) -> Result<Option<usize>, Fail> {
     let mut repository = Repository::new(alloc, Sha1Naming);
     repository.first_wrong(steps)
 }
@@ -100,65 +52,6 @@ impl<N: Naming> Model for Repository<N> {
         × IfSome r.commit (IsHeld (objects r.pool r.table.entries)) };
 }
 
-// The number of a refusal, 0 where there is none. Want of memory ends a test.
-fn code_of(answer: Result<(), Fault>) -> Result<u16, Fail>
-    ensures { OnOk result (answer ≢ Err fault.Memory) }
-{
-    match answer {
-        Ok(()) => Ok(0),
-        Err(Fault::Memory) => Err(Fail::from(Fault::Memory)),
-        Err(fault) => Ok(fault.code()),
-    }
-}
-
-// The open commit, which is let go where it is not put back.
-fn taken(commit: &mut Option<OpenCommit>) -> Result<OpenCommit, Fail>
-    ensures held { (os : List StoredObject) → IfSome commit.old (IsHeld os)
-        → IfOk result (IsHeld os) }
-    ensures none { commit.new ≡ None }
-{
-    Ok(commit.take().ok_or("no commit")?)
-}
-
-fn mark_of(number: u64) -> Result<Mark, Fail> {
-    Ok(Mark::from_number(number).ok_or("no mark")?)
-}
-
-fn dataref(object: Object<'_>) -> Result<DataRef, Fail> {
-    match object {
-        Object::Mark(number) => Ok(DataRef::Mark(mark_of(number)?)),
-        Object::Name(digits) => Ok(DataRef::Name(Name::from_hex(digits).ok_or("no name")?)),
-    }
-}
-
-// The path of so many components.
-fn long_path(alloc: Global, components: usize) -> Result<Path, Fail> {
-    let mut path = Vec::new(alloc);
-    for position in 0..components {
-        path.push(if position > 0 { b'/' } else { b'a' })?;
-        path.push(b'a')?;
-    }
-    Ok(Path::from_canonical(alloc, &path)?.ok_or("no path")?)
-}
-
-fn header_of(alloc: Global, lines: Lines<'_>) -> Result<Header, Fail> {
-    let author = match lines.author {
-        Some(text) => Some(Ident::read(alloc, text)?),
-        None => None,
-    };
-    let encoding = match lines.encoding {
-        Some(text) => Some(Vec::from_slice(alloc, text)?),
-        None => None,
-    };
-    Ok(Header {
-        ref_name: RefName::read(alloc, b"refs/heads/m")?,
-        mark: None,
-        author,
-        committer: Ident::read(alloc, b"A <a@b> 0 +0000")?,
-        encoding,
-    })
-}
-
 impl<N: Naming> Repository<N> {
     fn new(alloc: Global, naming: N) -> Repository<N> {
         Repository {
@@ -170,8 +63,8 @@ impl<N: Naming> Repository<N> {
         }
     }
 
-    fn first_wrong(&mut self, steps: &[Step<'_>]) -> Result<Option<usize>, Fail> {
-        for (position, step) in steps.iter().enumerate() {
+    fn first_wrong(&mut self, steps: &[u8]) -> Result<Option<usize>, Fail> {
+        for (position, step) in steps.split(|byte| *byte == b';').enumerate() {
             if !self.takes(step)? {
                 return Ok(Some(position));
             }
@@ -180,203 +73,283 @@ impl<N: Naming> Repository<N> {
     }
 
     // Whether a step goes as it says. Each function knows some of them, so that its proof is short.
-    fn takes(&mut self, step: &Step<'_>) -> Result<bool, Fail> {
-        match step {
-            Step::Blob(mark, bytes) => self.add_blob(*mark, bytes),
-            Step::Begin(lines, message) => self.begin(*lines, message),
-            Step::From(mark) => self.start_from(*mark),
-            Step::Merge(mark, code) => Ok(self.merge(*mark)? == *code),
-            other => self.changes(other),
+    fn takes(&mut self, step: &[u8]) -> Result<bool, Fail> {
+        if is(step, b"blob") {
+            self.add_blob(step)
+        } else if is(step, b"begin") {
+            self.begin(step)
+        } else if is(step, b"go_on") {
+            self.go_on(step)
+        } else if is(step, b"from") {
+            self.start_from(step)
+        } else {
+            self.changes(step)
         }
     }
 
-    fn changes(&mut self, step: &Step<'_>) -> Result<bool, Fail> {
-        match step {
-            Step::GoOn(message, reads) => self.go_on(message, *reads),
-            Step::Modify(mode, object, path, code) => {
-                Ok(self.modify(*mode, *object, path)? == *code)
-            }
-            Step::Inline(mode, path, bytes, code) => {
-                Ok(self.put_contents(*mode, path, bytes)? == *code)
-            }
-            Step::Delete(path) => self.delete(path),
-            other => self.moves(other),
+    fn changes(&mut self, step: &[u8]) -> Result<bool, Fail> {
+        if is(step, b"modify") {
+            self.modify(step)
+        } else if is(step, b"inline") {
+            self.put_contents(step)
+        } else if is(step, b"delete") {
+            self.delete(step)
+        } else if is(step, b"delete_all") {
+            self.delete_all()
+        } else {
+            self.moves(step)
         }
     }
 
-    fn moves(&mut self, step: &Step<'_>) -> Result<bool, Fail> {
-        match step {
-            Step::Copy(from, to, code) => Ok(self.copy(from, to)? == *code),
-            Step::Rename(from, to, code) => Ok(self.rename(from, to)? == *code),
-            Step::DeleteAll => self.delete_all(),
-            other => self.shows(other),
+    fn moves(&mut self, step: &[u8]) -> Result<bool, Fail> {
+        if is(step, b"merge") {
+            self.merge(step)
+        } else if is(step, b"copy") {
+            self.copy(step)
+        } else if is(step, b"rename") {
+            self.rename(step)
+        } else if is(step, b"close") {
+            self.close(step)
+        } else {
+            self.shows(step)
         }
     }
 
-    fn shows(&mut self, step: &Step<'_>) -> Result<bool, Fail> {
-        match step {
-            Step::Shows(path, mode, name) => self.has_entry(path, *mode, *name),
-            Step::ShowsNone(path) => self.has_none(path),
-            Step::Close(mark, name) => self.close(*mark, *name),
-            other => self.goes_far(other),
+    fn shows(&mut self, step: &[u8]) -> Result<bool, Fail> {
+        if is(step, b"shows") {
+            self.has_entry(step)
+        } else if is(step, b"shows_none") {
+            self.has_none(step)
+        } else if is(step, b"stored") {
+            self.has_stored(step)
+        } else {
+            self.goes_far(step)
         }
     }
 
-    fn goes_far(&mut self, step: &Step<'_>) -> Result<bool, Fail> {
-        match step {
-            Step::Merges(mark, times) => self.merge_often(*mark, *times),
-            Step::ModifyLong(components, code) => Ok(self.modify_long(*components)? == *code),
-            Step::Stored(count) => Ok(self.table.len() == *count),
-            _ => Ok(false),
+    fn goes_far(&mut self, step: &[u8]) -> Result<bool, Fail> {
+        if is(step, b"merges") {
+            self.merge_often(step)
+        } else if is(step, b"modify_long") {
+            self.modify_long(step)
+        } else {
+            Ok(false)
         }
     }
 
-    fn path(&self, text: &[u8]) -> Result<Path, Fail> {
-        let (path, _) = Path::read(self.alloc, text, Place::Last)?;
+    fn path(&self, step: &[u8], place: usize) -> Result<Path, Fail> {
+        let (path, _) = Path::read(self.alloc, word(step, place), Place::Last)?;
         Ok(path)
     }
 
-    fn marked(&self, number: u64) -> Result<Name, Fail> {
-        let mark = mark_of(number)?;
+    // The source and the path of a copy.
+    fn paths(&self, step: &[u8]) -> Result<(Path, Path), Fail> {
+        let source = self.path(step, 2)?;
+        let path = self.path(step, 3)?;
+        Ok((source, path))
+    }
+
+    fn marked(&self, step: &[u8], place: usize) -> Result<Name, Fail> {
+        let mark = mark_of(word(step, place))?;
         let id = self.marks.get(&mark).ok_or("nothing marked")?;
         Ok(*id)
     }
 
-    // No commit goes on after it.
-    fn add_blob(&mut self, mark: u64, bytes: &[u8]) -> Result<bool, Fail> {
-        let mark = mark_of(mark)?;
-        self.commit = None;
-        let id = self.table.add(&mut self.pool, Kind::Blob, bytes)?;
+    fn add_blob(&mut self, step: &[u8]) -> Result<bool, Fail> {
+        let mark = mark_of(word(step, 1))?;
+        let id = self.added(word(step, 2))?;
         self.marks.insert(mark, id)?;
         Ok(true)
     }
 
-    fn begin(&mut self, lines: Lines<'_>, message: &[u8]) -> Result<bool, Fail> {
-        let header = header_of(self.alloc, lines)?;
+    // No commit goes on after it.
+    fn added(&mut self, bytes: &[u8]) -> Result<Name, Fault> {
+        self.commit = None;
+        self.table.add(&mut self.pool, Kind::Blob, bytes)
+    }
+
+    fn begin(&mut self, step: &[u8]) -> Result<bool, Fail> {
+        let header = header_with(self.alloc, word(step, 2))?;
+        self.begin_by(header, word(step, 1))?;
+        Ok(true)
+    }
+
+    fn begin_by(&mut self, header: Header, message: &[u8]) -> Result<(), Fail> {
+        self.commit = None;
         let files = Files::new(self.alloc);
-        self.commit = Some(OpenCommit::new(self.alloc, header, message, files)?);
-        Ok(true)
+        begin_on(&mut self.commit, header, message, files, self.alloc)
     }
 
-    fn go_on(&mut self, message: &[u8], reads: u64) -> Result<bool, Fail> {
-        let header = header_of(self.alloc, PLAIN)?;
-        let files = taken(&mut self.commit)?.into_files();
-        let as_said = files.reads() == reads;
-        self.commit = Some(OpenCommit::new(self.alloc, header, message, files)?);
-        Ok(as_said)
+    fn go_on(&mut self, step: &[u8]) -> Result<bool, Fail> {
+        let reads = number(step, 1)?;
+        let header = header_with(self.alloc, b"")?;
+        Ok(self.go_on_by(header, word(step, 2))? == reads)
     }
 
-    fn start_from(&mut self, mark: u64) -> Result<bool, Fail> {
-        let id = self.marked(mark)?;
+    // Begins a commit on the files of the open one, and answers how many texts of trees were read
+    // for them.
+    fn go_on_by(&mut self, header: Header, message: &[u8]) -> Result<u64, Fail> {
+        let files = files_left(&mut self.commit)?;
+        let reads = files.reads();
+        begin_on(&mut self.commit, header, message, files, self.alloc)?;
+        Ok(reads)
+    }
+
+    fn start_from(&mut self, step: &[u8]) -> Result<bool, Fail> {
+        let id = self.marked(step, 1)?;
         let mut commit = taken(&mut self.commit)?;
-        commit.start_from(&self.pool, &self.table, id)?;
-        self.commit = Some(commit);
-        Ok(true)
+        let answer = commit.start_from(&self.pool, &self.table, id);
+        answers(&mut self.commit, commit, answer, 0)
     }
 
-    fn merge(&mut self, mark: u64) -> Result<u16, Fail> {
-        let id = self.marked(mark)?;
-        let mut commit = taken(&mut self.commit)?;
-        let code = code_of(commit.merge(id))?;
-        self.commit = Some(commit);
-        Ok(code)
+    fn merge(&mut self, step: &[u8]) -> Result<bool, Fail> {
+        let code = number(step, 1)?;
+        let id = self.marked(step, 2)?;
+        self.merge_with(id, code)
     }
 
-    fn merge_often(&mut self, mark: u64, times: usize) -> Result<bool, Fail> {
+    fn merge_often(&mut self, step: &[u8]) -> Result<bool, Fail> {
+        let times = number(step, 1)?;
+        let id = self.marked(step, 2)?;
         for _ in 0..times {
-            if self.merge(mark)? != 0 {
+            if !self.merge_with(id, 0)? {
                 return Ok(false);
             }
         }
         Ok(true)
     }
 
-    fn modify(&mut self, mode: FileMode, object: Object<'_>, path: &[u8]) -> Result<u16, Fail> {
-        let path = self.path(path)?;
-        self.modify_at(mode, dataref(object)?, &path)
-    }
-
-    fn modify_long(&mut self, components: usize) -> Result<u16, Fail> {
-        let path = long_path(self.alloc, components)?;
-        self.modify_at(FileMode::Regular, DataRef::Mark(mark_of(1)?), &path)
-    }
-
-    fn modify_at(&mut self, mode: FileMode, object: DataRef, path: &Path) -> Result<u16, Fail> {
+    fn merge_with(&mut self, id: Name, code: u64) -> Result<bool, Fail> {
         let mut commit = taken(&mut self.commit)?;
-        let (pool, table) = (&self.pool, &self.table);
-        let code = code_of(commit.modify(pool, table, &self.marks, mode, object, path))?;
-        self.commit = Some(commit);
-        Ok(code)
+        let answer = commit.merge(id);
+        answers(&mut self.commit, commit, answer, code)
+    }
+
+    fn modify(&mut self, step: &[u8]) -> Result<bool, Fail> {
+        let code = number(step, 1)?;
+        let (mode, object) = (mode(step, 2)?, object(step, 3)?);
+        let path = self.path(step, 4)?;
+        self.modify_at(mode, object, &path, code)
+    }
+
+    fn modify_long(&mut self, step: &[u8]) -> Result<bool, Fail> {
+        let code = number(step, 1)?;
+        let object = DataRef::Mark(mark_of(b"1")?);
+        let path = long_path(self.alloc, number(step, 2)?)?;
+        self.modify_at(FileMode::Regular, object, &path, code)
+    }
+
+    fn modify_at(
+        &mut self,
+        mode: FileMode,
+        object: DataRef,
+        path: &Path,
+        code: u64,
+    ) -> Result<bool, Fail> {
+        let mut commit = taken(&mut self.commit)?;
+        let answer = commit.modify(&self.pool, &self.table, &self.marks, mode, object, path);
+        answers(&mut self.commit, commit, answer, code)
+    }
+
+    fn put_contents(&mut self, step: &[u8]) -> Result<bool, Fail> {
+        let code = number(step, 1)?;
+        let mode = mode(step, 2)?;
+        let path = self.path(step, 3)?;
+        self.put_contents_at(mode, &path, word(step, 4), code)
     }
 
     // After a refusal there is no commit any more.
-    fn put_contents(&mut self, mode: FileMode, path: &[u8], bytes: &[u8]) -> Result<u16, Fail> {
-        let path = self.path(path)?;
+    fn put_contents_at(
+        &mut self,
+        mode: FileMode,
+        path: &Path,
+        contents: &[u8],
+        code: u64,
+    ) -> Result<bool, Fail> {
         let mut commit = taken(&mut self.commit)?;
-        match commit.put_contents(&mut self.pool, &mut self.table, mode, &path, bytes) {
-            Ok(()) => {
-                self.commit = Some(commit);
-                Ok(0)
-            }
-            Err(fault) => code_of(Err(fault)),
-        }
+        let answer = commit.put_contents(&mut self.pool, &mut self.table, mode, path, contents);
+        put_back(&mut self.commit, commit, answer.is_ok());
+        Ok(code_of(answer)? == code)
     }
 
-    fn delete(&mut self, path: &[u8]) -> Result<bool, Fail> {
-        let path = self.path(path)?;
+    fn delete(&mut self, step: &[u8]) -> Result<bool, Fail> {
+        let path = self.path(step, 1)?;
+        self.delete_at(&path)
+    }
+
+    fn delete_at(&mut self, path: &Path) -> Result<bool, Fail> {
         let mut commit = taken(&mut self.commit)?;
-        commit.delete(&self.pool, &self.table, &path)?;
-        self.commit = Some(commit);
-        Ok(true)
+        let answer = commit.delete(&self.pool, &self.table, path);
+        answers(&mut self.commit, commit, answer, 0)
     }
 
     fn delete_all(&mut self) -> Result<bool, Fail> {
         let mut commit = taken(&mut self.commit)?;
         commit.delete_all();
-        self.commit = Some(commit);
+        put_back(&mut self.commit, commit, true);
         Ok(true)
     }
 
-    fn copy(&mut self, from: &[u8], to: &[u8]) -> Result<u16, Fail> {
-        let from = self.path(from)?;
-        let to = self.path(to)?;
+    fn copy(&mut self, step: &[u8]) -> Result<bool, Fail> {
+        let code = number(step, 1)?;
+        let (source, path) = self.paths(step)?;
+        self.copy_to(&source, &path, code)
+    }
+
+    fn copy_to(&mut self, source: &Path, path: &Path, code: u64) -> Result<bool, Fail> {
         let mut commit = taken(&mut self.commit)?;
-        let code = code_of(commit.copy(&self.pool, &self.table, &from, &to))?;
-        self.commit = Some(commit);
-        Ok(code)
+        let answer = commit.copy(&self.pool, &self.table, source, path);
+        answers(&mut self.commit, commit, answer, code)
     }
 
-    fn rename(&mut self, from: &[u8], to: &[u8]) -> Result<u16, Fail> {
-        let from = self.path(from)?;
-        let to = self.path(to)?;
+    fn rename(&mut self, step: &[u8]) -> Result<bool, Fail> {
+        let code = number(step, 1)?;
+        let (source, path) = self.paths(step)?;
+        self.rename_to(&source, &path, code)
+    }
+
+    fn rename_to(&mut self, source: &Path, path: &Path, code: u64) -> Result<bool, Fail> {
         let mut commit = taken(&mut self.commit)?;
-        let code = code_of(commit.rename(&self.pool, &self.table, &from, &to))?;
-        self.commit = Some(commit);
-        Ok(code)
+        let answer = commit.rename(&self.pool, &self.table, source, path);
+        answers(&mut self.commit, commit, answer, code)
     }
 
-    fn entry(&mut self, path: &[u8]) -> Result<Option<(FileMode, [u8; 40])>, Fail> {
-        let path = self.path(path)?;
+    fn entry(&mut self, path: &Path) -> Result<Option<Entry>, Fail> {
         let mut commit = taken(&mut self.commit)?;
-        let entry = commit.show_entry(&mut self.pool, &mut self.table, &path)?;
-        self.commit = Some(commit);
-        Ok(entry.map(|found| (found.mode, found.name.to_hex())))
+        let entry = commit.show_entry(&mut self.pool, &mut self.table, path);
+        put_back(&mut self.commit, commit, true);
+        Ok(entry?)
     }
 
-    fn has_entry(&mut self, path: &[u8], mode: FileMode, name: &[u8; 40]) -> Result<bool, Fail> {
-        Ok(self.entry(path)? == Some((mode, *name)))
+    fn has_entry(&mut self, step: &[u8]) -> Result<bool, Fail> {
+        let mode = mode(step, 1)?;
+        let name = Name::from_hex(word(step, 2)).ok_or("no name")?;
+        let path = self.path(step, 3)?;
+        let entry = self.entry(&path)?;
+        Ok(entry.map(|found| (found.mode, found.name)) == Some((mode, name)))
     }
 
-    fn has_none(&mut self, path: &[u8]) -> Result<bool, Fail> {
-        Ok(self.entry(path)?.is_none())
+    fn has_none(&mut self, step: &[u8]) -> Result<bool, Fail> {
+        let path = self.path(step, 1)?;
+        let entry = self.entry(&path)?;
+        Ok(entry.is_none())
     }
 
-    fn close(&mut self, mark: u64, name: &[u8; 40]) -> Result<bool, Fail> {
-        let mark = mark_of(mark)?;
-        let mut commit = taken(&mut self.commit)?;
-        let id = commit.close(&mut self.pool, &mut self.table)?;
-        self.commit = Some(commit);
+    fn has_stored(&self, step: &[u8]) -> Result<bool, Fail> {
+        Ok(self.table.len() as u64 == number(step, 1)?)
+    }
+
+    fn close(&mut self, step: &[u8]) -> Result<bool, Fail> {
+        let mark = mark_of(word(step, 1))?;
+        let id = self.closed()?;
         self.marks.insert(mark, id)?;
-        Ok(id.to_hex() == *name)
+        Ok(id.to_hex().as_slice() == word(step, 2))
+    }
+
+    fn closed(&mut self) -> Result<Name, Fail> {
+        let mut commit = taken(&mut self.commit)?;
+        let answer = commit.close(&mut self.pool, &mut self.table);
+        put_back(&mut self.commit, commit, answer.is_ok());
+        Ok(answer?)
     }
 }

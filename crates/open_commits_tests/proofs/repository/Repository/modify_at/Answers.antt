@@ -2,4 +2,4 @@ use Rattle.open_commits_tests.proofs.repository.Repository.modify_at.Goals as go
 
 pub invariant_of-self-2 : goal.invariant_of-self-2
 invariant_of-self-2 g c =
-    (c.self.invariant.0, c.self.invariant.1, c.modify.ensures.held c.in_ok-code.ensures)
+    (c.self.invariant.0, c.self.invariant.1, c.answers.ensures _ c.modify-answer.ensures.held)

@@ -1,5 +1,5 @@
 use Rattle.tenant_tables.proofs.RoomLemmas.{has_room}
-use Rattle.open_commits_tests.proofs.repository.Repository.add_blob.Goals as goal
+use Rattle.open_commits_tests.proofs.repository.Repository.added.Goals as goal
 
 pub add-requires : goal.add-requires
 add-requires g c = record {

@@ -1,5 +1,0 @@
-use Rattle.open_commits_tests.proofs.repository.Repository.copy.Goals as goal
-
-pub invariant_of-self-2 : goal.invariant_of-self-2
-invariant_of-self-2 g c =
-    (c.self.invariant.0, c.self.invariant.1, c.copy.ensures.held c.in_ok-code.ensures)

@@ -1,5 +1,0 @@
-use Rattle.open_commits_tests.proofs.repository.Repository.rename.Goals as goal
-
-pub invariant_of-self-2 : goal.invariant_of-self-2
-invariant_of-self-2 g c =
-    (c.self.invariant.0, c.self.invariant.1, c.rename.ensures.held c.in_ok-code.ensures)
