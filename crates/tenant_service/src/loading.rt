@@ -7,6 +7,7 @@ ghost use Rattle.std.specs.Str.{bytes_eq};
 ghost use Rattle.tenant_service.specs.Entries.{entry_of};
 
 use crate::tenant::{Phase, Tenant};
+use crate::tenants::add_tenant;
 use git_objects::Memory;
 use indexmap::IndexMap;
 use pool_loading::Tenant as Loaded;
@@ -30,8 +31,7 @@ fn take_in(
         phase: Phase::Closed,
         chain: FirstParentChain::new(alloc),
     };
-    tenants.insert(name, tenant)?;
-    Ok(())
+    add_tenant(tenants, name, tenant)
 }
 
 // All of them, in their order.
@@ -63,6 +63,9 @@ pub fn tenants_of(
     let mut tenants = IndexMap::new(alloc);
     match take_all_in(alloc, &mut tenants, loaded) {
         Ok(()) => Ok(tenants),
-        Err(memory) => Err(memory),
+        Err(memory) => {
+            drop(tenants);
+            Err(memory)
+        }
     }
 }

@@ -64,6 +64,13 @@ pub fn new_tenant(alloc: Global) -> Tenant
     }
 }
 
+// Leaves a stream in another phase. What was kept of it goes by a call, whose proof is its own.
+fn set_phase(kept: &mut Phase, phase: Phase)
+    ensures { kept.new ≡ phase }
+{
+    drop(mem::replace(kept, phase));
+}
+
 /// Opens a stream; 31 where there is one. Takes no memory.
 pub fn open<N: Naming>(alloc: Global, pool: &Pool<N>, tenant: &mut Tenant) -> Answer
     requires stands { Stands N.digest_of pool.now tenant.old }
@@ -75,7 +82,7 @@ pub fn open<N: Naming>(alloc: Global, pool: &Pool<N>, tenant: &mut Tenant) -> An
 {
     match &tenant.phase {
         Phase::Closed => {
-            tenant.phase = Phase::Running(Stream::new(alloc));
+            set_phase(&mut tenant.phase, Phase::Running(Stream::new(alloc)));
             Answer::Ok
         }
         _ => ServiceFault::StreamIsOpen.answer(),
@@ -98,7 +105,7 @@ pub fn give_up<N: Naming>(pool: &mut Pool<N>, tenant: &mut Tenant, phase: Phase)
     let _within = tenant.table.committed_len();
     tenant.table.roll_back(pool);
     tenant.chain.clear();
-    tenant.phase = phase;
+    set_phase(&mut tenant.phase, phase);
 }
 
 // Feeds a stream that runs.
@@ -257,7 +264,9 @@ pub fn ask_nobody<N: Naming>(
         out.old.items out.new.items (Idle empty_repository) }
 {
     let mut nobody = new_tenant(alloc);
-    ask(alloc, pool, &mut nobody, query, out)
+    let answer = ask(alloc, pool, &mut nobody, query, out);
+    drop(nobody);
+    answer
 }
 
 /// Closes the stream, if there is one, and goes back to the last checkpoint. Takes no memory.

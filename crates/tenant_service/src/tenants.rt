@@ -3,18 +3,18 @@
 //! The pool lies beside them. What a call does to its tenant is in the accounts then, and every
 //! other tenant has what it had.
 
-ghost use Rattle.std.specs.Prelude.{◌≡◌, ◌<◌, [], length, true, false, None, Ok, Err, MatchResult, count_by};
+ghost use Rattle.std.specs.Prelude.{◌≡◌, ◌<◌, ◌++◌, ◌∷◌, ℕ, List, [], length, OnOk, OnErr, true, false, None, Ok, Err, MatchResult, count_by};
 ghost use Rattle.std.specs.Map.{lookup};
 ghost use Rattle.std.specs.Str.{bytes_eq};
 ghost use Rattle.tenant_refs.specs.TenantName.{is_tenant_name as names_tenant};
 ghost use Rattle.tenant_service.specs.Alone.{Open, Feed, End, Ask};
 ghost use Rattle.tenant_stream.specs.Carrying.{HasAmpleRoom};
 ghost use Rattle.tenant_service.specs.Tenants.{Accounts, AreSound, holdings, has_committed};
-ghost use Rattle.tenant_service.specs.OneStep.{store, Serves, Steps, restarted, restarted_at};
+ghost use Rattle.tenant_service.specs.OneStep.{store, Calls, Serves, Steps, restarted, restarted_at};
 
 use crate::tenant::{Tenant, ask, ask_nobody, end, feed, new_tenant, open, restart};
 use content_pool::Pool;
-use git_objects::Naming;
+use git_objects::{Memory, Naming};
 use indexmap::IndexMap;
 use service_steps::{Answer, ServiceFault, Step};
 use std::alloc::Global;
@@ -26,6 +26,29 @@ fn has_room<N: Naming>(pool: &Pool<N>, tenants: &IndexMap<TenantName, Tenant>)
     ensures { HasAmpleRoom pool.now }
 {
     let _few = tenants.len();
+}
+
+/// One tenant more, whose name is new. `Memory` where there is no room for it; nothing has changed
+/// then.
+pub fn add_tenant(
+    tenants: &mut IndexMap<TenantName, Tenant>,
+    name: TenantName,
+    tenant: Tenant,
+) -> Result<(), Memory>
+    requires { lookup (bytes_eq name) tenants.old.entries ≡ None }
+    ensures ok { OnOk result (tenants.new.entries ≡ tenants.old.entries ++ (name, tenant) ∷ []) }
+    ensures err { OnErr result (tenants.new.entries ≡ tenants.old.entries) }
+{
+    match tenants.insert(name, tenant) {
+        Ok(before) => {
+            drop(before);
+            Ok(())
+        }
+        Err(refused) => {
+            drop(refused);
+            Err(Memory)
+        }
+    }
 }
 
 /// Feeds the stream of the tenant of this name; 30 where there is none.
@@ -126,8 +149,8 @@ fn open_new<N: Naming>(
 {
     let mut tenant = new_tenant(alloc);
     let answer = open(alloc, pool, &mut tenant);
-    match tenants.insert(name, tenant) {
-        Ok(_) => answer,
+    match add_tenant(tenants, name, tenant) {
+        Ok(()) => answer,
         Err(_) => Answer::Memory(0),
     }
 }
@@ -174,6 +197,83 @@ pub fn name_of(tenant: &[u8]) -> Result<TenantName, ServiceFault>
     }
 }
 
+// Opens a stream of the tenant of this name; 32 where it is a bad one.
+fn open_named<N: Naming>(
+    alloc: Global,
+    pool: &Pool<N>,
+    tenants: &mut IndexMap<TenantName, Tenant>,
+    tenant: &[u8],
+) -> Answer
+    requires { Accounts N.digest_of pool.now tenants.old.entries }
+    ensures { (out : List ℕ) → Calls N.digest_of (names_tenant tenant.now) tenant.now Open
+        (store pool.now tenants.old.entries) result out out (store pool.now tenants.new.entries) }
+{
+    match name_of(tenant) {
+        Ok(name) => open_one(alloc, pool, tenants, name),
+        Err(fault) => fault.answer(),
+    }
+}
+
+// Feeds the stream of the tenant of this name; 32 where it is a bad one.
+fn feed_named<N: Naming>(
+    pool: &mut Pool<N>,
+    tenants: &mut IndexMap<TenantName, Tenant>,
+    tenant: &[u8],
+    bytes: &[u8],
+    out: &mut Vec<u8>,
+) -> Answer
+    requires accounts { Accounts N.digest_of pool.old tenants.old.entries }
+    requires sound { AreSound N.digest_of (holdings pool.old tenants.old.entries) }
+    ensures { Calls N.digest_of (names_tenant tenant.now) tenant.now (Feed bytes.now)
+        (store pool.old tenants.old.entries) result
+        out.old.items out.new.items (store pool.new tenants.new.entries) }
+{
+    match name_of(tenant) {
+        Ok(name) => feed_one(pool, tenants, &name, bytes, out),
+        Err(fault) => fault.answer(),
+    }
+}
+
+// Ends the stream of the tenant of this name; 32 where it is a bad one.
+fn end_named<N: Naming>(
+    pool: &mut Pool<N>,
+    tenants: &mut IndexMap<TenantName, Tenant>,
+    tenant: &[u8],
+    out: &mut Vec<u8>,
+) -> Answer
+    requires accounts { Accounts N.digest_of pool.old tenants.old.entries }
+    requires sound { AreSound N.digest_of (holdings pool.old tenants.old.entries) }
+    ensures { Calls N.digest_of (names_tenant tenant.now) tenant.now End
+        (store pool.old tenants.old.entries) result
+        out.old.items out.new.items (store pool.new tenants.new.entries) }
+{
+    match name_of(tenant) {
+        Ok(name) => end_one(pool, tenants, &name, out),
+        Err(fault) => fault.answer(),
+    }
+}
+
+// Answers a query of the tenant of this name; 32 where it is a bad one.
+fn ask_named<N: Naming>(
+    alloc: Global,
+    pool: &Pool<N>,
+    tenants: &mut IndexMap<TenantName, Tenant>,
+    tenant: &[u8],
+    query: &[u8],
+    out: &mut Vec<u8>,
+) -> Answer
+    requires accounts { Accounts N.digest_of pool.now tenants.old.entries }
+    requires sound { AreSound N.digest_of (holdings pool.now tenants.old.entries) }
+    ensures { Calls N.digest_of (names_tenant tenant.now) tenant.now (Ask query.now)
+        (store pool.now tenants.old.entries) result
+        out.old.items out.new.items (store pool.now tenants.new.entries) }
+{
+    match name_of(tenant) {
+        Ok(name) => ask_one(alloc, pool, tenants, &name, query, out),
+        Err(fault) => fault.answer(),
+    }
+}
+
 /// Takes one step; 32 where the tenant's name is a bad one.
 pub fn take_step<N: Naming>(
     alloc: Global,
@@ -188,22 +288,10 @@ pub fn take_step<N: Naming>(
         out.old.items out.new.items (store pool.new tenants.new.entries) }
 {
     match step {
-        Step::Open { tenant } => match name_of(tenant) {
-            Ok(name) => open_one(alloc, pool, tenants, name),
-            Err(fault) => fault.answer(),
-        },
-        Step::Feed { tenant, bytes } => match name_of(tenant) {
-            Ok(name) => feed_one(pool, tenants, &name, bytes, out),
-            Err(fault) => fault.answer(),
-        },
-        Step::End { tenant } => match name_of(tenant) {
-            Ok(name) => end_one(pool, tenants, &name, out),
-            Err(fault) => fault.answer(),
-        },
-        Step::Ask { tenant, query } => match name_of(tenant) {
-            Ok(name) => ask_one(alloc, pool, tenants, &name, query, out),
-            Err(fault) => fault.answer(),
-        },
+        Step::Open { tenant } => open_named(alloc, pool, tenants, tenant),
+        Step::Feed { tenant, bytes } => feed_named(pool, tenants, tenant, bytes, out),
+        Step::End { tenant } => end_named(pool, tenants, tenant, out),
+        Step::Ask { tenant, query } => ask_named(alloc, pool, tenants, tenant, query, out),
         Step::Restart => {
             restart_all(pool, tenants);
             Answer::Ok

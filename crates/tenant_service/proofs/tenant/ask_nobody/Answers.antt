@@ -3,12 +3,12 @@ use Rattle.import_session.proofs.SoundLemmas.{empty_is_sound}
 use Rattle.tenant_service.specs.Holding.{Holding, IsSoundHolding}
 use Rattle.tenant_service.proofs.tenant.ask_nobody.Goals as goal
 
-pub ask-requires : goal.ask-requires
-ask-requires g c = record {
+pub ask-answer-requires : goal.ask-answer-requires
+ask-answer-requires g c = record {
   stands = c.new_tenant-nobody.ensures.stands g.N.Naming.digest_of c.args.pool.now;
   sound = subst (λ (held : Holding). IsSoundHolding g.N.Naming.digest_of held) (sym (c.new_tenant-nobody.ensures.held c.args.pool.now))
       (empty_is_sound g.N.Naming.digest_of);
 }
 
 pub returns : goal.returns
-returns g c = rw (c.new_tenant-nobody.ensures.held c.args.pool.now) at c.ask.ensures.own
+returns g c = rw (c.new_tenant-nobody.ensures.held c.args.pool.now) at c.ask-answer.ensures.own

@@ -1,6 +1,4 @@
 use Rattle.std.proofs.Common.{refl, ap, ◌∙◌, []}
-use Rattle.indexmap.proofs.CallerLemmas.{insert_entry-new}
-use Rattle.std.specs.Str.{bytes_eq}
 use Rattle.tenant_tables.specs.View.{View}
 use Rattle.tenant_service.specs.Alone.{Open}
 use Rattle.tenant_service.proofs.AccountLemmas.{serves-missing, serves-new}
@@ -13,14 +11,14 @@ open-answer-requires g c = record {
 
 pub returns-in-Ok : goal.returns-in-Ok
 returns-in-Ok g c =
-    serves-new g.N.Naming.digest_of c.args.name Open c.args.pool.now c.args.tenants.now.entries c.insert.new.self.entries c.open-answer.new.tenant
+    serves-new g.N.Naming.digest_of c.args.name Open c.args.pool.now c.args.tenants.now.entries c.add_tenant.new.tenants.entries c.open-answer.new.tenant
     c.open-answer.result [] [] c.requires.accounts c.requires.named c.requires.new
-    (c.in-Ok.ensures.entries ∙ insert_entry-new bytes_eq c.args.tenants.now c.args.name c.open-answer.new.tenant c.requires.new)
+    c.in-Ok.ensures.ok
     (ap (λ (t : View). t.entries) c.open-answer.ensures.table ∙ c.new_tenant-tenant.ensures.entries)
     c.open-answer.ensures.stands
     (rw (c.new_tenant-tenant.ensures.held c.args.pool.now) at c.open-answer.ensures.own)
 
-pub returns : goal.returns
-returns g c =
-    serves-missing g.N.Naming.digest_of c.args.name Open c.args.pool.now c.args.tenants.now.entries c.insert.new.self.entries _ []
+pub returns-in-Err : goal.returns-in-Err
+returns-in-Err g c =
+    serves-missing g.N.Naming.digest_of c.args.name Open c.args.pool.now c.args.tenants.now.entries c.add_tenant.new.tenants.entries _ []
     c.requires.accounts c.requires.new c.in-Err.ensures.err refl
