@@ -172,6 +172,10 @@ impl<N: Naming> Importer<N> {
             mut out,
         } = self;
         let ended = stream.finish(&mut pool, &mut table, &mut refs, &mut out);
+        // (by calls, and before the ways part: else each way has the code of all three)
+        drop(pool);
+        drop(table);
+        drop(refs);
         write_replies(writer, &mut out)?;
         as_import(ended)
     }
@@ -211,6 +215,9 @@ pub fn import_one<N: Naming, R: Read, W: Write>(
     let mut importer = Importer::new(alloc, naming);
     match importer.read_all(reader, writer) {
         Ok(()) => importer.end(writer),
-        Err(fault) => Err(fault),
+        Err(fault) => {
+            drop(importer);
+            Err(fault)
+        }
     }
 }

@@ -2,6 +2,7 @@
 //!
 //! Each answer is written before the next frame is read, for whoever sends frames may wait for it.
 
+ghost use Rattle.std.specs.Prelude.{◌≡◌, []};
 ghost use Rattle.git_objects.specs.Device.{device_of, seen};
 ghost use Rattle.gitpool.specs.Serving.{Serves};
 
@@ -13,6 +14,35 @@ use tenant_service::Service;
 
 // How many frames are taken before their sender counts as one that never ends.
 const FRAMES_LIMIT: u64 = 1 << 32;
+
+// Takes the steps that come as frames, and writes each answer. Nothing is in `out` in between.
+fn answer_frames<N: Naming, R: Read, W: Write>(
+    service: &mut Service<N>,
+    reader: &mut Counted<R>,
+    writer: &mut Counted<W>,
+    frames: &mut Frames,
+    out: &mut Vec<u8>,
+) -> Result<(), FrameFault>
+    requires { out.old.items ≡ [] }
+    ensures { Serves N.digest_of service.old service.new
+        (seen (R.remaining (device_of reader.old)) reader.old)
+        (seen (R.remaining (device_of reader.new)) reader.new)
+        (seen (W.contents (device_of writer.old)) writer.old)
+        (seen (W.contents (device_of writer.new)) writer.new) result }
+{
+    let _passed = reader.passed();
+    for _ in 0..FRAMES_LIMIT {
+        let step = match frames.next(reader) {
+            Ok(Some(step)) => step,
+            Ok(None) => return Ok(()),
+            Err(fault) => return Err(fault),
+        };
+        let answer = service.step(step, out);
+        write_answer(writer, answer, out)?;
+        out.clear();
+    }
+    Err(FrameFault::Device)
+}
 
 /// Takes the steps that `reader` gives as frames, and writes each answer to `writer` before it
 /// reads on. It ends well where the input ends between frames.
@@ -35,18 +65,9 @@ pub fn serve<N: Naming, R: Read, W: Write>(
         (seen (W.contents (device_of writer.old)) writer.old)
         (seen (W.contents (device_of writer.new)) writer.new) result }
 {
-    let _passed = reader.passed();
     let mut frames = Frames::new(alloc);
     let mut out = Vec::new(alloc);
-    for _ in 0..FRAMES_LIMIT {
-        let step = match frames.next(reader) {
-            Ok(Some(step)) => step,
-            Ok(None) => return Ok(()),
-            Err(fault) => return Err(fault),
-        };
-        let answer = service.step(step, &mut out);
-        write_answer(writer, answer, &out)?;
-        out.clear();
-    }
-    Err(FrameFault::Device)
+    let served = answer_frames(service, reader, writer, &mut frames, &mut out);
+    drop(frames);
+    served
 }

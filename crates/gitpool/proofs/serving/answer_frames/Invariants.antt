@@ -1,7 +1,7 @@
 use Rattle.std.proofs.Common.{◌≡◌, []}
 use Rattle.git_objects.specs.Device.{device_of, seen}
 use Rattle.gitpool.proofs.ServeLemmas.{SoFar}
-use Rattle.gitpool.proofs.serving.serve.Given as goal
+use Rattle.gitpool.proofs.serving.answer_frames.Given as goal
 
 -- Each frame so far was answered.
 abbrev pub invariant-loop : goal.invariant-loop

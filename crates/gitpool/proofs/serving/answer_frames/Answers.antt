@@ -4,11 +4,11 @@ use Rattle.git_objects.specs.Device.{Device, device_of, seen}
 use Rattle.service_steps.specs.declared.step.Step.{Step}
 use Rattle.step_frames.specs.Reading.{ReadsStep}
 use Rattle.gitpool.proofs.ServeLemmas.{so_far_new, ends_at, fails_at, taken_by, told_whole, so_far_more, write_fails, limit_reached}
-use Rattle.gitpool.proofs.serving.serve.Goals as goal
+use Rattle.gitpool.proofs.serving.answer_frames.Goals as goal
 
 pub loop-init : goal.loop-init
 loop-init g c = (
-  c.new-out.ensures.items,
+  c.requires,
   so_far_new _ _ _ _ (let a = c.passed-passed.type_inv in let b = c.passed-passed.ensures in omega (arith, a, b)),
 )
 
