@@ -1,6 +1,7 @@
 -- What a printed line leaves of a workspace, and what an item does by its text, by the end of the
 -- open commit and by its act.
 use Rattle.std.proofs.Common.{◌≡◌, ◌≢◌, ◌⊎◌, inl, inr, ℕ, List, [], Result, Ok, Err, refl, sym, ap, subst, ◌∙◌, append_assoc, codes, Bool, false, append-nil, true, Option, rules}
+use Rattle.std.specs.Prelude.{OnOk}
 use Rattle.std.proofs.lemmas.Bool.{cond-true}
 use Rattle.import_session.specs.declared.fault.Fault.{Fault}
 use Rattle.import_session.specs.declared.fault.Fault.TheVariants as fault
@@ -143,7 +144,7 @@ effect_refused : (r : Result Effect Fault) (p : Parsing) (b : Bool) (new : Works
 effect_refused (Ok effect) p b new next out out' e carried = carried
 effect_refused (Err refusal) p b new next out out' e carried = carried
 
-pub item_refused : (digest : List ℕ → List ℕ) (w : Workspace) (p : Parsing)
+item_refused : (digest : List ℕ → List ℕ) (w : Workspace) (p : Parsing)
     (k : Result Done TextFault) (done : LentDone) (new : Workspace) (next : Running)
     (out out' : List ℕ) (e : Fault)
     → Reads (Ok done) k
@@ -171,7 +172,7 @@ effect_taken (Ok effect) p b new out out' u carried = (
 )
 effect_taken (Err refusal) p b new out out' u carried = absurd carried
 
-pub item_taken : (digest : List ℕ → List ℕ) (w : Workspace) (p : Parsing)
+item_taken : (digest : List ℕ → List ℕ) (w : Workspace) (p : Parsing)
     (k : Result Done TextFault) (done : LentDone) (new : Workspace)
     (out out' : List ℕ) (u : Unit {0})
     → Reads (Ok done) k
@@ -188,6 +189,21 @@ item_taken digest w p k done new out out' u reads carried =
     )
     (effect_taken (done_effect digest w (done_shown done)) p
     (is_finish (act_shown done.act)) new out out' u carried)
+
+-- an act that was carried out, or refused
+pub item_answered : (digest : List ℕ → List ℕ) (w : Workspace) (p : Parsing)
+    (k : Result Done TextFault) (done : LentDone) (new : Workspace) (b : Bool)
+    (out out' : List ℕ) (result : Result Unit Fault)
+    → Reads (Ok done) k
+    → CarriesOut (done_effect digest w (done_shown done)) new out out' result
+    → OnOk result (b ≡ is_finish (act_shown done.act))
+    → Takes (and_then (text_first k) (done_step digest w p))
+    (record { workspace = new; parsing = p; is_done = b }) out out' result
+item_answered digest w p k done new b out out' (Ok u) reads carried finished =
+    rw finished (item_taken digest w p k done new out out' u reads carried)
+item_answered digest w p k done new b out out' (Err e) reads carried finished =
+    item_refused digest w p k done new (record { workspace = new; parsing = p; is_done = b })
+    out out' e reads carried
 
 -- what was given was no want of memory
 pub no_memory : (given : Result LentDone TextFault) (done : LentDone)

@@ -1,6 +1,6 @@
 -- What changes of the open commit, and its message, leave of a workspace.
-use Rattle.std.proofs.Common.{◌≡◌, ◌≢◌, ◌⊎◌, inl, inr, ℕ, List, [], ◌∷◌, Option, None, Some, Result, Ok, Err, refl, sym, ap, ◌∙◌, rules}
-use Rattle.std.specs.Prelude.{MatchResult}
+use Rattle.std.proofs.Common.{◌≡◌, ◌≢◌, ◌⊎◌, inl, inr, ℕ, List, [], ◌∷◌, Option, None, Some, Result, Ok, Err, refl, ap, rules}
+use Rattle.std.specs.Prelude.{MatchResult, OnOk}
 use Rattle.git_model.specs.RefStore.{RefStore}
 use Rattle.git_model.specs.Repository.{Object}
 use Rattle.content_pool.specs.Pool.{Cells}
@@ -19,11 +19,11 @@ use Rattle.open_commits.specs.OpenCommit.{Header, HeldCommit, OpenCommit, begun,
 use Rattle.import_session.specs.declared.fault.Fault.{Fault}
 use Rattle.import_session.specs.declared.fault.Fault.TheVariants as fault
 use Rattle.import_session.specs.declared.said.Said.{Said}
-use Rattle.import_session.specs.Faults.{and_then, changed_or, changing_fault}
+use Rattle.import_session.specs.Faults.{and_then, changed_or}
 use Rattle.import_session.specs.Workspace.{Branches, Effect, Workspace, quiet}
 use Rattle.import_session.specs.Branches.{branch_set}
 use Rattle.import_session.specs.Changes.{changed_by, commit_changed}
-use Rattle.import_session.specs.Commits.{begun_from, commit_opened, header_said, opened_at, opened_with, tip_for}
+use Rattle.import_session.specs.Commits.{begun_from, commit_opened, header_said, opened_at, opened_with, started_or_cleared, tip_for}
 use Rattle.import_session.specs.Session.{Own, workspace_in, CarriesOut, Leaves}
 use Rattle.import_session.specs.Sound.{IsSound}
 
@@ -35,20 +35,27 @@ pub named_refused : (named : Result (List ℕ) Fault) (next : List ℕ → Resul
     → f ≢ fault.Memory → and_then named next ≡ Err f
 named_refused named next e f same refused other = rw (same, refused (rw same at other)) refl
 
+-- what a change answers and leaves
+pub changes_left : (wanted : Result OpenCommit CommitFault) (old new : OpenCommit)
+    (r : Result Unit CommitFault) → Changes wanted old new r
+    → Leaves (changed_or wanted) new (changed_or r)
+changes_left wanted old new (Ok u) done = rw done refl
+changes_left wanted old new (Err e) refused = λ other.
+    let because = refused (λ (m : e ≡ commit_fault.Memory). other (rw m refl)) in
+    rw because.0 refl
+
 pub changed_then : (named : Result (List ℕ) Fault)
     (change : List ℕ → Result OpenCommit CommitFault) (id : List ℕ) (old new : OpenCommit)
-    → named ≡ Ok id → Changes (change id) old new (Ok tt)
-    → and_then named (λ found. changed_or (change found)) ≡ Ok new
-changed_then named change id old new is done = rw (is, done) refl
+    (r : Result Unit CommitFault) → named ≡ Ok id → Changes (change id) old new r
+    → Leaves (and_then named (λ found. changed_or (change found))) new (changed_or r)
+changed_then named change id old new r is done =
+    rw is (changes_left (change id) old new r done)
 
-pub refused_then : (named : Result (List ℕ) Fault)
-    (change : List ℕ → Result OpenCommit CommitFault) (id : List ℕ) (old new : OpenCommit)
-    (e : CommitFault) (f : Fault) → f ≡ changing_fault e
-    → named ≡ Ok id → Changes (change id) old new (Err e) → f ≢ fault.Memory
-    → and_then named (λ found. changed_or (change found)) ≡ Err f
-refused_then named change id old new e f same is refused other =
-    let because = refused (λ (m : e ≡ commit_fault.Memory). other (rw (same, m) refl)) in
-    rw (same, is, because.0) refl
+-- what stands unless memory ran out stands where a change was carried out
+pub held_left : (P : Type 0) (r : Result Unit CommitFault)
+    → (r ≢ Err commit_fault.Memory → P) → OnOk (changed_or r) P
+held_left P (Ok u) holds = holds (λ is. absurd (cc is))
+held_left P (Err e) holds = tt
 
 -- ---- what is refused
 
@@ -95,22 +102,25 @@ changed_alike : (a b : OpenCommit) (files : FileMap) (refusal : Option FilesFaul
 changed_alike a b files None same = ap (λ (c : OpenCommit). Ok c) same
 changed_alike a b files (Some refusal) same = refl
 
-pub started_alike : (os : List Object) (id message : List ℕ) (header : Header) (files : FileMap)
+started_alike : (os : List Object) (id message : List ℕ) (header : Header) (files : FileMap)
     → started_from os id (begun_on header message files) ≡ started_from os id (begun header message)
 started_alike os id message header files =
     changed_alike (record (begun_on header message files) { parents = id ∷ [] })
     (record (begun header message) { parents = id ∷ [] }) (commit_map os id)
     (put_fault (stored_files os (tree_of_commit os id)) (commit_map os id)) refl
 
-pub begun_refused : (os : List Object) (first : Option (List ℕ)) (id : List ℕ)
-    (header : Header) (message : List ℕ) (files : FileMap) (given left : OpenCommit)
-    (e : CommitFault) (f : Fault) → f ≡ changing_fault e → first ≡ Some id
-    → given ≡ begun_on header message files → Changes (started_from os id given) given left (Err e)
-    → f ≢ fault.Memory → begun_from os first (begun header message) ≡ Err f
-begun_refused os first id header message files given left e f same is begins refused other =
-    let because = refused (λ (m : e ≡ commit_fault.Memory). other (rw (same, m) refl)) in
-    rw (same, is) (ap changed_or (sym (started_alike os id message header files)
-    ∙ ap (started_from os id) (sym begins) ∙ because.0))
+pub begun_on_first : (os : List Object) (first : Option (List ℕ)) (header : Header)
+    (message : List ℕ) (files : FileMap)
+    → started_or_cleared os first (begun_on header message files)
+    ≡ begun_from os first (begun header message)
+begun_on_first os None header message files = refl
+begun_on_first os (Some id) header message files =
+    ap changed_or (started_alike os id message header files)
+
+pub begun_refused : (wanted started : Result OpenCommit Fault) (e f : Fault) → f ≡ e
+    → wanted ≡ started → (e ≢ fault.Memory → started ≡ Err e) → f ≢ fault.Memory → wanted ≡ Err f
+begun_refused wanted started e f same is refused other =
+    rw (same, is, refused (rw same at other)) refl
 
 pub opened_by : (workspace : Workspace) (stood first : Option (List ℕ)) (new : OpenCommit)
     (branches : Branches) (result : Result LentCommit Fault) → stood ≡ first

@@ -5,6 +5,7 @@ mod CommittedLemmas
 mod LastLemmas
 mod TagLemmas
 mod CommitLemmas
+mod Defaults
 mod HeldLemmas
 pub mod LentLemmas
 pub mod SoundObjects

@@ -8,6 +8,7 @@ use Rattle.git_model.specs.Repository.{Object}
 use Rattle.tree_build.specs.FileMap.{Path}
 use Rattle.stream_grammar.specs.declared.fault.Fault.TheVariants as text_fault
 use Rattle.open_commits.specs.OpenCommit.{Header, OpenCommit, begun}
+use Rattle.open_commits.specs.Changes.{all_deleted}
 use Rattle.open_commits.specs.Parents.{started_from}
 use Rattle.open_commits.specs.Ends.{Closed, closed}
 use Rattle.import_session.specs.declared.branches.Tip.{Tip}
@@ -71,6 +72,12 @@ tip_for (Some commit) = At commit
 abbrev pub begun_from : List Object → Option (List ℕ) → OpenCommit → Result OpenCommit Fault
 begun_from objects None commit = Ok commit
 begun_from objects (Some id) commit = changed_or (started_from objects id commit)
+
+-- Where there is none, the files that were left of another commit go.
+abbrev pub started_or_cleared : List Object → Option (List ℕ) → OpenCommit
+    → Result OpenCommit Fault
+started_or_cleared objects None commit = Ok (all_deleted commit)
+started_or_cleared objects (Some id) commit = changed_or (started_from objects id commit)
 
 -- It is one of the objects.
 abbrev pub IsTipCommit : List Object → Option (List ℕ) → Type 0

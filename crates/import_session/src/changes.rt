@@ -11,6 +11,7 @@ ghost use Rattle.tenant_tables.specs.View.{View};
 ghost use Rattle.stream_grammar.specs.Shown.{act_shown, commit_shown as said_shown};
 ghost use Rattle.stream_grammar.specs.Acts.{StartFrom, Merge};
 ghost use Rattle.open_commits.specs.OpenCommit.{shown_in, IsHeld};
+ghost use Rattle.import_session.specs.Faults.{changed_or};
 ghost use Rattle.import_session.specs.Lent.{Keeps};
 ghost use Rattle.import_session.specs.Commits.{contents_awaited};
 ghost use Rattle.import_session.specs.Changes.{branch_entry_shown, changed_by, commit_changed, contents_stored, moved_by};
@@ -21,7 +22,7 @@ ghost use Rattle.import_session.specs.Sound.{IsSound};
 
 use crate::commit_ishes::{commit_named, start_of};
 use crate::fault::Fault;
-use crate::own::Own;
+use crate::own::{Own, keep_open};
 use crate::print::print_entry;
 use crate::said::Inline;
 use content_pool::Pool;
@@ -32,6 +33,16 @@ use open_commits::OpenCommit;
 use stream_grammar::{Act, CommitIsh};
 use tenant_refs::Refs;
 use tenant_tables::Table;
+
+// What a change of the open commit answers, with what refuses it as a fault of the stream.
+pub fn passed_on(given: Result<(), open_commits::Fault>) -> Result<(), Fault>
+    ensures { result ≡ changed_or given }
+{
+    match given {
+        Ok(()) => Ok(()),
+        Err(refusal) => Err(Fault::from(refusal)),
+    }
+}
 
 // 'from'.
 fn start_from<N: Naming>(
@@ -52,7 +63,7 @@ fn start_from<N: Naming>(
     ensures held { OnOk result (IsHeld (objects pool.now table.now.entries) commit.new) }
 {
     let id = start_of(pool, table, refs, own, &commit.header.ref_name, from)?;
-    Ok(commit.start_from(pool, table, id)?)
+    passed_on(commit.start_from(pool, table, id))
 }
 
 // 'merge'.
@@ -74,7 +85,7 @@ fn merge<N: Naming>(
     ensures held { OnOk result (IsHeld (objects pool.now table.now.entries) commit.new) }
 {
     let id = commit_named(pool, table, refs, own, other)?;
-    Ok(commit.merge(id)?)
+    passed_on(commit.merge(id))
 }
 
 // Carries out an act that changes files alone.
@@ -93,9 +104,9 @@ fn move_files<N: Naming>(
     ensures held { OnOk result (IsHeld (objects pool.now table.now.entries) commit.new) }
 {
     match act {
-        Act::Delete(path) => Ok(commit.delete(pool, table, path)?),
-        Act::Copy { source, path } => Ok(commit.copy(pool, table, source, path)?),
-        Act::Rename { source, path } => Ok(commit.rename(pool, table, source, path)?),
+        Act::Delete(path) => passed_on(commit.delete(pool, table, path)),
+        Act::Copy { source, path } => passed_on(commit.copy(pool, table, source, path)),
+        Act::Rename { source, path } => passed_on(commit.rename(pool, table, source, path)),
         Act::DeleteAll => {
             commit.delete_all();
             Ok(())
@@ -127,7 +138,7 @@ fn change_commit<N: Naming>(
         Act::StartFrom(from) => start_from(pool, table, refs, own, commit, from),
         Act::Merge(other) => merge(pool, table, refs, own, commit, other),
         Act::Modify { mode, object, path } => {
-            Ok(commit.modify(pool, table, &own.marks, *mode, *object, path)?)
+            passed_on(commit.modify(pool, table, &own.marks, *mode, *object, path))
         }
         _ => move_files(pool, table, commit, act),
     }
@@ -154,7 +165,7 @@ fn change_open<N: Naming>(
         return Err(Fault::Text(stream_grammar::Fault::UnknownCommand));
     };
     let changed = change_commit(pool, table, refs, own, &mut commit, act);
-    own.commit = Some(commit);
+    keep_open(own, commit);
     changed
 }
 

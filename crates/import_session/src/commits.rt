@@ -13,16 +13,17 @@ ghost use Rattle.open_commits.specs.OpenCommit.{begun, commit_held, header_shown
 ghost use Rattle.import_session.specs.Branches.{branch_set, commit_at};
 ghost use Rattle.import_session.specs.Workspace.{quiet};
 ghost use Rattle.import_session.specs.Lent.{Keeps};
-ghost use Rattle.import_session.specs.Commits.{begun_from, closed_where, commit_closed, commit_opened, header_said, open_closed, opened_with, tip_commit, tip_for, IsTipCommit};
+ghost use Rattle.import_session.specs.Commits.{begun_from, closed_where, commit_closed, commit_opened, header_said, open_closed, opened_with, started_or_cleared, tip_commit, tip_for, IsTipCommit};
 ghost use Rattle.import_session.specs.Session.{own_shown, workspace_in, CarriesOut, KeepsCommitted, Leaves};
 ghost use Rattle.import_session.specs.Held.{FilesStand, HoldsFiles, KeepsFiles};
 ghost use Rattle.import_session.specs.Sound.{IsSound};
 
 use crate::branches::{Branches, Tip};
+use crate::changes::passed_on;
 use crate::encoding::Encoding;
 use crate::fault::Fault;
 use crate::marks;
-use crate::own::Own;
+use crate::own::{Own, keep_open};
 use crate::said::Said;
 use branch_trees::Files;
 use content_pool::Pool;
@@ -107,6 +108,29 @@ fn take_files(own: &mut Own) -> Files
     }
 }
 
+// A new commit starts from the commit that its branch stood at, or without any file.
+fn start<N: Naming>(
+    pool: &Pool<N>,
+    table: &Table,
+    first: Option<Name>,
+    commit: &mut OpenCommit,
+) -> Result<(), Fault>
+    requires stands { StandsIn N.digest_of pool.now table.now.entries }
+    requires held { IsHeld (objects pool.now table.now.entries) commit.old }
+    ensures started { let os = objects pool.now table.now.entries in AreObjects N.digest_of os
+        → IsTipCommit os first → Leaves (started_or_cleared os first (shown_in os commit.old))
+        (shown_in os commit.new) result }
+    ensures held { OnOk result (IsHeld (objects pool.now table.now.entries) commit.new) }
+{
+    match first {
+        Some(id) => passed_on(commit.start_from(pool, table, id)),
+        None => {
+            commit.delete_all();
+            Ok(())
+        }
+    }
+}
+
 // A commit begins, whose first parent is the commit that its branch stood at. What these files have
 // open of that commit's stays open.
 fn begin<N: Naming>(
@@ -127,10 +151,7 @@ fn begin<N: Naming>(
     ensures held { IfOk result (λ commit. IsHeld (objects pool.now table.now.entries) commit) }
 {
     let mut commit = OpenCommit::new(alloc, header, message, files)?;
-    match first {
-        Some(id) => commit.start_from(pool, table, id)?,
-        None => commit.delete_all(),
-    }
+    start(pool, table, first, &mut commit)?;
     Ok(commit)
 }
 
@@ -203,7 +224,7 @@ pub fn open_commit<N: Naming>(
     };
     let header = header_said(mark, said)?;
     let commit = open_with(pool, table, own, header, message)?;
-    own.commit = Some(commit);
+    keep_open(own, commit);
     Ok(())
 }
 
@@ -253,9 +274,9 @@ fn close<N: Naming>(pool: &mut Pool<N>, table: &mut Table, own: &mut Own) -> Res
 {
     match own.commit.take() {
         Some(mut commit) => {
-            close_commit(pool, table, own, &mut commit)?;
+            let closed = close_commit(pool, table, own, &mut commit);
             own.left = Some(commit.into_files());
-            Ok(())
+            closed
         }
         None => Ok(()),
     }

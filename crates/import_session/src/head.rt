@@ -3,8 +3,10 @@
 ghost use Rattle.std.specs.Prelude.{◌≡◌, ◌≢◌, codes, if◌then◌else◌, Ok, Err};
 ghost use Rattle.std.specs.Str.{bytes_eq};
 ghost use Rattle.stream_grammar.specs.declared.fault.Fault.TheVariants as text_fault;
+ghost use Rattle.import_session.specs.Faults.{Gives};
 
 use crate::fault::Fault;
+use std::alloc::Global;
 use std::marker::Model;
 use tenant_refs::RefName;
 
@@ -34,6 +36,14 @@ impl Head {
             return Err(Fault::Text(stream_grammar::Fault::BadRefName));
         }
         Ok(Head { ref_name })
+    }
+
+    // A copy of the ref as what HEAD is to name. `Memory` (90) where there is no room for it.
+    pub fn copy_of(alloc: Global, ref_name: &RefName) -> Result<Head, Fault>
+        ensures { Gives result (if bytes_eq ref_name.now (codes "HEAD")
+            then Err (Fault.Text text_fault.BadRefName) else Ok ref_name.now) }
+    {
+        Head::new(ref_name.try_clone(alloc)?)
     }
 
     // The ref.

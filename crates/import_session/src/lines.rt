@@ -1,7 +1,7 @@
 //! What the lines of a tag and of a commit say before their message: git-fast-import(1), "tag" and
 //! "commit".
 
-ghost use Rattle.std.specs.Prelude.{◌≡◌, List, ℕ, IfOk, IfErr, OnOk};
+ghost use Rattle.std.specs.Prelude.{◌≡◌, List, ℕ, Some, IfOk, IfErr, OnOk};
 ghost use Rattle.content_pool.specs.Pool.{Cells};
 ghost use Rattle.tenant_tables.specs.View.{View};
 ghost use Rattle.tenant_tables.specs.StandsIn.{StandsIn};
@@ -17,8 +17,7 @@ use crate::branches::copy_meant;
 use crate::changes::change;
 use crate::encoding::Encoding;
 use crate::fault::Fault;
-use crate::own::Own;
-use crate::said::said_of;
+use crate::own::{Own, begin};
 use crate::target::Target;
 use content_pool::Pool;
 use git_objects::Naming;
@@ -34,7 +33,15 @@ fn begin_tag(own: &mut Own, refs: &Refs, ref_name: &RefName) -> Result<(), Fault
     ensures files { KeepsFiles (own_shown own.old) (own_shown own.new) }
 {
     let ref_name = ref_name.try_clone(own.alloc)?;
-    own.said = Some(said_of(own.alloc, ref_name));
+    begin(own, ref_name);
+    Ok(())
+}
+
+fn set_target(alloc: Global, said: &CommitIsh<'_>, target: &mut Target) -> Result<(), Fault>
+    ensures set { OnOk result (target.new ≡ commit_shown said.now) }
+    ensures refused { IfErr result (λ fault. fault ≡ Fault.Memory) }
+{
+    *target = Target::copy_of(alloc, said)?;
     Ok(())
 }
 
@@ -46,25 +53,7 @@ fn say_target(own: &mut Own, refs: &Refs, target: &CommitIsh<'_>) -> Result<(), 
     ensures files { KeepsFiles (own_shown own.old) (own_shown own.new) }
 {
     match &mut own.said {
-        Some(said) => {
-            said.target = Target::copy_of(own.alloc, target)?;
-            Ok(())
-        }
-        None => Err(Fault::Text(stream_grammar::Fault::UnknownCommand)),
-    }
-}
-
-fn say_tagger(own: &mut Own, refs: &Refs, ident: &Ident) -> Result<(), Fault>
-    ensures done { (pool : Cells) (table : View) (out : List ℕ) → CarriesOut
-        (tagger_said ident.now (workspace_in (own_shown own.old) pool table refs.now))
-        (workspace_in (own_shown own.new) pool table refs.now) out out result }
-    ensures files { KeepsFiles (own_shown own.old) (own_shown own.new) }
-{
-    match &mut own.said {
-        Some(said) => {
-            said.tagger = Some(copy_of(own.alloc, ident)?);
-            Ok(())
-        }
+        Some(said) => set_target(own.alloc, target, &mut said.target),
         None => Err(Fault::Text(stream_grammar::Fault::UnknownCommand)),
     }
 }
@@ -80,6 +69,26 @@ fn copy_of(alloc: Global, ident: &Ident) -> Result<Ident, Fault>
     }
 }
 
+fn set_ident(alloc: Global, said: &Ident, ident: &mut Option<Ident>) -> Result<(), Fault>
+    ensures set { OnOk result (ident.new ≡ Some said.now) }
+    ensures refused { IfErr result (λ fault. fault ≡ Fault.Memory) }
+{
+    *ident = Some(copy_of(alloc, said)?);
+    Ok(())
+}
+
+fn say_tagger(own: &mut Own, refs: &Refs, ident: &Ident) -> Result<(), Fault>
+    ensures done { (pool : Cells) (table : View) (out : List ℕ) → CarriesOut
+        (tagger_said ident.now (workspace_in (own_shown own.old) pool table refs.now))
+        (workspace_in (own_shown own.new) pool table refs.now) out out result }
+    ensures files { KeepsFiles (own_shown own.old) (own_shown own.new) }
+{
+    match &mut own.said {
+        Some(said) => set_ident(own.alloc, ident, &mut said.tagger),
+        None => Err(Fault::Text(stream_grammar::Fault::UnknownCommand)),
+    }
+}
+
 fn begin_commit(own: &mut Own, refs: &Refs, ref_name: &RefName) -> Result<(), Fault>
     ensures done { (pool : Cells) (table : View) (out : List ℕ) → CarriesOut
         (commit_begun ref_name.now (workspace_in (own_shown own.old) pool table refs.now))
@@ -87,7 +96,7 @@ fn begin_commit(own: &mut Own, refs: &Refs, ref_name: &RefName) -> Result<(), Fa
     ensures files { KeepsFiles (own_shown own.old) (own_shown own.new) }
 {
     let branch = copy_meant(own.alloc, &own.head, refs, ref_name)?;
-    own.said = Some(said_of(own.alloc, branch));
+    begin(own, branch);
     Ok(())
 }
 
@@ -98,10 +107,7 @@ fn say_author(own: &mut Own, refs: &Refs, ident: &Ident) -> Result<(), Fault>
     ensures files { KeepsFiles (own_shown own.old) (own_shown own.new) }
 {
     match &mut own.said {
-        Some(said) => {
-            said.author = Some(copy_of(own.alloc, ident)?);
-            Ok(())
-        }
+        Some(said) => set_ident(own.alloc, ident, &mut said.author),
         None => Err(Fault::Text(stream_grammar::Fault::UnknownCommand)),
     }
 }
@@ -113,12 +119,17 @@ fn say_committer(own: &mut Own, refs: &Refs, ident: &Ident) -> Result<(), Fault>
     ensures files { KeepsFiles (own_shown own.old) (own_shown own.new) }
 {
     match &mut own.said {
-        Some(said) => {
-            said.committer = Some(copy_of(own.alloc, ident)?);
-            Ok(())
-        }
+        Some(said) => set_ident(own.alloc, ident, &mut said.committer),
         None => Err(Fault::Text(stream_grammar::Fault::UnknownCommand)),
     }
+}
+
+fn set_encoding(alloc: Global, said: &[u8], encoding: &mut Option<Encoding>) -> Result<(), Fault>
+    ensures set { OnOk result (encoding.new ≡ Some said.now) }
+    ensures refused { IfErr result (λ fault. fault ≡ Fault.Memory) }
+{
+    *encoding = Some(Encoding::copy_of(alloc, said)?);
+    Ok(())
 }
 
 fn say_encoding(own: &mut Own, refs: &Refs, encoding: &[u8]) -> Result<(), Fault>
@@ -128,10 +139,7 @@ fn say_encoding(own: &mut Own, refs: &Refs, encoding: &[u8]) -> Result<(), Fault
     ensures files { KeepsFiles (own_shown own.old) (own_shown own.new) }
 {
     match &mut own.said {
-        Some(said) => {
-            said.encoding = Some(Encoding::copy_of(own.alloc, encoding)?);
-            Ok(())
-        }
+        Some(said) => set_encoding(own.alloc, encoding, &mut said.encoding),
         None => Err(Fault::Text(stream_grammar::Fault::UnknownCommand)),
     }
 }

@@ -1,12 +1,14 @@
 //! What a stream has of its own, beside its objects: marks, branches, the open commit, HEAD and
 //! switches.
 
-ghost use Rattle.std.specs.Prelude.{◌≡◌, List, ℕ, OnOk};
+ghost use Rattle.std.specs.Prelude.{◌≡◌, List, ℕ, Some, OnOk};
 ghost use Rattle.content_pool.specs.Pool.{Cells};
 ghost use Rattle.tenant_tables.specs.View.{View};
 ghost use Rattle.tenant_tables.specs.StandsIn.{StandsIn};
 ghost use Rattle.stream_grammar.specs.Shown.{act_shown};
-ghost use Rattle.import_session.specs.Resets.{branch_reset};
+ghost use Rattle.open_commits.specs.OpenCommit.{commit_held};
+ghost use Rattle.import_session.specs.Resets.{branch_reset, branch_unborn};
+ghost use Rattle.import_session.specs.Workspace.{said_of};
 ghost use Rattle.import_session.specs.Held.{FilesStand, KeepsFiles};
 ghost use Rattle.import_session.specs.Sound.{IsSound};
 ghost use Rattle.import_session.specs.Meaning.{feature_set, head_set, set_by};
@@ -65,6 +67,36 @@ pub fn new_own(alloc: Global) -> Own
     }
 }
 
+// The lines of a command begin, the first of which names a ref.
+pub fn begin(own: &mut Own, ref_name: RefName)
+    ensures begun { own_shown own.new
+        ≡ record (own_shown own.old) { said = Some (said_of ref_name) } }
+    ensures files { KeepsFiles (own_shown own.old) (own_shown own.new) }
+{
+    own.said = Some(said_of(own.alloc, ref_name));
+}
+
+// A commit is the open one.
+pub fn keep_open(own: &mut Own, commit: OpenCommit)
+    ensures { own_shown own.new
+        ≡ record (own_shown own.old) { commit = Some (commit_held commit) } }
+{
+    own.commit = Some(commit);
+}
+
+// A branch is unborn, whatever it was, and its reset begins.
+fn set_unborn(own: &mut Own, refs: &Refs, branch: RefName) -> Result<(), Fault>
+    ensures done { (pool : Cells) (table : View) (out : List ℕ) → CarriesOut
+        (branch_unborn branch (workspace_in (own_shown own.old) pool table refs.now))
+        (workspace_in (own_shown own.new) pool table refs.now) out out result }
+    ensures files { KeepsFiles (own_shown own.old) (own_shown own.new) }
+{
+    let said = branch.try_clone(own.alloc)?;
+    own.branches.set(branch, Tip::Unborn)?;
+    begin(own, said);
+    Ok(())
+}
+
 fn reset(own: &mut Own, refs: &Refs, ref_name: &RefName) -> Result<(), Fault>
     ensures done { (pool : Cells) (table : View) (out : List ℕ) → CarriesOut
         (branch_reset ref_name.now (workspace_in (own_shown own.old) pool table refs.now))
@@ -72,10 +104,7 @@ fn reset(own: &mut Own, refs: &Refs, ref_name: &RefName) -> Result<(), Fault>
     ensures files { KeepsFiles (own_shown own.old) (own_shown own.new) }
 {
     let branch = copy_meant(own.alloc, &own.head, refs, ref_name)?;
-    let said = branch.try_clone(own.alloc)?;
-    own.branches.set(branch, Tip::Unborn)?;
-    own.said = Some(said_of(own.alloc, said));
-    Ok(())
+    set_unborn(own, refs, branch)
 }
 
 fn require(own: &mut Own, refs: &Refs, feature: Feature)
@@ -97,8 +126,7 @@ fn set_head(own: &mut Own, refs: &Refs, ref_name: &RefName) -> Result<(), Fault>
         (workspace_in (own_shown own.new) pool table refs.now) out out result }
     ensures files { KeepsFiles (own_shown own.old) (own_shown own.new) }
 {
-    let head = Head::new(ref_name.try_clone(own.alloc)?)?;
-    own.head = Some(head);
+    own.head = Some(Head::copy_of(own.alloc, ref_name)?);
     Ok(())
 }
 

@@ -71,11 +71,12 @@ fn reset_to<N: Naming>(
         (workspace_in (own_shown own.new) pool.now table.now refs.now) out out result }
     ensures files { KeepsFiles (own_shown own.old) (own_shown own.new) }
 {
-    let Some(said) = own.said.take() else {
-        return Err(Fault::Text(stream_grammar::Fault::UnknownCommand));
+    let branch = match own.said.take() {
+        Some(said) => said.into_ref(),
+        None => return Err(Fault::Text(stream_grammar::Fault::UnknownCommand)),
     };
-    let tip = tip_from(pool, table, refs, own, &said.ref_name, from)?;
-    own.branches.place(said.ref_name, tip)?;
+    let tip = tip_from(pool, table, refs, own, &branch, from)?;
+    own.branches.place(branch, tip)?;
     Ok(())
 }
 

@@ -29,6 +29,15 @@ pub struct Said {
     pub tagger: Option<Ident>,
 }
 
+impl Said {
+    /// The ref that it names. What else was said goes.
+    pub fn into_ref(self) -> RefName
+        ensures { result ≡ self.ref_name }
+    {
+        self.ref_name
+    }
+}
+
 /// Where in the open commit the next data is to stand.
 #[derive(Drop)]
 pub struct Inline {

@@ -65,6 +65,13 @@ fn is_finish(act: &Act<'_>) -> bool
     matches!(act, Act::Finish)
 }
 
+// Whether `done` was carried out.
+fn is_finished(carried: &Result<(), Fault>, act: &Act<'_>) -> bool
+    ensures { OnOk carried.now (result ≡ is_finish (act_shown act.now)) }
+{
+    carried.is_ok() && is_finish(act)
+}
+
 // What the parser answers is passed on; its want of memory is any other.
 fn judged<'a>(given: Result<Done<'a>, stream_grammar::Fault>) -> Result<Done<'a>, Fault>
     ensures { (by : Result DoneBy TextFault) → Answers given.entry by → Reads result by }
@@ -189,9 +196,9 @@ impl Session {
             Ok(done) => done,
             Err(fault) => return Err(fault),
         };
-        carry_out_done(pool, table, refs, &mut self.own, &done, out)?;
-        self.is_done = is_finish(&done.act);
-        Ok(())
+        let carried = carry_out_done(pool, table, refs, &mut self.own, &done, out);
+        self.is_done = is_finished(&carried, &done.act);
+        carried
     }
 
     /// The end of the stream, which is a checkpoint, unless `done` was read before. The refs that

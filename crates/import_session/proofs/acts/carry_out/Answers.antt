@@ -6,6 +6,7 @@ use Rattle.import_session.specs.Workspace.{Effect}
 use Rattle.import_session.specs.Meaning.{after_act}
 use Rattle.import_session.specs.Session.{own_shown, workspace_in, CarriesOut}
 use Rattle.import_session.proofs.ActLemmas.{saves}
+use Rattle.import_session.proofs.Defaults.{after_act_next}
 use Rattle.import_session.proofs.LastLemmas.{in_any_case, unchanged_committed}
 use Rattle.import_session.proofs.acts.carry_out.Goals as goal
 
@@ -64,3 +65,10 @@ pub returns-in_default-clause-committed : goal.returns-in_default-clause-committ
 returns-in_default-clause-committed g c =
     on_err_weaker c.show_or_store.result (unchanged_committed c.args.pool.now c.args.table.now
     c.show_or_store.new.pool c.show_or_store.new.table) c.show_or_store.ensures.same
+
+pub returns-in_default-clause-done : goal.returns-in_default-clause-done
+returns-in_default-clause-done g c sound =
+    rw (after_act_next g.N.Naming.digest_of c.args.act.now (workspace_in (own_shown c.args.own.now) c.args.pool.now c.args.table.now c.args.refs.now)
+    c.in_default.not-StoreTag c.in_default.not-PutContents c.in_default.not-ShowBranchEntry
+    c.in_default.not-Checkpoint c.in_default.not-Finish)
+    (c.show_or_store.ensures.done sound)

@@ -5,7 +5,9 @@ use Rattle.tenant_tables.specs.Objects.{objects}
 use Rattle.import_session.specs.Marks.{marked_name, referred_name}
 use Rattle.import_session.specs.Meaning.{shown_by, shown_object}
 use Rattle.import_session.specs.Showing.{entry_shown}
+use Rattle.import_session.specs.Session.{own_shown, workspace_in}
 use Rattle.import_session.proofs.ActLemmas.{line_carried, named_carried}
+use Rattle.import_session.proofs.Defaults.{shown_by_next}
 use Rattle.import_session.proofs.acts.show.Goals as goal
 
 pub returns-in-ShowMark-clause-done : goal.returns-in-ShowMark-clause-done
@@ -42,3 +44,9 @@ returns-in_ok-print_line-in-Progress-clause-done g c sound =
       c.in_ok-print_line-in-Progress.ensures.written
           ∙ append_assoc c.args.out.now.items c.in-Progress.line.now (codes "\n"),
     )
+
+pub returns-in_default-clause-done : goal.returns-in_default-clause-done
+returns-in_default-clause-done g c sound =
+    rw (shown_by_next c.args.act.now (workspace_in (own_shown c.args.own.now) c.args.pool.now c.args.table.now c.args.refs.now)
+    c.in_default.not-ShowMark c.in_default.not-ShowObject c.in_default.not-ShowEntry c.in_default.not-Progress)
+    (c.place.ensures.done c.args.out.now.items sound)

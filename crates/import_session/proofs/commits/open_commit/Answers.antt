@@ -1,7 +1,8 @@
-use Rattle.std.proofs.Common.{sym}
+use Rattle.std.proofs.Common.{Ok, sym, subst}
 use Rattle.std.proofs.lemmas.Result.{err_from_is_err_and}
 use Rattle.open_commits.specs.OpenCommit.{commit_held, header_shown}
-use Rattle.import_session.specs.Session.{own_shown, workspace_in}
+use Rattle.import_session.specs.Session.{Own, own_shown, workspace_in, CarriesOut}
+use Rattle.import_session.specs.Commits.{commit_opened}
 use Rattle.import_session.proofs.CommitLemmas.{opened_refused, opened_well, without_said}
 use Rattle.import_session.proofs.commits.open_commit.Goals as goal
 
@@ -20,7 +21,11 @@ returns-clause-done g c out sound =
     let workspace = workspace_in (own_shown c.args.own.now) c.args.pool.now c.args.table.now c.args.refs.now in
     let opens = c.in_ok-commit.ensures.opened c.args.refs.now
     (without_said g.N.Naming.digest_of workspace c.take.new.self c.in-Some.ensures.after sound) in
-    opened_well (own_shown c.args.own.now) (own_shown c.open_with.new.own) c.args.pool.now c.args.table.now
+    subst (λ (own : Own). CarriesOut
+    (commit_opened c.args.mark c.args.message.now c.args.own.now.said workspace)
+    (workspace_in own c.args.pool.now c.args.table.now c.args.refs.now) out out (Ok tt))
+    (sym c.keep_open.ensures)
+    (opened_well (own_shown c.args.own.now) (own_shown c.open_with.new.own) c.args.pool.now c.args.table.now
     c.args.refs.now c.open_with.new.own.branches c.args.mark c.args.message.now c.args.own.now.said c.take.new.self
     c.in-Some.said (header_shown c.in_ok-header.header) (commit_held c.in_ok-commit.commit) out
-    (sym c.in-Some.ensures.value) c.in-Some.ensures.after c.in_ok-header.ensures opens c.in_ok-commit.ensures.own
+    (sym c.in-Some.ensures.value) c.in-Some.ensures.after c.in_ok-header.ensures opens c.in_ok-commit.ensures.own)

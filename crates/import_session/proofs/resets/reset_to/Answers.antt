@@ -21,4 +21,4 @@ returns-in_err-tip-clause-done g c out good =
       branches = with_branch w.branches ref tip;
       said = None;
     }))
-    _ out out c.in_err-tip.field-0.0 (c.in_err-tip.ensures good))
+    _ out out c.in_err-tip.field-0.0 (rw c.into_ref-branch.ensures at (c.in_err-tip.ensures good)))

@@ -1,5 +1,4 @@
-use Rattle.std.proofs.Common.{◌≡◌, Bool, false, Result, Ok, Err, refl, sym, ap, subst, ◌∙◌}
-use Rattle.std.proofs.lemmas.Result.{err_from_is_err_and}
+use Rattle.std.proofs.Common.{◌≡◌, false, Result, Err, refl, sym, ap, subst, ◌∙◌}
 use Rattle.stream_lex.specs.Looking.{item_of}
 use Rattle.stream_grammar.specs.Commands.{Parsing, done_by, after}
 use Rattle.import_session.specs.declared.fault.Fault.{Fault}
@@ -7,11 +6,11 @@ use Rattle.import_session.specs.Stream.{Step, step, taken}
 use Rattle.import_session.specs.Sound.{IsSound}
 use Rattle.import_session.specs.Held.{FilesStand}
 use Rattle.import_session.specs.Session.{Kept, Takes, own_shown, running_in, workspace_in}
-use Rattle.import_session.proofs.ActLemmas.{done_step, step_over, step_running, no_act, item_refused, item_taken, no_memory}
+use Rattle.import_session.proofs.ActLemmas.{done_step, step_over, step_running, no_act, item_answered, no_memory}
 use Rattle.import_session.proofs.session.Session.take.Goals as goal
 
-pub carry_out_done-requires-clause-held : goal.carry_out_done-requires-clause-held
-carry_out_done-requires-clause-held g c =
+pub carry_out_done-carried-requires-clause-held : goal.carry_out_done-carried-requires-clause-held
+carry_out_done-carried-requires-clause-held g c =
     subst (λ (k : Kept). FilesStand k.own c.args.pool.now c.args.table.now) (sym c.self.view_is)
     c.requires.held
 
@@ -52,45 +51,6 @@ returns-in-Err-clause-taken g c sound =
     next c.args.out.now.items c.args.out.now.items c.in-Err.fault
     (c.in-Err.ensures by c.take.ensures.answers)))
 
-pub returns-in_err-carry_out_done-clause-taken : goal.returns-in_err-carry_out_done-clause-taken
-returns-in_err-carry_out_done-clause-taken g c sound =
-    let digest = g.N.Naming.digest_of in
-    let item = item_of c.args.item in
-    let kept : Kept = record {
-      parsing = c.self.inside.parser;
-      own = own_shown c.self.inside.own;
-      is_done = c.self.inside.is_done;
-    } in
-    let now = running_in kept c.args.pool.now c.args.table.now c.args.refs.now in
-    let here = subst (λ (k : Kept). IsSound digest
-    (workspace_in k.own c.args.pool.now c.args.table.now c.args.refs.now)) (sym c.self.view_is)
-    sound in
-    let running : c.self.inside.is_done ≡ false =
-    ap (λ (k : Kept). k.is_done) c.self.view_is ∙ sym c.is_done.ensures ∙ c.if-is_done.false in
-    let left = c.carry_out_done.new in
-    let next_kept : Kept = record {
-      parsing = c.take.new.self;
-      own = own_shown left.own;
-      is_done = c.self.inside.is_done;
-    } in
-    let next = running_in next_kept left.pool left.table left.refs in
-    let by = done_by c.self.inside.parser item in
-    let fault = c.in_err-carry_out_done.field-0.0 in
-    let p = err_from_is_err_and c.from_residual.result c.from_residual.ensures.1 in
-    rw (p.1, p.2)
-    (subst
-    (λ (k : Kept). Takes (step digest (running_in k c.args.pool.now c.args.table.now
-    c.args.refs.now) item)
-    next c.args.out.now.items left.out.items (Err fault))
-    c.self.view_is
-    (subst (λ (r : Result Step Fault). Takes r next c.args.out.now.items left.out.items
-    (Err fault))
-    (sym (step_running digest now item running))
-    (item_refused digest now.workspace (after c.self.inside.parser item) by c.in-Ok.done _ next
-    c.args.out.now.items left.out.items fault
-    (c.in-Ok.ensures by c.take.ensures.answers)
-    (c.in_err-carry_out_done.ensures.carried here))))
-
 pub returns-clause-taken : goal.returns-clause-taken
 returns-clause-taken g c sound =
     let digest = g.N.Naming.digest_of in
@@ -106,35 +66,31 @@ returns-clause-taken g c sound =
     sound in
     let running : c.self.inside.is_done ≡ false =
     ap (λ (k : Kept). k.is_done) c.self.view_is ∙ sym c.is_done.ensures ∙ c.if-is_done.false in
-    let left = c.carry_out_done.new in
+    let left = c.carry_out_done-carried.new in
     let next_kept : Kept = record {
       parsing = c.take.new.self;
       own = own_shown left.own;
-      is_done = c.is_finish-self-inside.result;
+      is_done = c.is_finished-self-inside.result;
     } in
     let next = running_in next_kept left.pool left.table left.refs in
     let by = done_by c.self.inside.parser item in
     let new = workspace_in (own_shown left.own) left.pool left.table left.refs in
     let parsing = c.take.ensures.leaves (no_memory _ _ c.in-Ok.ensures) in
+    let result = c.carry_out_done-carried.result in
     subst
     (λ (k : Kept). Takes (step digest (running_in k c.args.pool.now c.args.table.now
     c.args.refs.now) item)
-    next c.args.out.now.items left.out.items (Ok tt))
+    next c.args.out.now.items left.out.items result)
     c.self.view_is
-    (subst (λ (r : Result Step Fault). Takes r next c.args.out.now.items left.out.items
-    (Ok tt))
+    (subst (λ (r : Result Step Fault). Takes r next c.args.out.now.items left.out.items result)
     (sym (step_running digest now item running))
     (subst
     (λ (p : Parsing). Takes (taken digest now item)
-    (record { workspace = new; parsing = p; is_done = c.is_finish-self-inside.result })
-    c.args.out.now.items left.out.items (Ok tt))
+    (record { workspace = new; parsing = p; is_done = c.is_finished-self-inside.result })
+    c.args.out.now.items left.out.items result)
     (sym parsing)
-    (subst
-    (λ (b : Bool). Takes (taken digest now item) (record
-    { workspace = new; parsing = after c.self.inside.parser item; is_done = b })
-    c.args.out.now.items left.out.items (Ok tt))
-    (sym c.is_finish-self-inside.ensures)
-    (item_taken digest now.workspace (after c.self.inside.parser item) by c.in-Ok.done new
-    c.args.out.now.items left.out.items tt
+    (item_answered digest now.workspace (after c.self.inside.parser item) by c.in-Ok.done new
+    c.is_finished-self-inside.result c.args.out.now.items left.out.items result
     (c.in-Ok.ensures by c.take.ensures.answers)
-    (c.in_ok-carry_out_done.ensures.carried here)))))
+    (c.carry_out_done-carried.ensures.carried here)
+    c.is_finished-self-inside.ensures)))
