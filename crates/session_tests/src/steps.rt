@@ -15,6 +15,10 @@ use stream_lex::Item;
 use tenant_refs::{RefName, Refs};
 use tenant_tables::Table;
 
+// The tables are texts, for a proof reads those in one step. The cases of a table are parted by
+// `#`, the fields of a case by `;`, and its steps, which are its second field, by `|`. The first
+// field says in words what the case shows.
+
 // What a test does next with its stream.
 #[derive(Clone, Copy)]
 enum Step<'a> {
@@ -24,7 +28,7 @@ enum Step<'a> {
 
 // How the steps ended: the number of the last answer (0 where it was no refusal), whether `done`
 // was read, what the pool stored then, and what it stored once the stream was given up.
-#[derive(Clone, Copy, PartialEq, Eq)]
+#[derive(Clone, Copy)]
 struct Left {
     number: u16,
     is_done: bool,
@@ -32,757 +36,219 @@ struct Left {
     given_up: (u64, u64),
 }
 
-// What a stream of steps does, in words, what is printed for it, and how it ends.
-struct Case {
-    does: &'static str,
-    steps: &'static [Step<'static>],
-    printed: &'static [u8],
-    left: Left,
-}
+const FROM_ZEROS: &[u8] = b"from 0000000000000000000000000000000000000000";
 
-// What is refused, in words and as steps, and the number of the last answer.
-struct Refusal {
-    refuses: &'static str,
-    steps: &'static [Step<'static>],
-    number: u16,
-}
+const TAGGER: &[u8] = b"tagger A U Thor <author@example.com> 1700000000 +0100";
 
-// What a stream of steps leaves of HEAD, and of the ref `refs/heads/m`, which is there before it.
-struct RefCase {
-    leaves: &'static str,
-    steps: &'static [Step<'static>],
-    head: &'static [u8],
-    has_ref: bool,
-}
+const COMMITTER: &[u8] = b"committer A U Thor <author@example.com> 1700000000 +0100";
 
-// What a stream of steps leaves of the ref `refs/tags/v`, as the digits of what it holds.
-struct TagCase {
-    leaves: &'static str,
-    steps: &'static [Step<'static>],
-    holds: Option<&'static [u8; 40]>,
-}
+// What streams print, how they end, and how many contents of how many bytes the pool stores then
+// and once they are given up: what is printed, the number of the last answer, whether `done` was
+// read, and two numbers each.
+const CASES: &str = "\
+    passes items over after done;\
+    done|blob|=hello\n|no command|.;;0;yes;0;0;0;0#\
+    gives up what was not checkpointed;\
+    blob|=hello\n;;0;no;1;6;0;0#\
+    keeps what was checkpointed at the end;\
+    blob|=hello\n|.;;0;no;1;6;1;6#\
+    keeps what was checkpointed at done;\
+    blob|=hello\n|done;;0;yes;1;6;1;6#\
+    keeps what was checkpointed at a checkpoint;\
+    blob|=hello\n|checkpoint|blob|=other;;0;no;2;11;1;6#\
+    stores tags of a blob and of a tag under the names that git gives them;\
+    blob|mark :1|=hello\n|tag v|mark :2|from :1|tagger|=first\n|get-mark :2|tag w|mark :3|\
+    from :2|=first\n|get-mark :3|done;952cdcc8475363092ec0361133bb58070500a563\n\
+    4c39ad1f24f4ef86507078029968107ec512d77f\n;0;yes;3;201;3;201#\
+    stores a tag of a saved tag under the name that git gives it, which is not peeled;\
+    blob|mark :1|=hello\n|tag v|from :1|tagger|=first\n|checkpoint|tag w|mark :2|from v|\
+    =first\n|get-mark :2;4c39ad1f24f4ef86507078029968107ec512d77f\n;0;no;3;201;2;131#\
+    stores nothing of an open commit, and gives it up;\
+    commit refs/heads/m|committer|=first\n;;0;no;0;0;0;0#\
+    stores the trees and the commit at its end;\
+    blob|mark :1|=hello\n|commit refs/heads/m|mark :2|committer|=first\n|\
+    M 100644 :1 a/x|;;0;no;4;227;0;0#\
+    stores the directory that ls shows of an open commit, and gives it up;\
+    blob|mark :1|=hello\n|checkpoint|commit refs/heads/m|committer|=first\n|M 100644 :1 a/x|\
+    ls \"a\"|no command;\
+    040000 tree e31a96220fbfbe7601ecc086a36b96dc27a8867e\ta\n;2;no;2;35;1;6";
 
-// What a stream of steps, for which nothing is printed, leaves of as many refs as there may be,
-// `refs/tags/v` not among them, after the cases before it: the number of its last answer, how many
-// refs there are then, and whether that one and the first branch are.
-struct FullCase {
-    leaves: &'static str,
-    steps: &'static [Step<'static>],
-    number: u16,
-    count: usize,
-    has_tag: bool,
-    has_first: bool,
-}
+// What is refused, and the number of the last answer. The bytes of the message `tsrif` have the sum
+// of those of `first`, so that both have one name here.
+const COMMIT_REFUSALS: &str = "\
+    an end without done before that of a commit of which another content has the name;\
+    feature done|commit refs/heads/m|committer|=first\n|commit refs/heads/n|committer|\
+    =tsrif\n|.;7#\
+    a commit whose name is that of another content, at its end;\
+    commit refs/heads/m|committer|=first\n|commit refs/heads/n|committer|=tsrif\n|;24#\
+    what is no command before that end, for the text is judged first;\
+    commit refs/heads/m|committer|=first\n|commit refs/heads/n|committer|=tsrif\n|\
+    no command;2#\
+    a mark that is not there behind that end, for the commit ends first;\
+    commit refs/heads/m|committer|=first\n|commit refs/heads/n|committer|=tsrif\n|\
+    get-mark :9;24#\
+    contents of a file whose name is that of another content;\
+    blob|=ab|commit refs/heads/m|committer|=first\n|M 100644 inline a|=ba;24";
 
-const BLOB: Step<'static> = Step::Take(Item::Line(b"blob"));
+// What is refused, and the number of the last answer.
+const REFUSALS: &str = "\
+    an alias to what is no expression;\
+    alias|mark :1|to m^{x};3#\
+    a tag in the place of data;\
+    blob|tag .v;5#\
+    a tag of forty zeros, which in a tag are a name like others;\
+    tag v|from zeros|=first\n;16#\
+    a tag of what is no expression;\
+    tag v|from |=first\n;3#\
+    a tag of digits that several names begin with;\
+    blob|=hello\n|blob|=other|tag v|from abab|=first\n;17#\
+    a tag of a blob peeled to a commit;\
+    blob|=hello\n|tag v|from abab^{commit}|=first\n;15#\
+    a tag whose name is that of another content;\
+    blob|mark :1|=hello\n|tag v|from :1|=first\n|tag v|from :1|=tsrif\n;24#\
+    an end in the place of data before one without done;\
+    feature done|blob|.;5#\
+    a feature after a reset;\
+    reset refs/heads/m|feature done;9#\
+    a reset of HEAD to the branch that HEAD names;\
+    option gitpool head refs/heads/m|reset HEAD|from refs/heads/m;19#\
+    a from outside a reset;\
+    from refs/heads/n;2#\
+    the blob of a mark that is not there;\
+    cat-blob :1;13#\
+    another content of one name;\
+    blob|=ab|blob|=ba;24";
 
-const MARK: Step<'static> = Step::Take(Item::Line(b"mark :1"));
+// What a stream leaves of HEAD, and whether it leaves the ref `refs/heads/m`, which is there before
+// it.
+const REF_CASES: &str = "\
+    HEAD and refs where nothing is said of them;\
+    blob|=hello\n|checkpoint|done;refs/heads/main;yes#\
+    a HEAD of an option, saved at done;\
+    option gitpool head refs/heads/x|done;refs/heads/x;yes#\
+    a HEAD of an option, saved at the end;\
+    option gitpool head refs/heads/x|.;refs/heads/x;yes#\
+    a HEAD of an option, saved at a checkpoint before a fault;\
+    option gitpool head refs/heads/x|checkpoint|no command;refs/heads/x;yes#\
+    the HEAD before, where a fault loses that of an option;\
+    option gitpool head refs/heads/x|no command;refs/heads/main;yes#\
+    the HEAD of the last option;\
+    option gitpool head refs/heads/x|option gitpool head refs/heads/m|done;refs/heads/m;yes#\
+    the ref of a branch that is unborn;\
+    reset refs/heads/m|done;refs/heads/main;yes#\
+    the ref of a branch with a commit, for what it holds is none;\
+    commit refs/heads/m|committer|=first\n|done;refs/heads/main;yes#\
+    no ref of a branch that is deleted;\
+    reset refs/heads/m|from zeros||done;refs/heads/main;no#\
+    the ref of a branch that was deleted and then reset;\
+    reset refs/heads/m|from zeros|reset refs/heads/m|done;refs/heads/main;yes#\
+    the ref of a branch whose deletion a fault loses;\
+    reset refs/heads/m|from zeros|no command;refs/heads/main;yes#\
+    no ref of the branch that HEAD names for the stream, which is deleted;\
+    option gitpool head refs/heads/m|reset HEAD|from zeros|done;refs/heads/m;no#\
+    no ref of the branch that the saved HEAD names, which is deleted;\
+    option gitpool head refs/heads/m|checkpoint|reset HEAD|from zeros|done;refs/heads/m;no";
 
-const HELLO: Step<'static> = Step::Take(Item::Data(b"hello\n"));
-
-const OTHER: Step<'static> = Step::Take(Item::Data(b"other"));
-
-const DONE: Step<'static> = Step::Take(Item::Line(b"done"));
-
-const CHECKPOINT: Step<'static> = Step::Take(Item::Line(b"checkpoint"));
-
-const WRONG: Step<'static> = Step::Take(Item::Line(b"no command"));
-
-const FEATURE_DONE: Step<'static> = Step::Take(Item::Line(b"feature done"));
-
-const OTHER_HEAD: Step<'static> = Step::Take(Item::Line(b"option gitpool head refs/heads/x"));
-
-const HEAD_AT_M: Step<'static> = Step::Take(Item::Line(b"option gitpool head refs/heads/m"));
-
-const RESET: Step<'static> = Step::Take(Item::Line(b"reset refs/heads/m"));
-
-const RESET_HEAD: Step<'static> = Step::Take(Item::Line(b"reset HEAD"));
-
-const FROM_ZEROS: Step<'static> = Step::Take(Item::Line(
-    b"from 0000000000000000000000000000000000000000",
-));
-
-const TAG: Step<'static> = Step::Take(Item::Line(b"tag v"));
-
-const OTHER_TAG: Step<'static> = Step::Take(Item::Line(b"tag w"));
-
-const FROM_MARK: Step<'static> = Step::Take(Item::Line(b"from :1"));
-
-const ALIAS: Step<'static> = Step::Take(Item::Line(b"alias"));
-
-const TAGGER: Step<'static> = Step::Take(Item::Line(
-    b"tagger A U Thor <author@example.com> 1700000000 +0100",
-));
-
-const MESSAGE: Step<'static> = Step::Take(Item::Data(b"first\n"));
-
-// The bytes of the message in another order, so that they have the same sum.
-const MESSAGE_TURNED: Step<'static> = Step::Take(Item::Data(b"tsrif\n"));
-
-const COMMIT: Step<'static> = Step::Take(Item::Line(b"commit refs/heads/m"));
-
-const OTHER_COMMIT: Step<'static> = Step::Take(Item::Line(b"commit refs/heads/n"));
-
-const COMMITTER: Step<'static> = Step::Take(Item::Line(
-    b"committer A U Thor <author@example.com> 1700000000 +0100",
-));
-
-const FILE: Step<'static> = Step::Take(Item::Line(b"M 100644 :1 a/x"));
-
-const SHOW_DIRECTORY: Step<'static> = Step::Take(Item::Line(b"ls \"a\""));
-
-const BLANK: Step<'static> = Step::Take(Item::Blank);
-
-const SECOND_MARK: Step<'static> = Step::Take(Item::Line(b"mark :2"));
-
-// How a stream ends that asks for nothing to be kept.
-const NOTHING: Left = Left {
-    number: 0,
-    is_done: false,
-    stored: (0, 0),
-    given_up: (0, 0),
-};
-
-// How a stream ends whose one blob, `hello` and a line feed, was not checkpointed.
-const HELLO_GIVEN_UP: Left = Left {
-    number: 0,
-    is_done: false,
-    stored: (1, 6),
-    given_up: (0, 0),
-};
-
-// How a stream ends at `Step::Finish` with that blob.
-const HELLO_KEPT: Left = Left {
-    number: 0,
-    is_done: false,
-    stored: (1, 6),
-    given_up: (1, 6),
-};
-
-const CASES: &[Case] = &[
-    Case {
-        does: "passes items over after done",
-        steps: &[DONE, BLOB, HELLO, WRONG, Step::Finish],
-        printed: b"",
-        left: Left {
-            number: 0,
-            is_done: true,
-            stored: (0, 0),
-            given_up: (0, 0),
-        },
-    },
-    Case {
-        does: "gives up what was not checkpointed",
-        steps: &[BLOB, HELLO],
-        printed: b"",
-        left: HELLO_GIVEN_UP,
-    },
-    Case {
-        does: "keeps what was checkpointed at the end",
-        steps: &[BLOB, HELLO, Step::Finish],
-        printed: b"",
-        left: HELLO_KEPT,
-    },
-    Case {
-        does: "keeps what was checkpointed at done",
-        steps: &[BLOB, HELLO, DONE],
-        printed: b"",
-        left: Left {
-            number: 0,
-            is_done: true,
-            stored: (1, 6),
-            given_up: (1, 6),
-        },
-    },
-    Case {
-        does: "keeps what was checkpointed at a checkpoint",
-        steps: &[BLOB, HELLO, CHECKPOINT, BLOB, OTHER],
-        printed: b"",
-        left: Left {
-            number: 0,
-            is_done: false,
-            stored: (2, 11),
-            given_up: (1, 6),
-        },
-    },
-    Case {
-        does: "stores tags of a blob and of a tag under the names that git gives them",
-        steps: &[
-            BLOB,
-            MARK,
-            HELLO,
-            TAG,
-            SECOND_MARK,
-            FROM_MARK,
-            TAGGER,
-            MESSAGE,
-            Step::Take(Item::Line(b"get-mark :2")),
-            OTHER_TAG,
-            Step::Take(Item::Line(b"mark :3")),
-            Step::Take(Item::Line(b"from :2")),
-            MESSAGE,
-            Step::Take(Item::Line(b"get-mark :3")),
-            DONE,
-        ],
-        printed: b"952cdcc8475363092ec0361133bb58070500a563\n4c39ad1f24f4ef86507078029968107ec512d77f\n",
-        left: Left {
-            number: 0,
-            is_done: true,
-            stored: (3, 201),
-            given_up: (3, 201),
-        },
-    },
-    Case {
-        does: "stores a tag of a saved tag under the name that git gives it, which is not peeled",
-        steps: &[
-            BLOB,
-            MARK,
-            HELLO,
-            TAG,
-            FROM_MARK,
-            TAGGER,
-            MESSAGE,
-            CHECKPOINT,
-            OTHER_TAG,
-            SECOND_MARK,
-            Step::Take(Item::Line(b"from v")),
-            MESSAGE,
-            Step::Take(Item::Line(b"get-mark :2")),
-        ],
-        printed: b"4c39ad1f24f4ef86507078029968107ec512d77f\n",
-        left: Left {
-            number: 0,
-            is_done: false,
-            stored: (3, 201),
-            given_up: (2, 131),
-        },
-    },
-    Case {
-        does: "stores nothing of an open commit, and gives it up",
-        steps: &[COMMIT, COMMITTER, MESSAGE],
-        printed: b"",
-        left: NOTHING,
-    },
-    Case {
-        does: "stores the trees and the commit at its end",
-        steps: &[
-            BLOB,
-            MARK,
-            HELLO,
-            COMMIT,
-            SECOND_MARK,
-            COMMITTER,
-            MESSAGE,
-            FILE,
-            BLANK,
-        ],
-        printed: b"",
-        left: Left {
-            number: 0,
-            is_done: false,
-            stored: (4, 227),
-            given_up: (0, 0),
-        },
-    },
-    Case {
-        does: "stores the directory that ls shows of an open commit, and gives it up",
-        steps: &[
-            BLOB,
-            MARK,
-            HELLO,
-            CHECKPOINT,
-            COMMIT,
-            COMMITTER,
-            MESSAGE,
-            FILE,
-            SHOW_DIRECTORY,
-            WRONG,
-        ],
-        printed: b"040000 tree e31a96220fbfbe7601ecc086a36b96dc27a8867e\ta\n",
-        left: Left {
-            number: 2,
-            is_done: false,
-            stored: (2, 35),
-            given_up: (1, 6),
-        },
-    },
-];
-
-const COMMIT_REFUSALS: &[Refusal] = &[
-    Refusal {
-        refuses: "an end without done before that of a commit of which another content has the name",
-        steps: &[
-            FEATURE_DONE,
-            COMMIT,
-            COMMITTER,
-            MESSAGE,
-            OTHER_COMMIT,
-            COMMITTER,
-            MESSAGE_TURNED,
-            Step::Finish,
-        ],
-        number: 7,
-    },
-    Refusal {
-        refuses: "a commit whose name is that of another content, at its end",
-        steps: &[
-            COMMIT,
-            COMMITTER,
-            MESSAGE,
-            OTHER_COMMIT,
-            COMMITTER,
-            MESSAGE_TURNED,
-            BLANK,
-        ],
-        number: 24,
-    },
-    Refusal {
-        refuses: "what is no command before that end, for the text is judged first",
-        steps: &[
-            COMMIT,
-            COMMITTER,
-            MESSAGE,
-            OTHER_COMMIT,
-            COMMITTER,
-            MESSAGE_TURNED,
-            WRONG,
-        ],
-        number: 2,
-    },
-    Refusal {
-        refuses: "a mark that is not there behind that end, for the commit ends first",
-        steps: &[
-            COMMIT,
-            COMMITTER,
-            MESSAGE,
-            OTHER_COMMIT,
-            COMMITTER,
-            MESSAGE_TURNED,
-            Step::Take(Item::Line(b"get-mark :9")),
-        ],
-        number: 24,
-    },
-    Refusal {
-        refuses: "contents of a file whose name is that of another content",
-        steps: &[
-            BLOB,
-            Step::Take(Item::Data(b"ab")),
-            COMMIT,
-            COMMITTER,
-            MESSAGE,
-            Step::Take(Item::Line(b"M 100644 inline a")),
-            Step::Take(Item::Data(b"ba")),
-        ],
-        number: 24,
-    },
-];
-
-const REFUSALS: &[Refusal] = &[
-    Refusal {
-        refuses: "an alias to what is no expression",
-        steps: &[ALIAS, MARK, Step::Take(Item::Line(b"to m^{x}"))],
-        number: 3,
-    },
-    Refusal {
-        refuses: "a tag in the place of data",
-        steps: &[BLOB, Step::Take(Item::Line(b"tag .v"))],
-        number: 5,
-    },
-    Refusal {
-        refuses: "a tag of forty zeros, which in a tag are a name like others",
-        steps: &[TAG, FROM_ZEROS, MESSAGE],
-        number: 16,
-    },
-    Refusal {
-        refuses: "a tag of what is no expression",
-        steps: &[TAG, Step::Take(Item::Line(b"from ")), MESSAGE],
-        number: 3,
-    },
-    Refusal {
-        refuses: "a tag of digits that several names begin with",
-        steps: &[
-            BLOB,
-            HELLO,
-            BLOB,
-            OTHER,
-            TAG,
-            Step::Take(Item::Line(b"from abab")),
-            MESSAGE,
-        ],
-        number: 17,
-    },
-    Refusal {
-        refuses: "a tag of a blob peeled to a commit",
-        steps: &[
-            BLOB,
-            HELLO,
-            TAG,
-            Step::Take(Item::Line(b"from abab^{commit}")),
-            MESSAGE,
-        ],
-        number: 15,
-    },
-    Refusal {
-        refuses: "a tag whose name is that of another content",
-        steps: &[
-            BLOB,
-            MARK,
-            HELLO,
-            TAG,
-            FROM_MARK,
-            MESSAGE,
-            TAG,
-            FROM_MARK,
-            MESSAGE_TURNED,
-        ],
-        number: 24,
-    },
-    Refusal {
-        refuses: "an end in the place of data before one without done",
-        steps: &[FEATURE_DONE, BLOB, Step::Finish],
-        number: 5,
-    },
-    Refusal {
-        refuses: "a feature after a reset",
-        steps: &[RESET, FEATURE_DONE],
-        number: 9,
-    },
-    Refusal {
-        refuses: "a reset of HEAD to the branch that HEAD names",
-        steps: &[
-            HEAD_AT_M,
-            RESET_HEAD,
-            Step::Take(Item::Line(b"from refs/heads/m")),
-        ],
-        number: 19,
-    },
-    Refusal {
-        refuses: "a from outside a reset",
-        steps: &[Step::Take(Item::Line(b"from refs/heads/n"))],
-        number: 2,
-    },
-    Refusal {
-        refuses: "the blob of a mark that is not there",
-        steps: &[Step::Take(Item::Line(b"cat-blob :1"))],
-        number: 13,
-    },
-    Refusal {
-        refuses: "another content of one name",
-        steps: &[
-            BLOB,
-            Step::Take(Item::Data(b"ab")),
-            BLOB,
-            Step::Take(Item::Data(b"ba")),
-        ],
-        number: 24,
-    },
-];
-
-const REF_CASES: &[RefCase] = &[
-    RefCase {
-        leaves: "HEAD and refs where nothing is said of them",
-        steps: &[BLOB, HELLO, CHECKPOINT, DONE],
-        head: b"refs/heads/main",
-        has_ref: true,
-    },
-    RefCase {
-        leaves: "a HEAD of an option, saved at done",
-        steps: &[OTHER_HEAD, DONE],
-        head: b"refs/heads/x",
-        has_ref: true,
-    },
-    RefCase {
-        leaves: "a HEAD of an option, saved at the end",
-        steps: &[OTHER_HEAD, Step::Finish],
-        head: b"refs/heads/x",
-        has_ref: true,
-    },
-    RefCase {
-        leaves: "a HEAD of an option, saved at a checkpoint before a fault",
-        steps: &[OTHER_HEAD, CHECKPOINT, WRONG],
-        head: b"refs/heads/x",
-        has_ref: true,
-    },
-    RefCase {
-        leaves: "the HEAD before, where a fault loses that of an option",
-        steps: &[OTHER_HEAD, WRONG],
-        head: b"refs/heads/main",
-        has_ref: true,
-    },
-    RefCase {
-        leaves: "the HEAD of the last option",
-        steps: &[OTHER_HEAD, HEAD_AT_M, DONE],
-        head: b"refs/heads/m",
-        has_ref: true,
-    },
-    RefCase {
-        leaves: "the ref of a branch that is unborn",
-        steps: &[RESET, DONE],
-        head: b"refs/heads/main",
-        has_ref: true,
-    },
-    RefCase {
-        leaves: "the ref of a branch with a commit, for what it holds is none",
-        steps: &[COMMIT, COMMITTER, MESSAGE, DONE],
-        head: b"refs/heads/main",
-        has_ref: true,
-    },
-    RefCase {
-        leaves: "no ref of a branch that is deleted",
-        steps: &[RESET, FROM_ZEROS, Step::Take(Item::Blank), DONE],
-        head: b"refs/heads/main",
-        has_ref: false,
-    },
-    RefCase {
-        leaves: "the ref of a branch that was deleted and then reset",
-        steps: &[RESET, FROM_ZEROS, RESET, DONE],
-        head: b"refs/heads/main",
-        has_ref: true,
-    },
-    RefCase {
-        leaves: "the ref of a branch whose deletion a fault loses",
-        steps: &[RESET, FROM_ZEROS, WRONG],
-        head: b"refs/heads/main",
-        has_ref: true,
-    },
-    RefCase {
-        leaves: "no ref of the branch that HEAD names for the stream, which is deleted",
-        steps: &[HEAD_AT_M, RESET_HEAD, FROM_ZEROS, DONE],
-        head: b"refs/heads/m",
-        has_ref: false,
-    },
-    RefCase {
-        leaves: "no ref of the branch that the saved HEAD names, which is deleted",
-        steps: &[HEAD_AT_M, CHECKPOINT, RESET_HEAD, FROM_ZEROS, DONE],
-        head: b"refs/heads/m",
-        has_ref: false,
-    },
-];
+// Whether a stream leaves the ref `refs/tags/v`, which then holds the tag of `hello`.
+const TAG_CASES: &str = "\
+    a tag at done;\
+    blob|mark :1|=hello\n|tag v|from :1|tagger|=first\n|done;yes#\
+    a tag of the blob whose name begins so;\
+    blob|=hello\n|tag v|from ce013|tagger|=first\n|done;yes#\
+    a tag of what another tag is of;\
+    blob|mark :1|=hello\n|tag w|from :1|=first\n|checkpoint|tag v|from w^{}|tagger|=first\n|\
+    done;yes#\
+    a tag at the end;\
+    blob|mark :1|=hello\n|tag v|from :1|tagger|=first\n|.;yes#\
+    the last of two tags of one name;\
+    blob|mark :1|=hello\n|tag v|from :1|=first\n|tag v|from :1|tagger|=first\n|checkpoint|\
+    no command;yes#\
+    a tag whose branch was deleted after it, for branches are saved before tags;\
+    blob|mark :1|=hello\n|tag v|from :1|tagger|=first\n|reset refs/tags/v|from zeros|done;yes#\
+    no tag where its branch is deleted and the tag was saved before;\
+    blob|mark :1|=hello\n|tag v|from :1|tagger|=first\n|checkpoint|reset refs/tags/v|\
+    from zeros|done;no#\
+    no tag where its branch is deleted after the tag was saved, by force or not;\
+    feature force|blob|mark :1|=hello\n|tag v|from :1|tagger|=first\n|checkpoint|\
+    reset refs/tags/v|from zeros|.;no#\
+    a tag that was saved, where its branch is unborn;\
+    blob|mark :1|=hello\n|tag v|from :1|tagger|=first\n|checkpoint|reset refs/tags/v|done;yes#\
+    no tag that a fault loses;\
+    blob|mark :1|=hello\n|tag v|from :1|tagger|=first\n|no command;no";
 
 const TAG_OF_HELLO: &[u8; 40] = b"952cdcc8475363092ec0361133bb58070500a563";
 
-const TAG_CASES: &[TagCase] = &[
-    TagCase {
-        leaves: "a tag at done",
-        steps: &[BLOB, MARK, HELLO, TAG, FROM_MARK, TAGGER, MESSAGE, DONE],
-        holds: Some(TAG_OF_HELLO),
-    },
-    TagCase {
-        leaves: "a tag of the blob whose name begins so",
-        steps: &[
-            BLOB,
-            HELLO,
-            TAG,
-            Step::Take(Item::Line(b"from ce013")),
-            TAGGER,
-            MESSAGE,
-            DONE,
-        ],
-        holds: Some(TAG_OF_HELLO),
-    },
-    TagCase {
-        leaves: "a tag of what another tag is of",
-        steps: &[
-            BLOB,
-            MARK,
-            HELLO,
-            OTHER_TAG,
-            FROM_MARK,
-            MESSAGE,
-            CHECKPOINT,
-            TAG,
-            Step::Take(Item::Line(b"from w^{}")),
-            TAGGER,
-            MESSAGE,
-            DONE,
-        ],
-        holds: Some(TAG_OF_HELLO),
-    },
-    TagCase {
-        leaves: "a tag at the end",
-        steps: &[
-            BLOB,
-            MARK,
-            HELLO,
-            TAG,
-            FROM_MARK,
-            TAGGER,
-            MESSAGE,
-            Step::Finish,
-        ],
-        holds: Some(TAG_OF_HELLO),
-    },
-    TagCase {
-        leaves: "the last of two tags of one name",
-        steps: &[
-            BLOB, MARK, HELLO, TAG, FROM_MARK, MESSAGE, TAG, FROM_MARK, TAGGER, MESSAGE,
-            CHECKPOINT, WRONG,
-        ],
-        holds: Some(TAG_OF_HELLO),
-    },
-    TagCase {
-        leaves: "a tag whose branch was deleted after it, for branches are saved before tags",
-        steps: &[
-            BLOB,
-            MARK,
-            HELLO,
-            TAG,
-            FROM_MARK,
-            TAGGER,
-            MESSAGE,
-            Step::Take(Item::Line(b"reset refs/tags/v")),
-            FROM_ZEROS,
-            DONE,
-        ],
-        holds: Some(TAG_OF_HELLO),
-    },
-    TagCase {
-        leaves: "no tag where its branch is deleted and the tag was saved before",
-        steps: &[
-            BLOB,
-            MARK,
-            HELLO,
-            TAG,
-            FROM_MARK,
-            TAGGER,
-            MESSAGE,
-            CHECKPOINT,
-            Step::Take(Item::Line(b"reset refs/tags/v")),
-            FROM_ZEROS,
-            DONE,
-        ],
-        holds: None,
-    },
-    TagCase {
-        leaves: "no tag where its branch is deleted after the tag was saved, by force or not",
-        steps: &[
-            Step::Take(Item::Line(b"feature force")),
-            BLOB,
-            MARK,
-            HELLO,
-            TAG,
-            FROM_MARK,
-            TAGGER,
-            MESSAGE,
-            CHECKPOINT,
-            Step::Take(Item::Line(b"reset refs/tags/v")),
-            FROM_ZEROS,
-            Step::Finish,
-        ],
-        holds: None,
-    },
-    TagCase {
-        leaves: "a tag that was saved, where its branch is unborn",
-        steps: &[
-            BLOB,
-            MARK,
-            HELLO,
-            TAG,
-            FROM_MARK,
-            TAGGER,
-            MESSAGE,
-            CHECKPOINT,
-            Step::Take(Item::Line(b"reset refs/tags/v")),
-            DONE,
-        ],
-        holds: Some(TAG_OF_HELLO),
-    },
-    TagCase {
-        leaves: "no tag that a fault loses",
-        steps: &[BLOB, MARK, HELLO, TAG, FROM_MARK, TAGGER, MESSAGE, WRONG],
-        holds: None,
-    },
-];
-
 const FULL: usize = 65_536;
 
-const RESET_FIRST: Step<'static> = Step::Take(Item::Line(b"reset refs/heads/aaaa"));
+// What a stream, for which nothing is printed, leaves of as many refs as there may be,
+// `refs/tags/v` not among them, after the cases before it: the number of its last answer, how many
+// refs there are then, and whether that one and the first branch are.
+const FULL_CASES: &str = "\
+    all refs at a checkpoint with one branch too many;\
+    commit refs/heads/m|committer|=first\n|checkpoint;25;65536;no;yes#\
+    all refs at a checkpoint with one branch too many, and tells none that is kept;\
+    commit refs/heads/aaaa|committer|=first\n|commit refs/heads/n|committer|=first\n|\
+    checkpoint;25;65536;no;yes#\
+    all refs at a checkpoint with one tag too many;\
+    blob|mark :1|=hello\n|tag v|from :1|=first\n|checkpoint;25;65536;no;yes#\
+    all refs at an end with one tag too many, which deletes none either;\
+    blob|mark :1|=hello\n|tag v|from :1|=first\n|tag w|from :1|=first\n|reset refs/heads/aaaa|\
+    from zeros|.;25;65536;no;yes#\
+    a tag where a deleted branch makes room for it;\
+    blob|mark :1|=hello\n|tag v|from :1|=first\n|reset refs/heads/aaaa|from zeros|\
+    done;0;65536;yes;no#\
+    one ref less where another branch is deleted;\
+    reset refs/heads/aaab|from zeros|done;0;65535;yes;no";
 
-const FULL_CASES: &[FullCase] = &[
-    FullCase {
-        leaves: "all refs at a checkpoint with one branch too many",
-        steps: &[COMMIT, COMMITTER, MESSAGE, CHECKPOINT],
-        number: 25,
-        count: FULL,
-        has_tag: false,
-        has_first: true,
-    },
-    FullCase {
-        leaves: "all refs at a checkpoint with one branch too many, and tells none that is kept",
-        steps: &[
-            Step::Take(Item::Line(b"commit refs/heads/aaaa")),
-            COMMITTER,
-            MESSAGE,
-            OTHER_COMMIT,
-            COMMITTER,
-            MESSAGE,
-            CHECKPOINT,
-        ],
-        number: 25,
-        count: FULL,
-        has_tag: false,
-        has_first: true,
-    },
-    FullCase {
-        leaves: "all refs at a checkpoint with one tag too many",
-        steps: &[BLOB, MARK, HELLO, TAG, FROM_MARK, MESSAGE, CHECKPOINT],
-        number: 25,
-        count: FULL,
-        has_tag: false,
-        has_first: true,
-    },
-    FullCase {
-        leaves: "all refs at an end with one tag too many, which deletes none either",
-        steps: &[
-            BLOB,
-            MARK,
-            HELLO,
-            TAG,
-            FROM_MARK,
-            MESSAGE,
-            OTHER_TAG,
-            FROM_MARK,
-            MESSAGE,
-            RESET_FIRST,
-            FROM_ZEROS,
-            Step::Finish,
-        ],
-        number: 25,
-        count: FULL,
-        has_tag: false,
-        has_first: true,
-    },
-    FullCase {
-        leaves: "a tag where a deleted branch makes room for it",
-        steps: &[
-            BLOB,
-            MARK,
-            HELLO,
-            TAG,
-            FROM_MARK,
-            MESSAGE,
-            RESET_FIRST,
-            FROM_ZEROS,
-            DONE,
-        ],
-        number: 0,
-        count: FULL,
-        has_tag: true,
-        has_first: false,
-    },
-    FullCase {
-        leaves: "one ref less where another branch is deleted",
-        steps: &[
-            Step::Take(Item::Line(b"reset refs/heads/aaab")),
-            FROM_ZEROS,
-            DONE,
-        ],
-        number: 0,
-        count: FULL - 1,
-        has_tag: true,
-        has_first: false,
-    },
-];
+// A field of a case, counted from 0; nothing where it has fewer.
+fn field(case: &str, position: usize) -> &str {
+    match case.split(';').nth(position) {
+        Some(field) => field,
+        None => "",
+    }
+}
+
+// The number that digits write.
+fn number_of(digits: &str) -> u64 {
+    let mut number = 0u64;
+    for digit in digits.as_bytes() {
+        let units = u64::from(digit.wrapping_sub(b'0'));
+        number = number.wrapping_mul(10).wrapping_add(units);
+    }
+    number
+}
+
+fn is_number(case: &str, position: usize, number: u64) -> bool {
+    number_of(field(case, position)) == number
+}
+
+fn is_said(case: &str, position: usize, fact: bool) -> bool {
+    (field(case, position) == "yes") == fact
+}
+
+// A line, three of which are written short.
+fn line_of(text: &[u8]) -> &[u8] {
+    if text == b"committer".as_slice() {
+        COMMITTER
+    } else if text == b"tagger".as_slice() {
+        TAGGER
+    } else if text == b"from zeros".as_slice() {
+        FROM_ZEROS
+    } else {
+        text
+    }
+}
+
+// One that begins with `=` is data, and nothing is an empty line; a full stop is the end of the
+// stream.
+fn step_of(text: &[u8]) -> Step<'_> {
+    match text {
+        [] => Step::Take(Item::Blank),
+        [b'.'] => Step::Finish,
+        [b'=', data @ ..] => Step::Take(Item::Data(data)),
+        _ => Step::Take(Item::Line(line_of(text))),
+    }
+}
 
 // One step of the only stream over this pool. Answers whether it was not the last.
 fn walk<N: Naming>(
@@ -813,53 +279,92 @@ fn walk<N: Naming>(
     }
 }
 
-// Takes the steps in turn, up to the first refusal or the end, and then gives the stream up.
-fn run<N: Naming>(
-    alloc: Global,
-    naming: N,
+// Takes the steps in turn, up to the first refusal or the end. Answers the number of the refusal, 0
+// where there is none.
+fn take_all<N: Naming>(
+    session: &mut Session,
+    pool: &mut Pool<N>,
+    table: &mut Table,
     refs: &mut Refs,
-    steps: &[Step<'_>],
+    steps: &str,
     out: &mut Vec<u8>,
-) -> Left {
-    let mut pool = Pool::new(alloc, naming);
-    let mut table = Table::new(alloc);
-    let mut session = Session::new(alloc);
-    let mut number = 0;
-    for step in steps {
-        match walk(&mut session, &mut pool, &mut table, refs, *step, out) {
+) -> u16
+    requires stands { StandsIn N.digest_of pool.old table.old.entries }
+    requires alone { (s : ℕ) → holds pool.old s ≡ held table.old.entries s }
+    requires files { FilesStand session.old.own pool.old table.old }
+    ensures stands { StandsIn N.digest_of pool.new table.new.entries }
+{
+    for text in steps.split('|') {
+        match walk(session, pool, table, refs, step_of(text.as_bytes()), out) {
             Ok(true) => {}
             Ok(false) => break,
-            Err(fault) => {
-                number = fault.code();
-                break;
-            }
+            Err(fault) => return fault.code(),
         }
     }
+    0
+}
+
+// Takes the steps of a new stream over these, the only one, and then gives the stream up.
+fn run_in<N: Naming>(
+    alloc: Global,
+    pool: &mut Pool<N>,
+    table: &mut Table,
+    refs: &mut Refs,
+    steps: &str,
+    out: &mut Vec<u8>,
+) -> Left
+    requires stands { StandsIn N.digest_of pool.old table.old.entries }
+    requires alone { (s : ℕ) → holds pool.old s ≡ held table.old.entries s }
+{
+    let mut session = Session::new(alloc);
+    let number = take_all(&mut session, pool, table, refs, steps, out);
     let is_done = session.is_done();
     let stored = pool.stored();
-    session.abandon(&mut pool, &mut table, refs);
-    let given_up = pool.stored();
+    session.abandon(pool, table, refs);
     Left {
         number,
         is_done,
         stored,
-        given_up,
+        given_up: pool.stored(),
     }
 }
 
-fn does_so(alloc: Global, case: &Case) -> bool {
+// The same over an empty pool.
+fn run<N: Naming>(
+    alloc: Global,
+    naming: N,
+    refs: &mut Refs,
+    steps: &str,
+    out: &mut Vec<u8>,
+) -> Left {
+    let mut pool = Pool::new(alloc, naming);
+    let mut table = Table::new(alloc);
+    run_in(alloc, &mut pool, &mut table, refs, steps, out)
+}
+
+// Whether a case says so in its last six fields.
+fn ends_so(case: &str, left: &Left) -> bool {
+    is_number(case, 3, u64::from(left.number))
+        && is_said(case, 4, left.is_done)
+        && is_number(case, 5, left.stored.0)
+        && is_number(case, 6, left.stored.1)
+        && is_number(case, 7, left.given_up.0)
+        && is_number(case, 8, left.given_up.1)
+}
+
+fn does_so(alloc: Global, case: &str) -> bool {
     let mut out = Vec::new(alloc);
     let mut refs = Refs::new(alloc);
-    let left = run(alloc, Sha1Naming, &mut refs, case.steps, &mut out);
-    left == case.left && out.as_slice() == case.printed
+    let left = run(alloc, Sha1Naming, &mut refs, field(case, 1), &mut out);
+    ends_so(case, &left) && out.as_slice() == field(case, 2).as_bytes()
 }
 
 // Whether the last answer has the number, and nothing is printed or kept.
-fn is_refused(alloc: Global, refusal: &Refusal) -> bool {
+fn is_refused(alloc: Global, case: &str) -> bool {
     let mut out = Vec::new(alloc);
     let mut refs = Refs::new(alloc);
-    let left = run(alloc, TailNaming, &mut refs, refusal.steps, &mut out);
-    left.number == refusal.number && left.given_up == (0, 0) && out.is_empty()
+    let left = run(alloc, TailNaming, &mut refs, field(case, 1), &mut out);
+    is_number(case, 2, u64::from(left.number)) && left.given_up == (0, 0) && out.is_empty()
 }
 
 // Refs with the ref `refs/heads/m`, where memory is left.
@@ -871,11 +376,12 @@ fn refs_with_m(alloc: Global) -> Refs {
     refs
 }
 
-fn leaves_so(alloc: Global, case: &RefCase) -> bool {
+fn leaves_so(alloc: Global, case: &str) -> bool {
     let mut out = Vec::new(alloc);
     let mut refs = refs_with_m(alloc);
-    run(alloc, Sha1Naming, &mut refs, case.steps, &mut out);
-    refs.head() == case.head && refs.get(b"refs/heads/m").is_some() == case.has_ref
+    run(alloc, Sha1Naming, &mut refs, field(case, 1), &mut out);
+    refs.head() == field(case, 2).as_bytes()
+        && is_said(case, 3, refs.get(b"refs/heads/m").is_some())
 }
 
 // One of sixteen letters.
@@ -909,50 +415,50 @@ fn full_refs(alloc: Global) -> Refs {
     refs
 }
 
-fn leaves_full(alloc: Global, refs: &mut Refs, case: &FullCase) -> bool {
+fn leaves_full(alloc: Global, refs: &mut Refs, case: &str) -> bool {
     let mut out = Vec::new(alloc);
-    let left = run(alloc, Sha1Naming, refs, case.steps, &mut out);
-    left.number == case.number
-        && out.is_empty()
-        && refs.len() == case.count
-        && refs.get(b"refs/tags/v").is_some() == case.has_tag
-        && refs.get(b"refs/heads/aaaa").is_some() == case.has_first
+    let left = run(alloc, Sha1Naming, refs, field(case, 1), &mut out);
+    is_number(case, 2, u64::from(left.number)) && out.is_empty() && has_so(refs, case)
 }
 
-fn leaves_tag(alloc: Global, case: &TagCase) -> bool {
+fn has_so(refs: &Refs, case: &str) -> bool {
+    is_number(case, 3, refs.len() as u64)
+        && is_said(case, 4, refs.get(b"refs/tags/v").is_some())
+        && is_said(case, 5, refs.get(b"refs/heads/aaaa").is_some())
+}
+
+fn leaves_tag(alloc: Global, case: &str) -> bool {
     let mut out = Vec::new(alloc);
     let mut refs = Refs::new(alloc);
-    run(alloc, Sha1Naming, &mut refs, case.steps, &mut out);
-    let held = refs.get(b"refs/tags/v").map(|id| id.to_hex());
-    match (held, case.holds) {
-        (Some(held), Some(holds)) => held == *holds,
-        (None, None) => true,
-        _ => false,
+    run(alloc, Sha1Naming, &mut refs, field(case, 1), &mut out);
+    match refs.get(b"refs/tags/v") {
+        Some(id) => is_said(case, 2, true) && id.to_hex() == *TAG_OF_HELLO,
+        None => is_said(case, 2, false),
     }
 }
 
 fn first_wrong_case(alloc: Global) -> Option<&'static str> {
-    for case in CASES {
+    for case in CASES.split('#') {
         if !does_so(alloc, case) {
-            return Some(case.does);
+            return Some(field(case, 0));
         }
     }
     None
 }
 
-fn first_wrong_refusal(alloc: Global, refusals: &[Refusal]) -> Option<&'static str> {
-    for refusal in refusals {
-        if !is_refused(alloc, refusal) {
-            return Some(refusal.refuses);
+fn first_wrong_refusal(alloc: Global, refusals: &'static str) -> Option<&'static str> {
+    for case in refusals.split('#') {
+        if !is_refused(alloc, case) {
+            return Some(field(case, 0));
         }
     }
     None
 }
 
 fn first_wrong_refs(alloc: Global) -> Option<&'static str> {
-    for case in REF_CASES {
+    for case in REF_CASES.split('#') {
         if !leaves_so(alloc, case) {
-            return Some(case.leaves);
+            return Some(field(case, 0));
         }
     }
     None
@@ -960,18 +466,18 @@ fn first_wrong_refs(alloc: Global) -> Option<&'static str> {
 
 fn first_wrong_full(alloc: Global) -> Option<&'static str> {
     let mut refs = full_refs(alloc);
-    for case in FULL_CASES {
+    for case in FULL_CASES.split('#') {
         if !leaves_full(alloc, &mut refs, case) {
-            return Some(case.leaves);
+            return Some(field(case, 0));
         }
     }
     None
 }
 
 fn first_wrong_tag(alloc: Global) -> Option<&'static str> {
-    for case in TAG_CASES {
+    for case in TAG_CASES.split('#') {
         if !leaves_tag(alloc, case) {
-            return Some(case.leaves);
+            return Some(field(case, 0));
         }
     }
     None
