@@ -1,4 +1,5 @@
 mod FilledRows
 mod FilledWalk
 mod NamedLines
+mod UsageSteps
 mod WrittenLines

@@ -1,5 +1,5 @@
 -- The subcommands of `gitpool` and what each takes: gitcli(7), as `clap` is told it.
-use Rattle.std.specs.Prelude.{◌≡◌, List, [], ◌∷◌, Some, codes, true, false}
+use Rattle.std.specs.Prelude.{◌≡◌, List, [], ◌∷◌, ◌++◌, Some, codes, true, false}
 use Rattle.clap.specs.Words.{App, Rule, Shape, Text, app_of, new_rule}
 use Rattle.clap.specs.Simple.{new_shape}
 use Rattle.clap.specs.declared.builder.command.Command.{Command}
@@ -54,3 +54,17 @@ gitpool = record {
 abbrev pub Reads : Command → Shape → Type 0
 Reads command shape = (app_of command ≡ record { top = shape; subs = [] })
     × ((out-Command command).has_globals ≡ false)
+
+-- What a command takes that takes one argument more.
+abbrev pub taking : Shape → Rule → Shape
+taking shape rule = record shape { rules = shape.rules ++ rule ∷ [] }
+
+-- The program without subcommands.
+abbrev pub alone : App
+alone = record {
+  top = record (new_shape (codes "gitpool")) {
+    no_binary_name = true;
+    subcommand_required = true;
+  };
+  subs = [];
+}

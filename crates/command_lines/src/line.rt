@@ -4,7 +4,7 @@
 ghost use Rattle.std.specs.Prelude.{◌≡◌, IfErr, IfOk, MatchResult, Some, map};
 ghost use Rattle.std.specs.Prelude.{option_and_then, option_map, true};
 ghost use Rattle.clap.specs.Words.{FailsBy, fault_of, first_of, found_of, kind_of, rows_of};
-ghost use Rattle.clap.specs.Words.{subcommand_rows_of, takes};
+ghost use Rattle.clap.specs.Words.{subcommand_of, subcommand_rows_of, takes};
 ghost use Rattle.clap.specs.declared.error.kind.ErrorKind.TheVariants.{OutOfMemory};
 ghost use Rattle.command_lines.specs.Lines.{Said, ask_in, copy_in, import_in, said, said_by};
 ghost use Rattle.command_lines.specs.Lines.{said_in, words_of};
@@ -18,7 +18,7 @@ use std::convert::AsStr;
 /// What the words after the program's name ask for.
 ///
 /// The texts are those of the words. `pool` is the path of the pool file.
-#[derive(Clone, Copy, Debug, PartialEq, Eq)]
+#[derive(Clone, Copy, PartialEq, Eq)]
 pub enum Line<'a> {
     /// `serve --pool FILE`: answer frames of steps.
     Serve {
@@ -54,6 +54,17 @@ fn value<'a>(given: &ArgMatches<'a>, id: &str) -> Option<&'a str>
     given.get_str(id)
 }
 
+// What `clap` finds in the words.
+fn matched<'a, S: AsStr>(alloc: Global, words: &'a [S]) -> Result<ArgMatches<'a>, Error>
+    ensures found { IfOk result (λ m.
+        subcommand_rows_of m ≡ subcommand_of gitpool (map S.text words.entry.now)) }
+    ensures passes { IfErr result (λ e. takes gitpool (map S.text words.entry.now) ≡ true
+        → kind_of e ≡ OutOfMemory) }
+    ensures exact { FailsBy (fault_of gitpool (map S.text words.entry.now)) result }
+{
+    gitpool(alloc)?.try_get_matches_from(words)
+}
+
 impl<'a> Line<'a> {
     /// Reads the words after the program's name, by the rules of gitcli(7).
     ///
@@ -72,7 +83,7 @@ impl<'a> Line<'a> {
             → MatchResult result (λ read. said read ≡ line) (λ e. kind_of e ≡ OutOfMemory) }
         ensures exact { FailsBy (fault_of gitpool (map S.text words.entry.now)) result }
     {
-        let matches = gitpool(alloc)?.try_get_matches_from(words)?;
+        let matches = matched(alloc, words)?;
         Ok(Line::of_matches(&matches).unwrap())
     }
 

@@ -1,11 +1,14 @@
 //! The subcommands of `gitpool` as `clap` is told them, with their texts of usage and help.
 //!
 //! What each takes is `specs/Usage.antt`. The texts are for the user; no clause reads them.
+//!
+//! What adds to a command takes the `Result` of what made it, and alone has a way out: who puts a
+//! command together passes each on as it is.
 ghost use Rattle.std.specs.Prelude.{◌≡◌, IfOk, codes, false, []};
-ghost use Rattle.clap.specs.Words.{app_of, rule_of};
-ghost use Rattle.command_lines.specs.Usage.{Reads, argument, ask_usage, check_usage, copy_usage};
-ghost use Rattle.command_lines.specs.Usage.{gitpool, import_usage, pool_option, serve_usage};
-ghost use Rattle.command_lines.specs.Usage.{subcommand};
+ghost use Rattle.clap.specs.Words.{App, Shape, app_of, rule_of, with_subcommand};
+ghost use Rattle.command_lines.specs.Usage.{Reads, alone, argument, ask_usage, check_usage};
+ghost use Rattle.command_lines.specs.Usage.{copy_usage, gitpool, import_usage, pool_option};
+ghost use Rattle.command_lines.specs.Usage.{serve_usage, subcommand, taking};
 
 use clap::{Arg, Command};
 use std::alloc::{AllocError, Global};
@@ -18,13 +21,6 @@ fn argument<'a>(alloc: Global, id: &'a str, shown: &'a str, help: &'a str) -> Ar
         .value_name(shown)
         .required(true)
         .help(help)
-}
-
-fn tenant<'a>(alloc: Global) -> Arg<'a>
-    ensures rule { rule_of result ≡ argument (codes "tenant") }
-    ensures local { result.global ≡ false }
-{
-    argument(alloc, "tenant", "TENANT", "The tenant's name")
 }
 
 fn pool<'a>(alloc: Global) -> Arg<'a>
@@ -40,63 +36,118 @@ fn subcommand<'a>(alloc: Global, name: &'a str, about: &'a str) -> Command<'a>
     Command::new(alloc, name).about(about)
 }
 
+// The subcommand with one more word that it takes.
+fn with_word<'a>(
+    alloc: Global,
+    command: Result<Command<'a>, AllocError>,
+    id: &'a str,
+    shown: &'a str,
+    help: &'a str,
+) -> Result<Command<'a>, AllocError>
+    ensures { (shape : Shape) → IfOk command.entry (λ c. Reads c shape)
+        → IfOk result (λ c. Reads c (taking shape (argument id.entry.now))) }
+{
+    command?.arg(argument(alloc, id, shown, help))
+}
+
+fn with_tenant<'a>(
+    alloc: Global,
+    command: Result<Command<'a>, AllocError>,
+) -> Result<Command<'a>, AllocError>
+    ensures { (shape : Shape) → IfOk command.entry (λ c. Reads c shape)
+        → IfOk result (λ c. Reads c (taking shape (argument (codes "tenant")))) }
+{
+    with_word(alloc, command, "tenant", "TENANT", "The tenant's name")
+}
+
+// The subcommand with the option that each of them has last.
+fn with_pool<'a>(
+    alloc: Global,
+    command: Result<Command<'a>, AllocError>,
+) -> Result<Command<'a>, AllocError>
+    ensures { (shape : Shape) → IfOk command.entry (λ c. Reads c shape)
+        → IfOk result (λ c. Reads c (taking shape pool_option)) }
+{
+    command?.arg(pool(alloc))
+}
+
 fn serve<'a>(alloc: Global) -> Result<Command<'a>, AllocError>
     ensures { IfOk result (λ c. Reads c serve_usage) }
 {
     let about = "Answer frames of steps from standard input on standard output";
-    subcommand(alloc, "serve", about).arg(pool(alloc))
+    with_pool(alloc, Ok(subcommand(alloc, "serve", about)))
 }
 
 fn import<'a>(alloc: Global) -> Result<Command<'a>, AllocError>
     ensures { IfOk result (λ c. Reads c import_usage) }
 {
     let about = "Import a stream of git-fast-import(1) from standard input";
-    subcommand(alloc, "import", about)
-        .arg(tenant(alloc))?
-        .arg(pool(alloc))
+    let command = with_tenant(alloc, Ok(subcommand(alloc, "import", about)));
+    with_pool(alloc, command)
 }
 
 fn ask<'a>(alloc: Global) -> Result<Command<'a>, AllocError>
     ensures { IfOk result (λ c. Reads c ask_usage) }
 {
-    subcommand(alloc, "ask", "Print the answer to a query")
-        .arg(tenant(alloc))?
-        .arg(argument(alloc, "query", "QUERY", "The query, as one word"))?
-        .arg(pool(alloc))
+    let command = Ok(subcommand(alloc, "ask", "Print the answer to a query"));
+    let command = with_tenant(alloc, command);
+    let command = with_word(alloc, command, "query", "QUERY", "The query, as one word");
+    with_pool(alloc, command)
 }
 
 fn check<'a>(alloc: Global) -> Result<Command<'a>, AllocError>
     ensures { IfOk result (λ c. Reads c check_usage) }
 {
     let about = "Check the pool file and count what it has";
-    subcommand(alloc, "check", about).arg(pool(alloc))
+    with_pool(alloc, Ok(subcommand(alloc, "check", about)))
 }
 
 fn copy<'a>(alloc: Global) -> Result<Command<'a>, AllocError>
     ensures { IfOk result (λ c. Reads c copy_usage) }
 {
-    subcommand(
+    let about = "Copy a tenant's repository to an empty tenant";
+    let command = Ok(subcommand(alloc, "copy", about));
+    let command = with_word(alloc, command, "from", "FROM", "The tenant that is copied");
+    let command = with_word(
         alloc,
-        "copy",
-        "Copy a tenant's repository to an empty tenant",
-    )
-    .arg(argument(alloc, "from", "FROM", "The tenant that is copied"))?
-    .arg(argument(alloc, "to", "TO", "The tenant that the copy is for"))?
-    .arg(pool(alloc))
+        command,
+        "to",
+        "TO",
+        "The tenant that the copy is for",
+    );
+    with_pool(alloc, command)
+}
+
+// The program as it is without subcommands.
+fn program<'a>(alloc: Global) -> Result<Command<'a>, AllocError>
+    ensures { IfOk result (λ c. app_of c ≡ alone) }
+{
+    Command::new(alloc, "gitpool")
+        .about("Git repositories of many tenants over one pool of objects")
+        .no_binary_name(true)
+        .subcommand_required(true)
+        .bin_name("gitpool")
+}
+
+// The program with one more subcommand.
+fn with<'a>(
+    program: Result<Command<'a>, AllocError>,
+    subcommand: Result<Command<'a>, AllocError>,
+) -> Result<Command<'a>, AllocError>
+    ensures { (app : App) → (usage : Shape) → IfOk program.entry (λ c. app_of c ≡ app)
+        → IfOk subcommand.entry (λ s. Reads s usage)
+        → IfOk result (λ c. app_of c ≡ with_subcommand app usage) }
+{
+    program?.subcommand(subcommand?)
 }
 
 /// The program with its subcommands. Takes memory.
 pub(crate) fn gitpool<'a>(alloc: Global) -> Result<Command<'a>, AllocError>
     ensures { IfOk result (λ c. app_of c ≡ gitpool) }
 {
-    Command::new(alloc, "gitpool")
-        .about("Git repositories of many tenants over one pool of objects")
-        .bin_name("gitpool")?
-        .no_binary_name(true)
-        .subcommand_required(true)
-        .subcommand(serve(alloc)?)?
-        .subcommand(import(alloc)?)?
-        .subcommand(ask(alloc)?)?
-        .subcommand(check(alloc)?)?
-        .subcommand(copy(alloc)?)
+    let program = with(program(alloc), serve(alloc));
+    let program = with(program, import(alloc));
+    let program = with(program, ask(alloc));
+    let program = with(program, check(alloc));
+    with(program, copy(alloc))
 }

@@ -1,5 +1,5 @@
 use Rattle.std.proofs.Common.{◌≡◌, ◌∙◌, rules, ap, refl, sym, map, List, Option, Some, None, Result, Ok, Err, IsErrAnd, MatchResult, unwrap_or, is_some, option_map, option_and_then, true}
-use Rattle.clap.specs.Words.{Text, app_of, fault_of, is_simple, is_simple_and_free, kind_of, subcommand_of, takes}
+use Rattle.clap.specs.Words.{Text, kind_of, takes}
 use Rattle.clap.proofs.TakesLemmas.{passed_up}
 use Rattle.command_lines.specs.Lines.{said, said_by, said_in}
 use Rattle.command_lines.specs.Usage.{gitpool}
@@ -11,34 +11,22 @@ use Rattle.command_lines.proofs.WrittenLines.{written_said, written_taken}
 use Rattle.command_lines.proofs.line.Line.read.Goals as goal
 
 pub returns-in_err-matches-clause-only : goal.returns-in_err-matches-clause-only
-returns-in_err-matches-clause-only g c =
-    let words : List Text = map g.S.AsStr.text c.args.words.now in
-    passed_up c.from_residual-in_err-matches.result _ _ c.from_residual-in_err-matches.ensures.1
-    (λ t. c.in_err-matches.ensures.passes (ap (λ a. takes a words) c.in_ok-gitpool.ensures ∙ t))
+returns-in_err-matches-clause-only g c = passed_up c.from_residual.result _ _ c.from_residual.ensures.1 c.in_err-matches.ensures.passes
 
 pub unwrap-requires : goal.unwrap-requires
 unwrap-requires g c =
     let words : List Text = map g.S.AsStr.text c.args.words.now in
-    let is : is_simple_and_free (app_of c.in_ok-gitpool.field-0) ≡ true = ap is_simple_and_free c.in_ok-gitpool.ensures in
-    let none = ap (λ a. fault_of a words) (sym c.in_ok-gitpool.ensures) ∙ c.in_ok-matches.ensures.kinds is in
-    let matches = (c.in_ok-matches.ensures.matches (ap is_simple c.in_ok-gitpool.ensures)).1 ∙ ap (λ a. subcommand_of a words) c.in_ok-gitpool.ensures in
-    some_line c.of_matches.result (ap is_some (c.of_matches.ensures ∙ ap (option_and_then said_by) matches) ∙ always_said words none)
+    let is = c.of_matches.ensures ∙ ap (option_and_then said_by) c.in_ok-matches.ensures.found in
+    some_line c.of_matches.result (ap is_some is ∙ always_said words c.in_ok-matches.ensures.exact)
   where
     some_line : (o : Option Line) → is_some (option_map said o) ≡ true → is_some o ≡ true
     some_line None e = e
     some_line (Some l) e = refl
 
-pub returns-clause-exact : goal.returns-clause-exact
-returns-clause-exact g c =
-    let words : List Text = map g.S.AsStr.text c.args.words.now in
-    let is : is_simple_and_free (app_of c.in_ok-gitpool.field-0) ≡ true = ap is_simple_and_free c.in_ok-gitpool.ensures in
-    ap (λ a. fault_of a words) (sym c.in_ok-gitpool.ensures) ∙ c.in_ok-matches.ensures.kinds is
-
 pub returns-in_err-matches-clause-written : goal.returns-in_err-matches-clause-written
 returns-in_err-matches-clause-written g c =
-    let words : List Text = map g.S.AsStr.text c.args.words.now in
-    λ line e. failed c.from_residual-in_err-matches.result _ (λ read. said read ≡ line) c.from_residual-in_err-matches.ensures.1
-    (c.in_err-matches.ensures.passes (ap (λ a. takes a words) c.in_ok-gitpool.ensures ∙ ap (takes gitpool) e ∙ written_taken line))
+    λ line e. failed c.from_residual.result _ (λ read. said read ≡ line) c.from_residual.ensures.1
+    (c.in_err-matches.ensures.passes (ap (takes gitpool) e ∙ written_taken line))
   where
     failed : (r : Result Line Error) (err : Error) (P : Line → Type 0) → IsErrAnd r (λ y. y ≡ err) → kind_of err ≡ OutOfMemory
         → MatchResult r P (λ e. kind_of e ≡ OutOfMemory)
