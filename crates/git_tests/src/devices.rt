@@ -56,29 +56,46 @@ fn is_written_until_it_fails(alloc: Global) -> bool {
     is_counted && taken.as_slice() == b"he".as_slice()
 }
 
+fn is_counted_in_reads() -> bool {
+    let mut reader = Counted::new(FailingReader::new(&b"hello"[..], 2));
+    gives(&mut reader, &[Some(3), Some(2), None, None]) && counts_of(&reader) == (4, 2, 5)
+}
+
+fn is_counted_in_writes() -> bool {
+    let mut room = [0; 2];
+    let mut writer = Counted::new(&mut room[..]);
+    takes(&mut writer, TO_TWO_BYTES) && counts_of(&writer) == (3, 1, 2)
+}
+
+// Whether a room of three bytes is filled from five, and then no more.
+fn is_filled_once(reader: &mut Counted<&[u8]>, room: &mut [u8; 3]) -> bool {
+    let is_filled = fill(reader, room) == Ok(()) && &*room == b"hel";
+    is_filled && fill(reader, room) == Err(FillFault::Ended) && &*room == b"lol"
+}
+
+fn fills_a_room() -> bool {
+    let mut reader = Counted::new(&b"hello"[..]);
+    let mut room = [0; 3];
+    is_filled_once(&mut reader, &mut room) && counts_of(&reader) == (3, 0, 5)
+}
+
+fn fails_as_its_device() -> bool {
+    let mut reader = Counted::new(FailingReader::new(&b"hello"[..], 0));
+    let mut room = [0; 3];
+    fill(&mut reader, &mut room) == Err(FillFault::Failed)
+}
+
 #[test]
 fn counts_reads_and_those_that_fail_and_their_bytes(rt: HostRuntime) {
-    let mut reader = Counted::new(FailingReader::new(&b"hello"[..], 2));
-    assert!(rt; gives(&mut reader, &[Some(3), Some(2), None, None]));
-    assert!(rt; counts_of(&reader) == (4, 2, 5));
+    assert!(rt; is_counted_in_reads());
 }
 
 #[test]
 fn counts_writes_and_those_that_fail_or_take_nothing_and_their_bytes(rt: HostRuntime) {
-    assert!(rt; is_written_until_it_fails(rt.alloc()));
-    let mut room = [0; 2];
-    let mut writer = Counted::new(&mut room[..]);
-    assert!(rt; takes(&mut writer, TO_TWO_BYTES));
-    assert!(rt; counts_of(&writer) == (3, 1, 2));
+    assert!(rt; is_written_until_it_fails(rt.alloc()) && is_counted_in_writes());
 }
 
 #[test]
 fn fills_a_room_from_reads_of_any_size(rt: HostRuntime) {
-    let mut reader = Counted::new(&b"hello"[..]);
-    let mut room = [0; 3];
-    assert!(rt; fill(&mut reader, &mut room) == Ok(()) && &room == b"hel");
-    assert!(rt; fill(&mut reader, &mut room) == Err(FillFault::Ended) && &room == b"lol");
-    assert!(rt; counts_of(&reader) == (3, 0, 5));
-    let mut reader = Counted::new(FailingReader::new(&b"hello"[..], 0));
-    assert!(rt; fill(&mut reader, &mut room) == Err(FillFault::Failed));
+    assert!(rt; fills_a_room() && fails_as_its_device());
 }

@@ -8,7 +8,6 @@ use git_objects::{
     write_tree,
 };
 use std::alloc::Global;
-use std::test::Fail;
 
 #[derive(Clone, Copy)]
 struct Made {
@@ -275,10 +274,16 @@ fn are_same(alloc: Global, kind: Kind, all: &[Made]) -> Result<bool, Memory> {
     Ok(true)
 }
 
+fn are_all_same(alloc: Global) -> Result<bool, Memory> {
+    Ok(
+        are_same(alloc, Kind::Commit, &COMMITS)?
+            && are_same(alloc, Kind::Tree, &TREES)?
+            && are_same(alloc, Kind::Tag, &TAGS)?,
+    )
+}
+
 #[test]
-fn reads_and_writes_what_git_made(rt: HostRuntime) -> Result<(), Fail> {
-    assert!(rt; are_same(rt.alloc(), Kind::Commit, &COMMITS)?);
-    assert!(rt; are_same(rt.alloc(), Kind::Tree, &TREES)?);
-    assert!(rt; are_same(rt.alloc(), Kind::Tag, &TAGS)?);
+fn reads_and_writes_what_git_made(rt: HostRuntime) -> Result<(), Memory> {
+    assert!(rt; are_all_same(rt.alloc())?);
     Ok(())
 }

@@ -6,7 +6,6 @@ use git_objects::{
 };
 use std::alloc::Global;
 use std::cmp::Ordering;
-use std::test::Fail;
 
 // A file `a`, a file `a.txt` and a directory `a`, each with an object name of twenty letters.
 const THREE: &[u8; 90] =
@@ -73,21 +72,45 @@ fn has_the_file_first(alloc: Global) -> Result<bool, Memory> {
     }
 }
 
-#[test]
-fn reads_trees_alone(rt: HostRuntime) -> Result<(), Fail> {
-    for (contents, is_well) in TREES {
-        assert!(rt; is_tree(rt.alloc(), contents)? == *is_well, "{contents:?}");
+// The first text that is a tree or none against the table, by its place.
+fn first_tree_otherwise(alloc: Global) -> Result<Option<usize>, Memory> {
+    for (place, (contents, is_well)) in TREES.iter().enumerate() {
+        if is_tree(alloc, contents)? != *is_well {
+            return Ok(Some(place));
+        }
     }
-    assert!(rt; has_the_file_first(rt.alloc())?);
-    assert!(rt; mode_digits(FileMode::Executable) == b"100755".as_slice());
-    assert!(rt; read_mode(b"160000") == Some(FileMode::Gitlink));
+    Ok(None)
+}
+
+// The same of tags.
+fn first_tag_otherwise(alloc: Global) -> Result<Option<usize>, Memory> {
+    for (place, (contents, is_well)) in TAGS.iter().enumerate() {
+        if is_tag(alloc, contents)? != *is_well {
+            return Ok(Some(place));
+        }
+    }
+    Ok(None)
+}
+
+fn are_modes() -> bool {
+    mode_digits(FileMode::Executable) == b"100755".as_slice()
+        && read_mode(b"160000") == Some(FileMode::Gitlink)
+}
+
+#[test]
+fn reads_trees_alone(rt: HostRuntime) -> Result<(), Memory> {
+    assert_eq!(rt; first_tree_otherwise(rt.alloc())?, None);
     Ok(())
 }
 
 #[test]
-fn refuses_tags_of_trees_and_names_of_no_ref(rt: HostRuntime) -> Result<(), Fail> {
-    for (contents, is_well) in TAGS {
-        assert!(rt; is_tag(rt.alloc(), contents)? == *is_well, "{contents:?}");
-    }
+fn reads_a_file_before_a_directory_and_their_modes(rt: HostRuntime) -> Result<(), Memory> {
+    assert!(rt; has_the_file_first(rt.alloc())? && are_modes());
+    Ok(())
+}
+
+#[test]
+fn refuses_tags_of_trees_and_names_of_no_ref(rt: HostRuntime) -> Result<(), Memory> {
+    assert_eq!(rt; first_tag_otherwise(rt.alloc())?, None);
     Ok(())
 }

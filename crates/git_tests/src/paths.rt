@@ -82,25 +82,59 @@ fn ends_at(alloc: Global, text: &[u8], bytes: &[u8], rest: &[u8]) -> Result<bool
     Ok(path.as_bytes() == bytes && behind == rest)
 }
 
+// The first quoted path that is read or printed otherwise, by its place.
+fn first_misprinted(alloc: Global) -> Result<Option<usize>, Fail> {
+    for (place, (text, bytes)) in QUOTED.iter().enumerate() {
+        if !is_read_and_printed(alloc, text, bytes)? {
+            return Ok(Some(place));
+        }
+    }
+    Ok(None)
+}
+
+// The first source that is read otherwise, by its place.
+fn first_source_misread(alloc: Global) -> Result<Option<usize>, Fault> {
+    for (place, (text, bytes, rest)) in SOURCES.iter().enumerate() {
+        if !ends_at(alloc, text, bytes, rest)? {
+            return Ok(Some(place));
+        }
+    }
+    Ok(None)
+}
+
+// The first of these texts that is not refused as a bad path, by its place.
+fn first_not_refused(alloc: Global, texts: &[&[u8]], place: Place) -> Option<usize> {
+    for (number, text) in texts.iter().enumerate() {
+        if code_of(alloc, text, place) != 10 {
+            return Some(number);
+        }
+    }
+    None
+}
+
 #[test]
 fn reads_and_prints_each_escape(rt: HostRuntime) -> Result<(), Fail> {
-    for (text, bytes) in QUOTED {
-        assert!(rt; is_read_and_printed(rt.alloc(), text, bytes)?, "{text:?}");
-    }
-    for (text, bytes, rest) in SOURCES {
-        assert!(rt; ends_at(rt.alloc(), text, bytes, rest)?, "{text:?}");
-    }
+    assert_eq!(rt; first_misprinted(rt.alloc())?, None);
+    Ok(())
+}
+
+#[test]
+fn reads_a_source_up_to_its_space(rt: HostRuntime) -> Result<(), Fail> {
+    assert_eq!(rt; first_source_misread(rt.alloc())?, None);
     Ok(())
 }
 
 #[test]
 fn refuses_bad_paths_as_ten(rt: HostRuntime) {
-    for text in BAD_PATHS {
-        assert!(rt; code_of(rt.alloc(), text, Place::Last) == 10, "{text:?}");
-    }
-    for text in BAD_SOURCES {
-        assert!(rt; code_of(rt.alloc(), text, Place::Source) == 10, "{text:?}");
-    }
+    assert_eq!(rt; first_not_refused(rt.alloc(), BAD_PATHS, Place::Last), None);
+}
+
+#[test]
+fn refuses_bad_sources_as_ten(rt: HostRuntime) {
+    assert_eq!(rt;
+        first_not_refused(rt.alloc(), BAD_SOURCES, Place::Source),
+        None
+    );
 }
 
 // A path of so many components `a`.
@@ -145,17 +179,28 @@ fn is_long(alloc: Global, quote: &[u8], bytes: usize, code: u16) -> Result<bool,
     Ok(code_of(alloc, &text, Place::Last) == code)
 }
 
+// Whether paths of as many components and bytes as may be are read, and no larger ones.
+fn are_within_limits(alloc: Global) -> Result<bool, AllocError> {
+    for (components, code, within) in DEEP {
+        if !is_deep(alloc, *components, *code, *within)? {
+            return Ok(false);
+        }
+    }
+    are_as_long(alloc)
+}
+
+fn are_as_long(alloc: Global) -> Result<bool, AllocError> {
+    for (quote, bytes, code) in LONG {
+        if !is_long(alloc, quote, *bytes, *code)? {
+            return Ok(false);
+        }
+    }
+    Ok(true)
+}
+
 #[test]
 fn reads_up_to_the_limits(rt: HostRuntime) -> Result<(), Fail> {
-    for (components, code, within) in DEEP {
-        assert!(rt;
-            is_deep(rt.alloc(), *components, *code, *within)?,
-            "{components}"
-        );
-    }
-    for (quote, bytes, code) in LONG {
-        assert!(rt; is_long(rt.alloc(), quote, *bytes, *code)?, "{bytes}");
-    }
+    assert!(rt; are_within_limits(rt.alloc())?);
     Ok(())
 }
 
@@ -207,9 +252,17 @@ fn comes_apart(alloc: Global) -> Result<bool, Fail> {
 
 fn comes_together(alloc: Global) -> Result<bool, Fail> {
     let path = read_last(alloc, b"a/bc/d")?;
+    comes_together_of(alloc, &path)
+}
+
+fn comes_together_of(alloc: Global, path: &Path) -> Result<bool, Fail> {
     let top = read_last(alloc, b"a")?;
+    Ok(is_joined_below(alloc, path, &top)? && has_child(alloc, &top)?)
+}
+
+fn is_joined_below(alloc: Global, path: &Path, top: &Path) -> Result<bool, Fail> {
     let other = read_last(alloc, b"x y")?;
-    Ok(is_joined(alloc, &path, &top, &other)? && has_child(alloc, &top)?)
+    Ok(is_joined(alloc, path, top, &other)?)
 }
 
 fn is_root_alone(alloc: Global) -> bool {
@@ -217,11 +270,13 @@ fn is_root_alone(alloc: Global) -> bool {
     root.is_root() && root.components().len() == 0 && root.components().split_first().is_none()
 }
 
+fn comes_apart_and_together(alloc: Global) -> Result<bool, Fail> {
+    Ok(comes_apart(alloc)? && comes_together(alloc)? && is_root_alone(alloc))
+}
+
 #[test]
 fn a_path_comes_apart_and_together(rt: HostRuntime) -> Result<(), Fail> {
-    assert!(rt; comes_apart(rt.alloc())?);
-    assert!(rt; comes_together(rt.alloc())?);
-    assert!(rt; is_root_alone(rt.alloc()));
+    assert!(rt; comes_apart_and_together(rt.alloc())?);
     Ok(())
 }
 
@@ -229,8 +284,13 @@ fn a_path_comes_apart_and_together(rt: HostRuntime) -> Result<(), Fail> {
 fn are_ordered(alloc: Global) -> Result<bool, Fail> {
     let file = read_last(alloc, b"a.txt")?;
     let below = read_last(alloc, b"a/x")?;
+    Ok(file < below && file != below && are_beside(alloc, &file, &below)?)
+}
+
+// Whether the second alone is below the path `a`.
+fn are_beside(alloc: Global, file: &Path, below: &Path) -> Result<bool, Fail> {
     let top = read_last(alloc, b"a")?;
-    Ok(file < below && file != below && below.is_at_or_below(&top) && !file.is_at_or_below(&top))
+    Ok(below.is_at_or_below(&top) && !file.is_at_or_below(&top))
 }
 
 #[test]
@@ -252,11 +312,17 @@ fn is_name_printed(alloc: Global) -> Result<bool, AllocError> {
     Ok(out.as_slice() == b"\"n\\\"\"".as_slice())
 }
 
+fn is_never_quoted(alloc: Global) -> Result<bool, AllocError> {
+    Ok(is_canonical(alloc, b"\"a\"")? && !is_canonical(alloc, b"a/")? && is_name_printed(alloc)?)
+}
+
 #[test]
 fn a_path_of_an_expression_is_never_quoted(rt: HostRuntime) -> Result<(), Fail> {
-    assert!(rt; is_canonical(rt.alloc(), b"\"a\"")?);
-    assert!(rt; !is_canonical(rt.alloc(), b"a/")?);
-    assert!(rt; is_component(b"a b") && !is_component(b"a/b"));
-    assert!(rt; is_name_printed(rt.alloc())?);
+    assert!(rt; is_never_quoted(rt.alloc())?);
     Ok(())
+}
+
+#[test]
+fn a_component_has_no_slash(rt: HostRuntime) {
+    assert!(rt; is_component(b"a b") && !is_component(b"a/b"));
 }

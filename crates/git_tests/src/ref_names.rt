@@ -90,31 +90,60 @@ fn is_before(alloc: Global, first: &[u8], second: &[u8]) -> Result<bool, Fail> {
     Ok(first < second)
 }
 
+// The first text that is judged otherwise, by its place.
+fn first_misjudged() -> Option<usize> {
+    for (place, (text, is_well)) in JUDGED.iter().enumerate() {
+        if is_ref_name(text) != *is_well {
+            return Some(place);
+        }
+    }
+    None
+}
+
+// The first text that is answered otherwise, by its place.
+fn first_misread(alloc: Global) -> Result<Option<usize>, Fail> {
+    for (place, (begin, count, end, code)) in READ.iter().enumerate() {
+        if !is_answered(alloc, begin, *count, end, *code)? {
+            return Ok(Some(place));
+        }
+    }
+    Ok(None)
+}
+
+fn reads_both(alloc: Global) -> Result<bool, Fail> {
+    Ok(reads(alloc, b"refs/heads/main", false)? && reads(alloc, b"HEAD", true)?)
+}
+
+fn has_numbers() -> bool {
+    let bad = RefNameFault::BadRefName.code();
+    let long = RefNameFault::Limit.code();
+    (bad, long, RefNameFault::Memory.code()) == (11, 25, 90)
+}
+
 #[test]
 fn judges_ref_names_as_git_does(rt: HostRuntime) {
-    for (text, is_well) in JUDGED {
-        assert!(rt; is_ref_name(text) == *is_well, "{text:?}");
-    }
+    assert_eq!(rt; first_misjudged(), None);
 }
 
 #[test]
 fn refuses_what_is_no_ref_name_before_what_is_too_long(rt: HostRuntime) -> Result<(), Fail> {
-    for (begin, count, end, code) in READ {
-        assert!(rt;
-            is_answered(rt.alloc(), begin, *count, end, *code)?,
-            "{begin:?} {count}"
-        );
-    }
-    let bad = RefNameFault::BadRefName.code();
-    let long = RefNameFault::Limit.code();
-    assert!(rt; (bad, long, RefNameFault::Memory.code()) == (11, 25, 90));
+    assert_eq!(rt; first_misread(rt.alloc())?, None);
     Ok(())
 }
 
 #[test]
+fn numbers_its_faults(rt: HostRuntime) {
+    assert!(rt; has_numbers());
+}
+
+#[test]
 fn reads_a_ref_name_or_head(rt: HostRuntime) -> Result<(), Fail> {
-    assert!(rt; reads(rt.alloc(), b"refs/heads/main", false)?);
-    assert!(rt; reads(rt.alloc(), b"HEAD", true)?);
+    assert!(rt; reads_both(rt.alloc())?);
+    Ok(())
+}
+
+#[test]
+fn orders_ref_names_by_their_bytes(rt: HostRuntime) -> Result<(), Fail> {
     assert!(rt; is_before(rt.alloc(), b"refs/heads/mailn", b"refs/heads/main")?);
     Ok(())
 }
