@@ -219,6 +219,27 @@ edits-copied result m old new same from to fs is clean h =
     (subst (λ (x : FileMap). Edits result x new (too_many (finmap.len (put_tree_at x to fs)))
     (put_tree_at x to fs)) same h))
 
+-- ---- files at a path of a map that was opened on the way
+
+pub put-good : (fs : Listed) {m old : FileMap} {p to : Path} → m ≡ old → p ≡ to
+    → (finmap.len (put_tree_at old to fs) ≤ 1048576 → AreFiles (listed (put_tree_at old to fs)))
+    → finmap.len (put_tree_at m p fs) ≤ 1048576 → AreFiles (listed (put_tree_at m p fs))
+put-good fs {m} {old} {p} {to} same at good =
+    subst (λ (x : FileMap). finmap.len (put_tree_at x p fs) ≤ 1048576
+    → AreFiles (listed (put_tree_at x p fs))) (sym same)
+    (subst (λ (q : Path). finmap.len (put_tree_at old q fs) ≤ 1048576
+    → AreFiles (listed (put_tree_at old q fs))) (sym at) good)
+
+pub put-edits : {A : Type 0} (result : Result A Fault) (new : FileMap) (fs : Listed)
+    {m old : FileMap} {p to : Path} → m ≡ old → p ≡ to
+    → Edits result m new (too_many (finmap.len (put_tree_at m p fs))) (put_tree_at m p fs)
+    → Edits result old new (too_many (finmap.len (put_tree_at old to fs))) (put_tree_at old to fs)
+put-edits result new fs {m} {old} {p} {to} same at h =
+    subst (λ (x : FileMap). Edits result x new (too_many (finmap.len (put_tree_at x to fs)))
+    (put_tree_at x to fs)) same
+    (subst (λ (q : Path). Edits result m new (too_many (finmap.len (put_tree_at m q fs)))
+    (put_tree_at m q fs)) at h)
+
 -- ---- renames
 
 count_moves : (from to : Path) (fs : Listed)

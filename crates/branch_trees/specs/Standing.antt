@@ -1,11 +1,14 @@
 -- What stands at a path below a directory, for private contracts.
 use Rattle.std.specs.Prelude.{◌≡◌, ℕ, false, List, [], ◌∷◌, Option, None, Some, if◌then◌else◌}
+use Rattle.std.specs.Option.{option_map}
 use Rattle.std.specs.Str.{bytes_eq}
 use Rattle.git_model.specs.Tree.{TreeEntry}
 use Rattle.git_model.specs.Repository.{Object}
 use Rattle.tree_build.specs.declared.entry.Entry.{Entry}
 use Rattle.tree_build.specs.FileMap.{Path, Listed}
+use Rattle.tree_build.specs.ByComponent.{what}
 use Rattle.tree_build.specs.Edits.{cut}
+use Rattle.tree_build.specs.StoredTree.{HasTree}
 use Rattle.tree_build.specs.Trees.{file_of, entry_or}
 use Rattle.branch_trees.specs.Rows.{IsPart}
 
@@ -17,6 +20,12 @@ stands_at digest files path = entry_or digest false (cut path files) (file_of (c
 abbrev pub row_named : List TreeEntry → List ℕ → Option TreeEntry
 row_named [] c = None
 row_named (e ∷ es) c = if bytes_eq e.name c then Some e else row_named es c
+
+-- What the tree of a name has under the name of an entry.
+pub record IsRow (os : List Object) (id name : List ℕ) (o : Option Entry) : Type 0 where
+  pub rows : List TreeEntry
+  pub tree : HasTree os id rows
+  pub row : o ≡ option_map what (row_named rows name)
 
 -- What was found at a path of a stored tree has these files there.
 abbrev pub IsFoundAt : List Object → Option Entry → Listed → Type 0

@@ -1,12 +1,12 @@
 //! The names of the trees of opened directories, without storing them.
 
-ghost use Rattle.std.specs.Prelude.{◌≡◌, ◌≢◌, [], Some, IfOk};
+ghost use Rattle.std.specs.Prelude.{◌≡◌, ◌≢◌, [], Some, IfOk, OnOk};
 ghost use Rattle.git_model.specs.declared.file_mode.FileMode.TheVariants as mode;
-ghost use Rattle.git_objects.specs.Parts.{entry_of};
+ghost use Rattle.git_objects.specs.Parts.{entry_of, entries_of};
 ghost use Rattle.tenant_tables.specs.Objects.{objects};
 ghost use Rattle.tenant_tables.specs.StandsIn.{StandsIn};
 ghost use Rattle.tree_build.specs.StoredFiles.{stored_files};
-ghost use Rattle.tree_build.specs.Trees.{tree_id};
+ghost use Rattle.tree_build.specs.Trees.{tree_entries, tree_id, tree_name};
 ghost use Rattle.branch_trees.specs.Shape.{opened, shape_files, held_files};
 ghost use Rattle.branch_trees.specs.Branch.{IsShape, IsHeld};
 ghost use Rattle.branch_trees.specs.Nodes.{held, shape_of};
@@ -53,13 +53,45 @@ fn tree_of_entries<N: Naming>(
         (shape_files (stored_files (objects pool.now table.now.entries)) (shape_of entries.now))) }
 {
     let mut rows = Vec::new(alloc);
+    match push_rows(alloc, pool, table, entries, &mut rows) {
+        Ok(()) => name_of_rows(alloc, pool, &rows),
+        Err(_) => Err(Memory),
+    }
+}
+
+// Puts what stands in a directory, as its tree has it, where there is nothing.
+#[cycle(naming)]
+fn push_rows<'a, N: Naming>(
+    alloc: Global,
+    pool: &Pool<N>,
+    table: &Table,
+    entries: &'a [(Component, Node)],
+    rows: &mut Vec<TreeEntry<'a>>,
+) -> Result<(), Memory>
+    requires stands { StandsIn N.digest_of pool.now table.now.entries }
+    requires sound { IsShape (objects pool.now table.now.entries) (shape_of entries.now) }
+    requires none { rows.old.items ≡ [] }
+    ensures { OnOk result (entries_of rows.new.items ≡ tree_entries N.digest_of
+        (shape_files (stored_files (objects pool.now table.now.entries)) (shape_of entries.now))) }
+{
     for entry in entries {
         let held = entry_here(alloc, pool, table, &entry.1)?;
         if rows.push(row_of(entry, held)).is_err() {
             return Err(Memory);
         }
     }
-    let contents = contents_of(alloc, &rows)?;
+    Ok(())
+}
+
+// The name of the tree with these entries.
+fn name_of_rows<N: Naming>(
+    alloc: Global,
+    pool: &Pool<N>,
+    rows: &[TreeEntry<'_>],
+) -> Result<Name, Memory>
+    ensures { IfOk result (λ id. id ≡ tree_name N.digest_of (entries_of rows.now)) }
+{
+    let contents = contents_of(alloc, rows)?;
     pool.name_of(Kind::Tree, &contents)
 }
 

@@ -9,7 +9,7 @@ ghost use Rattle.tenant_tables.specs.StandsIn.{StandsIn};
 ghost use Rattle.tree_build.specs.Edits.{cut};
 ghost use Rattle.tree_build.specs.StoredFiles.{stored_files};
 ghost use Rattle.tree_build.specs.StoredTree.{ListsTree};
-ghost use Rattle.branch_trees.specs.Standing.{stands_at, row_named, IsFoundAt};
+ghost use Rattle.branch_trees.specs.Standing.{stands_at, row_named, IsRow, IsFoundAt};
 
 use content_pool::Pool;
 use git_objects::{FileMode, Memory, Name, Naming, TreeEntry};
@@ -31,6 +31,23 @@ fn row_named(rows: &[TreeEntry<'_>], name: &[u8]) -> Option<Entry>
         }
     }
     None
+}
+
+// What the stored tree of this name has under the name of an entry.
+fn row_at<N: Naming>(
+    alloc: Global,
+    pool: &Pool<N>,
+    table: &Table,
+    tree: &Name,
+    name: &[u8],
+) -> Result<Option<Entry>, Memory>
+    requires stands { StandsIn N.digest_of pool.now table.now.entries }
+    requires tree { ListsTree (objects pool.now table.now.entries) tree.now
+        (stored_files (objects pool.now table.now.entries) tree.now) }
+    ensures { IfOk result (λ o. IsRow (objects pool.now table.now.entries) tree.now name.now o) }
+{
+    let rows = read_entries(alloc, pool, table, tree)?;
+    Ok(row_named(&rows, name))
 }
 
 /// What stands in the stored tree of this name at a path of this first component. The texts that
@@ -56,8 +73,7 @@ pub(crate) fn stored_entry<N: Naming>(
     ensures bounded { reads.new ≤ reads.old + (1 + length rest.now) }
 {
     *reads = reads.saturating_add(1);
-    let rows = read_entries(alloc, pool, table, tree)?;
-    let Some(row) = row_named(&rows, name) else {
+    let Some(row) = row_at(alloc, pool, table, tree, name)? else {
         return Ok(None);
     };
     match rest.split_first() {

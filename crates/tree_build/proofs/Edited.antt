@@ -22,10 +22,10 @@ use Rattle.tree_build.specs.declared.fault.Fault.{Fault}
 use Rattle.tree_build.specs.declared.fault.Fault.TheVariants as fault
 use Rattle.tree_build.specs.FileMap.{Path, Listed, FileMap, is_apart, ArePairwiseApart, IsFile}
 use Rattle.tree_build.specs.FileMap.{AreFiles}
-use Rattle.tree_build.specs.Edits.{cut, moved, put_at, files_at, copied, renamed, without, is_root}
+use Rattle.tree_build.specs.Edits.{cut, moved, put_at, files_at, without, is_root}
 use Rattle.tree_build.specs.Edits.{is_empty, is_outside, with_files, put_fault, move_fault}
 use Rattle.tree_build.specs.Calls.{Edits}
-use Rattle.tree_build.specs.Kept.{stays, put_all, IsBelow, refusal_beside}
+use Rattle.tree_build.specs.Kept.{stays, replaced, put_all, IsBelow, refusal_beside}
 use Rattle.tree_build.proofs.Apart.{both_true, apart_below, cut-all, all-map, all-weaker}
 use Rattle.tree_build.proofs.Apart.{filter-all}
 use Rattle.tree_build.proofs.Puts.{true-T, MayPut, AreFiles-filter, AreFiles-put_all}
@@ -166,24 +166,22 @@ module _ {A : Type 0} where
       (λ (l : Listed). Edits result old new (move_fault l (with_files m l)) (with_files m l)) same
       (subst (λ (b : Bool). Edits result old new (cond b (Some fault.SourceMissing) (put_fault files (with_files m files))) (with_files m files)) (sym some) h)
 
-  pub edits-copied : (result : Result A Fault) (old new : FileMap) (from to : Path)
-      (fs files : Listed)
+  pub edits-moved : (result : Result A Fault) (old new : FileMap) (gone : Option Path)
+      (from to : Path) (fs files : Listed)
       → AreFiles fs → from_sorted fs ≡ old → files ≡ moved to (cut from fs) → is_empty files ≡ false
-      → Edits result old new (put_fault files (with_files (finmap.retain_keys old (stays None to)) files)) (with_files (finmap.retain_keys old (stays None to)) files)
-      → Edits result old new (move_fault (moved to (files_at old from)) (copied old from to)) (copied old from to)
-  edits-copied result old new from to fs files h view is some e =
-      edits-as result old new (finmap.retain_keys old (is_apart to)) files
+      → Edits result old new (put_fault files (replaced gone to files old)) (replaced gone to files old)
+      → Edits result old new (move_fault (moved to (files_at old from)) (replaced gone to (moved to (files_at old from)) old)) (replaced gone to (moved to (files_at old from)) old)
+  edits-moved result old new gone from to fs files h view is some e =
+      edits-as result old new (finmap.retain_keys old (stays gone to)) files
       (moved to (files_at old from)) (is ∙ files-as from to fs old h view) some e
 
-  pub edits-renamed : (result : Result A Fault) (old new : FileMap) (from to : Path)
-      (fs files : Listed)
-      → AreFiles fs → from_sorted fs ≡ old → files ≡ moved to (cut from fs) → is_empty files ≡ false
-      → Edits result old new (put_fault files (with_files (finmap.retain_keys old (stays (Some from) to)) files)) (with_files (finmap.retain_keys old (stays (Some from) to)) files)
-      → Edits result old new (move_fault (moved to (files_at old from)) (renamed old from to)) (renamed old from to)
-  edits-renamed result old new from to fs files h view is some e =
-      edits-as result old new (finmap.retain_keys (without old from) (is_apart to)) files
-      (moved to (files_at old from)) (is ∙ files-as from to fs old h view) some
-      (subst (λ (m : FileMap). Edits result old new (put_fault files (with_files m files)) (with_files m files)) (sym (retain-twice (is_outside from) (is_apart to) old)) e)
+  pub edits-renamed : (result : Result A Fault) (old new : FileMap) (from to : Path) (files : Listed)
+      → Edits result old new (move_fault files (replaced (Some from) to files old)) (replaced (Some from) to files old)
+      → Edits result old new (move_fault files (with_files (finmap.retain_keys (without old from) (is_apart to)) files)) (with_files (finmap.retain_keys (without old from) (is_apart to)) files)
+  edits-renamed result old new from to files e =
+      subst
+      (λ (m : FileMap). Edits result old new (move_fault files (with_files m files)) (with_files m files))
+      (sym (retain-twice (is_outside from) (is_apart to) old)) e
 
 -- the source has no file
 pub no_source : (from to : Path) (fs files : Listed) (old after : FileMap) → AreFiles fs

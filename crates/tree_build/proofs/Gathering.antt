@@ -1,12 +1,13 @@
 -- The files of a stored tree, gathered entry by entry.
-use Rattle.std.proofs.Common.{◌≡◌, ◌≢◌, ℕ, zero, suc, ◌+◌, ◌<◌, ◌≤◌, true, Option, List, [], ◌∷◌, ◌++◌, length, take, get_or, refl, sym, ap, ◌∙◌, subst, append_assoc, arith}
-use Rattle.std.specs.Prelude.{IsSome}
+use Rattle.std.proofs.Common.{◌≡◌, ◌≢◌, ℕ, zero, suc, ◌+◌, ◌*◌, ◌<◌, ◌≤◌, true, Option, List, [], ◌∷◌, ◌++◌, length, take, get_or, refl, sym, ap, ◌∙◌, subst, append_assoc, arith}
+use Rattle.std.specs.Prelude.{IsSome, OnOk, Result, Ok, Err}
 use Rattle.std.specs.List.{AllByRecursion}
 use Rattle.std.proofs.lemmas.List.{append-nil, map-append, take_more, take_all}
 use Rattle.std.proofs.lemmas.Bool.{eqb-true}
 use Rattle.std.proofs.lemmas.List.Elements.{recursion_from_All}
 use Rattle.git_objects.specs.declared.tree_entry.TreeEntry as declared
 use Rattle.git_objects.specs.Parts.{entry_of, entries_of}
+use Rattle.git_model.specs.declared.file_mode.FileMode.{FileMode}
 use Rattle.git_model.specs.declared.file_mode.FileMode.TheVariants as mode
 use Rattle.git_model.specs.Repository.{Object}
 use Rattle.git_model.specs.Tree.{TreeEntry, IsEntryName, CanWriteEntry}
@@ -21,7 +22,7 @@ use Rattle.tree_build.specs.declared.entry.Entry.{Entry}
 use Rattle.tree_build.specs.FileMap.{Path, Listed}
 use Rattle.tree_build.specs.Edits.{moved}
 use Rattle.tree_build.specs.StoredTree.{HasTree, file_from, Lists, nothing}
-use Rattle.tree_build.specs.Gathers.{has_none, Gathers}
+use Rattle.tree_build.specs.Gathers.{has_none, Gathers, GathersEntry}
 use Rattle.tree_build.proofs.Listing.{lists-append, lists-file, lists-directory}
 use Rattle.tree_build.proofs.Standing.{position_of, stands-before, summary-all, the_summary, tree-placed, tree-lists, tree-summary}
 
@@ -67,29 +68,42 @@ next_entries xs i x lt at =
     ∙ ap entries_of
     (sym (take_more xs i x lt ∙ ap (λ (y : declared.TreeEntry). take i xs ++ y ∷ []) (sym at)))
 
-module _ (os : List Object) (top : Path) (xs : List declared.TreeEntry) (i : ℕ) (x : declared.TreeEntry) (lt : i < length xs) (at : x ≡ get_or xs i x) where
-  pub file_turn : (path : Path) (old mid new : Listed) → (entry_of x).mode ≢ mode.Directory
-      → path ≡ top ++ (entry_of x).name ∷ []
-      → new ≡ mid ++ (path, record { mode = (entry_of x).mode; name = (entry_of x).id }) ∷ []
-      → GathersSome os top (entries_of (take i xs)) old mid
-      → GathersSome os top (entries_of (take (i + 1) xs)) old new
-  file_turn path old mid new ne is pushed sofar =
-      subst (λ (es : List TreeEntry). GathersSome os top es old new) (next_entries xs i x lt at)
-      (gathers-more os top (entries_of (take i xs)) (entry_of x) (file_from (entry_of x) ∷ []) old mid new sofar (lists-file (entry_of x) ne)
-      (pushed ∙ ap (λ (p : Path). mid ++ (p, (file_from (entry_of x)).1) ∷ []) is))
+-- what an answer leaves, and what follows from it
+pub on_ok : {A E P Q : Type 0} (r : Result A E) → (P → Q) → OnOk r P → OnOk r Q
+on_ok (Ok a) follows h = follows h
+on_ok (Err e) follows h = h
 
-  pub directory_turn : (path : Path) (old mid new : Listed) → (entry_of x).mode ≡ mode.Directory
-      → path ≡ top ++ (entry_of x).name ∷ []
-      → Gathers os path (entry_of x).id mid new
-      → GathersSome os top (entries_of (take i xs)) old mid
-      → GathersSome os top (entries_of (take (i + 1) xs)) old new
-  directory_turn path old mid new dir is inside sofar =
-      subst (λ (es : List TreeEntry). GathersSome os top es old new) (next_entries xs i x lt at)
-      (gathers-more os top (entries_of (take i xs)) (entry_of x) (moved ((entry_of x).name ∷ []) inside.files) old mid new sofar
-      (lists-directory (entry_of x) inside.files dir inside.listed)
-      (inside.behind
-      ∙ ap (λ (p : Path). mid ++ moved p inside.files) is
-      ∙ ap (λ (l : Listed). mid ++ l) (moved-twice top (entry_of x).name inside.files)))
+-- the files of one entry
+pub file-gathered : (os : List Object) (top : Path) (e : TreeEntry) (path : Path) (old new : Listed)
+    → e.mode ≢ mode.Directory → path ≡ top ++ e.name ∷ []
+    → new ≡ old ++ (path, record { mode = e.mode; name = e.id }) ∷ []
+    → GathersEntry os top e old new
+file-gathered os top e path old new ne is pushed = record {
+  files = file_from e ∷ [];
+  lists = lists-file e ne;
+  behind = pushed ∙ ap (λ (p : Path). old ++ (p, (file_from e).1) ∷ []) is;
+}
+
+pub directory-gathered : (os : List Object) (top : Path) (e : TreeEntry) (path : Path)
+    (old new : Listed)
+    → e.mode ≡ mode.Directory → path ≡ top ++ e.name ∷ [] → Gathers os path e.id old new
+    → GathersEntry os top e old new
+directory-gathered os top e path old new dir is inside = record {
+  files = moved (e.name ∷ []) inside.files;
+  lists = lists-directory e inside.files dir inside.listed;
+  behind =
+      inside.behind ∙ ap (λ (p : Path). old ++ moved p inside.files) is
+      ∙ ap (λ (l : Listed). old ++ l) (moved-twice top e.name inside.files);
+}
+
+pub entry_turn : (os : List Object) (top : Path) (xs : List declared.TreeEntry) (i : ℕ)
+    (x : declared.TreeEntry) (old mid new : Listed)
+    → i < length xs → x ≡ get_or xs i x → GathersSome os top (entries_of (take i xs)) old mid
+    → GathersEntry os top (entry_of x) mid new
+    → GathersSome os top (entries_of (take (i + 1) xs)) old new
+entry_turn os top xs i x old mid new lt at sofar one =
+    subst (λ (es : List TreeEntry). GathersSome os top es old new) (next_entries xs i x lt at)
+    (gathers-more os top (entries_of (take i xs)) (entry_of x) one.files old mid new sofar one.lists one.behind)
 
 -- all entries
 pub gathers-all : (os : List Object) (top : Path) (id : List ℕ) (xs : List declared.TreeEntry)
@@ -102,6 +116,27 @@ gathers-all os top id xs i old new done has sofar = record {
   listed = record { direct = entries_of xs; tree = has; lists = subst (λ (l : List declared.TreeEntry). Lists os (entries_of l) sofar.files) (take_all i xs done) sofar.lists };
   behind = sofar.behind;
 }
+
+-- ---- how deep a tree nests
+
+-- of an entry: of its tree, if it is a directory
+abbrev pub weight : FileMode → ℕ → ℕ
+weight mode.Directory place = 2 * place + 3
+weight mode.Regular place = 0
+weight mode.Executable place = 0
+weight mode.Symlink place = 0
+weight mode.Gitlink place = 0
+
+pub weighs_less : (m : FileMode) (place top : ℕ) → (m ≡ mode.Directory → place < top)
+    → weight m place < 2 * top + 2
+weighs_less mode.Directory place top h = let before = h refl in omega (arith, before)
+weighs_less mode.Regular place top h = omega arith
+weighs_less mode.Executable place top h = omega arith
+weighs_less mode.Symlink place top h = omega arith
+weighs_less mode.Gitlink place top h = omega arith
+
+pub weighs_more : (m : FileMode) (place : ℕ) → m ≡ mode.Directory → 2 * place + 2 < weight m place
+weighs_more m place is = subst (λ k. 2 * place + 2 < weight k place) (sym is) (omega arith)
 
 -- ---- in a table
 

@@ -12,11 +12,7 @@ use Rattle.tree_build.specs.declared.entry.Entry.{Entry}
 use Rattle.tree_build.specs.FileMap.{Listed}
 use Rattle.tree_build.specs.Trees.{grouped, file_of, direct, tree_name, entries_within}
 use Rattle.tree_build.specs.Below.{entry_by, by_kind, id_by, id_of, group_of, groups_of}
-
--- the entry of a group, where the trees below it have at most so many components
-abbrev pub direct_of : (List ℕ → List ℕ) → ℕ → List ℕ × Listed → TreeEntry
-direct_of digest deep g =
-    direct g.0 (file_of g.1) (tree_name digest (entries_within digest deep g.1))
+pub use Rattle.tree_build.specs.Below.{direct_of}
 
 one_less : (n : ℕ) → suc n - 1 ≡ n
 one_less n = omega arith

@@ -8,7 +8,7 @@ use Rattle.tree_build.specs.declared.entry.Entry.{Entry}
 use Rattle.tree_build.specs.FileMap.{Path, Listed}
 use Rattle.git_model.specs.declared.file_mode.FileMode.TheVariants as mode
 use Rattle.git_model.specs.Tree.{TreeEntry}
-use Rattle.tree_build.specs.Trees.{Groups, grouped, file_of, entries_within, trees_within}
+use Rattle.tree_build.specs.Trees.{Groups, grouped, file_of, direct, entries_within, trees_within}
 use Rattle.tree_build.specs.Trees.{unless_file, tree_name}
 
 abbrev pub file_below : Below → Path × Entry
@@ -67,6 +67,11 @@ id_by None id = id
 
 abbrev pub id_of : (List ℕ → List ℕ) → ℕ → List ℕ × Listed → List ℕ
 id_of digest deep g = id_by (file_of g.1) (tree_name digest (entries_within digest deep g.1))
+
+-- The entry of a group, where the trees below it have at most so many components.
+abbrev pub direct_of : (List ℕ → List ℕ) → ℕ → List ℕ × Listed → TreeEntry
+direct_of digest deep g =
+    direct g.0 (file_of g.1) (tree_name digest (entries_within digest deep g.1))
 
 -- The trees of a group: none of a file, and those of what is below a directory.
 abbrev pub group_trees : (List ℕ → List ℕ) → ℕ → List ℕ × Listed → List (List TreeEntry)

@@ -1,13 +1,14 @@
 -- How the files of a stored tree are gathered, for private contracts.
-use Rattle.std.specs.Prelude.{◌≡◌, ℕ, Bool, ◌&&◌, ◌==◌, nat_le, List, ◌++◌, Option}
+use Rattle.std.specs.Prelude.{◌≡◌, ℕ, Bool, ◌&&◌, ◌==◌, nat_le, List, [], ◌∷◌, ◌++◌, Option}
 use Rattle.std.specs.Option.{unwrap_or}
 use Rattle.git_model.specs.Repository.{Object}
+use Rattle.git_model.specs.Tree.{TreeEntry}
 use Rattle.tenant_tables.specs.declared.summary.Summary.{Summary}
 use Rattle.tenant_tables.specs.Trees.{no_files}
 use Rattle.tree_build.specs.declared.check.TheConstants.{FILES_LIMIT}
 use Rattle.tree_build.specs.FileMap.{Path, Listed}
 use Rattle.tree_build.specs.Edits.{moved}
-use Rattle.tree_build.specs.StoredTree.{ListsTree}
+use Rattle.tree_build.specs.StoredTree.{Lists, ListsTree}
 
 -- A tree is small where its files could stand at the root of a branch.
 abbrev pub is_small : Summary → Bool
@@ -22,3 +23,11 @@ pub record Gathers (os : List Object) (top : Path) (id : List ℕ) (old new : Li
   pub files : Listed
   pub listed : ListsTree os id files
   pub behind : new ≡ old ++ moved top files
+
+-- Files were put after others: those that an entry of a tree lists, with a path put before each of
+-- theirs.
+pub record GathersEntry (os : List Object) (top : Path) (e : TreeEntry) (old new : Listed) : Type 0
+  where
+    pub files : Listed
+    pub lists : Lists os (e ∷ []) files
+    pub behind : new ≡ old ++ moved top files

@@ -21,16 +21,16 @@ ghost use Rattle.tree_build.specs.Storing.{StoresTrees, HasRoomBeside};
 ghost use Rattle.tenant_tables.specs.Objects.{objects};
 ghost use Rattle.tenant_tables.specs.StandsIn.{StandsIn, LeavesOthers};
 
-use crate::below::{depth_of, file_of, files_at, is_nowhere};
+use crate::below::files_at;
 use crate::check::{are_none, has_components, refusal_beside};
 use crate::entry::Entry;
 use crate::fault::Fault;
 use crate::grafted::{gather, is_small, tree_summary};
 use crate::map::{Entries, count_staying, drop_below, insert_all, moved, one_file, retain_staying};
-use crate::naming::tree_id;
-use crate::storing::store_trees;
+use crate::naming::entry_of;
+use crate::storing::store_files;
 use content_pool::Pool;
-use git_objects::{FileMode, Memory, Name, Naming, has_twenty_bytes};
+use git_objects::{Memory, Name, Naming, has_twenty_bytes};
 use git_paths::Path;
 use std::alloc::Global;
 use std::collections::BTreeMap;
@@ -143,12 +143,7 @@ impl Files {
             Edits result self.old self.new
             (move_fault (moved to.now (files_at self.old from.now)) after) after }
     {
-        has_components(to);
-        let copies = moved(self.alloc, &self.files, from, to)?;
-        if are_none(&copies) {
-            return Err(Fault::SourceMissing);
-        }
-        self.replace(None, to, copies)
+        self.move_files(None, from, to)
     }
 
     /// As `copy`, and the files no longer stand at the source: git-fast-import(1), "filerename".
@@ -163,12 +158,7 @@ impl Files {
             Edits result self.old self.new
             (move_fault (moved to.now (files_at self.old from.now)) after) after }
     {
-        has_components(to);
-        let files = moved(self.alloc, &self.files, from, to)?;
-        if are_none(&files) {
-            return Err(Fault::SourceMissing);
-        }
-        self.replace(Some(from), to, files)
+        self.move_files(Some(from), from, to)
     }
 
     /// Puts the files of a stored tree at a path, in place of what stands there, below it, or on a
@@ -216,17 +206,7 @@ impl Files {
         ensures { IfOk result (λ o. o ≡ entry_at N.digest_of self.now path.now) }
     {
         let files = files_at(self.alloc, &self.files, path)?;
-        match file_of(&files) {
-            Some(file) => Ok(Some(file)),
-            None => {
-                if is_nowhere(path, &files) {
-                    return Ok(None);
-                }
-                let name = tree_id(self.alloc, pool, depth_of(&files), &files)?;
-                let mode = FileMode::Directory;
-                Ok(Some(Entry { mode, name }))
-            }
-        }
+        entry_of(self.alloc, pool, path, &files)
     }
 
     /// Stores the trees of the files at or below a path, children first and in the order of their
@@ -261,10 +241,22 @@ impl Files {
             Ok(files) => files,
             Err(_) => return Err(Fault::Memory),
         };
-        match file_of(&files) {
-            Some(_) => store_trees(self.alloc, pool, table, 0, &[]),
-            None => store_trees(self.alloc, pool, table, depth_of(&files), &files),
+        store_files(self.alloc, pool, table, &files)
+    }
+
+    // Puts the files at or below one path at another, in place of what stands there; what is at or
+    // below `gone`, where that is a path, goes too. The source is read first.
+    fn move_files(&mut self, gone: Option<&Path>, from: &Path, to: &Path) -> Result<(), Fault>
+        ensures { let files = moved to.now (files_at self.old from.now) in
+            let after = replaced (option_copied gone.entry) to.now files self.old in
+            Edits result self.old self.new (move_fault files after) after }
+    {
+        has_components(to);
+        let files = moved(self.alloc, &self.files, from, to)?;
+        if are_none(&files) {
+            return Err(Fault::SourceMissing);
         }
+        self.replace(gone, to, files)
     }
 
     // Puts files at or below a path in place of what does not stay. All that is refused is refused

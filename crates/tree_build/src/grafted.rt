@@ -6,14 +6,15 @@
 ghost use Rattle.std.specs.Prelude.{◌≡◌, [], ◌∷◌, ◌++◌, Some, IsSome, IfOk, IfErr, OnOk};
 ghost use Rattle.std.specs.List.{AllByRecursion};
 ghost use Rattle.git_model.specs.Tree.{IsEntryName};
-ghost use Rattle.git_objects.specs.Parts.{entries_of};
+ghost use Rattle.git_model.specs.declared.file_mode.FileMode.TheVariants as mode;
+ghost use Rattle.git_objects.specs.Parts.{entry_of, entries_of};
 ghost use Rattle.git_paths.specs.Paths.{IsPath};
 ghost use Rattle.tenant_tables.specs.Objects.{objects};
 ghost use Rattle.tenant_tables.specs.StandsIn.{StandsIn};
 ghost use Rattle.tenant_tables.specs.View.{summary_of};
 ghost use Rattle.tree_build.specs.StoredTree.{HasTree};
 ghost use Rattle.tree_build.specs.Grafts.{tree_fault};
-ghost use Rattle.tree_build.specs.Gathers.{is_small, has_none, Gathers};
+ghost use Rattle.tree_build.specs.Gathers.{is_small, has_none, Gathers, GathersEntry};
 
 use crate::check::{FILES_LIMIT, has_components};
 use crate::entry::Entry;
@@ -126,11 +127,33 @@ pub(crate) fn gather<N: Naming>(
     }
     let entries = read_entries(alloc, pool, table, id)?;
     for entry in &entries {
-        let path = child(alloc, top, entry.name)?;
-        match entry.mode {
-            FileMode::Directory => gather(alloc, pool, table, &path, &entry.id, files)?,
-            _ => push_file(files, path, entry)?,
-        }
+        gather_entry(alloc, pool, table, top, entry, files)?;
     }
     Ok(())
+}
+
+// Puts the files of an entry of a tree, with a path put before each of theirs, after others.
+#[cycle(gathering)]
+fn gather_entry<N: Naming>(
+    alloc: Global,
+    pool: &Pool<N>,
+    table: &Table,
+    top: &Path,
+    entry: &TreeEntry<'_>,
+    files: &mut Vec<(Path, Entry)>,
+) -> Result<(), Memory>
+    requires stands { StandsIn N.digest_of pool.now table.now.entries }
+    requires name { IsEntryName entry.now.name.now }
+    requires tree { entry.now.mode ≡ mode.Directory
+        → IsSome (summary_of entry.now.id table.now.entries) }
+    requires paths { AllByRecursion (λ f. IsPath f.0) files.old.items }
+    ensures gathers { OnOk result (GathersEntry (objects pool.now table.now.entries) top.now
+        (entry_of entry.now) files.old.items files.new.items) }
+    ensures paths { OnOk result (AllByRecursion (λ f. IsPath f.0) files.new.items) }
+{
+    let path = child(alloc, top, entry.name)?;
+    match entry.mode {
+        FileMode::Directory => gather(alloc, pool, table, &path, &entry.id, files),
+        _ => push_file(files, path, entry),
+    }
 }

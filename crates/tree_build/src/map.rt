@@ -1,6 +1,6 @@
 //! Maps from whole paths to entries, and what an edit of a file map does to one.
 
-ghost use Rattle.std.specs.Prelude.{◌≡◌, [], ◌∷◌, length, filter, IfOk, OnOk};
+ghost use Rattle.std.specs.Prelude.{◌≡◌, [], ◌∷◌, ◌++◌, length, filter, IfOk, OnOk};
 ghost use Rattle.std.specs.Map.{keys_of};
 ghost use Rattle.std.specs.Option.{option_copied};
 ghost use Rattle.tree_build.specs.FileMap.{is_apart};
@@ -8,7 +8,7 @@ ghost use Rattle.tree_build.specs.Edits.{cut, moved, is_outside};
 ghost use Rattle.tree_build.specs.Kept.{stays, put_all};
 
 use crate::entry::Entry;
-use git_paths::Path;
+use git_paths::{Components, Path};
 use std::alloc::{AllocError, Global};
 use std::collections::BTreeMap;
 
@@ -60,6 +60,42 @@ pub(crate) fn drop_below(map: &mut Entries, top: &Path)
     map.retain(|path, _| is_outside(top, path));
 }
 
+// Puts a file after others, at a path that is put together.
+fn push_joined(
+    alloc: Global,
+    to: &Path,
+    rest: &Components<'_>,
+    entry: Entry,
+    files: &mut Vec<(Path, Entry)>,
+) -> Result<(), AllocError>
+    ensures { OnOk result
+        (files.new.items ≡ files.old.items ++ (to.now ++ rest.now, entry) ∷ []) }
+{
+    let path = to.join(alloc, rest)?;
+    files.push((path, entry))?;
+    Ok(())
+}
+
+// Puts the files at or below one path, as they stand at or below another, where there are none.
+fn push_moved(
+    alloc: Global,
+    map: &Entries,
+    from: &Path,
+    to: &Path,
+    files: &mut Vec<(Path, Entry)>,
+) -> Result<(), AllocError>
+    requires { files.old.items ≡ [] }
+    ensures { OnOk result (files.new.items ≡ moved to.now (cut from.now map.now.entries)) }
+{
+    for (path, entry) in map {
+        match path.behind(from) {
+            Some(rest) => push_joined(alloc, to, &rest, *entry, files)?,
+            None => {}
+        }
+    }
+    Ok(())
+}
+
 /// The files at or below one path, as they stand at or below another.
 pub(crate) fn moved(
     alloc: Global,
@@ -70,12 +106,7 @@ pub(crate) fn moved(
     ensures { IfOk result (λ files. files.items ≡ moved to.now (cut from.now map.now.entries)) }
 {
     let mut files = Vec::new(alloc);
-    for (path, entry) in map {
-        match path.behind(from) {
-            Some(rest) => files.push((to.join(alloc, &rest)?, *entry))?,
-            None => {}
-        }
-    }
+    push_moved(alloc, map, from, to, &mut files)?;
     Ok(files)
 }
 

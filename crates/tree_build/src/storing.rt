@@ -1,18 +1,19 @@
 //! Storing the trees that files make, children first.
 
-ghost use Rattle.std.specs.Prelude.{◌≡◌, ◌≤◌, [], ◌∷◌, Some, OnOk};
+ghost use Rattle.std.specs.Prelude.{◌≡◌, ◌≤◌, [], ◌∷◌, None, Some, OnOk};
 ghost use Rattle.git_objects.specs.Parts.{entries_of};
 ghost use Rattle.git_model.specs.ObjectName.{IsObjectName};
 ghost use Rattle.git_model.specs.Tree.{tree_contents};
 ghost use Rattle.tenant_tables.specs.StandsIn.{StandsIn};
 ghost use Rattle.tenant_tables.specs.Trees.{FitsTree};
 ghost use Rattle.tenant_tables.specs.View.{summary_of};
-ghost use Rattle.tree_build.specs.Trees.{entries_within, trees_within, tree_name, depth_of, file_of};
-ghost use Rattle.tree_build.specs.Below.{files_below, group_of, id_of, group_trees};
+ghost use Rattle.tree_build.specs.declared.entry.Entry.{Entry};
+ghost use Rattle.tree_build.specs.Trees.{entries_within, trees_within, nested_trees, tree_id, tree_name, depth_of, file_of, grouped};
+ghost use Rattle.tree_build.specs.Below.{files_below, group_of, groups_of, id_of, group_trees};
 ghost use Rattle.tree_build.specs.Storing.{StoresTrees, HasRoomBeside, as_fault};
 ghost use Rattle.tree_build.specs.Storable.{files_summary, longest_of, AreStorable, IsStorableGroup, IsKnownGroup};
 
-use crate::below::{Below, Group, file_of, grouped};
+use crate::below::{Below, Group, depth_of, file_of, grouped};
 use crate::fault::Fault;
 use crate::naming::{contents_of, entry_by};
 use content_pool::Pool;
@@ -112,8 +113,33 @@ pub(crate) fn store_trees<N: Naming>(
         Ok(groups) => groups,
         Err(_) => return Err(Fault::Memory),
     };
+    store_groups(alloc, pool, table, deep, files, &groups)
+}
+
+// Stores the trees of these files, which make these groups.
+#[cycle(storing)]
+fn store_groups<N: Naming>(
+    alloc: Global,
+    pool: &mut Pool<N>,
+    table: &mut Table,
+    deep: usize,
+    files: &[Below<'_>],
+    groups: &[Group<'_>],
+) -> Result<Name, Fault>
+    requires deep { depth_of (files_below files.now) ≤ deep }
+    requires files { AreStorable (files_below files.now) }
+    requires groups { groups_of groups.now ≡ grouped (files_below files.now) }
+    requires stands { StandsIn N.digest_of pool.old table.old.entries }
+    requires room { HasRoomBeside pool.old table.old.entries }
+    ensures stores { StoresTrees result N.digest_of pool.old table.old pool.new table.new
+        (trees_within N.digest_of deep (files_below files.now))
+        (tree_name N.digest_of (entries_within N.digest_of deep (files_below files.now))) }
+    ensures known { OnOk result (summary_of
+        (tree_name N.digest_of (entries_within N.digest_of deep (files_below files.now)))
+        table.new.entries ≡ Some (files_summary (files_below files.now))) }
+{
     let mut entries = Vec::new(alloc);
-    for group in &groups {
+    for group in groups {
         let id = match store_group(alloc, pool, table, deep - 1, group) {
             Ok(id) => id,
             Err(refusal) => return Err(refusal),
@@ -147,5 +173,28 @@ fn store_group<N: Naming>(
     match file_of(&group.below) {
         Some(file) => Ok(file.name),
         None => store_trees(alloc, pool, table, deep, &group.below),
+    }
+}
+
+/// Stores the trees of files below a directory, and answers the name of the last one. Where the one
+/// file is no directory, that is the empty tree.
+pub(crate) fn store_files<N: Naming>(
+    alloc: Global,
+    pool: &mut Pool<N>,
+    table: &mut Table,
+    files: &[Below<'_>],
+) -> Result<Name, Fault>
+    requires files { file_of (files_below files.now) ≡ None → AreStorable (files_below files.now) }
+    requires file { (e : Entry) → file_of (files_below files.now) ≡ Some e
+        → depth_of (files_below files.now) ≡ 0 }
+    requires stands { StandsIn N.digest_of pool.old table.old.entries }
+    requires room { HasRoomBeside pool.old table.old.entries }
+    ensures { StoresTrees result N.digest_of pool.old table.old pool.new table.new
+        (nested_trees N.digest_of (files_below files.now))
+        (tree_id N.digest_of (files_below files.now)) }
+{
+    match file_of(files) {
+        Some(_) => store_trees(alloc, pool, table, 0, &[]),
+        None => store_trees(alloc, pool, table, depth_of(files), files),
     }
 }

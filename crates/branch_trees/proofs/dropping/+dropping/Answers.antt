@@ -104,3 +104,7 @@ pub take_inside-returns-in-Unopened-clause-node :
     goal.take_inside-returns-in-Unopened-clause-node
 take_inside-returns-in-Unopened-clause-node t c =
     sym (stands_nowhere c.args.node.now (λ d e. cc (sym c.in-Unopened.is ∙ e)) c.args.rest.now c.requires.rest)
+
+-- a directory goes with its last entry
+pub take_inside-returns-in-Opened-clause-left : goal.take_inside-returns-in-Opened-clause-left
+take_inside-returns-in-Opened-clause-left t c = search rules

@@ -1,11 +1,9 @@
-use Rattle.std.proofs.Common.{◌≡◌, ℕ, List, [], ◌∷◌, ◌++◌, map, IfOk, sym, ap, ◌∙◌, subst, rules, arith}
+use Rattle.std.proofs.Common.{◌≡◌, List, [], ◌∷◌, ◌++◌, map, IfOk, sym, ap, ◌∙◌, subst, rules, arith}
 use Rattle.std.proofs.lemmas.List.{map-append, take_all}
-use Rattle.git_model.specs.declared.kind.Kind.TheVariants as kind
-use Rattle.git_model.specs.ObjectName.{object_name}
-use Rattle.git_model.specs.Tree.{TreeEntry, tree_contents}
-use Rattle.git_objects.specs.declared.tree_entry.TreeEntry as declared
+use Rattle.git_model.specs.Tree.{TreeEntry}
 use Rattle.git_objects.specs.Parts.{entry_of, entries_of}
 use Rattle.tree_build.specs.StoredFiles.{stored_files}
+use Rattle.tree_build.specs.Trees.{tree_name}
 use Rattle.tree_build.proofs.Nested.{pushed}
 use Rattle.tree_build.proofs.TreeOf
 use Rattle.branch_trees.specs.Stores.{parts_of}
@@ -33,8 +31,8 @@ tree_of-returns-in-Some g t c =
     (sym (ap (λ (d : Directory). d.tree) c.dir.view_is) ∙ c.in-Some.is)
     c.requires.sound
 
-pub tree_of_entries-entry_here-requires : goal.tree_of_entries-entry_here-requires
-tree_of_entries-entry_here-requires g t c κs within =
+pub push_rows-entry_here-requires : goal.push_rows-entry_here-requires
+push_rows-entry_here-requires g t c κs within =
     let os = objects c.args.pool.now c.args.table.now.entries in
     let size = size-at c.args.entries.now c.loop-entry.entry-index c.entry-item.result c.loop-entry-test.true c.entry-item.is in (
       omega (arith, c.decreases, size),
@@ -50,8 +48,8 @@ tree_of_entries-entry_here-requires g t c κs within =
       ),
     )
 
-pub tree_of_entries-loop-entry-preserved : goal.tree_of_entries-loop-entry-preserved
-tree_of_entries-loop-entry-preserved g t c =
+pub push_rows-loop-entry-preserved : goal.push_rows-loop-entry-preserved
+push_rows-loop-entry-preserved g t c =
     let os = objects c.args.pool.now c.args.table.now.entries in
     let one = pushed c.push.result c.is_err.result c.push.new.self.items c.loop-entry.rows.items c.row_of.result c.is_err.ensures.negation c.if-is_err.false c.push.ensures.items in
     ap entries_of one ∙ map-append entry_of c.loop-entry.rows.items (c.row_of.result ∷ [])
@@ -62,14 +60,17 @@ tree_of_entries-loop-entry-preserved g t c =
     (some-at os c.args.entries.now c.loop-entry.entry-index c.entry-item.result c.loop-entry-test.true c.entry-item.is c.requires.sound)
     c.in_ok-held.ensures c.row_of.ensures)
 
-pub tree_of_entries-returns : goal.tree_of_entries-returns
-tree_of_entries-returns g t c =
+pub push_rows-returns : goal.push_rows-returns
+push_rows-returns g t c =
     let os = objects c.args.pool.now c.args.table.now.entries in
-    let all = take_all c.loop-entry.entry-index c.args.entries.now c.loop-entry-test.false in
-    let rows = c.loop-entry.invariant
-    ∙ ap (λ (l : Entries). map (TreeOf.entry_of g.N.Naming.digest_of) (parts_of (stored_files os) (shape_of l))) all
-    ∙ sym (entries-inside g.N.Naming.digest_of os (shape_of c.args.entries.now) c.requires.sound) in
+    c.loop-entry.invariant
+    ∙ ap
+    (λ (l : Entries). map (TreeOf.entry_of g.N.Naming.digest_of) (parts_of (stored_files os) (shape_of l)))
+    (take_all c.loop-entry.entry-index c.args.entries.now c.loop-entry-test.false)
+    ∙ sym (entries-inside g.N.Naming.digest_of os (shape_of c.args.entries.now) c.requires.sound)
+
+pub tree_of_entries-returns-in-Ok : goal.tree_of_entries-returns-in-Ok
+tree_of_entries-returns-in-Ok g t c =
     subst
-    (λ (b : List ℕ). IfOk c.name_of.result (λ id. id ≡ object_name g.N.Naming.digest_of kind.Tree b))
-    (c.deref-2.ensures.value ∙ c.in_ok-contents.ensures ∙ ap (λ (l : List declared.TreeEntry). tree_contents (entries_of l)) c.deref.ensures.value ∙ ap tree_contents rows)
-    c.name_of.ensures
+    (λ (es : List TreeEntry). IfOk c.name_of_rows.result (λ id. id ≡ tree_name g.N.Naming.digest_of es))
+    (ap entries_of c.deref.ensures.value ∙ c.in-Ok.ensures) c.name_of_rows.ensures

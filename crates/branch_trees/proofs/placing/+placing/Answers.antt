@@ -1,4 +1,4 @@
-use Rattle.std.proofs.Common.{◌≡◌, ℕ, List, [], ◌∷◌, sym, ap, ◌∙◌, subst, arith}
+use Rattle.std.proofs.Common.{◌≡◌, ℕ, List, [], ◌∷◌, sym, ap, ◌∙◌, subst, rules, arith}
 use Rattle.std.specs.Prelude.{length}
 use Rattle.std.proofs.lemmas.List.Elements.{All-head}
 use Rattle.std.proofs.lemmas.Result.{on_ok_weaker}
@@ -35,6 +35,13 @@ place-place_below-requires t c =
 pub place-put_entry-requires-clause-name : goal.place-put_entry-requires-clause-name
 place-put_entry-requires-clause-name t c =
     All-head IsComponent c.in-Some.name.now c.in-Some.rest (subst IsPath c.in-Some.ensures c.has_components.ensures)
+
+-- the directory is no stored tree any more
+pub place-returns-in-Some-split_first-clause-tree : goal.place-returns-in-Some-split_first-clause-tree
+place-returns-in-Some-split_first-clause-tree t c = search rules
+
+pub place-returns-in-None-clause-tree : goal.place-returns-in-None-clause-tree
+place-returns-in-None-clause-tree t c = search rules
 
 pub place_below-place_inside-requires : goal.place_below-place_inside-requires
 place_below-place_inside-requires t c =

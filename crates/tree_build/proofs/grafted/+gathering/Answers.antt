@@ -1,76 +1,61 @@
-use Rattle.std.proofs.Common.{ℕ, ◌+◌, take, List, sym, ap, ◌∙◌, subst, arith, rules}
-use Rattle.std.specs.List.{AllByRecursion}
+use Rattle.std.proofs.Common.{◌≡◌, List, sym, ◌∙◌, subst, arith, rules}
+use Rattle.git_model.specs.declared.file_mode.FileMode.TheVariants as mode
 use Rattle.git_objects.specs.declared.tree_entry.TreeEntry.{TreeEntry}
-use Rattle.git_objects.specs.Parts.{entries_of}
-use Rattle.git_model.specs.Repository.{Object}
-use Rattle.git_paths.specs.Paths.{IsPath}
+use Rattle.git_objects.specs.Parts.{entry_of, entries_of}
 use Rattle.tenant_tables.specs.Objects.{objects}
-use Rattle.tree_build.specs.FileMap.{Path, Listed}
 use Rattle.tree_build.specs.StoredTree.{HasTree}
-use Rattle.tree_build.proofs.Gathering.{GathersSome, gathers-none, component_at, inside_before, gathers_nothing, file_turn, directory_turn, gathers-all}
+use Rattle.tree_build.proofs.Gathering.{gathers-none, component_at, inside_before, gathers_nothing, on_ok, file-gathered, directory-gathered, entry_turn, gathers-all, weighs_less, weighs_more}
+use Rattle.tree_build.proofs.Standing.{position_of}
 use Rattle.tree_build.proofs.grafted.+gathering.Goals as goal
-use Rattle.tree_build.proofs.grafted.+gathering.Goals.{in-Directory+in_ok-gather-in-Directory, in_default+in_ok-push_file-in_default}
 
-pub returns-then-has_none-clause-gathers : goal.returns-then-has_none-clause-gathers
-returns-then-has_none-clause-gathers g t c =
+pub gather-returns-then-has_none-clause-gathers : goal.gather-returns-then-has_none-clause-gathers
+gather-returns-then-has_none-clause-gathers g t c =
     gathers_nothing g.N.Naming.digest_of c.args.pool.now c.args.table.now.entries c.requires.stands c.args.id.now c.args.top.now c.args.files.now.items c.requires.tree
     (sym c.has_none.ensures ∙ c.if-has_none.true)
 
-pub loop-entry-init : goal.loop-entry-init
-loop-entry-init g t c = record {
+pub gather-loop-entry-init : goal.gather-loop-entry-init
+gather-loop-entry-init g t c = record {
   gathered =
       gathers-none
       (objects c.args.pool.now c.args.table.now.entries) c.args.top.now c.args.files.now.items;
   paths = c.requires.paths;
 }
 
-pub child-requires : goal.child-requires
-child-requires g t c =
-    component_at
-    (objects c.args.pool.now c.args.table.now.entries) c.args.id.now c.deref-entry-items.result.now c.loop-entry.entry-index c.entry-item.result
-    (subst (λ (l : List TreeEntry). HasTree (objects c.args.pool.now c.args.table.now.entries) c.args.id.now (entries_of l)) (sym c.deref-entry-items.ensures.value) c.in_ok-entries.ensures)
-    c.loop-entry-test.true c.entry-item.is
+pub gather-gather_entry-requires : goal.gather-gather_entry-requires
+gather-gather_entry-requires g t c κs within =
+    let has =
+    subst (λ (l : List TreeEntry). HasTree (objects c.args.pool.now c.args.table.now.entries) c.args.id.now (entries_of l)) (sym c.deref-entry-items.ensures.value) c.in_ok-entries.ensures in
+    let before = λ (dir : c.entry-item.result.mode ≡ mode.Directory).
+    inside_before g.N.Naming.digest_of c.args.pool.now c.args.table.now.entries c.requires.stands c.args.id.now c.deref-entry-items.result.now c.loop-entry.entry-index c.entry-item.result has
+    c.loop-entry-test.true c.entry-item.is dir in
+    let less = weighs_less c.entry-item.result.mode
+    (position_of c.entry-item.result.id c.args.table.now.entries) (position_of c.args.id.now c.args.table.now.entries) (λ (dir : c.entry-item.result.mode ≡ mode.Directory). (before dir).0) in (
+      omega (arith, c.decreases, less),
+      (
+        search (rules, within),
+        (
+          c.requires.stands,
+          (
+            component_at
+                (objects c.args.pool.now c.args.table.now.entries) c.args.id.now c.deref-entry-items.result.now c.loop-entry.entry-index c.entry-item.result has c.loop-entry-test.true c.entry-item.is,
+            ((λ dir. (before dir).1), c.loop-entry.invariant.paths),
+          ),
+        ),
+      ),
+    )
 
-pub gather-requires : goal.gather-requires
-gather-requires g t c κs within =
-    let before =
-    inside_before g.N.Naming.digest_of c.args.pool.now c.args.table.now.entries c.requires.stands c.args.id.now c.deref-entry-items.result.now c.loop-entry.entry-index c.entry-item.result
-    (subst (λ (l : List TreeEntry). HasTree (objects c.args.pool.now c.args.table.now.entries) c.args.id.now (entries_of l)) (sym c.deref-entry-items.ensures.value) c.in_ok-entries.ensures)
-    c.loop-entry-test.true c.entry-item.is c.in-Directory.is in
-    (omega (arith, c.decreases, before.0), (search (rules, within), (c.requires.stands, (before.1, c.loop-entry.invariant.paths))))
+pub gather-loop-entry-preserved : goal.gather-loop-entry-preserved
+gather-loop-entry-preserved g t c = record {
+  gathered =
+      entry_turn
+      (objects c.args.pool.now c.args.table.now.entries) c.args.top.now c.deref-entry-items.result.now c.loop-entry.entry-index c.entry-item.result
+      c.args.files.now.items c.loop-entry.files.items c.gather_entry.new.files.items
+      c.loop-entry-test.true c.entry-item.is c.loop-entry.invariant.gathered c.in_ok-gather_entry.ensures.gathers;
+  paths = c.in_ok-gather_entry.ensures.paths;
+}
 
--- the files after one entry more
-abbrev Turned : List Object → Path → List TreeEntry → ℕ → Listed → Listed → Type 0
-Turned os top xs n old l = record { gathered : GathersSome os top (entries_of (take n xs)) old l; paths : AllByRecursion (λ f. IsPath f.0) l }
-
-pub loop-entry-preserved : goal.loop-entry-preserved
-loop-entry-preserved g t c = elim c.match-entry.branch [
-  | in-Directory+in_ok-gather-in-Directory w ↦
-      subst
-      (λ (l : Listed). Turned (objects c.args.pool.now c.args.table.now.entries) c.args.top.now c.deref-entry-items.result.now (c.loop-entry.entry-index + 1) c.args.files.now.items l)
-      (sym (ap (λ v. v.items) w.files-is))
-      (record {
-        gathered =
-            directory_turn
-            (objects c.args.pool.now c.args.table.now.entries) c.args.top.now c.deref-entry-items.result.now c.loop-entry.entry-index c.entry-item.result c.loop-entry-test.true c.entry-item.is
-            c.in_ok-path.path c.args.files.now.items c.loop-entry.files.items w.gather.new.files.items w.in-Directory.is c.in_ok-path.ensures w.in_ok-gather-in-Directory.ensures.gathers c.loop-entry.invariant.gathered;
-        paths = w.in_ok-gather-in-Directory.ensures.paths;
-      })
-  | in_default+in_ok-push_file-in_default w ↦
-      subst
-      (λ (l : Listed). Turned (objects c.args.pool.now c.args.table.now.entries) c.args.top.now c.deref-entry-items.result.now (c.loop-entry.entry-index + 1) c.args.files.now.items l)
-      (sym (ap (λ v. v.items) w.files-is))
-      (record {
-        gathered =
-            file_turn
-            (objects c.args.pool.now c.args.table.now.entries) c.args.top.now c.deref-entry-items.result.now c.loop-entry.entry-index c.entry-item.result c.loop-entry-test.true c.entry-item.is
-            c.in_ok-path.path c.args.files.now.items c.loop-entry.files.items w.push_file.new.files.items w.in_default.not-Directory c.in_ok-path.ensures w.in_ok-push_file-in_default.ensures.file c.loop-entry.invariant.gathered;
-        paths = w.in_ok-push_file-in_default.ensures.paths;
-      })
-]
-
-pub returns : goal.returns
-returns g t c = record {
+pub gather-returns : goal.gather-returns
+gather-returns g t c = record {
   gathers =
       gathers-all
       (objects c.args.pool.now c.args.table.now.entries) c.args.top.now c.args.id.now c.deref-entry-items.result.now c.loop-entry.entry-index c.args.files.now.items c.loop-entry.files.items
@@ -78,4 +63,27 @@ returns g t c = record {
       (subst (λ (l : List TreeEntry). HasTree (objects c.args.pool.now c.args.table.now.entries) c.args.id.now (entries_of l)) (sym c.deref-entry-items.ensures.value) c.in_ok-entries.ensures)
       c.loop-entry.invariant.gathered;
   paths = c.loop-entry.invariant.paths;
+}
+
+pub gather_entry-gather-requires : goal.gather_entry-gather-requires
+gather_entry-gather-requires g t c κs within =
+    let more = weighs_more c.args.entry.now.mode
+    (position_of c.args.entry.now.id c.args.table.now.entries) c.in-Directory.is in (
+      omega (arith, c.decreases, more),
+      (search (rules, within), (c.requires.stands, (c.requires.tree c.in-Directory.is, c.requires.paths))),
+    )
+
+pub gather_entry-returns-in-Directory-clause-gathers : goal.gather_entry-returns-in-Directory-clause-gathers
+gather_entry-returns-in-Directory-clause-gathers g t c =
+    on_ok c.gather.result
+    (directory-gathered (objects c.args.pool.now c.args.table.now.entries) c.args.top.now (entry_of c.args.entry.now) c.in_ok-path.path c.args.files.now.items c.gather.new.files.items c.in-Directory.is c.in_ok-path.ensures)
+    c.gather.ensures.gathers
+
+pub gather_entry-returns-in_default : goal.gather_entry-returns-in_default
+gather_entry-returns-in_default g t c = record {
+  gathers =
+      on_ok c.push_file.result
+      (file-gathered (objects c.args.pool.now c.args.table.now.entries) c.args.top.now (entry_of c.args.entry.now) c.in_ok-path.path c.args.files.now.items c.push_file.new.files.items c.in_default.not-Directory c.in_ok-path.ensures)
+      c.push_file.ensures.file;
+  paths = c.push_file.ensures.paths;
 }

@@ -1,7 +1,11 @@
 use Rattle.std.proofs.Common.{ℕ, ◌+◌, ◌≤◌, length, ap, ◌∙◌, subst, arith}
 use Rattle.tenant_tables.specs.Objects.{objects}
-use Rattle.branch_trees.specs.Branch.{root_files}
+use Rattle.tree_build.specs.StoredFiles.{stored_files}
+use Rattle.branch_trees.specs.Shape.{held_files}
+use Rattle.branch_trees.specs.Branch.{root_files, files_in}
+use Rattle.branch_trees.specs.Nodes.{held}
 use Rattle.branch_trees.proofs.Branches.{branch_few}
+use Rattle.branch_trees.proofs.Moves.{put-good, put-edits}
 use Rattle.branch_trees.proofs.Taken.{recount}
 use Rattle.branch_trees.proofs.files.Files.put_moved.Goals as goal
 
@@ -30,3 +34,13 @@ put_here-requires-clause-few g c = subst (λ (n : ℕ). n ≤ 1048576) c.require
 
 pub returns-clause-branch : goal.returns-clause-branch
 returns-clause-branch g c = λ ne. c.put_here.ensures.still ne c.in_ok-open_to.ensures.branch
+
+pub put_here-requires-clause-good : goal.put_here-requires-clause-good
+put_here-requires-clause-good g c =
+    let os = objects c.args.pool.now c.args.table.now.entries in
+    put-good (held_files (stored_files os) (held c.args.node)) c.in_ok-open_to.ensures.files c.components-to.ensures c.requires.good
+
+pub returns-clause-edits : goal.returns-clause-edits
+returns-clause-edits g c =
+    let os = objects c.args.pool.now c.args.table.now.entries in
+    put-edits c.put_here.result (files_in os c.put_here.new.self) (held_files (stored_files os) (held c.args.node)) c.in_ok-open_to.ensures.files c.components-to.ensures c.put_here.ensures.edits

@@ -1,30 +1,4 @@
-use Rattle.std.proofs.Common.{refl, sym, ap, ◌∙◌, subst}
-use Rattle.tree_build.specs.Edits.{is_empty}
-use Rattle.std.specs.List.{AllByRecursion}
-use Rattle.tree_build.specs.FileMap.{ArePairwiseApart}
-use Rattle.tree_build.specs.Kept.{IsBelow}
-use Rattle.tree_build.proofs.Apart.{moved-apart}
-use Rattle.tree_build.proofs.Edited.{edits-copied, no_source, moved-below}
 use Rattle.tree_build.proofs.files.Files.copy.Goals as goal
 
-pub returns-then-are_none : goal.returns-then-are_none
-returns-then-are_none g c = λ _. (
-  no_source c.args.from.now c.args.to.now c.self.inside.files.entries c.in_ok-copies.copies.items c.args.self.now _ c.self.invariant c.self.view_is c.in_ok-copies.ensures
-      (ap is_empty (sym c.deref.ensures.value) ∙ sym c.are_none.ensures ∙ c.if-are_none.true),
-  refl,
-)
-
-pub replace-requires-clause-below : goal.replace-requires-clause-below
-replace-requires-clause-below g c =
-    subst (AllByRecursion (IsBelow c.args.to.now)) (sym c.in_ok-copies.ensures)
-    (moved-below c.args.from.now c.args.to.now c.self.inside.files.entries c.has_components.ensures c.self.invariant.each)
-
-pub replace-requires-clause-apart : goal.replace-requires-clause-apart
-replace-requires-clause-apart g c =
-    subst ArePairwiseApart (sym c.in_ok-copies.ensures)
-    (moved-apart c.args.from.now c.args.to.now c.self.inside.files.entries c.self.invariant.apart)
-
 pub returns : goal.returns
-returns g c =
-    edits-copied c.replace.result c.args.self.now c.replace.new.self c.args.from.now c.args.to.now c.self.inside.files.entries c.in_ok-copies.copies.items c.self.invariant c.self.view_is c.in_ok-copies.ensures
-    (ap is_empty (sym c.deref.ensures.value) ∙ sym c.are_none.ensures ∙ c.if-are_none.false) c.replace.ensures
+returns g c = c.move_files.ensures
