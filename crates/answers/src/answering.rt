@@ -224,6 +224,30 @@ fn tell_or_nothing<N: Naming>(
     told
 }
 
+// Answers a query that was read on the committed objects, apart from the function that owns it.
+fn tell_committed<N: Naming>(
+    alloc: Global,
+    pool: &Pool<N>,
+    table: &Table,
+    refs: &Refs,
+    chain: &mut FirstParentChain,
+    query: &Query<'_>,
+    out: &mut Vec<u8>,
+) -> Result<(), Fault>
+    requires { StandsIn N.digest_of pool.now table.now.entries }
+    ensures told { let os = objects pool.now (in_sight Committed table.now) in
+        AreObjects N.digest_of os → IsFirstParentChain os chain.old → Prints
+        (told (record { objects = os; refs = refs.now }) query.now)
+        out.old.items out.new.items result }
+    ensures same { OnErr result (out.new.items ≡ out.old.items) }
+    ensures chain { let os = objects pool.now (in_sight Committed table.now) in
+        AreObjects N.digest_of os → IsFirstParentChain os chain.old
+        → IsFirstParentChain os chain.new }
+{
+    let objects = Objects::of(pool, table, Sight::Committed);
+    tell_or_nothing(alloc, &objects, refs, chain, query, out)
+}
+
 /// Answers a query on the committed objects of a table and the refs, after what `out` holds.
 ///
 /// | query | prints, each line with its line end |
@@ -267,6 +291,5 @@ pub fn answer<N: Naming>(
         → IsFirstParentChain os chain.new }
 {
     let query = read_query(alloc, text)?;
-    let objects = Objects::of(pool, table, Sight::Committed);
-    tell_or_nothing(alloc, &objects, refs, chain, &query, out)
+    tell_committed(alloc, pool, table, refs, chain, &query, out)
 }

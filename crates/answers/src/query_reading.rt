@@ -1,16 +1,18 @@
 //! How queries are read. Nothing is looked up.
 
-ghost use Rattle.std.specs.Prelude.{◌≡◌, position};
+ghost use Rattle.std.specs.Prelude.{◌≡◌, false, None, Some, codes, position};
 ghost use Rattle.std.specs.List.{before_first};
-ghost use Rattle.std.specs.Option.{option_and_then, option_copied, option_map};
+ghost use Rattle.std.specs.Option.{option_copied, option_map};
+ghost use Rattle.std.specs.Str.{bytes_eq};
 ghost use Rattle.answers.specs.declared.fault.Fault.TheVariants as fault;
-ghost use Rattle.revisions.specs.ExpressionReading.{expression_of, range_of};
+ghost use Rattle.answers.specs.declared.query.Word.TheVariants as words;
+ghost use Rattle.revisions.specs.ExpressionReading.{expression_of};
 ghost use Rattle.answers.specs.Faults.{Gives, or_fault};
-ghost use Rattle.answers.specs.Queries.{after_space, alone, is_space, query_by, query_of, word_of};
+ghost use Rattle.answers.specs.Queries.{after_space, is_space, query_by, query_of, word_of};
 
 use crate::fault::Fault;
 use crate::query::{Query, Word};
-use revisions::{Expression, Range, read_range};
+use revisions::{Expression, read_range};
 use std::alloc::Global;
 
 /// How many bytes a query may have.
@@ -34,44 +36,22 @@ fn split_at_space(text: &[u8]) -> (&[u8], Option<&[u8]>)
 }
 
 // The expression that a word asks for.
-fn read_expression<'a>(alloc: Global, rest: Option<&'a [u8]>) -> Result<Expression<'a>, Fault>
-    ensures { Gives result (or_fault fault.MalformedQuery
-        (option_and_then expression_of (option_copied rest.entry))) }
+fn read_expression<'a>(alloc: Global, text: &'a [u8]) -> Result<Expression<'a>, Fault>
+    ensures { Gives result (or_fault fault.MalformedQuery (expression_of text.now)) }
 {
-    let Some(text) = rest else {
-        return Err(Fault::MalformedQuery);
-    };
     let expression = Expression::read(alloc, text)?;
     Ok(expression)
 }
 
-// The range that a word asks for.
-fn read_whole_range<'a>(
-    alloc: Global,
-    rest: Option<&'a [u8]>,
-) -> Result<Range<Expression<'a>>, Fault>
-    ensures { Gives result (or_fault fault.MalformedQuery
-        (option_and_then range_of (option_copied rest.entry))) }
+fn read_log<'a>(alloc: Global, text: &'a [u8]) -> Result<Query<'a>, Fault>
+    ensures { Gives result (or_fault fault.MalformedQuery (query_by words.Log (Some text.now))) }
 {
-    let Some(text) = rest else {
-        return Err(Fault::MalformedQuery);
-    };
     let range = read_range(alloc, text)?;
-    Ok(range)
+    Ok(Query::Log(range))
 }
 
-// A word that stands alone.
-fn alone<'a>(query: Query<'a>, rest: Option<&[u8]>) -> Result<Query<'a>, Fault>
-    ensures { Gives result (or_fault fault.MalformedQuery
-        (alone query.entry (option_copied rest.entry))) }
-{
-    match rest {
-        None => Ok(query),
-        Some(_) => Err(Fault::MalformedQuery),
-    }
-}
-
-// The word that a query begins with, if it is one.
+// The word that a query begins with, where it asks of an object. The others are apart, since the
+// proof of so many comparisons grows faster than their number.
 #[tactic(auto, unfolding(crate::specs::Queries::word_of))]
 fn word_of(word: &[u8]) -> Option<Word>
     ensures { result ≡ word_of word.now }
@@ -84,7 +64,18 @@ fn word_of(word: &[u8]) -> Option<Word>
         Some(Word::Cat)
     } else if word == b"ls".as_slice() {
         Some(Word::Ls)
-    } else if word == b"log".as_slice() {
+    } else {
+        other_word_of(word)
+    }
+}
+
+#[tactic(auto, unfolding(crate::specs::Queries::word_of))]
+fn other_word_of(word: &[u8]) -> Option<Word>
+    ensures { bytes_eq word.now (codes "rev-parse") ≡ false
+        → bytes_eq word.now (codes "abbrev") ≡ false → bytes_eq word.now (codes "cat") ≡ false
+        → bytes_eq word.now (codes "ls") ≡ false → result ≡ word_of word.now }
+{
+    if word == b"log".as_slice() {
         Some(Word::Log)
     } else if word == b"refs".as_slice() {
         Some(Word::Refs)
@@ -97,20 +88,46 @@ fn word_of(word: &[u8]) -> Option<Word>
     }
 }
 
+// The query that a word alone is.
+fn alone<'a>(word: Word) -> Result<Query<'a>, Fault>
+    ensures { Gives result (or_fault fault.MalformedQuery (query_by word None)) }
+{
+    match word {
+        Word::Refs => Ok(Query::Refs),
+        Word::Head => Ok(Query::Head),
+        Word::Export => Ok(Query::Export),
+        Word::RevParse => Err(Fault::MalformedQuery),
+        Word::Abbrev => Err(Fault::MalformedQuery),
+        Word::Cat => Err(Fault::MalformedQuery),
+        Word::Ls => Err(Fault::MalformedQuery),
+        Word::Log => Err(Fault::MalformedQuery),
+    }
+}
+
+// The query that a word and a text after its space are.
+fn read_asking<'a>(alloc: Global, word: Word, text: &'a [u8]) -> Result<Query<'a>, Fault>
+    ensures { Gives result (or_fault fault.MalformedQuery (query_by word (Some text.now))) }
+{
+    match word {
+        Word::RevParse => Ok(Query::RevParse(read_expression(alloc, text)?)),
+        Word::Abbrev => Ok(Query::Abbrev(read_expression(alloc, text)?)),
+        Word::Cat => Ok(Query::Cat(read_expression(alloc, text)?)),
+        Word::Ls => Ok(Query::Ls(read_expression(alloc, text)?)),
+        Word::Log => read_log(alloc, text),
+        Word::Refs => Err(Fault::MalformedQuery),
+        Word::Head => Err(Fault::MalformedQuery),
+        Word::Export => Err(Fault::MalformedQuery),
+    }
+}
+
 // The query that a word and what stands after it are.
 fn read_after<'a>(alloc: Global, word: Word, rest: Option<&'a [u8]>) -> Result<Query<'a>, Fault>
     ensures { Gives result (or_fault fault.MalformedQuery
         (query_by word (option_copied rest.entry))) }
 {
-    match word {
-        Word::RevParse => Ok(Query::RevParse(read_expression(alloc, rest)?)),
-        Word::Abbrev => Ok(Query::Abbrev(read_expression(alloc, rest)?)),
-        Word::Cat => Ok(Query::Cat(read_expression(alloc, rest)?)),
-        Word::Ls => Ok(Query::Ls(read_expression(alloc, rest)?)),
-        Word::Log => Ok(Query::Log(read_whole_range(alloc, rest)?)),
-        Word::Refs => alone(Query::Refs, rest),
-        Word::Head => alone(Query::Head, rest),
-        Word::Export => alone(Query::Export, rest),
+    match rest {
+        Some(text) => read_asking(alloc, word, text),
+        None => alone(word),
     }
 }
 

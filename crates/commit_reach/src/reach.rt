@@ -1,6 +1,6 @@
 //! Walks from a commit to all that it reaches.
 
-ghost use Rattle.std.specs.Prelude.{◌≡◌, ◌+◌, ◌<◌, ◌≤◌, Bool, List, length, map, replicate, false, IfOk, OnOk};
+ghost use Rattle.std.specs.Prelude.{◌≡◌, ◌+◌, ◌-◌, ◌<◌, ◌≤◌, Bool, List, length, map, replicate, false, IfOk, OnOk};
 ghost use Rattle.git_model.specs.References.{object_at, parents_of};
 ghost use Rattle.git_model.specs.GoodRepository.{AreObjects};
 ghost use Rattle.git_model.specs.Reach.{reaches};
@@ -63,7 +63,26 @@ fn is_floor_reached<N: Naming>(
     let count = objects.len();
     prove!(top < count);
     let mut flags = vec![in alloc; false; top - floor + 1]?;
-    walk(alloc, objects, floor, top, &mut flags)?;
+    let is_reached = walk_to(alloc, objects, floor, top, &mut flags)?;
+    Ok(is_reached)
+}
+
+// Walks, and tells whether the commit at position `floor` was marked.
+fn walk_to<N: Naming>(
+    alloc: Global,
+    objects: &Objects<'_, N>,
+    floor: usize,
+    top: usize,
+    flags: &mut [bool],
+) -> Result<bool, Memory>
+    requires above { floor ≤ top }
+    requires within { top < length objects.now }
+    requires blank { flags.old ≡ replicate (top - floor + 1) false }
+    ensures { AreObjects N.digest_of objects.now → IfOk result (λ yes. (flags : List Bool)
+        × IsReached objects.now (object_at top objects.now).id floor flags
+        × (is_marked floor flags floor ≡ yes)) }
+{
+    walk(alloc, objects, floor, top, flags)?;
     Ok(flags[0])
 }
 
@@ -82,11 +101,25 @@ pub fn reached_from<N: Naming>(
         (λ flags. flags.items ≡ map (λ o. reaches objects.now tip.now o.id) objects.now) }
 {
     let mut flags = vec![in alloc; false; objects.len()]?;
-    let Some(top) = commit_place(objects, tip) else {
-        return Ok(flags);
-    };
-    walk(alloc, objects, 0, top, &mut flags)?;
+    mark_reached(alloc, objects, tip, &mut flags)?;
     Ok(flags)
+}
+
+// Marks the commits that the commit `tip` reaches; none where the name is no commit's.
+fn mark_reached<N: Naming>(
+    alloc: Global,
+    objects: &Objects<'_, N>,
+    tip: &Name,
+    flags: &mut [bool],
+) -> Result<(), Memory>
+    requires { flags.old ≡ replicate (length objects.now) false }
+    ensures { AreObjects N.digest_of objects.now → OnOk result
+        (flags.new ≡ map (λ o. reaches objects.now tip.now o.id) objects.now) }
+{
+    let Some(top) = commit_place(objects, tip) else {
+        return Ok(());
+    };
+    walk(alloc, objects, 0, top, flags)
 }
 
 // Marks all that the commit at position `top` reaches, from position `floor` on.

@@ -87,6 +87,45 @@ fn are_few(refs: &Refs, ref_names: &[RefName]) -> bool
     tags <= IMPORTED_REFS_LIMIT && refs.len() <= IMPORTED_REFS_LIMIT - tags
 }
 
+// Appends the export where an import may set its refs.
+fn append_if_few<N: Naming>(
+    alloc: Global,
+    objects: &Objects<'_, N>,
+    refs: &Refs,
+    reached: &[bool],
+    ref_names: &[RefName],
+    out: &mut Vec<u8>,
+) -> Result<(), Fault>
+    ensures exports { let r : Repository = record { objects = objects.now; refs = refs.now } in
+        AreObjects N.digest_of objects.now → reached.now ≡ reached_flags r
+        → ref_names.now ≡ tag_refs r → Exports r out.old.items out.new.items result }
+    ensures kept { take (length out.old.items) out.new.items ≡ out.old.items }
+{
+    if !are_few(refs, ref_names) {
+        return Err(Fault::Limit);
+    }
+    append_text(alloc, objects, refs, reached, ref_names, out)?;
+    Ok(())
+}
+
+// Appends the export, given a flag for each object that is reached. What is owned is made apart
+// from the steps that may fail: each way out of an owner makes its proof longer.
+fn append_reached<N: Naming>(
+    alloc: Global,
+    objects: &Objects<'_, N>,
+    refs: &Refs,
+    reached: &[bool],
+    out: &mut Vec<u8>,
+) -> Result<(), Fault>
+    ensures exports { let r : Repository = record { objects = objects.now; refs = refs.now } in
+        AreObjects N.digest_of objects.now → reached.now ≡ reached_flags r
+        → Exports r out.old.items out.new.items result }
+    ensures kept { take (length out.old.items) out.new.items ≡ out.old.items }
+{
+    let ref_names = tag_refs(alloc, objects, reached)?;
+    append_if_few(alloc, objects, refs, reached, &ref_names, out)
+}
+
 // Appends the export, or a piece of it where memory runs out.
 fn append_pieces<N: Naming>(
     alloc: Global,
@@ -100,12 +139,7 @@ fn append_pieces<N: Naming>(
     ensures kept { take (length out.old.items) out.new.items ≡ out.old.items }
 {
     let reached = reached(alloc, objects, refs)?;
-    let ref_names = tag_refs(alloc, objects, &reached)?;
-    if !are_few(refs, &ref_names) {
-        return Err(Fault::Limit);
-    }
-    append_text(alloc, objects, refs, &reached, &ref_names, out)?;
-    Ok(())
+    append_reached(alloc, objects, refs, &reached, out)
 }
 
 /// Appends what the refs reach, and the refs with HEAD, as a stream of git-fast-import(1).

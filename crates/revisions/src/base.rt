@@ -1,6 +1,6 @@
 //! What a base names: gitrevisions(7), "Specifying Revisions", `<sha1>`, `<refname>` and `@`.
 
-ghost use Rattle.std.specs.Prelude.{◌≡◌, ◌++◌, Option, IfOk, codes};
+ghost use Rattle.std.specs.Prelude.{◌≡◌, ◌++◌, ◌∷◌, [], Option, IfOk, codes, filter_map, slice_get};
 ghost use Rattle.git_model.specs.RefStore.{target_of};
 ghost use Rattle.tenant_tables.specs.Abbreviation.{found_among};
 ghost use Rattle.revisions.specs.declared.fault.Fault.TheVariants as fault;
@@ -67,6 +67,21 @@ fn held_by_remote(alloc: Global, refs: &Refs, base: &[u8]) -> Result<Option<Name
     Ok(refs.get(&ref_name))
 }
 
+// What the first branch of a base holds: one of this repository, or of a remote.
+fn held_by_branch(alloc: Global, refs: &Refs, base: &[u8]) -> Result<Option<Name>, Memory>
+    ensures { IfOk result (λ held. held ≡ slice_get (filter_map (target_of refs.now)
+        ((codes "refs/heads/" ++ base.now) ∷ (codes "refs/remotes/" ++ base.now)
+        ∷ (codes "refs/remotes/" ++ base.now ++ codes "/HEAD") ∷ [])) 0) }
+{
+    if let Some(id) = held_in(alloc, refs, b"refs/heads/", base)? {
+        return Ok(Some(id));
+    }
+    if let Some(id) = held_in(alloc, refs, b"refs/remotes/", base)? {
+        return Ok(Some(id));
+    }
+    held_by_remote(alloc, refs, base)
+}
+
 // What the first ref holds that a base may mean.
 fn ref_meant_by(alloc: Global, refs: &Refs, base: &[u8]) -> Result<Option<Name>, Memory>
     ensures { IfOk result (λ held. held ≡ ref_meant_by refs.now base.now) }
@@ -80,13 +95,7 @@ fn ref_meant_by(alloc: Global, refs: &Refs, base: &[u8]) -> Result<Option<Name>,
     if let Some(id) = held_in(alloc, refs, b"refs/tags/", base)? {
         return Ok(Some(id));
     }
-    if let Some(id) = held_in(alloc, refs, b"refs/heads/", base)? {
-        return Ok(Some(id));
-    }
-    if let Some(id) = held_in(alloc, refs, b"refs/remotes/", base)? {
-        return Ok(Some(id));
-    }
-    held_by_remote(alloc, refs, base)
+    held_by_branch(alloc, refs, base)
 }
 
 // The object of a base that is no HEAD and no forty digits: a ref comes before an abbreviation.

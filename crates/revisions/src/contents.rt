@@ -39,6 +39,12 @@ pub(crate) fn tree_in(alloc: Global, contents: &[u8]) -> Result<Option<Name>, Me
     }
 }
 
+fn name_at(names: &[Name], position: usize) -> Option<Name>
+    ensures { result ≡ slice_get names.now position }
+{
+    names.get(position).copied()
+}
+
 /// The parent of a commit at a position, counted from 0; `None` from the number of its parents on.
 /// The first one is read alone, since steps go by it. `Memory` (90) where there is no room to read
 /// the commit.
@@ -54,7 +60,7 @@ pub(crate) fn parent_in(
         return Ok(first_parent_in(contents));
     }
     match read_commit(alloc, contents)? {
-        Some(parts) => Ok(parts.ancestors.get(position).copied()),
+        Some(parts) => Ok(name_at(&parts.ancestors, position)),
         None => Ok(None),
     }
 }

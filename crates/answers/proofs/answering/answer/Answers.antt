@@ -1,15 +1,5 @@
-use Rattle.std.proofs.Common.{List, sym, subst}
-use Rattle.git_model.specs.GoodRepository.{AreObjects}
-use Rattle.git_model.specs.Repository.{Object}
-use Rattle.revisions.specs.FirstParents.{IsFirstParentChain}
-use Rattle.answers.specs.Answers.{told}
-use Rattle.answers.specs.Faults.{Prints}
 use Rattle.answers.proofs.answering.answer.Goals as goal
 
 pub returns-clause-told : goal.returns-clause-told
 returns-clause-told g c = λ good chain.
-    rw c.in_ok-query.ensures
-    (subst (λ (os : List Object). Prints (told (record { objects = os; refs = c.args.refs.now }) c.in_ok-query.query)
-    c.args.out.now.items c.tell_or_nothing.new.out.items c.tell_or_nothing.result) c.of-objects.ensures
-    (c.tell_or_nothing.ensures.told (subst (AreObjects g.N.Naming.digest_of) (sym c.of-objects.ensures) good)
-    (subst (λ (os : List Object). IsFirstParentChain os c.args.chain.now) (sym c.of-objects.ensures) chain)))
+    rw c.in_ok-query.ensures (c.tell_committed.ensures.told good chain)

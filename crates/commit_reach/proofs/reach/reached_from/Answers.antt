@@ -1,17 +1,22 @@
-use Rattle.std.proofs.Common.{◌∙◌, arith}
-use Rattle.commit_reach.proofs.Answers.{no_flags, all_tell, lent}
+use Rattle.std.proofs.Common.{ℕ, false, length, replicate, ap, ◌∙◌}
+use Rattle.std.proofs.lemmas.List.{length-replicate}
+use Rattle.commit_reach.proofs.Answers.{lent}
 use Rattle.commit_reach.proofs.reach.reached_from.Goals as goal
 
-pub returns-in_default-clause-reached : goal.returns-in_default-clause-reached
-returns-in_default-clause-reached g c good =
+pub mark_reached-requires : goal.mark_reached-requires
+mark_reached-requires g c =
+    c.deref_mut.ensures.value ∙ c.in_ok-flags.ensures.items_if_clones_equal (λ y e. e)
+    ∙ ap (λ (n : ℕ). replicate n false) c.len.ensures
+
+pub returns-clause-size : goal.returns-clause-size
+returns-clause-size g c =
+    let same = c.mark_reached.auto.flags ∙ ap length c.deref_mut.ensures.value in
     let blank = c.in_ok-flags.ensures.items_if_clones_equal (λ y e. e) in
-    blank ∙ rw c.len.ensures (no_flags c.args.objects.now c.args.tip.now c.in_default.ensures)
+    ap length (lent c.in_ok-flags.flags.len c.mark_reached.new.flags c.in_ok-flags.flags.items c.in_ok-flags.flags.ok.0 same)
+    ∙ same ∙ ap length blank ∙ length-replicate c.len.result false ∙ c.len.ensures
 
 pub returns-clause-reached : goal.returns-clause-reached
 returns-clause-reached g c good =
-    let size = c.in_ok-flags.ensures.len in
-    let same = c.walk.auto.flags in
-    let all = c.len.ensures in
-    lent c.in_ok-flags.flags.len c.walk.new.flags c.in_ok-flags.flags.items (omega arith) (omega arith)
-    ∙ all_tell _ c.args.objects.now good c.args.tip.now c.in-Some.top c.walk.new.flags
-    c.in-Some.ensures.0 c.in-Some.ensures.1 c.in-Some.ensures.2 (omega arith) (c.in_ok-walk.ensures good)
+    lent c.in_ok-flags.flags.len c.mark_reached.new.flags c.in_ok-flags.flags.items c.in_ok-flags.flags.ok.0
+    (c.mark_reached.auto.flags ∙ ap length c.deref_mut.ensures.value)
+    ∙ c.in_ok-mark_reached.ensures good
