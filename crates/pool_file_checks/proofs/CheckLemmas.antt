@@ -1,9 +1,15 @@
 -- Checks that are made one after another.
-use Rattle.std.proofs.Common.{◌≡◌, ℕ, ◌≤◌, Bool, length, List, [], ◌∷◌, ◌++◌, Option, Some, Result, Ok, Err, refl, sym, ap, subst, ◌∙◌, inl, inr}
+use Rattle.std.proofs.Common.{◌≡◌, ℕ, ◌≤◌, Bool, length, List, [], ◌∷◌, ◌++◌, codes, Option, Some, Result, Ok, Err, refl, sym, ap, subst, ◌∙◌, arith, inl, inr}
 use Rattle.std.specs.Prelude.{◌↔◌, ◌==◌, if◌then◌else◌, IfOk, IsTrue}
+use Rattle.std.proofs.Math.Dec.{leb}
+use Rattle.std.proofs.lemmas.Bool.{le-leb, leb-true}
+use Rattle.std.proofs.lemmas.List.{length-append}
 use Rattle.git_model.specs.declared.kind.Kind.{Kind}
 use Rattle.git_model.specs.declared.kind.Kind.TheVariants as kind
 use Rattle.git_model.specs.Content.{content_from}
+use Rattle.git_model.specs.Tag.{Tag, CanWriteTag, tag_contents}
+use Rattle.git_model.specs.Commit.{Commit, CanWriteCommit, commit_contents}
+use Rattle.git_model.specs.GoodRepository.{IsCommit, IsTag}
 use Rattle.pool_file_text.specs.declared.refusal.Refusal.{Refusal}
 use Rattle.pool_file_text.specs.declared.fault.Fault.{Fault}
 use Rattle.pool_file_text.specs.declared.fault.Fault.TheVariants as fault
@@ -61,6 +67,40 @@ either P Q (Err e) f g h = tt
 pub is_kept : {E : Type 0} (k : Kind) (bytes : List ℕ) (r : Result Bool E) → length bytes ≤ 134217728
     → IfOk r (λ b. IsTrue b ↔ IsText k bytes) → IfOk r (λ b. IsTrue b ↔ IsContent (content_from k bytes))
 is_kept k bytes r short h = either (IsText k bytes) (IsContent (content_from k bytes)) r (λ t. (short, t)) (λ q. q.1) h
+
+-- A commit that was read is one within the limits where it has not too many parents.
+pub commit_fits : (bytes : List ℕ) (made : Commit) (parents : List (List ℕ)) → parents ≡ made.parents → CanWriteCommit made → bytes ≡ commit_contents made
+    → ((c : Commit) → CanWriteCommit c → bytes ≡ commit_contents c → made ≡ c) → IsTrue (leb (length parents) 1024) ↔ ((c : Commit) × IsCommit bytes c)
+commit_fits bytes made parents same writable contents only = (
+  λ few. (
+    made,
+    record {
+      writable = writable;
+      contents = contents;
+      few_parents = subst (λ (ps : List (List ℕ)). length ps ≤ 1024) same (leb-true (length parents) 1024 few);
+    },
+  ),
+  λ x. le-leb (length parents) 1024 (subst (λ (ps : List (List ℕ)). length ps ≤ 1024)
+      (sym (same ∙ ap (λ (c : Commit). c.parents) (only x.0 x.1.writable x.1.contents))) x.1.few_parents),
+)
+
+-- A tag that was read is one within the limits where its name is not too long.
+pub tag_fits : (bytes : List ℕ) (made : Tag) → CanWriteTag made → bytes ≡ tag_contents made
+    → ((t : Tag) → CanWriteTag t → bytes ≡ tag_contents t → made ≡ t) → IsTrue (leb (length made.name) 1014) ↔ ((t : Tag) × IsTag bytes t)
+tag_fits bytes made writable contents only = (
+  λ short. (
+    made,
+    record {
+      writable = writable;
+      contents = contents;
+      short_name = let l = leb-true (length made.name) 1014 short in let s = length-append (codes "refs/tags/") made.name in omega (arith, l, s);
+    },
+  ),
+  λ x. le-leb (length made.name) 1014 (
+      let n = ap (λ (t : Tag). length t.name) (only x.0 x.1.writable x.1.contents) in let s = length-append (codes "refs/tags/") x.0.name in
+      let l = x.1.short_name in omega (arith, n, s, l)
+      ),
+)
 
 -- The kind of a byte.
 abbrev kind_of : ℕ → Kind

@@ -1,12 +1,15 @@
 -- Refs and what they may hold.
-use Rattle.std.proofs.Common.{◌≡◌, ℕ, Bool, List, [], ◌∷◌, ◌++◌, sym, subst, ◌∙◌, inl, inr}
-use Rattle.std.specs.Prelude.{◌≢◌, ◌↔◌, IsTrue, IfSome, IfOk, Result}
+use Rattle.std.proofs.Common.{◌≡◌, ℕ, ◌<◌, Bool, List, [], ◌∷◌, ◌++◌, length, codes, sym, ap, subst, ◌∙◌, inl, inr}
+use Rattle.std.specs.Prelude.{◌≢◌, ◌↔◌, All, IsTrue, IfSome, IfOk, Result}
 use Rattle.git_model.specs.declared.kind.Kind.{Kind}
 use Rattle.git_model.specs.declared.kind.Kind.TheVariants as kind
+use Rattle.git_model.specs.Tag.{Tag, CanWriteTag, tag_contents}
 use Rattle.git_model.specs.GoodRepository.{IsShortRefName}
+use Rattle.pool_file_text.specs.declared.raw.RawRef.{RawRef as Ref}
+use Rattle.pool_file_text.specs.Shown.{refs_of}
 use Rattle.pool_file_text.specs.Format.{RawObject, RawRef}
 use Rattle.pool_file_checks.specs.Objects.{kind_byte}
-use Rattle.pool_file_checks.specs.FileRefs.{MayTarget, target_at, IsGoodRef}
+use Rattle.pool_file_checks.specs.FileRefs.{IsOwnTag, MayTarget, target_at, IsGoodRef}
 use Rattle.pool_file_checks.proofs.CheckLemmas.{either}
 
 same_rest : (front x y : List ℕ) → front ++ x ≡ front ++ y → x ≡ y
@@ -28,3 +31,18 @@ good_ref front os numbers r name answer is h =
     (λ g. let same = same_rest front g.ref name (sym g.full ∙ is) in
     subst (λ (l : List ℕ). IsShortRefName l × IfSome (target_at os numbers r.place) (MayTarget l)) same (g.name, g.target))
     h
+
+pub same_places : (numbers others : List ℕ) (refs more : List Ref) → numbers ≡ others → refs ≡ more
+    → All (λ r. r.place < length numbers) (refs_of refs) → All (λ r. r.place < length others) (refs_of more)
+same_places numbers others refs more n r placed =
+    subst (λ (ns : List ℕ). All (λ r. r.place < length ns) (refs_of more)) n
+    (subst (λ (rs : List Ref). All (λ r. r.place < length numbers) (refs_of rs)) r placed)
+
+-- The ref of a tag that was read.
+pub own_tag : (ref bytes : List ℕ) (made : Tag) (is : Bool) → CanWriteTag made → bytes ≡ tag_contents made
+    → ((t : Tag) → CanWriteTag t → bytes ≡ tag_contents t → made ≡ t)
+    → IsTrue is ↔ (ref ≡ codes "refs/tags/" ++ made.name) → IsTrue is ↔ IsOwnTag ref bytes
+own_tag ref bytes made is writable contents only h = (
+  λ e. record { tag = made; writable = writable; contents = contents; ref_is = h.0 e },
+  λ own. h.1 (own.ref_is ∙ ap (λ (t : Tag). codes "refs/tags/" ++ t.name) (sym (only own.tag own.writable own.contents))),
+)

@@ -84,6 +84,21 @@ connected digest os numbers rows r own h k =
 
 -- ---- one tenant
 
+-- Its name is refused, or its numbers are.
+pub name_stops : (digest : List ℕ → List ℕ) (version : ℕ) (os : List RawObject) (last : Option (List ℕ)) (t : RawTenant) (e : Fault)
+    → Checked (name_checks version last t) (Err e) → Checked (one_tenant_checks digest version os last t) (Err e)
+name_stops digest version os last t e p =
+    front_stops (name_checks version last t) (number_checks (length os) t ++ (own_checks digest os t.numbers ++ ref_checks os t)) e p
+
+pub numbers_stop : (digest : List ℕ → List ℕ) (version : ℕ) (xs : List Read) (last : Option (List ℕ)) (t : RawTenant) (e : Fault)
+    → Checked (name_checks version last t) (Ok tt) → Checked (number_checks (length xs) t) (Err e)
+    → Checked (one_tenant_checks digest version (objects_of xs) last t) (Err e)
+numbers_stop digest version xs last t e name p =
+    let os = objects_of xs in
+    front_passes (name_checks version last t) (number_checks (length os) t ++ (own_checks digest os t.numbers ++ ref_checks os t)) (Err e) name
+    (front_stops (number_checks (length os) t) (own_checks digest os t.numbers ++ ref_checks os t) e
+    (subst (λ (n : ℕ). Checked (number_checks n t) (Err e)) (sym (length-map xs object_of)) p))
+
 -- Its name and its numbers are judged.
 pub record IsCounted (version : ℕ) (xs : List Read) (last : Option (List ℕ)) (t : RawTenant) : Type 0 where
   pub name : Passes (name_checks version last t)

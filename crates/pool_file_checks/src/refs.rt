@@ -1,6 +1,7 @@
 //! The checks of a tenant's refs and HEAD, in their order.
 
 ghost use Rattle.std.specs.Prelude.{◌↔◌, ◌<◌, map, IfOk, IsTrue, All, None};
+ghost use Rattle.tenant_refs.specs.FullName.{namespaces as namespaces_of};
 ghost use Rattle.pool_file_checks.specs.Checks.{Checked};
 ghost use Rattle.pool_file_checks.specs.FileRefs.{IsGoodRef, AreRising, ref_checks};
 ghost use Rattle.pool_file_text.specs.Shown.{objects_of, ref_of, refs_of, tenant_of};
@@ -46,6 +47,15 @@ fn are_good_refs(
     Ok(true)
 }
 
+// Whether each ref of a tenant is a good one by itself.
+fn has_good_refs(alloc: Global, objects: &[RawObject], tenant: &RawTenant) -> Result<bool, Memory>
+    ensures { IfOk result (λ b. let t = tenant_of tenant.now in IsTrue b
+        ↔ All (IsGoodRef (namespaces_of t.name) (objects_of objects.now) t.numbers) t.refs) }
+{
+    let front = namespaces(alloc, &tenant.name)?;
+    are_good_refs(alloc, &front, objects, &tenant.numbers, &tenant.refs)
+}
+
 fn are_rising(refs: &[RawRef]) -> bool
     ensures { IsTrue result ↔ AreRising None (map (λ r. r.name) (refs_of refs.now)) }
 {
@@ -77,8 +87,7 @@ fn are_placed(count: u64, refs: &[RawRef]) -> bool
 pub fn check_refs(alloc: Global, objects: &[RawObject], tenant: &RawTenant) -> Result<(), Fault>
     ensures { Checked (ref_checks (objects_of objects.now) (tenant_of tenant.now)) result }
 {
-    let front = namespaces(alloc, &tenant.name)?;
-    if !are_good_refs(alloc, &front, objects, &tenant.numbers, &tenant.refs)? {
+    if !has_good_refs(alloc, objects, tenant)? {
         return Err(Fault::Refused(Refusal::BadRef));
     }
     if !are_rising(&tenant.refs) {

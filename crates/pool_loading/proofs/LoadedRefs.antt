@@ -1,5 +1,5 @@
 -- Refs that rise, set one after another.
-use Rattle.std.proofs.Common.{◌≡◌, ◌≢◌, ℕ, ◌<◌, ◌≤◌, ◌+◌, List, [], ◌∷◌, ◌++◌, map, length, get_or, drop, codes, Option, None, Some, T, refl, sym, ap, subst, ◌∙◌, append_assoc, append-nil, arith}
+use Rattle.std.proofs.Common.{◌≡◌, ◌≢◌, ℕ, ◌<◌, ◌≤◌, ◌+◌, ◌-◌, List, [], ◌∷◌, ◌++◌, map, length, get_or, take, drop, take_all, length-drop, codes, Option, None, Some, T, refl, sym, ap, subst, ◌∙◌, append_assoc, append-nil, arith}
 use Rattle.std.specs.Prelude.{All, slice_get, unwrap_or}
 use Rattle.std.specs.Option.{option_map, option_map_or}
 use Rattle.std.specs.FinMap as finite
@@ -7,6 +7,7 @@ use Rattle.std.specs.FinMap.{is_sorted, entries-from_sorted, entries-insert, sam
 use Rattle.std.specs.FinMap.Entries.{put}
 use Rattle.std.proofs.lemmas.Cmp.{nat_list_cmp_total}
 use Rattle.std.proofs.lemmas.List.{drop_all}
+use Rattle.std.proofs.Math.Seq.{drop-append_seam}
 use Rattle.std.proofs.lemmas.Option.{slice_get-map}
 use Rattle.content_pool.specs.Pool.{Cells, content}
 use Rattle.git_model.specs.RefName.{IsRefName}
@@ -68,6 +69,15 @@ entries_so tenant pool entries [] = refl
 entries_so tenant pool entries (r ∷ rs) =
     let one = id_is pool entries r.place in
     λ i. ((ref_at tenant (objects pool entries) r).0, one i) ∷ entries_so tenant pool entries rs i
+
+-- ---- the name behind the namespaces
+
+pub ref_behind : (front full ref : List ℕ) → full ≡ front ++ ref
+    → take (length full - length front) (drop (length front) full) ≡ ref
+ref_behind front full ref same =
+    take_all (length full - length front) (drop (length front) full)
+    (omega (arith, length-drop (length front) full))
+    ∙ (ap (drop (length front)) same ∙ drop-append_seam front ref)
 
 -- ---- refs that passed the checks
 

@@ -13,7 +13,7 @@ use Rattle.git_model.specs.Repository.{Object}
 use Rattle.content_pool.specs.Pool.{Cells}
 use Rattle.content_pool.proofs.StoredLemmas.{same_content-decides}
 use Rattle.byte_devices.specs.Device.{Device}
-use Rattle.pool_file_text.specs.Sinks.{HasWritten}
+use Rattle.pool_file_text.specs.Sinks.{HasWritten, HasBroken}
 use Rattle.pool_file_text.specs.declared.raw.RawTenant.{RawTenant as Tenant}
 use Rattle.pool_file_text.specs.Format.{RawObject, RawTenant, RawFile, raw_text}
 use Rattle.pool_file_text.specs.declared.listed.LentObject.{LentObject}
@@ -196,3 +196,8 @@ pub written_so : (digest : List ℕ → List ℕ) (old new : Device) (f g : RawF
     → HasWritten old new (raw_text digest f) → HasWritten old new (raw_text digest g)
 written_so digest old new f g e h =
     subst (λ (x : RawFile). HasWritten old new (raw_text digest x)) e h
+
+pub broken_so : (digest : List ℕ → List ℕ) (old new : Device) (f g : RawFile) → f ≡ g
+    → HasBroken old new (raw_text digest f) → HasBroken old new (raw_text digest g)
+broken_so digest old new f g e h =
+    subst (λ (x : RawFile). HasBroken old new (raw_text digest x)) e h

@@ -5,8 +5,20 @@ use Rattle.std.proofs.lemmas.Result.{err_from_is_err_and}
 use Rattle.pool_file_text.specs.Shown.{objects_of, tenant_of}
 use Rattle.pool_file_checks.specs.Checks.{Passes, Checked}
 use Rattle.pool_file_checks.specs.Whole.{own_checks}
-use Rattle.pool_file_checks.proofs.WholeLemmas.{counted, own_stops, refs_decide}
+use Rattle.pool_file_checks.proofs.WholeLemmas.{name_stops, numbers_stop, counted, own_stops, refs_decide}
 use Rattle.pool_file_checks.proofs.whole.check_tenant.Goals as goal
+
+pub returns-in_err-check_name : goal.returns-in_err-check_name
+returns-in_err-check_name c =
+    let p = err_from_is_err_and c.from_residual.result c.from_residual.ensures.1 in
+    λ digest same stored judged. rw (p.1, p.2) (name_stops digest c.args.version (objects_of c.args.objects.now)
+    (option_map (λ o. o.now) c.args.last) (tenant_of c.args.tenant.now) c.in_err-check_name.field-0.0 c.in_err-check_name.ensures)
+
+pub returns-in_err-check_numbers : goal.returns-in_err-check_numbers
+returns-in_err-check_numbers c =
+    let p = err_from_is_err_and c.from_residual-in_err-check_numbers.result c.from_residual-in_err-check_numbers.ensures.1 in
+    λ digest same stored judged. rw (p.1, p.2) (numbers_stop digest c.args.version c.args.objects.now
+    (option_map (λ o. o.now) c.args.last) (tenant_of c.args.tenant.now) c.in_err-check_numbers.field-0.0 c.in_ok-check_name.ensures c.in_err-check_numbers.ensures)
 
 pub returns-in_err-check_unless_judged : goal.returns-in_err-check_unless_judged
 returns-in_err-check_unless_judged c =

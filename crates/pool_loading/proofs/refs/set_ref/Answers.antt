@@ -1,14 +1,21 @@
-use Rattle.std.proofs.Common.{◌≡◌, ◌-◌, ap, ◌∙◌, take, drop, length, take_all, length-drop, arith}
-use Rattle.pool_loading.proofs.LoadedRefs.{target_is}
+use Rattle.std.proofs.Common.{◌≡◌, drop, length, sym, ap, subst, ◌∙◌}
+use Rattle.std.proofs.Math.Seq.{drop-append_seam}
+use Rattle.git_model.specs.GoodRepository.{IsShortRefName}
+use Rattle.pool_loading.proofs.LoadedRefs.{ref_behind, target_is}
 use Rattle.pool_loading.proofs.refs.set_ref.Goals as goal
+
+pub read_ref_name-requires : goal.read_ref_name-requires
+read_ref_name-requires c =
+    let full = c.as_slice-full.ensures.value ∙ c.requires.full in
+    subst IsShortRefName
+    (sym (ref_behind c.args.front.now c.as_slice-full.result.now c.requires.ref full)) c.requires.name
 
 pub returns : goal.returns
 returns c =
+    let front = c.args.front.now in
     let id = target_is c.args.table.now.entries c.args.one.now.place _ _ c.in-Some.ensures in
-    let size = length c.args.front.now in
-    let full = c.as_slice-full.result.now in
-    let rest : take (length full - size) (drop size full) ≡ drop size full =
-    take_all (length full - size) (drop size full) (omega (arith, length-drop size full)) in
-    let name : c.in_ok-ref_name.ref_name ≡ drop size c.args.one.now.name.items =
-    c.in_ok-ref_name.ensures ∙ rest ∙ ap (drop size) c.as_slice-full.ensures.value in
+    let full = c.as_slice-full.ensures.value ∙ c.requires.full in
+    let name : c.in_ok-ref_name.ref_name ≡ drop (length front) c.args.one.now.name.items =
+    c.in_ok-ref_name.ensures ∙ ref_behind front c.as_slice-full.result.now c.requires.ref full
+    ∙ sym (ap (drop (length front)) c.requires.full ∙ drop-append_seam front c.requires.ref) in
     rw (id, ← name) c.set.ensures.set

@@ -1,0 +1,22 @@
+use Rattle.std.proofs.Common.{◌≡◌, ap, subst}
+use Rattle.std.specs.Prelude.{IfSome}
+use Rattle.std.specs.Option.{IsSomeAnd, is_some}
+use Rattle.std.proofs.lemmas.Bool.{false≢true}
+use Rattle.git_model.specs.Commit.{CanWriteCommit, commit_contents}
+use Rattle.git_objects.specs.Parts.{commit_of}
+use Rattle.pool_file_checks.proofs.CheckLemmas.{commit_fits}
+use Rattle.pool_file_checks.proofs.contents.is_commit.Goals as goal
+
+pub returns-in-Ok-Some : goal.returns-in-Ok-Some
+returns-in-Ok-Some c =
+    let e = c.in-Ok-Some.ensures in
+    let is = c.in-Ok-Some.field-0-is in
+    let found = subst (λ o. IfSome o (λ parts. CanWriteCommit (commit_of parts) × (c.args.bytes.now ≡ commit_contents (commit_of parts)))) is e.found in
+    commit_fits c.args.bytes.now (commit_of c.in-Ok-Some.parts) c.as_slice.result.now c.as_slice.ensures.value found.0 found.1
+    (λ made writable same. subst (λ o. IsSomeAnd o (λ parts. commit_of parts ≡ made)) is (e.only made writable same))
+
+pub returns-in-Ok-None : goal.returns-in-Ok-None
+returns-in-Ok-None c = (
+  λ e. absurd (false≢true e),
+  λ x. absurd (c.in-Ok-None.ensures.exact (ap is_some c.in-Ok-None.field-0-is) x.0 x.1.writable x.1.contents),
+)
