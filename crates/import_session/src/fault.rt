@@ -5,37 +5,52 @@ ghost use Rattle.import_session.specs.Faults.{code_of};
 
 use git_objects::Memory;
 use std::alloc::{AllocError, AllocFailed};
+use thiserror::Error;
 
 /// Why an item, or the end of a stream, was refused.
-#[derive(Clone, Copy)]
+#[derive(Clone, Copy, Debug, PartialEq, Eq, Error)]
 pub enum Fault {
     /// The text of the item, or its place: a fault of the grammar, under its number.
+    #[error("{0}")]
     Text(stream_grammar::Fault),
     /// What stands for a commit is no expression, 3.
+    #[error("malformed expression")]
     Malformed,
     /// The stream asked for `done` and ended without it, 7.
+    #[error("done missing")]
     DoneMissing,
     /// No object has this mark, 13.
+    #[error("no object has this mark")]
     MarkUnknown,
     /// The repository has no object of this name, 14.
+    #[error("no object has this name")]
     ObjectUnknown,
     /// The object is of another kind than the command asks for, 15.
+    #[error("the object is of another kind")]
     WrongKind,
     /// What stands for an object names none that the repository has, 16.
+    #[error("unknown revision")]
     UnknownRevision,
     /// Several object names begin so, 17.
+    #[error("ambiguous abbreviation")]
     Ambiguous,
     /// No file stands at the source of a copy or of a rename, 18.
+    #[error("no file stands there")]
     SourceMissing,
     /// A branch is to start from itself, 19.
+    #[error("a branch from itself")]
     BranchFromItself,
     /// A file would stand at the root of a commit, 20.
+    #[error("root must be a directory")]
     RootNotDirectory,
     /// Another content of this repository has the name of the new one, 24.
+    #[error("another content has this object name")]
     NameCollision,
     /// A limit is passed, 25.
+    #[error("a limit is passed")]
     Limit,
     /// A growth was refused, 90.
+    #[error("out of memory")]
     Memory,
 }
 
