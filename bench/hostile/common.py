@@ -1,5 +1,5 @@
-"""What the scripts of this folder share: the programs under test, frames and their answers, worked streams, and the count
-at the end."""
+"""What the scripts of this folder share: the programs under test, frames and their answers, worked streams, the cases of
+streams/tenants, and the count at the end."""
 import os
 import struct
 import subprocess
@@ -8,7 +8,9 @@ import sys
 HERE = os.path.dirname(os.path.abspath(__file__))
 TOP = os.path.join(HERE, "..", "..")
 STREAMS = os.path.join(TOP, "streams")
-OPEN, FEED, END, ASK, RESTART = 1, 2, 3, 4, 5
+sys.path.append(STREAMS)
+from steps import ASK, END, FEED, OPEN, RESTART, cases
+
 OK, FAULT, MEMORY = 0, 1, 2
 ANSWER = struct.Struct(">BQQ")
 PIECE = 16_777_216

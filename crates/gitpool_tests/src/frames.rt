@@ -4,6 +4,7 @@ use crate::one_byte::OneByte;
 use git_objects::{Counted, FailingReader, FailingWriter, Memory, Naming, Sha1Naming, TailNaming};
 use gitpool::{FrameFault, Service, serve};
 use std::alloc::Global;
+use std::io::{Read, Write};
 use std::test::Fail;
 
 /// Open of `t`, a Feed of `progress x` and its line end, an Ask and the End: 8, 19, 12 and 8 bytes.
@@ -25,30 +26,46 @@ pub fn answered(given: usize) -> usize {
     }
 }
 
-// Serves frames over an empty service: how it ended, and what was written.
+/// Serves frames over an empty service: how it ended.
+pub fn serve_empty<N: Naming, R: Read, W: Write>(
+    alloc: Global,
+    naming: N,
+    reader: &mut Counted<R>,
+    writer: &mut Counted<W>,
+) -> Result<(), FrameFault> {
+    let mut service = Service::new(alloc, naming);
+    serve(alloc, &mut service, reader, writer)
+}
+
+// The same of these bytes, and what was written.
 fn served<N: Naming>(
     alloc: Global,
     naming: N,
     bytes: &[u8],
     out: &mut Vec<u8>,
 ) -> Result<(), FrameFault> {
-    let mut service = Service::new(alloc, naming);
-    let mut reader = Counted::new(bytes);
     let mut writer = Counted::new(Vec::new(alloc));
-    let ended = serve(alloc, &mut service, &mut reader, &mut writer);
+    let ended = serve_empty(alloc, naming, &mut Counted::new(bytes), &mut writer);
     *out = writer.into_inner();
     ended
 }
 
+// Whether these bytes end so, and are answered so.
+fn go<N: Naming>(
+    alloc: Global,
+    naming: N,
+    bytes: &[u8],
+    ended: Result<(), FrameFault>,
+    answers: &[u8],
+) -> bool {
+    let mut out = Vec::new(alloc);
+    served(alloc, naming, bytes, &mut out) == ended && out.as_slice() == answers
+}
+
 #[test]
 fn answers_each_frame(rt: HostRuntime) {
-    let mut out = Vec::new(rt.alloc());
-    let ended = served(rt.alloc(), Sha1Naming, FRAMES, &mut out);
-    assert_eq!(rt; ended, Ok(()));
-    assert!(rt; out.as_slice() == ANSWERS);
-    let mut out = Vec::new(rt.alloc());
-    assert_eq!(rt; served(rt.alloc(), TailNaming, b"", &mut out), Ok(()));
-    assert!(rt; out.is_empty());
+    assert!(rt; go(rt.alloc(), Sha1Naming, FRAMES, Ok(()), ANSWERS));
+    assert!(rt; go(rt.alloc(), TailNaming, b"", Ok(()), b""));
 }
 
 // Texts that are no frame, or are cut off in one.
@@ -59,36 +76,30 @@ const ENDS: &[(&[u8], FrameFault)] = &[
     (b"\x02\0\x01t\0\0\0\x02x", FrameFault::CutOff),
 ];
 
-// Whether these bytes are answered so, and end with this fault.
-fn ends(alloc: Global, bytes: &[u8], fault: FrameFault, answers: &[u8]) -> bool {
-    let mut out = Vec::new(alloc);
-    let ended = served(alloc, Sha1Naming, bytes, &mut out);
-    ended == Err(fault) && out.as_slice() == answers
-}
-
-// The same of these bytes after whole frames.
-fn ends_after_frames(alloc: Global, bytes: &[u8], fault: FrameFault) -> Result<bool, Memory> {
+// Whether these bytes end with this fault, and after whole frames too.
+fn end_with(alloc: Global, bytes: &[u8], fault: FrameFault) -> Result<bool, Memory> {
     let mut both = Vec::from_slice(alloc, FRAMES)?;
     both.extend_from_slice(bytes)?;
-    Ok(ends(alloc, &both, fault, ANSWERS))
+    Ok(
+        go(alloc, Sha1Naming, bytes, Err(fault), b"")
+            && go(alloc, Sha1Naming, &both, Err(fault), ANSWERS),
+    )
+}
+
+// The first of the texts, by its place, that ends otherwise.
+fn first_otherwise(alloc: Global) -> Result<Option<usize>, Memory> {
+    for (place, (bytes, fault)) in ENDS.iter().enumerate() {
+        if !end_with(alloc, bytes, *fault)? {
+            return Ok(Some(place));
+        }
+    }
+    Ok(None)
 }
 
 #[test]
 fn ends_at_a_bad_frame_after_the_answers(rt: HostRuntime) -> Result<(), Fail> {
-    for (bytes, fault) in ENDS {
-        assert!(rt; ends(rt.alloc(), bytes, *fault, b""));
-        assert!(rt; ends_after_frames(rt.alloc(), bytes, *fault)?);
-    }
+    assert_eq!(rt; first_otherwise(rt.alloc())?, None);
     Ok(())
-}
-
-#[test]
-fn answers_a_frame_without_a_name(rt: HostRuntime) {
-    let mut out = Vec::new(rt.alloc());
-    let ended = served(rt.alloc(), Sha1Naming, b"\x02\0\0\0\0\0\0", &mut out);
-    assert_eq!(rt; ended, Ok(()));
-    let answer = b"\x01\0\0\0\0\0\0\0\x20\0\0\0\0\0\0\0\0";
-    assert!(rt; out.as_slice() == answer.as_slice());
 }
 
 // Whether a front of the frames is answered up to the last whole one.
@@ -118,10 +129,9 @@ fn with_failing_reader(
     nth: u64,
     out: &mut Vec<u8>,
 ) -> (Result<(), FrameFault>, u64) {
-    let mut service = Service::new(alloc, Sha1Naming);
     let mut reader = Counted::new(FailingReader::new(OneByte::new(FRAMES), nth));
     let mut writer = Counted::new(Vec::new(alloc));
-    let ended = serve(alloc, &mut service, &mut reader, &mut writer);
+    let ended = serve_empty(alloc, Sha1Naming, &mut reader, &mut writer);
     *out = writer.into_inner();
     (ended, reader.faults())
 }
@@ -142,10 +152,8 @@ fn tells_each_read_that_fails(rt: HostRuntime) {
 }
 
 fn with_failing_writer(alloc: Global, nth: u64, out: &mut Vec<u8>) -> Result<(), FrameFault> {
-    let mut service = Service::new(alloc, Sha1Naming);
-    let mut reader = Counted::new(FRAMES);
     let mut writer = Counted::new(FailingWriter::new(Vec::new(alloc), nth));
-    let ended = serve(alloc, &mut service, &mut reader, &mut writer);
+    let ended = serve_empty(alloc, Sha1Naming, &mut Counted::new(FRAMES), &mut writer);
     *out = writer.into_inner().into_inner();
     ended
 }

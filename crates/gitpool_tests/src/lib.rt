@@ -1,17 +1,41 @@
-//! Tests of whole streams, over the crates together. Nothing else stands here.
+//! Tests of whole services and whole streams, over the crates together. Nothing else stands here.
 #![tactic(auto)]
 
 #[cfg(test)]
+mod by_sum;
+#[cfg(test)]
+mod copies;
+#[cfg(test)]
 mod devices;
+#[cfg(test)]
+mod exports;
 #[cfg(test)]
 mod frames;
 #[cfg(test)]
+mod held;
+#[cfg(test)]
+mod limits;
+#[cfg(test)]
 mod one_byte;
 #[cfg(test)]
-mod services;
+mod replies;
+#[cfg(test)]
+mod rows;
+#[cfg(test)]
+mod saved;
+#[cfg(test)]
+mod saved_tenants;
 #[cfg(test)]
 mod single_frames;
 #[cfg(test)]
+mod stops;
+#[cfg(test)]
 mod streams;
+#[cfg(test)]
+mod told;
+#[cfg(test)]
+mod twins;
+#[cfg(test)]
+mod two_tenants;
 #[cfg(test)]
 mod watched;

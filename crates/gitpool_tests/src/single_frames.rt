@@ -1,7 +1,7 @@
 //! Frames read and answers written, beside bytes derived by hand.
 
 use git_objects::{Counted, FailingReader, FailingWriter};
-use std::alloc::Global;
+use std::alloc::{AllocError, Global};
 use std::io::Read;
 use std::test::Fail;
 use step_frames::{Answer, FrameFault, Frames, Step, write_answer};
@@ -57,16 +57,26 @@ const TOLD: &[(Answer, &[u8])] = &[
     ),
 ];
 
-// Whether these bytes are read as these steps and no more, and how many bytes that takes.
-fn reads_steps(alloc: Global, bytes: &[u8], steps: &[Step<'_>]) -> Result<(bool, u64), Fail> {
-    let mut reader = Counted::new(bytes);
-    let mut frames = Frames::new(alloc);
+// Whether a reader is read as these steps and no more.
+fn are_read<R: Read>(
+    frames: &mut Frames,
+    reader: &mut Counted<R>,
+    steps: &[Step<'_>],
+) -> Result<bool, FrameFault> {
     for step in steps {
-        if frames.next(&mut reader)? != Some(*step) {
-            return Ok((false, 0));
+        if frames.next(reader)? != Some(*step) {
+            return Ok(false);
         }
     }
-    Ok((frames.next(&mut reader)?.is_none(), reader.passed()))
+    Ok(frames.next(reader)?.is_none())
+}
+
+// The same of these bytes, and how many bytes that takes.
+fn reads_steps(alloc: Global, bytes: &[u8], steps: &[Step<'_>]) -> (Result<bool, FrameFault>, u64) {
+    let mut reader = Counted::new(bytes);
+    let mut frames = Frames::new(alloc);
+    let told = are_read(&mut frames, &mut reader, steps);
+    (told, reader.passed())
 }
 
 // How many frames these bytes have, six at most, and the fault that ends them. Want of memory
@@ -102,16 +112,33 @@ fn is_read_to_its_end(alloc: Global, front: &[u8]) -> Result<bool, Fail> {
     Ok(ends.checked_sub(1) == Some(count) && fault == wanted)
 }
 
-// How many bytes the body of a frame of the most bytes has, as it is read.
-fn size_of_the_longest_body(alloc: Global) -> Result<Option<usize>, Fail> {
-    let mut bytes = Vec::from_slice(alloc, b"\x02\0\x01t\x01\0\0\0")?;
-    bytes.resize(16_777_216 + 8, b'x')?;
-    let mut reader = Counted::new(bytes.as_slice());
-    let mut frames = Frames::new(alloc);
-    match frames.next(&mut reader)? {
+// How many bytes the body of the first frame has; none where it is no Feed.
+fn size_of_body<R: Read>(
+    frames: &mut Frames,
+    reader: &mut Counted<R>,
+) -> Result<Option<usize>, FrameFault> {
+    match frames.next(reader)? {
         Some(Step::Feed { bytes, .. }) => Ok(Some(bytes.len())),
         _ => Ok(None),
     }
+}
+
+fn size_of_body_of(alloc: Global, bytes: &[u8]) -> Result<Option<usize>, FrameFault> {
+    let mut reader = Counted::new(bytes);
+    let mut frames = Frames::new(alloc);
+    size_of_body(&mut frames, &mut reader)
+}
+
+// A frame whose body has the most bytes.
+fn longest_frame(alloc: Global) -> Result<Vec<u8>, AllocError> {
+    let mut bytes = Vec::from_slice(alloc, b"\x02\0\x01t\x01\0\0\0")?;
+    bytes.resize(16_777_216 + 8, b'x')?;
+    Ok(bytes)
+}
+
+fn is_longest_read(alloc: Global) -> Result<bool, AllocError> {
+    let bytes = longest_frame(alloc)?;
+    Ok(size_of_body_of(alloc, &bytes) == Ok(Some(16_777_216)))
 }
 
 // What is told of a reader that fails in the second frame, and how often it failed.
@@ -122,37 +149,81 @@ fn read_to_a_failure(alloc: Global) -> Result<(usize, Option<FrameFault>, u64), 
 }
 
 #[test]
-fn reads_a_step_of_each_kind_and_a_body_of_the_most_bytes(rt: HostRuntime) -> Result<(), Fail> {
-    assert_eq!(rt; reads_steps(rt.alloc(), FRAMES, STEPS)?, (true, 46));
-    assert_eq!(rt; size_of_the_longest_body(rt.alloc())?, Some(16_777_216));
+fn reads_a_step_of_each_kind(rt: HostRuntime) {
+    assert_eq!(rt; reads_steps(rt.alloc(), FRAMES, STEPS), (Ok(true), 46));
+}
+
+#[test]
+fn reads_a_body_of_the_most_bytes(rt: HostRuntime) -> Result<(), Fail> {
+    assert!(rt; is_longest_read(rt.alloc())?);
+    Ok(())
+}
+
+// Whether these bytes are refused, once so many of them are read.
+fn is_refused_at(alloc: Global, bytes: &[u8], passed: u64) -> Result<bool, Fail> {
+    let mut reader = Counted::new(bytes);
+    let seen = read_frames(alloc, &mut reader)?;
+    Ok(seen == (0, Some(FrameFault::BadFrame)) && reader.passed() == passed)
+}
+
+// The first of the wrong parts, by its place, that is told otherwise.
+fn first_otherwise(alloc: Global) -> Result<Option<usize>, Fail> {
+    for (place, (bytes, passed)) in BAD.iter().enumerate() {
+        if !is_refused_at(alloc, bytes, *passed)? {
+            return Ok(Some(place));
+        }
+    }
+    Ok(None)
+}
+
+// The first of the fronts, by its size, that is read otherwise.
+fn first_front_otherwise(alloc: Global) -> Result<Option<usize>, Fail> {
+    for size in 0..FRAMES.len() + 1 {
+        if !is_read_to_its_end(alloc, FRAMES.split_at(size).0)? {
+            return Ok(Some(size));
+        }
+    }
+    Ok(None)
+}
+
+#[test]
+fn tells_a_wrong_part(rt: HostRuntime) -> Result<(), Fail> {
+    assert_eq!(rt; first_otherwise(rt.alloc())?, None);
     Ok(())
 }
 
 #[test]
-fn tells_a_wrong_part_a_frame_that_is_cut_off_and_a_reader_that_fails(
-    rt: HostRuntime,
-) -> Result<(), Fail> {
-    for (bytes, passed) in BAD {
-        let mut reader = Counted::new(*bytes);
-        let seen = read_frames(rt.alloc(), &mut reader)?;
-        assert_eq!(rt; seen, (0, Some(FrameFault::BadFrame)), "{bytes:?}");
-        assert_eq!(rt; reader.passed(), *passed, "{bytes:?}");
-    }
-    for size in 0..FRAMES.len() + 1 {
-        assert!(rt;
-            is_read_to_its_end(rt.alloc(), FRAMES.split_at(size).0)?,
-            "at {size}"
-        );
-    }
+fn tells_a_frame_that_is_cut_off(rt: HostRuntime) -> Result<(), Fail> {
+    assert_eq!(rt; first_front_otherwise(rt.alloc())?, None);
+    Ok(())
+}
+
+#[test]
+fn tells_a_reader_that_fails(rt: HostRuntime) -> Result<(), Fail> {
     let failed = read_to_a_failure(rt.alloc())?;
     assert_eq!(rt; failed, (1, Some(FrameFault::Device), 1));
     Ok(())
 }
 
-fn told(alloc: Global, answer: Answer) -> Result<Vec<u8>, Fail> {
+// Whether an answer is told as these bytes.
+fn is_told(alloc: Global, answer: Answer, text: &[u8]) -> bool {
     let mut writer = Counted::new(Vec::new(alloc));
-    write_answer(&mut writer, answer, b"x\n")?;
-    Ok(writer.into_inner())
+    let is_written = write_answer(&mut writer, answer, b"x\n").is_ok();
+    is_written && writer.into_inner().as_slice() == text
+}
+
+fn first_answer_otherwise(alloc: Global) -> Option<usize> {
+    for (place, (answer, text)) in TOLD.iter().enumerate() {
+        if !is_told(alloc, *answer, text) {
+            return Some(place);
+        }
+    }
+    None
+}
+
+#[test]
+fn writes_each_answer(rt: HostRuntime) {
+    assert_eq!(rt; first_answer_otherwise(rt.alloc()), None);
 }
 
 // Whether an answer is told by a writer whose call `nth` fails, how often that failed, and how many
@@ -164,21 +235,20 @@ fn told_to_a_failure(alloc: Global, nth: u64) -> (bool, u64, u64) {
 }
 
 #[test]
-fn writes_each_answer_and_tells_a_writer_that_fails(rt: HostRuntime) -> Result<(), Fail> {
-    for (answer, text) in TOLD {
-        assert_eq!(rt; told(rt.alloc(), *answer)?.as_slice(), *text, "{answer:?}");
-    }
+fn tells_a_writer_that_fails(rt: HostRuntime) {
     for nth in 0..19_u64 {
         assert_eq!(rt; told_to_a_failure(rt.alloc(), nth), (false, 1, nth));
     }
     assert_eq!(rt; told_to_a_failure(rt.alloc(), 19), (true, 0, 19));
-    Ok(())
 }
 
 #[test]
 fn has_a_number_for_each_fault(rt: HostRuntime) {
-    assert_eq!(rt; FrameFault::BadFrame.code(), 50);
-    assert_eq!(rt; FrameFault::CutOff.code(), 51);
-    assert_eq!(rt; FrameFault::Device.code(), 68);
-    assert_eq!(rt; FrameFault::Memory.code(), 90);
+    let faults = [
+        FrameFault::BadFrame,
+        FrameFault::CutOff,
+        FrameFault::Device,
+        FrameFault::Memory,
+    ];
+    assert_eq!(rt; faults.map(|fault| fault.code()), [50, 51, 68, 90]);
 }

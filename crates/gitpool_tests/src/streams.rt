@@ -1,10 +1,9 @@
 //! Imports of streams, and what else ends an import. What each worked stream prints is asked of
 //! frames (crate gitpool_frames).
 
-use git_objects::{Counted, Sha1Naming, TailNaming};
+use git_objects::{Counted, Naming, Sha1Naming, TailNaming};
 use gitpool::{ImportFault, import_one};
 use std::alloc::Global;
-use std::test::Fail;
 
 // A stream of the folder `streams/`, by its name there, what it prints, and the fault that it gets.
 struct Import {
@@ -44,22 +43,26 @@ const IMPORTS: &[Import] = &[
 ];
 
 // The fault of a stream, and what was written.
-fn run(alloc: Global, stream: &[u8], out: &mut Vec<u8>) -> Option<ImportFault> {
-    let mut reader = Counted::new(stream);
+fn run<N: Naming>(
+    alloc: Global,
+    naming: N,
+    stream: &[u8],
+    out: &mut Vec<u8>,
+) -> Option<ImportFault> {
     let mut writer = Counted::new(Vec::new(alloc));
-    let ended = import_one(alloc, Sha1Naming, &mut reader, &mut writer);
+    let ended = import_one(alloc, naming, &mut Counted::new(stream), &mut writer);
     *out = writer.into_inner();
     ended.err()
 }
 
-fn goes_so(alloc: Global, import: &Import) -> bool {
+fn goes_so<N: Naming>(alloc: Global, naming: N, import: &Import) -> bool {
     let mut out = Vec::new(alloc);
-    run(alloc, import.stream, &mut out) == import.fault && out.as_slice() == import.replies
+    run(alloc, naming, import.stream, &mut out) == import.fault && out.as_slice() == import.replies
 }
 
 fn first_wrong(alloc: Global) -> Option<&'static str> {
     for import in IMPORTS {
-        if !goes_so(alloc, import) {
+        if !goes_so(alloc, Sha1Naming, import) {
             return Some(import.name);
         }
     }
@@ -67,28 +70,29 @@ fn first_wrong(alloc: Global) -> Option<&'static str> {
 }
 
 #[test]
-fn prints_what_git_prints_and_refuses_by_number(rt: HostRuntime) -> Result<(), Fail> {
+fn prints_what_git_prints_and_refuses_by_number(rt: HostRuntime) {
     assert_eq!(rt; first_wrong(rt.alloc()), None);
-    Ok(())
 }
 
-// Under this naming `ab` and `ba` have one name.
+// Under the naming by a sum `ab` and `ba` have one name.
+const SECOND_CONTENT: &Import = &Import {
+    name: "second content",
+    stream: b"blob\nmark :1\ndata 2\nabblob\ndata 2\nabcat-blob :1\nblob\ndata 2\nba",
+    replies: b"abababababababababababababababababababb4 blob 2\nab\n",
+    fault: Some(ImportFault::Stream(24)),
+};
+
 #[test]
 fn refuses_a_second_content_of_one_name(rt: HostRuntime) {
-    let stream = b"blob\nmark :1\ndata 2\nabblob\ndata 2\nabcat-blob :1\nblob\ndata 2\nba";
-    let mut reader = Counted::new(stream.as_slice());
-    let mut writer = Counted::new(Vec::new(rt.alloc()));
-    let ended = import_one(rt.alloc(), TailNaming, &mut reader, &mut writer);
-    assert_eq!(rt; ended, Err(ImportFault::Stream(24)));
-    assert_eq!(rt;
-        writer.into_inner().as_slice(),
-        b"abababababababababababababababababababb4 blob 2\nab\n".as_slice()
-    );
+    assert!(rt; goes_so(rt.alloc(), TailNaming, SECOND_CONTENT));
 }
 
 #[test]
 fn numbers_what_ends_an_import(rt: HostRuntime) {
-    assert_eq!(rt; ImportFault::Stream(13).code(), 13);
-    assert_eq!(rt; ImportFault::Device.code(), 68);
-    assert_eq!(rt; ImportFault::Memory.code(), 90);
+    let codes = [
+        ImportFault::Stream(13),
+        ImportFault::Device,
+        ImportFault::Memory,
+    ];
+    assert_eq!(rt; codes.map(|fault| fault.code()), [13, 68, 90]);
 }

@@ -4,10 +4,11 @@
 ghost use Rattle.std.specs.Prelude.{None};
 
 use crate::devices::{STREAM, replied};
-use crate::frames::{FRAMES, answered};
+use crate::frames::{FRAMES, answered, serve_empty};
 use crate::one_byte::OneByte;
 use git_objects::{Counted, Sha1Naming};
-use gitpool::{Service, import_one, serve};
+use gitpool::{FrameFault, ImportFault, import_one};
+use std::alloc::Global;
 use std::cell::Cell;
 use std::io;
 use std::io::{Read, Write};
@@ -72,8 +73,9 @@ impl<'a> Write for WatchedWriter<'a> {
     }
 }
 
-#[test]
-fn writes_each_reply_before_it_reads_on(rt: HostRuntime) {
+// How an import of the stream ends: how many bytes were read and written, and how often a call of
+// the reader found others written than are due.
+fn import_watched(alloc: Global) -> (Result<(), ImportFault>, (u64, u64, u64)) {
     let written = Cell::new(0);
     let late = Cell::new(0);
     let mut reader = Counted::new(WatchingReader {
@@ -84,18 +86,19 @@ fn writes_each_reply_before_it_reads_on(rt: HostRuntime) {
         late: &late,
     });
     let mut writer = Counted::new(WatchedWriter { written: &written });
-    let ended = import_one(rt.alloc(), Sha1Naming, &mut reader, &mut writer);
-    assert!(rt; ended.is_ok());
-    assert_eq!(rt; reader.passed(), 49);
-    assert_eq!(rt; written.get(), 52);
-    assert_eq!(rt; late.get(), 0);
+    let ended = import_one(alloc, Sha1Naming, &mut reader, &mut writer);
+    (ended, (reader.passed(), written.get(), late.get()))
 }
 
 #[test]
-fn writes_each_answer_before_it_reads_on(rt: HostRuntime) {
+fn writes_each_reply_before_it_reads_on(rt: HostRuntime) {
+    assert_eq!(rt; import_watched(rt.alloc()), (Ok(()), (49, 52, 0)));
+}
+
+// The same of frames over an empty service.
+fn serve_watched(alloc: Global) -> (Result<(), FrameFault>, (u64, u64, u64)) {
     let written = Cell::new(0);
     let late = Cell::new(0);
-    let mut service = Service::new(rt.alloc(), Sha1Naming);
     let mut reader = Counted::new(WatchingReader {
         reader: OneByte::new(FRAMES),
         due: Due::Answers,
@@ -104,9 +107,11 @@ fn writes_each_answer_before_it_reads_on(rt: HostRuntime) {
         late: &late,
     });
     let mut writer = Counted::new(WatchedWriter { written: &written });
-    let ended = serve(rt.alloc(), &mut service, &mut reader, &mut writer);
-    assert!(rt; ended.is_ok());
-    assert_eq!(rt; reader.passed(), 47);
-    assert_eq!(rt; written.get(), 79);
-    assert_eq!(rt; late.get(), 0);
+    let ended = serve_empty(alloc, Sha1Naming, &mut reader, &mut writer);
+    (ended, (reader.passed(), written.get(), late.get()))
+}
+
+#[test]
+fn writes_each_answer_before_it_reads_on(rt: HostRuntime) {
+    assert_eq!(rt; serve_watched(rt.alloc()), (Ok(()), (47, 79, 0)));
 }

@@ -10,8 +10,8 @@
 //! service.step(Step::End { tenant: b"a" }, &mut out);          the last checkpoint, and no stream
 //! ```
 //!
-//! Each answers `Answer::Ok`, and `out` has what the stream prints: crates/two_tenants is a
-//! program.
+//! Each answers `Answer::Ok`, and `out` has what the stream prints: crates/gitpool_tests has an
+//! example, `two_tenants`.
 
 ghost use Rattle.std.specs.Prelude.{◌≡◌, ◌+◌, ◌^◌, ◌++◌, ℕ, List, [], ◌∷◌, length, drop, count_by, true, false, None, IsNone, IsSome, IfSome, OnErr, OnOk, ◌<◌};
 ghost use Rattle.byte_devices.specs.Device.{device_of, calls_of, counted_on, seen};

@@ -1,10 +1,10 @@
 //! Files of many tenants that share their contents: loaded and saved unchanged, and devices that
 //! fail at each call.
 
+use crate::saved::{is_saved_as, refusal_of};
 use git_objects::{Counted, FailingReader, FailingWriter, Naming, Sha1Naming};
+use gitpool::{Answer, PoolFault, Service};
 use std::alloc::{AllocError, Global};
-use std::io::Read;
-use tenant_service::{Answer, Fault, Service};
 
 // A file up to its tenants, with five objects under the names that `git hash-object` gave: a commit
 // of the empty tree, that tree, a tree of one file, its blob, and a tag of the commit.
@@ -42,6 +42,22 @@ fn append_tenant(file: &mut Vec<u8>, number: u64) -> Result<(), AllocError> {
     file.extend_from_slice(BEHIND_NAMES)
 }
 
+// Appends so many tenants, further ones that stand after them, and the digest of all.
+fn append_tenants(
+    file: &mut Vec<u8>,
+    tenants: u64,
+    further: u64,
+    behind: &[u8],
+) -> Result<(), AllocError> {
+    file.extend_from_slice(&tenants.saturating_add(further).to_be_bytes())?;
+    for number in 0..tenants {
+        append_tenant(file, number)?;
+    }
+    file.extend_from_slice(behind)?;
+    let digest = Sha1Naming.digest(file);
+    file.extend_from_slice(&digest)
+}
+
 // A file of so many tenants, at most a thousand, each of whom has all objects, and of further ones
 // that stand after them.
 fn file_with(
@@ -51,13 +67,7 @@ fn file_with(
     behind: &[u8],
 ) -> Result<Vec<u8>, AllocError> {
     let mut file = Vec::from_slice(alloc, OBJECTS)?;
-    file.extend_from_slice(&tenants.saturating_add(further).to_be_bytes())?;
-    for number in 0..tenants {
-        append_tenant(&mut file, number)?;
-    }
-    file.extend_from_slice(behind)?;
-    let digest = Sha1Naming.digest(&file);
-    file.extend_from_slice(&digest)?;
+    append_tenants(&mut file, tenants, further, behind)?;
     Ok(file)
 }
 
@@ -65,25 +75,31 @@ fn file_of(alloc: Global, tenants: u64) -> Result<Vec<u8>, AllocError> {
     file_with(alloc, tenants, 0, b"")
 }
 
-fn is_saved_as(alloc: Global, service: &Service<Sha1Naming>, file: &[u8]) -> Result<bool, Fault> {
-    let mut writer = Counted::new(Vec::new(alloc));
-    service.save(&mut writer)?;
-    let written = writer.into_inner();
-    Ok(written.as_slice() == file)
-}
-
-fn load<R: Read + Drop>(alloc: Global, reader: R) -> Result<Service<Sha1Naming>, Fault> {
-    let mut counted = Counted::new(reader);
+fn load(alloc: Global, file: &[u8]) -> Result<Service<Sha1Naming>, PoolFault> {
+    let mut counted = Counted::new(file);
     Service::load(alloc, Sha1Naming, &mut counted)
 }
 
-// Whether the file of so many tenants comes back byte for byte from a service that has each content
-// once.
-fn goes_unchanged(alloc: Global, tenants: u64) -> Result<bool, Fault> {
-    let file = file_of(alloc, tenants)?;
-    let service = load(alloc, file.as_slice())?;
+// Whether a service has each content once, and is saved as this file of so many tenants.
+fn is_that(
+    alloc: Global,
+    service: &Service<Sha1Naming>,
+    file: &[u8],
+    tenants: u64,
+) -> Result<bool, PoolFault> {
     let counts = service.stored() == (5, 200) && service.tenants() == tenants;
-    Ok(counts && is_saved_as(alloc, &service, &file)?)
+    Ok(counts && is_saved_as(alloc, service, file)?)
+}
+
+fn is_unchanged(alloc: Global, file: &[u8], tenants: u64) -> Result<bool, PoolFault> {
+    let service = load(alloc, file)?;
+    is_that(alloc, &service, file, tenants)
+}
+
+// Whether the file of so many tenants comes back byte for byte.
+fn goes_unchanged(alloc: Global, tenants: u64) -> Result<bool, PoolFault> {
+    let file = file_of(alloc, tenants)?;
+    is_unchanged(alloc, &file, tenants)
 }
 
 #[test]
@@ -103,52 +119,49 @@ const COPY: &[u8] = b"\0\x04tzzz\0\0\0\0\0\0\0\x03\
 \0\x21refs/namespaces/tzzz/refs/heads/m\0\0\0\0\0\0\0\x01\
 \0\x20refs/namespaces/tzzz/refs/tags/v\0\0\0\0\0\0\0\x02\0\x0frefs/heads/main";
 
-// Whether a copy of the last of so many tenants is taken, and saved after them.
+// Whether a copy of the last of a thousand tenants is taken, and saved after them as this file.
 fn copies_last(
     alloc: Global,
     service: &mut Service<Sha1Naming>,
-    tenants: u64,
-) -> Result<bool, Fault> {
-    let file = file_with(alloc, tenants, 1, COPY)?;
+    file: &[u8],
+) -> Result<bool, PoolFault> {
     let copied = service.copy_tenant(b"t999", b"tzzz") == Answer::Ok;
-    Ok(copied && service.stored() == (5, 200) && is_saved_as(alloc, service, &file)?)
+    Ok(copied && is_that(alloc, service, file, 1001)?)
 }
 
-fn is_copied(alloc: Global, tenants: u64) -> Result<bool, Fault> {
-    let file = file_of(alloc, tenants)?;
-    let mut service = load(alloc, file.as_slice())?;
-    copies_last(alloc, &mut service, tenants)
+fn is_last_copied(alloc: Global, file: &[u8], copied: &[u8]) -> Result<bool, PoolFault> {
+    let mut service = load(alloc, file)?;
+    copies_last(alloc, &mut service, copied)
+}
+
+fn is_copied(alloc: Global) -> Result<bool, PoolFault> {
+    let file = file_of(alloc, 1000)?;
+    let copied = file_with(alloc, 1000, 1, COPY)?;
+    is_last_copied(alloc, &file, &copied)
 }
 
 #[test]
 fn one_of_a_thousand_tenants_is_copied(rt: HostRuntime) {
-    assert!(rt; is_copied(rt.alloc(), 1000) == Ok(true));
-}
-
-// How many calls one loading makes over a slice.
-fn calls_of(alloc: Global, file: &[u8]) -> Result<u64, Fault> {
-    let mut counted = Counted::new(file);
-    let _service = Service::load(alloc, Sha1Naming, &mut counted)?;
-    Ok(counted.calls())
-}
-
-fn is_blamed(alloc: Global, file: &[u8], nth: u64) -> bool {
-    match load(alloc, FailingReader::new(file, nth)) {
-        Err(Fault::Device) => true,
-        _ => false,
-    }
+    assert!(rt; is_copied(rt.alloc()) == Ok(true));
 }
 
 // A reader that fails at any of these calls is blamed, and one that fails later is not.
-fn are_readers_blamed(alloc: Global) -> Result<bool, Fault> {
-    let file = file_of(alloc, 3)?;
-    let calls = calls_of(alloc, &file)?;
+fn are_readers_blamed_of(alloc: Global, file: &[u8], calls: u64) -> bool {
     for nth in 0..calls {
-        if !is_blamed(alloc, &file, nth) {
-            return Ok(false);
+        let reader = FailingReader::new(file, nth);
+        if refusal_of(alloc, Sha1Naming, reader).0 != Some(PoolFault::Device) {
+            return false;
         }
     }
-    Ok(!is_blamed(alloc, &file, calls))
+    refusal_of(alloc, Sha1Naming, FailingReader::new(file, calls))
+        .0
+        .is_none()
+}
+
+fn are_readers_blamed(alloc: Global) -> Result<bool, AllocError> {
+    let file = file_of(alloc, 3)?;
+    let (refusal, calls) = refusal_of(alloc, Sha1Naming, file.as_slice());
+    Ok(refusal.is_none() && are_readers_blamed_of(alloc, &file, calls))
 }
 
 #[test]
@@ -161,7 +174,7 @@ fn is_front_saved(alloc: Global, service: &Service<Sha1Naming>, file: &[u8], nth
     let mut writer = Counted::new(FailingWriter::new(Vec::new(alloc), nth as u64));
     let answer = service.save(&mut writer);
     let written = writer.into_inner().into_inner();
-    answer == Err(Fault::Device) && Some(written.as_slice()) == file.get(..nth)
+    answer == Err(PoolFault::Device) && Some(written.as_slice()) == file.get(..nth)
 }
 
 fn are_fronts_saved_of(alloc: Global, service: &Service<Sha1Naming>, file: &[u8]) -> bool {
@@ -173,10 +186,14 @@ fn are_fronts_saved_of(alloc: Global, service: &Service<Sha1Naming>, file: &[u8]
     true
 }
 
-fn are_fronts_saved(alloc: Global) -> Result<bool, Fault> {
+fn are_fronts_saved_when_loaded(alloc: Global, file: &[u8]) -> Result<bool, PoolFault> {
+    let service = load(alloc, file)?;
+    Ok(are_fronts_saved_of(alloc, &service, file))
+}
+
+fn are_fronts_saved(alloc: Global) -> Result<bool, PoolFault> {
     let file = file_of(alloc, 3)?;
-    let service = load(alloc, file.as_slice())?;
-    Ok(are_fronts_saved_of(alloc, &service, &file))
+    are_fronts_saved_when_loaded(alloc, &file)
 }
 
 #[test]

@@ -1,8 +1,9 @@
 //! Services that are loaded from a pool file and saved to one.
 
-use git_objects::{Counted, FailingReader, TailNaming};
+use git_objects::{Counted, FailingReader, Naming, TailNaming};
+use gitpool::{PoolFault, Service, Starting};
 use std::alloc::Global;
-use tenant_service::{Fault, Service};
+use std::io::Read;
 
 // The tenant `t` with the one blob `ab`, in version 1.
 const VERSION_1: [u8; 86] = [
@@ -25,27 +26,44 @@ const VERSION_2: [u8; 103] = [
     0xab, 0xab, 0xab, 0xab, 0xab, 0xab, 0x11,
 ];
 
-fn is_saved_as(alloc: Global, service: &Service<TailNaming>, wanted: &[u8]) -> Result<bool, Fault> {
+/// Whether a service is saved as this file.
+pub fn is_saved_as<N: Naming + Starting>(
+    alloc: Global,
+    service: &Service<N>,
+    file: &[u8],
+) -> Result<bool, PoolFault> {
     let mut writer = Counted::new(Vec::new(alloc));
     service.save(&mut writer)?;
     let written = writer.into_inner();
-    Ok(written.as_slice() == wanted)
+    Ok(written.as_slice() == file)
 }
 
-// Loads a file of one blob of two bytes, and saves it in version 2.
-fn comes_back(alloc: Global, file: &[u8]) -> Result<bool, Fault> {
-    let mut reader = Counted::new(file);
-    let service = Service::load(alloc, TailNaming, &mut reader)?;
+/// Why no service is loaded from a reader, none where one is; and how many calls were made.
+pub fn refusal_of<N: Naming + Starting, R: Read + Drop>(
+    alloc: Global,
+    naming: N,
+    reader: R,
+) -> (Option<PoolFault>, u64) {
+    let mut counted = Counted::new(reader);
+    let refusal = Service::load(alloc, naming, &mut counted).err();
+    (refusal, counted.calls())
+}
+
+// Whether a service has one blob of two bytes, and is saved in version 2.
+fn is_that(alloc: Global, service: &Service<TailNaming>) -> Result<bool, PoolFault> {
     let counts = service.stored() == (1, 2) && service.tenants() == 1;
-    Ok(counts && is_saved_as(alloc, &service, &VERSION_2)?)
+    Ok(is_saved_as(alloc, service, &VERSION_2)? && counts)
 }
 
-fn fails_at(alloc: Global, nth: u64) -> bool {
-    let mut reader = Counted::new(FailingReader::new(&VERSION_1[..], nth));
-    match Service::load(alloc, TailNaming, &mut reader) {
-        Err(Fault::Device) => true,
-        _ => false,
-    }
+fn load(alloc: Global, file: &[u8]) -> Result<Service<TailNaming>, PoolFault> {
+    let mut reader = Counted::new(file);
+    Service::load(alloc, TailNaming, &mut reader)
+}
+
+// Whether a file is loaded as such a service.
+fn comes_back(alloc: Global, file: &[u8]) -> Result<bool, PoolFault> {
+    let service = load(alloc, file)?;
+    is_that(alloc, &service)
 }
 
 // How many calls one loading of version 1 makes over a slice.
@@ -53,7 +71,8 @@ const READS: u64 = 21;
 
 fn fails_at_each(alloc: Global) -> bool {
     for nth in 0..READS {
-        if !fails_at(alloc, nth) {
+        let reader = FailingReader::new(&VERSION_1[..], nth);
+        if refusal_of(alloc, TailNaming, reader).0 != Some(PoolFault::Device) {
             return false;
         }
     }

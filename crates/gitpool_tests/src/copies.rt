@@ -1,0 +1,84 @@
+//! Copies of tenants to empty ones: what one leaves, beside what git makes of the same stream, and
+//! what refuses one.
+
+use crate::rows::{Do, Row, first_otherwise};
+use git_objects::Sha1Naming;
+use std::alloc::Global;
+
+// A blob, and a commit of it on `refs/heads/m`: with the tree three objects of 6, 29 and 98 bytes.
+const STREAM: &[u8] = b"blob\n\
+    mark :1\n\
+    data 6\n\
+    hello\n\
+    commit refs/heads/m\n\
+    committer A <a@b> 0 +0000\n\
+    data 2\n\
+    x\n\
+    M 644 :1 f\n";
+
+// What `git show-ref` prints after `git fast-import` of it.
+const REFS: &[u8] = b"28139c25c808723300683a56bda158d153221c0e refs/heads/m\n";
+
+const HEAD: &[u8] = b"option gitpool head refs/heads/m\n";
+
+// A tenant that was never seen is copied, to itself too, and is as if never seen.
+const OF_NOBODY: &[Row] = &[
+    ((Do::Copy, b"x", b"x"), (0, b""), (0, 0, 0)),
+    ((Do::Copy, b"x", b"x"), (0, b""), (0, 0, 0)),
+    ((Do::Copy, b"x", b"y"), (0, b""), (0, 0, 0)),
+];
+
+// A copy has the same refs and stores nothing more. A bad name is refused (32) before an open stream
+// (31), and that before what is there (33); a dead stream is open, and HEAD alone is something.
+const OF_TENANTS: &[Row] = &[
+    ((Do::Open, b"a", b""), (0, b""), (0, 0, 0)),
+    ((Do::Feed, b"a", STREAM), (0, b""), (1, 6, 0)),
+    ((Do::End, b"a", b""), (0, b""), (3, 133, 1)),
+    ((Do::Copy, b"a", b"b"), (0, b""), (3, 133, 2)),
+    ((Do::Ask, b"a", b"refs"), (0, REFS), (3, 133, 2)),
+    ((Do::Ask, b"b", b"refs"), (0, REFS), (3, 133, 2)),
+    ((Do::Copy, b"a", b"b"), (33, b""), (3, 133, 2)),
+    ((Do::Ask, b"b", b"refs"), (0, REFS), (3, 133, 2)),
+    ((Do::Open, b"a", b""), (0, b""), (3, 133, 2)),
+    ((Do::Copy, b"a b", b"a"), (32, b""), (3, 133, 2)),
+    ((Do::Copy, b"a", b""), (32, b""), (3, 133, 2)),
+    ((Do::Copy, b"a", b"a"), (31, b""), (3, 133, 2)),
+    ((Do::Copy, b"a", b"c"), (0, b""), (3, 133, 3)),
+    ((Do::End, b"a", b""), (0, b""), (3, 133, 3)),
+    ((Do::Copy, b"a", b"a"), (33, b""), (3, 133, 3)),
+    ((Do::Ask, b"a", b"refs"), (0, REFS), (3, 133, 3)),
+    ((Do::Open, b"d", b""), (0, b""), (3, 133, 3)),
+    ((Do::Feed, b"d", b"no\n"), (2, b""), (3, 133, 3)),
+    ((Do::Copy, b"a", b"d"), (31, b""), (3, 133, 3)),
+    ((Do::End, b"d", b""), (2, b""), (3, 133, 3)),
+    ((Do::Open, b"e", b""), (0, b""), (3, 133, 3)),
+    ((Do::Feed, b"e", HEAD), (0, b""), (3, 133, 3)),
+    ((Do::End, b"e", b""), (0, b""), (3, 133, 3)),
+    ((Do::Copy, b"a", b"e"), (33, b""), (3, 133, 3)),
+    ((Do::Copy, b"a", b"d"), (0, b""), (3, 133, 4)),
+    ((Do::Ask, b"d", b"refs"), (0, REFS), (3, 133, 4)),
+    ((Do::Copy, b"e", b"f"), (0, b""), (3, 133, 4)),
+    (
+        (Do::Ask, b"f", b"head"),
+        (0, b"refs/heads/m\n"),
+        (3, 133, 4),
+    ),
+];
+
+fn first_wrong_of_nobody(alloc: Global) -> Option<usize> {
+    first_otherwise(alloc, Sha1Naming, OF_NOBODY)
+}
+
+fn first_wrong(alloc: Global) -> Option<usize> {
+    first_otherwise(alloc, Sha1Naming, OF_TENANTS)
+}
+
+#[test]
+fn a_tenant_that_was_never_seen_is_copied_to_itself(rt: HostRuntime) {
+    assert_eq!(rt; first_wrong_of_nobody(rt.alloc()), None);
+}
+
+#[test]
+fn a_copy_has_the_same_refs_and_stores_nothing_more_or_is_refused_in_order(rt: HostRuntime) {
+    assert_eq!(rt; first_wrong(rt.alloc()), None);
+}

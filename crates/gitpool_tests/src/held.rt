@@ -1,0 +1,184 @@
+//! What is held after each step, of how many tenants, and of whom something is lent: contents are
+//! held once, and those of a stream go with it.
+
+use crate::rows::{Do, Row, first_otherwise};
+use crate::told::{asks, code_of, feeds, takes, tells};
+use git_objects::{Memory, Sha1Naming};
+use gitpool::{Service, Step};
+use std::alloc::Global;
+use std::test::Fail;
+
+const HELLO: &[u8] = b"blob\nmark :1\ndata 6\nhello\n";
+
+const HELLO_AND_MARK: &[u8] = b"blob\nmark :1\ndata 6\nhello\nget-mark :1\n";
+
+// A commit without files, of 98 bytes, and another; the tree of both has none.
+const COMMIT: &[u8] = b"commit refs/heads/m\ncommitter A <a@b> 0 +0000\ndata 2\nx\n";
+
+const OTHER_COMMIT: &[u8] = b"commit refs/heads/m\ncommitter A <a@b> 0 +0000\ndata 2\ny\n";
+
+// A commit with a directory, which is open, and the directory.
+const COMMIT_OF_FILE: &[u8] = b"commit refs/heads/m\ncommitter A <a@b> 0 +0000\ndata 2\nx\n\
+    M 644 ce013625030ba8dba906f756967f9e9ca394464a a/x\n";
+
+const DIRECTORY: &[u8] = b"040000 tree e31a96220fbfbe7601ecc086a36b96dc27a8867e\ta\n";
+
+// In turn: two open streams share a content until both are given up; two tenants share it; a fault,
+// an end in a data and one in a command give up what was not saved; what stands before `done` is
+// saved; a fault behind a checkpoint leaves the tree of no bytes and the commit that it saved; a
+// directory that is shown is stored until a fault.
+const ROWS: &[Row] = &[
+    ((Do::Open, b"a", b""), (0, b""), (0, 0, 0)),
+    ((Do::Feed, b"a", HELLO), (0, b""), (1, 6, 0)),
+    ((Do::Open, b"b", b""), (0, b""), (1, 6, 0)),
+    ((Do::Feed, b"b", HELLO), (0, b""), (1, 6, 0)),
+    ((Do::Feed, b"a", b"get-mark :9\n"), (13, b""), (1, 6, 0)),
+    ((Do::Restart, b"", b""), (0, b""), (0, 0, 0)),
+    ((Do::Open, b"a", b""), (0, b""), (0, 0, 0)),
+    ((Do::Feed, b"a", HELLO), (0, b""), (1, 6, 0)),
+    ((Do::End, b"a", b""), (0, b""), (1, 6, 1)),
+    ((Do::Open, b"b", b""), (0, b""), (1, 6, 1)),
+    ((Do::Feed, b"b", HELLO), (0, b""), (1, 6, 1)),
+    ((Do::End, b"b", b""), (0, b""), (1, 6, 2)),
+    ((Do::Open, b"b", b""), (0, b""), (1, 6, 2)),
+    (
+        (Do::Feed, b"b", b"blob\ndata 1\na\nget-mark :9\n"),
+        (13, b""),
+        (1, 6, 2),
+    ),
+    ((Do::End, b"b", b""), (13, b""), (1, 6, 2)),
+    ((Do::Open, b"b", b""), (0, b""), (1, 6, 2)),
+    ((Do::Feed, b"b", b"blob\ndata 1\na\n"), (0, b""), (2, 7, 2)),
+    ((Do::Feed, b"b", b"blob\ndata 5\nabcd"), (0, b""), (2, 7, 2)),
+    ((Do::End, b"b", b""), (6, b""), (1, 6, 2)),
+    ((Do::Open, b"b", b""), (0, b""), (1, 6, 2)),
+    (
+        (Do::Feed, b"b", b"blob\ndata 1\na\nblob\n"),
+        (0, b""),
+        (2, 7, 2),
+    ),
+    ((Do::End, b"b", b""), (5, b""), (1, 6, 2)),
+    ((Do::Open, b"c", b""), (0, b""), (1, 6, 2)),
+    ((Do::Feed, b"c", HELLO), (0, b""), (1, 6, 2)),
+    ((Do::Feed, b"c", b"done\nrubbish"), (0, b""), (1, 6, 3)),
+    ((Do::Restart, b"", b""), (0, b""), (1, 6, 3)),
+    ((Do::Open, b"d", b""), (0, b""), (1, 6, 3)),
+    ((Do::Feed, b"d", COMMIT), (0, b""), (1, 6, 3)),
+    ((Do::Feed, b"d", b"checkpoint\n"), (0, b""), (3, 104, 4)),
+    ((Do::Feed, b"d", OTHER_COMMIT), (0, b""), (3, 104, 4)),
+    ((Do::Feed, b"d", b"get-mark :9\n"), (13, b""), (3, 104, 4)),
+    ((Do::Open, b"a", b""), (0, b""), (3, 104, 4)),
+    ((Do::Feed, b"a", COMMIT_OF_FILE), (0, b""), (3, 104, 4)),
+    ((Do::Feed, b"a", b"ls \"a\"\n"), (0, DIRECTORY), (4, 133, 4)),
+    ((Do::Feed, b"a", b"ls :9 a\n"), (13, b""), (3, 104, 4)),
+];
+
+fn first_wrong(alloc: Global) -> Option<usize> {
+    first_otherwise(alloc, Sha1Naming, ROWS)
+}
+
+#[test]
+fn holds_each_content_once_and_what_was_saved(rt: HostRuntime) {
+    assert_eq!(rt; first_wrong(rt.alloc()), None);
+}
+
+// Whether the steps of a tenant are told so, and something is lent of it before it opens a stream,
+// though it was named, and after.
+fn are_lent(alloc: Global, service: &mut Service<Sha1Naming>) -> (bool, bool, bool) {
+    let tenant = b"a".as_slice();
+    let named = tells(alloc, service, Step::End { tenant }, 30, b"")
+        && feeds(alloc, service, tenant, b"\n", 30, b"")
+        && asks(alloc, service, tenant, b"refs", b"");
+    let before = service.view(tenant).is_some();
+    let opened = tells(alloc, service, Step::Open { tenant }, 0, b"");
+    (named && opened, before, service.view(tenant).is_some())
+}
+
+fn are_lent_when_new(alloc: Global) -> (bool, bool, bool) {
+    let mut service = Service::new(alloc, Sha1Naming);
+    are_lent(alloc, &mut service)
+}
+
+#[test]
+fn lends_a_tenant_that_has_opened_a_stream(rt: HostRuntime) {
+    assert_eq!(rt; are_lent_when_new(rt.alloc()), (true, false, true));
+}
+
+// Whether a step is answered well; what it prints is appended.
+fn is_well(service: &mut Service<Sha1Naming>, step: Step<'_>, out: &mut Vec<u8>) -> bool {
+    code_of(service.step(step, out)) == 0
+}
+
+// Whether a stream is taken that is fed in two pieces, with a query between them, and what it
+// leaves.
+fn held_after(
+    service: &mut Service<Sha1Naming>,
+    bytes: &[u8],
+    later: &[u8],
+    out: &mut Vec<u8>,
+) -> (bool, (u64, u64)) {
+    let tenant = b"t".as_slice();
+    let query = b"refs".as_slice();
+    let is_taken = is_well(service, Step::Open { tenant }, out)
+        && is_well(service, Step::Feed { tenant, bytes }, out)
+        && is_well(service, Step::Ask { tenant, query }, out)
+        && feeds_rest(service, later, out);
+    (is_taken, service.stored())
+}
+
+fn feeds_rest(service: &mut Service<Sha1Naming>, bytes: &[u8], out: &mut Vec<u8>) -> bool {
+    let tenant = b"t".as_slice();
+    is_well(service, Step::Feed { tenant, bytes }, out)
+        && is_well(service, Step::End { tenant }, out)
+}
+
+fn held_after_two(
+    alloc: Global,
+    first: &[u8],
+    later: &[u8],
+    out: &mut Vec<u8>,
+) -> (bool, (u64, u64)) {
+    let mut service = Service::new(alloc, Sha1Naming);
+    held_after(&mut service, first, later, out)
+}
+
+#[test]
+fn holds_the_same_wherever_the_stream_is_cut(rt: HostRuntime) {
+    let mut out = Vec::new(rt.alloc());
+    for cut in 0..=HELLO_AND_MARK.len() {
+        let (first, later) = HELLO_AND_MARK.split_at(cut);
+        let held = held_after_two(rt.alloc(), first, later, &mut out);
+        assert_eq!(rt; held, (true, (1, 6)), "at {cut}");
+    }
+}
+
+// Whether the tenant of this number stores the blob.
+fn stores_hello(
+    alloc: Global,
+    service: &mut Service<Sha1Naming>,
+    number: usize,
+) -> Result<bool, Memory> {
+    let tenant = format!(in alloc; "tenant{number}")?;
+    Ok(takes(alloc, service, tenant.as_bytes(), HELLO))
+}
+
+// Whether a thousand tenants and one store the blob.
+fn all_store(alloc: Global, service: &mut Service<Sha1Naming>) -> Result<bool, Memory> {
+    for number in 0..1001 {
+        if !stores_hello(alloc, service, number)? {
+            return Ok(false);
+        }
+    }
+    Ok(service.stored() == (1, 6) && service.tenants() == 1001)
+}
+
+fn is_one_more(alloc: Global) -> Result<bool, Memory> {
+    let mut service = Service::new(alloc, Sha1Naming);
+    all_store(alloc, &mut service)
+}
+
+#[test]
+fn serves_one_more_after_a_thousand(rt: HostRuntime) -> Result<(), Fail> {
+    assert!(rt; is_one_more(rt.alloc())?);
+    Ok(())
+}

@@ -1,0 +1,72 @@
+//! A run of steps, and what each is told.
+
+use crate::told::code_of;
+use git_objects::{Memory, Sha1Naming};
+use gitpool::{Reply, Service, Step};
+use std::alloc::Global;
+use std::test::Fail;
+
+// Steps of two tenants and one of nobody.
+const STEPS: &[Step<'static>] = &[
+    Step::Open { tenant: b"a" },
+    Step::Open { tenant: b"-" },
+    Step::Open { tenant: b"b" },
+    Step::Feed {
+        tenant: b"a",
+        bytes: b"blob\nmark :1\ndata 6\nhello\n",
+    },
+    Step::Feed {
+        tenant: b"b",
+        bytes: b"cat-blob ce013625030ba8dba906f756967f9e9ca394464a\n",
+    },
+    Step::Feed {
+        tenant: b"a",
+        bytes: b"get-mark :1\n",
+    },
+    Step::Restart,
+    Step::End { tenant: b"a" },
+];
+
+// What these steps are told: the number that refuses each, 0 where nothing does, and what is
+// printed.
+const TOLD: &[(u16, &[u8])] = &[
+    (0, b""),
+    (32, b""),
+    (0, b""),
+    (0, b""),
+    (0, b"ce013625030ba8dba906f756967f9e9ca394464a missing\n"),
+    (0, b"ce013625030ba8dba906f756967f9e9ca394464a\n"),
+    (0, b""),
+    (30, b""),
+];
+
+fn is_told(reply: &Reply, code: u16, bytes: &[u8]) -> bool {
+    code_of(reply.answer) == code && reply.bytes.as_slice() == bytes
+}
+
+// Whether these are the replies that were told.
+fn are_told(replies: &[Reply]) -> bool {
+    for (reply, (code, bytes)) in replies.iter().zip(TOLD.iter()) {
+        if !is_told(reply, *code, bytes) {
+            return false;
+        }
+    }
+    replies.len() == TOLD.len()
+}
+
+fn run(alloc: Global, replies: &mut Vec<Reply>) -> Result<(), Memory> {
+    let mut service = Service::new(alloc, Sha1Naming);
+    service.run(STEPS, replies)
+}
+
+fn replies_as_told(alloc: Global) -> Result<bool, Memory> {
+    let mut replies = Vec::new(alloc);
+    run(alloc, &mut replies)?;
+    Ok(are_told(&replies))
+}
+
+#[test]
+fn has_a_reply_for_each_step(rt: HostRuntime) -> Result<(), Fail> {
+    assert!(rt; replies_as_told(rt.alloc())?);
+    Ok(())
+}
