@@ -3,29 +3,37 @@
 ghost use Rattle.std.specs.Prelude.{◌≡◌};
 ghost use Rattle.pool_file_text.specs.Faults.{number_of};
 
-use std::error::Error;
-use std::fmt;
+use thiserror::Error;
 
 /// The first thing that is wrong with bytes that are no pool file.
-#[derive(Clone, Copy, Debug, PartialEq, Eq)]
+#[derive(Clone, Copy, Debug, PartialEq, Eq, Error)]
 pub enum Refusal {
     /// The first bytes are not those of a pool file: 60.
+    #[error("fault 60")]
     NoPoolFile,
     /// The version is none that is read: 61.
+    #[error("fault 61")]
     UnknownVersion,
     /// The bytes end before the file does: 62.
+    #[error("fault 62")]
     CutOff,
     /// The digest is not that of the bytes before it: 63.
+    #[error("fault 63")]
     WrongDigest,
     /// The bytes are not the one text of what they say: 64.
+    #[error("fault 64")]
     NotCanonical,
     /// An object that can't be: 65.
+    #[error("fault 65")]
     BadObject,
     /// Something that is referred to does not stand before: 66.
+    #[error("fault 66")]
     MissingReference,
     /// A bad ref, or one to a target of a wrong kind: 67.
+    #[error("fault 67")]
     BadRef,
     /// Bytes stand after the digest: 69.
+    #[error("fault 69")]
     TrailingBytes,
 }
 
@@ -47,11 +55,3 @@ impl Refusal {
         }
     }
 }
-
-impl fmt::Display for Refusal {
-    fn fmt<W: fmt::Write>(&self, f: &mut fmt::Formatter<W>) -> fmt::Result {
-        write!(f, "fault {}", self.code())
-    }
-}
-
-impl Error for Refusal {}
