@@ -1,6 +1,6 @@
 //! The texts of help, of the program and of each subcommand.
 
-use crate::told::told;
+use crate::told::is_refused_with;
 use clap::error::ErrorKind;
 
 const PROGRAM: &str = "\
@@ -81,31 +81,28 @@ Options:
   -h, --help         Print help
 ";
 
-// Words that ask for help, and the help.
-const SHOWN: &[(&[&str], &str)] = &[
-    (&["-h"], PROGRAM),
-    (&["--help"], PROGRAM),
-    (&["help"], PROGRAM),
-    (&["-h", "serve"], PROGRAM),
-    (&["serve", "--help"], SERVE),
-    (&["help", "serve"], SERVE),
-    (&["import", "-h"], IMPORT),
-    (&["help", "import"], IMPORT),
-    (&["ask", "t", "--help"], ASK),
-    (&["help", "ask"], ASK),
-    (&["check", "--pool", "f", "-h"], CHECK),
-    (&["help", "check"], CHECK),
-    (&["copy", "t", "-h"], COPY),
-    (&["help", "copy"], COPY),
+// Words that ask for help, each with a bar before it, and the help.
+const SHOWN: &[(&str, &str)] = &[
+    ("|-h", PROGRAM),
+    ("|--help", PROGRAM),
+    ("|help", PROGRAM),
+    ("|-h|serve", PROGRAM),
+    ("|serve|--help", SERVE),
+    ("|help|serve", SERVE),
+    ("|import|-h", IMPORT),
+    ("|help|import", IMPORT),
+    ("|ask|t|--help", ASK),
+    ("|help|ask", ASK),
+    ("|check|--pool|f|-h", CHECK),
+    ("|help|check", CHECK),
+    ("|copy|t|-h", COPY),
+    ("|help|copy", COPY),
 ];
 
 #[test]
 fn shows_the_help_of_the_program_and_of_each_subcommand(rt: HostRuntime) {
     for (words, help) in SHOWN {
-        let (kind, text) = told(rt.alloc(), words);
-        assert!(rt;
-            kind == Some(ErrorKind::DisplayHelp) && text.as_str() == *help,
-            "{words:?}: {text}"
-        );
+        let shown = is_refused_with(rt.alloc(), words, ErrorKind::DisplayHelp, help);
+        assert!(rt; shown, "{words}");
     }
 }

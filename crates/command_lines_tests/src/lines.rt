@@ -1,7 +1,8 @@
 //! Command lines that name a line: each subcommand, the forms of an option, and values of any kind.
 
 use command_lines::Line;
-use std::alloc::Global;
+use std::alloc::{AllocError, Global};
+use std::convert::AsStr;
 
 // Words, and the line that they name.
 const READ: &[(&[&str], Line<'static>)] = &[
@@ -109,7 +110,7 @@ const READ: &[(&[&str], Line<'static>)] = &[
     (&["check", "--pool", "é"], Line::Check { pool: "é" }),
 ];
 
-fn is_read_as(alloc: Global, words: &[&str], line: Line<'_>) -> bool {
+fn is_read_as<S: AsStr>(alloc: Global, words: &[S], line: Line<'_>) -> bool {
     matches!(Line::read(alloc, words), Ok(read) if read == line)
 }
 
@@ -121,14 +122,17 @@ fn reads_each_subcommand_with_its_arguments_in_any_order(rt: HostRuntime) {
 }
 
 // Words as a program has them.
+fn add_words(alloc: Global, words: &mut Vec<String>) -> Result<(), AllocError> {
+    for word in ["check", "--pool", "f"] {
+        words.push(String::from_str(alloc, word)?)?;
+    }
+    Ok(())
+}
+
 #[test]
 fn reads_words_that_are_owned(rt: HostRuntime) {
-    let alloc = rt.alloc();
-    let mut words: Vec<String> = Vec::new(alloc);
-    for word in ["check", "--pool", "f"] {
-        let word = String::from_str(alloc, word).expect(&rt, "memory");
-        words.push(word).expect(&rt, "memory");
-    }
-    let line = Line::read(alloc, words.as_slice());
-    assert!(rt; matches!(line, Ok(Line::Check { pool: "f" })));
+    let mut words = Vec::new(rt.alloc());
+    add_words(rt.alloc(), &mut words).expect(&rt, "memory");
+    let line = Line::Check { pool: "f" };
+    assert!(rt; is_read_as(rt.alloc(), words.as_slice(), line));
 }

@@ -1,165 +1,297 @@
 //! Command lines that name no line, with the whole text that a user reads.
 
-use crate::told::told;
+use crate::told::is_refused_with;
 use clap::error::ErrorKind;
 
-// Words, the kind of their refusal, what the text says was wrong, and the usage that it shows.
-const REFUSED: &[(&[&str], ErrorKind, &str, &str)] = &[
+// Words, each with a bar before it, the kind of their refusal, and its text: what was wrong, and
+// mostly the usage.
+const REFUSED: &[(&str, ErrorKind, &str)] = &[
     (
-        &[],
-        ErrorKind::MissingSubcommand,
-        "'gitpool' requires a subcommand but one was not provided\n  [subcommands: serve, import, ask, check, copy, help]",
-        "Usage: gitpool <COMMAND>\n\n",
-    ),
-    (
-        &["serve"],
-        ErrorKind::MissingRequiredArgument,
-        "the following required arguments were not provided:\n  --pool <FILE>",
-        "Usage: gitpool serve --pool <FILE>\n\n",
-    ),
-    (
-        &["ask", "t", "refs"],
-        ErrorKind::MissingRequiredArgument,
-        "the following required arguments were not provided:\n  --pool <FILE>",
-        "Usage: gitpool ask --pool <FILE> <TENANT> <QUERY>\n\n",
-    ),
-    (
-        &["import", "--pool", "f"],
-        ErrorKind::MissingRequiredArgument,
-        "the following required arguments were not provided:\n  <TENANT>",
-        "Usage: gitpool import --pool <FILE> <TENANT>\n\n",
-    ),
-    (
-        &["ask", "t", "--pool", "f"],
-        ErrorKind::MissingRequiredArgument,
-        "the following required arguments were not provided:\n  <QUERY>",
-        "Usage: gitpool ask --pool <FILE> <TENANT> <QUERY>\n\n",
-    ),
-    (
-        &["copy"],
-        ErrorKind::MissingRequiredArgument,
-        "the following required arguments were not provided:\n  --pool <FILE>\n  <FROM>\n  <TO>",
-        "Usage: gitpool copy --pool <FILE> <FROM> <TO>\n\n",
-    ),
-    (
-        &["copy", "t", "--pool", "f"],
-        ErrorKind::MissingRequiredArgument,
-        "the following required arguments were not provided:\n  <TO>",
-        "Usage: gitpool copy --pool <FILE> <FROM> <TO>\n\n",
-    ),
-    (
-        &["serve", "--pool"],
-        ErrorKind::InvalidValue,
-        "a value is required for '--pool <FILE>' but none was supplied",
         "",
+        ErrorKind::MissingSubcommand,
+        "\
+error: 'gitpool' requires a subcommand but one was not provided
+  [subcommands: serve, import, ask, check, copy, help]
+
+Usage: gitpool <COMMAND>
+
+For more information, try '--help'.
+",
     ),
     (
-        &["serv", "--pool", "f"],
+        "|serve",
+        ErrorKind::MissingRequiredArgument,
+        "\
+error: the following required arguments were not provided:
+  --pool <FILE>
+
+Usage: gitpool serve --pool <FILE>
+
+For more information, try '--help'.
+",
+    ),
+    (
+        "|ask|t|refs",
+        ErrorKind::MissingRequiredArgument,
+        "\
+error: the following required arguments were not provided:
+  --pool <FILE>
+
+Usage: gitpool ask --pool <FILE> <TENANT> <QUERY>
+
+For more information, try '--help'.
+",
+    ),
+    (
+        "|import|--pool|f",
+        ErrorKind::MissingRequiredArgument,
+        "\
+error: the following required arguments were not provided:
+  <TENANT>
+
+Usage: gitpool import --pool <FILE> <TENANT>
+
+For more information, try '--help'.
+",
+    ),
+    (
+        "|ask|t|--pool|f",
+        ErrorKind::MissingRequiredArgument,
+        "\
+error: the following required arguments were not provided:
+  <QUERY>
+
+Usage: gitpool ask --pool <FILE> <TENANT> <QUERY>
+
+For more information, try '--help'.
+",
+    ),
+    (
+        "|copy",
+        ErrorKind::MissingRequiredArgument,
+        "\
+error: the following required arguments were not provided:
+  --pool <FILE>
+  <FROM>
+  <TO>
+
+Usage: gitpool copy --pool <FILE> <FROM> <TO>
+
+For more information, try '--help'.
+",
+    ),
+    (
+        "|copy|t|--pool|f",
+        ErrorKind::MissingRequiredArgument,
+        "\
+error: the following required arguments were not provided:
+  <TO>
+
+Usage: gitpool copy --pool <FILE> <FROM> <TO>
+
+For more information, try '--help'.
+",
+    ),
+    (
+        "|serve|--pool",
+        ErrorKind::InvalidValue,
+        "\
+error: a value is required for '--pool <FILE>' but none was supplied
+
+For more information, try '--help'.
+",
+    ),
+    (
+        "|serv|--pool|f",
         ErrorKind::InvalidSubcommand,
-        "unrecognized subcommand 'serv'\n\n  tip: a similar subcommand exists: 'serve'",
-        "Usage: gitpool <COMMAND>\n\n",
+        "\
+error: unrecognized subcommand 'serv'
+
+  tip: a similar subcommand exists: 'serve'
+
+Usage: gitpool <COMMAND>
+
+For more information, try '--help'.
+",
     ),
     (
-        &["fetch"],
+        "|fetch",
         ErrorKind::InvalidSubcommand,
-        "unrecognized subcommand 'fetch'",
-        "Usage: gitpool <COMMAND>\n\n",
+        "\
+error: unrecognized subcommand 'fetch'
+
+Usage: gitpool <COMMAND>
+
+For more information, try '--help'.
+",
     ),
     (
-        &["help", "fetch"],
+        "|help|fetch",
         ErrorKind::InvalidSubcommand,
-        "unrecognized subcommand 'fetch'",
-        "Usage: gitpool <COMMAND>\n\n",
+        "\
+error: unrecognized subcommand 'fetch'
+
+Usage: gitpool <COMMAND>
+
+For more information, try '--help'.
+",
     ),
     (
-        &[""],
+        "|",
         ErrorKind::InvalidSubcommand,
-        "unrecognized subcommand ''",
-        "Usage: gitpool <COMMAND>\n\n",
+        "\
+error: unrecognized subcommand ''
+
+Usage: gitpool <COMMAND>
+
+For more information, try '--help'.
+",
     ),
     (
-        &["-x"],
+        "|-x",
         ErrorKind::UnknownArgument,
-        "unexpected argument '-x' found",
-        "Usage: gitpool <COMMAND>\n\n",
+        "\
+error: unexpected argument '-x' found
+
+Usage: gitpool <COMMAND>
+
+For more information, try '--help'.
+",
     ),
     (
-        &["--version"],
+        "|--version",
         ErrorKind::UnknownArgument,
-        "unexpected argument '--version' found",
-        "Usage: gitpool <COMMAND>\n\n",
+        "\
+error: unexpected argument '--version' found
+
+Usage: gitpool <COMMAND>
+
+For more information, try '--help'.
+",
     ),
     (
-        &["serve", "t", "--pool", "f"],
+        "|serve|t|--pool|f",
         ErrorKind::UnknownArgument,
-        "unexpected argument 't' found",
-        "Usage: gitpool serve --pool <FILE>\n\n",
+        "\
+error: unexpected argument 't' found
+
+Usage: gitpool serve --pool <FILE>
+
+For more information, try '--help'.
+",
     ),
     (
-        &["import", "t", "u", "--pool", "f"],
+        "|import|t|u|--pool|f",
         ErrorKind::UnknownArgument,
-        "unexpected argument 'u' found",
-        "Usage: gitpool import --pool <FILE> <TENANT>\n\n",
+        "\
+error: unexpected argument 'u' found
+
+Usage: gitpool import --pool <FILE> <TENANT>
+
+For more information, try '--help'.
+",
     ),
     (
-        &["ask", "t", "log", "m", "--pool", "f"],
+        "|ask|t|log|m|--pool|f",
         ErrorKind::UnknownArgument,
-        "unexpected argument 'm' found",
-        "Usage: gitpool ask --pool <FILE> <TENANT> <QUERY>\n\n",
+        "\
+error: unexpected argument 'm' found
+
+Usage: gitpool ask --pool <FILE> <TENANT> <QUERY>
+
+For more information, try '--help'.
+",
     ),
     (
-        &["copy", "t", "u", "v", "--pool", "f"],
+        "|copy|t|u|v|--pool|f",
         ErrorKind::UnknownArgument,
-        "unexpected argument 'v' found",
-        "Usage: gitpool copy --pool <FILE> <FROM> <TO>\n\n",
+        "\
+error: unexpected argument 'v' found
+
+Usage: gitpool copy --pool <FILE> <FROM> <TO>
+
+For more information, try '--help'.
+",
     ),
     (
-        &["ask", "-t", "refs", "--pool", "f"],
+        "|ask|-t|refs|--pool|f",
         ErrorKind::UnknownArgument,
-        "unexpected argument '-t' found\n\n  tip: to pass '-t' as a value, use '-- -t'",
-        "Usage: gitpool ask --pool <FILE> <TENANT> <QUERY>\n\n",
+        "\
+error: unexpected argument '-t' found
+
+  tip: to pass '-t' as a value, use '-- -t'
+
+Usage: gitpool ask --pool <FILE> <TENANT> <QUERY>
+
+For more information, try '--help'.
+",
     ),
     (
-        &["check", "--pool", "-f"],
+        "|check|--pool|-f",
         ErrorKind::UnknownArgument,
-        "unexpected argument '-f' found",
-        "Usage: gitpool check --pool <FILE>\n\n",
+        "\
+error: unexpected argument '-f' found
+
+Usage: gitpool check --pool <FILE>
+
+For more information, try '--help'.
+",
     ),
     (
-        &["check", "--pol", "f"],
+        "|check|--pol|f",
         ErrorKind::UnknownArgument,
-        "unexpected argument '--pol' found\n\n  tip: a similar argument exists: '--pool'",
-        "Usage: gitpool check --pool <FILE>\n\n",
+        "\
+error: unexpected argument '--pol' found
+
+  tip: a similar argument exists: '--pool'
+
+Usage: gitpool check --pool <FILE>
+
+For more information, try '--help'.
+",
     ),
     (
-        &["check", "--pool", "a", "--pool", "b"],
+        "|check|--pool|a|--pool|b",
         ErrorKind::ArgumentConflict,
-        "the argument '--pool <FILE>' cannot be used multiple times",
-        "Usage: gitpool check --pool <FILE>\n\n",
+        "\
+error: the argument '--pool <FILE>' cannot be used multiple times
+
+Usage: gitpool check --pool <FILE>
+
+For more information, try '--help'.
+",
     ),
     (
-        &["--", "serve"],
+        "|--|serve",
         ErrorKind::UnknownArgument,
-        "unexpected argument 'serve' found\n\n  tip: subcommand 'serve' exists; to use it, remove the '--' before it",
-        "Usage: gitpool <COMMAND>\n\n",
+        "\
+error: unexpected argument 'serve' found
+
+  tip: subcommand 'serve' exists; to use it, remove the '--' before it
+
+Usage: gitpool <COMMAND>
+
+For more information, try '--help'.
+",
     ),
     (
-        &["--pool", "f", "serve"],
+        "|--pool|f|serve",
         ErrorKind::UnknownArgument,
-        "unexpected argument '--pool' found\n\n  tip: 'serve --pool' exists",
-        "Usage: gitpool <COMMAND>\n\n",
+        "\
+error: unexpected argument '--pool' found
+
+  tip: 'serve --pool' exists
+
+Usage: gitpool <COMMAND>
+
+For more information, try '--help'.
+",
     ),
 ];
 
-// The last line of each text.
-const MORE: &str = "For more information, try '--help'.\n";
-
 #[test]
 fn refuses_what_names_no_line_and_shows_its_usage(rt: HostRuntime) {
-    let alloc = rt.alloc();
-    for (words, kind, wrong, usage) in REFUSED {
-        let (found, text) = told(alloc, words);
-        let whole = format!(in alloc; "error: {wrong}\n\n{usage}{MORE}").expect(&rt, "memory");
-        assert!(rt; found == Some(*kind) && text == whole, "{words:?}: {text}");
+    for (words, kind, text) in REFUSED {
+        assert!(rt; is_refused_with(rt.alloc(), words, *kind, text), "{words}");
     }
 }

@@ -1,19 +1,30 @@
 //! What a refused command line tells: its kind and its whole text.
 
+use clap::Error;
 use clap::error::ErrorKind;
 use command_lines::Line;
-use std::alloc::Global;
+use std::alloc::{AllocError, Global};
 
-/// The kind and the text of the refusal, or what was read as text.
-pub fn told(alloc: Global, words: &[&str]) -> (Option<ErrorKind>, String) {
+/// The words of a text, each with a bar before it.
+pub fn words_of<'a>(alloc: Global, text: &'a str) -> Result<Vec<&'a str>, AllocError> {
+    text.split('|').skip(1).collect(alloc)
+}
+
+fn tells(alloc: Global, error: &Error, told: &str) -> bool {
+    matches!(format!(in alloc; "{error}"), Ok(text) if text.as_str() == told)
+}
+
+fn are_refused_with(alloc: Global, words: &[&str], kind: ErrorKind, told: &str) -> bool {
     match Line::read(alloc, words) {
-        Ok(line) => (
-            None,
-            format!(in alloc; "{line:?}").unwrap_or(String::new(alloc)),
-        ),
-        Err(error) => {
-            let text = format!(in alloc; "{error}").unwrap_or(String::new(alloc));
-            (Some(error.kind()), text)
-        }
+        Ok(_) => false,
+        Err(error) => error.kind() == kind && tells(alloc, &error, told),
+    }
+}
+
+/// Whether the words of this text are refused with an error of this kind that tells this.
+pub fn is_refused_with(alloc: Global, text: &str, kind: ErrorKind, told: &str) -> bool {
+    match words_of(alloc, text) {
+        Ok(words) => are_refused_with(alloc, &words, kind, told),
+        Err(_) => false,
     }
 }
