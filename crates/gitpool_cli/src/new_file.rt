@@ -45,6 +45,11 @@ impl<'a> NewFile<'a> {
         Ok(NewFile { pool, name, file })
     }
 
+    /// The path of the pool file.
+    pub fn pool(&self) -> &'a str {
+        self.pool
+    }
+
     /// The file itself, empty until it is written; or why there is none.
     pub fn file(&self) -> Result<&File, RunFault> {
         match &self.file {

@@ -5,7 +5,7 @@ use crate::run_fault::RunFault;
 use git_objects::{Counted, Sha1Naming};
 use gitpool::Service;
 use std::fs::File;
-use std::io::{BufReader, ErrorKind};
+use std::io::{BufReader, ErrorKind, Read};
 
 /// What is begun with where there is no pool file.
 #[derive(Clone, Copy)]
@@ -16,30 +16,8 @@ pub enum Missing {
     Refused,
 }
 
-/// The service that a pool file has.
-pub fn load(rt: &HostRuntime, pool: &str) -> Result<Service<Sha1Naming>, RunFault> {
-    load_or(rt, pool, Missing::Refused)
-}
-
-/// The service that a pool file has, and the new file that is to take its place. No other run that
-/// saves is at work on it meanwhile; where one is, this one is refused. Where the file is refused
-/// nothing is left beside it.
-pub fn load_to_save<'a>(
-    rt: &HostRuntime,
-    pool: &'a str,
-    missing: Missing,
-) -> Result<(Service<Sha1Naming>, NewFile<'a>), RunFault> {
-    let new = NewFile::take(rt, pool)?;
-    match load_or(rt, pool, missing) {
-        Ok(service) => Ok((service, new)),
-        Err(fault) => {
-            new.remove(rt);
-            Err(fault)
-        }
-    }
-}
-
-fn load_or(
+/// The service that a pool file has, or what is begun with where there is none.
+pub fn load(
     rt: &HostRuntime,
     pool: &str,
     missing: Missing,
@@ -55,7 +33,14 @@ fn load_or(
 
 fn load_from(rt: &HostRuntime, file: File) -> Result<Service<Sha1Naming>, RunFault> {
     let mut reader = Counted::new(BufReader::new(rt.alloc(), file)?);
-    Ok(Service::load(rt.alloc(), Sha1Naming, &mut reader)?)
+    load_of(rt, &mut reader)
+}
+
+fn load_of<R: Read>(
+    rt: &HostRuntime,
+    reader: &mut Counted<R>,
+) -> Result<Service<Sha1Naming>, RunFault> {
+    Ok(Service::load(rt.alloc(), Sha1Naming, reader)?)
 }
 
 /// Saves what every tenant has at its last checkpoint: the new file takes the place of the pool

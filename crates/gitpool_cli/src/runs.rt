@@ -1,75 +1,131 @@
 //! What each subcommand does: a service is loaded, asked, and saved where it may have changed.
+//!
+//! A run has its service in one function, and lends it to what the subcommand asks of it.
 
-use crate::pools::{Missing, load, load_to_save, save};
+use crate::new_file::NewFile;
+use crate::pools::{Missing, load, save};
 use crate::run_fault::RunFault;
 use crate::steps;
-use git_objects::{Counted, write_all};
-use gitpool::{Line, Step};
+use git_objects::{Counted, Sha1Naming, write_all};
+use gitpool::{Line, Service, Step};
+use std::alloc::{AllocError, Global};
 
 /// Carries out a command line. Where several calls are refused, the first fault is answered.
 pub fn run(rt: &HostRuntime, line: Line<'_>) -> Result<(), RunFault> {
     match line {
-        Line::Serve { pool } => serve(rt, pool),
-        Line::Import { tenant, pool } => import(rt, tenant.as_bytes(), pool),
-        Line::Ask {
-            tenant,
-            query,
-            pool,
-        } => ask(rt, tenant.as_bytes(), query.as_bytes(), pool),
-        Line::Check { pool } => check(rt, pool),
-        Line::Copy { from, to, pool } => copy(rt, from.as_bytes(), to.as_bytes(), pool),
+        Line::Serve { pool } => run_to_save(rt, line, pool, Missing::Empty),
+        Line::Import { pool, .. } => run_to_save(rt, line, pool, Missing::Empty),
+        Line::Ask { pool, .. } => run_to_read(rt, line, pool),
+        Line::Check { pool } => run_to_read(rt, line, pool),
+        Line::Copy { pool, .. } => run_to_save(rt, line, pool, Missing::Refused),
     }
 }
 
-// Frames of steps are answered up to the end of the input, and the service is saved, also after
-// frames that were refused.
-fn serve(rt: &HostRuntime, pool: &str) -> Result<(), RunFault> {
-    let (mut service, new) = load_to_save(rt, pool, Missing::Empty)?;
-    let mut reader = Counted::new(rt.stdin());
-    let mut writer = Counted::new(rt.stdout());
-    let served = gitpool::serve(rt.alloc(), &mut service, &mut reader, &mut writer);
-    let saved = save(rt, &service, &new);
-    served?;
-    saved
+// A run that leaves the pool file as it is.
+fn run_to_read(rt: &HostRuntime, line: Line<'_>, pool: &str) -> Result<(), RunFault> {
+    let mut service = load(rt, pool, Missing::Refused)?;
+    carry_out(rt, &mut service, line)
 }
 
-// One stream is imported, and the service is saved, also after a stream that was refused.
-fn import(rt: &HostRuntime, tenant: &[u8], pool: &str) -> Result<(), RunFault> {
-    let (mut service, new) = load_to_save(rt, pool, Missing::Empty)?;
+// A run that saves. No other one is at work on the pool file meanwhile; where one is, this one is
+// refused.
+fn run_to_save(
+    rt: &HostRuntime,
+    line: Line<'_>,
+    pool: &str,
+    missing: Missing,
+) -> Result<(), RunFault> {
+    let new = NewFile::take(rt, pool)?;
+    load_and_save(rt, line, &new, missing)
+}
+
+// Where the pool file is refused nothing is left beside it.
+fn load_and_save(
+    rt: &HostRuntime,
+    line: Line<'_>,
+    new: &NewFile<'_>,
+    missing: Missing,
+) -> Result<(), RunFault> {
+    match load(rt, new.pool(), missing) {
+        Ok(service) => carry_out_and_save(rt, service, line, new),
+        Err(fault) => {
+            new.remove(rt);
+            Err(fault)
+        }
+    }
+}
+
+// The service is saved also after frames, a stream or a copy that were refused.
+fn carry_out_and_save(
+    rt: &HostRuntime,
+    mut service: Service<Sha1Naming>,
+    line: Line<'_>,
+    new: &NewFile<'_>,
+) -> Result<(), RunFault> {
+    let outcome = carry_out(rt, &mut service, line);
+    let saved = save(rt, &service, new);
+    outcome.and(saved)
+}
+
+fn carry_out(
+    rt: &HostRuntime,
+    service: &mut Service<Sha1Naming>,
+    line: Line<'_>,
+) -> Result<(), RunFault> {
+    match line {
+        Line::Serve { .. } => serve(rt, service),
+        Line::Import { tenant, .. } => import(rt, service, tenant.as_bytes()),
+        Line::Ask { tenant, query, .. } => ask(rt, service, tenant.as_bytes(), query.as_bytes()),
+        Line::Check { .. } => check(rt, service),
+        Line::Copy { from, to, .. } => {
+            steps::outcome(service.copy_tenant(from.as_bytes(), to.as_bytes()))
+        }
+    }
+}
+
+// Frames of steps are answered up to the end of the input.
+fn serve(rt: &HostRuntime, service: &mut Service<Sha1Naming>) -> Result<(), RunFault> {
+    let mut reader = Counted::new(rt.stdin());
+    let mut writer = Counted::new(rt.stdout());
+    Ok(gitpool::serve(rt.alloc(), service, &mut reader, &mut writer)?)
+}
+
+// One stream is imported.
+fn import(
+    rt: &HostRuntime,
+    service: &mut Service<Sha1Naming>,
+    tenant: &[u8],
+) -> Result<(), RunFault> {
     let mut out = Vec::new(rt.alloc());
     let mut reader = Counted::new(rt.stdin());
     let mut writer = Counted::new(rt.stdout());
-    let imported = steps::import(&mut service, tenant, &mut out, &mut reader, &mut writer);
-    let saved = save(rt, &service, &new);
-    imported.and(saved)
+    steps::import(service, tenant, &mut out, &mut reader, &mut writer)
 }
 
-fn ask(rt: &HostRuntime, tenant: &[u8], query: &[u8], pool: &str) -> Result<(), RunFault> {
-    let mut service = load(rt, pool)?;
+fn ask(
+    rt: &HostRuntime,
+    service: &mut Service<Sha1Naming>,
+    tenant: &[u8],
+    query: &[u8],
+) -> Result<(), RunFault> {
     let mut out = Vec::new(rt.alloc());
     let mut writer = Counted::new(rt.stdout());
-    steps::take(
-        &mut service,
-        Step::Ask { tenant, query },
-        &mut out,
-        &mut writer,
-    )
+    let step = Step::Ask { tenant, query };
+    steps::take(service, step, &mut out, &mut writer)
 }
 
-fn check(rt: &HostRuntime, pool: &str) -> Result<(), RunFault> {
-    let service = load(rt, pool)?;
+fn check(rt: &HostRuntime, service: &Service<Sha1Naming>) -> Result<(), RunFault> {
+    let text = stored_text(rt.alloc(), service)?;
+    print(rt, &text)
+}
+
+fn stored_text(alloc: Global, service: &Service<Sha1Naming>) -> Result<String, AllocError> {
     let (objects, bytes) = service.stored();
     let tenants = service.tenants();
-    let text = format!(in rt.alloc(); "objects {objects} bytes {bytes} tenants {tenants}\n")?;
-    let mut writer = Counted::new(rt.stdout());
-    write_all(&mut writer, text.as_bytes())?;
-    Ok(())
+    format!(in alloc; "objects {objects} bytes {bytes} tenants {tenants}\n")
 }
 
-// A tenant is copied, and the service is saved, also after a copy that was refused.
-fn copy(rt: &HostRuntime, from: &[u8], to: &[u8], pool: &str) -> Result<(), RunFault> {
-    let (mut service, new) = load_to_save(rt, pool, Missing::Refused)?;
-    let copied = steps::outcome(service.copy_tenant(from, to));
-    let saved = save(rt, &service, &new);
-    copied.and(saved)
+fn print(rt: &HostRuntime, text: &str) -> Result<(), RunFault> {
+    let mut writer = Counted::new(rt.stdout());
+    Ok(write_all(&mut writer, text.as_bytes())?)
 }
