@@ -1,88 +1,83 @@
 //! Whole pool files: read, refused, and written again.
 
+use crate::parts::{code_of, number_of, printed};
 use byte_devices::{Counted, DeviceFault, FailingReader, FailingWriter};
 use git_names::TailNaming;
 use pool_file_text::{Fault, RawFile, read_sealed, write_sealed};
 use std::alloc::Global;
 use std::io::Read;
 
-// The tenant `t` with the one blob `ab`, in version 1.
-pub const VERSION_1: [u8; 86] = [
-    0x67, 0x69, 0x74, 0x70, 0x6f, 0x6f, 0x6c, 0x0a, 0x00, 0x00, 0x00, 0x01, 0x00, 0x00, 0x00, 0x00,
-    0x00, 0x00, 0x00, 0x01, 0x03, 0x00, 0x00, 0x00, 0x00, 0x00, 0x00, 0x00, 0x02, 0x61, 0x62, 0x00,
-    0x00, 0x00, 0x00, 0x00, 0x00, 0x00, 0x01, 0x00, 0x01, 0x74, 0x00, 0x00, 0x00, 0x00, 0x00, 0x00,
-    0x00, 0x01, 0x00, 0x00, 0x00, 0x00, 0x00, 0x00, 0x00, 0x00, 0x00, 0x00, 0x00, 0x00, 0x00, 0x00,
-    0x00, 0x00, 0xab, 0xab, 0xab, 0xab, 0xab, 0xab, 0xab, 0xab, 0xab, 0xab, 0xab, 0xab, 0xab, 0xab,
-    0xab, 0xab, 0xab, 0xab, 0xab, 0x49,
-];
+// The tenant `t` with the one blob `ab`, in version 1: a line for magic and version, for the
+// objects, for the tenant, for its refs, and for the digest.
+pub const VERSION_1: &[u8] = b"gitpool\n\0\0\0\x01\
+    \0\0\0\0\0\0\0\x01\x03\0\0\0\0\0\0\0\x02ab\
+    \0\0\0\0\0\0\0\x01\0\x01t\0\0\0\0\0\0\0\x01\0\0\0\0\0\0\0\0\
+    \0\0\0\0\0\0\0\0\
+    \xab\xab\xab\xab\xab\xab\xab\xab\xab\xab\xab\xab\xab\xab\xab\xab\xab\xab\xabI";
 
 // The same in version 2, with HEAD.
-pub const VERSION_2: [u8; 103] = [
-    0x67, 0x69, 0x74, 0x70, 0x6f, 0x6f, 0x6c, 0x0a, 0x00, 0x00, 0x00, 0x02, 0x00, 0x00, 0x00, 0x00,
-    0x00, 0x00, 0x00, 0x01, 0x03, 0x00, 0x00, 0x00, 0x00, 0x00, 0x00, 0x00, 0x02, 0x61, 0x62, 0x00,
-    0x00, 0x00, 0x00, 0x00, 0x00, 0x00, 0x01, 0x00, 0x01, 0x74, 0x00, 0x00, 0x00, 0x00, 0x00, 0x00,
-    0x00, 0x01, 0x00, 0x00, 0x00, 0x00, 0x00, 0x00, 0x00, 0x00, 0x00, 0x00, 0x00, 0x00, 0x00, 0x00,
-    0x00, 0x00, 0x00, 0x0f, 0x72, 0x65, 0x66, 0x73, 0x2f, 0x68, 0x65, 0x61, 0x64, 0x73, 0x2f, 0x6d,
-    0x61, 0x69, 0x6e, 0xab, 0xab, 0xab, 0xab, 0xab, 0xab, 0xab, 0xab, 0xab, 0xab, 0xab, 0xab, 0xab,
-    0xab, 0xab, 0xab, 0xab, 0xab, 0xab, 0x11,
-];
+pub const VERSION_2: &[u8] = b"gitpool\n\0\0\0\x02\
+    \0\0\0\0\0\0\0\x01\x03\0\0\0\0\0\0\0\x02ab\
+    \0\0\0\0\0\0\0\x01\0\x01t\0\0\0\0\0\0\0\x01\0\0\0\0\0\0\0\0\
+    \0\0\0\0\0\0\0\0\0\x0frefs/heads/main\
+    \xab\xab\xab\xab\xab\xab\xab\xab\xab\xab\xab\xab\xab\xab\xab\xab\xab\xab\xab\x11";
 
-// What is answered where one byte of version 1 is greater by one, place by place.
-const CODES_1: [u16; 86] = [
-    60, 60, 60, 60, 60, 60, 60, 60, 61, 61, 61, 62, 62, 62, 62, 62, 62, 62, 62, 62, 63, 62, 62, 62,
-    62, 62, 62, 62, 62, 63, 63, 62, 62, 62, 62, 62, 62, 62, 62, 62, 62, 63, 62, 62, 62, 62, 62, 62,
-    62, 62, 63, 63, 63, 63, 63, 63, 63, 63, 62, 62, 62, 62, 62, 62, 62, 62, 63, 63, 63, 63, 63, 63,
-    63, 63, 63, 63, 63, 63, 63, 63, 63, 63, 63, 63, 63, 63,
-];
+// Version 1 where the count of objects says that there are none.
+const WITHOUT_OBJECTS: &[u8] = b"gitpool\n\0\0\0\x01\
+    \0\0\0\0\0\0\0\0\x03\0\0\0\0\0\0\0\x02ab\
+    \0\0\0\0\0\0\0\x01\0\x01t\0\0\0\0\0\0\0\x01\0\0\0\0\0\0\0\0\
+    \0\0\0\0\0\0\0\0\
+    \xab\xab\xab\xab\xab\xab\xab\xab\xab\xab\xab\xab\xab\xab\xab\xab\xab\xab\xabI";
+
+// Version 1, and a byte after it.
+const ONE_BYTE_MORE: &[u8] = b"gitpool\n\0\0\0\x01\
+    \0\0\0\0\0\0\0\x01\x03\0\0\0\0\0\0\0\x02ab\
+    \0\0\0\0\0\0\0\x01\0\x01t\0\0\0\0\0\0\0\x01\0\0\0\0\0\0\0\0\
+    \0\0\0\0\0\0\0\0\
+    \xab\xab\xab\xab\xab\xab\xab\xab\xab\xab\xab\xab\xab\xab\xab\xab\xab\xab\xabI\0";
+
+// What is answered where one byte of version 1 is greater by one, place by place: the last digits
+// of the numbers of refusals.
+const CODES_1: &[u8; 86] = b"00000000111222222222322222222332222222222322222222\
+    333333332222222233333333333333333333";
 
 // The same of version 2.
-const CODES_2: [u16; 103] = [
-    60, 60, 60, 60, 60, 60, 60, 60, 61, 61, 61, 61, 62, 62, 62, 62, 62, 62, 62, 62, 63, 62, 62, 62,
-    62, 62, 62, 62, 62, 63, 63, 62, 62, 62, 62, 62, 62, 62, 62, 62, 62, 63, 62, 62, 62, 62, 62, 62,
-    62, 62, 63, 63, 63, 63, 63, 63, 63, 63, 62, 62, 62, 62, 62, 62, 62, 62, 62, 62, 63, 63, 63, 63,
-    63, 63, 63, 63, 63, 63, 63, 63, 63, 63, 63, 63, 63, 63, 63, 63, 63, 63, 63, 63, 63, 63, 63, 63,
-    63, 63, 63, 63, 63, 63, 63,
-];
-
-pub fn code_of<T: Drop>(answer: Result<T, Fault>) -> u16 {
-    match answer {
-        Ok(_) => 0,
-        Err(fault) => fault.code(),
-    }
-}
+const CODES_2: &[u8; 103] = b"00000000111122222222322222222332222222222322222222\
+    33333333222222222233333333333333333333333333333333\
+    333";
 
 fn code_of_reading<R: Read + Drop>(alloc: Global, reader: R) -> u16 {
     let mut counted = Counted::new(reader);
     code_of(read_sealed(alloc, &TailNaming, &mut counted))
 }
 
-fn are_refused_in_version_1(alloc: Global) -> bool {
-    for place in 0..86 {
-        let mut changed = VERSION_1;
-        changed[place] = changed[place].wrapping_add(1);
-        if code_of_reading(alloc, &changed[..]) != CODES_1[place] {
-            return false;
-        }
+fn add_one(bytes: &mut [u8], place: usize) {
+    if place < bytes.len() {
+        bytes[place] = bytes[place].wrapping_add(1);
     }
-    true
 }
 
-fn are_refused_in_version_2(alloc: Global) -> bool {
-    for place in 0..103 {
-        let mut changed = VERSION_2;
-        changed[place] = changed[place].wrapping_add(1);
-        if code_of_reading(alloc, &changed[..]) != CODES_2[place] {
-            return false;
-        }
+/// The bytes of a file, of which those at these places are greater by one.
+pub fn changed(alloc: Global, file: &[u8], places: &[usize]) -> Result<Vec<u8>, Fault> {
+    let mut bytes = Vec::from_slice(alloc, file)?;
+    for place in places {
+        add_one(&mut bytes, *place);
     }
-    true
+    Ok(bytes)
 }
 
-// The count of objects says that there are none.
-fn code_without_objects(alloc: Global) -> u16 {
-    let mut changed = VERSION_1;
-    changed[19] = 0;
-    code_of_reading(alloc, &changed[..])
+fn code_with_change(alloc: Global, file: &[u8], place: usize) -> Result<u16, Fault> {
+    let bytes = changed(alloc, file, &[place])?;
+    Ok(code_of_reading(alloc, bytes.as_slice()))
+}
+
+fn are_refused(alloc: Global, file: &[u8], codes: &[u8]) -> Result<bool, Fault> {
+    for (place, code) in codes.iter().enumerate() {
+        if code_with_change(alloc, file, place)? != number_of(*code) {
+            return Ok(false);
+        }
+    }
+    Ok(true)
 }
 
 fn are_fronts_refused(alloc: Global, file: &[u8]) -> bool {
@@ -94,32 +89,15 @@ fn are_fronts_refused(alloc: Global, file: &[u8]) -> bool {
     true
 }
 
-fn code_with_one_byte_more(alloc: Global) -> u16 {
-    let mut longer = [0; 87];
-    longer[..86].copy_from_slice(&VERSION_1);
-    code_of_reading(alloc, &longer[..])
-}
-
 fn file_1(alloc: Global) -> Result<RawFile, Fault> {
-    let mut reader = Counted::new(&VERSION_1[..]);
+    let mut reader = Counted::new(VERSION_1);
     read_sealed(alloc, &TailNaming, &mut reader)
 }
 
-fn is_written_as_version_2(alloc: Global) -> Result<bool, Fault> {
+fn is_written(alloc: Global, version: u32, wanted: &[u8]) -> Result<bool, Fault> {
     let mut file = file_1(alloc)?;
-    file.version = 2;
-    let mut writer = Counted::new(Vec::new(alloc));
-    write_sealed(&TailNaming, &file, &mut writer)?;
-    let written = writer.into_inner();
-    Ok(written.as_slice() == VERSION_2.as_slice())
-}
-
-fn is_written_again(alloc: Global) -> Result<bool, Fault> {
-    let file = file_1(alloc)?;
-    let mut writer = Counted::new(Vec::new(alloc));
-    write_sealed(&TailNaming, &file, &mut writer)?;
-    let written = writer.into_inner();
-    Ok(written.as_slice() == VERSION_1.as_slice())
+    file.version = version;
+    Ok(printed(alloc, &TailNaming, &file)?.as_slice() == wanted)
 }
 
 // How many calls one reading of version 1 makes over a slice.
@@ -128,11 +106,11 @@ const READS: u64 = 21;
 // A reader that fails at any of these calls is blamed, and one that fails later is not.
 fn are_readers_blamed(alloc: Global) -> bool {
     for nth in 0..READS {
-        if code_of_reading(alloc, FailingReader::new(&VERSION_1[..], nth)) != 68 {
+        if code_of_reading(alloc, FailingReader::new(VERSION_1, nth)) != 68 {
             return false;
         }
     }
-    code_of_reading(alloc, FailingReader::new(&VERSION_1[..], READS)) == 0
+    code_of_reading(alloc, FailingReader::new(VERSION_1, READS)) == 0
 }
 
 // What stands written where a writer of one byte a call fails at its nth.
@@ -155,28 +133,28 @@ fn are_fronts_written(alloc: Global) -> Result<bool, Fault> {
 
 #[test]
 fn reads_both_versions(rt: HostRuntime) {
-    assert!(rt; code_of_reading(rt.alloc(), &VERSION_1[..]) == 0);
-    assert!(rt; code_of_reading(rt.alloc(), &VERSION_2[..]) == 0);
+    assert!(rt; code_of_reading(rt.alloc(), VERSION_1) == 0);
+    assert!(rt; code_of_reading(rt.alloc(), VERSION_2) == 0);
 }
 
 #[test]
 fn refuses_each_changed_byte(rt: HostRuntime) {
-    assert!(rt; are_refused_in_version_1(rt.alloc()));
-    assert!(rt; are_refused_in_version_2(rt.alloc()));
-    assert!(rt; code_without_objects(rt.alloc()) == 62);
+    assert!(rt; are_refused(rt.alloc(), VERSION_1, CODES_1) == Ok(true));
+    assert!(rt; are_refused(rt.alloc(), VERSION_2, CODES_2) == Ok(true));
+    assert!(rt; code_of_reading(rt.alloc(), WITHOUT_OBJECTS) == 62);
 }
 
 #[test]
 fn refuses_each_shorter_front_and_one_byte_more(rt: HostRuntime) {
-    assert!(rt; are_fronts_refused(rt.alloc(), &VERSION_1));
-    assert!(rt; are_fronts_refused(rt.alloc(), &VERSION_2));
-    assert!(rt; code_with_one_byte_more(rt.alloc()) == 69);
+    assert!(rt; are_fronts_refused(rt.alloc(), VERSION_1));
+    assert!(rt; are_fronts_refused(rt.alloc(), VERSION_2));
+    assert!(rt; code_of_reading(rt.alloc(), ONE_BYTE_MORE) == 69);
 }
 
 #[test]
 fn writes_what_was_read_in_either_version(rt: HostRuntime) {
-    assert!(rt; is_written_again(rt.alloc()) == Ok(true));
-    assert!(rt; is_written_as_version_2(rt.alloc()) == Ok(true));
+    assert!(rt; is_written(rt.alloc(), 1, VERSION_1) == Ok(true));
+    assert!(rt; is_written(rt.alloc(), 2, VERSION_2) == Ok(true));
 }
 
 #[test]

@@ -2,11 +2,10 @@
 //! writer fails.
 
 use crate::files::VERSION_2;
+use crate::parts::printed;
 use byte_devices::{Counted, DeviceFault, FailingWriter};
 use git_names::TailNaming;
-use pool_file_text::{
-    Fault, LentObject, RawFile, RawObject, read_sealed, write_lent, write_sealed,
-};
+use pool_file_text::{Fault, LentObject, RawFile, RawObject, read_sealed, write_lent};
 use std::alloc::{AllocError, Global};
 use std::io::Write;
 
@@ -31,7 +30,7 @@ fn write_to<W: Write>(
 }
 
 fn file_2(alloc: Global) -> Result<RawFile, Fault> {
-    let mut reader = Counted::new(&VERSION_2[..]);
+    let mut reader = Counted::new(VERSION_2);
     read_sealed(alloc, &TailNaming, &mut reader)
 }
 
@@ -44,7 +43,7 @@ fn is_written(alloc: Global, file: &RawFile, wanted: &[u8], calls: u64) -> Resul
 }
 
 fn is_written_as_read(alloc: Global) -> Result<bool, Fault> {
-    is_written(alloc, &file_2(alloc)?, &VERSION_2, 2)
+    is_written(alloc, &file_2(alloc)?, VERSION_2, 2)
 }
 
 fn is_front_written(alloc: Global, file: &RawFile, nth: usize) -> Result<bool, Fault> {
@@ -64,13 +63,17 @@ fn are_fronts_written(alloc: Global) -> Result<bool, Fault> {
     Ok(true)
 }
 
+fn push_large(alloc: Global, objects: &mut Vec<RawObject>, size: usize) -> Result<(), Fault> {
+    let bytes = Vec::from_elem(alloc, 7, size)?;
+    objects.push(RawObject { kind: 3, bytes })?;
+    Ok(())
+}
+
 // A file of objects of these sizes, and no tenant.
 fn file_of(alloc: Global, sizes: &[usize]) -> Result<RawFile, Fault> {
     let mut objects = Vec::new(alloc);
     for size in sizes {
-        let mut bytes = Vec::new(alloc);
-        bytes.resize(*size, 7)?;
-        objects.push(RawObject { kind: 3, bytes })?;
+        push_large(alloc, &mut objects, *size)?;
     }
     Ok(RawFile {
         version: 2,
@@ -82,9 +85,7 @@ fn file_of(alloc: Global, sizes: &[usize]) -> Result<RawFile, Fault> {
 // Whether such a file is written by so many calls, and as an owned one is.
 fn takes_calls(alloc: Global, sizes: &[usize], calls: u64) -> Result<bool, Fault> {
     let file = file_of(alloc, sizes)?;
-    let mut writer = Counted::new(Vec::new(alloc));
-    write_sealed(&TailNaming, &file, &mut writer)?;
-    let wanted = writer.into_inner();
+    let wanted = printed(alloc, &TailNaming, &file)?;
     is_written(alloc, &file, &wanted, calls)
 }
 

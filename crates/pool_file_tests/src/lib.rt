@@ -4,13 +4,19 @@
 #[cfg(test)]
 mod files;
 #[cfg(test)]
+mod indexed;
+#[cfg(test)]
 mod judged;
 #[cfg(test)]
 mod lent;
 #[cfg(test)]
+mod lines;
+#[cfg(test)]
 mod objects;
 #[cfg(test)]
 mod own;
+#[cfg(test)]
+mod parts;
 #[cfg(test)]
 mod references;
 #[cfg(test)]

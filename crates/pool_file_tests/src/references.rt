@@ -1,13 +1,10 @@
 //! What the objects of tenants refer to.
 
-use git_names::{Naming, Sha1Naming, TailNaming};
-use pool_file_checks::{check_references, index_objects, name_objects};
-use pool_file_text::{Fault, RawObject};
-use std::alloc::Global;
+use crate::indexed::{Check, Row, are_judged_so};
+use crate::parts::Object;
+use git_names::{Sha1Naming, TailNaming};
 
-// The byte of a kind, and contents. The names in them are those that `git hash-object` gave.
-type Object<'a> = (u8, &'a [u8]);
-
+// The names in these contents are those that `git hash-object` gave.
 const OBJECTS: &[Object<'static>] = &[
     (3, b"hello\n"),
     (2, b""),
@@ -82,9 +79,6 @@ const TAG: u64 = 10;
 
 const TAG_OF_BLOB: u64 = 11;
 
-// The numbers of a tenant's objects, and the number of the refusal, 0 for none.
-type Row<'a> = (&'a [u64], u16);
-
 const ROWS: &[Row<'static>] = &[
     (&[], 0),
     (&[BLOB], 0),
@@ -123,45 +117,22 @@ const OF_ITSELF: &[Object<'static>] = &[(
     b"40000 XXX\0\xab\xab\xab\xab\xab\xab\xab\xab\xab\xab\xab\xab\xab\xab\xab\xab\xab\xab\xab\xab",
 )];
 
-fn objects_of(alloc: Global, objects: &[Object<'_>]) -> Result<Vec<RawObject>, Fault> {
-    let mut list = Vec::new(alloc);
-    for (kind, bytes) in objects {
-        let bytes = Vec::from_slice(alloc, bytes)?;
-        list.push(RawObject { kind: *kind, bytes })?;
-    }
-    Ok(list)
-}
-
-fn code_of(answer: Result<(), Fault>) -> u16 {
-    match answer {
-        Ok(()) => 0,
-        Err(fault) => fault.code(),
-    }
-}
-
-fn are_judged_so<N: Naming>(
-    alloc: Global,
-    naming: &N,
-    objects: &[Object<'_>],
-    rows: &[Row<'_>],
-) -> Result<bool, Fault> {
-    let raw = objects_of(alloc, objects)?;
-    let names = name_objects(alloc, naming, &raw)?;
-    for (numbers, code) in rows {
-        let index = index_objects(alloc, &names, numbers)?;
-        if code_of(check_references(alloc, &raw, &index)) != *code {
-            return Ok(false);
-        }
-    }
-    Ok(true)
-}
-
 #[test]
 fn judges_what_objects_refer_to(rt: HostRuntime) {
-    assert!(rt; are_judged_so(rt.alloc(), &Sha1Naming, OBJECTS, ROWS) == Ok(true));
+    assert!(rt;
+        are_judged_so(rt.alloc(), &Sha1Naming, &Check::References, OBJECTS, ROWS) == Ok(true)
+    );
 }
 
 #[test]
 fn refuses_a_tree_that_names_itself(rt: HostRuntime) {
-    assert!(rt; are_judged_so(rt.alloc(), &TailNaming, OF_ITSELF, &[(&[0], 66)]) == Ok(true));
+    assert!(rt;
+        are_judged_so(
+            rt.alloc(),
+            &TailNaming,
+            &Check::References,
+            OF_ITSELF,
+            &[(&[0], 66)]
+        ) == Ok(true)
+    );
 }

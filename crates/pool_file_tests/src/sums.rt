@@ -1,14 +1,14 @@
 //! The sizes of tenants' trees.
 
+use crate::indexed::{Check, Row, are_judged_so};
+use crate::parts::{Object, code_of};
 use git_names::{Kind, Name, Sha1Naming, name_of};
 use indexmap::IndexMap;
-use pool_file_checks::{check_sums, index_objects, name_objects};
+use pool_file_checks::check_sums;
 use pool_file_text::{Fault, RawObject};
 use std::alloc::Global;
 
-// The byte of a kind, and contents. The names in them are those that `git mktree` gave.
-type Object<'a> = (u8, &'a [u8]);
-
+// The names in these contents are those that `git mktree` gave.
 const OBJECTS: &[Object<'static>] = &[
     (3, b"hello\n"),
     (2, b""),
@@ -46,9 +46,6 @@ const OF_EMPTY: u64 = 4;
 const OF_GITLINK: u64 = 5;
 
 const NO_TREE: u64 = 6;
-
-// The numbers of a tenant's objects, and the number of the refusal, 0 for none.
-type Row<'a> = (&'a [u64], u16);
 
 const ROWS: &[Row<'static>] = &[
     (&[], 0),
@@ -106,32 +103,11 @@ const TOWERS: &[Tower<'static>] = &[
 
 const SIXTEEN: &[u8] = b"abcdefghijklmnop";
 
-fn objects_of(alloc: Global, objects: &[Object<'_>]) -> Result<Vec<RawObject>, Fault> {
-    let mut list = Vec::new(alloc);
-    for (kind, bytes) in objects {
-        let bytes = Vec::from_slice(alloc, bytes)?;
-        list.push(RawObject { kind: *kind, bytes })?;
+fn append_letters(contents: &mut Vec<u8>, letter: u8, length: usize) -> Result<(), Fault> {
+    for _ in 0..length {
+        contents.push(letter)?;
     }
-    Ok(list)
-}
-
-fn code_of(answer: Result<(), Fault>) -> u16 {
-    match answer {
-        Ok(()) => 0,
-        Err(fault) => fault.code(),
-    }
-}
-
-fn are_judged_so(alloc: Global) -> Result<bool, Fault> {
-    let objects = objects_of(alloc, OBJECTS)?;
-    let names = name_objects(alloc, &Sha1Naming, &objects)?;
-    for (numbers, code) in ROWS {
-        let index = index_objects(alloc, &names, numbers)?;
-        if code_of(check_sums(alloc, &objects, &index)) != *code {
-            return Ok(false);
-        }
-    }
-    Ok(true)
+    Ok(())
 }
 
 fn append_entry(
@@ -142,65 +118,89 @@ fn append_entry(
     id: &Name,
 ) -> Result<(), Fault> {
     contents.extend_from_slice(mode)?;
-    contents.push(b' ')?;
-    for _ in 0..length {
-        contents.push(letter)?;
-    }
+    append_letters(contents, letter, length)?;
     contents.push(0)?;
     contents.extend_from_slice(id.as_bytes())?;
     Ok(())
 }
 
+fn append_entries(
+    contents: &mut Vec<u8>,
+    mode: &[u8],
+    letters: &[u8],
+    length: usize,
+    id: &Name,
+) -> Result<(), Fault> {
+    for letter in letters {
+        append_entry(contents, mode, *letter, length, id)?;
+    }
+    Ok(())
+}
+
+fn append_tree(contents: &mut Vec<u8>, level: &Level<'_>, below: &Name) -> Result<(), Fault> {
+    append_entries(contents, b"40000 ", level.2, level.1, below)?;
+    append_entries(contents, b"100644 ", level.3, level.1, below)
+}
+
 fn tree_on(alloc: Global, level: &Level<'_>, below: &Name) -> Result<Vec<u8>, Fault> {
-    let (_, length, directories, files) = *level;
     let mut contents = Vec::new(alloc);
-    for letter in directories {
-        append_entry(&mut contents, b"40000", *letter, length, below)?;
-    }
-    for letter in files {
-        append_entry(&mut contents, b"100644", *letter, length, below)?;
-    }
+    append_tree(&mut contents, level, below)?;
     Ok(contents)
 }
 
-// The objects of a tower, and their numbers under their names.
-type Grown = (Vec<RawObject>, IndexMap<Name, usize>);
+// The objects of a tower, their numbers under their names, and the name of the last one.
+#[derive(Drop)]
+struct Grown {
+    objects: Vec<RawObject>,
+    index: IndexMap<Name, usize>,
+    below: Name,
+}
 
-fn grow(alloc: Global, levels: &[Level<'_>]) -> Result<Grown, Fault> {
-    let mut objects = Vec::new(alloc);
-    let mut index = IndexMap::new(alloc);
-    let mut below = Name::from_bytes([0; 20]);
+fn add_object(grown: &mut Grown, id: Name, bytes: Vec<u8>) -> Result<(), Fault> {
+    grown.objects.push(RawObject { kind: 2, bytes })?;
+    grown.index.insert(id, grown.index.len())?;
+    grown.below = id;
+    Ok(())
+}
+
+fn add_tree(alloc: Global, grown: &mut Grown, level: &Level<'_>) -> Result<(), Fault> {
+    let bytes = tree_on(alloc, level, &grown.below)?;
+    let id = name_of(alloc, &Sha1Naming, Kind::Tree, &bytes)?;
+    add_object(grown, id, bytes)
+}
+
+fn add_level(alloc: Global, grown: &mut Grown, level: &Level<'_>) -> Result<(), Fault> {
+    for _ in 0..level.0 {
+        add_tree(alloc, grown, level)?;
+    }
+    Ok(())
+}
+
+fn add_levels(alloc: Global, grown: &mut Grown, levels: &[Level<'_>]) -> Result<(), Fault> {
     for level in levels {
-        for _ in 0..level.0 {
-            let bytes = tree_on(alloc, level, &below)?;
-            below = name_of(alloc, &Sha1Naming, Kind::Tree, &bytes)?;
-            index.insert(below, index.len())?;
-            objects.push(RawObject { kind: 2, bytes })?;
-        }
+        add_level(alloc, grown, level)?;
     }
-    Ok((objects, index))
+    Ok(())
 }
 
-fn is_judged_so(alloc: Global, tower: &Tower<'_>) -> Result<bool, Fault> {
-    let (objects, index) = grow(alloc, tower.0)?;
-    Ok(code_of(check_sums(alloc, &objects, &index)) == tower.1)
-}
-
-fn first_wrong(alloc: Global) -> Result<Option<usize>, Fault> {
-    for (place, tower) in TOWERS.iter().enumerate() {
-        if !is_judged_so(alloc, tower)? {
-            return Ok(Some(place));
-        }
-    }
-    Ok(None)
+fn code_of_tower(alloc: Global, levels: &[Level<'_>]) -> Result<u16, Fault> {
+    let mut grown = Grown {
+        objects: Vec::new(alloc),
+        index: IndexMap::new(alloc),
+        below: Name::from_bytes([0; 20]),
+    };
+    add_levels(alloc, &mut grown, levels)?;
+    Ok(code_of(check_sums(alloc, &grown.objects, &grown.index)))
 }
 
 #[test]
 fn judges_the_trees_of_a_tenant(rt: HostRuntime) {
-    assert!(rt; are_judged_so(rt.alloc()) == Ok(true));
+    assert!(rt; are_judged_so(rt.alloc(), &Sha1Naming, &Check::Sums, OBJECTS, ROWS) == Ok(true));
 }
 
 #[test]
 fn trees_may_reach_each_limit(rt: HostRuntime) {
-    assert_eq!(rt; first_wrong(rt.alloc()), Ok(None));
+    for (levels, code) in TOWERS {
+        assert!(rt; code_of_tower(rt.alloc(), levels) == Ok(*code));
+    }
 }
