@@ -15,7 +15,7 @@ use Rattle.tree_build.specs.StoredFiles.{stored_files}
 use Rattle.tree_build.specs.StoredTree.{ListsTree}
 use Rattle.branch_trees.specs.Shape.{What, file, unopened, opened, Shape, none, row, Held, what_files, shape_files, held_files}
 
--- What is held at the root, how many files that means, and how many texts of trees were read.
+-- What is held at the root, how many files that means, and how many trees were read.
 pub record Branch : Type 0 where
   pub root : Held
   pub files : ℕ
@@ -97,9 +97,9 @@ known_tree (opened tree) = tree
 abbrev pub root_name : Branch → Option (List ℕ)
 root_name b = known_tree b.root.what
 
--- ---- texts that are read
+-- ---- trees that are read
 
--- How many texts of trees a walk along a path reads at most: none in directories that were opened,
+-- How many trees a walk along a path reads at most: none in directories that were opened,
 -- and below another one for each component that is left.
 abbrev pub closed_by : What → ℕ → ℕ → ℕ
 closed_by (file e) inside left = 0
@@ -116,7 +116,7 @@ closed_along (row c what inside rest) (d ∷ path) =
 abbrev pub closed_from : Held → Path → ℕ
 closed_from h path = closed_by h.what (closed_along h.inside path) (length path)
 
--- A call has read at most so many texts.
+-- A call has read at most so many trees.
 pub record Reads (old new : Branch) (most : ℕ) : Type 0 where
   pub counted : old.reads ≤ new.reads
   pub bounded : new.reads ≤ old.reads + most

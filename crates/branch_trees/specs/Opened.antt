@@ -68,7 +68,7 @@ abbrev pub recounted : List Object → Branch → Branch
 recounted os b =
     record { root = b.root; files = length (root_files os b); reads = b.reads }
 
--- So many texts were read at most.
+-- So many trees were read at most.
 pub record ReadsMore (old new most : ℕ) : Type 0 where
   pub counted : old ≤ new
   pub bounded : new ≤ old + most

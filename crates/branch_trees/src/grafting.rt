@@ -1,4 +1,4 @@
-//! Putting a stored tree at a path of a branch, by its name. Its text is not read.
+//! Putting a stored tree at a path of a branch, by its name. It is not read.
 
 ghost use Rattle.std.specs.Prelude.{◌≡◌, ◌≢◌, ◌≤◌, true, [], length, Some, None, Err, IsTrue, OnOk, ◌↔◌};
 ghost use Rattle.tenant_tables.specs.Objects.{objects};

@@ -14,7 +14,7 @@ pub fn files_stay()
         → IsBranch (with_object id c os) b × (files_in (with_object id c os) b ≡ files_in os b) }
 {}
 
-/// A walk along a path reads at most as many texts of trees as the path has components, so that an
+/// A walk along a path reads at most as many trees as the path has components, so that an
 /// edit or `store`, of which `reads` says no more than the walk, reads no more; none at the root.
 pub fn walks_read_few()
     ensures { (h : Held) (path : Path) → closed_from h path ≤ length path }

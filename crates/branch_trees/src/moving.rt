@@ -218,7 +218,7 @@ impl Files {
     /// on a prefix of it: git-fast-import(1), "filecopy".
     ///
     /// A directory that nobody looked into, or that is a stored tree as it stands, is put by the
-    /// name of that tree, and no text below it is read. The source is read first.
+    /// name of that tree, and no tree below it is read. The source is read first.
     /// `Fault::SourceMissing` (18) where it has no file; `Fault::RootNotDirectory` (20) where a
     /// file would stand at the root; else `Fault::Limit` (25) where a path would be too long, or
     /// there would be too many files, as in `put`. The files have not changed after these. Takes

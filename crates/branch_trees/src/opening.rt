@@ -74,7 +74,7 @@ pub(crate) fn open<N: Naming>(
     })
 }
 
-/// Opens the directories on the way to a path, and counts the texts that are read. Takes memory for
+/// Opens the directories on the way to a path, and counts the trees that are read. Takes memory for
 /// their entries.
 #[cycle(opening)]
 #[tactic(auto, using(crate::proofs::Searched::ordered))]

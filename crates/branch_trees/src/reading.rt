@@ -50,7 +50,7 @@ fn row_at<N: Naming>(
     Ok(row_named(&rows, name))
 }
 
-/// What stands in the stored tree of this name at a path of this first component. The texts that
+/// What stands in the stored tree of this name at a path of this first component. The trees that
 /// are read are counted.
 #[cycle(reading)]
 pub(crate) fn stored_entry<N: Naming>(

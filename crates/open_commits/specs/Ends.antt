@@ -41,7 +41,7 @@ closed digest os commit = let content = commit_content digest commit in
     Ok (record { id = name_by digest content; objects = more })))
 
 -- Its files are then what they were, and known to be the tree that was stored, so that the next
--- commit can start from this one with what was opened. No text of a tree was read for it.
+-- commit can start from this one with what was opened. No tree was read for it.
 pub record KeepsFiles (digest : List ℕ → List ℕ) (os more : List Object) (old new : HeldCommit)
     : Type 0 where
   pub files : (commit_in more new).files ≡ (commit_in os old).files

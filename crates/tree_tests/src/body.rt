@@ -31,7 +31,7 @@ pub trait Body: Sized + Drop {
     fn clear(&mut self)
         ensures { (os : List Object) → is_sound os self.new };
 
-    /// How many texts of trees were read, where the body counts them.
+    /// How many trees were read, where the body counts them.
     fn reads(&self) -> Option<u64>;
 
     fn put<N: Naming>(

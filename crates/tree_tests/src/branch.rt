@@ -19,8 +19,8 @@ pub const HELLO: &[u8; 40] = b"ce013625030ba8dba906f756967f9e9ca394464a";
 
 /// What is done to a branch or looked up in it, and what it then answers: a refusal by its number,
 /// 0 where there is none; the mode or the tree at a path. A long path has so many components, each
-/// of so many `a`; many files are so many in each of so many directories. Texts that a body does
-/// not count are as many as it says.
+/// of so many `a`; many files are so many in each of so many directories. Where a body does not count
+/// what it reads, that is as much as it says.
 #[derive(Clone, Copy)]
 pub enum Step<'a> {
     Put(&'a [u8], &'a [u8; 40], u16),
