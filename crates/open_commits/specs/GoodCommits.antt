@@ -19,7 +19,7 @@ pub record IsGoodHeader (header : Header) : Type 0 where
 
 -- An open commit is good among objects where its header can be written, where its parents are
 -- commits of the objects and not too many, and where the objects of its files are there. That its
--- files are those of a branch is known of every value.
+-- files are those of a branch is said apart (OpenFiles).
 pub record IsGoodCommit (os : List Object) (commit : OpenCommit) : Type 0 where
   pub header : IsGoodHeader commit.header
   pub parents : All (λ id. kind_named id os ≡ Some kind.Commit) commit.parents
