@@ -3,8 +3,8 @@
 //! A tenant is told what it would be told if nobody else were there: `Service::run` says so, for
 //! every list of steps of any tenants, however interleaved. `Service::save` writes all repositories
 //! to a pool file, and `Service::load` reads them. `import_one` carries one stream from a reader to
-//! a writer, over the same stream; `Line` is a command line of the program. `laws` has what is true
-//! of exports.
+//! a writer, over an empty repository; `Line` is a command line of the program. `laws` has what is
+//! true of exports.
 #![tactic(auto)]
 
 mod import;

@@ -6,7 +6,7 @@ use git_objects::Sha1Naming;
 use gitpool::{Answer, Service, Step};
 use std::alloc::Global;
 
-// An encoding, a quoted path, a gitlink, a merge with one ancestor twice, a tag, a tag of it, and a
+// An encoding, a quoted path, a gitlink, a merge with one parent twice, a tag, a tag of it, and a
 // ref `refs/tags/v` that names a commit.
 const STREAM: &[u8] = b"blob\n\
     mark :1\n\
