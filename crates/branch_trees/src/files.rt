@@ -62,8 +62,8 @@ impl Files {
         self.files = 0;
     }
 
-    /// How many trees edits and `store` have read since the value was made; it stays at
-    /// the greatest number.
+    /// How many trees edits and `store` have read since the value was made; it stays at the
+    /// greatest number.
     pub fn reads(&self) -> u64
         ensures { result ≡ self.now.reads }
     {

@@ -57,9 +57,9 @@ impl Files {
     }
 
     /// Puts the files of a stored tree below a path, in place of what stands there, below it, or on
-    /// a prefix of it; at the root, in place of all: git-fast-import(1), "filemodify" with mode
-    /// 040000. The tree without files takes out what stands there. The tree itself is not read; at
-    /// the root nothing is.
+    /// a prefix of it; at the root, in place of all; not Git's grafts: git-fast-import(1),
+    /// "filemodify" with mode 040000. The tree without files takes out what stands there. The tree
+    /// itself is not read; at the root nothing is.
     ///
     /// `Fault::ObjectUnknown` (14) where the table has no object of this name, and
     /// `Fault::WrongKind` (15) where it is no tree; then `Fault::Limit` (25) where a path would

@@ -60,7 +60,7 @@ impl Path {
     /// `D`, `C` and `R`.
     ///
     /// A path that begins with a quote is quoted and ends at the next quote without a backslash.
-    /// Any other ends at the first space, if it is a source, and else with the text. Behind a
+    /// Any other ends at the first space, if it is a source, and else with the text. After a
     /// source stands a space, which is not part of the rest; after a last path stands nothing.
     /// `Fault::BadPath` (10) where that is broken, an escape is unknown or above 255, or a
     /// component is empty, `.` or `..` or holds NUL; else `Fault::Limit` (25) above 16,383 bytes or

@@ -90,7 +90,8 @@ impl<N: Naming> Service<N> {
         }
     }
 
-    /// What holds of every service: a fact for proofs. A call does nothing.
+    /// Every service has come to what it holds of a tenant by steps of that tenant: a fact for
+    /// proofs. A call does nothing.
     pub fn is_led(&self)
         ensures { (tenant : List ℕ) → (state : State)
             × LeadsTo N.digest_of state (held_of tenant self.now) }

@@ -180,9 +180,10 @@ impl Stream {
     /// Ends the stream, which is a checkpoint unless `done` was read before. What it prints is
     /// appended to `out`.
     ///
-    /// `Stop::Fault` where a line or a data is cut off (6), a part of a command is missing (5), or
-    /// `done` (7), or the refs then would be too many (25); `Stop::Memory(0)` where memory ran out.
-    /// `out` is unchanged then. The table has the objects of the last checkpoint.
+    /// `Stop::Fault` where a line or a data is cut off (6), a part of a command (5) or `done` (7) is
+    /// missing, the open commit cannot be stored (24, 25), or the refs then would be too many (25);
+    /// `Stop::Memory(0)` where memory ran out. `out` is unchanged then. The table has the objects of
+    /// the last checkpoint.
     pub fn finish<N: Naming>(
         self,
         pool: &mut Pool<N>,
