@@ -1,4 +1,4 @@
-//! The shortest front of an object name: git-rev-parse(1), --short.
+//! The shortest prefix of an object name: git-rev-parse(1), --short.
 
 ghost use Rattle.std.specs.Prelude.{◌≡◌, ◌≤◌, take};
 ghost use Rattle.hex.specs.Hex.{encode_lower};
@@ -9,7 +9,7 @@ use git_objects::{Name, Naming, has_twenty_bytes};
 use objects_in_sight::Objects;
 use tenant_tables::Found;
 
-/// The fewest digits that a front may have.
+/// The fewest digits that a prefix may have.
 const FEWEST_DIGITS: usize = 4;
 
 /// The digits of an object name.
@@ -28,7 +28,7 @@ fn begins_no_other<N: Naming>(objects: &Objects<'_, N>, id: &Name, digits: usize
     }
 }
 
-/// How many digits the shortest front of a name has that begins no other name of these objects: 4
+/// How many digits the shortest prefix of a name has that begins no other name of these objects: 4
 /// to 40. Takes no memory.
 #[tactic(auto, unfolding(crate::specs::Printed::shortest_front))]
 pub fn shortest_front<N: Naming>(objects: &Objects<'_, N>, id: &Name) -> usize

@@ -253,7 +253,7 @@ fn tell_committed<N: Naming>(
 /// | query | prints, each line with its line end |
 /// |---|---|
 /// | `rev-parse <expr>` | the object's name |
-/// | `abbrev <expr>` | the shortest front of it, of at least 4 digits, that begins no other |
+/// | `abbrev <expr>` | the shortest prefix of it, of at least 4 digits, that begins no other |
 /// | `cat <expr>` | `<name> <kind> <size>`, and the contents with a line end |
 /// | `ls <expr>` | each direct entry of the tree: `<mode> <kind> <name>`, a tab, its own name |
 /// | `log <range>` | `<name> <first line of the message>` of each commit, from new to old |

@@ -7,7 +7,7 @@ use revisions::{Expression, Range};
 pub enum Query<'a> {
     /// The name of an object: git-rev-parse(1).
     RevParse(Expression<'a>),
-    /// The shortest front of its name that begins no other: git-rev-parse(1), --short=4.
+    /// The shortest prefix of its name that begins no other: git-rev-parse(1), --short=4.
     Abbrev(Expression<'a>),
     /// The object itself: git-cat-file(1), --batch.
     Cat(Expression<'a>),

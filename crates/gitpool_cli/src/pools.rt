@@ -1,4 +1,4 @@
-//! Services in pool files: loaded at the begin of a run, saved at its end.
+//! Services in pool files: loaded as a run begins, saved at its end.
 
 use crate::new_file::NewFile;
 use crate::run_fault::RunFault;

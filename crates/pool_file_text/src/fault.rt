@@ -9,7 +9,7 @@ use git_names::Memory;
 use std::alloc::{AllocError, AllocFailed};
 use thiserror::Error;
 
-/// Why `load` or `save` gave up.
+/// Why a pool file was not read or written, or a service not loaded from one or saved to one.
 #[derive(Clone, Copy, Debug, PartialEq, Eq, Error)]
 pub enum Fault {
     /// The bytes are no pool file: 60 to 69.
