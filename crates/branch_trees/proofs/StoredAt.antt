@@ -65,7 +65,7 @@ stores-none digest answer p q u v fs flat h =
 pub stores-memory : (digest : List ℕ → List ℕ) (p : Cells) (u : View) (all : List (List TreeEntry))
     → StandsIn digest p u.entries → HasRoomBeside p u.entries → AddsSome digest p u p u all fault.Memory
 stores-memory digest p u all stands room =
-    stopped digest p p u u all [] all (adds-none digest p u stands room) refl
+    stopped digest p p u u all [] all (adds-none digest p u stands room) refl refl
 
 -- ---- what was found
 

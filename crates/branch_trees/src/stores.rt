@@ -178,10 +178,10 @@ impl Files {
     /// the table has is found and not added again, and directories that are stored trees as they
     /// stand are not looked into. `Fault::Limit` (25) where a tree's contents are too long or the
     /// table is full, else `Fault::NameCollision` (24) where the table has another object of a
-    /// tree's name, in the order of storing; `Fault::Memory` (90) where a growth was refused. The
-    /// trees before the refused one then stand after the committed prefix, and nothing else has
-    /// changed. The files are unchanged in any case, what was opened stays opened, and an opened
-    /// directory that was stored is known by its name.
+    /// tree's name, in the order of storing; `Fault::Memory` (90) where a growth was refused. Of the
+    /// trees, only some before the refused one then stand after the committed prefix, and nothing
+    /// else has changed. The files are unchanged in any case, what was opened stays opened, and the
+    /// root, where it was stored, is known by its name.
     ///
     /// The pool and the table are those that the value stands in, and nobody else holds a content
     /// 2^64 - 2 times.

@@ -102,10 +102,16 @@ module _ (digest : List ℕ → List ℕ) where
 
   -- no memory, after some trees
   pub stopped : (p q : Cells) (u v : View) (all done rest : List (List TreeEntry))
-      → AddsTrees digest p u q v done → all ≡ done ++ rest
-      → AddsSome digest p u q v all fault.Memory
-  stopped p q u v all done rest adds is =
-      record { done = done; rest = rest; parts = is; adds = adds; refusal = λ ne. absurd (ne refl) }
+      → AddsTrees digest p u q v done → trees_fault digest done (objects p u.entries) ≡ None
+      → all ≡ done ++ rest → AddsSome digest p u q v all fault.Memory
+  stopped p q u v all done rest adds none is = record {
+    done = done;
+    rest = rest;
+    parts = is;
+    adds = adds;
+    unrefused = none;
+    refusal = λ ne. absurd (ne refl);
+  }
 
   -- a refusal among later trees
   pub some-then : (p q r : Cells) (u v w : View) (all a b more : List (List TreeEntry)) (e : Fault)
@@ -119,6 +125,7 @@ module _ (digest : List ℕ → List ℕ) where
         ∙ ap (λ (t : List (List TreeEntry)). a ++ t) (append_assoc second.done second.rest more)
         ∙ sym (append_assoc a second.done (second.rest ++ more));
     adds = adds-then p q r u v w a second.done first second.adds;
+    unrefused = unrefused-then p q u v a second.done first none second.unrefused;
     refusal = λ ne.
         ap (λ (t : List (List TreeEntry)). trees_fault digest t (objects p u.entries)) is
         ∙ fault-append a (b ++ more) (objects p u.entries) none
@@ -176,6 +183,7 @@ module _ (digest : List ℕ → List ℕ) where
     adds =
         subst (λ (x : View). AddsTrees digest p u q x []) (sym same.0)
         (subst (λ (y : Cells). AddsTrees digest p u y u []) (sym same.1) (adds-none p u stands room));
+    unrefused = refl;
     refusal = λ ne.
         ap
         (λ (b : List ℕ). or_later (store_fault (name_by digest (content_from kind.Tree b)) (content_from kind.Tree b) (objects p u.entries)) None)

@@ -118,12 +118,14 @@ module _ (digest : List ℕ → List ℕ) (deep : ℕ) where
 
     pub stopped_here : (all last : List (List TreeEntry)) → all ≡ trees_of digest deep gs ++ last
         → AddsTrees digest p u q v (trees_of digest deep (take i gs))
+        → trees_fault digest (trees_of digest deep (take i gs)) (objects p u.entries) ≡ None
         → AddsTrees digest q v r w (group_trees digest deep (group_of x))
+        → trees_fault digest (group_trees digest deep (group_of x)) (objects q v.entries) ≡ None
         → AddsSome digest p u r w all fault.Memory
-    stopped_here all last is first second =
+    stopped_here all last is first none second more =
         stopped digest p r u w all (trees_of digest deep (take (i + 1) gs))
         (trees_of digest deep (drop (i + 1) gs) ++ last) (adds_turn first second)
-        (split all last is)
+        (unrefused_turn first none more) (split all last is)
 
     pub refused_here : (all last : List (List TreeEntry)) (e : Fault)
         → all ≡ trees_of digest deep gs ++ last

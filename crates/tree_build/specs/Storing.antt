@@ -51,13 +51,15 @@ pub record AddsTrees (digest : List ℕ → List ℕ) (before : Cells) (old : Vi
   pub kept : (id : List ℕ) (s : Summary) → summary_of id old.entries ≡ Some s
       → summary_of id new.entries ≡ Some s
 
--- The first of some trees were added, and then one was refused, or there was no memory.
+-- The first of some trees were added, none of which is refused; one of those after them is, or
+-- there was no memory.
 pub record AddsSome (digest : List ℕ → List ℕ) (before : Cells) (old : View) (after : Cells)
     (new : View) (trees : List (List TreeEntry)) (e : Fault) : Type 0 where
   pub done : List (List TreeEntry)
   pub rest : List (List TreeEntry)
   pub parts : trees ≡ done ++ rest
   pub adds : AddsTrees digest before old after new done
+  pub unrefused : trees_fault digest done (objects before old.entries) ≡ None
   pub refusal : e ≢ fault.Memory → trees_fault digest trees (objects before old.entries) ≡ Some e
 
 -- What storing trees answers: the name of the last one, or a refusal.

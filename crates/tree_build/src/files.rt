@@ -216,8 +216,8 @@ impl Files {
     /// the table has is found and not added again. `Fault::Limit` (25) where a tree's contents are
     /// too long or the table is full, else `Fault::NameCollision` (24) where the table has another
     /// object of a tree's name, in the order of storing; `Fault::Memory` (90) where a growth was
-    /// refused. The trees before the refused one then stand after the committed prefix, and
-    /// nothing else has changed. The files are unchanged in any case.
+    /// refused. Of the trees, only some before the refused one then stand after the committed
+    /// prefix, and nothing else has changed. The files are unchanged in any case.
     ///
     /// The pool is the one that the table stands in, and nobody else holds a content 2^64 - 2
     /// times.

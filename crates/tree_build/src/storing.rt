@@ -1,6 +1,6 @@
 //! Storing the trees that files make, children first.
 
-ghost use Rattle.std.specs.Prelude.{◌≡◌, ◌≤◌, [], ◌∷◌, None, Some, OnOk};
+ghost use Rattle.std.specs.Prelude.{◌≡◌, ◌≤◌, [], ◌∷◌, None, Some, OnOk, OnErr};
 ghost use Rattle.git_objects.specs.Parts.{entries_of};
 ghost use Rattle.git_model.specs.ObjectName.{IsObjectName};
 ghost use Rattle.git_model.specs.Tree.{tree_contents};
@@ -80,6 +80,7 @@ pub fn add_entries<N: Naming>(
         (entries_of entries.now ∷ []) (tree_name N.digest_of (entries_of entries.now)) }
     ensures known { OnOk result (summary_of (tree_name N.digest_of (entries_of entries.now))
         table.new.entries ≡ Some summary) }
+    ensures same { OnErr result ((table.new ≡ table.old) × (pool.new ≡ pool.old)) }
 {
     let contents = contents_of(alloc, entries)?;
     match table.add_tree(pool, &contents, summary) {

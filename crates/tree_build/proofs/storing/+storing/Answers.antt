@@ -27,7 +27,7 @@ pub store_trees-returns-in-Err-clause-stores : goal.store_trees-returns-in-Err-c
 store_trees-returns-in-Err-clause-stores g t c =
     stopped g.N.Naming.digest_of _ _ _ _ _ []
     (trees_within g.N.Naming.digest_of c.args.deep (files_below c.args.files.now))
-    (adds-none g.N.Naming.digest_of c.args.pool.now c.args.table.now c.requires.stands c.requires.room) refl
+    (adds-none g.N.Naming.digest_of c.args.pool.now c.args.table.now c.requires.stands c.requires.room) refl refl
 
 pub store_trees-store_groups-requires : goal.store_trees-store_groups-requires
 store_trees-store_groups-requires g t c κs within = (
@@ -85,7 +85,7 @@ store_groups-returns-then-is_err-clause-stores g t c =
     (c.args.deep - 1) _ _ _ _ _ _ c.args.groups.now c.loop-group.group-index c.group-item.result c.loop-group-test.true c.group-item.is
     _ _
     (trees-any g.N.Naming.digest_of c.args.deep (files_below c.args.files.now) c.args.groups.now c.requires.files.each c.requires.deep are)
-    c.loop-group.invariant.adds c.in-Ok.ensures.stores.2
+    c.loop-group.invariant.adds c.loop-group.invariant.unrefused c.in-Ok.ensures.stores.2 c.in-Ok.ensures.stores.1
 
 pub store_groups-loop-group-preserved : goal.store_groups-loop-group-preserved
 store_groups-loop-group-preserved g t c =
