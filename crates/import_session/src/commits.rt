@@ -150,7 +150,7 @@ fn begin<N: Naming>(
         (λ fault. fault ≢ Fault.Memory → begun_from os first new ≡ Err fault) }
     ensures held { IfOk result (λ commit. IsHeld (objects pool.now table.now.entries) commit) }
 {
-    let mut commit = OpenCommit::new(alloc, header, message, files)?;
+    let mut commit = OpenCommit::begin(alloc, header, message, files)?;
     start(pool, table, first, &mut commit)?;
     Ok(commit)
 }

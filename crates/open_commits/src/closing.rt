@@ -28,8 +28,8 @@ impl OpenCommit {
     ///
     /// `Fault::Limit` (25) where an object's contents are too long or the table is full, else
     /// `Fault::NameCollision` (24) where the table has another object of its name, object by object
-    /// in the order of storing; those before the refused one then stand after the committed
-    /// objects. `Fault::Memory` (90).
+    /// in the order of storing; `Fault::Memory` (90). Objects may then stand after the committed
+    /// ones.
     ///
     /// The pool is the one that the table stands in, and nobody else holds a content 2^64 - 2
     /// times.

@@ -46,7 +46,7 @@ impl OpenCommit {
     ///
     /// `Memory` (90) where the copy of the message finds no room. What the commit holds later comes
     /// from `alloc`.
-    pub fn new(
+    pub fn begin(
         alloc: Global,
         header: Header,
         message: &[u8],

@@ -22,8 +22,8 @@ impl OpenCommit {
     /// trees of a directory are stored, children first, and stay stored though the commit changes
     /// later: git-fast-import(1), "ls".
     ///
-    /// `Fault::Limit` (25), else `Fault::NameCollision` (24) by the first tree that is refused; the
-    /// trees before it then stand after the committed objects. `Fault::Memory` (90). The commit is
+    /// `Fault::Limit` (25), else `Fault::NameCollision` (24) by the first tree that is refused;
+    /// `Fault::Memory` (90). Objects may then stand after the committed ones. The commit is
     /// unchanged in any case.
     ///
     /// The pool is the one that the table stands in, and nobody else holds a content 2^64 - 2

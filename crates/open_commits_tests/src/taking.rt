@@ -72,7 +72,7 @@ pub fn begin_on(
     requires { place.old ≡ None }
     ensures { (os : List StoredObject) → IsBranch os files → IfSome place.new (IsHeld os) }
 {
-    *place = Some(OpenCommit::new(alloc, header, message, files)?);
+    *place = Some(OpenCommit::begin(alloc, header, message, files)?);
     Ok(())
 }
 
