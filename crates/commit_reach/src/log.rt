@@ -18,7 +18,7 @@ use std::cmp::Reverse;
 
 /// The log of the commits that have a flag, of which there is one for each object, the oldest
 /// object first: their names by the committer's time from new to old, and of one time by rising
-/// name.
+/// name. That is promised where the objects are good and none but commits have a flag.
 ///
 /// `Memory` (90) where there is no room for it.
 pub fn log_of<N: Naming>(

@@ -5,13 +5,16 @@ ghost use Rattle.export_text.specs.Faults.{code_of};
 ghost use Rattle.export_text.specs.declared.fault.Fault.TheVariants.{Memory as OutOfMemory};
 
 use git_objects::Memory;
+use thiserror::Error;
 
 /// Why a repository is not exported.
-#[derive(Clone, Copy, Debug, PartialEq, Eq)]
+#[derive(Clone, Copy, Debug, PartialEq, Eq, Error)]
 pub enum Fault {
     /// There are more than 65,535 refs and refs of tags, 25.
+    #[error("too many refs")]
     Limit,
     /// A growth was refused, 90.
+    #[error("out of memory")]
     Memory,
 }
 
