@@ -39,7 +39,7 @@ impl<'a> NewFile<'a> {
         let name = format!(in rt.alloc(); "{pool}{NEW}")?;
         let file = match make(rt, pool, &name) {
             Ok(file) => Ok(file),
-            Err(error) if is_taken(error.kind()) => return Err(RunFault::Device),
+            Err(error) if ends_run(error.kind()) => return Err(RunFault::from(error)),
             Err(error) => Err(RunFault::from(error)),
         };
         Ok(NewFile { pool, name, file })
@@ -81,9 +81,12 @@ impl<'a> NewFile<'a> {
     }
 }
 
-// Whether a new file that could not be made is another run's.
-fn is_taken(kind: ErrorKind) -> bool {
-    matches!(kind, ErrorKind::WouldBlock | ErrorKind::AlreadyExists)
+// Whether the run ends where no new file could be made: another run has it, or memory ran out.
+fn ends_run(kind: ErrorKind) -> bool {
+    matches!(
+        kind,
+        ErrorKind::WouldBlock | ErrorKind::AlreadyExists | ErrorKind::OutOfMemory
+    )
 }
 
 // The file is always a new one, so that nobody has it open already, nor has chosen what it leads
@@ -100,8 +103,17 @@ fn make(rt: &HostRuntime, pool: &str, name: &str) -> io::Result<File> {
         .write(true)
         .create_new(true)
         .mode(mode)
-        .open(rt, name)?
-        .try_clone()?;
+        .open(rt, name)?;
+    let held = hold(rt, name, &file);
+    if matches!(&held, Err(error) if error.kind() != ErrorKind::WouldBlock) {
+        let _ = fs::remove_file(rt, name);
+    }
+    held
+}
+
+// The file that was just made, locked.
+fn hold(rt: &HostRuntime, name: &str, made: &File) -> io::Result<File> {
+    let file = made.try_clone()?;
     lock(rt, name, &file)?;
     Ok(file)
 }
