@@ -1,215 +1,208 @@
 //! What expressions name: each form of gitrevisions(7) that there is, with a yes and a no, beside
 //! what `git rev-parse --verify` answers where its rules are these.
 
-use crate::history::{Case, Held, first_wrong, is_order};
-use crate::made_by_git::{
-    BLOB_TAG, DEEP, DIRECTORY, FIRST, FIRST_TREE, HELLO, LATE, MERGE, SECOND, SECOND_TREE, THIRD,
-    V1, VERSION, VV,
-};
-use std::test::Fail;
+use crate::fields::{field, is_number, side};
+use crate::history::{History, MAIN, REFS, sets_all, sets_head};
+use crate::made_by_git::is_named;
+use git_objects::{Name, Naming, Sha1Naming};
+use revisions::{Fault, resolve};
+use std::alloc::Global;
+use tenant_refs::Refs;
 use tenant_tables::Sight;
 
-const MAIN: &[u8] = b"refs/heads/main";
-
-const REFS: &[Held] = &[
-    (MAIN, MERGE),
-    (b"refs/heads/side", THIRD),
-    (b"refs/tags/blob", BLOB_TAG),
-    (b"refs/tags/v1", V1),
-    (b"refs/tags/vv", VV),
-];
+// What texts name over the history with these refs. Each text stands after a word for what it
+// names, or after the number of its refusal.
+struct Case {
+    sight: Sight,
+    head: &'static [u8],
+    refs: &'static [u8],
+    texts: &'static [u8],
+}
 
 // Each suffix, with a yes and a no.
-const SUFFIXES: Case = Case {
+const SUFFIXES: &[u8] = b"\
+    MERGE|main;\
+    SECOND|main^;\
+    SECOND|main^1;\
+    THIRD|main^2;\
+    16|main^3;\
+    MERGE|main^0;\
+    MERGE|main^00;\
+    SECOND|main^01;\
+    THIRD|main^0000000002;\
+    3|main^00000000002;\
+    16|main^4294967295;\
+    3|main^4294967296;\
+    FIRST|main^^;\
+    16|main^^^;\
+    SECOND|main~;\
+    MERGE|main~0;\
+    FIRST|main~2;\
+    16|main~3;\
+    3|main~00000000001;\
+    16|main~4294967295;\
+    FIRST|main^2~1;\
+    16|main~1^2;\
+    SECOND|v1^;\
+    MERGE|v1^0;\
+    THIRD|vv^2;\
+    15|blob^;\
+    15|blob~0;\
+    16|main:a.txt^;\
+    MERGE|main^{commit};\
+    MERGE|v1^{commit};\
+    MERGE|vv^{commit};\
+    15|blob^{commit};\
+    SECOND_TREE|main^{tree};\
+    SECOND_TREE|vv^{tree};\
+    15|blob^{tree};\
+    15|main^{tree}^{commit};\
+    HELLO|blob^{blob};\
+    15|main^{blob};\
+    VV|vv^{tag};\
+    V1|v1^{tag};\
+    15|main^{tag};\
+    MERGE|vv^{};\
+    MERGE|v1^{};\
+    MERGE|main^{};\
+    HELLO|blob^{};\
+    VV|vv^{object};\
+    MERGE|main^{object};\
+    16|nothing^{object};\
+    3|main^{treex};\
+    3|main^{;\
+    3|main^-;\
+    3|main^x;\
+    3|main~x;\
+    3|main^{/x}";
+
+const OF_SUFFIXES: Case = Case {
     sight: Sight::All,
     head: MAIN,
     refs: REFS,
-    texts: &[
-        (b"main", Ok(MERGE)),
-        (b"main^", Ok(SECOND)),
-        (b"main^1", Ok(SECOND)),
-        (b"main^2", Ok(THIRD)),
-        (b"main^3", Err(16)),
-        (b"main^0", Ok(MERGE)),
-        (b"main^00", Ok(MERGE)),
-        (b"main^01", Ok(SECOND)),
-        (b"main^0000000002", Ok(THIRD)),
-        (b"main^00000000002", Err(3)),
-        (b"main^4294967295", Err(16)),
-        (b"main^4294967296", Err(3)),
-        (b"main^^", Ok(FIRST)),
-        (b"main^^^", Err(16)),
-        (b"main~", Ok(SECOND)),
-        (b"main~0", Ok(MERGE)),
-        (b"main~2", Ok(FIRST)),
-        (b"main~3", Err(16)),
-        (b"main~00000000001", Err(3)),
-        (b"main~4294967295", Err(16)),
-        (b"main^2~1", Ok(FIRST)),
-        (b"main~1^2", Err(16)),
-        (b"v1^", Ok(SECOND)),
-        (b"v1^0", Ok(MERGE)),
-        (b"vv^2", Ok(THIRD)),
-        (b"blob^", Err(15)),
-        (b"blob~0", Err(15)),
-        (b"main:a.txt^", Err(16)),
-        (b"main^{commit}", Ok(MERGE)),
-        (b"v1^{commit}", Ok(MERGE)),
-        (b"vv^{commit}", Ok(MERGE)),
-        (b"blob^{commit}", Err(15)),
-        (b"main^{tree}", Ok(SECOND_TREE)),
-        (b"vv^{tree}", Ok(SECOND_TREE)),
-        (b"blob^{tree}", Err(15)),
-        (b"main^{tree}^{commit}", Err(15)),
-        (b"blob^{blob}", Ok(HELLO)),
-        (b"main^{blob}", Err(15)),
-        (b"vv^{tag}", Ok(VV)),
-        (b"v1^{tag}", Ok(V1)),
-        (b"main^{tag}", Err(15)),
-        (b"vv^{}", Ok(MERGE)),
-        (b"v1^{}", Ok(MERGE)),
-        (b"main^{}", Ok(MERGE)),
-        (b"blob^{}", Ok(HELLO)),
-        (b"vv^{object}", Ok(VV)),
-        (b"main^{object}", Ok(MERGE)),
-        (b"nothing^{object}", Err(16)),
-        (b"main^{treex}", Err(3)),
-        (b"main^{", Err(3)),
-        (b"main^-", Err(3)),
-        (b"main^x", Err(3)),
-        (b"main~x", Err(3)),
-        (b"main^{/x}", Err(3)),
-    ],
+    texts: SUFFIXES,
 };
 
 // Paths, with a yes and a no.
-const PATHS: Case = Case {
+const PATHS: &[u8] = b"\
+    SECOND_TREE|main:;\
+    HELLO|main:a.txt;\
+    VERSION|main:a..b;\
+    DIRECTORY|main:dir;\
+    DEEP|main:dir/sub;\
+    VERSION|main:dir/sub/deep.txt;\
+    HELLO|main:\"a\";\
+    16|main:a;\
+    16|main:A.txt;\
+    16|main:a.txt/b;\
+    16|main:dir/deep.txt;\
+    FIRST|main:held;\
+    16|main:gone;\
+    16|main:held/a.txt;\
+    FIRST_TREE|main^2:;\
+    16|main^2:held;\
+    HELLO|vv:a.txt;\
+    HELLO|main^{tree}:a.txt;\
+    15|blob:a.txt;\
+    15|blob:;\
+    16|nothing:a.txt;\
+    3|main:/a.txt;\
+    3|main:dir/;\
+    3|main:dir//sub;\
+    3|main:./a.txt;\
+    3|main:dir/..;\
+    3|:a.txt;\
+    16|main:a.txt:b";
+
+const OF_PATHS: Case = Case {
     sight: Sight::All,
     head: MAIN,
     refs: REFS,
-    texts: &[
-        (b"main:", Ok(SECOND_TREE)),
-        (b"main:a.txt", Ok(HELLO)),
-        (b"main:a..b", Ok(VERSION)),
-        (b"main:dir", Ok(DIRECTORY)),
-        (b"main:dir/sub", Ok(DEEP)),
-        (b"main:dir/sub/deep.txt", Ok(VERSION)),
-        (b"main:\"a\"", Ok(HELLO)),
-        (b"main:a", Err(16)),
-        (b"main:A.txt", Err(16)),
-        (b"main:a.txt/b", Err(16)),
-        (b"main:dir/deep.txt", Err(16)),
-        (b"main:held", Ok(FIRST)),
-        (b"main:gone", Err(16)),
-        (b"main:held/a.txt", Err(16)),
-        (b"main^2:", Ok(FIRST_TREE)),
-        (b"main^2:held", Err(16)),
-        (b"vv:a.txt", Ok(HELLO)),
-        (b"main^{tree}:a.txt", Ok(HELLO)),
-        (b"blob:a.txt", Err(15)),
-        (b"blob:", Err(15)),
-        (b"nothing:a.txt", Err(16)),
-        (b"main:/a.txt", Err(3)),
-        (b"main:dir/", Err(3)),
-        (b"main:dir//sub", Err(3)),
-        (b"main:./a.txt", Err(3)),
-        (b"main:dir/..", Err(3)),
-        (b":a.txt", Err(3)),
-        (b"main:a.txt:b", Err(16)),
-    ],
+    texts: PATHS,
 };
 
 // HEAD, digits and texts that are no base.
-const BASES: Case = Case {
+const BASES: &[u8] = b"\
+    THIRD|HEAD;\
+    THIRD|@;\
+    FIRST|@^;\
+    FIRST|@~1;\
+    FIRST_TREE|@:;\
+    HELLO|@:a.txt;\
+    FIRST_TREE|@^{tree};\
+    THIRD|HEAD^{};\
+    16|@^2;\
+    16|@@;\
+    HELLO|ce013625030ba8dba906f756967f9e9ca394464a;\
+    HELLO|CE013625030BA8DBA906F756967F9E9CA394464A;\
+    16|1111111111111111111111111111111111111111;\
+    16|ce013625030ba8dba906f756967f9e9ca394464g;\
+    16|ce013625030ba8dba906f756967f9e9ca394464a0;\
+    VERSION|83ba;\
+    VERSION|83BA;\
+    VERSION|83baae61804e65cc73a7201a7252750c76066a3;\
+    16|83b;\
+    16|0000;\
+    17|ce01;\
+    HELLO|ce013;\
+    LATE|ce01d;\
+    FIRST_TREE|0d2596^{tree};\
+    MERGE|refs/heads/main;\
+    MERGE|heads/main;\
+    MERGE|main;\
+    16|Main;\
+    3|;\
+    3|^;\
+    3|~1;\
+    3|^1;\
+    3|main@{0};\
+    3|@{;\
+    3|@{u};\
+    16|main @;\
+    16|..;\
+    16|-";
+
+const OF_BASES: Case = Case {
     sight: Sight::All,
     head: b"refs/heads/side",
     refs: REFS,
-    texts: &[
-        (b"HEAD", Ok(THIRD)),
-        (b"@", Ok(THIRD)),
-        (b"@^", Ok(FIRST)),
-        (b"@~1", Ok(FIRST)),
-        (b"@:", Ok(FIRST_TREE)),
-        (b"@:a.txt", Ok(HELLO)),
-        (b"@^{tree}", Ok(FIRST_TREE)),
-        (b"HEAD^{}", Ok(THIRD)),
-        (b"@^2", Err(16)),
-        (b"@@", Err(16)),
-        (b"ce013625030ba8dba906f756967f9e9ca394464a", Ok(HELLO)),
-        (b"CE013625030BA8DBA906F756967F9E9CA394464A", Ok(HELLO)),
-        (b"1111111111111111111111111111111111111111", Err(16)),
-        (b"ce013625030ba8dba906f756967f9e9ca394464g", Err(16)),
-        (b"ce013625030ba8dba906f756967f9e9ca394464a0", Err(16)),
-        (b"83ba", Ok(VERSION)),
-        (b"83BA", Ok(VERSION)),
-        (b"83baae61804e65cc73a7201a7252750c76066a3", Ok(VERSION)),
-        (b"83b", Err(16)),
-        (b"0000", Err(16)),
-        (b"ce01", Err(17)),
-        (b"ce013", Ok(HELLO)),
-        (b"ce01d", Ok(LATE)),
-        (b"0d2596^{tree}", Ok(FIRST_TREE)),
-        (b"refs/heads/main", Ok(MERGE)),
-        (b"heads/main", Ok(MERGE)),
-        (b"main", Ok(MERGE)),
-        (b"Main", Err(16)),
-        (b"", Err(3)),
-        (b"^", Err(3)),
-        (b"~1", Err(3)),
-        (b"^1", Err(3)),
-        (b"main@{0}", Err(3)),
-        (b"@{", Err(3)),
-        (b"@{u}", Err(3)),
-        (b"main @", Err(16)),
-        (b"..", Err(16)),
-        (b"-", Err(16)),
-    ],
+    texts: BASES,
 };
 
 // A HEAD whose ref is not there.
 const UNBORN: Case = Case {
     sight: Sight::All,
     head: MAIN,
-    refs: &[],
-    texts: &[
-        (b"HEAD", Err(16)),
-        (b"@", Err(16)),
-        (b"@^", Err(16)),
-        (b"main", Err(16)),
-        (b"", Err(3)),
-    ],
+    refs: b"",
+    texts: b"\
+        16|HEAD;\
+        16|@;\
+        16|@^;\
+        16|main;\
+        3|",
 };
 
 // Six refs that one base may mean, in the order in which they are looked for.
-const MEANT: &[Held] = &[
-    (b"refs/s", FIRST),
-    (b"refs/refs/s", SECOND),
-    (b"refs/tags/refs/s", THIRD),
-    (b"refs/heads/refs/s", MERGE),
-    (b"refs/remotes/refs/s", V1),
-    (b"refs/remotes/refs/s/HEAD", VV),
-];
+const MEANT: &[u8] = b"\
+    refs/s=FIRST \
+    refs/refs/s=SECOND \
+    refs/tags/refs/s=THIRD \
+    refs/heads/refs/s=MERGE \
+    refs/remotes/refs/s=V1 \
+    refs/remotes/refs/s/HEAD=VV";
 
 // A ref comes before an abbreviation, and forty digits before every ref.
 const DIGITS: Case = Case {
     sight: Sight::All,
     head: MAIN,
-    refs: &[
-        (b"refs/heads/83ba", FIRST),
-        (
-            b"refs/heads/ce013625030ba8dba906f756967f9e9ca394464a",
-            SECOND,
-        ),
-        (
-            b"refs/heads/1111111111111111111111111111111111111111",
-            THIRD,
-        ),
-    ],
-    texts: &[
-        (b"83ba", Ok(FIRST)),
-        (b"ce013625030ba8dba906f756967f9e9ca394464a", Ok(HELLO)),
-        (b"1111111111111111111111111111111111111111", Err(16)),
-    ],
+    refs: b"\
+        refs/heads/83ba=FIRST \
+        refs/heads/ce013625030ba8dba906f756967f9e9ca394464a=SECOND \
+        refs/heads/1111111111111111111111111111111111111111=THIRD",
+    texts: b"\
+        FIRST|83ba;\
+        HELLO|ce013625030ba8dba906f756967f9e9ca394464a;\
+        16|1111111111111111111111111111111111111111",
 };
 
 // What the committed prefix shows: the late blob, whose name begins as that of `HELLO`, is after
@@ -218,13 +211,12 @@ const COMMITTED: Case = Case {
     sight: Sight::Committed,
     head: MAIN,
     refs: REFS,
-    texts: &[
-        (b"ce01", Ok(HELLO)),
-        (b"ce01d", Err(16)),
-        (b"ce01db81d2effa9a3c6bff69c5c7521bcd554b15", Err(16)),
-        (b"main^2:a.txt", Ok(HELLO)),
-        (b"vv^{}", Ok(MERGE)),
-    ],
+    texts: b"\
+        HELLO|ce01;\
+        16|ce01d;\
+        16|ce01db81d2effa9a3c6bff69c5c7521bcd554b15;\
+        HELLO|main^2:a.txt;\
+        MERGE|vv^{}",
 };
 
 // The same texts where all is in sight.
@@ -232,59 +224,136 @@ const OPEN: Case = Case {
     sight: Sight::All,
     head: MAIN,
     refs: REFS,
-    texts: &[
-        (b"ce01", Err(17)),
-        (b"ce01d", Ok(LATE)),
-        (b"ce01db81d2effa9a3c6bff69c5c7521bcd554b15", Ok(LATE)),
-    ],
+    texts: b"\
+        17|ce01;\
+        LATE|ce01d;\
+        LATE|ce01db81d2effa9a3c6bff69c5c7521bcd554b15",
 };
 
-#[test]
-fn suffixes_are_applied_as_git_does(rt: HostRuntime) -> Result<(), Fail> {
-    assert_eq!(rt; first_wrong(rt.alloc(), &SUFFIXES)?, None);
-    Ok(())
+// Whether an answer is what this word stands for, or the refusal of this number.
+fn is_wanted(answer: Result<Name, Fault>, wanted: &[u8]) -> bool {
+    match answer {
+        Ok(id) => is_named(&id, wanted),
+        Err(fault) => is_number(wanted, fault.code()),
+    }
+}
+
+impl<N: Naming> History<N> {
+    fn are_named(&mut self, case: &Case) -> bool {
+        self.takes_history() && self.are_named_beside_refs(case)
+    }
+
+    fn are_named_beside_refs(&self, case: &Case) -> bool {
+        let mut refs = Refs::new(self.alloc);
+        let holds = self.are_named_beside(&mut refs, case);
+        drop(refs);
+        holds
+    }
+
+    fn are_named_beside(&self, refs: &mut Refs, case: &Case) -> bool {
+        sets_all(refs, self.alloc, case.refs)
+            && sets_head(refs, self.alloc, case.head)
+            && self.names_all(refs, case)
+    }
+
+    fn names_all(&self, refs: &Refs, case: &Case) -> bool {
+        for text in case.texts.split(|byte| *byte == b';') {
+            if !is_wanted(
+                self.resolve(case.sight, refs, field(text, 1)),
+                field(text, 0),
+            ) {
+                return false;
+            }
+        }
+        true
+    }
+
+    fn is_order(&mut self, held: &[u8], text: &[u8]) -> bool {
+        self.takes_history() && self.is_order_of_refs(held, text)
+    }
+
+    fn is_order_of_refs(&self, held: &[u8], text: &[u8]) -> bool {
+        let mut refs = Refs::new(self.alloc);
+        let holds = self.is_order_of(&mut refs, held, text);
+        drop(refs);
+        holds
+    }
+
+    fn is_order_of(&self, refs: &mut Refs, held: &[u8], text: &[u8]) -> bool {
+        sets_all(refs, self.alloc, held)
+            && self.names_in_order(refs, held, text)
+            && is_wanted(self.resolve(Sight::All, refs, text), b"16")
+    }
+
+    // Takes each ref out once it was named.
+    fn names_in_order(&self, refs: &mut Refs, held: &[u8], text: &[u8]) -> bool {
+        for one in held.split(|byte| *byte == b' ') {
+            if !is_wanted(self.resolve(Sight::All, refs, text), side(one, 1)) {
+                return false;
+            }
+            refs.remove(side(one, 0));
+        }
+        true
+    }
+
+    fn resolve(&self, sight: Sight, refs: &Refs, text: &[u8]) -> Result<Name, Fault> {
+        resolve(self.alloc, &self.pool, &self.table, sight, refs, text)
+    }
+}
+
+// Whether each text of a case names what it is to name.
+fn are_named(alloc: Global, case: &Case) -> bool {
+    let mut history = History::new(alloc, Sha1Naming);
+    let holds = history.are_named(case);
+    drop(history);
+    holds
+}
+
+// Whether a text names what the first of these refs holds, and, where that is taken out, the
+// second, and so on, and nothing at the end.
+fn is_order(alloc: Global, held: &[u8], text: &[u8]) -> bool {
+    let mut history = History::new(alloc, Sha1Naming);
+    let holds = history.is_order(held, text);
+    drop(history);
+    holds
 }
 
 #[test]
-fn paths_are_taken_as_they_stand(rt: HostRuntime) -> Result<(), Fail> {
-    assert_eq!(rt; first_wrong(rt.alloc(), &PATHS)?, None);
-    Ok(())
+fn suffixes_are_applied_as_git_does(rt: HostRuntime) {
+    assert!(rt; are_named(rt.alloc(), &OF_SUFFIXES));
 }
 
 #[test]
-fn bases_are_looked_up_as_git_does(rt: HostRuntime) -> Result<(), Fail> {
-    assert_eq!(rt; first_wrong(rt.alloc(), &BASES)?, None);
-    Ok(())
+fn paths_are_taken_as_they_stand(rt: HostRuntime) {
+    assert!(rt; are_named(rt.alloc(), &OF_PATHS));
 }
 
 #[test]
-fn an_unborn_head_names_nothing(rt: HostRuntime) -> Result<(), Fail> {
-    assert_eq!(rt; first_wrong(rt.alloc(), &UNBORN)?, None);
-    Ok(())
+fn bases_are_looked_up_as_git_does(rt: HostRuntime) {
+    assert!(rt; are_named(rt.alloc(), &OF_BASES));
 }
 
 #[test]
-fn digits_of_a_ref_come_before_an_abbreviation_and_forty_digits_before_both(
-    rt: HostRuntime,
-) -> Result<(), Fail> {
-    assert_eq!(rt; first_wrong(rt.alloc(), &DIGITS)?, None);
-    Ok(())
+fn an_unborn_head_names_nothing(rt: HostRuntime) {
+    assert!(rt; are_named(rt.alloc(), &UNBORN));
 }
 
 #[test]
-fn the_committed_prefix_is_all_there_is(rt: HostRuntime) -> Result<(), Fail> {
-    assert_eq!(rt; first_wrong(rt.alloc(), &COMMITTED)?, None);
-    Ok(())
+fn digits_of_a_ref_come_before_an_abbreviation_and_forty_digits_before_both(rt: HostRuntime) {
+    assert!(rt; are_named(rt.alloc(), &DIGITS));
 }
 
 #[test]
-fn all_objects_are_there_for_the_open_stream(rt: HostRuntime) -> Result<(), Fail> {
-    assert_eq!(rt; first_wrong(rt.alloc(), &OPEN)?, None);
-    Ok(())
+fn the_committed_prefix_is_all_there_is(rt: HostRuntime) {
+    assert!(rt; are_named(rt.alloc(), &COMMITTED));
 }
 
 #[test]
-fn refs_are_looked_for_in_their_order(rt: HostRuntime) -> Result<(), Fail> {
-    assert!(rt; is_order(rt.alloc(), MEANT, b"refs/s")?);
-    Ok(())
+fn all_objects_are_there_for_the_open_stream(rt: HostRuntime) {
+    assert!(rt; are_named(rt.alloc(), &OPEN));
+}
+
+#[test]
+fn refs_are_looked_for_in_their_order(rt: HostRuntime) {
+    assert!(rt; is_order(rt.alloc(), MEANT, b"refs/s"));
 }

@@ -6,6 +6,8 @@ mod exports;
 #[cfg(test)]
 mod expressions;
 #[cfg(test)]
+mod fields;
+#[cfg(test)]
 mod history;
 #[cfg(test)]
 mod logs;

@@ -1,239 +1,286 @@
 //! What queries print, beside what Git's commands print over the same objects and refs.
 
-use crate::history::{Held, Printed, Queries, first_wrong_answer};
-use crate::made_by_git::{BLOB_TAG, MERGE, THIRD, V1, VV};
-use std::test::Fail;
+use crate::fields::{field, is_number};
+use crate::history::{History, REFS, sets_all};
+use answers::answer;
+use git_objects::{Naming, Sha1Naming};
+use numerals::read_number;
+use revisions::FirstParentChain;
+use std::alloc::Global;
+use tenant_refs::Refs;
 
-const MAIN: &[u8] = b"refs/heads/main";
-
-const REFS: &[Held] = &[
-    (MAIN, MERGE),
-    (b"refs/heads/side", THIRD),
-    (b"refs/tags/blob", BLOB_TAG),
-    (b"refs/tags/v1", V1),
-    (b"refs/tags/vv", VV),
-];
+// What queries print over the history with these refs, and perhaps with the object after the
+// committed prefix committed too. Each query stands after the number of its refusal, 0 where there
+// is none, and before what it prints. A number is a query of so many spaces.
+struct Queries {
+    refs: &'static [u8],
+    is_late_committed: bool,
+    printed: &'static [u8],
+}
 
 // `git rev-parse`, and `git rev-parse --short=4` where the late blob is not there.
-const NAMES: &[Printed] = &[
-    (
-        b"rev-parse main",
-        Ok(b"d257927dd0b4991858864b12862325a6587d882f\n"),
-    ),
-    (
-        b"rev-parse vv^{tag}",
-        Ok(b"cf0e55a85504cc4cb40293de4e194b7f4e584893\n"),
-    ),
-    (b"rev-parse main^{tag}", Err(15)),
-    (
-        b"rev-parse main~1",
-        Ok(b"538eca3bc5adea9abe246f65b99ac61354f6ae52\n"),
-    ),
-    (b"rev-parse main~3", Err(16)),
-    (
-        b"rev-parse side~1",
-        Ok(b"0d25961d6e542d9a79724e7f0b40fe87fe47fcd2\n"),
-    ),
-    (
-        b"rev-parse main~2",
-        Ok(b"0d25961d6e542d9a79724e7f0b40fe87fe47fcd2\n"),
-    ),
-    (
-        b"rev-parse main~0",
-        Ok(b"d257927dd0b4991858864b12862325a6587d882f\n"),
-    ),
-    (b"rev-parse ce01db81", Err(16)),
-    (b"rev-parse main^{/a}", Err(41)),
-    (b"rev-parse a b", Err(16)),
-    (b"abbrev main", Ok(b"d257\n")),
-    (b"abbrev main:dir", Ok(b"1649\n")),
-    (b"abbrev main:a.txt", Ok(b"ce01\n")),
-    (b"abbrev nothing", Err(16)),
-];
+const NAMES: Queries = Queries {
+    refs: REFS,
+    is_late_committed: false,
+    printed: b"\
+        0|rev-parse main|d257927dd0b4991858864b12862325a6587d882f\n;\
+        0|rev-parse vv^{tag}|cf0e55a85504cc4cb40293de4e194b7f4e584893\n;\
+        15|rev-parse main^{tag};\
+        0|rev-parse main~1|538eca3bc5adea9abe246f65b99ac61354f6ae52\n;\
+        16|rev-parse main~3;\
+        0|rev-parse side~1|0d25961d6e542d9a79724e7f0b40fe87fe47fcd2\n;\
+        0|rev-parse main~2|0d25961d6e542d9a79724e7f0b40fe87fe47fcd2\n;\
+        0|rev-parse main~0|d257927dd0b4991858864b12862325a6587d882f\n;\
+        16|rev-parse ce01db81;\
+        41|rev-parse main^{/a};\
+        16|rev-parse a b;\
+        0|abbrev main|d257\n;\
+        0|abbrev main:dir|1649\n;\
+        0|abbrev main:a.txt|ce01\n;\
+        16|abbrev nothing",
+};
 
 // `git rev-parse --short=4` where it is.
-const LATER_NAMES: &[Printed] = &[
-    (b"abbrev main:a.txt", Ok(b"ce013\n")),
-    (b"abbrev ce01db", Ok(b"ce01d\n")),
-    (b"abbrev ce01", Err(17)),
-];
+const LATER_NAMES: Queries = Queries {
+    refs: REFS,
+    is_late_committed: true,
+    printed: b"\
+        0|abbrev main:a.txt|ce013\n;\
+        0|abbrev ce01db|ce01d\n;\
+        17|abbrev ce01",
+};
 
 // `git cat-file --batch`, `git ls-tree`.
-const OBJECTS: &[Printed] = &[
-    (
-        b"cat main:a.txt",
-        Ok(b"ce013625030ba8dba906f756967f9e9ca394464a blob 6\nhello\n\n"),
-    ),
-    (
-        b"cat vv",
-        Ok(
-            b"cf0e55a85504cc4cb40293de4e194b7f4e584893 tag 121\n\
+const OBJECTS: Queries = Queries {
+    refs: REFS,
+    is_late_committed: false,
+    printed: b"\
+        0|cat main:a.txt|ce013625030ba8dba906f756967f9e9ca394464a blob 6\n\
+            hello\n\n;\
+        0|cat vv|cf0e55a85504cc4cb40293de4e194b7f4e584893 tag 121\n\
             object f5994aef0694336b875c77dc2d6db4fe3994f8f3\n\
             type tag\n\
             tag vv\n\
             tagger C O Mitter <committer@example.com> 6000 +0000\n\n\
-            vv\n\n",
-        ),
-    ),
-    (b"cat main^3", Err(16)),
-    (
-        b"ls main",
-        Ok(
-            b"100644 blob ce013625030ba8dba906f756967f9e9ca394464a\t\"\\\"a\\\"\"\n\
+            vv\n\n;\
+        16|cat main^3;\
+        0|ls main|100644 blob ce013625030ba8dba906f756967f9e9ca394464a\t\"\\\"a\\\"\"\n\
             100644 blob 83baae61804e65cc73a7201a7252750c76066a30\ta..b\n\
             100644 blob ce013625030ba8dba906f756967f9e9ca394464a\ta.txt\n\
             040000 tree 16492477522e49cd95198a6bef72af38fbf01355\tdir\n\
             160000 commit 1111111111111111111111111111111111111111\tgone\n\
-            160000 commit 0d25961d6e542d9a79724e7f0b40fe87fe47fcd2\theld\n",
-        ),
-    ),
-    (
-        b"ls main:dir",
-        Ok(b"040000 tree e14d1b044bb69a4c4edb016c4eaab03cf068d53a\tsub\n"),
-    ),
-    (b"ls main:a.txt", Err(15)),
-];
+            160000 commit 0d25961d6e542d9a79724e7f0b40fe87fe47fcd2\theld\n;\
+        0|ls main:dir|040000 tree e14d1b044bb69a4c4edb016c4eaab03cf068d53a\tsub\n;\
+        15|ls main:a.txt",
+};
 
 // `git log --format='%H %s'`, `git show-ref`, `git symbolic-ref HEAD`.
-const LISTS: &[Printed] = &[
-    (
-        b"log main",
-        Ok(
-            b"d257927dd0b4991858864b12862325a6587d882f merge\n\
+const LISTS: Queries = Queries {
+    refs: REFS,
+    is_late_committed: false,
+    printed: b"\
+        0|log main|d257927dd0b4991858864b12862325a6587d882f merge\n\
             f2971d6512f934904dc595b0ffad72a1703060d5 third\n\
             538eca3bc5adea9abe246f65b99ac61354f6ae52 second\n\
-            0d25961d6e542d9a79724e7f0b40fe87fe47fcd2 first\n",
-        ),
-    ),
-    (
-        b"log side..",
-        Ok(
-            b"d257927dd0b4991858864b12862325a6587d882f merge\n\
-            538eca3bc5adea9abe246f65b99ac61354f6ae52 second\n",
-        ),
-    ),
-    (
-        b"log side...main",
-        Ok(
-            b"d257927dd0b4991858864b12862325a6587d882f merge\n\
-            538eca3bc5adea9abe246f65b99ac61354f6ae52 second\n",
-        ),
-    ),
-    (b"log main^..main^", Ok(b"")),
-    (b"log blob", Err(15)),
-    (b"log ..", Err(41)),
-    (b"log", Err(41)),
-    (
-        b"refs",
-        Ok(
-            b"d257927dd0b4991858864b12862325a6587d882f refs/heads/main\n\
+            0d25961d6e542d9a79724e7f0b40fe87fe47fcd2 first\n;\
+        0|log side..|d257927dd0b4991858864b12862325a6587d882f merge\n\
+            538eca3bc5adea9abe246f65b99ac61354f6ae52 second\n;\
+        0|log side...main|d257927dd0b4991858864b12862325a6587d882f merge\n\
+            538eca3bc5adea9abe246f65b99ac61354f6ae52 second\n;\
+        0|log main^..main^;\
+        15|log blob;\
+        41|log ..;\
+        41|log;\
+        0|refs|d257927dd0b4991858864b12862325a6587d882f refs/heads/main\n\
             f2971d6512f934904dc595b0ffad72a1703060d5 refs/heads/side\n\
             85e6f480b8b0ce362f5d72fb9373b96aa641e18d refs/tags/blob\n\
             f5994aef0694336b875c77dc2d6db4fe3994f8f3 refs/tags/v1\n\
-            cf0e55a85504cc4cb40293de4e194b7f4e584893 refs/tags/vv\n",
-        ),
-    ),
-    (b"head", Ok(b"refs/heads/main\n")),
-];
+            cf0e55a85504cc4cb40293de4e194b7f4e584893 refs/tags/vv\n;\
+        0|head|refs/heads/main\n",
+};
 
 // Texts that are no query.
-const NO_QUERIES: &[Printed] = &[
-    (b"", Err(40)),
-    (b"refs\n", Err(40)),
-    (b"Refs", Err(40)),
-    (b" refs", Err(40)),
-    (b"exports", Err(40)),
-    (b"export main", Err(41)),
-    (b"export ", Err(41)),
-    (b"refs ", Err(41)),
-    (b"head x", Err(41)),
-    (b"rev-parse", Err(41)),
-    (b"rev-parse ", Err(41)),
-    (b"cat :a.txt", Err(41)),
-    (&[b' '; 8192], Err(40)),
-    (&[b' '; 8193], Err(41)),
-];
-
-// Without an object and a ref.
-const NOTHING: &[Printed] = &[
-    (b"head", Ok(b"refs/heads/main\n")),
-    (b"refs", Ok(b"")),
-    (
-        b"export",
-        Ok(b"feature force\nreset refs/export/scratch\ncheckpoint\n"),
-    ),
-    (b"rev-parse HEAD", Err(16)),
-    (b"log HEAD", Err(16)),
-];
-
-const OF_NAMES: Queries = Queries {
+const NO_QUERIES: Queries = Queries {
     refs: REFS,
     is_late_committed: false,
-    printed: NAMES,
+    printed: b"\
+        40|;\
+        40|refs\n;\
+        40|Refs;\
+        40| refs;\
+        40|exports;\
+        41|export main;\
+        41|export ;\
+        41|refs ;\
+        41|head x;\
+        41|rev-parse;\
+        41|rev-parse ;\
+        41|cat :a.txt;\
+        40|8192;\
+        41|8193",
 };
 
-const OF_OBJECTS: Queries = Queries {
-    refs: REFS,
+// Without a ref.
+const NOTHING: Queries = Queries {
+    refs: b"",
     is_late_committed: false,
-    printed: OBJECTS,
+    printed: b"\
+        0|head|refs/heads/main\n;\
+        0|refs;\
+        0|export|feature force\n\
+            reset refs/export/scratch\n\
+            checkpoint\n;\
+        16|rev-parse HEAD;\
+        16|log HEAD",
 };
 
-const OF_LISTS: Queries = Queries {
-    refs: REFS,
-    is_late_committed: false,
-    printed: LISTS,
-};
+// What stands before an answer.
+const ASKED: &[u8] = b"asked: ";
 
-const OF_TEXTS: Queries = Queries {
-    refs: REFS,
-    is_late_committed: false,
-    printed: NO_QUERIES,
-};
+// The number of a refusal, 0 where there is none.
+fn code_of(answer: Result<(), answers::Fault>) -> u16 {
+    match answer {
+        Ok(()) => 0,
+        Err(fault) => fault.code(),
+    }
+}
 
-const OF_LATER_NAMES: Queries = Queries {
-    refs: REFS,
-    is_late_committed: true,
-    printed: LATER_NAMES,
-};
+// Whether this stands after `asked`.
+fn is_printed(out: &[u8], printed: &[u8]) -> bool {
+    match out.strip_prefix(ASKED) {
+        Some(text) => text == printed,
+        None => false,
+    }
+}
 
-const OF_NOTHING: Queries = Queries {
-    refs: &[],
-    is_late_committed: false,
-    printed: NOTHING,
-};
+impl<N: Naming> History<N> {
+    fn are_printed(&mut self, queries: &Queries) -> bool {
+        if !self.takes_history() {
+            return false;
+        }
+        if queries.is_late_committed {
+            self.table.commit();
+        }
+        self.are_printed_beside_refs(queries)
+    }
 
-#[test]
-fn names_are_printed_as_git_prints_them(rt: HostRuntime) -> Result<(), Fail> {
-    assert_eq!(rt; first_wrong_answer(rt.alloc(), &OF_NAMES)?, None);
-    Ok(())
+    fn are_printed_beside_refs(&self, queries: &Queries) -> bool {
+        let mut refs = Refs::new(self.alloc);
+        let holds = self.are_printed_beside(&mut refs, queries);
+        drop(refs);
+        holds
+    }
+
+    fn are_printed_beside(&self, refs: &mut Refs, queries: &Queries) -> bool {
+        sets_all(refs, self.alloc, queries.refs) && self.are_printed_along(refs, queries.printed)
+    }
+
+    // Each query goes on along the first parents that the ones before it met.
+    fn are_printed_along(&self, refs: &Refs, queries: &[u8]) -> bool {
+        let mut chain = FirstParentChain::new(self.alloc);
+        let holds = self.prints_all(refs, &mut chain, queries);
+        drop(chain);
+        holds
+    }
+
+    fn prints_all(&self, refs: &Refs, chain: &mut FirstParentChain, queries: &[u8]) -> bool {
+        for case in queries.split(|byte| *byte == b';') {
+            if !self.prints_so(refs, chain, case) {
+                return false;
+            }
+        }
+        true
+    }
+
+    fn prints_so(&self, refs: &Refs, chain: &mut FirstParentChain, case: &[u8]) -> bool {
+        match read_number(field(case, 1)) {
+            Some(size) => self.refuses_spaces(refs, chain, size as usize, field(case, 0)),
+            None => self.prints(refs, chain, field(case, 1), field(case, 0), field(case, 2)),
+        }
+    }
+
+    fn refuses_spaces(
+        &self,
+        refs: &Refs,
+        chain: &mut FirstParentChain,
+        size: usize,
+        code: &[u8],
+    ) -> bool {
+        match Vec::from_elem(self.alloc, b' ', size) {
+            Ok(query) => {
+                let holds = self.prints(refs, chain, &query, code, b"");
+                drop(query);
+                holds
+            }
+            Err(_) => false,
+        }
+    }
+
+    /// Whether a query is refused with this number, or is not where it is 0, and prints this text.
+    pub fn prints(
+        &self,
+        refs: &Refs,
+        chain: &mut FirstParentChain,
+        query: &[u8],
+        code: &[u8],
+        printed: &[u8],
+    ) -> bool {
+        let mut out = Vec::new(self.alloc);
+        let answered = self.code_of_answer(refs, chain, query, &mut out);
+        let holds = is_number(code, answered) && is_printed(&out, printed);
+        drop(out);
+        holds
+    }
+
+    fn code_of_answer(
+        &self,
+        refs: &Refs,
+        chain: &mut FirstParentChain,
+        query: &[u8],
+        out: &mut Vec<u8>,
+    ) -> u16 {
+        if out.extend_from_slice(ASKED).is_err() {
+            return answers::Fault::Memory.code();
+        }
+        let (pool, table) = (&self.pool, &self.table);
+        code_of(answer(self.alloc, pool, table, refs, chain, query, out))
+    }
+}
+
+// Whether each query prints what it is to print.
+fn are_printed(alloc: Global, queries: &Queries) -> bool {
+    let mut history = History::new(alloc, Sha1Naming);
+    let holds = history.are_printed(queries);
+    drop(history);
+    holds
 }
 
 #[test]
-fn a_front_grows_with_what_is_committed(rt: HostRuntime) -> Result<(), Fail> {
-    assert_eq!(rt; first_wrong_answer(rt.alloc(), &OF_LATER_NAMES)?, None);
-    Ok(())
+fn names_are_printed_as_git_prints_them(rt: HostRuntime) {
+    assert!(rt; are_printed(rt.alloc(), &NAMES));
 }
 
 #[test]
-fn objects_are_printed_as_git_prints_them(rt: HostRuntime) -> Result<(), Fail> {
-    assert_eq!(rt; first_wrong_answer(rt.alloc(), &OF_OBJECTS)?, None);
-    Ok(())
+fn a_front_grows_with_what_is_committed(rt: HostRuntime) {
+    assert!(rt; are_printed(rt.alloc(), &LATER_NAMES));
 }
 
 #[test]
-fn lists_are_printed_as_git_prints_them(rt: HostRuntime) -> Result<(), Fail> {
-    assert_eq!(rt; first_wrong_answer(rt.alloc(), &OF_LISTS)?, None);
-    Ok(())
+fn objects_are_printed_as_git_prints_them(rt: HostRuntime) {
+    assert!(rt; are_printed(rt.alloc(), &OBJECTS));
 }
 
 #[test]
-fn other_texts_are_refused(rt: HostRuntime) -> Result<(), Fail> {
-    assert_eq!(rt; first_wrong_answer(rt.alloc(), &OF_TEXTS)?, None);
-    Ok(())
+fn lists_are_printed_as_git_prints_them(rt: HostRuntime) {
+    assert!(rt; are_printed(rt.alloc(), &LISTS));
 }
 
 #[test]
-fn without_refs_there_is_head_alone(rt: HostRuntime) -> Result<(), Fail> {
-    assert_eq!(rt; first_wrong_answer(rt.alloc(), &OF_NOTHING)?, None);
-    Ok(())
+fn other_texts_are_refused(rt: HostRuntime) {
+    assert!(rt; are_printed(rt.alloc(), &NO_QUERIES));
+}
+
+#[test]
+fn without_refs_there_is_head_alone(rt: HostRuntime) {
+    assert!(rt; are_printed(rt.alloc(), &NOTHING));
 }

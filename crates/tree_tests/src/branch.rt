@@ -4,6 +4,7 @@ ghost use Rattle.std.specs.Prelude.{◌≢◌};
 ghost use Rattle.git_model.specs.declared.file_mode.FileMode.TheVariants as mode;
 
 use crate::body::Body;
+use crate::step::{HELLO, Step, is, long_path, mode_in, name_in, number_in, path_in, step_of};
 use branch_trees::Files;
 use content_pool::Pool;
 use git_objects::{FileMode, Kind, Name, Naming, Sha1Naming};
@@ -14,55 +15,25 @@ use std::test::Fail;
 use tenant_tables::Table;
 use tree_build::{Entry, Fault, Files as PlainFiles};
 
-/// A blob of `hello` and a line feed, by the name that Git gives it.
-pub const HELLO: &[u8; 40] = b"ce013625030ba8dba906f756967f9e9ca394464a";
-
-/// What is done to a branch or looked up in it, and what it then answers: a refusal by its number,
-/// 0 where there is none; the mode or the tree at a path. A long path has so many components, each
-/// of so many `a`; many files are so many in each of so many directories. Where a body does not count
-/// what it reads, that is as much as it says.
-#[derive(Clone, Copy)]
-pub enum Step<'a> {
-    Put(&'a [u8], &'a [u8; 40], u16),
-    PutLong(usize, usize, u16),
-    PutLine(&'a [u8]),
-    DropPath(&'a [u8]),
-    Copy(&'a [u8], &'a [u8], u16),
-    Rename(&'a [u8], &'a [u8], u16),
-    Graft(&'a [u8], &'a [u8; 40], u16),
-    GraftLong(usize, usize, &'a [u8; 40], u16),
-    Clear,
-    AddBlob(&'a [u8]),
-    Store(&'a [u8; 40]),
-    Stored(usize),
-    Mode(&'a [u8], Option<FileMode>),
-    Tree(&'a [u8], &'a [u8; 40]),
-    PutMany(usize, usize),
-    Reads(u64),
-}
-
-/// What a branch does, in words and as steps from an empty one.
+/// What a branch does, in words and as lines of steps from an empty one.
 pub struct Case {
     pub does: &'static str,
-    pub steps: &'static [Step<'static>],
+    pub steps: &'static str,
 }
 
 /// The first of these steps, by its position, that a new branch of one of the bodies answers
 /// otherwise.
-pub fn first_wrong(alloc: Global, steps: &[Step<'_>]) -> Result<Option<usize>, Fail> {
-    let plain = plain_wrong(alloc, steps)?;
-    Ok(plain.or(nested_wrong(alloc, steps)?))
+pub fn first_wrong(alloc: Global, steps: &str) -> Result<Option<usize>, Fail> {
+    let plain = first_wrong_of::<PlainFiles>(alloc, steps)?;
+    Ok(plain.or(first_wrong_of::<Files>(alloc, steps)?))
 }
 
-fn plain_wrong(alloc: Global, steps: &[Step<'_>]) -> Result<Option<usize>, Fail> {
-    let mut branch: Branch<PlainFiles, Sha1Naming> = Branch::new(alloc, Sha1Naming);
-    branch.first_wrong(steps)
-}
-
-/// The same of the body that opens directories.
-pub fn nested_wrong(alloc: Global, steps: &[Step<'_>]) -> Result<Option<usize>, Fail> {
-    let mut branch: Branch<Files, Sha1Naming> = Branch::new(alloc, Sha1Naming);
-    branch.first_wrong(steps)
+/// The same of this body alone.
+pub fn first_wrong_of<B: Body>(alloc: Global, steps: &str) -> Result<Option<usize>, Fail> {
+    let mut branch: Branch<B, Sha1Naming> = Branch::new(alloc, Sha1Naming);
+    let wrong = branch.first_wrong(steps.as_bytes());
+    drop(branch);
+    wrong
 }
 
 /// The files of a branch, and where their trees would lie.
@@ -74,25 +45,6 @@ pub struct Branch<B: Body, N: Naming> {
     table: Table,
 }
 
-// The path of so many components, each of so many bytes.
-fn long_path(alloc: Global, components: usize, length: usize) -> Result<Path, Fail> {
-    let mut path = Vec::new(alloc);
-    for position in 0..components {
-        if position > 0 {
-            path.push(b'/')?;
-        }
-        push_letters(&mut path, length)?;
-    }
-    Ok(Path::from_canonical(alloc, &path)?.ok_or("no path")?)
-}
-
-fn push_letters(path: &mut Vec<u8>, count: usize) -> Result<(), Fail> {
-    for _ in 0..count {
-        path.push(b'a')?;
-    }
-    Ok(())
-}
-
 // The number of a refusal, 0 where there is none. Want of memory ends a test.
 fn code_of(answer: Result<(), Fault>) -> Result<u16, Fail> {
     match answer {
@@ -102,13 +54,21 @@ fn code_of(answer: Result<(), Fault>) -> Result<u16, Fail> {
     }
 }
 
-fn mode_of(digits: &[u8]) -> FileMode
+// The mode of a line of `git ls-tree -r`.
+fn mode_of(line: &[u8]) -> FileMode
     ensures { result ≢ mode.Directory }
 {
-    match digits {
-        b"100755" => FileMode::Executable,
-        _ => FileMode::Regular,
+    if line.starts_with(b"100755") {
+        FileMode::Executable
+    } else {
+        FileMode::Regular
     }
+}
+
+// The name of the blob of such a line.
+fn blob_of(line: &[u8]) -> Result<Name, Fail> {
+    let digits = line.get(7..47).ok_or("no blob")?;
+    Ok(Name::from_hex(digits).ok_or("no name")?)
 }
 
 impl<B: Body, N: Naming> Model for Branch<B, N> {
@@ -138,9 +98,10 @@ impl<B: Body, N: Naming> Branch<B, N> {
 
     // Apart from the function that owns the branch: each way out of an owner makes its proof
     // longer.
-    fn first_wrong(&mut self, steps: &[Step<'_>]) -> Result<Option<usize>, Fail> {
-        for (position, step) in steps.iter().enumerate() {
-            if !self.takes(step)? {
+    fn first_wrong(&mut self, steps: &[u8]) -> Result<Option<usize>, Fail> {
+        for (position, line) in steps.split(|byte| *byte == b'\n').enumerate() {
+            let step = step_of(line);
+            if !self.takes(&step)? {
                 return Ok(Some(position));
             }
         }
@@ -149,54 +110,110 @@ impl<B: Body, N: Naming> Branch<B, N> {
 
     // Whether a step goes as it says. Each function knows some of them, so that its proof is short.
     fn takes(&mut self, step: &Step<'_>) -> Result<bool, Fail> {
-        match step {
-            Step::Put(path, name, code) => Ok(self.put(path, name)? == *code),
-            Step::Copy(from, to, code) => Ok(self.copy(from, to)? == *code),
-            Step::Rename(from, to, code) => Ok(self.rename(from, to)? == *code),
-            Step::Graft(path, name, code) => Ok(self.graft(path, *name)? == *code),
-            other => self.goes(other),
+        if is(step, b"mode") {
+            self.has_mode(step)
+        } else if is(step, b"none") {
+            self.has_none(step)
+        } else if is(step, b"tree") {
+            self.has_tree(step)
+        } else {
+            self.keeps(step)
         }
     }
 
-    fn goes(&mut self, step: &Step<'_>) -> Result<bool, Fail> {
-        match step {
-            Step::PutLine(line) => self.put_line(line)?,
-            Step::DropPath(path) => return Ok(self.drop_path(path)? == 0),
-            Step::Clear => self.clear(),
-            Step::Store(name) => return Ok(self.store()?.as_slice() == name.as_slice()),
-            other => return self.goes_further(other),
-        }
-        Ok(true)
-    }
-
-    fn goes_further(&mut self, step: &Step<'_>) -> Result<bool, Fail> {
-        match step {
-            Step::PutLong(components, length, code) => {
-                Ok(self.put_long(*components, *length)? == *code)
-            }
-            Step::GraftLong(components, length, name, code) => {
-                Ok(self.graft_long(*components, *length, *name)? == *code)
-            }
-            Step::AddBlob(bytes) => {
-                self.add_blob(bytes)?;
-                Ok(true)
-            }
-            Step::PutMany(directories, files) => {
-                self.put_many(*directories, *files)?;
-                Ok(true)
-            }
-            other => self.shows(other),
+    fn keeps(&mut self, step: &Step<'_>) -> Result<bool, Fail> {
+        if is(step, b"store") {
+            self.stores(step)
+        } else if is(step, b"stored") {
+            self.has_stored(step)
+        } else if is(step, b"reads") {
+            self.has_read(step)
+        } else {
+            self.is_answered(step)
         }
     }
 
-    fn shows(&self, step: &Step<'_>) -> Result<bool, Fail> {
-        match step {
-            Step::Stored(count) => Ok(self.stored() == *count),
-            Step::Mode(path, mode) => Ok(self.mode_at(path)? == *mode),
-            Step::Tree(path, name) => Ok(self.tree_at(path)?.as_slice() == name.as_slice()),
-            Step::Reads(count) => Ok(self.reads().unwrap_or(*count) == *count),
-            _ => Ok(false),
+    fn is_answered(&mut self, step: &Step<'_>) -> Result<bool, Fail> {
+        let code = self.edit(step)?;
+        Ok(u64::from(code) == step.code)
+    }
+
+    // The number of the refusal of an edit, 0 where there is none.
+    fn edit(&mut self, step: &Step<'_>) -> Result<u16, Fail> {
+        if is(step, b"put") {
+            self.put(path_in(step.first), name_in(step.second))
+        } else if is(step, b"graft") {
+            self.graft(path_in(step.first), name_in(step.second))
+        } else if is(step, b"drop") {
+            self.drop_path(path_in(step.first))
+        } else {
+            self.copy_or_rename(step)
         }
+    }
+
+    fn copy_or_rename(&mut self, step: &Step<'_>) -> Result<u16, Fail> {
+        if is(step, b"copy") {
+            self.copy(path_in(step.first), path_in(step.second))
+        } else if is(step, b"rename") {
+            self.rename(path_in(step.first), path_in(step.second))
+        } else {
+            self.edit_long(step)
+        }
+    }
+
+    fn edit_long(&mut self, step: &Step<'_>) -> Result<u16, Fail> {
+        if is(step, b"put-long") {
+            self.put_long(step)
+        } else if is(step, b"graft-long") {
+            self.graft_long(step)
+        } else {
+            self.fill(step)?;
+            Ok(0)
+        }
+    }
+
+    // What no number answers.
+    fn fill(&mut self, step: &Step<'_>) -> Result<(), Fail> {
+        if is(step, b"put-line") {
+            self.put_line(step.with)
+        } else if is(step, b"put-many") {
+            self.put_many(step)
+        } else if is(step, b"add-hello") {
+            self.add_blob(b"hello\n")
+        } else if is(step, b"clear") {
+            self.clear();
+            Ok(())
+        } else {
+            Err(Fail::from("no step"))
+        }
+    }
+
+    fn has_mode(&self, step: &Step<'_>) -> Result<bool, Fail> {
+        let mode = mode_in(step.second)?;
+        Ok(self.mode_at(path_in(step.first))? == Some(mode))
+    }
+
+    fn has_none(&self, step: &Step<'_>) -> Result<bool, Fail> {
+        Ok(self.mode_at(path_in(step.first))?.is_none())
+    }
+
+    fn has_tree(&self, step: &Step<'_>) -> Result<bool, Fail> {
+        let name = self.tree_at(path_in(step.first))?;
+        Ok(name.as_slice() == name_in(step.second))
+    }
+
+    fn stores(&mut self, step: &Step<'_>) -> Result<bool, Fail> {
+        let name = self.store()?;
+        Ok(name.as_slice() == name_in(step.first))
+    }
+
+    fn has_stored(&self, step: &Step<'_>) -> Result<bool, Fail> {
+        Ok(self.table.len() as u64 == number_in(step.first)?)
+    }
+
+    fn has_read(&self, step: &Step<'_>) -> Result<bool, Fail> {
+        let texts = number_in(step.first)?;
+        Ok(self.files.reads().unwrap_or(texts) == texts)
     }
 
     fn path(&self, text: &[u8]) -> Result<Path, Fail> {
@@ -204,46 +221,62 @@ impl<B: Body, N: Naming> Branch<B, N> {
         Ok(path)
     }
 
-    pub fn put(&mut self, path: &[u8], digits: &[u8; 40]) -> Result<u16, Fail> {
+    fn paths(&self, from: &[u8], to: &[u8]) -> Result<(Path, Path), Fail> {
+        let from = self.path(from)?;
+        let to = self.path(to)?;
+        Ok((from, to))
+    }
+
+    pub fn put(&mut self, path: &[u8], digits: &[u8]) -> Result<u16, Fail> {
         let path = self.path(path)?;
         self.put_at(&path, digits)
     }
 
-    fn put_long(&mut self, components: usize, length: usize) -> Result<u16, Fail> {
-        let path = long_path(self.alloc, components, length)?;
+    fn put_long(&mut self, step: &Step<'_>) -> Result<u16, Fail> {
+        let path = long_path(self.alloc, step)?;
         self.put_at(&path, HELLO)
     }
 
-    fn put_at(&mut self, path: &Path, digits: &[u8; 40]) -> Result<u16, Fail> {
+    fn put_at(&mut self, path: &Path, digits: &[u8]) -> Result<u16, Fail> {
         let name = Name::from_hex(digits).ok_or("no name")?;
         let mode = FileMode::Regular;
         let entry = Entry { mode, name };
         code_of(self.files.put(&self.pool, &self.table, path, entry))
     }
 
-    fn put_many(&mut self, directories: usize, files: usize) -> Result<(), Fail> {
+    fn put_many(&mut self, step: &Step<'_>) -> Result<(), Fail> {
+        let directories = number_in(step.first)?;
+        let files = number_in(step.second)?;
         for directory in 0..directories {
             self.put_directory(directory, files)?;
         }
         Ok(())
     }
 
-    fn put_directory(&mut self, directory: usize, files: usize) -> Result<(), Fail> {
+    fn put_directory(&mut self, directory: u64, files: u64) -> Result<(), Fail> {
         for file in 0..files {
-            let path = format!(in self.alloc; "d{directory}/f{file}")?;
-            self.put(path.as_bytes(), HELLO)?;
+            self.put_numbered(directory, file)?;
         }
         Ok(())
     }
 
+    fn put_numbered(&mut self, directory: u64, file: u64) -> Result<u16, Fail> {
+        let path = format!(in self.alloc; "d{directory}/f{file}")?;
+        self.put(path.as_bytes(), HELLO)
+    }
+
+    /// Puts the file of a line of `git ls-tree -r`; a refusal ends a test.
     pub fn put_line(&mut self, line: &[u8]) -> Result<(), Fail> {
-        let (digits, rest) = line.split_at_checked(6).ok_or("no mode")?;
-        let (name, path) = rest.split_at_checked(42).ok_or("no blob")?;
-        let name = Name::from_hex(&name[1..41]).ok_or("no name")?;
-        let path = self.path(path)?;
-        let mode = mode_of(digits);
+        let text = line.get(48..).ok_or("no path")?;
+        let path = self.path(text)?;
+        self.put_file(&path, line)
+    }
+
+    fn put_file(&mut self, path: &Path, line: &[u8]) -> Result<(), Fail> {
+        let name = blob_of(line)?;
+        let mode = mode_of(line);
         let entry = Entry { mode, name };
-        self.files.put(&self.pool, &self.table, &path, entry)?;
+        self.files.put(&self.pool, &self.table, path, entry)?;
         Ok(())
     }
 
@@ -253,14 +286,12 @@ impl<B: Body, N: Naming> Branch<B, N> {
     }
 
     pub fn copy(&mut self, from: &[u8], to: &[u8]) -> Result<u16, Fail> {
-        let from = self.path(from)?;
-        let to = self.path(to)?;
+        let (from, to) = self.paths(from, to)?;
         code_of(self.files.copy(&self.pool, &self.table, &from, &to))
     }
 
     pub fn rename(&mut self, from: &[u8], to: &[u8]) -> Result<u16, Fail> {
-        let from = self.path(from)?;
-        let to = self.path(to)?;
+        let (from, to) = self.paths(from, to)?;
         code_of(self.files.rename(&self.pool, &self.table, &from, &to))
     }
 
@@ -270,9 +301,9 @@ impl<B: Body, N: Naming> Branch<B, N> {
         self.graft_at(&path, digits)
     }
 
-    fn graft_long(&mut self, components: usize, length: usize, digits: &[u8]) -> Result<u16, Fail> {
-        let path = long_path(self.alloc, components, length)?;
-        self.graft_at(&path, digits)
+    fn graft_long(&mut self, step: &Step<'_>) -> Result<u16, Fail> {
+        let path = long_path(self.alloc, step)?;
+        self.graft_at(&path, name_in(step.third))
     }
 
     fn add_blob(&mut self, bytes: &[u8]) -> Result<(), Fail> {
@@ -289,29 +320,32 @@ impl<B: Body, N: Naming> Branch<B, N> {
         self.files.clear();
     }
 
-    fn mode_at(&self, path: &[u8]) -> Result<Option<FileMode>, Fail> {
+    fn entry_at(&self, path: &[u8]) -> Result<Option<Entry>, Fail> {
         let path = self.path(path)?;
-        let entry = self.files.entry(&self.pool, &self.table, &path)?;
+        self.entry(&path)
+    }
+
+    fn entry(&self, path: &Path) -> Result<Option<Entry>, Fail> {
+        Ok(self.files.entry(&self.pool, &self.table, path)?)
+    }
+
+    fn mode_at(&self, path: &[u8]) -> Result<Option<FileMode>, Fail> {
+        let entry = self.entry_at(path)?;
         Ok(entry.map(|entry| entry.mode))
     }
 
     pub fn tree_at(&self, path: &[u8]) -> Result<[u8; 40], Fail> {
-        let path = self.path(path)?;
-        let entry = self.files.entry(&self.pool, &self.table, &path)?;
-        Ok(entry.ok_or("nothing there")?.name.to_hex())
+        let entry = self.entry_at(path)?.ok_or("nothing there")?;
+        Ok(entry.name.to_hex())
     }
 
     pub fn store(&mut self) -> Result<[u8; 40], Fail> {
-        let root = Path::root(self.alloc);
-        let name = self.files.store(&mut self.pool, &mut self.table, &root)?;
+        let name = self.store_root()?;
         Ok(name.to_hex())
     }
 
-    fn reads(&self) -> Option<u64> {
-        self.files.reads()
-    }
-
-    fn stored(&self) -> usize {
-        self.table.len()
+    fn store_root(&mut self) -> Result<Name, Fault> {
+        let root = Path::root(self.alloc);
+        self.files.store(&mut self.pool, &mut self.table, &root)
     }
 }

@@ -16,3 +16,5 @@ mod made_by_git;
 mod random_edits;
 #[cfg(test)]
 mod real_trees;
+#[cfg(test)]
+mod step;

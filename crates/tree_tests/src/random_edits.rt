@@ -1,9 +1,10 @@
 //! Twenty real trees under random edits: both bodies keep each other's names, and those of Git.
 
 use crate::body::Body;
-use crate::branch::{Branch, HELLO};
+use crate::branch::Branch;
 use crate::made_by_git::TREES;
 use crate::real_trees::put_all;
+use crate::step::HELLO;
 use branch_trees::Files;
 use git_objects::Sha1Naming;
 use std::alloc::Global;
@@ -144,7 +145,10 @@ fn tree_keeps_names(alloc: Global, seed: u64, list: &[u8], tree: &[u8]) -> Resul
     let mut random = Random { state: seed };
     let mut plain: Plain = Branch::new(alloc, Sha1Naming);
     let mut nested: Nested = Branch::new(alloc, Sha1Naming);
-    keeps_names(&mut plain, &mut nested, &mut random, list, tree)
+    let keeps = keeps_names(&mut plain, &mut nested, &mut random, list, tree);
+    drop(plain);
+    drop(nested);
+    keeps
 }
 
 #[test]
@@ -152,8 +156,13 @@ fn both_bodies_keep_names_through_random_edits(rt: HostRuntime) -> Result<(), Fa
     for (position, tree) in TREES.iter().enumerate() {
         let (name, list) = *tree;
         assert!(rt;
-            tree_keeps_names(rt.alloc(), position as u64, list, name.as_slice())?,
-            "{name:?}"
+            tree_keeps_names(
+                rt.alloc(),
+                position as u64,
+                list.as_bytes(),
+                name.as_bytes()
+            )?,
+            "{name}"
         );
     }
     Ok(())

@@ -1,5 +1,5 @@
-use Rattle.tenant_tables.proofs.RoomLemmas.{has_room, room-after}
-use Rattle.revisions_tests.proofs.history.History.add.Goals as goal
+use Rattle.tenant_tables.proofs.RoomLemmas.{has_room}
+use Rattle.revisions_tests.proofs.history.History.adds.Goals as goal
 
 pub add-requires : goal.add-requires
 add-requires g c = record {
