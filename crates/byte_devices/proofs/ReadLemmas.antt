@@ -45,7 +45,7 @@ pub one_failed : (a b c : Device) (xs : List ℕ) → HasReadWell a b xs → Kee
     → c.faults ≡ counted_on b.faults 1 → HasFailed a c xs
 one_failed a b c xs had keeps passed faults = record {
   read = HasRead-kept a b c xs had.read keeps passed;
-  fault = λ below. let w = had.well in omega (arith, faults, w, below);
+  fault = faults ∙ ap (λ (n : ℕ). counted_on n 1) had.well;
 }
 
 -- ---- the front of a room

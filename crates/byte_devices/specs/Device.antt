@@ -1,5 +1,5 @@
 -- Counts of what a reader or a writer did.
-use Rattle.std.specs.Prelude.{◌≡◌, ℕ, zero, suc, ◌+◌, ◌-◌, ◌^◌, ◌<◌, min, List, [], ◌∷◌, ◌++◌, length, Option, Result, Ok, Err}
+use Rattle.std.specs.Prelude.{◌≡◌, ℕ, zero, suc, ◌+◌, ◌-◌, ◌^◌, min, List, [], ◌∷◌, ◌++◌, length, Option, Result, Ok, Err}
 use Rattle.std.specs.Io.KnownBytes.{Appends, Consumes}
 use Rattle.byte_devices.specs.declared.counted.Counted.{Counted}
 
@@ -38,9 +38,9 @@ abbrev pub passed_after : {E : Type 0} → ℕ → Result ℕ E → ℕ
 passed_after passed (Ok n) = counted_on passed n
 passed_after passed (Err e) = passed
 
--- A fault was counted between two counts, unless they stood at their greatest.
+-- One call failed between two counts, and no other.
 abbrev pub HasFault : ℕ → ℕ → Type 0
-HasFault old new = old < 2 ^ 64 - 1 → old < new
+HasFault old new = new ≡ counted_on old 1
 
 -- Known bytes grew by a prefix of these.
 pub record AppendsFront (old new : Option (List ℕ)) (bytes : List ℕ) : Type 0 where
@@ -64,6 +64,10 @@ seen known counted = record {
   faults = faults_of counted;
   passed = passed_of counted;
 }
+
+-- No call failed.
+abbrev pub IsWell : Device → Device → Type 0
+IsWell old new = new.faults ≡ old.faults
 
 -- These bytes, the first ones that the reader had, were read.
 pub record HasRead (old new : Device) (bytes : List ℕ) : Type 0 where

@@ -1,21 +1,21 @@
 -- What calls of `read`, one after the other, did to a reader.
 use Rattle.std.specs.Prelude.{◌≡◌, ℕ, ◌<◌, List, length, get_or, Result, Ok, Err}
 use Rattle.std.specs.Io.KnownBytes.{IsAtEnd}
-use Rattle.byte_devices.specs.Device.{Device, HasRead, HasFault}
+use Rattle.byte_devices.specs.Device.{Device, HasRead, HasFault, IsWell}
 use Rattle.byte_devices.specs.declared.fill_fault.FillFault.{FillFault}
 use Rattle.byte_devices.specs.declared.fill_fault.FillFault.TheVariants as fault
 
 -- Bytes were read, and no call failed.
 pub record HasReadWell (old new : Device) (bytes : List ℕ) : Type 0 where
   pub read : HasRead old new bytes
-  pub well : new.faults ≡ old.faults
+  pub well : IsWell old new
 
 -- Bytes were read, and then the reader was at its end.
 pub record HasReadAll (old new : Device) (bytes : List ℕ) : Type 0 where
   pub read : HasReadWell old new bytes
   pub end : IsAtEnd new.known
 
--- Bytes were read, and then a call failed.
+-- Bytes were read, and then a call failed: the only one.
 pub record HasFailed (old new : Device) (bytes : List ℕ) : Type 0 where
   pub read : HasRead old new bytes
   pub fault : HasFault old.faults new.faults

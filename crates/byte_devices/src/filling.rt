@@ -12,7 +12,8 @@ use std::io::Read;
 /// no memory.
 ///
 /// `FillFault::Ended` where the reader was at its end before that, `FillFault::Failed` where a call
-/// of it answered an error. A prefix of the room then has the bytes that were read.
+/// of it answered an error. What the room then has is left open; the reader's `passed` tells how
+/// many bytes were read.
 pub fn fill<R: Read>(reader: &mut Counted<R>, room: &mut [u8]) -> Result<(), FillFault>
     ensures fills { Fills (seen (R.remaining (device_of reader.old)) reader.old) result
         (seen (R.remaining (device_of reader.new)) reader.new) room.new }

@@ -11,7 +11,8 @@ use std::io::Write;
 /// Writes all bytes, in as many calls of `write` as the writer wants. Takes no memory.
 ///
 /// `DeviceFault` (68) where a call answered an error or took nothing; a prefix of the bytes then
-/// stands written, and the writer's `faults` rose, unless they stood at their greatest.
+/// stands written, and one call failed: the writer's `faults` rose by one, or stand at their
+/// greatest.
 pub fn write_all<W: Write>(writer: &mut Counted<W>, bytes: &[u8]) -> Result<(), DeviceFault>
     ensures written { OnOk result (Appends (W.contents (device_of writer.old))
         (W.contents (device_of writer.new)) bytes.now) }

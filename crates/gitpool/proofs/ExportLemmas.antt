@@ -157,7 +157,7 @@ module _ (digest : List ℕ → List ℕ) (names : AnswersNames digest) (reposit
       p = part text reader.known reader'.known g.bytes has g.read.consumed
 
       none : (b : Bool) → g.at_end ≡ b → printed_so_far digest g.bytes b ≡ []
-      none true ended = printed-is g.bytes (whole g.bytes p.rest p.parts (at-end text g.bytes reader'.known p (g.end ended)))
+      none true ended = printed-is g.bytes (whole g.bytes p.rest p.parts (at-end text g.bytes reader'.known p (g.end ended).1))
       none false running = none-printed g.bytes p.rest p.parts
 
       by : (b : Bool) → g.at_end ≡ b → Keeps writer.known writer'.known

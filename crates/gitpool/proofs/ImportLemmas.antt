@@ -1,5 +1,6 @@
 -- What an import has done so far.
-use Rattle.std.proofs.Common.{◌≡◌, ℕ, ◌+◌, ◌-◌, ◌^◌, ◌≤◌, inl, inr, min, Bool, true, false, cond, List, [], ◌++◌, length, take, Option, None, Some, Result, Ok, Err, refl, sym, ap, subst, ◌∙◌, append_assoc, append-nil, arith}
+use Rattle.std.proofs.Common.{◌≡◌, ◌≢◌, ℕ, ◌+◌, ◌-◌, ◌^◌, ◌<◌, ◌≤◌, inl, inr, Bool, true, false, cond, List, [], ◌++◌, length, take, Option, None, Some, Result, Ok, Err, refl, sym, ap, subst, ◌∙◌, append_assoc, append-nil, arith}
+use Rattle.std.proofs.lemmas.List.{length-append}
 use Rattle.std.specs.Io.KnownBytes.{Appends, Consumes, Keeps, IsAtEnd}
 use Rattle.std.specs.Prelude.{OnOk}
 use Rattle.git_model.specs.RefStore.{RefStore, no_refs}
@@ -13,7 +14,7 @@ use Rattle.import_session.specs.Held.{FilesStand}
 use Rattle.import_session.specs.Sound.{IsSound}
 use Rattle.import_session.proofs.SoundLemmas.{empty_is_sound, new_is_sound}
 use Rattle.import_session.specs.Session.{new_session, running_in}
-use Rattle.git_objects.specs.Device.{Device, HasRead, counted_on, HasFault, AppendsFront}
+use Rattle.git_objects.specs.Device.{Device, HasRead, counted_on, HasFault, IsWell, AppendsFront}
 use Rattle.git_objects.proofs.KnownBytes.{Appends-nil, Appends-trans, Consumes-nil, HasRead-trans, HasRead-kept}
 use Rattle.stream_lex.specs.Items.{Item, Tail, Rest, Failed}
 use Rattle.stream_lex.specs.Reading.{reading, walk}
@@ -30,7 +31,8 @@ use Rattle.gitpool.specs.declared.import_fault.ImportFault.TheVariants as fault
 use Rattle.tenant_stream.specs.Carrying.{Between, Carries, Advances, EndsAs, IsEnd, Fails, Feeds, HasAmpleRoom, IsDrained, new_stream, outcome_behind, stream_in}
 use Rattle.tenant_stream.specs.Soundness.{LeavesSound}
 use Rattle.gitpool.specs.ImportFaults.{as_import}
-use Rattle.gitpool.specs.Import.{IsImported, IsGivenUp, IsStopped, IsDevice, AsksForMore, Imports, outcome_of, printed_by}
+use Rattle.gitpool.specs.Devices.{AreWell}
+use Rattle.gitpool.specs.Import.{HasAsked, IsImported, IsGivenUp, IsStopped, IsDevice, AsksForMore, Imports, outcome_of, printed_by}
 use Rattle.tenant_service.specs.Alone.{stream_of}
 use Rattle.tenant_service.specs.Holding.{empty_repository}
 use Rattle.gitpool.specs.Importing.{Importing, running_of, IsNewImport, IsReady, Passes, IsRefusedWith, IsWrittenFront, PassesOn, IsReadThrough, end_of_import, IsEndWritten, EndsImport}
@@ -118,21 +120,44 @@ after_replies a b o = ap (λ r. record { replies = r; standing = o.standing }) (
 pub record SoFar (digest : List ℕ → List ℕ) (r0 r w0 w : Device) (i : Importing) (count : ℕ) : Type 0 where
   pub bytes : List ℕ
   pub read : HasRead r0 r bytes
-  pub calls : min (r0.calls + count) (2 ^ 64 - 1) ≤ r.calls
+  pub often : counted_on r0.calls count ≤ r.calls
+  pub asked : r.calls ≤ r0.calls + count
+  pub giving : count ≤ length bytes
   pub replies : List ℕ
   pub goes : (more : List ℕ) → outcome_of digest (bytes ++ more)
       ≡ after_reply replies (outcome_behind digest (running_of i) i.between.tail more)
   pub drained : HasNoItem i.between.tail
   pub running : i.between.session.is_done ≡ false
   pub written : Appends w0.known w.known replies
-  pub faults : r.faults ≡ r0.faults
-  pub well : w.faults ≡ w0.faults
+  pub well : AreWell r0 r w0 w
   pub ready : IsReady digest i
 
-pub reads_piece : (old new : Device) (n : ℕ) (buf piece : List ℕ) → piece ≡ take n buf → n ≡ length (take n buf)
-    → Consumes old.known new.known (take n buf) → new.passed ≡ counted_on old.passed n → new.faults ≡ old.faults → HasReadWell old new piece
-reads_piece old new n buf piece is size consumed passed faults =
-    subst (HasReadWell old new) (sym is) (one_well old new n buf size consumed passed faults)
+-- one call of `read` gave a piece
+pub record HasGiven (old new : Device) (piece : List ℕ) : Type 0 where
+  pub well : HasReadWell old new piece
+  pub called : new.calls ≡ counted_on old.calls 1
+  pub some : length piece ≢ 0
+
+pub gives_piece : (old new : Device) (n : ℕ) (buf piece : List ℕ) → piece ≡ take n buf → n ≡ length (take n buf)
+    → Consumes old.known new.known (take n buf) → new.passed ≡ counted_on old.passed n → new.faults ≡ old.faults
+    → new.calls ≡ counted_on old.calls 1 → n ≢ 0 → HasGiven old new piece
+gives_piece old new n buf piece is size consumed passed faults called some = record {
+  well = subst (HasReadWell old new) (sym is) (one_well old new n buf size consumed passed faults);
+  called = called;
+  some = λ none. some (size ∙ ap (λ (l : List ℕ). length l) (sym is) ∙ none);
+}
+
+-- one call more, whatever it gave
+asked_more : (digest : List ℕ → List ℕ) (r0 r w0 w : Device) (i : Importing) (count : ℕ) (r' : Device) (piece : List ℕ)
+    (s : SoFar digest r0 r w0 w i count) → count < 2 ^ 32 → r'.calls ≡ counted_on r.calls 1 → HasAsked r0 r' (s.bytes ++ piece)
+asked_more digest r0 r w0 w i count r' piece s few called =
+    let a = s.asked in let g = s.giving in let n = length-append s.bytes piece in
+    record { giving = omega (arith, a, g, n, called); bounded = omega (arith, a, few, called) }
+
+asked_last : (digest : List ℕ → List ℕ) (r0 r w0 w : Device) (i : Importing) (count : ℕ) (r' : Device)
+    (s : SoFar digest r0 r w0 w i count) → count < 2 ^ 32 → r'.calls ≡ counted_on r.calls 1 → HasAsked r0 r' s.bytes
+asked_last digest r0 r w0 w i count r' s few called =
+    subst (HasAsked r0 r') (append-nil s.bytes) (asked_more digest r0 r w0 w i count r' [] s few called)
 
 -- all bytes so far, and what comes after a piece
 goes_behind : (digest : List ℕ → List ℕ) (r0 r w0 w : Device) (i : Importing) (count : ℕ) (s : SoFar digest r0 r w0 w i count)
@@ -161,12 +186,14 @@ whole_so_far digest r0 r w0 w i count s =
 
 -- one piece more
 pub so_far_more : (digest : List ℕ → List ℕ) (r0 r w0 w : Device) (i : Importing) (count : ℕ) (r' w' : Device) (i' : Importing) (piece : List ℕ)
-    → SoFar digest r0 r w0 w i count → HasReadWell r r' piece → r'.calls ≡ counted_on r.calls 1 → Passes digest i piece w i' w'
+    → SoFar digest r0 r w0 w i count → HasGiven r r' piece → Passes digest i piece w i' w'
     → i'.between.session.is_done ≡ false → SoFar digest r0 r' w0 w' i' (count + 1)
-so_far_more digest r0 r w0 w i count r' w' i' piece s reads called p running = record {
+so_far_more digest r0 r w0 w i count r' w' i' piece s gives p running = record {
   bytes = s.bytes ++ piece;
-  read = HasRead-trans r0 r r' s.bytes piece s.read reads.read;
-  calls = let m = s.calls in omega (arith, m, called);
+  read = HasRead-trans r0 r r' s.bytes piece s.read gives.well.read;
+  often = let m = s.often in let c = gives.called in omega (arith, m, c);
+  asked = let m = s.asked in let c = gives.called in omega (arith, m, c);
+  giving = let m = s.giving in let n = length-append s.bytes piece in let some = gives.some in omega (arith, m, n, some);
   replies = s.replies ++ p.replies;
   goes = λ more. goes_behind digest r0 r w0 w i count s piece more
       ∙ ap (after_reply s.replies) (p.goes more)
@@ -174,8 +201,7 @@ so_far_more digest r0 r w0 w i count r' w' i' piece s reads called p running = r
   drained = subst (λ (b : Bool). IsDrained b i'.between.tail) running p.drained;
   running = running;
   written = Appends-trans w0.known w.known w'.known s.replies p.replies s.written p.written;
-  faults = reads.well ∙ s.faults;
-  well = p.well ∙ s.well;
+  well = (gives.well.well ∙ s.well.0, p.well ∙ s.well.1);
   ready = p.ready;
 }
 
@@ -193,18 +219,18 @@ printed-refused digest bytes replies code left whole =
 
 -- `done` was read
 pub through_done : (digest : List ℕ → List ℕ) (r0 r w0 w : Device) (i : Importing) (count : ℕ) (r' w' : Device) (i' : Importing) (piece : List ℕ)
-    → SoFar digest r0 r w0 w i count → HasReadWell r r' piece → Passes digest i piece w i' w'
+    → SoFar digest r0 r w0 w i count → count < 2 ^ 32 → HasGiven r r' piece → Passes digest i piece w i' w'
     → i'.between.session.is_done ≡ true → IsReadThrough digest r0 r' w0 i' w'
-through_done digest r0 r w0 w i count r' w' i' piece s reads p done = record {
+through_done digest r0 r w0 w i count r' w' i' piece s few gives p done = record {
   bytes = s.bytes ++ piece;
-  read = HasRead-trans r0 r r' s.bytes piece s.read reads.read;
+  read = HasRead-trans r0 r r' s.bytes piece s.read gives.well.read;
+  asked = asked_more digest r0 r w0 w i count r' piece s few gives.called;
   written = subst (λ (l : List ℕ). Appends w0.known w'.known l) (sym (ap (λ (o : Outcome). o.replies) whole))
       (Appends-trans w0.known w.known w'.known s.replies p.replies s.written p.written);
   ends = ap (λ (o : Outcome). finished digest o.standing) whole ∙ finished-done digest (running_of i') (Rest false []) done
       ∙ sym (finished-done digest (running_of i') i'.between.tail done);
   last = inr (λ more. settled more ∙ sym whole);
-  faults = reads.well ∙ s.faults;
-  well = p.well ∙ s.well;
+  well = (gives.well.well ∙ s.well.0, p.well ∙ s.well.1);
   ready = p.ready;
 }
   where
@@ -224,16 +250,17 @@ through_done digest r0 r w0 w i count r' w' i' piece s reads p done = record {
 
 -- the stream was refused
 pub imported_refused : (digest : List ℕ → List ℕ) (r0 r w0 w : Device) (i : Importing) (count : ℕ) (r' w' : Device) (piece : List ℕ) (code : ℕ)
-    → SoFar digest r0 r w0 w i count → HasReadWell r r' piece → IsRefusedWith digest i piece code w w'
+    → SoFar digest r0 r w0 w i count → count < 2 ^ 32 → HasGiven r r' piece → IsRefusedWith digest i piece code w w'
     → IsImported digest r0 r' w0 w' (Some code)
-imported_refused digest r0 r w0 w i count r' w' piece code s reads p = record {
+imported_refused digest r0 r w0 w i count r' w' piece code s few gives p = record {
   bytes = s.bytes ++ piece;
-  read = HasRead-trans r0 r r' s.bytes piece s.read reads.read;
+  read = HasRead-trans r0 r r' s.bytes piece s.read gives.well.read;
+  asked = asked_more digest r0 r w0 w i count r' piece s few gives.called;
   written = subst (λ (l : List ℕ). Appends w0.known w'.known l) (sym (printed-refused digest (s.bytes ++ piece) _ code p.repository whole))
       (Appends-trans w0.known w.known w'.known s.replies p.replies s.written p.written);
   ended = ap (λ (o : Outcome). (finished digest o.standing).fault) whole;
   last = inr (λ more. settled more ∙ sym whole);
-  well = reads.well ∙ s.faults;
+  well = (gives.well.well ∙ s.well.0, p.well ∙ s.well.1);
 }
   where
     settled : (more : List ℕ) → outcome_of digest ((s.bytes ++ piece) ++ more)
@@ -257,39 +284,44 @@ front_behind digest r0 r w0 w i count w' piece s f = record {
 }
 
 pub stopped : (digest : List ℕ → List ℕ) (r0 r w0 w : Device) (i : Importing) (count : ℕ) (r' w' : Device) (piece : List ℕ)
-    → SoFar digest r0 r w0 w i count → HasReadWell r r' piece → IsWrittenFront digest i piece w w' → IsStopped digest r0 r' w0 w'
-stopped digest r0 r w0 w i count r' w' piece s reads f = record {
+    → SoFar digest r0 r w0 w i count → count < 2 ^ 32 → HasGiven r r' piece → IsWrittenFront digest i piece w w' × IsWell w w'
+    → IsStopped digest r0 r' w0 w'
+stopped digest r0 r w0 w i count r' w' piece s few gives f = record {
   bytes = s.bytes ++ piece;
-  read = HasRead-trans r0 r r' s.bytes piece s.read reads.read;
-  written = front_behind digest r0 r w0 w i count w' piece s f;
+  read = HasRead-trans r0 r r' s.bytes piece s.read gives.well.read;
+  asked = asked_more digest r0 r w0 w i count r' piece s few gives.called;
+  written = front_behind digest r0 r w0 w i count w' piece s f.0;
+  well = (gives.well.well ∙ s.well.0, f.1 ∙ s.well.1);
 }
 
 -- a write failed
 pub unwritten : (digest : List ℕ → List ℕ) (r0 r w0 w : Device) (i : Importing) (count : ℕ) (r' w' : Device) (piece : List ℕ)
-    → SoFar digest r0 r w0 w i count → HasReadWell r r' piece
+    → SoFar digest r0 r w0 w i count → count < 2 ^ 32 → HasGiven r r' piece
     → IsWrittenFront digest i piece w w' × HasFault w.faults w'.faults
     → IsGivenUp digest r0 r' w0 w'
-unwritten digest r0 r w0 w i count r' w' piece s reads f =
-    let blamed : HasFault w0.faults w'.faults = subst (λ (n : ℕ). HasFault n w'.faults) s.well f.1 in
+unwritten digest r0 r w0 w i count r' w' piece s few gives f =
+    let failed : HasFault w0.faults w'.faults = subst (λ (n : ℕ). HasFault n w'.faults) s.well.1 f.1 in
     record {
       bytes = s.bytes ++ piece;
-      read = HasRead-trans r0 r r' s.bytes piece s.read reads.read;
+      read = HasRead-trans r0 r r' s.bytes piece s.read gives.well.read;
+      asked = asked_more digest r0 r w0 w i count r' piece s few gives.called;
       at_end = false;
       end = λ (none : false ≡ true). cc none;
       written = front_behind digest r0 r w0 w i count w' piece s f.0;
-      whole = inl blamed;
-      blamed = inr (inl blamed);
+      whole = inl failed;
+      blamed = inl (gives.well.well ∙ s.well.0, failed);
     }
 
 -- all replies to what was read stand written
 all_written : (digest : List ℕ → List ℕ) (r0 r w0 w : Device) (i : Importing) (count : ℕ) (r' : Device)
-    (s : SoFar digest r0 r w0 w i count) → HasRead r0 r' s.bytes → IsDevice digest s.bytes r0 r' w0 w
+    (s : SoFar digest r0 r w0 w i count) → HasRead r0 r' s.bytes → HasAsked r0 r' s.bytes → IsDevice digest s.bytes r0 r' w0 w
     → IsGivenUp digest r0 r' w0 w
-all_written digest r0 r w0 w i count r' s had blamed =
+all_written digest r0 r w0 w i count r' s had asked blamed =
     let replies = ap (λ (o : Outcome). o.replies) (whole_so_far digest r0 r w0 w i count s) in
     record {
       bytes = s.bytes;
       read = had;
+      asked = asked;
       at_end = false;
       end = λ (none : false ≡ true). cc none;
       written = record { front = s.replies; rest = []; parts = replies ∙ sym (append-nil s.replies); appends = s.written };
@@ -297,24 +329,38 @@ all_written digest r0 r w0 w i count r' s had blamed =
       blamed = blamed;
     }
 
+-- it asks for more
+asks_so_far : (digest : List ℕ → List ℕ) (r0 r w0 w : Device) (i : Importing) (count : ℕ) (s : SoFar digest r0 r w0 w i count)
+    → AsksForMore (outcome_of digest s.bytes).standing
+asks_so_far digest r0 r w0 w i count s =
+    subst (λ (o : Outcome). AsksForMore o.standing) (sym (whole_so_far digest r0 r w0 w i count s)) s.running
+
 -- a read failed
 pub unread : (digest : List ℕ → List ℕ) (r0 r w0 w : Device) (i : Importing) (count : ℕ) (r' : Device)
-    → SoFar digest r0 r w0 w i count → Keeps r.known r'.known → r'.passed ≡ r.passed → r'.faults ≡ counted_on r.faults 1
+    → SoFar digest r0 r w0 w i count → count < 2 ^ 32 → Keeps r.known r'.known → r'.passed ≡ r.passed
+    → r'.faults ≡ counted_on r.faults 1 → r'.calls ≡ counted_on r.calls 1
     → IsGivenUp digest r0 r' w0 w
-unread digest r0 r w0 w i count r' s keeps passed failed =
+unread digest r0 r w0 w i count r' s few keeps passed failed called =
     all_written digest r0 r w0 w i count r' s (HasRead-kept r0 r r' s.bytes s.read keeps passed)
-    (inl (blamed, subst (λ (o : Outcome). AsksForMore o.standing) (sym (whole_so_far digest r0 r w0 w i count s)) s.running))
-  where
-    blamed : HasFault r0.faults r'.faults
-    blamed below = let same = s.faults in omega (arith, below, same, failed)
+    (asked_last digest r0 r w0 w i count r' s few called)
+    (inr (asks_so_far digest r0 r w0 w i count s, inl (failed ∙ ap (λ (n : ℕ). counted_on n 1) s.well.0, s.well.1)))
 
 -- the reader never ends
 pub endless : (digest : List ℕ → List ℕ) (r0 r w0 w : Device) (i : Importing) (count : ℕ)
-    → SoFar digest r0 r w0 w i count → 2 ^ 32 ≤ count → IsGivenUp digest r0 r w0 w
-endless digest r0 r w0 w i count s all = all_written digest r0 r w0 w i count r s s.read (inr (inr bound))
+    → SoFar digest r0 r w0 w i count → count ≡ 2 ^ 32 → IsGivenUp digest r0 r w0 w
+endless digest r0 r w0 w i count s all =
+    all_written digest r0 r w0 w i count r s s.read
+    (record { giving = omega (arith, a, g); bounded = omega (arith, a, all) })
+    (inr (asks_so_far digest r0 r w0 w i count s, inr (record { often = omega (arith, o, all); giving = omega (arith, g, all); well = s.well })))
   where
-    bound : min (r0.calls + 2 ^ 32) (2 ^ 64 - 1) ≤ r.calls
-    bound = let n = s.calls in omega (arith, n, all)
+    a : r.calls ≤ r0.calls + count
+    a = s.asked
+
+    g : count ≤ length s.bytes
+    g = s.giving
+
+    o : counted_on r0.calls count ≤ r.calls
+    o = s.often
 
 -- the end of the input
 read_to_end : (digest : List ℕ → List ℕ) (r0 r w0 w : Device) (i : Importing) (count : ℕ) (r' : Device)
@@ -324,18 +370,19 @@ read_to_end digest r0 r w0 w i count r' s consumed passed =
     (HasRead-trans r0 r r' s.bytes [] s.read (record { consumed = consumed; passed = passed }))
 
 pub through_end : (digest : List ℕ → List ℕ) (r0 r w0 w : Device) (i : Importing) (count : ℕ) (r' : Device)
-    → SoFar digest r0 r w0 w i count → Consumes r.known r'.known [] → IsAtEnd r'.known → r'.passed ≡ counted_on r.passed 0 → r'.faults ≡ r.faults
+    → SoFar digest r0 r w0 w i count → count < 2 ^ 32 → Consumes r.known r'.known [] → IsAtEnd r'.known
+    → r'.passed ≡ counted_on r.passed 0 → r'.faults ≡ r.faults → r'.calls ≡ counted_on r.calls 1
     → IsReadThrough digest r0 r' w0 i w
-through_end digest r0 r w0 w i count r' s consumed at_end passed well =
+through_end digest r0 r w0 w i count r' s few consumed at_end passed well called =
     let whole = whole_so_far digest r0 r w0 w i count s in
     record {
       bytes = s.bytes;
       read = read_to_end digest r0 r w0 w i count r' s consumed passed;
+      asked = asked_last digest r0 r w0 w i count r' s few called;
       written = subst (λ (l : List ℕ). Appends w0.known w.known l) (sym (ap (λ (o : Outcome). o.replies) whole)) s.written;
       ends = ap (λ (o : Outcome). finished digest o.standing) whole;
       last = inl at_end;
-      faults = well ∙ s.faults;
-      well = s.well;
+      well = (well ∙ s.well.0, s.well.1);
       ready = s.ready;
     }
 
@@ -345,11 +392,12 @@ ends_as : (digest : List ℕ → List ℕ) (r0 r w0 w : Device) (i : Importing) 
 ends_as digest r0 r w0 w i w' end s e = record {
   bytes = s.bytes;
   read = s.read;
+  asked = s.asked;
   written = subst (λ (x : End). Appends w0.known w'.known ((outcome_of digest s.bytes).replies ++ x.reply)) (sym s.ends)
       (Appends-trans w0.known w.known w'.known (outcome_of digest s.bytes).replies (end_of_import digest i).reply s.written e.written);
   ended = ap (λ (x : End). x.fault) s.ends ∙ e.ended;
   last = s.last;
-  well = s.faults;
+  well = (s.well.0, e.well ∙ s.well.1);
 }
 
 -- the reply of the end could not be written
@@ -357,16 +405,17 @@ end_unwritten : (digest : List ℕ → List ℕ) (r0 r w0 w : Device) (i : Impor
     → IsReadThrough digest r0 r w0 i w → AppendsFront w.known w'.known (end_of_import digest i).reply → HasFault w.faults w'.faults
     → IsGivenUp digest r0 r w0 w'
 end_unwritten digest r0 r w0 w i w' s front failed =
-    let blamed : HasFault w0.faults w'.faults = subst (λ (n : ℕ). HasFault n w'.faults) s.well failed in
+    let blamed : HasFault w0.faults w'.faults = subst (λ (n : ℕ). HasFault n w'.faults) s.well.1 failed in
     record {
       bytes = s.bytes;
       read = s.read;
+      asked = s.asked;
       at_end = true;
-      end = λ (_ : true ≡ true). s.last;
+      end = λ (_ : true ≡ true). (s.well.0, s.last);
       written = subst (λ (x : End). AppendsFront w0.known w'.known ((outcome_of digest s.bytes).replies ++ x.reply)) (sym s.ends)
           (front_of_later w0.known w.known w'.known (outcome_of digest s.bytes).replies (end_of_import digest i).reply s.written front);
       whole = inl blamed;
-      blamed = inr (inl blamed);
+      blamed = inl (s.well.0, blamed);
     }
 
 pub imported_end : (digest : List ℕ → List ℕ) (r0 r w0 w : Device) (i : Importing) (w' : Device) (result : Result Unit ImportFault)
@@ -377,25 +426,27 @@ imported_end digest r0 r w0 w i w' (Err fault.Device) s e = end_unwritten digest
 imported_end digest r0 r w0 w i w' (Err fault.Memory) s e = let replies = (outcome_of digest s.bytes).replies in record {
   bytes = s.bytes;
   read = s.read;
+  asked = s.asked;
   written = record {
     front = replies ++ [];
     rest = [];
     parts = sym (append-nil (replies ++ []) ∙ append-nil replies);
-    appends = Appends-trans w0.known w.known w'.known replies [] s.written e;
+    appends = Appends-trans w0.known w.known w'.known replies [] s.written e.0;
   };
+  well = (s.well.0, e.1 ∙ s.well.1);
 }
 
 -- what came of a piece that did not pass
 pub imported_piece : (digest : List ℕ → List ℕ) (r0 r w0 w : Device) (i : Importing) (count : ℕ) (r' w' : Device) (i' : Importing) (piece : List ℕ)
     (e : ImportFault)
-    → SoFar digest r0 r w0 w i count → HasReadWell r r' piece → PassesOn digest i piece w (Err e) i' w'
+    → SoFar digest r0 r w0 w i count → count < 2 ^ 32 → HasGiven r r' piece → PassesOn digest i piece w (Err e) i' w'
     → Imports digest r0 r' w0 w' (Err e)
-imported_piece digest r0 r w0 w i count r' w' i' piece (fault.Stream code) s reads p =
-    imported_refused digest r0 r w0 w i count r' w' piece code s reads p
-imported_piece digest r0 r w0 w i count r' w' i' piece fault.Device s reads p =
-    unwritten digest r0 r w0 w i count r' w' piece s reads p
-imported_piece digest r0 r w0 w i count r' w' i' piece fault.Memory s reads p =
-    stopped digest r0 r w0 w i count r' w' piece s reads p
+imported_piece digest r0 r w0 w i count r' w' i' piece (fault.Stream code) s few gives p =
+    imported_refused digest r0 r w0 w i count r' w' piece code s few gives p
+imported_piece digest r0 r w0 w i count r' w' i' piece fault.Device s few gives p =
+    unwritten digest r0 r w0 w i count r' w' piece s few gives p
+imported_piece digest r0 r w0 w i count r' w' i' piece fault.Memory s few gives p =
+    stopped digest r0 r w0 w i count r' w' piece s few gives p
 
 -- before the first byte
 pub objects_none : (pool : Cells) → objects pool [] ≡ []
@@ -442,7 +493,9 @@ pub so_far_new : (digest : List ℕ → List ℕ) (r w : Device) (i : Importing)
 so_far_new digest r w i new fits = record {
   bytes = [];
   read = record { consumed = Consumes-nil r.known; passed = omega (arith, fits) };
-  calls = omega arith;
+  often = omega arith;
+  asked = omega arith;
+  giving = omega arith;
   replies = [];
   goes = λ more. sym (ap (λ (b : Between). outcome_behind digest (running_of i) b.tail more) new.between
       ∙ ap (λ (now : Running). outcome_behind digest now (Rest false []) more) (new_running i new.between new.table new.refs)
@@ -450,8 +503,7 @@ so_far_new digest r w i new fits = record {
   drained = subst (λ (b : Between). HasNoItem b.tail) (sym new.between) first_item;
   running = ap (λ (b : Between). b.session.is_done) new.between;
   written = Appends-nil w.known;
-  faults = refl;
-  well = refl;
+  well = (refl, refl);
   ready = new.ready;
 }
 
@@ -490,7 +542,7 @@ pub passes_on : (digest : List ℕ → List ℕ) (old : Importing) (piece : List
     → Carries digest (running_of old) (extended old.between.tail piece) [] result (running_of new) new.between.tail out'
     → LeavesSound digest result (running_of new).workspace → OnOk result (FilesStand new.between.session.own new.pool new.table)
     → (IsSound digest (running_of new).workspace → FilesStand new.between.session.own new.pool new.table → IsReady digest new)
-    → Appends w.known w'.known out' → w'.faults ≡ w.faults
+    → Appends w.known w'.known out' → IsWell w w'
     → PassesOn digest old piece w (as_import result) new w'
 passes_on digest old piece w w' (Ok u) new out' c sound files ready written well = record {
   replies = c.replies;
@@ -505,10 +557,13 @@ passes_on digest old piece w w' (Err (stop.Fault code)) new out' c sound files r
   repository = last_checkpoint c.last.workspace;
   refused = fails_as digest (running_of old) (extended old.between.tail piece) [] code (running_of new) out' c;
   written = subst (λ (l : List ℕ). Appends w.known w'.known l) c.ends.printed written;
+  well = well;
 }
-passes_on digest old piece w w' (Err (stop.Memory count)) new out' c sound files ready written well =
-    whole_front w.known w'.known out' _ written
-    (printed_front digest (running_of old) (extended old.between.tail piece) (Err (stop.Memory count)) (running_of new) new.between.tail out' c)
+passes_on digest old piece w w' (Err (stop.Memory count)) new out' c sound files ready written well = (
+  whole_front w.known w'.known out' _ written
+      (printed_front digest (running_of old) (extended old.between.tail piece) (Err (stop.Memory count)) (running_of new) new.between.tail out' c),
+  well,
+)
 
 -- its replies were not written
 pub pass_fails : (digest : List ℕ → List ℕ) (old : Importing) (piece : List ℕ) (w w' : Device) (result : Result Unit Stop) (next : Running)
@@ -538,17 +593,19 @@ end_front digest i (Err (stop.Memory count)) left out' ready e = record {
 -- the end, by its answer
 pub ends_import : (digest : List ℕ → List ℕ) (i : Importing) (w w' : Device) (result : Result Unit Stop) (left : Repository) (out' : List ℕ)
     → IsReady digest i → EndsAs digest (running_of i) i.between.tail i.out result left out'
-    → Appends w.known w'.known out' → EndsImport digest i w (as_import result) w'
-ends_import digest i w w' (Ok u) left out' ready e written = record {
+    → Appends w.known w'.known out' → IsWell w w' → EndsImport digest i w (as_import result) w'
+ends_import digest i w w' (Ok u) left out' ready e written well = record {
   ended = e.answered;
   written = subst (λ (l : List ℕ). Appends w.known w'.known l) (printed_at_end digest i None left out' ready e) written;
+  well = well;
 }
-ends_import digest i w w' (Err (stop.Fault code)) left out' ready e written = record {
+ends_import digest i w w' (Err (stop.Fault code)) left out' ready e written well = record {
   ended = e.answered;
   written = subst (λ (l : List ℕ). Appends w.known w'.known l) (printed_at_end digest i (Some code) left out' ready e) written;
+  well = well;
 }
-ends_import digest i w w' (Err (stop.Memory count)) left out' ready e written =
-    subst (λ (l : List ℕ). Appends w.known w'.known l) (e.printed ∙ ready.written) written
+ends_import digest i w w' (Err (stop.Memory count)) left out' ready e written well =
+    (subst (λ (l : List ℕ). Appends w.known w'.known l) (e.printed ∙ ready.written) written, well)
 
 -- its reply was not written
 pub end_fails : (digest : List ℕ → List ℕ) (i : Importing) (w w' : Device) (result : Result Unit Stop) (left : Repository) (out' : List ℕ)

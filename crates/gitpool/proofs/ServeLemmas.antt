@@ -1,10 +1,10 @@
 -- What a serving has done so far.
-use Rattle.std.proofs.Common.{◌≡◌, ℕ, ◌+◌, ◌^◌, ◌<◌, inl, inr, List, [], ◌∷◌, ◌++◌, length, Option, None, Some, Ok, Err, refl, sym, ap, subst, ◌∙◌, append-nil, arith}
+use Rattle.std.proofs.Common.{◌≡◌, ℕ, ◌+◌, ◌^◌, ◌<◌, ◌≤◌, inl, inr, List, [], ◌∷◌, ◌++◌, length, Option, None, Some, Ok, Err, refl, sym, ap, subst, ◌∙◌, append-nil, arith}
 use Rattle.std.specs.List.{AllByRecursion, flat_map}
 use Rattle.std.specs.Io.KnownBytes.{Appends}
 use Rattle.std.proofs.lemmas.Grind.{flat_map-append}
 use Rattle.std.proofs.lemmas.List.{length-append}
-use Rattle.git_objects.specs.Device.{Device, HasRead, HasFault, AppendsFront}
+use Rattle.git_objects.specs.Device.{Device, HasRead, HasFault, IsWell, AppendsFront}
 use Rattle.git_objects.proofs.KnownBytes.{Appends-nil, Appends-trans, HasRead-trans}
 use Rattle.service_steps.specs.declared.answer.Answer.{Answer}
 use Rattle.step_frames.specs.declared.fault.FrameFault.{FrameFault}
@@ -17,7 +17,7 @@ use Rattle.step_frames.proofs.FrameLemmas.{none_read}
 use Rattle.step_frames.proofs.WriteLemmas.{front_of_later}
 use Rattle.tenant_service.specs.Headline.{Told, told_in, Run, IsItsOwn, IsRefused}
 use Rattle.tenant_service.specs.Holding.{Holdings, held_of}
-use Rattle.gitpool.specs.Serving.{steps_text, answers_text, Served, Serves}
+use Rattle.gitpool.specs.Serving.{steps_text, answers_text, Served, AreAnswered, Serves}
 use Rattle.tenant_service.proofs.AccountLemmas.{all_whole}
 use Rattle.tenant_service.proofs.RunLemmas.{own-more, own-none}
 
@@ -29,7 +29,7 @@ pub record SoFar (digest : List ℕ → List ℕ) (before after : Holdings) (r0 
   pub good : AllByRecursion (λ taken. IsGood (frame_of taken.0)) run
   pub read : HasReadWell r0 r (steps_text run)
   pub written : Appends w0.known w.known (answers_text run)
-  pub well : w.faults ≡ w0.faults
+  pub well : IsWell w0 w
   pub as_many : length run ≡ count
 
 pub so_far_new : (digest : List ℕ → List ℕ) (held : Holdings) (r w : Device) → r.passed < 2 ^ 64 → SoFar digest held held r r w w 0
@@ -44,41 +44,65 @@ so_far_new digest held r w fits = record {
   as_many = refl;
 }
 
+pub within : (run : Run) (count : ℕ) → length run ≡ count → count < 2 ^ 32 → length run ≤ 2 ^ 32
+within run count as_many few = omega (arith, as_many, few)
+
 -- What was read after the frames.
 abbrev pub served_behind : (digest : List ℕ → List ℕ) (before after : Holdings) (r0 r w0 w : Device) (count : ℕ)
-    → SoFar digest before after r0 r w0 w count → (r' : Device) (rest : List ℕ) → HasRead r r' rest → Served digest before after r0 r'
-served_behind digest before after r0 r w0 w count s r' rest read = record {
+    → SoFar digest before after r0 r w0 w count → count < 2 ^ 32 → (r' : Device) (rest : List ℕ) → HasRead r r' rest
+    → Served digest before after r0 r'
+served_behind digest before after r0 r w0 w count s few r' rest read = record {
   run = s.run;
   rest = rest;
   own = s.own;
   bad_names = s.bad_names;
   good = s.good;
   read = HasRead-trans r0 r r' (steps_text s.run) rest s.read.read read;
+  bounded = within s.run count s.as_many few;
 }
 
 whole_front : (a b : Option (List ℕ)) (bytes : List ℕ) → Appends a b bytes → AppendsFront a b bytes
 whole_front a b bytes appends = record { front = bytes; rest = []; parts = sym (append-nil bytes); appends = appends }
 
+-- All answers stand written where the reader stayed well.
+answered : (digest : List ℕ → List ℕ) (before after : Holdings) (r0 r w0 w : Device) (count : ℕ) (r' : Device)
+    (s : SoFar digest before after r0 r w0 w count) → IsWell r r' → AreAnswered r0 r' w0 w s.run
+answered digest before after r0 r w0 w count r' s well = (s.written, (well ∙ s.read.well, s.well))
+
 -- No further step was read.
 pub ends_at : (digest : List ℕ → List ℕ) (before after : Holdings) (r0 r w0 w : Device) (count : ℕ) (r' : Device)
-    → SoFar digest before after r0 r w0 w count → ReadsStep r (Ok None) r' → Serves digest before after r0 r' w0 w (Ok tt)
-ends_at digest before after r0 r w0 w count r' s read =
-    (served_behind digest before after r0 r w0 w count s r' [] read.read.read, refl, read.end, s.written)
+    → SoFar digest before after r0 r w0 w count → count < 2 ^ 32 → ReadsStep r (Ok None) r' → Serves digest before after r0 r' w0 w (Ok tt)
+ends_at digest before after r0 r w0 w count r' s few read = (
+  served_behind digest before after r0 r w0 w count s few r' [] read.read.read,
+  refl,
+  read.end,
+  answered digest before after r0 r w0 w count r' s read.read.well,
+)
 
 pub fails_at : (digest : List ℕ → List ℕ) (before after : Holdings) (r0 r w0 w : Device) (count : ℕ) (r' : Device) (e : FrameFault)
-    → SoFar digest before after r0 r w0 w count → ReadsStep r (Err e) r' → Serves digest before after r0 r' w0 w (Err e)
-fails_at digest before after r0 r w0 w count r' fault.BadFrame s read =
-    (served_behind digest before after r0 r w0 w count s r' read.0 read.2.read, read.1, s.written)
-fails_at digest before after r0 r w0 w count r' fault.CutOff s read =
-    (served_behind digest before after r0 r w0 w count s r' read.0 read.2.read.read, read.1, read.2.end, s.written)
-fails_at digest before after r0 r w0 w count r' fault.Device s read = (
-  served_behind digest before after r0 r w0 w count s r' read.0 read.2.read,
+    → SoFar digest before after r0 r w0 w count → count < 2 ^ 32 → ReadsStep r (Err e) r' → Serves digest before after r0 r' w0 w (Err e)
+fails_at digest before after r0 r w0 w count r' fault.BadFrame s few read = (
+  served_behind digest before after r0 r w0 w count s few r' read.0 read.2.read,
+  read.1,
+  answered digest before after r0 r w0 w count r' s read.2.well,
+)
+fails_at digest before after r0 r w0 w count r' fault.CutOff s few read = (
+  served_behind digest before after r0 r w0 w count s few r' read.0 read.2.read.read,
+  read.1,
+  read.2.end,
+  answered digest before after r0 r w0 w count r' s read.2.read.well,
+)
+fails_at digest before after r0 r w0 w count r' fault.Device s few read = (
+  served_behind digest before after r0 r w0 w count s few r' read.0 read.2.read,
   read.1,
   record { front = whole_front w0.known w.known (answers_text s.run) s.written; whole = inr s.written },
-  inl (subst (λ (n : ℕ). HasFault n r'.faults) s.read.well read.2.fault),
+  inl (subst (λ (n : ℕ). HasFault n r'.faults) s.read.well read.2.fault, s.well),
 )
-fails_at digest before after r0 r w0 w count r' fault.Memory s read =
-    (served_behind digest before after r0 r w0 w count s r' read.0 read.2.read, read.1, s.written)
+fails_at digest before after r0 r w0 w count r' fault.Memory s few read = (
+  served_behind digest before after r0 r w0 w count s few r' read.0 read.2.read,
+  read.1,
+  answered digest before after r0 r w0 w count r' s read.2.well,
+)
 
 -- One text more.
 more_text : (text : Step × Told → List ℕ) (run : Run) (one : Step × Told) → flat_map text (run ++ one ∷ []) ≡ flat_map text run ++ text one
@@ -123,7 +147,7 @@ taken_by digest before between after r0 r w0 w count r' step answer out out' s r
 -- Its answer was written.
 pub so_far_more : (digest : List ℕ → List ℕ) (before between after : Holdings) (r0 r w0 w : Device) (count : ℕ) (r' w' : Device)
     (told : Told) (s : SoFar digest before between r0 r w0 w count) → Taken digest before after r0 r' s.run told
-    → Appends w.known w'.known (answer_text told.answer told.reply) → w'.faults ≡ w.faults
+    → Appends w.known w'.known (answer_text told.answer told.reply) → IsWell w w'
     → SoFar digest before after r0 r' w0 w' (count + 1)
 so_far_more digest before between after r0 r w0 w count r' w' told s t written well = record {
   run = s.run ++ (t.step, told) ∷ [];
@@ -140,10 +164,10 @@ so_far_more digest before between after r0 r w0 w count r' w' told s t written w
 
 -- It was not.
 pub write_fails : (digest : List ℕ → List ℕ) (before between after : Holdings) (r0 r w0 w : Device) (count : ℕ) (r' w' : Device)
-    (told : Told) (s : SoFar digest before between r0 r w0 w count) → Taken digest before after r0 r' s.run told
+    (told : Told) (s : SoFar digest before between r0 r w0 w count) → count < 2 ^ 32 → Taken digest before after r0 r' s.run told
     → AppendsFront w.known w'.known (answer_text told.answer told.reply) → HasFault w.faults w'.faults
     → Serves digest before after r0 r' w0 w' (Err fault.Device)
-write_fails digest before between after r0 r w0 w count r' w' told s t front failed =
+write_fails digest before between after r0 r w0 w count r' w' told s few t front failed =
     let blame : HasFault w0.faults w'.faults = subst (λ (n : ℕ). HasFault n w'.faults) s.well failed in (
       record {
         run = s.run ++ (t.step, told) ∷ [];
@@ -152,6 +176,7 @@ write_fails digest before between after r0 r w0 w count r' w' told s t front fai
         bad_names = t.bad_names;
         good = t.good;
         read = subst (λ (l : List ℕ). HasRead r0 r' l) (sym (append-nil (steps_text (s.run ++ (t.step, told) ∷ [])))) t.read.read;
+        bounded = let l = length-append s.run ((t.step, told) ∷ []) in let n = s.as_many in omega (arith, l, n, few);
       },
       none_read,
       record {
@@ -160,7 +185,7 @@ write_fails digest before between after r0 r w0 w count r' w' told s t front fai
             (front_of_later w0.known w.known w'.known (answers_text s.run) (answer_text told.answer told.reply) s.written front);
         whole = inl blame;
       },
-      inr (inl blame),
+      inr (inl (t.read.well, blame)),
     )
 
 -- As many frames were taken as one serving takes.
@@ -174,8 +199,9 @@ limit_reached digest before after r0 r w0 w count s all = (
     bad_names = s.bad_names;
     good = s.good;
     read = subst (λ (l : List ℕ). HasRead r0 r l) (sym (append-nil (steps_text s.run))) s.read.read;
+    bounded = let n = s.as_many in omega (arith, n, all);
   },
   none_read,
   record { front = whole_front w0.known w.known (answers_text s.run) s.written; whole = inr s.written },
-  inr (inr (s.as_many ∙ all)),
+  inr (inr ((s.read.well, s.well), s.as_many ∙ all)),
 )

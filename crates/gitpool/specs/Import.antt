@@ -1,10 +1,11 @@
 -- One stream over an empty repository, from a reader to a writer: git-fast-import(1).
-use Rattle.std.specs.Prelude.{◌≡◌, ◌≤◌, ◌+◌, ◌-◌, ◌^◌, min, ℕ, Bool, true, false, List, ◌++◌, Option, None, Some, Result, Ok, Err, ◌⊎◌}
+use Rattle.std.specs.Prelude.{◌≡◌, ◌≤◌, ◌+◌, ◌^◌, ℕ, Bool, true, false, List, ◌++◌, length, Option, None, Some, Result, Ok, Err, ◌⊎◌}
 use Rattle.std.specs.Io.KnownBytes.{Appends, IsAtEnd}
-use Rattle.git_objects.specs.Device.{Device, HasRead, HasFault, AppendsFront}
+use Rattle.git_objects.specs.Device.{Device, HasRead, HasFault, IsWell, AppendsFront, counted_on}
 use Rattle.import_session.specs.Stream.{Outcome, Standing, Runs, Refused, End, finished}
 use Rattle.gitpool.specs.declared.import_fault.ImportFault.{ImportFault}
 use Rattle.gitpool.specs.declared.import_fault.ImportFault.TheVariants as fault
+use Rattle.gitpool.specs.Devices.{AreWell, HasReadFailed, HasWriteFailed}
 use Rattle.tenant_service.specs.Alone.{stream_of}
 use Rattle.tenant_service.specs.Holding.{empty_repository}
 
@@ -39,44 +40,60 @@ abbrev pub AsksForMore : Standing → Type 0
 AsksForMore (Runs now tail) = now.is_done ≡ false
 AsksForMore (Refused code repository) = ⊥
 
+-- A reader was called at most once more than it gave bytes, and at most 2^32 times.
+pub record HasAsked (reader reader' : Device) (bytes : List ℕ) : Type 0 where
+  pub giving : reader'.calls ≤ reader.calls + length bytes + 1
+  pub bounded : reader'.calls ≤ reader.calls + 2 ^ 32
+
 -- The whole stream was read and carried out, or as much of it as counts; it ended so, and exactly
--- its replies and that of its end were written.
+-- its replies and that of its end were written. No call failed.
 pub record IsImported (digest : List ℕ → List ℕ) (reader reader' writer writer' : Device)
     (end : Option ℕ) : Type 0 where
   pub bytes : List ℕ
   pub read : HasRead reader reader' bytes
+  pub asked : HasAsked reader reader' bytes
   pub written : Appends writer.known writer'.known (printed_by digest bytes)
   pub ended : end_fault digest bytes ≡ end
   pub last : IsAtEnd reader'.known ⊎ IsSettled digest bytes
-  pub well : reader'.faults ≡ reader.faults
+  pub well : AreWell reader reader' writer writer'
 
--- A device is to blame: a read failed of a stream that asked for more, or a write failed, or the
--- reader was called as often as one import may call it.
+-- The reader never ends: it was called as often as one import may call it, and gave as many bytes.
+pub record IsEndless (reader reader' writer writer' : Device) (bytes : List ℕ) : Type 0 where
+  pub often : counted_on reader.calls (2 ^ 32) ≤ reader'.calls
+  pub giving : 2 ^ 32 ≤ length bytes
+  pub well : AreWell reader reader' writer writer'
+
+-- A device is to blame, and one alone: a write failed; or the stream asked for more, and the read
+-- for it failed, or the reader never ends.
 abbrev pub IsDevice : (List ℕ → List ℕ) → List ℕ → Device → Device → Device → Device → Type 0
 IsDevice digest bytes reader reader' writer writer' =
-    (HasFault reader.faults reader'.faults × AsksForMore (outcome_of digest bytes).standing)
-    ⊎ (HasFault writer.faults writer'.faults
-    ⊎ (min (reader.calls + 2 ^ 32) (2 ^ 64 - 1) ≤ reader'.calls))
+    HasWriteFailed reader reader' writer writer'
+    ⊎ (AsksForMore (outcome_of digest bytes).standing
+    × (HasReadFailed reader reader' writer writer' ⊎ IsEndless reader reader' writer writer' bytes))
 
 -- It was given up after these bytes: a prefix of the replies was written, and all of them where no
--- write failed.
+-- write failed. It came to its end only where no read failed.
 pub record IsGivenUp (digest : List ℕ → List ℕ)
     (reader reader' writer writer' : Device) : Type 0 where
   pub bytes : List ℕ
   pub read : HasRead reader reader' bytes
+  pub asked : HasAsked reader reader' bytes
   pub at_end : Bool
-  pub end : at_end ≡ true → IsAtEnd reader'.known ⊎ IsSettled digest bytes
+  pub end : at_end ≡ true
+      → IsWell reader reader' × (IsAtEnd reader'.known ⊎ IsSettled digest bytes)
   pub written : AppendsFront writer.known writer'.known (printed_so_far digest bytes at_end)
   pub whole : HasFault writer.faults writer'.faults
       ⊎ Appends writer.known writer'.known (printed_so_far digest bytes at_end)
   pub blamed : IsDevice digest bytes reader reader' writer writer'
 
--- A prefix of the replies was written, and then memory ran out.
+-- A prefix of the replies was written, and then memory ran out. No call failed.
 pub record IsStopped (digest : List ℕ → List ℕ)
     (reader reader' writer writer' : Device) : Type 0 where
   pub bytes : List ℕ
   pub read : HasRead reader reader' bytes
+  pub asked : HasAsked reader reader' bytes
   pub written : AppendsFront writer.known writer'.known (outcome_of digest bytes).replies
+  pub well : AreWell reader reader' writer writer'
 
 -- What an import did, by its answer.
 abbrev pub Imports : (List ℕ → List ℕ) → Device → Device → Device → Device

@@ -3,7 +3,7 @@ use Rattle.std.specs.Prelude.{◌≡◌, ℕ, List, [], Option, None, Some, Resu
 use Rattle.std.specs.Io.KnownBytes.{Appends, IsAtEnd}
 use Rattle.git_model.specs.RefStore.{RefStore, no_refs}
 use Rattle.git_model.specs.Repository.{Repository}
-use Rattle.git_objects.specs.Device.{Device, HasRead, HasFault, AppendsFront}
+use Rattle.git_objects.specs.Device.{Device, HasRead, HasFault, IsWell, AppendsFront}
 use Rattle.content_pool.specs.Pool.{Cells, holds}
 use Rattle.tenant_tables.specs.View.{View, held}
 use Rattle.tenant_tables.specs.StandsIn.{StandsIn}
@@ -13,7 +13,8 @@ use Rattle.import_session.specs.Held.{FilesStand}
 use Rattle.import_session.specs.Sound.{IsSound}
 use Rattle.gitpool.specs.declared.import_fault.ImportFault.{ImportFault}
 use Rattle.gitpool.specs.declared.import_fault.ImportFault.TheVariants as fault
-use Rattle.gitpool.specs.Import.{IsSettled, Imports, outcome_of, end_of}
+use Rattle.gitpool.specs.Devices.{AreWell}
+use Rattle.gitpool.specs.Import.{HasAsked, IsSettled, Imports, outcome_of, end_of}
 use Rattle.tenant_stream.specs.Carrying.{Between, IsDrained, outcome_behind, new_stream, stream_in}
 
 -- The one stream, its repository, and the replies that were not written yet.
@@ -53,7 +54,7 @@ pub record Passes (digest : List ℕ → List ℕ) (old : Importing) (piece : Li
       ≡ after_reply replies (outcome_behind digest (running_of new) new.between.tail more)
   pub drained : IsDrained new.between.session.is_done new.between.tail
   pub written : Appends writer.known writer'.known replies
-  pub well : writer'.faults ≡ writer.faults
+  pub well : IsWell writer writer'
   pub ready : IsReady digest new
 
 -- It refused the stream, and the replies before that were written.
@@ -65,6 +66,7 @@ pub record IsRefusedWith (digest : List ℕ → List ℕ) (old : Importing) (pie
       → outcome_behind digest (running_of old) (extended old.between.tail piece) more
       ≡ record { replies = replies; standing = Refused code repository }
   pub written : Appends writer.known writer'.known replies
+  pub well : IsWell writer writer'
 
 -- A prefix of its replies was written.
 abbrev pub IsWrittenFront : (List ℕ → List ℕ) → Importing → List ℕ → Device → Device → Type 0
@@ -80,7 +82,7 @@ PassesOn digest old piece writer (Err (fault.Stream code)) new writer' =
 PassesOn digest old piece writer (Err fault.Device) new writer' =
     IsWrittenFront digest old piece writer writer' × HasFault writer.faults writer'.faults
 PassesOn digest old piece writer (Err fault.Memory) new writer' =
-    IsWrittenFront digest old piece writer writer'
+    IsWrittenFront digest old piece writer writer' × IsWell writer writer'
 
 -- How the stream ends where no more bytes come.
 abbrev pub end_of_import : (List ℕ → List ℕ) → Importing → End
@@ -91,6 +93,7 @@ pub record IsEndWritten (digest : List ℕ → List ℕ) (i : Importing) (fault 
     (writer writer' : Device) : Type 0 where
   pub ended : (end_of_import digest i).fault ≡ fault
   pub written : Appends writer.known writer'.known (end_of_import digest i).reply
+  pub well : IsWell writer writer'
 
 -- What came of the end, by the answer. Where memory ran out nothing was written for it.
 abbrev pub EndsImport : (List ℕ → List ℕ) → Importing → Device → Result Unit ImportFault → Device
@@ -102,18 +105,18 @@ EndsImport digest i writer (Err fault.Device) writer' =
     AppendsFront writer.known writer'.known (end_of_import digest i).reply
     × HasFault writer.faults writer'.faults
 EndsImport digest i writer (Err fault.Memory) writer' =
-    Appends writer.known writer'.known []
+    Appends writer.known writer'.known [] × IsWell writer writer'
 
 -- All that counts was read, carried out and answered: the input ended, or `done` was read.
 pub record IsReadThrough (digest : List ℕ → List ℕ) (reader reader' writer : Device) (i : Importing)
     (writer' : Device) : Type 0 where
   pub bytes : List ℕ
   pub read : HasRead reader reader' bytes
+  pub asked : HasAsked reader reader' bytes
   pub written : Appends writer.known writer'.known (outcome_of digest bytes).replies
   pub ends : end_of digest bytes ≡ end_of_import digest i
   pub last : IsAtEnd reader'.known ⊎ IsSettled digest bytes
-  pub faults : reader'.faults ≡ reader.faults
-  pub well : writer'.faults ≡ writer.faults
+  pub well : AreWell reader reader' writer writer'
   pub ready : IsReady digest i
 
 -- What came of reading, by the answer.

@@ -5,6 +5,7 @@ pub use Rattle.tenant_service.specs.Headline
 pub use Rattle.tenant_service.specs.Holding
 pub use Rattle.tenant_service.specs.Tenants
 pub mod ImportFaults
+pub mod Devices
 pub mod Import
 pub mod Exports
 pub mod Importing

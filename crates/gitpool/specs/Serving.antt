@@ -1,5 +1,5 @@
 -- Steps of any tenants that come as frames from a reader, and their answers to a writer.
-use Rattle.std.specs.Prelude.{◌≡◌, ℕ, ◌^◌, List, [], ◌++◌, length, Result, Ok, Err, ◌⊎◌}
+use Rattle.std.specs.Prelude.{◌≡◌, ◌≤◌, ℕ, ◌^◌, List, [], ◌++◌, length, Result, Ok, Err, ◌⊎◌}
 use Rattle.std.specs.List.{AllByRecursion, flat_map}
 use Rattle.std.specs.Io.KnownBytes.{Appends, IsAtEnd}
 use Rattle.git_objects.specs.Device.{Device, HasRead, HasFault, AppendsFront}
@@ -8,6 +8,7 @@ use Rattle.step_frames.specs.declared.fault.FrameFault.TheVariants as fault
 use Rattle.step_frames.specs.Frames.{frame_of, step_text, answer_text, IsGood, IsUnfinished, IsCutOff, IsBad}
 use Rattle.tenant_service.specs.Headline.{Run, IsItsOwn, IsRefused}
 use Rattle.tenant_service.specs.Holding.{Holdings, held_of}
+use Rattle.gitpool.specs.Devices.{AreWell, HasReadFailed, HasWriteFailed}
 
 -- The frames of the steps of a run, and those of what they were told.
 abbrev pub steps_text : Run → List ℕ
@@ -17,7 +18,7 @@ abbrev pub answers_text : Run → List ℕ
 answers_text run = flat_map (λ taken. answer_text taken.1.answer taken.1.reply) run
 
 -- Good frames were read, and some bytes after them, and the steps were taken in turn: to every
--- tenant they were told what they are told in a repository of its own.
+-- tenant they were told what they are told in a repository of its own. At most 2^32 were taken.
 pub record Served (digest : List ℕ → List ℕ) (before after : Holdings) (reader reader' : Device)
     : Type 0 where
   pub run : Run
@@ -27,12 +28,18 @@ pub record Served (digest : List ℕ → List ℕ) (before after : Holdings) (re
   pub bad_names : AllByRecursion IsRefused run
   pub good : AllByRecursion (λ taken. IsGood (frame_of taken.0)) run
   pub read : HasRead reader reader' (steps_text run ++ rest)
+  pub bounded : length run ≤ 2 ^ 32
 
--- A device is to blame: a call failed, or so many frames came as one serving takes.
+-- One call failed, and no other; or none did, and so many frames came as one serving takes.
 abbrev pub IsToBlame : Device → Device → Device → Device → Run → Type 0
 IsToBlame reader reader' writer writer' run =
-    HasFault reader.faults reader'.faults ⊎ (HasFault writer.faults writer'.faults
-    ⊎ (length run ≡ 2 ^ 32))
+    HasReadFailed reader reader' writer writer' ⊎ (HasWriteFailed reader reader' writer writer'
+    ⊎ (AreWell reader reader' writer writer' × (length run ≡ 2 ^ 32)))
+
+-- All answers were written, and no call failed.
+abbrev pub AreAnswered : Device → Device → Device → Device → Run → Type 0
+AreAnswered reader reader' writer writer' run =
+    Appends writer.known writer'.known (answers_text run) × AreWell reader reader' writer writer'
 
 -- A prefix of the answers was written, and all of them where no write failed.
 pub record AppendsAsFar (writer writer' : Device) (bytes : List ℕ) : Type 0 where
@@ -44,17 +51,17 @@ abbrev pub Serves : (List ℕ → List ℕ) → Holdings → Holdings → Device
     → Result Unit FrameFault → Type 0
 Serves digest before after reader reader' writer writer' (Ok u) =
     (s : Served digest before after reader reader') × (s.rest ≡ []) × IsAtEnd reader'.known
-    × Appends writer.known writer'.known (answers_text s.run)
+    × AreAnswered reader reader' writer writer' s.run
 Serves digest before after reader reader' writer writer' (Err fault.BadFrame) =
     (s : Served digest before after reader reader') × IsBad s.rest
-    × Appends writer.known writer'.known (answers_text s.run)
+    × AreAnswered reader reader' writer writer' s.run
 Serves digest before after reader reader' writer writer' (Err fault.CutOff) =
     (s : Served digest before after reader reader') × IsCutOff s.rest × IsAtEnd reader'.known
-    × Appends writer.known writer'.known (answers_text s.run)
+    × AreAnswered reader reader' writer writer' s.run
 Serves digest before after reader reader' writer writer' (Err fault.Device) =
     (s : Served digest before after reader reader') × IsUnfinished s.rest
     × AppendsAsFar writer writer' (answers_text s.run)
     × IsToBlame reader reader' writer writer' s.run
 Serves digest before after reader reader' writer writer' (Err fault.Memory) =
     (s : Served digest before after reader reader') × IsUnfinished s.rest
-    × Appends writer.known writer'.known (answers_text s.run)
+    × AreAnswered reader reader' writer writer' s.run

@@ -183,13 +183,13 @@ impl<N: Naming> Importer<N> {
 
 /// Carries out one stream over an empty repository: reads it from `reader`, and writes its replies
 /// to `writer`, those to what was read before more is read. It ends with the input, or before that
-/// with `done` or a fault, and then reads no further.
+/// with `done` or a fault, and then reads no further. A call of the two that fails is the last one.
 ///
 /// `ImportFault::Stream` where the stream is refused, or its end; exactly the replies before that
 /// stand written. `ImportFault::Device` (68) where a call of the reader or the writer failed, or
 /// where 2^32 reads have not come to the end; then a prefix of the replies to what was read, that
 /// of the end among them where the end was read, stands written, and all of them where no write
-/// failed. `ImportFault::Memory` (90) after a prefix of them.
+/// failed. `ImportFault::Memory` (90) after a prefix of them, where no call failed.
 ///
 /// What a good repository exports, from a reader that has that text and nothing after it, is never
 /// refused, and nothing is written, where each of its lines and data fits into a stream and its

@@ -45,7 +45,8 @@ fn answer_frames<N: Naming, R: Read, W: Write>(
 }
 
 /// Takes the steps that `reader` gives as frames, and writes each answer to `writer` before it
-/// reads on. It ends well where the input ends between frames.
+/// reads on. It ends well where the input ends between frames. A call of the two that fails is the
+/// last one.
 ///
 /// `BadFrame` (50) as soon as a part of a frame is there that is wrong, `CutOff` (51) where the
 /// input ends inside a frame; the answers to all frames before it then stand written. `Device` (68)

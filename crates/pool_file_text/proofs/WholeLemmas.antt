@@ -208,7 +208,7 @@ pub end_trails : (bound : ℕ) (a b : Device) (taken : List ℕ) → 0 < length 
 end_trails bound a b taken some c well few = record { gave = more_given a.known b.known taken some c; blames = well; few = λ l. few }
 
 pub end_blames : (bound : ℕ) (a b : Device) → b.faults ≡ counted_on a.faults 1 → b.calls ≤ bound → Reads bound end_at a (Err fault.Device) b
-end_blames bound a b failed few = record { gave = blamed_given end_at a.known b.known; blames = inl (λ below. omega (arith, failed, below)); few = λ l. few }
+end_blames bound a b failed few = record { gave = blamed_given end_at a.known b.known; blames = inl failed; few = λ l. few }
 
 -- ---- the whole
 

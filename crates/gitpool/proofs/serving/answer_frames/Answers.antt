@@ -16,11 +16,11 @@ pub returns-in-Ok-None : goal.returns-in-Ok-None
 returns-in-Ok-None g c =
     let r : Device = seen (g.R.Read.remaining (device_of c.loop.reader)) c.loop.reader in
     let r' : Device = seen (g.R.Read.remaining (device_of c.next.new.reader)) c.next.new.reader in
-    ends_at _ _ _ _ r _ _ _ r' c.loop.invariant.1
+    ends_at _ _ _ _ r _ _ _ r' c.loop.invariant.1 c.loop-test.true
     (subst (λ (o : Option Step). ReadsStep r (Ok o) r') c.in-Ok-None.field-0-is c.in-Ok-None.ensures)
 
 pub returns-in-Err : goal.returns-in-Err
-returns-in-Err g c = fails_at _ _ _ _ _ _ _ _ _ c.in-Err.fault c.loop.invariant.1 c.in-Err.ensures
+returns-in-Err g c = fails_at _ _ _ _ _ _ _ _ _ c.in-Err.fault c.loop.invariant.1 c.loop-test.true c.in-Err.ensures
 
 pub returns-in_err-write_answer : goal.returns-in_err-write_answer
 returns-in_err-write_answer g c =
@@ -29,6 +29,7 @@ returns-in_err-write_answer g c =
     let p = err_from_is_err_and c.from_residual.result c.from_residual.ensures.1 in
     rw (p.1, p.2)
     (write_fails _ _ c.loop.service c.step-answer.new.self _ r _ _ _ r' _ (told_whole c.step-answer.result c.step-answer.new.out.items) c.loop.invariant.1
+    c.loop-test.true
     (taken_by _ _ c.loop.service c.step-answer.new.self _ r _ _ _ r' c.in-Ok-Some.step c.step-answer.result c.loop.out.items c.step-answer.new.out.items c.loop.invariant.1
     (subst (λ (o : Option Step). ReadsStep r (Ok o) r') c.in-Ok-Some.field-0-is c.in-Ok-Some.ensures)
     c.loop.invariant.0 c.step-answer.ensures.own c.step-answer.ensures.bad_names)

@@ -46,4 +46,4 @@ returns g c =
     (seen (g.W.Write.contents (device_of c.write_replies.new.writer)) c.write_replies.new.writer))
     c.self.view_is
     (ends_import _ old _ _ _ _ _ ready (c.finish-ended.ensures.ended ready.sound)
-    c.in_ok-write_replies.ensures.written))
+    c.in_ok-write_replies.ensures.written c.in_ok-write_replies.ensures.well))
