@@ -1,0 +1,136 @@
+"""A Git repository on this machine, asked through git's own plumbing.
+
+Nothing here changes a repository but what its name says. Replace refs and grafts are not followed, so that each name stands for the
+object of that name.
+"""
+from __future__ import annotations
+
+import os
+import subprocess
+import tempfile
+from contextlib import contextmanager
+from typing import IO, Dict, Iterable, Iterator, List, Optional, Sequence, Tuple
+
+# Names that are sent to a batch before its answers are read: together they fit into a pipe.
+_AHEAD = 512
+
+
+class GitError(Exception):
+    """A git command failed. The text is what it said."""
+
+
+class Repository:
+    """The repository that git's environment names, or the one of a folder."""
+
+    def __init__(self, folder: Optional[str] = None):
+        self._words = ["git"] + (["-C", folder] if folder is not None else [])
+        self._environment = dict(os.environ, GIT_NO_REPLACE_OBJECTS="1", GIT_GRAFT_FILE=os.devnull, LC_ALL="C")
+        self._batches: Dict[str, "subprocess.Popen[bytes]"] = {}
+
+    def run(self, *words: str, data: bytes = b"") -> bytes:
+        """What a git command prints. Raises GitError where it does not end in 0."""
+        done = subprocess.run([*self._words, *words], input=data, capture_output=True, env=self._environment)
+        if done.returncode:
+            said = done.stderr.decode(errors="replace").strip()
+            raise GitError(said or f"git {words[0]} ended with status {done.returncode}")
+        return done.stdout
+
+    def start(self, *words: str, stdin: "int | IO[bytes] | None" = subprocess.PIPE,
+              stdout: "int | IO[bytes] | None" = subprocess.PIPE) -> "subprocess.Popen[bytes]":
+        """A git command at work."""
+        return subprocess.Popen([*self._words, *words], stdin=stdin, stdout=stdout, env=self._environment)
+
+    def lines(self, *words: str, data: bytes = b"") -> List[bytes]:
+        """The lines that a git command prints."""
+        return self.run(*words, data=data).splitlines()
+
+    @contextmanager
+    def output(self, words: Sequence[str], data: Iterable[bytes]) -> Iterator[IO[bytes]]:
+        """The output of a git command that reads all of data first. Raises GitError where it ends badly."""
+        with tempfile.TemporaryFile() as given:
+            given.writelines(data)
+            given.seek(0)
+            process = self.start(*words, stdin=given)
+            assert process.stdout
+            with process.stdout:
+                yield process.stdout
+            if process.wait():
+                raise GitError(f"git {words[0]} ended with status {process.returncode}")
+
+    def object_format(self) -> str:
+        """sha1 or sha256."""
+        return self.run("rev-parse", "--show-object-format").decode().strip()
+
+    def git_path(self, name: str) -> str:
+        """The absolute path of a file of the repository's own."""
+        return os.path.abspath(self.run("rev-parse", "--path-format=absolute", "--git-path", name).decode().rstrip("\n"))
+
+    def has_objects(self) -> bool:
+        """Whether there is any object here, loose, packed or borrowed."""
+        told = self.lines("count-objects", "-v")
+        return b"count: 0" not in told or b"in-pack: 0" not in told or any(line.startswith(b"alternate:") for line in told)
+
+    def reachable_commits(self) -> List[bytes]:
+        """The names, in hexadecimal digits, of all commits that a ref or HEAD reaches."""
+        return self.lines("rev-list", "--all", "--ignore-missing", "HEAD") if self._has_head() else self.lines("rev-list", "--all")
+
+    def _has_head(self) -> bool:
+        try:
+            self.run("rev-parse", "--verify", "-q", "HEAD^{commit}")
+            return True
+        except GitError:
+            return False
+
+    def check(self, names: Iterable[bytes]) -> Iterator[Optional[Tuple[bytes, int]]]:
+        """The kind and the size of each object, in turn, or None of one that is not there."""
+        for line in self._ask("--batch-check", names):
+            words = line.split()
+            yield (words[1], int(words[2])) if len(words) == 3 else None
+
+    def contents(self, names: Iterable[bytes]) -> Iterator[Tuple[bytes, bytes, bytes]]:
+        """The name, the kind and the contents of each object, in turn. Raises GitError where one is missing."""
+        out = self._batch("--batch").stdout
+        assert out
+        for line in self._ask("--batch", names):
+            words = line.split()
+            if len(words) != 3:
+                raise GitError(f"{line.decode(errors='replace').strip()} in the local repository")
+            body = out.read(int(words[2]) + 1)
+            yield words[0], words[1], body[:-1]
+
+    def _ask(self, mode: str, names: Iterable[bytes]) -> Iterator[bytes]:
+        batch = self._batch(mode)
+        assert batch.stdin and batch.stdout
+        waiting: List[bytes] = []
+        for name in names:
+            waiting.append(name)
+            if len(waiting) == _AHEAD:
+                yield from self._answers(batch, waiting)
+                waiting = []
+        yield from self._answers(batch, waiting)
+
+    @staticmethod
+    def _answers(batch: "subprocess.Popen[bytes]", names: List[bytes]) -> Iterator[bytes]:
+        assert batch.stdin and batch.stdout
+        if names:
+            batch.stdin.write(b"\n".join(names) + b"\n")
+            batch.stdin.flush()
+        for _ in names:
+            line = batch.stdout.readline()
+            if not line:
+                raise GitError("git cat-file ended early")
+            yield line
+
+    def _batch(self, mode: str) -> "subprocess.Popen[bytes]":
+        if mode not in self._batches:
+            self._batches[mode] = self.start("cat-file", mode)
+        return self._batches[mode]
+
+    def close(self) -> None:
+        """Ends the commands that wait for questions."""
+        for batch in self._batches.values():
+            assert batch.stdin and batch.stdout
+            batch.stdin.close()
+            batch.stdout.close()
+            batch.wait()
+        self._batches.clear()

@@ -1,0 +1,1 @@
+"""Scenes of clients with real git. clients/check runs them."""

@@ -1,0 +1,236 @@
+"""Scenes of `git clone` and `git fetch`."""
+from __future__ import annotations
+
+from .room import Room, os, scene
+
+
+@scene
+def an_empty_tenant(room: Room) -> None:
+    site = room.pushed()
+    done = room.run(["git", "clone", room.url("nobody"), "empty"])
+    assert done.returncode == 0 and b"empty repository" in done.stderr, done.stderr
+    assert room.refs("empty") == {}
+    room.commit("empty", "First", {"a": "a\n"})
+    room.git("empty", "push", "-q", "-u", "origin", "HEAD")
+    room.same("empty", "nobody")
+    room.same(site)
+
+
+@scene
+def a_fetch_asks_for_what_is_missing(room: Room) -> None:
+    site = room.pushed()
+    room.git("", "clone", "-q", room.url(), "copy")
+    room.commit(site, "New", {"css/b.css": "b{}\n"})
+    room.commit(site, "Old", {"index.html": "Hello\n"})
+    new = room.objects(site, "main", "^main~2")
+    room.git(site, "push", "-q", "pool", "main")
+    room.git("copy", "fetch", "-q", GITPOOL=room.recording())
+    asked = {body[4:44] for kind, body in room.recorded() if kind == 4 and body.startswith(b"cat ")}
+    # The old page is here already.
+    assert asked == new - {room.name(site, "main:index.html").encode()}, asked
+    assert room.name("copy", "origin/main") == room.name(site, "main")
+    room.is_sound("copy")
+    room.git("copy", "fetch", "-q", GITPOOL=room.recording())
+    assert not [body for _, body in room.recorded() if body.startswith(b"cat ")]
+
+
+@scene
+def objects_that_no_ref_reaches_are_used(room: Room) -> None:
+    site = room.pushed()
+    room.git("", "clone", "-q", room.url(), "copy")
+    room.commit(site, "New", {"new/a": "a\n", "new/b": "b\n"})
+    room.commit(site, "Newer", {"new/a": "c\n"})
+    room.git(site, "push", "-q", "pool", "main")
+    # The copy has the middle commit without its parent's ref, and a tree without one of its blobs.
+    for name in ("main~1", "main~1^{tree}", "main~1:new", "main:new"):
+        kind = room.git(site, "cat-file", "-t", name).decode().strip()
+        data = room.git(site, "cat-file", kind, name)
+        room.git("copy", "hash-object", "-w", "-t", kind, "--stdin", data=data)
+    room.git("copy", "fetch", "-q")
+    assert room.name("copy", "origin/main") == room.name(site, "main")
+    room.is_sound("copy")
+
+
+@scene
+def the_empty_tree_is_fetched(room: Room) -> None:
+    site = room.pushed()
+    room.git("", "clone", "-q", room.url(), "copy")
+    room.git(site, "rm", "-q", "-r", "css", "index.html")
+    room.commit(site, "Nothing is left")
+    room.commit(site, "Still nothing")
+    room.git(site, "push", "-q", "pool", "main")
+    room.git("copy", "pull", "-q")
+    room.is_sound("copy")
+    assert not os.path.exists(room.path("copy", "css"))
+
+
+@scene
+def fetches_of_all_kinds_of_refs(room: Room) -> None:
+    site = room.pushed()
+    room.git("", "clone", "-q", room.url(), "copy")
+    room.git(site, "switch", "-q", "-c", "topic")
+    room.commit(site, "Topic", {"t": "t\n"})
+    room.git(site, "tag", "-a", "-m", "Tagged", "v2")
+    room.git(site, "tag", "-a", "-m", "Nested", "v3", "v2")
+    room.git(site, "tag", "-a", "-m", "Blob", "vb", room.name(site, "main:index.html"))
+    room.git(site, "push", "-q", "pool", "topic", "v2", "v3", "vb")
+    room.git("copy", "fetch", "-q")
+    assert {"refs/tags/v2", "refs/remotes/origin/topic"} <= set(room.refs("copy"))
+    room.git("copy", "fetch", "-q", "--tags")
+    assert room.refs("copy", "refs/tags") == room.refs(site, "refs/tags")
+    room.is_sound("copy")
+
+
+@scene
+def moved_and_deleted_refs(room: Room) -> None:
+    site = room.pushed()
+    room.git(site, "push", "-q", "pool", "main:refs/heads/gone", "main:refs/heads/moved")
+    room.git("", "clone", "-q", room.url(), "copy")
+    room.commit(site, "Amended", {"m": "m\n"}, "--amend")
+    room.git(site, "push", "-q", "--force", "pool", "main:moved", ":gone", ":light")
+    room.git("copy", "fetch", "-q", "--prune", "--prune-tags")
+    refs = room.refs("copy")
+    assert refs["refs/remotes/origin/moved"] == room.name(site, "main")
+    assert "refs/remotes/origin/gone" not in refs and "refs/tags/light" not in refs
+    room.is_sound("copy")
+
+
+@scene
+def pulls(room: Room) -> None:
+    site = room.pushed()
+    room.git("", "clone", "-q", room.url(), "copy")
+    for count in range(3):
+        room.commit(site, f"Site {count}", {"s": f"{count}\n"})
+        room.git(site, "push", "-q", "pool", "main")
+        room.commit("copy", f"Copy {count}", {"c": f"{count}\n"})
+        room.git("copy", "pull", "-q", "--no-rebase", "--no-edit")
+        room.git("copy", "push", "-q")
+        room.git(site, "pull", "-q", "--ff-only", "pool", "main")
+    assert room.name(site, "main") == room.name("copy", "main")
+    room.same(site)
+
+
+@scene
+def clones_of_all_kinds(room: Room) -> None:
+    site = room.pushed()
+    room.git(site, "push", "-q", "pool", "main~1:refs/heads/other")
+    room.git("", "clone", "-q", "--bare", room.url(), "bare")
+    assert set(room.refs("bare")) == {"refs/heads/main", "refs/heads/other", "refs/tags/light", "refs/tags/v1"}
+    room.git("", "clone", "-q", "--branch", "other", room.url(), "branch")
+    assert room.name("branch", "HEAD") == room.name(site, "main~1")
+    room.git("", "clone", "-q", "--branch", "v1", room.url(), "tag")
+    assert room.name("tag", "HEAD") == room.name(site, "main")
+    room.git("", "clone", "-q", "--single-branch", "--branch", "other", room.url(), "single")
+    assert set(room.refs("single")) == {"refs/heads/other", "refs/remotes/origin/other"}, room.refs("single")
+    room.git("", "clone", "-q", "--no-tags", room.url(), "untagged")
+    assert not room.refs("untagged", "refs/tags")
+    room.git("", "clone", "-q", "--reference", site, room.url(), "borrowing")
+    room.git("", "clone", "-q", "--no-checkout", "-c", "transfer.fsckObjects=true", room.url(), "checked")
+    for name in ("bare", "branch", "tag", "single", "untagged", "borrowing", "checked"):
+        room.is_sound(name)
+
+
+@scene
+def a_clone_of_a_tag_and_a_branch_of_one_name(room: Room) -> None:
+    site = room.pushed()
+    room.git(site, "branch", "v1", "main~1")
+    room.git(site, "push", "-q", "pool", "refs/heads/v1:refs/heads/v1")
+    room.same(site)
+    room.git(site, "push", "-q", "pool", ":refs/heads/v1")
+    assert room.tenant_refs()["refs/tags/v1"] == room.name(site, "refs/tags/v1")
+
+
+@scene
+def lists_of_refs(room: Room) -> None:
+    site = room.pushed()
+    listed = room.git("", "ls-remote", room.url()).decode().splitlines()
+    main, tag = room.name(site, "main"), room.name(site, "v1")
+    assert listed == [f"{main}\tHEAD", f"{main}\trefs/heads/main", f"{main}\trefs/tags/light", f"{tag}\trefs/tags/v1",
+                      f"{main}\trefs/tags/v1^{{}}"], listed
+    assert room.git("", "ls-remote", "--symref", room.url(), "HEAD").decode().startswith("ref: refs/heads/main\tHEAD\n")
+    assert b"HEAD branch: main" in room.git(site, "remote", "show", "pool")
+    room.git("", "clone", "-q", room.url(), "copy")
+    room.git("copy", "remote", "set-head", "origin", "--auto")
+    room.git("copy", "remote", "prune", "origin")
+
+
+@scene
+def a_fetch_by_name(room: Room) -> None:
+    site = room.pushed()
+    room.init("copy")
+    main = room.name(site, "main")
+    room.git("copy", "fetch", "-q", room.url(), "refs/heads/main:refs/heads/here", "refs/tags/v1:refs/tags/there")
+    assert room.name("copy", "here") == main
+    room.is_sound("copy")
+
+
+@scene
+def progress_as_git_shows_it(room: Room) -> None:
+    site = room.pushed()
+    done = room.run(["git", "clone", "--progress", room.url(), "copy"])
+    assert b"Receiving objects: 100%" in done.stderr, done.stderr
+    room.commit(site, "More", {"m": "m\n"})
+    done = room.run(["git", "push", "--progress", "pool", "main"], site)
+    assert b"Writing objects: 100% (2/2), done." in done.stderr, done.stderr
+    for words in (["clone", room.url(), "quiet"], ["clone", "-q", "--progress", room.url(), "quieter"]):
+        said = room.run(["git", *words]).stderr
+        assert b"objects" not in said, said
+
+
+@scene
+def shallow_clones_are_refused(room: Room) -> None:
+    room.pushed()
+    room.fails("", "clone", "--depth", "1", room.url(), "shallow", says="shallow and partial clones are not served")
+    assert not os.path.exists(room.path("shallow"))
+    room.fails("", "clone", "--filter=blob:none", room.url(), "partial", says="shallow and partial clones are not served")
+
+
+@scene
+def a_shallow_repository_may_push(room: Room) -> None:
+    site = room.pushed()
+    room.git("", "clone", "-q", "--depth", "1", "file://" + room.path(site), "shallow")
+    room.commit("shallow", "On top", {"top": "t\n"})
+    room.git("shallow", "push", "-q", room.url(), "HEAD:refs/heads/top")
+    room.git(site, "fetch", "-q", "pool", "top:top")
+    room.same(site)
+    room.fails("shallow", "push", room.url("another"), "HEAD:refs/heads/top", says="not shallow")
+    assert room.tenant_refs("another") == {}
+
+
+@scene
+def two_tenants(room: Room) -> None:
+    site = room.pushed()
+    other = room.init("other")
+    room.commit(other, "A page", {"index.html": "Hello\n"})
+    secret = room.commit(other, "A secret", {"secret": "secret\n"})
+    room.git(other, "push", "-q", room.url("acme/other"), "main")
+    room.same(site)
+    room.same(other, "acme/other")
+    assert secret not in room.git("", "ls-remote", room.url()).decode()
+    # By its name alone nobody gets what is another's: not by a fetch, and not by a stream.
+    room.fails(site, "fetch", "pool", secret, says="")
+    assert room.run(["git", "cat-file", "-e", secret], site).returncode != 0
+    stream = f"commit refs/heads/thief\ncommitter A <a@b> 1 +0000\ndata 0\nfrom {secret}\n".encode()
+    done = room.client("gitpool-import", "-", "acme/site", "--pool", room.pool, data=stream, status=1)
+    assert b"line 4: from" in done.stderr and b"fault 16" in done.stderr, done.stderr
+    room.same(site)
+
+
+@scene
+def a_long_history(room: Room) -> None:
+    stream, count = [], 400
+    for it in range(count):
+        stream.append(f"blob\nmark :{2 * it + 1}\ndata 9\nfile {it:4}\n")
+        stream.append(f"commit refs/heads/main\nmark :{2 * it + 2}\ncommitter A <a@b> {1700000000 + it} +0000\ndata 5\n{it:5}\n")
+        stream.append(f"M 644 :{2 * it + 1} d{it % 7}/e{it % 5}/f{it % 40}\n")
+        if it % 50 == 49:
+            stream.append(f"D d{it % 7}/e{it % 5}/f{it % 40}\nM 755 :{2 * it + 1} new{it}\n")
+    room.imported("long", "".join(stream).encode())
+    room.git("long", "push", "-q", room.url(), "main")
+    mirror = room.same("long")
+    assert room.git(mirror, "rev-list", "--count", "main").split() == [str(count).encode()]
+    room.git("", "clone", "-q", room.url(), "copy")
+    room.commit("copy", "One more", {"d1/e1/f1": "x\n"})
+    room.git("copy", "push", "-q")
+    room.git("long", "fetch", "-q", room.url(), "main:main")
+    room.same("long")

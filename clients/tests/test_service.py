@@ -1,0 +1,157 @@
+"""A service over the program that GITPOOL names."""
+import os
+import shutil
+import tempfile
+import unittest
+from typing import Callable, List, Tuple
+
+from gitpool import Fault, Kind, PoolBusy, Service, ServiceError, Step
+
+BLOB = b"blob\nmark :1\ndata 6\nhello\n\nget-mark :1\n"
+NAME = "ce013625030ba8dba906f756967f9e9ca394464a"
+COMMIT = b"commit refs/heads/main\ncommitter A <a@b> 1 +0000\ndata 2\nm\nM 644 inline a/b\ndata 2\nx\n"
+
+
+class OverAPool(unittest.TestCase):
+    def setUp(self) -> None:
+        self.folder = tempfile.mkdtemp()
+        self.addCleanup(shutil.rmtree, self.folder)
+        self.pool = os.path.join(self.folder, "all.pool")
+
+    def test_pieces_of_any_size(self) -> None:
+        with Service() as service:
+            for size in (1, 2, 7, len(BLOB)):
+                service.open("t")
+                told = [service.feed("t", BLOB[at : at + size]) for at in range(0, len(BLOB), size)]
+                self.assertEqual(b"".join(told) + service.end("t"), NAME.encode() + b"\n")
+
+    def test_replies_come_while_a_stream_runs(self) -> None:
+        with Service() as service:
+            service.open(b"t")
+            self.assertEqual(service.feed(b"t", b"progress one\nprog"), b"progress one\n")
+            self.assertEqual(service.feed(b"t", b"ress two\n"), b"progress two\n")
+            self.assertEqual(service.end(b"t"), b"")
+
+    def test_an_import_is_saved_at_the_close(self) -> None:
+        with Service(self.pool) as service:
+            service.import_stream("acme/site", [BLOB, COMMIT])
+        with Service(self.pool) as service:
+            (ref,) = service.refs("acme/site")
+            self.assertEqual(ref.name, b"refs/heads/main")
+            self.assertEqual(service.head("acme/site"), b"refs/heads/main")
+            self.assertEqual(service.resolve("acme/site", "main"), ref.target)
+            self.assertEqual([it.subject for it in service.log("acme/site", "main")], [b"m"])
+            (entry,) = service.tree("acme/site", "main:a")
+            self.assertEqual((entry.name, entry.mode, entry.kind), (b"b", 0o100644, "blob"))
+            self.assertEqual(service.object("acme/site", entry.object).contents, b"x\n")
+            self.assertIn(b"reset refs/heads/main\n", service.export("acme/site"))
+            self.assertEqual(b"".join(service.ask_in_pieces("acme/site", "export", 7)), service.export("acme/site"))
+
+    def test_nothing_is_saved_by_a_kill_or_after_an_exception(self) -> None:
+        service = Service(self.pool)
+        service.import_stream("t", [BLOB])
+        service.kill()
+        self.assertEqual(os.listdir(self.folder), [])
+        with self.assertRaises(KeyError), Service(self.pool) as service:
+            service.import_stream("t", [BLOB])
+            raise KeyError
+        self.assertEqual(os.listdir(self.folder), [])
+
+    def test_faults(self) -> None:
+        with Service(self.pool) as service:
+            calls: List[Tuple[int, Callable[[], object]]] = [
+                (30, lambda: service.feed("t", b"")), (30, lambda: service.end("t")), (32, lambda: service.open("a//b")),
+                (16, lambda: service.ask("t", "rev-parse main")), (40, lambda: service.ask("t", "what")),
+                (41, lambda: service.ask("t", "cat")), (2, lambda: service.import_stream("t", [b"what\n"])),
+                (6, lambda: service.import_stream("t", [b"blob\ndata 5\n"])),
+            ]
+            for number, call in calls:
+                with self.assertRaises(Fault) as caught:
+                    call()
+                self.assertEqual(caught.exception.number, number)
+            # The refused streams were closed.
+            service.open("t")
+            with self.assertRaises(Fault) as caught:
+                service.open("t")
+            self.assertEqual(caught.exception.number, 31)
+            service.restart()
+            service.open("t")
+
+    def test_many_questions(self) -> None:
+        with Service() as service:
+            service.import_stream("t", [BLOB])
+            asked = [b"rev-parse " + NAME.encode(), b"what"] * 3000
+            answers = list(service.ask_many("t", asked))
+            self.assertEqual([it.status for it in answers], [0, 1] * 3000)
+            self.assertEqual(list(service.objects("t", [NAME.encode()] * 2000)), [(b"blob", b"hello\n")] * 2000)
+            self.assertEqual(list(service.ask_many("t", [])), [])
+            with self.assertRaises(Fault):
+                list(service.objects("t", [b"1" * 40]))
+
+    def test_told_while_importing(self) -> None:
+        with Service() as service:
+            calls: List[Tuple[int, bytes]] = []
+            service.import_stream("t", [BLOB], 20, lambda fed, reply: calls.append((fed, reply)))
+            self.assertEqual([fed for fed, _ in calls], [20, 39])
+            self.assertEqual(calls[-1][1], NAME.encode() + b"\n")
+
+    def test_one_run_at_a_time(self) -> None:
+        with Service(self.pool) as service:
+            service.import_stream("t", [BLOB])
+            with self.assertRaises(PoolBusy) as caught:
+                with Service(self.pool) as second:
+                    second.head("t")
+            self.assertEqual(caught.exception.status, 4)
+            self.assertIn("try again", str(caught.exception))
+        with Service(self.pool) as service, Service(self.pool, read_only=True) as reader:
+            service.import_stream("t", [COMMIT])
+            self.assertEqual(reader.refs("t"), [])
+            self.assertEqual(len(service.refs("t")), 1)
+
+    def test_a_reader_changes_nothing(self) -> None:
+        with Service(self.pool) as service:
+            service.import_stream("t", [BLOB])
+        with open(self.pool, "rb") as file:
+            before = file.read()
+        with Service(self.pool, read_only=True) as reader:
+            reader.import_stream("t", [COMMIT])
+        with open(self.pool, "rb") as file:
+            self.assertEqual(file.read(), before)
+        self.assertEqual(os.listdir(self.folder), ["all.pool"])
+
+    def test_why_a_service_ends(self) -> None:
+        with open(self.pool, "wb") as file:
+            file.write(b"gitpool?")
+        for pool, status, number, says in (
+            (self.pool, 3, 60, "no pool file"), (self.folder, 4, 68, "folder"), (os.path.join(self.folder, "no", "pool"), 4, 68, "not there"),
+        ):
+            with self.assertRaises(ServiceError) as caught:
+                with Service(pool) as service:
+                    service.head("t")
+            self.assertEqual((caught.exception.status, caught.exception.number), (status, number))
+            self.assertIn(says, str(caught.exception))
+        with self.assertRaises(ServiceError) as caught:
+            Service(self.pool, os.path.join(self.folder, "none"))
+        self.assertEqual(caught.exception.status, 127)
+
+    def test_a_program_that_writes_no_answers(self) -> None:
+        for words in (["cat"], ["sh", "-c", "printf too-short"], ["true"], ["sh", "-c", "exit 3"]):
+            with self.assertRaises(ServiceError):
+                with Service(command=words) as service:
+                    service.step(Step(Kind.ASK, b"t", b"rev-parse " + b"1" * 40))
+        with self.assertRaises(ServiceError) as caught:
+            with Service(command=["sh", "-c", "echo went wrong >&2; exit 9"]) as service:
+                service.head("t")
+        self.assertEqual((caught.exception.status, str(caught.exception)), (9, "went wrong"))
+
+    def test_a_closed_service(self) -> None:
+        service = Service(self.pool)
+        service.close()
+        service.close()
+        service.kill()
+        with self.assertRaises(ServiceError):
+            service.head("t")
+
+
+if __name__ == "__main__":
+    unittest.main()
