@@ -1,4 +1,6 @@
-pub mod Fronts
+pub mod NameDigits
+pub mod Prefixes
+pub mod ShortestPrefixes
 pub mod Kept
 mod Messages
 mod QueryExamples

@@ -14,7 +14,7 @@ use Rattle.answers.specs.declared.fault.Fault.{Fault}
 use Rattle.answers.specs.declared.fault.Fault.TheVariants as fault
 use Rattle.answers.specs.Faults.{and_then, resolved_or}
 use Rattle.answers.specs.Queries.{query_of}
-use Rattle.answers.specs.Printed.{line, name_line, shortest_front, object_text, tree_lines, log_lines, ref_lines}
+use Rattle.answers.specs.Printed.{line, name_line, shortest_prefix, object_text, tree_lines, log_lines, ref_lines}
 
 -- What an expression names, and the tree that it is peeled to.
 abbrev pub object_asked : Repository → Expression → Result (List ℕ) Fault
@@ -38,7 +38,7 @@ export_asked repository =
 -- What a query prints, or what refuses it.
 abbrev pub told : Repository → Query → Result (List ℕ) Fault
 told r (RevParse of) = and_then (object_asked r of) (λ id. Ok (name_line id))
-told r (Abbrev of) = and_then (object_asked r of) (λ id. Ok (line (shortest_front r.objects id)))
+told r (Abbrev of) = and_then (object_asked r of) (λ id. Ok (line (shortest_prefix r.objects id)))
 told r (Cat of) = and_then (object_asked r of) (λ id. Ok (object_text r.objects id))
 told r (Ls of) = and_then (tree_asked r of) (λ tree. Ok (tree_lines r.objects tree))
 told r (Log of) = and_then (log_asked r of) (λ ids. Ok (log_lines r.objects ids))

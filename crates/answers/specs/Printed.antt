@@ -1,9 +1,10 @@
 -- What is printed of objects and refs: git-rev-parse(1), git-cat-file(1), git-ls-tree(1),
 -- git-log(1), git-show-ref(1).
-use Rattle.std.specs.Prelude.{ℕ, ◌||◌, not, Bool, List, ◌++◌, length, map, take, find, unwrap_or, codes, decimal}
+use Rattle.std.specs.Prelude.{◌≡◌, ℕ, ◌≤◌, ◌||◌, not, Bool, List, ◌++◌, length, map, take, find, unwrap_or, All, codes, decimal}
 use Rattle.std.specs.List.{flat_map, list_all, range_with_len}
 use Rattle.std.specs.Str.{bytes_eq}
 use Rattle.hex.specs.Hex.{encode_lower}
+use Rattle.git_model.specs.Bytes.{BeginsWith}
 use Rattle.git_model.specs.Kind.{kind_word}
 use Rattle.git_model.specs.CommitReading.{commit_read, first_line}
 use Rattle.git_model.specs.Content.{Content}
@@ -26,14 +27,26 @@ name_line id = line (encode_lower id)
 
 -- Whether digits begin no other name of these objects than this one.
 abbrev pub begins_no_other : List Object → List ℕ → List ℕ → Bool
-begins_no_other os id front = list_all (λ o. bytes_eq o.id id || not (begins front o.id)) os
+begins_no_other os id prefix = list_all (λ o. bytes_eq o.id id || not (begins prefix o.id)) os
 
--- The shortest front of a name, of 4 to 40 digits, that begins no other: with all 40 it begins
+-- The shortest prefix of a name, of 4 to 40 digits, that begins no other: with all 40 it begins
 -- none.
-unfoldable pub shortest_front : List Object → List ℕ → List ℕ
-shortest_front os id = let digits = encode_lower id in
-    let fronts = map (λ n. take n digits) (range_with_len 4 37) in
-    unwrap_or (find (begins_no_other os id) fronts) digits
+unfoldable pub shortest_prefix : List Object → List ℕ → List ℕ
+shortest_prefix os id = let digits = encode_lower id in
+    let prefixes = map (λ n. take n digits) (range_with_len 4 37) in
+    unwrap_or (find (begins_no_other os id) prefixes) digits
+
+-- A prefix of a name is unique where no other name of these objects begins with it. It has at
+-- least 4 digits.
+pub record IsUniquePrefix (os : List Object) (id prefix : List ℕ) : Type 0 where
+  pub begins : BeginsWith (encode_lower id) prefix
+  pub digits : 4 ≤ length prefix
+  pub no_other : All (λ o. BeginsWith (encode_lower o.id) prefix → o.id ≡ id) os
+
+-- The shortest one: no unique prefix of the name has fewer digits.
+pub record IsShortestPrefix (os : List Object) (id prefix : List ℕ) : Type 0 where
+  pub unique : IsUniquePrefix os id prefix
+  pub shortest : (other : List ℕ) → IsUniquePrefix os id other → length prefix ≤ length other
 
 -- ---- cat, ls, log, refs
 

@@ -3,7 +3,7 @@
 ghost use Rattle.std.specs.Prelude.{◌≡◌, ◌≤◌, take};
 ghost use Rattle.hex.specs.Hex.{encode_lower};
 ghost use Rattle.git_model.specs.GoodRepository.{AreObjects};
-ghost use Rattle.answers.specs.Printed.{begins_no_other, shortest_front};
+ghost use Rattle.answers.specs.Printed.{begins_no_other, shortest_prefix};
 
 use git_objects::{Name, Naming, has_twenty_bytes};
 use objects_in_sight::Objects;
@@ -30,10 +30,10 @@ fn begins_no_other<N: Naming>(objects: &Objects<'_, N>, id: &Name, digits: usize
 
 /// How many digits the shortest prefix of a name has that begins no other name of these objects: 4
 /// to 40. Takes no memory.
-#[tactic(auto, unfolding(crate::specs::Printed::shortest_front))]
-pub fn shortest_front<N: Naming>(objects: &Objects<'_, N>, id: &Name) -> usize
-    ensures front { AreObjects N.digest_of objects.now
-        → take result (encode_lower id.now) ≡ shortest_front objects.now id.now }
+#[tactic(auto, unfolding(crate::specs::Printed::shortest_prefix))]
+pub fn shortest_prefix<N: Naming>(objects: &Objects<'_, N>, id: &Name) -> usize
+    ensures prefix { AreObjects N.digest_of objects.now
+        → take result (encode_lower id.now) ≡ shortest_prefix objects.now id.now }
     ensures digits { result ≤ ALL_DIGITS }
 {
     has_twenty_bytes(id);

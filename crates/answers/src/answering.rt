@@ -9,9 +9,9 @@ ghost use Rattle.tenant_tables.specs.declared.sight.Sight.TheVariants.{Committed
 ghost use Rattle.revisions.specs.FirstParents.{IsFirstParentChain};
 ghost use Rattle.answers.specs.Answers.{answer_to, export_asked, log_asked, object_asked, told, tree_asked};
 ghost use Rattle.answers.specs.Faults.{Gives, Prints, and_then};
-ghost use Rattle.answers.specs.Printed.{line, log_lines, name_line, object_text, shortest_front, tree_lines};
+ghost use Rattle.answers.specs.Printed.{line, log_lines, name_line, object_text, shortest_prefix, tree_lines};
 
-use crate::abbreviating::shortest_front;
+use crate::abbreviating::shortest_prefix;
 use crate::fault::Fault;
 use crate::log_printing::append_log;
 use crate::object_printing::{append_object, append_tree};
@@ -46,7 +46,7 @@ fn resolve<N: Naming>(
     Ok(id)
 }
 
-fn tell_front<N: Naming>(
+fn tell_prefix<N: Naming>(
     alloc: Global,
     objects: &Objects<'_, N>,
     refs: &Refs,
@@ -57,13 +57,13 @@ fn tell_front<N: Naming>(
     ensures told { AreObjects N.digest_of objects.now → IsFirstParentChain objects.now chain.old
         → Prints
         (and_then (object_asked (record { objects = objects.now; refs = refs.now }) of.now)
-        (λ id. Ok (line (shortest_front objects.now id)))) out.old.items out.new.items result }
+        (λ id. Ok (line (shortest_prefix objects.now id)))) out.old.items out.new.items result }
     ensures kept { take (length out.old.items) out.new.items ≡ out.old.items }
     ensures chain { AreObjects N.digest_of objects.now → IsFirstParentChain objects.now chain.old
         → IsFirstParentChain objects.now chain.new }
 {
     let id = resolve(alloc, objects, refs, chain, of)?;
-    let digits = shortest_front(objects, &id);
+    let digits = shortest_prefix(objects, &id);
     append_line(&id.to_hex()[..digits], out)?;
     Ok(())
 }
@@ -189,7 +189,7 @@ fn tell<N: Naming>(
 {
     match query {
         Query::RevParse(of) => tell_name(alloc, objects, refs, chain, of, out),
-        Query::Abbrev(of) => tell_front(alloc, objects, refs, chain, of, out),
+        Query::Abbrev(of) => tell_prefix(alloc, objects, refs, chain, of, out),
         Query::Cat(of) => tell_object(alloc, objects, refs, chain, of, out),
         Query::Ls(of) => tell_tree(alloc, objects, refs, chain, of, out),
         Query::Log(range) => tell_log(alloc, objects, refs, chain, range, out),
@@ -265,31 +265,57 @@ fn tell_committed<N: Naming>(
 /// `Fault::MalformedQuery` (41); then `Fault::WrongKind` (15), `Fault::UnknownRevision` (16) and
 /// `Fault::Ambiguous` (17) in the order in which expressions are decided; `Fault::Limit` (25) where
 /// there are too many refs to be exported (export_text). Takes memory for the answer, to read what
-/// it passes, and to keep the commits of `~<n>` in the chain; `Fault::Memory` (90) where there is
-/// none. After a refusal `out` is unchanged.
+/// it passes, and for the commits that `~<n>` meets; `Fault::Memory` (90) where there is none.
+/// After a refusal `out` is unchanged.
 ///
 /// The pool is the one that the table stands in. The answer is the defined one where the committed
-/// objects are good (AreObjects of git_model) and the chain is one of theirs, be it empty. A chain
-/// that a call leaves serves the next one over the same objects.
+/// objects are good (AreObjects of git_model).
 pub fn answer<N: Naming>(
     alloc: Global,
     pool: &Pool<N>,
     table: &Table,
     refs: &Refs,
+    query: &[u8],
+    out: &mut Vec<u8>,
+) -> Result<(), Fault>
+    requires { StandsIn N.digest_of pool.now table.now.entries }
+    ensures told { let os = objects pool.now (in_sight Committed table.now) in
+        AreObjects N.digest_of os → Prints
+        (answer_to (record { objects = os; refs = refs.now }) query.now)
+        out.old.items out.new.items result }
+    ensures same { OnErr result (out.new.items ≡ out.old.items) }
+{
+    let mut chain = FirstParentChain::new(alloc);
+    let answered = answer_along(alloc, pool, table, refs, &mut chain, query, out);
+    drop(chain);
+    answered
+}
+
+/// `answer` for a caller that asks often: it keeps a chain of first parents, along which `~<n>` goes
+/// without reading the commits that the query before it met.
+///
+/// The answer and the refusals are those of `answer` where the chain is one of the committed
+/// objects, be it empty. It stays one of theirs, and has the commits that this query met. Who
+/// changes the objects clears it.
+pub fn answer_along<N: Naming>(
+    alloc: Global,
+    pool: &Pool<N>,
+    table: &Table,
+    refs: &Refs,
     chain: &mut FirstParentChain,
-    text: &[u8],
+    query: &[u8],
     out: &mut Vec<u8>,
 ) -> Result<(), Fault>
     requires { StandsIn N.digest_of pool.now table.now.entries }
     ensures told { let os = objects pool.now (in_sight Committed table.now) in
         AreObjects N.digest_of os → IsFirstParentChain os chain.old → Prints
-        (answer_to (record { objects = os; refs = refs.now }) text.now)
+        (answer_to (record { objects = os; refs = refs.now }) query.now)
         out.old.items out.new.items result }
     ensures same { OnErr result (out.new.items ≡ out.old.items) }
     ensures chain { let os = objects pool.now (in_sight Committed table.now) in
         AreObjects N.digest_of os → IsFirstParentChain os chain.old
         → IsFirstParentChain os chain.new }
 {
-    let query = read_query(alloc, text)?;
+    let query = read_query(alloc, query)?;
     tell_committed(alloc, pool, table, refs, chain, &query, out)
 }

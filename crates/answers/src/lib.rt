@@ -4,6 +4,7 @@
 mod abbreviating;
 mod answering;
 mod fault;
+pub mod laws;
 mod log_printing;
 mod object_printing;
 mod printing;
@@ -11,7 +12,7 @@ mod query;
 mod query_reading;
 mod ref_printing;
 
-pub use answering::answer;
+pub use answering::{answer, answer_along};
 pub use fault::Fault;
 pub use query::Query;
 pub use query_reading::read_query;

@@ -7,7 +7,7 @@ ghost use Rattle.std.specs.Prelude.{◌≡◌, ◌+◌, ◌<◌, ◌==◌, ◌�
 ghost use Rattle.std.specs.Prelude.{IsTrue, OnOk, OnErr, position};
 ghost use Rattle.content_pool.specs.Index.{times};
 
-use git_objects::Memory;
+use git_names::Memory;
 use smallvec::SmallVec;
 use std::alloc::Global;
 use std::marker::Model;

@@ -2,7 +2,7 @@
 
 ghost use Rattle.std.specs.Prelude.{◌≡◌, IfOk};
 
-use git_objects::Memory;
+use git_names::Memory;
 use std::alloc::Global;
 use std::marker::Model;
 

@@ -5,7 +5,7 @@ ghost use Rattle.std.specs.Prelude.{◌≡◌, ◌<◌, [], IsTrue, OnOk, OnErr}
 ghost use Rattle.content_pool.specs.Index.{bucket, times, Notes, Forgets, SameBuckets};
 
 use crate::bucket::Bucket;
-use git_objects::{Memory, Name};
+use git_names::{Memory, Name};
 use std::alloc::Global;
 use std::collections::HashMap;
 

@@ -25,7 +25,7 @@ use crate::index::{forget, note};
 use crate::slot::Slot;
 use crate::stored::Stored;
 use git_model::Kind;
-use git_objects::{Memory, Name, Naming, name_of};
+use git_names::{Memory, Name, Naming, name_of};
 use slab::Slab;
 use std::alloc::Global;
 use std::collections::HashMap;

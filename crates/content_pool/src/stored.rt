@@ -6,7 +6,7 @@ ghost use Rattle.content_pool.specs.Pool.{content_of};
 
 use crate::bytes::Bytes;
 use git_model::Kind;
-use git_objects::Name;
+use git_names::Name;
 
 /// A content, the object name that it is found by, and how often it is held. The name is kept, for
 /// `release` takes no memory and a digest may.

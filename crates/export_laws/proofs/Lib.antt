@@ -40,3 +40,4 @@ pub mod EndCarried
 pub mod EndGoesOn
 pub mod EndLast
 pub mod EndImported
+pub mod OneCommit

@@ -1,6 +1,6 @@
 -- In reading order: acts that are carried out in turn, and what they leave of exported objects; a
 -- commit while it is told; what stands once all is saved, and that all is; copies of repositories;
--- where an import ends; and files that are put one by one.
+-- where an import ends; files that are put one by one; and a repository as an example.
 pub mod Leaving
 pub mod Told
 pub mod Commits
@@ -9,3 +9,4 @@ pub mod Whole
 pub mod Copies
 pub mod Ends
 pub mod Putting
+pub mod OneCommit

@@ -3,4 +3,5 @@
 //! What the commands of an export leave where they are carried out in an empty repository.
 #![tactic(auto)]
 
+pub mod examples;
 pub mod laws;

@@ -1,6 +1,6 @@
 //! Object names, beside `git hash-object` and the examples of FIPS 180-4.
 
-use git_names::{Kind, Memory, Name, Naming, Sha1Naming, TailNaming, name_of};
+use git_names::{Kind, Name, Naming, Sha1Naming, TailNaming, name_of};
 use std::alloc::Global;
 
 // A tree of one entry, `100644 test.txt`, whose blob is `version 1 LF`.
@@ -37,23 +37,28 @@ const DIGESTED: &[(&[u8], &[u8; 40])] = &[
     ),
 ];
 
-fn name_in_digits<N: Naming>(
+// Whether contents have the name of these digits.
+fn is_named<N: Naming>(
     alloc: Global,
     naming: &N,
     kind: Kind,
     contents: &[u8],
-) -> Result<[u8; 40], Memory> {
-    Ok(name_of(alloc, naming, kind, contents)?.to_hex())
+    digits: &[u8; 40],
+) -> bool {
+    match name_of(alloc, naming, kind, contents) {
+        Ok(id) => id.to_hex() == *digits,
+        Err(_) => false,
+    }
 }
 
 // The first contents that are named otherwise, by their place.
-fn first_named_otherwise(alloc: Global) -> Result<Option<usize>, Memory> {
+fn first_named_otherwise(alloc: Global) -> Option<usize> {
     for (place, (kind, contents, digits)) in NAMED.iter().enumerate() {
-        if name_in_digits(alloc, &Sha1Naming, *kind, contents)? != **digits {
-            return Ok(Some(place));
+        if !is_named(alloc, &Sha1Naming, *kind, contents, digits) {
+            return Some(place);
         }
     }
-    Ok(None)
+    None
 }
 
 // The first message that is digested otherwise, by its place.
@@ -67,10 +72,10 @@ fn first_digested_otherwise() -> Option<usize> {
 }
 
 // `blob 2 NUL ab` has the sum 692, which is 0xb4 modulo 256.
-fn are_named_by_their_tail(alloc: Global) -> Result<bool, Memory> {
-    let ab = name_in_digits(alloc, &TailNaming, Kind::Blob, b"ab")?;
-    let ba = name_in_digits(alloc, &TailNaming, Kind::Blob, b"ba")?;
-    Ok(ab == *b"abababababababababababababababababababb4" && ba == ab)
+fn are_named_by_their_tail(alloc: Global) -> bool {
+    let digits = b"abababababababababababababababababababb4";
+    is_named(alloc, &TailNaming, Kind::Blob, b"ab", digits)
+        && is_named(alloc, &TailNaming, Kind::Blob, b"ba", digits)
 }
 
 fn reads_either_case() -> bool {
@@ -85,9 +90,8 @@ fn reads_no_other_digits() -> bool {
 }
 
 #[test]
-fn names_objects_as_git_does(rt: HostRuntime) -> Result<(), Memory> {
-    assert_eq!(rt; first_named_otherwise(rt.alloc())?, None);
-    Ok(())
+fn names_objects_as_git_does(rt: HostRuntime) {
+    assert_eq!(rt; first_named_otherwise(rt.alloc()), None);
 }
 
 #[test]
@@ -96,9 +100,8 @@ fn digests_as_the_standard_does(rt: HostRuntime) {
 }
 
 #[test]
-fn gives_two_contents_one_name_by_their_tail(rt: HostRuntime) -> Result<(), Memory> {
-    assert!(rt; are_named_by_their_tail(rt.alloc())?);
-    Ok(())
+fn gives_two_contents_one_name_by_their_tail(rt: HostRuntime) {
+    assert!(rt; are_named_by_their_tail(rt.alloc()));
 }
 
 #[test]

@@ -1,6 +1,5 @@
 //! Trees and tags that are refused, beside those that are read.
 
-use git_names::Memory;
 use git_objects::{
     FileMode, TreeEntry, is_entry_name, mode_digits, read_mode, read_tag, read_tree,
 };
@@ -41,15 +40,18 @@ const TAGS: &[(&[u8], bool)] = &[
     ),
 ];
 
-fn is_tree(alloc: Global, contents: &[u8]) -> Result<bool, Memory> {
-    Ok(read_tree(alloc, contents)?.is_some())
+// Whether contents are those of a tree; none where memory ran out.
+fn is_tree(alloc: Global, contents: &[u8]) -> Option<bool> {
+    match read_tree(alloc, contents) {
+        Ok(entries) => Some(entries.is_some()),
+        Err(_) => None,
+    }
 }
 
-fn is_tag(alloc: Global, contents: &[u8]) -> Result<bool, Memory> {
+fn is_tag(alloc: Global, contents: &[u8]) -> Option<bool> {
     match read_tag(alloc, contents) {
-        Ok(Some(_)) => Ok(true),
-        Ok(None) => Ok(false),
-        Err(memory) => Err(memory),
+        Ok(parts) => Some(parts.is_some()),
+        Err(_) => None,
     }
 }
 
@@ -65,31 +67,31 @@ fn are_in_order(entries: &[TreeEntry<'_>]) -> bool {
 }
 
 // Whether a file comes before a directory whose name it begins with.
-fn has_the_file_first(alloc: Global) -> Result<bool, Memory> {
-    match read_tree(alloc, FILE_FIRST)? {
-        Some(entries) => Ok(are_in_order(&entries)),
-        None => Ok(false),
+fn has_the_file_first(alloc: Global) -> bool {
+    match read_tree(alloc, FILE_FIRST) {
+        Ok(Some(entries)) => are_in_order(&entries),
+        _ => false,
     }
 }
 
 // The first text that is a tree or none against the table, by its place.
-fn first_tree_otherwise(alloc: Global) -> Result<Option<usize>, Memory> {
+fn first_tree_otherwise(alloc: Global) -> Option<usize> {
     for (place, (contents, is_well)) in TREES.iter().enumerate() {
-        if is_tree(alloc, contents)? != *is_well {
-            return Ok(Some(place));
+        if is_tree(alloc, contents) != Some(*is_well) {
+            return Some(place);
         }
     }
-    Ok(None)
+    None
 }
 
 // The same of tags.
-fn first_tag_otherwise(alloc: Global) -> Result<Option<usize>, Memory> {
+fn first_tag_otherwise(alloc: Global) -> Option<usize> {
     for (place, (contents, is_well)) in TAGS.iter().enumerate() {
-        if is_tag(alloc, contents)? != *is_well {
-            return Ok(Some(place));
+        if is_tag(alloc, contents) != Some(*is_well) {
+            return Some(place);
         }
     }
-    Ok(None)
+    None
 }
 
 fn are_modes() -> bool {
@@ -98,19 +100,16 @@ fn are_modes() -> bool {
 }
 
 #[test]
-fn reads_trees_alone(rt: HostRuntime) -> Result<(), Memory> {
-    assert_eq!(rt; first_tree_otherwise(rt.alloc())?, None);
-    Ok(())
+fn reads_trees_alone(rt: HostRuntime) {
+    assert_eq!(rt; first_tree_otherwise(rt.alloc()), None);
 }
 
 #[test]
-fn reads_a_file_before_a_directory_and_their_modes(rt: HostRuntime) -> Result<(), Memory> {
-    assert!(rt; has_the_file_first(rt.alloc())? && are_modes());
-    Ok(())
+fn reads_a_file_before_a_directory_and_their_modes(rt: HostRuntime) {
+    assert!(rt; has_the_file_first(rt.alloc()) && are_modes());
 }
 
 #[test]
-fn refuses_tags_of_trees_and_names_of_no_ref(rt: HostRuntime) -> Result<(), Memory> {
-    assert_eq!(rt; first_tag_otherwise(rt.alloc())?, None);
-    Ok(())
+fn refuses_tags_of_trees_and_names_of_no_ref(rt: HostRuntime) {
+    assert_eq!(rt; first_tag_otherwise(rt.alloc()), None);
 }

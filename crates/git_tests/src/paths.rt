@@ -1,8 +1,7 @@
 //! Paths: read, printed, taken apart and put together, each beside bytes derived by hand.
 
-use git_paths::{Fault, Path, Place, is_component, quote_into};
+use git_paths::{Path, Place, is_component, quote_into};
 use std::alloc::{AllocError, Global};
-use std::test::Fail;
 
 // A quoted path and its bytes, which are printed so.
 const QUOTED: &[(&[u8], &[u8])] = &[
@@ -47,9 +46,11 @@ const DEEP: &[(usize, u16, bool)] = &[(256, 0, true), (257, 25, false)];
 
 const COMPONENTS: &[&[u8]] = &[b"a", b"bc", b"d"];
 
-fn read_last(alloc: Global, text: &[u8]) -> Result<Path, Fault> {
-    let (path, _) = Path::read(alloc, text, Place::Last)?;
-    Ok(path)
+fn read_last(alloc: Global, text: &[u8]) -> Option<Path> {
+    match Path::read(alloc, text, Place::Last) {
+        Ok((path, _)) => Some(path),
+        Err(_) => None,
+    }
 }
 
 // The number of the answer to this text, 0 where it is read.
@@ -61,45 +62,46 @@ fn code_of(alloc: Global, text: &[u8], place: Place) -> u16 {
 }
 
 // Whether a path has these bytes and is printed so, after what stands there.
-fn is_printed(
-    alloc: Global,
-    path: &Path,
-    bytes: &[u8],
-    printed: &[u8],
-) -> Result<bool, AllocError> {
-    let mut out = Vec::from_slice(alloc, b"-")?;
-    path.quote_into(&mut out)?;
-    Ok(path.as_bytes() == bytes && out.strip_prefix(b"-") == Some(printed))
+fn is_printed(alloc: Global, path: &Path, bytes: &[u8], printed: &[u8]) -> bool {
+    let mut out = Vec::new(alloc);
+    out.extend_from_slice(b"-").is_ok()
+        && path.quote_into(&mut out).is_ok()
+        && path.as_bytes() == bytes
+        && out.strip_prefix(b"-") == Some(printed)
 }
 
-fn is_read_and_printed(alloc: Global, text: &[u8], bytes: &[u8]) -> Result<bool, Fail> {
-    let path = read_last(alloc, text)?;
-    Ok(is_printed(alloc, &path, bytes, text)?)
+fn is_read_and_printed(alloc: Global, text: &[u8], bytes: &[u8]) -> bool {
+    match read_last(alloc, text) {
+        Some(path) => is_printed(alloc, &path, bytes, text),
+        None => false,
+    }
 }
 
-fn ends_at(alloc: Global, text: &[u8], bytes: &[u8], rest: &[u8]) -> Result<bool, Fault> {
-    let (path, behind) = Path::read(alloc, text, Place::Source)?;
-    Ok(path.as_bytes() == bytes && behind == rest)
+fn ends_at(alloc: Global, text: &[u8], bytes: &[u8], rest: &[u8]) -> bool {
+    match Path::read(alloc, text, Place::Source) {
+        Ok((path, behind)) => path.as_bytes() == bytes && behind == rest,
+        Err(_) => false,
+    }
 }
 
 // The first quoted path that is read or printed otherwise, by its place.
-fn first_misprinted(alloc: Global) -> Result<Option<usize>, Fail> {
+fn first_misprinted(alloc: Global) -> Option<usize> {
     for (place, (text, bytes)) in QUOTED.iter().enumerate() {
-        if !is_read_and_printed(alloc, text, bytes)? {
-            return Ok(Some(place));
+        if !is_read_and_printed(alloc, text, bytes) {
+            return Some(place);
         }
     }
-    Ok(None)
+    None
 }
 
 // The first source that is read otherwise, by its place.
-fn first_source_misread(alloc: Global) -> Result<Option<usize>, Fault> {
+fn first_source_misread(alloc: Global) -> Option<usize> {
     for (place, (text, bytes, rest)) in SOURCES.iter().enumerate() {
-        if !ends_at(alloc, text, bytes, rest)? {
-            return Ok(Some(place));
+        if !ends_at(alloc, text, bytes, rest) {
+            return Some(place);
         }
     }
-    Ok(None)
+    None
 }
 
 // The first of these texts that is not refused as a bad path, by its place.
@@ -113,15 +115,13 @@ fn first_not_refused(alloc: Global, texts: &[&[u8]], place: Place) -> Option<usi
 }
 
 #[test]
-fn reads_and_prints_each_escape(rt: HostRuntime) -> Result<(), Fail> {
-    assert_eq!(rt; first_misprinted(rt.alloc())?, None);
-    Ok(())
+fn reads_and_prints_each_escape(rt: HostRuntime) {
+    assert_eq!(rt; first_misprinted(rt.alloc()), None);
 }
 
 #[test]
-fn reads_a_source_up_to_its_space(rt: HostRuntime) -> Result<(), Fail> {
-    assert_eq!(rt; first_source_misread(rt.alloc())?, None);
-    Ok(())
+fn reads_a_source_up_to_its_space(rt: HostRuntime) {
+    assert_eq!(rt; first_source_misread(rt.alloc()), None);
 }
 
 #[test]
@@ -137,77 +137,78 @@ fn refuses_bad_sources_as_ten(rt: HostRuntime) {
     );
 }
 
-// A path of so many components `a`.
-fn deep(alloc: Global, components: usize) -> Result<Vec<u8>, AllocError> {
-    let mut text = Vec::new(alloc);
+// Whether there was room for a path of so many components `a`.
+fn is_deep_path(text: &mut Vec<u8>, components: usize) -> bool {
     for i in 0..components {
-        if i > 0 {
-            text.push(b'/')?;
+        let letters = if i > 0 {
+            b"/a".as_slice()
+        } else {
+            b"a".as_slice()
+        };
+        if text.extend_from_slice(letters).is_err() {
+            return false;
         }
-        text.push(b'a')?;
     }
-    Ok(text)
+    true
 }
 
-fn is_known_as(
-    alloc: Global,
-    bytes: &[u8],
-    components: usize,
-    within: bool,
-) -> Result<bool, AllocError> {
-    match Path::from_canonical(alloc, bytes)? {
-        Some(path) => {
-            Ok(path.is_within_limits() == within && path.component_count() == components)
+fn is_known_as(alloc: Global, bytes: &[u8], components: usize, within: bool) -> bool {
+    match Path::from_canonical(alloc, bytes) {
+        Ok(Some(path)) => {
+            path.is_within_limits() == within && path.component_count() == components
         }
-        None => Ok(false),
+        _ => false,
     }
 }
 
 // Whether a path of so many components is answered so, and one past the limits is known as such.
-fn is_deep(alloc: Global, components: usize, code: u16, within: bool) -> Result<bool, AllocError> {
-    let text = deep(alloc, components)?;
-    let is_known = is_known_as(alloc, &text, components, within)?;
-    Ok(is_known && code_of(alloc, &text, Place::Last) == code)
+fn is_deep(alloc: Global, components: usize, code: u16, within: bool) -> bool {
+    let mut text = Vec::new(alloc);
+    is_deep_path(&mut text, components)
+        && is_known_as(alloc, &text, components, within)
+        && code_of(alloc, &text, Place::Last) == code
 }
 
-fn is_long(alloc: Global, quote: &[u8], bytes: usize, code: u16) -> Result<bool, AllocError> {
-    let mut text = Vec::from_slice(alloc, quote)?;
-    for _ in 0..bytes {
-        text.push(b'a')?;
-    }
-    text.extend_from_slice(quote)?;
-    Ok(code_of(alloc, &text, Place::Last) == code)
+fn is_long(alloc: Global, quote: &[u8], bytes: usize, code: u16) -> bool {
+    let mut text = Vec::new(alloc);
+    text.extend_from_slice(quote).is_ok()
+        && text.resize(quote.len().saturating_add(bytes), b'a').is_ok()
+        && text.extend_from_slice(quote).is_ok()
+        && code_of(alloc, &text, Place::Last) == code
 }
 
-// Whether paths of as many components and bytes as may be are read, and no larger ones.
-fn are_within_limits(alloc: Global) -> Result<bool, AllocError> {
+// Whether paths of as many components as may be are read, and no larger ones.
+fn are_as_deep(alloc: Global) -> bool {
     for (components, code, within) in DEEP {
-        if !is_deep(alloc, *components, *code, *within)? {
-            return Ok(false);
+        if !is_deep(alloc, *components, *code, *within) {
+            return false;
         }
     }
-    are_as_long(alloc)
+    true
 }
 
-fn are_as_long(alloc: Global) -> Result<bool, AllocError> {
+// The same of bytes.
+fn are_as_long(alloc: Global) -> bool {
     for (quote, bytes, code) in LONG {
-        if !is_long(alloc, quote, *bytes, *code)? {
-            return Ok(false);
+        if !is_long(alloc, quote, *bytes, *code) {
+            return false;
         }
     }
-    Ok(true)
+    true
 }
 
 #[test]
-fn reads_up_to_the_limits(rt: HostRuntime) -> Result<(), Fail> {
-    assert!(rt; are_within_limits(rt.alloc())?);
-    Ok(())
+fn reads_up_to_the_limits(rt: HostRuntime) {
+    assert!(rt; are_as_deep(rt.alloc()) && are_as_long(rt.alloc()));
 }
 
 // Whether a path has the components `a`, `bc` and `d`.
-fn has_three_components(alloc: Global, path: &Path) -> Result<bool, AllocError> {
-    let components: Vec<&[u8]> = path.components().collect(alloc)?;
-    Ok(components.as_slice() == COMPONENTS)
+fn has_three_components(alloc: Global, path: &Path) -> bool {
+    let collected: Result<Vec<&[u8]>, AllocError> = path.components().collect(alloc);
+    match collected {
+        Ok(components) => components.as_slice() == COMPONENTS,
+        Err(_) => false,
+    }
 }
 
 // Whether they are counted, and the first stands apart.
@@ -224,45 +225,52 @@ fn is_split(path: &Path) -> bool {
     }
 }
 
-// Whether what stands below the path `a` is `bc/d`, and is put below this one.
-fn is_joined(alloc: Global, path: &Path, top: &Path, other: &Path) -> Result<bool, AllocError> {
-    match path.behind(top) {
-        Some(rest) => {
-            let joined = other.join(alloc, &rest)?;
-            let has_rest = rest.as_bytes() == b"bc/d".as_slice();
-            Ok(has_rest && joined.as_bytes() == b"x y/bc/d".as_slice())
-        }
-        None => Ok(false),
+fn has_bytes(path: Result<Path, AllocError>, bytes: &[u8]) -> bool {
+    match path {
+        Ok(path) => path.as_bytes() == bytes,
+        Err(_) => false,
     }
 }
 
-fn has_child(alloc: Global, top: &Path) -> Result<bool, AllocError> {
-    let child = top.child(alloc, b"n")?;
-    Ok(child.as_bytes() == b"a/n".as_slice())
+// Whether what stands below the path `a` is `bc/d`, and is put below this one.
+fn is_joined(alloc: Global, path: &Path, top: &Path, other: &Path) -> bool {
+    match path.behind(top) {
+        Some(rest) => {
+            rest.as_bytes() == b"bc/d".as_slice()
+                && has_bytes(other.join(alloc, &rest), b"x y/bc/d")
+        }
+        None => false,
+    }
 }
 
-fn is_as_its_copy(alloc: Global, path: &Path) -> Result<bool, AllocError> {
-    Ok(path.copied(alloc)? == *path)
+fn has_child(alloc: Global, top: &Path) -> bool {
+    has_bytes(top.child(alloc, b"n"), b"a/n")
 }
 
-fn comes_apart(alloc: Global) -> Result<bool, Fail> {
-    let path = read_last(alloc, b"a/bc/d")?;
-    Ok(has_three_components(alloc, &path)? && is_split(&path) && is_as_its_copy(alloc, &path)?)
+fn is_as_its_copy(alloc: Global, path: &Path) -> bool {
+    match path.copied(alloc) {
+        Ok(copy) => copy == *path,
+        Err(_) => false,
+    }
 }
 
-fn comes_together(alloc: Global) -> Result<bool, Fail> {
-    let path = read_last(alloc, b"a/bc/d")?;
-    comes_together_of(alloc, &path)
+// Whether the path `a/bc/d` comes apart, and together below this one.
+fn comes_apart(alloc: Global, path: &Path, top: &Path, other: &Path) -> bool {
+    has_three_components(alloc, path)
+        && is_split(path)
+        && is_as_its_copy(alloc, path)
+        && is_joined(alloc, path, top, other)
+        && has_child(alloc, top)
 }
 
-fn comes_together_of(alloc: Global, path: &Path) -> Result<bool, Fail> {
-    let top = read_last(alloc, b"a")?;
-    Ok(is_joined_below(alloc, path, &top)? && has_child(alloc, &top)?)
-}
-
-fn is_joined_below(alloc: Global, path: &Path, top: &Path) -> Result<bool, Fail> {
-    let other = read_last(alloc, b"x y")?;
-    Ok(is_joined(alloc, path, top, &other)?)
+fn are_read_and_come_apart(alloc: Global) -> bool {
+    let path = read_last(alloc, b"a/bc/d");
+    let top = read_last(alloc, b"a");
+    let other = read_last(alloc, b"x y");
+    match (&path, &top, &other) {
+        (Some(path), Some(top), Some(other)) => comes_apart(alloc, path, top, other),
+        _ => false,
+    }
 }
 
 fn is_root_alone(alloc: Global) -> bool {
@@ -270,56 +278,50 @@ fn is_root_alone(alloc: Global) -> bool {
     root.is_root() && root.components().len() == 0 && root.components().split_first().is_none()
 }
 
-fn comes_apart_and_together(alloc: Global) -> Result<bool, Fail> {
-    Ok(comes_apart(alloc)? && comes_together(alloc)? && is_root_alone(alloc))
-}
-
 #[test]
-fn a_path_comes_apart_and_together(rt: HostRuntime) -> Result<(), Fail> {
-    assert!(rt; comes_apart_and_together(rt.alloc())?);
-    Ok(())
+fn a_path_comes_apart_and_together(rt: HostRuntime) {
+    assert!(rt; are_read_and_come_apart(rt.alloc()) && is_root_alone(rt.alloc()));
 }
 
 // Paths of bytes: `.` is below the slash, so `a.txt` comes before `a/x` and is not below `a`.
-fn are_ordered(alloc: Global) -> Result<bool, Fail> {
-    let file = read_last(alloc, b"a.txt")?;
-    let below = read_last(alloc, b"a/x")?;
-    Ok(file < below && file != below && are_beside(alloc, &file, &below)?)
+fn are_ordered(file: &Path, below: &Path, top: &Path) -> bool {
+    file < below && file != below && below.is_at_or_below(top) && !file.is_at_or_below(top)
 }
 
-// Whether the second alone is below the path `a`.
-fn are_beside(alloc: Global, file: &Path, below: &Path) -> Result<bool, Fail> {
-    let top = read_last(alloc, b"a")?;
-    Ok(below.is_at_or_below(&top) && !file.is_at_or_below(&top))
-}
-
-#[test]
-fn paths_are_ordered_by_their_bytes(rt: HostRuntime) -> Result<(), Fail> {
-    assert!(rt; are_ordered(rt.alloc())?);
-    Ok(())
-}
-
-fn is_canonical(alloc: Global, bytes: &[u8]) -> Result<bool, AllocError> {
-    match Path::from_canonical(alloc, bytes)? {
-        Some(path) => Ok(path.as_bytes() == bytes),
-        None => Ok(false),
+fn are_read_and_ordered(alloc: Global) -> bool {
+    let file = read_last(alloc, b"a.txt");
+    let below = read_last(alloc, b"a/x");
+    let top = read_last(alloc, b"a");
+    match (&file, &below, &top) {
+        (Some(file), Some(below), Some(top)) => are_ordered(file, below, top),
+        _ => false,
     }
 }
 
-fn is_name_printed(alloc: Global) -> Result<bool, AllocError> {
-    let mut out = Vec::new(alloc);
-    quote_into(b"n\"", &mut out)?;
-    Ok(out.as_slice() == b"\"n\\\"\"".as_slice())
+#[test]
+fn paths_are_ordered_by_their_bytes(rt: HostRuntime) {
+    assert!(rt; are_read_and_ordered(rt.alloc()));
 }
 
-fn is_never_quoted(alloc: Global) -> Result<bool, AllocError> {
-    Ok(is_canonical(alloc, b"\"a\"")? && !is_canonical(alloc, b"a/")? && is_name_printed(alloc)?)
+// Whether bytes are those of a canonical path; none where memory ran out.
+fn is_canonical(alloc: Global, bytes: &[u8]) -> Option<bool> {
+    match Path::from_canonical(alloc, bytes) {
+        Ok(Some(path)) => Some(path.as_bytes() == bytes),
+        Ok(None) => Some(false),
+        Err(_) => None,
+    }
+}
+
+fn is_name_printed(alloc: Global) -> bool {
+    let mut out = Vec::new(alloc);
+    quote_into(b"n\"", &mut out).is_ok() && out.as_slice() == b"\"n\\\"\"".as_slice()
 }
 
 #[test]
-fn a_path_of_an_expression_is_never_quoted(rt: HostRuntime) -> Result<(), Fail> {
-    assert!(rt; is_never_quoted(rt.alloc())?);
-    Ok(())
+fn a_path_of_an_expression_is_never_quoted(rt: HostRuntime) {
+    assert!(rt; is_canonical(rt.alloc(), b"\"a\"") == Some(true));
+    assert!(rt; is_canonical(rt.alloc(), b"a/") == Some(false));
+    assert!(rt; is_name_printed(rt.alloc()));
 }
 
 #[test]

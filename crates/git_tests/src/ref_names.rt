@@ -2,7 +2,6 @@
 
 use git_names::{RefName, RefNameFault, is_ref_name};
 use std::alloc::Global;
-use std::test::Fail;
 
 const JUDGED: &[(&[u8], bool)] = &[
     (b"refs/heads/main", true),
@@ -45,15 +44,6 @@ const READ: &[(&[u8], usize, &[u8], u16)] = &[
     (b"main", 0, b"", 11),
 ];
 
-fn text_of(alloc: Global, begin: &[u8], count: usize, end: &[u8]) -> Result<Vec<u8>, Fail> {
-    let mut text = Vec::from_slice(alloc, begin)?;
-    for _ in 0..count {
-        text.push(b'x')?;
-    }
-    text.extend_from_slice(end)?;
-    Ok(text)
-}
-
 // The number of the answer to this text, 0 where it is read.
 fn code_of(alloc: Global, text: &[u8]) -> u16 {
     match RefName::read(alloc, text) {
@@ -62,32 +52,44 @@ fn code_of(alloc: Global, text: &[u8]) -> u16 {
     }
 }
 
-fn is_answered(
-    alloc: Global,
-    begin: &[u8],
-    count: usize,
-    end: &[u8],
-    code: u16,
-) -> Result<bool, Fail> {
-    let text = text_of(alloc, begin, count, end)?;
-    Ok(code_of(alloc, &text) == code)
+fn is_answered(alloc: Global, begin: &[u8], count: usize, end: &[u8], code: u16) -> bool {
+    let mut text = Vec::new(alloc);
+    text.extend_from_slice(begin).is_ok()
+        && text.resize(begin.len().saturating_add(count), b'x').is_ok()
+        && text.extend_from_slice(end).is_ok()
+        && code_of(alloc, &text) == code
 }
 
-// Whether a name has its bytes, is as its copy, and is HEAD or no HEAD.
-fn is_kept(alloc: Global, name: &RefName, text: &[u8], is_head: bool) -> Result<bool, Fail> {
-    let copy = name.try_clone(alloc)?;
-    Ok(name.as_bytes() == text && copy == *name && name.is_head() == is_head)
+fn is_as_its_copy(alloc: Global, name: &RefName) -> bool {
+    match name.try_clone(alloc) {
+        Ok(copy) => copy == *name,
+        Err(_) => false,
+    }
 }
 
-fn reads(alloc: Global, text: &[u8], is_head: bool) -> Result<bool, Fail> {
-    let name = RefName::read(alloc, text)?;
-    is_kept(alloc, &name, text, is_head)
+// Whether a name is read that has its bytes, is as its copy, and is HEAD or no HEAD.
+fn reads(alloc: Global, text: &[u8], is_head: bool) -> bool {
+    match RefName::read(alloc, text) {
+        Ok(name) => {
+            name.as_bytes() == text && is_as_its_copy(alloc, &name) && name.is_head() == is_head
+        }
+        Err(_) => false,
+    }
 }
 
-fn is_before(alloc: Global, first: &[u8], second: &[u8]) -> Result<bool, Fail> {
-    let first = RefName::read(alloc, first)?;
-    let second = RefName::read(alloc, second)?;
-    Ok(first < second)
+// Whether a text is read as a name that comes before another.
+fn is_before_name(alloc: Global, text: &[u8], second: &RefName) -> bool {
+    match RefName::read(alloc, text) {
+        Ok(first) => first < *second,
+        Err(_) => false,
+    }
+}
+
+fn is_before(alloc: Global, text: &[u8], second: &[u8]) -> bool {
+    match RefName::read(alloc, second) {
+        Ok(second) => is_before_name(alloc, text, &second),
+        Err(_) => false,
+    }
 }
 
 // The first text that is judged otherwise, by its place.
@@ -101,17 +103,13 @@ fn first_misjudged() -> Option<usize> {
 }
 
 // The first text that is answered otherwise, by its place.
-fn first_misread(alloc: Global) -> Result<Option<usize>, Fail> {
+fn first_misread(alloc: Global) -> Option<usize> {
     for (place, (begin, count, end, code)) in READ.iter().enumerate() {
-        if !is_answered(alloc, begin, *count, end, *code)? {
-            return Ok(Some(place));
+        if !is_answered(alloc, begin, *count, end, *code) {
+            return Some(place);
         }
     }
-    Ok(None)
-}
-
-fn reads_both(alloc: Global) -> Result<bool, Fail> {
-    Ok(reads(alloc, b"refs/heads/main", false)? && reads(alloc, b"HEAD", true)?)
+    None
 }
 
 fn has_numbers() -> bool {
@@ -126,9 +124,8 @@ fn judges_ref_names_as_git_does(rt: HostRuntime) {
 }
 
 #[test]
-fn refuses_what_is_no_ref_name_before_what_is_too_long(rt: HostRuntime) -> Result<(), Fail> {
-    assert_eq!(rt; first_misread(rt.alloc())?, None);
-    Ok(())
+fn refuses_what_is_no_ref_name_before_what_is_too_long(rt: HostRuntime) {
+    assert_eq!(rt; first_misread(rt.alloc()), None);
 }
 
 #[test]
@@ -137,13 +134,12 @@ fn numbers_its_faults(rt: HostRuntime) {
 }
 
 #[test]
-fn reads_a_ref_name_or_head(rt: HostRuntime) -> Result<(), Fail> {
-    assert!(rt; reads_both(rt.alloc())?);
-    Ok(())
+fn reads_a_ref_name_or_head(rt: HostRuntime) {
+    assert!(rt; reads(rt.alloc(), b"refs/heads/main", false));
+    assert!(rt; reads(rt.alloc(), b"HEAD", true));
 }
 
 #[test]
-fn orders_ref_names_by_their_bytes(rt: HostRuntime) -> Result<(), Fail> {
-    assert!(rt; is_before(rt.alloc(), b"refs/heads/mailn", b"refs/heads/main")?);
-    Ok(())
+fn orders_ref_names_by_their_bytes(rt: HostRuntime) {
+    assert!(rt; is_before(rt.alloc(), b"refs/heads/mailn", b"refs/heads/main"));
 }

@@ -1,8 +1,24 @@
 -- In reading order: one stream from a reader to a writer, and frames of steps. What a service is
--- told and holds stands in tenant_service.
+-- told and holds stands in tenant_service; it and what else the clauses of public calls cite is
+-- passed on first.
+pub use Rattle.git_model.specs.Content
+pub use Rattle.git_model.specs.Repository
+pub use Rattle.git_names.specs.Naming
+pub use Rattle.git_objects.specs.Device
+pub use Rattle.content_pool.specs.LiveContents
+pub use Rattle.tenant_tables.specs.StandsIn
+pub use Rattle.import_session.specs.Sound
+pub use Rattle.export_laws.specs.Copies as Copied
+pub use Rattle.pool_file.specs.Judging
+pub use Rattle.pool_file.specs.Repositories
+pub use Rattle.pool_file.specs.Saving
+pub use Rattle.pool_saving.specs.Saves
 pub use Rattle.tenant_service.specs.Alone
 pub use Rattle.tenant_service.specs.Headline
 pub use Rattle.tenant_service.specs.Holding
+pub use Rattle.tenant_service.specs.Saved
+pub use Rattle.tenant_service.specs.Copying
+pub use Rattle.tenant_service.specs.Copies
 pub use Rattle.tenant_service.specs.Tenants
 pub mod ImportFaults
 pub mod Devices

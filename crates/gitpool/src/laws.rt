@@ -6,8 +6,10 @@
 //! `tags_are_told`, `commits_are_told` and `files_are_put`). The others leave the refs and HEAD
 //! (`refs_are_left`). So the import of the text into an empty repository leaves a copy
 //! (`exports_are_imported`), and so do Open, one Feed and End of a tenant that has nothing
-//! (`exports_are_taken`). `import_one` and `Service::copy_tenant` say it of themselves.
+//! (`exports_are_taken`). `import_one` and `Service::copy_tenant` say it of themselves. A repository
+//! of one commit meets the premises of all this (`one_commit_is_imported`).
 
+pub use export_laws::examples::one_commit_is_imported;
 pub use export_laws::laws::{
     blobs_are_told, commits_are_told, exports_are_imported, files_are_put, objects_are_told,
     refs_are_left, tags_are_told,

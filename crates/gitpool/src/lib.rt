@@ -5,6 +5,9 @@
 //! to a pool file, and `Service::load` reads them. `import_one` carries one stream from a reader to
 //! a writer, over an empty repository; `Line` is a command line of the program. `laws` has what is
 //! true of exports.
+//!
+//! A program that uses these calls needs no other crate of this repository: whatever their
+//! signatures name is passed on.
 #![tactic(auto)]
 
 mod import;
@@ -13,10 +16,16 @@ pub mod laws;
 mod serving;
 
 pub use command_lines::Line;
+pub use content_pool::{Pool, Slot};
+pub use git_objects::{
+    Counted, DeviceFault, Kind, Memory, Name, Naming, Sha1Naming, TailNaming, write_all,
+};
 pub use import::import_one;
 pub use import_fault::ImportFault;
-pub use pool_file_text::{Fault as PoolFault, Refusal, Starting};
+pub use pool_file_text::{Fault as PoolFault, Refusal, Running, Starting};
 pub use service_steps::{Answer, Reply, ServiceFault, Step};
 pub use serving::serve;
 pub use step_frames::FrameFault;
+pub use tenant_refs::Refs;
 pub use tenant_service::Service;
+pub use tenant_tables::{Found, Sight, Summary, Table};

@@ -3,6 +3,7 @@
 //! file.
 #![tactic(auto)]
 
+mod links;
 mod new_file;
 mod pools;
 mod run_fault;
@@ -11,8 +12,7 @@ mod steps;
 
 use crate::run_fault::RunFault;
 use clap::error::ErrorKind as UsageKind;
-use git_objects::{Counted, Sha1Naming};
-use gitpool::{Line, import_one};
+use gitpool::{Counted, Line, Sha1Naming, import_one};
 use std::env;
 use std::io::ErrorKind;
 use std::process::ExitCode;

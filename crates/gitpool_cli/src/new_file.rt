@@ -1,6 +1,10 @@
 //! The new file beside a pool file, which takes its name when a run saves. A run has it locked from
 //! before it loads the pool file, so that of the runs that save one is at work at a time.
+//!
+//! A pool file that is named by a symbolic link is the file to which the link leads: the new file
+//! stands beside that one, and the link stays.
 
+use crate::links::followed;
 use crate::run_fault::RunFault;
 use std::fs::{File, OpenOptions, Permissions};
 use std::io::ErrorKind;
@@ -25,19 +29,21 @@ const KEPT_OF_OTHERS: u32 = 0o707;
 /// The new file that one run has, and no other while this one lasts. A run that is killed leaves it
 /// behind, unlocked, and the next run removes it.
 #[derive(Drop)]
-pub struct NewFile<'a> {
-    pool: &'a str,
+pub struct NewFile {
+    pool: String,
     name: String,
     // Why there is none, where the folder takes none: a save is then refused.
     file: Result<File, RunFault>,
 }
 
-impl<'a> NewFile<'a> {
-    /// Makes the new file of a pool file. It is refused where another run has it, and where memory
-    /// runs out; where it cannot be made for another cause, the save will be.
-    pub fn take(rt: &HostRuntime, pool: &'a str) -> Result<NewFile<'a>, RunFault> {
+impl NewFile {
+    /// Makes the new file of a pool file. It is refused where another run has it, where a link
+    /// leads nowhere that can be told, and where memory runs out; where it cannot be made for
+    /// another cause, the save will be.
+    pub fn take(rt: &HostRuntime, pool: &str) -> Result<NewFile, RunFault> {
+        let pool = followed(rt, pool)?;
         let name = format!(in rt.alloc(); "{pool}{NEW}")?;
-        let file = match make(rt, pool, &name) {
+        let file = match make(rt, &pool, &name) {
             Ok(file) => Ok(file),
             Err(error) if ends_run(error.kind()) => return Err(RunFault::from(error)),
             Err(error) => Err(RunFault::from(error)),
@@ -45,9 +51,9 @@ impl<'a> NewFile<'a> {
         Ok(NewFile { pool, name, file })
     }
 
-    /// The path of the pool file.
-    pub fn pool(&self) -> &'a str {
-        self.pool
+    /// The path of the pool file, where no link stands.
+    pub fn pool(&self) -> &str {
+        &self.pool
     }
 
     /// The file itself, empty until it is written; or why there is none.
@@ -63,11 +69,11 @@ impl<'a> NewFile<'a> {
     pub fn replace(&self, rt: &HostRuntime) -> Result<(), RunFault> {
         let file = self.file()?;
         file.sync_all()?;
-        keep_mode(rt, self.pool, file);
+        keep_mode(rt, &self.pool, file);
         if !has_name(rt, &self.name, file)? {
             return Err(RunFault::Device);
         }
-        fs::rename(rt, &self.name, self.pool)?;
+        fs::rename(rt, &self.name, &self.pool)?;
         Ok(())
     }
 

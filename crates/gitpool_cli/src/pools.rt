@@ -2,8 +2,7 @@
 
 use crate::new_file::NewFile;
 use crate::run_fault::RunFault;
-use git_objects::{Counted, Sha1Naming};
-use gitpool::Service;
+use gitpool::{Counted, Service, Sha1Naming};
 use std::fs::File;
 use std::io::{BufReader, ErrorKind, Read};
 
@@ -49,7 +48,7 @@ fn load_of<R: Read>(
 pub fn save(
     rt: &HostRuntime,
     service: &Service<Sha1Naming>,
-    new: &NewFile<'_>,
+    new: &NewFile,
 ) -> Result<(), RunFault> {
     let outcome = save_as(rt, service, new);
     if outcome.is_err() {
@@ -58,11 +57,7 @@ pub fn save(
     outcome
 }
 
-fn save_as(
-    rt: &HostRuntime,
-    service: &Service<Sha1Naming>,
-    new: &NewFile<'_>,
-) -> Result<(), RunFault> {
+fn save_as(rt: &HostRuntime, service: &Service<Sha1Naming>, new: &NewFile) -> Result<(), RunFault> {
     let mut writer = Counted::new(new.file()?);
     service.save(&mut writer)?;
     new.replace(rt)

@@ -1,7 +1,6 @@
 //! What a run ends badly by, with its number and its exit status.
 
-use git_objects::DeviceFault;
-use gitpool::{FrameFault, ImportFault, PoolFault};
+use gitpool::{DeviceFault, FrameFault, ImportFault, PoolFault};
 use std::alloc::AllocError;
 use std::io::ErrorKind;
 use std::{fmt, io};

@@ -6,8 +6,7 @@ use crate::new_file::NewFile;
 use crate::pools::{Missing, load, save};
 use crate::run_fault::RunFault;
 use crate::steps;
-use git_objects::{Counted, Sha1Naming, write_all};
-use gitpool::{Line, Service, Step};
+use gitpool::{Counted, Line, Service, Sha1Naming, Step, write_all};
 use std::alloc::{AllocError, Global};
 
 /// Carries out a command line. Where several calls are refused, the first fault is answered.
@@ -43,7 +42,7 @@ fn run_to_save(
 fn load_and_save(
     rt: &HostRuntime,
     line: Line<'_>,
-    new: &NewFile<'_>,
+    new: &NewFile,
     missing: Missing,
 ) -> Result<(), RunFault> {
     match load(rt, new.pool(), missing) {
@@ -60,7 +59,7 @@ fn carry_out_and_save(
     rt: &HostRuntime,
     mut service: Service<Sha1Naming>,
     line: Line<'_>,
-    new: &NewFile<'_>,
+    new: &NewFile,
 ) -> Result<(), RunFault> {
     let outcome = carry_out(rt, &mut service, line);
     let saved = save(rt, &service, new);

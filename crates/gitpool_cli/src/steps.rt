@@ -1,8 +1,7 @@
 //! Single steps of a service, their replies to standard output.
 
 use crate::run_fault::RunFault;
-use git_objects::{Counted, Sha1Naming, write_all};
-use gitpool::{Answer, Service, Step};
+use gitpool::{Answer, Counted, Service, Sha1Naming, Step, write_all};
 use std::io::{Read, Write};
 
 // How many bytes are read at once, and fed in one step.

@@ -3,8 +3,7 @@
 //! are named: `sha1`, or `tail` for tests.
 #![tactic(auto)]
 
-use git_objects::{Counted, Naming, Sha1Naming, TailNaming};
-use gitpool::{FrameFault, Service, serve};
+use gitpool::{Counted, FrameFault, Naming, Service, Sha1Naming, TailNaming, serve};
 use std::env;
 use std::io::ErrorKind;
 use std::process::ExitCode;

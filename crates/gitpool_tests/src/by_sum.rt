@@ -2,7 +2,7 @@
 //! begin alike: nineteen bytes 0xab, and the sum of all bytes of the content.
 
 use crate::rows::{Do, Row, first_otherwise};
-use git_objects::TailNaming;
+use gitpool::TailNaming;
 use std::alloc::Global;
 
 const AB: &[u8] = b"blob\nmark :1\ndata 2\nabcat-blob :1\n";

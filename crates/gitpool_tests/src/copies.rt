@@ -2,7 +2,7 @@
 //! what refuses one.
 
 use crate::rows::{Do, Row, first_otherwise};
-use git_objects::Sha1Naming;
+use gitpool::Sha1Naming;
 use std::alloc::Global;
 
 // A blob, and a commit of it on `refs/heads/m`: with the tree three objects of 6, 29 and 98 bytes.

@@ -1,8 +1,8 @@
 //! Streams over devices that fail at a chosen call.
 
 use crate::one_byte::OneByte;
-use git_objects::{Counted, FailingReader, FailingWriter, Sha1Naming};
-use gitpool::{ImportFault, import_one};
+use byte_devices::{FailingReader, FailingWriter};
+use gitpool::{Counted, ImportFault, Sha1Naming, import_one};
 use std::alloc::Global;
 
 // The line of `get-mark` ends with its 38th byte, and that of `progress` with its 49th.

@@ -2,8 +2,7 @@
 //! those that git makes of the same stream, and each object that they reach.
 
 use crate::told::{asks, takes};
-use git_objects::Sha1Naming;
-use gitpool::{Answer, Service, Step};
+use gitpool::{Answer, Service, Sha1Naming, Step};
 use std::alloc::Global;
 
 // An encoding, a quoted path, a gitlink, a merge with one parent twice, a tag, a tag of it, and a
@@ -152,7 +151,9 @@ fn goes_round(alloc: Global, service: &mut Service<Sha1Naming>) -> bool {
 
 fn is_left_the_same(alloc: Global) -> bool {
     let mut service = Service::new(alloc, Sha1Naming);
-    goes_round(alloc, &mut service)
+    let goes = goes_round(alloc, &mut service);
+    drop(service);
+    goes
 }
 
 #[test]

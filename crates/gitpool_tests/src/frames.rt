@@ -1,11 +1,10 @@
 //! Frames of steps over a whole service, beside bytes derived by hand.
 
 use crate::one_byte::OneByte;
-use git_objects::{Counted, FailingReader, FailingWriter, Memory, Naming, Sha1Naming, TailNaming};
-use gitpool::{FrameFault, Service, serve};
+use byte_devices::{FailingReader, FailingWriter};
+use gitpool::{Counted, FrameFault, Naming, Service, Sha1Naming, TailNaming, serve};
 use std::alloc::Global;
 use std::io::{Read, Write};
-use std::test::Fail;
 
 /// Open of `t`, a Feed of `progress x` and its line end, an Ask and the End: 8, 19, 12 and 8 bytes.
 pub const FRAMES: &[u8] =
@@ -34,7 +33,9 @@ pub fn serve_empty<N: Naming, R: Read, W: Write>(
     writer: &mut Counted<W>,
 ) -> Result<(), FrameFault> {
     let mut service = Service::new(alloc, naming);
-    serve(alloc, &mut service, reader, writer)
+    let ended = serve(alloc, &mut service, reader, writer);
+    drop(service);
+    ended
 }
 
 // The same of these bytes, and what was written.
@@ -76,30 +77,32 @@ const ENDS: &[(&[u8], FrameFault)] = &[
     (b"\x02\0\x01t\0\0\0\x02x", FrameFault::CutOff),
 ];
 
+// Whether these bytes end with this fault after whole frames.
+fn end_after_frames(alloc: Global, bytes: &[u8], fault: FrameFault) -> bool {
+    let mut both = Vec::new(alloc);
+    both.extend_from_slice(FRAMES).is_ok()
+        && both.extend_from_slice(bytes).is_ok()
+        && go(alloc, Sha1Naming, &both, Err(fault), ANSWERS)
+}
+
 // Whether these bytes end with this fault, and after whole frames too.
-fn end_with(alloc: Global, bytes: &[u8], fault: FrameFault) -> Result<bool, Memory> {
-    let mut both = Vec::from_slice(alloc, FRAMES)?;
-    both.extend_from_slice(bytes)?;
-    Ok(
-        go(alloc, Sha1Naming, bytes, Err(fault), b"")
-            && go(alloc, Sha1Naming, &both, Err(fault), ANSWERS),
-    )
+fn end_with(alloc: Global, bytes: &[u8], fault: FrameFault) -> bool {
+    go(alloc, Sha1Naming, bytes, Err(fault), b"") && end_after_frames(alloc, bytes, fault)
 }
 
 // The first of the texts, by its place, that ends otherwise.
-fn first_otherwise(alloc: Global) -> Result<Option<usize>, Memory> {
+fn first_otherwise(alloc: Global) -> Option<usize> {
     for (place, (bytes, fault)) in ENDS.iter().enumerate() {
-        if !end_with(alloc, bytes, *fault)? {
-            return Ok(Some(place));
+        if !end_with(alloc, bytes, *fault) {
+            return Some(place);
         }
     }
-    Ok(None)
+    None
 }
 
 #[test]
-fn ends_at_a_bad_frame_after_the_answers(rt: HostRuntime) -> Result<(), Fail> {
-    assert_eq!(rt; first_otherwise(rt.alloc())?, None);
-    Ok(())
+fn ends_at_a_bad_frame_after_the_answers(rt: HostRuntime) {
+    assert_eq!(rt; first_otherwise(rt.alloc()), None);
 }
 
 // Whether a front of the frames is answered up to the last whole one.

@@ -3,10 +3,8 @@
 
 use crate::rows::{Do, Row, first_otherwise};
 use crate::told::{asks, code_of, feeds, takes, tells};
-use git_objects::{Memory, Sha1Naming};
-use gitpool::{Service, Step};
+use gitpool::{Service, Sha1Naming, Step};
 use std::alloc::Global;
-use std::test::Fail;
 
 const HELLO: &[u8] = b"blob\nmark :1\ndata 6\nhello\n";
 
@@ -96,7 +94,9 @@ fn are_lent(alloc: Global, service: &mut Service<Sha1Naming>) -> (bool, bool, bo
 
 fn are_lent_when_new(alloc: Global) -> (bool, bool, bool) {
     let mut service = Service::new(alloc, Sha1Naming);
-    are_lent(alloc, &mut service)
+    let lent = are_lent(alloc, &mut service);
+    drop(service);
+    lent
 }
 
 #[test]
@@ -139,7 +139,9 @@ fn held_after_two(
     out: &mut Vec<u8>,
 ) -> (bool, (u64, u64)) {
     let mut service = Service::new(alloc, Sha1Naming);
-    held_after(&mut service, first, later, out)
+    let held = held_after(&mut service, first, later, out);
+    drop(service);
+    held
 }
 
 #[test]
@@ -153,32 +155,31 @@ fn holds_the_same_wherever_the_stream_is_cut(rt: HostRuntime) {
 }
 
 // Whether the tenant of this number stores the blob.
-fn stores_hello(
-    alloc: Global,
-    service: &mut Service<Sha1Naming>,
-    number: usize,
-) -> Result<bool, Memory> {
-    let tenant = format!(in alloc; "tenant{number}")?;
-    Ok(takes(alloc, service, tenant.as_bytes(), HELLO))
+fn stores_hello(alloc: Global, service: &mut Service<Sha1Naming>, number: usize) -> bool {
+    match format!(in alloc; "tenant{number}") {
+        Ok(tenant) => takes(alloc, service, tenant.as_bytes(), HELLO),
+        Err(_) => false,
+    }
 }
 
 // Whether a thousand tenants and one store the blob.
-fn all_store(alloc: Global, service: &mut Service<Sha1Naming>) -> Result<bool, Memory> {
+fn all_store(alloc: Global, service: &mut Service<Sha1Naming>) -> bool {
     for number in 0..1001 {
-        if !stores_hello(alloc, service, number)? {
-            return Ok(false);
+        if !stores_hello(alloc, service, number) {
+            return false;
         }
     }
-    Ok(service.stored() == (1, 6) && service.tenants() == 1001)
+    service.stored() == (1, 6) && service.tenants() == 1001
 }
 
-fn is_one_more(alloc: Global) -> Result<bool, Memory> {
+fn is_one_more(alloc: Global) -> bool {
     let mut service = Service::new(alloc, Sha1Naming);
-    all_store(alloc, &mut service)
+    let all = all_store(alloc, &mut service);
+    drop(service);
+    all
 }
 
 #[test]
-fn serves_one_more_after_a_thousand(rt: HostRuntime) -> Result<(), Fail> {
-    assert!(rt; is_one_more(rt.alloc())?);
-    Ok(())
+fn serves_one_more_after_a_thousand(rt: HostRuntime) {
+    assert!(rt; is_one_more(rt.alloc()));
 }

@@ -3,8 +3,7 @@
 //! many bytes are fed by streams/run_tenants.
 
 use crate::told::{feeds, tells};
-use git_objects::{Memory, TailNaming};
-use gitpool::{Service, Step};
+use gitpool::{Memory, Service, Step, TailNaming};
 use std::alloc::Global;
 use std::test::Fail;
 
@@ -100,7 +99,9 @@ fn first_otherwise(alloc: Global, service: &mut Service<TailNaming>, most: &[u8]
 
 fn first_otherwise_when_new(alloc: Global, most: &[u8]) -> Option<usize> {
     let mut service = Service::new(alloc, TailNaming);
-    first_otherwise(alloc, &mut service, most)
+    let place = first_otherwise(alloc, &mut service, most);
+    drop(service);
+    place
 }
 
 fn first_otherwise_of_lines(alloc: Global) -> Result<Option<usize>, Memory> {

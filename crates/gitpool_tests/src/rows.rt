@@ -1,8 +1,7 @@
 //! Steps and copies of tenants in turn, each with what it is told and what is held after it.
 
 use crate::told::code_of;
-use git_objects::Naming;
-use gitpool::{Answer, Service, Step};
+use gitpool::{Answer, Naming, Service, Step};
 use std::alloc::Global;
 
 /// What is done.
@@ -71,5 +70,7 @@ fn first_of<N: Naming>(alloc: Global, service: &mut Service<N>, rows: &[Row]) ->
 /// The first of these rows, by its place, that goes otherwise over a service that has seen nobody.
 pub fn first_otherwise<N: Naming>(alloc: Global, naming: N, rows: &[Row]) -> Option<usize> {
     let mut service = Service::new(alloc, naming);
-    first_of(alloc, &mut service, rows)
+    let place = first_of(alloc, &mut service, rows);
+    drop(service);
+    place
 }

@@ -2,8 +2,8 @@
 //! fail at each call.
 
 use crate::saved::{is_saved_as, refusal_of};
-use git_objects::{Counted, FailingReader, FailingWriter, Naming, Sha1Naming};
-use gitpool::{Answer, PoolFault, Service};
+use byte_devices::{FailingReader, FailingWriter};
+use gitpool::{Answer, Counted, Naming, PoolFault, Service, Sha1Naming};
 use std::alloc::{AllocError, Global};
 
 // A file up to its tenants, with five objects under the names that `git hash-object` gave: a commit
@@ -42,7 +42,8 @@ fn append_tenant(file: &mut Vec<u8>, number: u64) -> Result<(), AllocError> {
     file.extend_from_slice(BEHIND_NAMES)
 }
 
-// Appends so many tenants, further ones that stand after them, and the digest of all.
+// Appends the tenants of a file, at most a thousand, further ones that stand after them, and the
+// digest of all. Each of the former has all objects.
 fn append_tenants(
     file: &mut Vec<u8>,
     tenants: u64,
@@ -58,21 +59,10 @@ fn append_tenants(
     file.extend_from_slice(&digest)
 }
 
-// A file of so many tenants, at most a thousand, each of whom has all objects, and of further ones
-// that stand after them.
-fn file_with(
-    alloc: Global,
-    tenants: u64,
-    further: u64,
-    behind: &[u8],
-) -> Result<Vec<u8>, AllocError> {
-    let mut file = Vec::from_slice(alloc, OBJECTS)?;
-    append_tenants(&mut file, tenants, further, behind)?;
-    Ok(file)
-}
-
-fn file_of(alloc: Global, tenants: u64) -> Result<Vec<u8>, AllocError> {
-    file_with(alloc, tenants, 0, b"")
+// Whether there was room for a file with these tenants, and it was appended.
+fn is_written(file: &mut Vec<u8>, tenants: u64, further: u64, behind: &[u8]) -> bool {
+    file.extend_from_slice(OBJECTS).is_ok()
+        && append_tenants(file, tenants, further, behind).is_ok()
 }
 
 fn load(alloc: Global, file: &[u8]) -> Result<Service<Sha1Naming>, PoolFault> {
@@ -81,35 +71,38 @@ fn load(alloc: Global, file: &[u8]) -> Result<Service<Sha1Naming>, PoolFault> {
 }
 
 // Whether a service has each content once, and is saved as this file of so many tenants.
-fn is_that(
-    alloc: Global,
-    service: &Service<Sha1Naming>,
-    file: &[u8],
-    tenants: u64,
-) -> Result<bool, PoolFault> {
+fn is_that(alloc: Global, service: &Service<Sha1Naming>, file: &[u8], tenants: u64) -> bool {
     let counts = service.stored() == (5, 200) && service.tenants() == tenants;
-    Ok(counts && is_saved_as(alloc, service, file)?)
+    counts && is_saved_as(alloc, service, file)
 }
 
-fn is_unchanged(alloc: Global, file: &[u8], tenants: u64) -> Result<bool, PoolFault> {
-    let service = load(alloc, file)?;
-    is_that(alloc, &service, file, tenants)
+fn is_that_of(alloc: Global, service: Service<Sha1Naming>, file: &[u8], tenants: u64) -> bool {
+    let is_that = is_that(alloc, &service, file, tenants);
+    drop(service);
+    is_that
+}
+
+fn is_unchanged(alloc: Global, file: &[u8], tenants: u64) -> bool {
+    match load(alloc, file) {
+        Ok(service) => is_that_of(alloc, service, file, tenants),
+        Err(_) => false,
+    }
 }
 
 // Whether the file of so many tenants comes back byte for byte.
-fn goes_unchanged(alloc: Global, tenants: u64) -> Result<bool, PoolFault> {
-    let file = file_of(alloc, tenants)?;
-    is_unchanged(alloc, &file, tenants)
+fn goes_unchanged(alloc: Global, tenants: u64) -> bool {
+    let mut file = Vec::new(alloc);
+    is_written(&mut file, tenants, 0, b"") && is_unchanged(alloc, &file, tenants)
 }
 
 #[test]
 fn three_tenants_go_unchanged(rt: HostRuntime) {
-    assert!(rt; goes_unchanged(rt.alloc(), 3) == Ok(true));
+    assert!(rt; goes_unchanged(rt.alloc(), 3));
 }
 
 #[test]
 fn a_thousand_tenants_go_unchanged(rt: HostRuntime) {
-    assert!(rt; goes_unchanged(rt.alloc(), 1000) == Ok(true));
+    assert!(rt; goes_unchanged(rt.alloc(), 1000));
 }
 
 // The tenant that a copy of any of them leaves: the objects that its refs reach, in the order of an
@@ -120,29 +113,35 @@ const COPY: &[u8] = b"\0\x04tzzz\0\0\0\0\0\0\0\x03\
 \0\x20refs/namespaces/tzzz/refs/tags/v\0\0\0\0\0\0\0\x02\0\x0frefs/heads/main";
 
 // Whether a copy of the last of a thousand tenants is taken, and saved after them as this file.
-fn copies_last(
-    alloc: Global,
-    service: &mut Service<Sha1Naming>,
-    file: &[u8],
-) -> Result<bool, PoolFault> {
-    let copied = service.copy_tenant(b"t999", b"tzzz") == Answer::Ok;
-    Ok(copied && is_that(alloc, service, file, 1001)?)
+fn copies_last(alloc: Global, service: &mut Service<Sha1Naming>, file: &[u8]) -> bool {
+    let is_copied = service.copy_tenant(b"t999", b"tzzz") == Answer::Ok;
+    is_copied && is_that(alloc, service, file, 1001)
 }
 
-fn is_last_copied(alloc: Global, file: &[u8], copied: &[u8]) -> Result<bool, PoolFault> {
-    let mut service = load(alloc, file)?;
-    copies_last(alloc, &mut service, copied)
+fn copies_last_of(alloc: Global, mut service: Service<Sha1Naming>, file: &[u8]) -> bool {
+    let is_copied = copies_last(alloc, &mut service, file);
+    drop(service);
+    is_copied
 }
 
-fn is_copied(alloc: Global) -> Result<bool, PoolFault> {
-    let file = file_of(alloc, 1000)?;
-    let copied = file_with(alloc, 1000, 1, COPY)?;
-    is_last_copied(alloc, &file, &copied)
+fn is_last_copied(alloc: Global, file: &[u8], copied: &[u8]) -> bool {
+    match load(alloc, file) {
+        Ok(service) => copies_last_of(alloc, service, copied),
+        Err(_) => false,
+    }
+}
+
+fn is_copied(alloc: Global) -> bool {
+    let mut file = Vec::new(alloc);
+    let mut copied = Vec::new(alloc);
+    is_written(&mut file, 1000, 0, b"")
+        && is_written(&mut copied, 1000, 1, COPY)
+        && is_last_copied(alloc, &file, &copied)
 }
 
 #[test]
 fn one_of_a_thousand_tenants_is_copied(rt: HostRuntime) {
-    assert!(rt; is_copied(rt.alloc()) == Ok(true));
+    assert!(rt; is_copied(rt.alloc()));
 }
 
 // A reader that fails at any of these calls is blamed, and one that fails later is not.
@@ -158,15 +157,20 @@ fn are_readers_blamed_of(alloc: Global, file: &[u8], calls: u64) -> bool {
         .is_none()
 }
 
-fn are_readers_blamed(alloc: Global) -> Result<bool, AllocError> {
-    let file = file_of(alloc, 3)?;
-    let (refusal, calls) = refusal_of(alloc, Sha1Naming, file.as_slice());
-    Ok(refusal.is_none() && are_readers_blamed_of(alloc, &file, calls))
+// The same of the calls that one loading makes.
+fn are_all_blamed_of(alloc: Global, file: &[u8]) -> bool {
+    let (refusal, calls) = refusal_of(alloc, Sha1Naming, file);
+    refusal.is_none() && are_readers_blamed_of(alloc, file, calls)
+}
+
+fn are_readers_blamed(alloc: Global) -> bool {
+    let mut file = Vec::new(alloc);
+    is_written(&mut file, 3, 0, b"") && are_all_blamed_of(alloc, &file)
 }
 
 #[test]
 fn readers_are_blamed_at_each_call(rt: HostRuntime) {
-    assert!(rt; are_readers_blamed(rt.alloc()) == Ok(true));
+    assert!(rt; are_readers_blamed(rt.alloc()));
 }
 
 // What stands written where a writer of one byte a call fails at its nth.
@@ -186,17 +190,25 @@ fn are_fronts_saved_of(alloc: Global, service: &Service<Sha1Naming>, file: &[u8]
     true
 }
 
-fn are_fronts_saved_when_loaded(alloc: Global, file: &[u8]) -> Result<bool, PoolFault> {
-    let service = load(alloc, file)?;
-    Ok(are_fronts_saved_of(alloc, &service, file))
+fn are_fronts_of(alloc: Global, service: Service<Sha1Naming>, file: &[u8]) -> bool {
+    let are_saved = are_fronts_saved_of(alloc, &service, file);
+    drop(service);
+    are_saved
 }
 
-fn are_fronts_saved(alloc: Global) -> Result<bool, PoolFault> {
-    let file = file_of(alloc, 3)?;
-    are_fronts_saved_when_loaded(alloc, &file)
+fn are_fronts_saved_when_loaded(alloc: Global, file: &[u8]) -> bool {
+    match load(alloc, file) {
+        Ok(service) => are_fronts_of(alloc, service, file),
+        Err(_) => false,
+    }
+}
+
+fn are_fronts_saved(alloc: Global) -> bool {
+    let mut file = Vec::new(alloc);
+    is_written(&mut file, 3, 0, b"") && are_fronts_saved_when_loaded(alloc, &file)
 }
 
 #[test]
 fn a_front_is_saved_where_a_writer_fails(rt: HostRuntime) {
-    assert!(rt; are_fronts_saved(rt.alloc()) == Ok(true));
+    assert!(rt; are_fronts_saved(rt.alloc()));
 }

@@ -1,10 +1,10 @@
 //! Frames read and answers written, beside bytes derived by hand.
 
-use git_objects::{Counted, FailingReader, FailingWriter};
-use std::alloc::{AllocError, Global};
+use byte_devices::{FailingReader, FailingWriter};
+use gitpool::{Answer, Counted, FrameFault, Step};
+use std::alloc::Global;
 use std::io::Read;
-use std::test::Fail;
-use step_frames::{Answer, FrameFault, Frames, Step, write_answer};
+use step_frames::{Frames, write_answer};
 
 // Each kind of frame, one after the other.
 const FRAMES: &[u8] = b"\x01\0\x01t\0\0\0\0\
@@ -57,152 +57,153 @@ const TOLD: &[(Answer, &[u8])] = &[
     ),
 ];
 
+// Whether the next frame is this step.
+fn is_next<R: Read>(frames: &mut Frames, reader: &mut Counted<R>, step: Step<'_>) -> bool {
+    frames.next(reader) == Ok(Some(step))
+}
+
 // Whether a reader is read as these steps and no more.
-fn are_read<R: Read>(
-    frames: &mut Frames,
-    reader: &mut Counted<R>,
-    steps: &[Step<'_>],
-) -> Result<bool, FrameFault> {
+fn are_read<R: Read>(frames: &mut Frames, reader: &mut Counted<R>, steps: &[Step<'_>]) -> bool {
     for step in steps {
-        if frames.next(reader)? != Some(*step) {
-            return Ok(false);
+        if !is_next(frames, reader, *step) {
+            return false;
         }
     }
-    Ok(frames.next(reader)?.is_none())
+    frames.next(reader) == Ok(None)
 }
 
 // The same of these bytes, and how many bytes that takes.
-fn reads_steps(alloc: Global, bytes: &[u8], steps: &[Step<'_>]) -> (Result<bool, FrameFault>, u64) {
+fn reads_steps(alloc: Global, bytes: &[u8], steps: &[Step<'_>]) -> (bool, u64) {
     let mut reader = Counted::new(bytes);
     let mut frames = Frames::new(alloc);
-    let told = are_read(&mut frames, &mut reader, steps);
-    (told, reader.passed())
+    let are_read = are_read(&mut frames, &mut reader, steps);
+    drop(frames);
+    (are_read, reader.passed())
 }
 
-// How many frames these bytes have, six at most, and the fault that ends them. Want of memory
-// ends a test.
-fn read_frames<R: Read>(
-    alloc: Global,
+// How many frames a reader has, six at most, and the fault that ends them.
+fn count_frames<R: Read>(
+    frames: &mut Frames,
     reader: &mut Counted<R>,
-) -> Result<(usize, Option<FrameFault>), Fail> {
-    let mut frames = Frames::new(alloc);
+) -> (usize, Option<FrameFault>) {
     for count in 0..6usize {
         match frames.next(reader) {
             Ok(Some(_)) => {}
-            Ok(None) => return Ok((count, None)),
-            Err(FrameFault::Memory) => return Err(Fail::from(FrameFault::Memory)),
-            Err(fault) => return Ok((count, Some(fault))),
+            Ok(None) => return (count, None),
+            Err(fault) => return (count, Some(fault)),
         }
     }
-    Ok((6, None))
+    (6, None)
+}
+
+fn read_frames<R: Read>(alloc: Global, reader: &mut Counted<R>) -> (usize, Option<FrameFault>) {
+    let mut frames = Frames::new(alloc);
+    let read = count_frames(&mut frames, reader);
+    drop(frames);
+    read
+}
+
+// What ends a front of this size: nothing where a frame ends there or the first begins.
+fn fault_at(size: usize) -> Option<FrameFault> {
+    if ENDS.contains(&size) {
+        None
+    } else {
+        Some(FrameFault::CutOff)
+    }
 }
 
 // Whether a front of the frames has the frames that end in it, and is cut off after the last of
 // them or has no more bytes.
-fn is_read_to_its_end(alloc: Global, front: &[u8]) -> Result<bool, Fail> {
+fn is_read_to_its_end(alloc: Global, front: &[u8]) -> bool {
     let size = front.len();
     let mut reader = Counted::new(front);
-    let (count, fault) = read_frames(alloc, &mut reader)?;
+    let (count, fault) = read_frames(alloc, &mut reader);
     let ends = ENDS.iter().filter(|end| **end <= size).count();
-    let wanted = if ENDS.contains(&size) {
-        None
-    } else {
-        Some(FrameFault::CutOff)
-    };
-    Ok(ends.checked_sub(1) == Some(count) && fault == wanted)
+    ends.checked_sub(1) == Some(count) && fault == fault_at(size)
 }
 
 // How many bytes the body of the first frame has; none where it is no Feed.
-fn size_of_body<R: Read>(
-    frames: &mut Frames,
-    reader: &mut Counted<R>,
-) -> Result<Option<usize>, FrameFault> {
-    match frames.next(reader)? {
-        Some(Step::Feed { bytes, .. }) => Ok(Some(bytes.len())),
-        _ => Ok(None),
+fn size_of_body<R: Read>(frames: &mut Frames, reader: &mut Counted<R>) -> Option<usize> {
+    match frames.next(reader) {
+        Ok(Some(Step::Feed { bytes, .. })) => Some(bytes.len()),
+        _ => None,
     }
 }
 
-fn size_of_body_of(alloc: Global, bytes: &[u8]) -> Result<Option<usize>, FrameFault> {
+fn size_of_body_of(alloc: Global, bytes: &[u8]) -> Option<usize> {
     let mut reader = Counted::new(bytes);
     let mut frames = Frames::new(alloc);
-    size_of_body(&mut frames, &mut reader)
+    let size = size_of_body(&mut frames, &mut reader);
+    drop(frames);
+    size
 }
 
-// A frame whose body has the most bytes.
-fn longest_frame(alloc: Global) -> Result<Vec<u8>, AllocError> {
-    let mut bytes = Vec::from_slice(alloc, b"\x02\0\x01t\x01\0\0\0")?;
-    bytes.resize(16_777_216 + 8, b'x')?;
-    Ok(bytes)
-}
-
-fn is_longest_read(alloc: Global) -> Result<bool, AllocError> {
-    let bytes = longest_frame(alloc)?;
-    Ok(size_of_body_of(alloc, &bytes) == Ok(Some(16_777_216)))
+// Whether a frame whose body has the most bytes is read.
+fn is_longest_read(alloc: Global) -> bool {
+    let mut bytes = Vec::new(alloc);
+    bytes.extend_from_slice(b"\x02\0\x01t\x01\0\0\0").is_ok()
+        && bytes.resize(16_777_216 + 8, b'x').is_ok()
+        && size_of_body_of(alloc, &bytes) == Some(16_777_216)
 }
 
 // What is told of a reader that fails in the second frame, and how often it failed.
-fn read_to_a_failure(alloc: Global) -> Result<(usize, Option<FrameFault>, u64), Fail> {
+fn read_to_a_failure(alloc: Global) -> (usize, Option<FrameFault>, u64) {
     let mut reader = Counted::new(FailingReader::new(FRAMES, 4));
-    let (count, fault) = read_frames(alloc, &mut reader)?;
-    Ok((count, fault, reader.faults()))
+    let (count, fault) = read_frames(alloc, &mut reader);
+    (count, fault, reader.faults())
 }
 
 #[test]
 fn reads_a_step_of_each_kind(rt: HostRuntime) {
-    assert_eq!(rt; reads_steps(rt.alloc(), FRAMES, STEPS), (Ok(true), 46));
+    assert_eq!(rt; reads_steps(rt.alloc(), FRAMES, STEPS), (true, 46));
 }
 
 #[test]
-fn reads_a_body_of_the_most_bytes(rt: HostRuntime) -> Result<(), Fail> {
-    assert!(rt; is_longest_read(rt.alloc())?);
-    Ok(())
+fn reads_a_body_of_the_most_bytes(rt: HostRuntime) {
+    assert!(rt; is_longest_read(rt.alloc()));
 }
 
 // Whether these bytes are refused, once so many of them are read.
-fn is_refused_at(alloc: Global, bytes: &[u8], passed: u64) -> Result<bool, Fail> {
+fn is_refused_at(alloc: Global, bytes: &[u8], passed: u64) -> bool {
     let mut reader = Counted::new(bytes);
-    let seen = read_frames(alloc, &mut reader)?;
-    Ok(seen == (0, Some(FrameFault::BadFrame)) && reader.passed() == passed)
+    let seen = read_frames(alloc, &mut reader);
+    seen == (0, Some(FrameFault::BadFrame)) && reader.passed() == passed
 }
 
 // The first of the wrong parts, by its place, that is told otherwise.
-fn first_otherwise(alloc: Global) -> Result<Option<usize>, Fail> {
+fn first_otherwise(alloc: Global) -> Option<usize> {
     for (place, (bytes, passed)) in BAD.iter().enumerate() {
-        if !is_refused_at(alloc, bytes, *passed)? {
-            return Ok(Some(place));
+        if !is_refused_at(alloc, bytes, *passed) {
+            return Some(place);
         }
     }
-    Ok(None)
+    None
 }
 
 // The first of the fronts, by its size, that is read otherwise.
-fn first_front_otherwise(alloc: Global) -> Result<Option<usize>, Fail> {
+fn first_front_otherwise(alloc: Global) -> Option<usize> {
     for size in 0..FRAMES.len() + 1 {
-        if !is_read_to_its_end(alloc, FRAMES.split_at(size).0)? {
-            return Ok(Some(size));
+        if !is_read_to_its_end(alloc, FRAMES.split_at(size).0) {
+            return Some(size);
         }
     }
-    Ok(None)
+    None
 }
 
 #[test]
-fn tells_a_wrong_part(rt: HostRuntime) -> Result<(), Fail> {
-    assert_eq!(rt; first_otherwise(rt.alloc())?, None);
-    Ok(())
+fn tells_a_wrong_part(rt: HostRuntime) {
+    assert_eq!(rt; first_otherwise(rt.alloc()), None);
 }
 
 #[test]
-fn tells_a_frame_that_is_cut_off(rt: HostRuntime) -> Result<(), Fail> {
-    assert_eq!(rt; first_front_otherwise(rt.alloc())?, None);
-    Ok(())
+fn tells_a_frame_that_is_cut_off(rt: HostRuntime) {
+    assert_eq!(rt; first_front_otherwise(rt.alloc()), None);
 }
 
 #[test]
-fn tells_a_reader_that_fails(rt: HostRuntime) -> Result<(), Fail> {
-    let failed = read_to_a_failure(rt.alloc())?;
+fn tells_a_reader_that_fails(rt: HostRuntime) {
+    let failed = read_to_a_failure(rt.alloc());
     assert_eq!(rt; failed, (1, Some(FrameFault::Device), 1));
-    Ok(())
 }
 
 // Whether an answer is told as these bytes.

@@ -2,8 +2,7 @@
 //! answers are those of a repository of its own given the same stop.
 
 use crate::told::{feeds, tells};
-use git_objects::Sha1Naming;
-use gitpool::{Answer, Service, Step};
+use gitpool::{Answer, Service, Sha1Naming, Step};
 use std::alloc::Global;
 
 // The name of the commit that is made here: a tree of no files, `x` as its message.
@@ -119,7 +118,9 @@ fn opens_and_stops_well(alloc: Global, service: &mut Service<Sha1Naming>, stop: 
 
 fn stops_as_alone(alloc: Global, stop: &Stop) -> bool {
     let mut service = Service::new(alloc, Sha1Naming);
-    opens_and_stops_well(alloc, &mut service, stop)
+    let stops = opens_and_stops_well(alloc, &mut service, stop);
+    drop(service);
+    stops
 }
 
 #[test]

@@ -1,8 +1,7 @@
 //! Imports of streams, and what else ends an import. What each worked stream prints is asked of
 //! frames (crate gitpool_frames).
 
-use git_objects::{Counted, Naming, Sha1Naming, TailNaming};
-use gitpool::{ImportFault, import_one};
+use gitpool::{Counted, ImportFault, Naming, Sha1Naming, TailNaming, import_one};
 use std::alloc::Global;
 
 // A stream of the folder `streams/`, by its name there, what it prints, and the fault that it gets.

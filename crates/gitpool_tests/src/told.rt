@@ -1,7 +1,6 @@
 //! What a step is told, for tests. Want of memory is never what is asked for: it has the number 90.
 
-use git_objects::Naming;
-use gitpool::{Answer, Service, Step};
+use gitpool::{Answer, Naming, Service, Step};
 use std::alloc::Global;
 
 /// The number that refuses a step, 0 where nothing does.

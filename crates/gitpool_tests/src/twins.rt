@@ -5,8 +5,7 @@
 //! sum, so that their objects have the same names.
 
 use crate::told::code_of;
-use git_objects::TailNaming;
-use gitpool::{Service, Step};
+use gitpool::{Service, Step, TailNaming};
 use std::alloc::Global;
 
 // What the two tenants feed: streams of one length.
@@ -171,16 +170,31 @@ impl<'a> Services<'a> {
     }
 }
 
+// The same over these services.
+fn go_over(
+    alloc: Global,
+    shared: &mut Service<TailNaming>,
+    first: &mut Service<TailNaming>,
+    second: &mut Service<TailNaming>,
+    twins: &Twins,
+) -> bool {
+    let mut services = Services {
+        shared,
+        first,
+        second,
+    };
+    services.go_as_alone(alloc, twins)
+}
+
 fn twins_go_as_alone(alloc: Global, twins: &Twins) -> bool {
     let mut shared = Service::new(alloc, TailNaming);
     let mut first = Service::new(alloc, TailNaming);
     let mut second = Service::new(alloc, TailNaming);
-    let mut services = Services {
-        shared: &mut shared,
-        first: &mut first,
-        second: &mut second,
-    };
-    services.go_as_alone(alloc, twins)
+    let go = go_over(alloc, &mut shared, &mut first, &mut second, twins);
+    drop(shared);
+    drop(first);
+    drop(second);
+    go
 }
 
 // What the first twins do that are told otherwise.

@@ -1,8 +1,7 @@
 //! Two tenants of one service, as an example of its calls. The first imports a blob; the second asks
 //! for it by its name, and finds it missing, though both lie over one pool of contents.
 
-use git_objects::Sha1Naming;
-use gitpool::{Answer, Service, Step};
+use gitpool::{Answer, Service, Sha1Naming, Step};
 use std::alloc::Global;
 
 // A blob of six bytes, and a question for its name: git-fast-import(1).

@@ -14,7 +14,8 @@ ghost use Rattle.tenant_tables.specs.StandsIn.{StandsIn};
 ghost use Rattle.tenant_tables.specs.View.{in_sight, slot_of};
 
 use content_pool::{Pool, Slot};
-use git_objects::{Kind, Name, Naming};
+use git_model::Kind;
+use git_names::{Name, Naming};
 use std::marker::Model;
 use tenant_tables::{Found, Sight, Table};
 

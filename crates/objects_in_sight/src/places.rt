@@ -7,7 +7,8 @@ ghost use Rattle.git_model.specs.Repository.{Object};
 ghost use Rattle.git_model.specs.References.{place_of};
 
 use crate::objects::Objects;
-use git_objects::{Kind, Name, Naming};
+use git_model::Kind;
+use git_names::{Name, Naming};
 
 impl<'a, N: Naming> Objects<'a, N> {
     /// The position of the object of this name, from 0 on for the oldest; `None` where there is no

@@ -1,16 +1,15 @@
 //! A repository with marks and an open commit, for tests, which is taken through steps.
 
 use crate::taking::{answers, begin_on, code_of, files_left, put_back, taken};
-use crate::words::{header_with, is, long_path, mark_of, mode, number, object, word};
+use crate::words::{header_with, is, long_path, mark_of, mode, number, object, path_of, word};
 use branch_trees::Files;
 use content_pool::Pool;
 use git_objects::{FileMode, Kind, Name, Naming, Sha1Naming};
-use git_paths::{Path, Place};
+use git_paths::Path;
 use indexmap::IndexMap;
 use open_commits::{Header, OpenCommit};
 use std::alloc::Global;
 use std::marker::Model;
-use std::test::Fail;
 use stream_grammar::{DataRef, Mark};
 use tenant_tables::{Fault, Table};
 use tree_build::Entry;
@@ -22,9 +21,11 @@ pub struct Case {
 }
 
 /// The first of these steps, by its position, that is answered otherwise.
-pub fn first_wrong(alloc: Global, steps: &[u8]) -> Result<Option<usize>, Fail> {
+pub fn first_wrong(alloc: Global, steps: &[u8]) -> Option<usize> {
     let mut repository = Repository::new(alloc, Sha1Naming);
-    repository.first_wrong(steps)
+    let wrong = repository.first_wrong(steps);
+    drop(repository);
+    wrong
 }
 
 #[derive(Drop)]
@@ -63,17 +64,18 @@ impl<N: Naming> Repository<N> {
         }
     }
 
-    fn first_wrong(&mut self, steps: &[u8]) -> Result<Option<usize>, Fail> {
+    fn first_wrong(&mut self, steps: &[u8]) -> Option<usize> {
         for (position, step) in steps.split(|byte| *byte == b';').enumerate() {
-            if !self.takes(step)? {
-                return Ok(Some(position));
+            if self.takes(step) != Some(true) {
+                return Some(position);
             }
         }
-        Ok(None)
+        None
     }
 
-    // Whether a step goes as it says. Each function knows some of them, so that its proof is short.
-    fn takes(&mut self, step: &[u8]) -> Result<bool, Fail> {
+    // Whether a step goes as it says; none where its words say nothing, or memory ran out. Each
+    // function knows some of them, so that its proof is short.
+    fn takes(&mut self, step: &[u8]) -> Option<bool> {
         if is(step, b"blob") {
             self.add_blob(step)
         } else if is(step, b"begin") {
@@ -87,7 +89,7 @@ impl<N: Naming> Repository<N> {
         }
     }
 
-    fn changes(&mut self, step: &[u8]) -> Result<bool, Fail> {
+    fn changes(&mut self, step: &[u8]) -> Option<bool> {
         if is(step, b"modify") {
             self.modify(step)
         } else if is(step, b"inline") {
@@ -101,7 +103,7 @@ impl<N: Naming> Repository<N> {
         }
     }
 
-    fn moves(&mut self, step: &[u8]) -> Result<bool, Fail> {
+    fn moves(&mut self, step: &[u8]) -> Option<bool> {
         if is(step, b"merge") {
             self.merge(step)
         } else if is(step, b"copy") {
@@ -115,7 +117,7 @@ impl<N: Naming> Repository<N> {
         }
     }
 
-    fn shows(&mut self, step: &[u8]) -> Result<bool, Fail> {
+    fn shows(&mut self, step: &[u8]) -> Option<bool> {
         if is(step, b"shows") {
             self.has_entry(step)
         } else if is(step, b"shows_none") {
@@ -127,112 +129,100 @@ impl<N: Naming> Repository<N> {
         }
     }
 
-    fn goes_far(&mut self, step: &[u8]) -> Result<bool, Fail> {
+    fn goes_far(&mut self, step: &[u8]) -> Option<bool> {
         if is(step, b"merges") {
             self.merge_often(step)
         } else if is(step, b"modify_long") {
             self.modify_long(step)
         } else {
-            Ok(false)
+            Some(false)
         }
     }
 
-    fn path(&self, step: &[u8], place: usize) -> Result<Path, Fail> {
-        let (path, _) = Path::read(self.alloc, word(step, place), Place::Last)?;
-        Ok(path)
+    fn path(&self, step: &[u8], place: usize) -> Option<Path> {
+        path_of(self.alloc, word(step, place))
     }
 
-    // The source and the path of a copy.
-    fn paths(&self, step: &[u8]) -> Result<(Path, Path), Fail> {
-        let source = self.path(step, 2)?;
-        let path = self.path(step, 3)?;
-        Ok((source, path))
-    }
-
-    fn marked(&self, step: &[u8], place: usize) -> Result<Name, Fail> {
+    fn marked(&self, step: &[u8], place: usize) -> Option<Name> {
         let mark = mark_of(word(step, place))?;
-        let id = self.marks.get(&mark).ok_or("nothing marked")?;
-        Ok(*id)
+        self.marks.get(&mark).copied()
     }
 
-    fn add_blob(&mut self, step: &[u8]) -> Result<bool, Fail> {
+    fn add_blob(&mut self, step: &[u8]) -> Option<bool> {
         let mark = mark_of(word(step, 1))?;
-        let id = self.added(word(step, 2))?;
-        self.marks.insert(mark, id)?;
-        Ok(true)
+        let id = self.added(word(step, 2)).ok()?;
+        Some(self.marks.insert(mark, id).is_ok())
     }
 
     // No commit goes on after it.
     fn added(&mut self, bytes: &[u8]) -> Result<Name, Fault> {
-        self.commit = None;
+        drop(self.commit.take());
         self.table.add(&mut self.pool, Kind::Blob, bytes)
     }
 
-    fn begin(&mut self, step: &[u8]) -> Result<bool, Fail> {
+    fn begin(&mut self, step: &[u8]) -> Option<bool> {
         let header = header_with(self.alloc, word(step, 2))?;
-        self.begin_by(header, word(step, 1))?;
-        Ok(true)
+        Some(self.begin_by(header, word(step, 1)))
     }
 
-    fn begin_by(&mut self, header: Header, message: &[u8]) -> Result<(), Fail> {
-        self.commit = None;
+    fn begin_by(&mut self, header: Header, message: &[u8]) -> bool {
+        drop(self.commit.take());
         let files = Files::new(self.alloc);
         begin_on(&mut self.commit, header, message, files, self.alloc)
     }
 
-    fn go_on(&mut self, step: &[u8]) -> Result<bool, Fail> {
+    fn go_on(&mut self, step: &[u8]) -> Option<bool> {
         let reads = number(step, 1)?;
         let header = header_with(self.alloc, b"")?;
-        Ok(self.go_on_by(header, word(step, 2))? == reads)
+        Some(self.go_on_by(header, word(step, 2))? == reads)
     }
 
     // Begins a commit on the files of the open one, and answers how many texts of trees were read
     // for them.
-    fn go_on_by(&mut self, header: Header, message: &[u8]) -> Result<u64, Fail> {
+    fn go_on_by(&mut self, header: Header, message: &[u8]) -> Option<u64> {
         let files = files_left(&mut self.commit)?;
         let reads = files.reads();
-        begin_on(&mut self.commit, header, message, files, self.alloc)?;
-        Ok(reads)
+        begin_on(&mut self.commit, header, message, files, self.alloc).then_some(reads)
     }
 
-    fn start_from(&mut self, step: &[u8]) -> Result<bool, Fail> {
+    fn start_from(&mut self, step: &[u8]) -> Option<bool> {
         let id = self.marked(step, 1)?;
         let mut commit = taken(&mut self.commit)?;
         let answer = commit.start_from(&self.pool, &self.table, id);
-        answers(&mut self.commit, commit, answer, 0)
+        Some(answers(&mut self.commit, commit, answer, 0))
     }
 
-    fn merge(&mut self, step: &[u8]) -> Result<bool, Fail> {
+    fn merge(&mut self, step: &[u8]) -> Option<bool> {
         let code = number(step, 1)?;
         let id = self.marked(step, 2)?;
         self.merge_with(id, code)
     }
 
-    fn merge_often(&mut self, step: &[u8]) -> Result<bool, Fail> {
+    fn merge_often(&mut self, step: &[u8]) -> Option<bool> {
         let times = number(step, 1)?;
         let id = self.marked(step, 2)?;
         for _ in 0..times {
-            if !self.merge_with(id, 0)? {
-                return Ok(false);
+            if self.merge_with(id, 0) != Some(true) {
+                return Some(false);
             }
         }
-        Ok(true)
+        Some(true)
     }
 
-    fn merge_with(&mut self, id: Name, code: u64) -> Result<bool, Fail> {
+    fn merge_with(&mut self, id: Name, code: u64) -> Option<bool> {
         let mut commit = taken(&mut self.commit)?;
         let answer = commit.merge(id);
-        answers(&mut self.commit, commit, answer, code)
+        Some(answers(&mut self.commit, commit, answer, code))
     }
 
-    fn modify(&mut self, step: &[u8]) -> Result<bool, Fail> {
+    fn modify(&mut self, step: &[u8]) -> Option<bool> {
         let code = number(step, 1)?;
         let (mode, object) = (mode(step, 2)?, object(step, 3)?);
         let path = self.path(step, 4)?;
         self.modify_at(mode, object, &path, code)
     }
 
-    fn modify_long(&mut self, step: &[u8]) -> Result<bool, Fail> {
+    fn modify_long(&mut self, step: &[u8]) -> Option<bool> {
         let code = number(step, 1)?;
         let object = DataRef::Mark(mark_of(b"1")?);
         let path = long_path(self.alloc, number(step, 2)?)?;
@@ -245,13 +235,13 @@ impl<N: Naming> Repository<N> {
         object: DataRef,
         path: &Path,
         code: u64,
-    ) -> Result<bool, Fail> {
+    ) -> Option<bool> {
         let mut commit = taken(&mut self.commit)?;
         let answer = commit.modify(&self.pool, &self.table, &self.marks, mode, object, path);
-        answers(&mut self.commit, commit, answer, code)
+        Some(answers(&mut self.commit, commit, answer, code))
     }
 
-    fn put_contents(&mut self, step: &[u8]) -> Result<bool, Fail> {
+    fn put_contents(&mut self, step: &[u8]) -> Option<bool> {
         let code = number(step, 1)?;
         let mode = mode(step, 2)?;
         let path = self.path(step, 3)?;
@@ -265,91 +255,101 @@ impl<N: Naming> Repository<N> {
         path: &Path,
         contents: &[u8],
         code: u64,
-    ) -> Result<bool, Fail> {
+    ) -> Option<bool> {
         let mut commit = taken(&mut self.commit)?;
         let answer = commit.put_contents(&mut self.pool, &mut self.table, mode, path, contents);
         put_back(&mut self.commit, commit, answer.is_ok());
-        Ok(code_of(answer)? == code)
+        Some(code_of(answer) == code)
     }
 
-    fn delete(&mut self, step: &[u8]) -> Result<bool, Fail> {
+    fn delete(&mut self, step: &[u8]) -> Option<bool> {
         let path = self.path(step, 1)?;
         self.delete_at(&path)
     }
 
-    fn delete_at(&mut self, path: &Path) -> Result<bool, Fail> {
+    fn delete_at(&mut self, path: &Path) -> Option<bool> {
         let mut commit = taken(&mut self.commit)?;
         let answer = commit.delete(&self.pool, &self.table, path);
-        answers(&mut self.commit, commit, answer, 0)
+        Some(answers(&mut self.commit, commit, answer, 0))
     }
 
-    fn delete_all(&mut self) -> Result<bool, Fail> {
+    fn delete_all(&mut self) -> Option<bool> {
         let mut commit = taken(&mut self.commit)?;
         commit.delete_all();
         put_back(&mut self.commit, commit, true);
-        Ok(true)
+        Some(true)
     }
 
-    fn copy(&mut self, step: &[u8]) -> Result<bool, Fail> {
+    fn copy(&mut self, step: &[u8]) -> Option<bool> {
         let code = number(step, 1)?;
-        let (source, path) = self.paths(step)?;
-        self.copy_to(&source, &path, code)
+        let source = self.path(step, 2)?;
+        self.copy_from(&source, step, code)
     }
 
-    fn copy_to(&mut self, source: &Path, path: &Path, code: u64) -> Result<bool, Fail> {
+    fn copy_from(&mut self, source: &Path, step: &[u8], code: u64) -> Option<bool> {
+        let path = self.path(step, 3)?;
+        self.copy_to(source, &path, code)
+    }
+
+    fn copy_to(&mut self, source: &Path, path: &Path, code: u64) -> Option<bool> {
         let mut commit = taken(&mut self.commit)?;
         let answer = commit.copy(&self.pool, &self.table, source, path);
-        answers(&mut self.commit, commit, answer, code)
+        Some(answers(&mut self.commit, commit, answer, code))
     }
 
-    fn rename(&mut self, step: &[u8]) -> Result<bool, Fail> {
+    fn rename(&mut self, step: &[u8]) -> Option<bool> {
         let code = number(step, 1)?;
-        let (source, path) = self.paths(step)?;
-        self.rename_to(&source, &path, code)
+        let source = self.path(step, 2)?;
+        self.rename_from(&source, step, code)
     }
 
-    fn rename_to(&mut self, source: &Path, path: &Path, code: u64) -> Result<bool, Fail> {
+    fn rename_from(&mut self, source: &Path, step: &[u8], code: u64) -> Option<bool> {
+        let path = self.path(step, 3)?;
+        self.rename_to(source, &path, code)
+    }
+
+    fn rename_to(&mut self, source: &Path, path: &Path, code: u64) -> Option<bool> {
         let mut commit = taken(&mut self.commit)?;
         let answer = commit.rename(&self.pool, &self.table, source, path);
-        answers(&mut self.commit, commit, answer, code)
+        Some(answers(&mut self.commit, commit, answer, code))
     }
 
-    fn entry(&mut self, path: &Path) -> Result<Option<Entry>, Fail> {
+    fn entry(&mut self, path: &Path) -> Option<Option<Entry>> {
         let mut commit = taken(&mut self.commit)?;
         let entry = commit.show_entry(&mut self.pool, &mut self.table, path);
         put_back(&mut self.commit, commit, true);
-        Ok(entry?)
+        entry.ok()
     }
 
-    fn has_entry(&mut self, step: &[u8]) -> Result<bool, Fail> {
+    fn has_entry(&mut self, step: &[u8]) -> Option<bool> {
         let mode = mode(step, 1)?;
-        let name = Name::from_hex(word(step, 2)).ok_or("no name")?;
+        let name = Name::from_hex(word(step, 2))?;
         let path = self.path(step, 3)?;
         let entry = self.entry(&path)?;
-        Ok(entry.map(|found| (found.mode, found.name)) == Some((mode, name)))
+        Some(entry == Some(Entry { mode, name }))
     }
 
-    fn has_none(&mut self, step: &[u8]) -> Result<bool, Fail> {
+    fn has_none(&mut self, step: &[u8]) -> Option<bool> {
         let path = self.path(step, 1)?;
         let entry = self.entry(&path)?;
-        Ok(entry.is_none())
+        Some(entry.is_none())
     }
 
-    fn has_stored(&self, step: &[u8]) -> Result<bool, Fail> {
-        Ok(self.table.len() as u64 == number(step, 1)?)
+    fn has_stored(&self, step: &[u8]) -> Option<bool> {
+        Some(self.table.len() as u64 == number(step, 1)?)
     }
 
-    fn close(&mut self, step: &[u8]) -> Result<bool, Fail> {
+    fn close(&mut self, step: &[u8]) -> Option<bool> {
         let mark = mark_of(word(step, 1))?;
         let id = self.closed()?;
-        self.marks.insert(mark, id)?;
-        Ok(id.to_hex().as_slice() == word(step, 2))
+        let is_marked = self.marks.insert(mark, id).is_ok();
+        Some(is_marked && id.to_hex().as_slice() == word(step, 2))
     }
 
-    fn closed(&mut self) -> Result<Name, Fail> {
+    fn closed(&mut self) -> Option<Name> {
         let mut commit = taken(&mut self.commit)?;
         let answer = commit.close(&mut self.pool, &mut self.table);
         put_back(&mut self.commit, commit, answer.is_ok());
-        Ok(answer?)
+        answer.ok()
     }
 }

@@ -19,11 +19,10 @@
 
 use git_names::{Ident, RefName};
 use git_objects::{FileMode, Name, read_mode};
-use git_paths::Path;
+use git_paths::{Path, Place};
 use numerals::read_number;
 use open_commits::Header;
 use std::alloc::Global;
-use std::test::Fail;
 use stream_grammar::{DataRef, Mark};
 
 const AUTHOR: &[u8] = b"B C <b@c> 7 +0130";
@@ -40,57 +39,66 @@ pub fn is(step: &[u8], verb: &[u8]) -> bool {
     word(step, 0) == verb
 }
 
-fn number_of(text: &[u8]) -> Result<u64, Fail> {
-    Ok(read_number(text).ok_or("no number")?)
+pub fn number(step: &[u8], place: usize) -> Option<u64> {
+    read_number(word(step, place))
 }
 
-pub fn number(step: &[u8], place: usize) -> Result<u64, Fail> {
-    number_of(word(step, place))
+pub fn mark_of(text: &[u8]) -> Option<Mark> {
+    Mark::from_number(read_number(text)?)
 }
 
-pub fn mark_of(text: &[u8]) -> Result<Mark, Fail> {
-    Ok(Mark::from_number(number_of(text)?).ok_or("no mark")?)
+pub fn mode(step: &[u8], place: usize) -> Option<FileMode> {
+    read_mode(word(step, place))
 }
 
-pub fn mode(step: &[u8], place: usize) -> Result<FileMode, Fail> {
-    Ok(read_mode(word(step, place)).ok_or("no mode")?)
-}
-
-pub fn object(step: &[u8], place: usize) -> Result<DataRef, Fail> {
+pub fn object(step: &[u8], place: usize) -> Option<DataRef> {
     match word(step, place) {
-        [b':', digits @ ..] => Ok(DataRef::Mark(mark_of(digits)?)),
-        digits => Ok(DataRef::Name(Name::from_hex(digits).ok_or("no name")?)),
+        [b':', digits @ ..] => Some(DataRef::Mark(mark_of(digits)?)),
+        digits => Some(DataRef::Name(Name::from_hex(digits)?)),
     }
 }
 
-/// The path of so many components.
-pub fn long_path(alloc: Global, components: u64) -> Result<Path, Fail> {
-    let mut path = Vec::new(alloc);
-    for position in 0..components {
-        path.push(if position > 0 { b'/' } else { b'a' })?;
-        path.push(b'a')?;
+/// The path of this word, if it is one.
+pub fn path_of(alloc: Global, text: &[u8]) -> Option<Path> {
+    match Path::read(alloc, text, Place::Last) {
+        Ok((path, _)) => Some(path),
+        Err(_) => None,
     }
-    Ok(Path::from_canonical(alloc, &path)?.ok_or("no path")?)
+}
+
+/// The path of so many components, if there was room for it.
+pub fn long_path(alloc: Global, components: u64) -> Option<Path> {
+    let mut path = Vec::new(alloc);
+    if !takes_components(&mut path, components) {
+        return None;
+    }
+    Path::from_canonical(alloc, &path).unwrap_or(None)
+}
+
+fn takes_components(path: &mut Vec<u8>, components: u64) -> bool {
+    for position in 0..components {
+        let before = if position > 0 { b'/' } else { b'a' };
+        if path.extend_from_slice(&[before, b'a']).is_err() {
+            return false;
+        }
+    }
+    true
 }
 
 /// The header of a commit with this line of its own, or none.
-pub fn header_with(alloc: Global, line: &[u8]) -> Result<Header, Fail> {
+pub fn header_with(alloc: Global, line: &[u8]) -> Option<Header> {
     if line == b"author".as_slice() {
-        return header_of(alloc, Some(Ident::read(alloc, AUTHOR)?), None);
+        header_of(alloc, Some(Ident::read(alloc, AUTHOR).ok()?), None)
+    } else if line == b"encoding".as_slice() {
+        header_of(alloc, None, Some(Vec::from_slice(alloc, ENCODING).ok()?))
+    } else {
+        header_of(alloc, None, None)
     }
-    if line == b"encoding".as_slice() {
-        return header_of(alloc, None, Some(Vec::from_slice(alloc, ENCODING)?));
-    }
-    header_of(alloc, None, None)
 }
 
-fn header_of(
-    alloc: Global,
-    author: Option<Ident>,
-    encoding: Option<Vec<u8>>,
-) -> Result<Header, Fail> {
+fn header_of(alloc: Global, author: Option<Ident>, encoding: Option<Vec<u8>>) -> Option<Header> {
     let (ref_name, committer) = branch_and_committer(alloc)?;
-    Ok(Header {
+    Some(Header {
         ref_name,
         mark: None,
         author,
@@ -99,8 +107,8 @@ fn header_of(
     })
 }
 
-fn branch_and_committer(alloc: Global) -> Result<(RefName, Ident), Fail> {
-    let branch = RefName::read(alloc, b"refs/heads/m")?;
-    let committer = Ident::read(alloc, b"A <a@b> 0 +0000")?;
-    Ok((branch, committer))
+fn branch_and_committer(alloc: Global) -> Option<(RefName, Ident)> {
+    let branch = RefName::read(alloc, b"refs/heads/m").ok()?;
+    let committer = Ident::read(alloc, b"A <a@b> 0 +0000").ok()?;
+    Some((branch, committer))
 }

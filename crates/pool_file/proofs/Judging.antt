@@ -1,21 +1,24 @@
 -- What was read is judged.
-use Rattle.std.proofs.Common.{◌≡◌, ℕ, Bool, true, false, cond, List, [], ◌∷◌, Option, None, Some, Result, Ok, Err, sym, ap, subst, ◌∙◌, inl, inr}
+use Rattle.std.proofs.Common.{◌≡◌, ℕ, Bool, true, false, cond, List, [], ◌∷◌, ◌++◌, Option, None, Some, Result, Ok, Err, sym, ap, subst, ◌∙◌, append-nil, inl, inr}
+use Rattle.std.specs.Io.KnownBytes.{Consumes}
+use Rattle.std.specs.Option.{unwrap_or}
 use Rattle.std.specs.Str.{bytes_eq}
 use Rattle.git_names.specs.Naming.{AnswersNames}
 use Rattle.byte_devices.specs.Device.{Device}
+use Rattle.byte_devices.specs.Reading.{AreBytes}
 use Rattle.pool_file_text.specs.declared.refusal.Refusal.{Refusal}
 use Rattle.pool_file_text.specs.declared.refusal.Refusal.TheVariants as refusal
 use Rattle.pool_file_text.specs.declared.fault.Fault.{Fault}
 use Rattle.pool_file_text.specs.declared.fault.Fault.TheVariants as fault
 use Rattle.pool_file_text.specs.Format.{RawFile, body_text}
 use Rattle.pool_file_text.specs.Lengths.{body_at, bytes_at, end_at, by_lengths, sealed_at, ◌>>=◌}
-use Rattle.pool_file_text.specs.Taking.{Gave, Reads}
-use Rattle.pool_file_text.proofs.Formats.{bind_ok, ok_is}
+use Rattle.pool_file_text.specs.Taking.{Gave, ReadsAll}
+use Rattle.pool_file_text.proofs.Formats.{IsBytes, bind_ok, bytes-each, ok_is}
 use Rattle.pool_file_checks.specs.Checks.{Passes, Refuses, Checked}
 use Rattle.pool_file_checks.specs.Whole.{file_checks}
 use Rattle.pool_file_checks.proofs.CheckLemmas.{passes_or_refuses}
 use Rattle.pool_file.specs.Judging.{IsRefused, Judges, Finds, Says, ReadsTexts, IsBlamed}
-use Rattle.pool_file.proofs.Texts.{Whole, judged, text_found, text_read}
+use Rattle.pool_file.proofs.Texts.{Whole, judged, text_read_in, text_read}
 
 -- ---- nothing is left after a file
 
@@ -90,12 +93,24 @@ passed digest (Some bytes) (Some rest) f g p = (
 
 -- ---- what it says
 
-pub finds : (digest : List ℕ → List ℕ) (old new : Option (List ℕ)) (r : Result RawFile Fault)
-    → AnswersNames digest → Judges digest old r new → Finds digest old r
-finds digest None new r names j = tt
-finds digest (Some bytes) new (Ok f) names j = λ small.
-    text_found digest bytes f names small j.0.read j.0.passes
-finds digest (Some bytes) new (Err e) names j = tt
+finds_in : (digest : List ℕ → List ℕ) (old new : Option (List ℕ)) (read : List ℕ) (f : RawFile)
+    → AnswersNames digest → Consumes old new read → AreBytes read → Judges digest old (Ok f) new
+    → Finds digest old (Ok f)
+finds_in digest None new read f names c small j = tt
+finds_in digest (Some bytes) None read f names c small j = absurd c
+finds_in digest (Some bytes) (Some rest) read f names c small j =
+    let none : rest ≡ [] = ap (λ (o : Option (List ℕ)). unwrap_or o []) j.1 in
+    let all : bytes ≡ read = c ∙ ap (λ (l : List ℕ). read ++ l) none ∙ append-nil read in
+    text_read_in digest bytes f names
+    (subst (λ (l : List ℕ). IsBytes l) (sym all) (bytes-each read small)) j.0.read j.0.passes
+
+-- All bytes came through the reader, which gives bytes.
+pub finds : (digest : List ℕ → List ℕ) (bound : ℕ) (old new : Device) (f : RawFile)
+    → AnswersNames digest → ReadsAll bound (sealed_at digest) old (Ok f) new
+    → Judges digest old.known (Ok f) new.known → Finds digest old.known (Ok f)
+finds digest bound old new f names g j =
+    let asked = g.blames.asked.asked in
+    finds_in digest old.known new.known asked.bytes f names asked.read.consumed g.blames.small j
 
 same_file : (f g : RawFile) → ◌≡◌ {A = Result (RawFile × List ℕ) Refusal} (Ok (f, [])) (Ok (g, []))
     → f ≡ g
@@ -123,12 +138,12 @@ reads_texts digest (Some bytes) new (Err fault.Memory) names j = λ all text. tt
 -- ---- the device
 
 pub blamed : (digest : List ℕ → List ℕ) (bound : ℕ) (old new : Device) (r : Result RawFile Fault)
-    → Reads bound (sealed_at digest) old r new → IsBlamed bound old r new
+    → ReadsAll bound (sealed_at digest) old r new → IsBlamed bound old r new
 blamed digest bound old new r g = record { blames = g.blames; few = g.few }
 
 pub checks_blame_none : (digest : List ℕ → List ℕ) (bound : ℕ) (old new : Device) (f : RawFile) (e : Fault)
-    → Reads bound (sealed_at digest) old (Ok f) new → Checked (file_checks digest f) (Err e)
+    → ReadsAll bound (sealed_at digest) old (Ok f) new → Checked (file_checks digest f) (Err e)
     → IsBlamed {A = RawFile} bound old (Err e) new
-checks_blame_none digest bound old new f (fault.Refused r) g k = record { blames = g.blames; few = g.few }
-checks_blame_none digest bound old new f fault.Memory g k = record { blames = g.blames; few = g.few }
+checks_blame_none digest bound old new f (fault.Refused r) g k = record { blames = g.blames.asked; few = g.few }
+checks_blame_none digest bound old new f fault.Memory g k = record { blames = g.blames.asked; few = g.few }
 checks_blame_none digest bound old new f fault.Device g k = absurd k

@@ -42,7 +42,7 @@ record IsSealed (digest : List ℕ → List ℕ) (bytes : List ℕ) (f : RawFile
   fits : FitsFile f
 
 of_whole : (digest : List ℕ → List ℕ) (bytes : List ℕ) (f : RawFile) (w : Whole)
-    → All (λ b. b < 256) bytes → by_lengths bytes ≡ Ok w → judged digest w ≡ Ok (f, [])
+    → IsBytes bytes → by_lengths bytes ≡ Ok w → judged digest w ≡ Ok (f, [])
     → IsSealed digest bytes f
 unfolding file_in
 of_whole digest bytes f w small read e =
@@ -52,7 +52,7 @@ of_whole digest bytes f w small read e =
         → ◌≡◌ {A = Result (RawFile × List ℕ) Refusal} (cond b (Ok (w.0.0, w.1)) (Err refusal.WrongDigest)) (Ok (f, []))
         → IsSealed digest bytes f
     by true t k =
-        let all = lengths_take bytes w (bytes_of bytes small) read in
+        let all = lengths_take bytes w small read in
         let same : w.0.0 ≡ f = ap (λ r. file_in r f) k in
         let end : w.0.1 ≡ digest (body_text w.0.0) =
         (bytes_eq-Decides w.0.1 (digest (body_text w.0.0))).0 t in
@@ -64,7 +64,7 @@ of_whole digest bytes f w small read e =
     by false t k = cc
 
 is_sealed : (digest : List ℕ → List ℕ) (bytes : List ℕ) (f : RawFile)
-    → All (λ b. b < 256) bytes → sealed_at digest bytes ≡ Ok (f, []) → IsSealed digest bytes f
+    → IsBytes bytes → sealed_at digest bytes ≡ Ok (f, []) → IsSealed digest bytes f
 unfolding sealed_at
 is_sealed digest bytes f small e =
     let w = bind_ok (by_lengths bytes) (judged digest) (f, []) e in
@@ -78,14 +78,20 @@ in_version digest all bytes version (inl e) can text =
 in_version digest all bytes version (inr e) can text =
     inl (subst (λ (v : ℕ). CanSave v digest all) e can, text ∙ ap (λ (v : ℕ). text_in v digest all) e)
 
-pub text_found : (digest : List ℕ → List ℕ) (bytes : List ℕ) (f : RawFile) → AnswersNames digest
-    → All (λ b. b < 256) bytes → sealed_at digest bytes ≡ Ok (f, [])
+pub text_read_in : (digest : List ℕ → List ℕ) (bytes : List ℕ) (f : RawFile)
+    → AnswersNames digest → IsBytes bytes → sealed_at digest bytes ≡ Ok (f, [])
     → Passes (file_checks digest f) → IsTextOf digest (saved_in digest f) bytes
-text_found digest bytes f names small e p =
+text_read_in digest bytes f names small e p =
     let s = is_sealed digest bytes f small e in
     in_version digest (saved_in digest f) bytes f.version s.fits.version
     (can_save digest f names s.fits p)
     (s.text ∙ sym (ap (λ (g : RawFile). raw_text digest g) (file_again digest f p)))
+
+pub text_found : (digest : List ℕ → List ℕ) (bytes : List ℕ) (f : RawFile) → AnswersNames digest
+    → All (λ b. b < 256) bytes → sealed_at digest bytes ≡ Ok (f, [])
+    → Passes (file_checks digest f) → IsTextOf digest (saved_in digest f) bytes
+text_found digest bytes f names small e p =
+    text_read_in digest bytes f names (bytes_of bytes small) e p
 
 -- ---- a text is read
 

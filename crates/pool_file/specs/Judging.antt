@@ -1,5 +1,5 @@
 -- What reading a pool file and judging it answers.
-use Rattle.std.specs.Prelude.{◌≡◌, ◌⊎◌, ℕ, ◌<◌, ◌≤◌, List, [], All, Option, None, Some, Result, Ok, Err}
+use Rattle.std.specs.Prelude.{◌≡◌, ◌⊎◌, ℕ, ◌≤◌, List, [], Option, None, Some, Result, Ok, Err}
 use Rattle.byte_devices.specs.Device.{Device}
 use Rattle.pool_file_text.specs.declared.refusal.Refusal.{Refusal}
 use Rattle.pool_file_text.specs.declared.fault.Fault.{Fault}
@@ -38,8 +38,7 @@ Judges digest (Some bytes) (Err fault.Memory) new = Unit {0}
 -- Where a file is answered, the bytes are a text of the repositories that it says.
 abbrev pub Finds : (List ℕ → List ℕ) → Option (List ℕ) → Result RawFile Fault → Type 0
 Finds digest None r = Unit {0}
-Finds digest (Some bytes) (Ok f) =
-    All (λ byte. byte < 256) bytes → IsTextOf digest (saved_in digest f) bytes
+Finds digest (Some bytes) (Ok f) = IsTextOf digest (saved_in digest f) bytes
 Finds digest (Some bytes) (Err e) = Unit {0}
 
 -- The answer is a file that says these repositories, unless device or memory fails.
@@ -55,9 +54,10 @@ ReadsTexts digest None r = Unit {0}
 ReadsTexts digest (Some bytes) r = (all : List Named) → IsTextOf digest all bytes
     → Says digest all r
 
--- No call failed, unless the answer blames the device: then one did, or the count of calls is at
--- its bound. No call is made past it.
+-- The reader was called at most once more than it gave bytes, and never past the bound. No call
+-- failed, unless the answer blames the device: then one did, the only one, or the reader does not
+-- end.
 pub record IsBlamed {A : Type 0} (bound : ℕ) (old : Device) (r : Result A Fault) (new : Device)
     : Type 0 where
   pub blames : Blames bound r old new
-  pub few : old.calls ≤ bound → new.calls ≤ bound
+  pub few : new.calls ≤ bound

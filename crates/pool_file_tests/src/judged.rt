@@ -17,6 +17,26 @@ const CODES_1: &[u8; 66] = b"00000000111222222222522222222..2222222222.22222222\
 const CODES_2: &[u8; 83] = b"00000000111122222222522222222..2222222222.22222222\
     44444444222222222277777..........";
 
+// Version 1 with one thing wrong and its digest made right: an object of no kind, the number of no
+// object, and a ref to the blob.
+const NO_KIND: &[u8] = b"gitpool\n\0\0\0\x01\
+    \0\0\0\0\0\0\0\x01\x05\0\0\0\0\0\0\0\x02ab\
+    \0\0\0\0\0\0\0\x01\0\x01t\0\0\0\0\0\0\0\x01\0\0\0\0\0\0\0\0\
+    \0\0\0\0\0\0\0\0\
+    \xab\xab\xab\xab\xab\xab\xab\xab\xab\xab\xab\xab\xab\xab\xab\xab\xab\xab\xab\x4b";
+
+const NO_OBJECT: &[u8] = b"gitpool\n\0\0\0\x01\
+    \0\0\0\0\0\0\0\x01\x03\0\0\0\0\0\0\0\x02ab\
+    \0\0\0\0\0\0\0\x01\0\x01t\0\0\0\0\0\0\0\x01\0\0\0\0\0\0\0\x01\
+    \0\0\0\0\0\0\0\0\
+    \xab\xab\xab\xab\xab\xab\xab\xab\xab\xab\xab\xab\xab\xab\xab\xab\xab\xab\xab\x4a";
+
+const REF_TO_A_BLOB: &[u8] = b"gitpool\n\0\0\0\x01\
+    \0\0\0\0\0\0\0\x01\x03\0\0\0\0\0\0\0\x02ab\
+    \0\0\0\0\0\0\0\x01\0\x01t\0\0\0\0\0\0\0\x01\0\0\0\0\0\0\0\0\
+    \0\0\0\0\0\0\0\x01\0\x1erefs/namespaces/t/refs/heads/m\0\0\0\0\0\0\0\0\
+    \xab\xab\xab\xab\xab\xab\xab\xab\xab\xab\xab\xab\xab\xab\xab\xab\xab\xab\xab\xb9";
+
 /// What reading and judging bytes answers.
 pub fn code_of_judging<N: Starting>(alloc: Global, naming: &N, bytes: &[u8]) -> u16 {
     let mut reader = Counted::new(bytes);
@@ -42,6 +62,13 @@ fn are_judged_so(alloc: Global, file: &[u8], codes: &[u8]) -> Result<bool, Fault
 fn judges_both_versions_byte_for_byte(rt: HostRuntime) {
     assert!(rt; code_of_judging(rt.alloc(), &TailNaming, VERSION_1) == 0);
     assert!(rt; code_of_judging(rt.alloc(), &TailNaming, VERSION_2) == 0);
+}
+
+#[test]
+fn judges_files_with_one_thing_wrong_byte_for_byte(rt: HostRuntime) {
+    assert!(rt; code_of_judging(rt.alloc(), &TailNaming, NO_KIND) == 65);
+    assert!(rt; code_of_judging(rt.alloc(), &TailNaming, NO_OBJECT) == 64);
+    assert!(rt; code_of_judging(rt.alloc(), &TailNaming, REF_TO_A_BLOB) == 67);
 }
 
 #[test]

@@ -11,8 +11,9 @@ use Rattle.pool_file_text.specs.declared.fault.Fault.TheVariants as fault
 use Rattle.pool_file_text.specs.Format.{RawRef, RawTenant}
 use Rattle.pool_file_text.specs.Lengths.{◌>>=◌, bytes_at, number_at, sized_at, counted_at, byte_at, object_at, ref_at, head_at, tenant_at}
 use Rattle.pool_file_text.specs.Taking.{Fails, Gave, Reads}
+use Rattle.pool_file_text.proofs.Calls.{blames_as}
 use Rattle.pool_file_text.proofs.Formats.{bytes_again}
-use Rattle.pool_file_text.proofs.Readings.{parts, blames_as, reads_then, reads_fails, reads_value}
+use Rattle.pool_file_text.proofs.Readings.{parts, reads_then, reads_fails, reads_value}
 
 -- ---- fields of a file
 
@@ -39,7 +40,7 @@ unfolding byte_at bytes_at
 byte_fails {bound} size a b e same p = record {
   gave = given a.known (subst (λ (m : ℕ). Gave {A = List ℕ} (bytes_at m) a.known (Err e) b.known) same p.gave);
   few = p.few;
-  blames = blames_as _ (List ℕ) ℕ e a b p.blames;
+  blames = λ fits. blames_as 0 0 bound (List ℕ) ℕ e a b (p.blames fits);
 }
   where
     given : (old : Option (List ℕ)) → Gave {A = List ℕ} (bytes_at 1) old (Err e) b.known → Gave {A = ℕ} byte_at old (Err e) b.known

@@ -1,6 +1,7 @@
 pub mod Formats
 pub mod Files
 mod Examples
+pub mod Calls
 pub mod Takes
 pub mod Readings
 pub mod FieldLemmas

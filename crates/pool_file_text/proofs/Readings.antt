@@ -1,15 +1,16 @@
 -- Readings one after another, and the same one many times.
-use Rattle.std.proofs.Common.{◌≡◌, ℕ, suc, ◌+◌, ◌-◌, ◌<◌, ◌≤◌, Bool, true, false, cond, ltb, List, [], ◌∷◌, ◌++◌, length, take, drop, Option, None, Some, Result, Ok, Err, refl, sym, ap, subst, ◌∙◌, append_assoc, append-nil, arith, inl, inr}
+use Rattle.std.proofs.Common.{◌≡◌, ℕ, suc, ◌+◌, ◌-◌, ◌^◌, ◌<◌, ◌≤◌, Bool, true, false, cond, ltb, List, [], ◌∷◌, ◌++◌, length, take, drop, Option, None, Some, Result, Ok, Err, refl, sym, ap, subst, ◌∙◌, append_assoc, append-nil, arith}
 use Rattle.std.specs.Int.{Width, w64, byte_len, from_be_bytes}
 use Rattle.std.proofs.lemmas.Bool.{ltb-false, ltb-true}
 use Rattle.std.proofs.lemmas.List.{length-append, length-take, take-append-drop, take_all, take_at}
-use Rattle.byte_devices.specs.Device.{Device, HasFault}
+use Rattle.byte_devices.specs.Device.{Device}
 use Rattle.pool_file_text.specs.declared.refusal.Refusal.{Refusal}
 use Rattle.pool_file_text.specs.declared.refusal.Refusal.TheVariants as refusal
 use Rattle.pool_file_text.specs.declared.fault.Fault.{Fault}
 use Rattle.pool_file_text.specs.declared.fault.Fault.TheVariants as fault
 use Rattle.pool_file_text.specs.Lengths.{Read, ◌>>=◌, bytes_at, number_at, sized_at, many_at, counted_at}
-use Rattle.pool_file_text.specs.Taking.{Fails, Gave, Blames, Reads, Adds, shown}
+use Rattle.pool_file_text.specs.Taking.{Fails, Gave, HasGiven, ReadsBy, Reads, Adds, shown}
+use Rattle.pool_file_text.proofs.Calls.{asked_none, fits_after, given_then, well_looser, blames_on, blames_as}
 use Rattle.pool_file_text.proofs.Formats.{bytes_again, guard_ok}
 use Rattle.pool_file_text.proofs.Takes.{is_cut, starved_given}
 
@@ -23,22 +24,9 @@ fails_on (fault.Refused refusal) r k f = ap (λ (s : Result _ Refusal). s >>= k)
 fails_by : {A B : Type 0} (e : Fault) (r : Result A Refusal) (k : A → Result B Refusal) (x : A) → r ≡ Ok x → Fails e (k x) → Fails e (r >>= k)
 fails_by e r k x is f = subst (λ (s : Result _ Refusal). Fails e (s >>= k)) (sym is) f
 
-pub blames_on : {B : Type 0} (bound : ℕ) (r : Result B Fault) (a b c : Device) → b.faults ≡ a.faults → Blames bound r b c → Blames bound r a c
-blames_on bound (Ok x) a b c well q = q ∙ well
-blames_on bound (Err fault.Device) a b c well (inl f) = inl (subst (λ (n : ℕ). HasFault n c.faults) well f)
-blames_on bound (Err fault.Device) a b c well (inr out) = inr out
-blames_on bound (Err fault.Memory) a b c well q = q ∙ well
-blames_on bound (Err (fault.Refused refusal)) a b c well q = q ∙ well
-
--- The same fault of another reading is blamed so too.
-pub blames_as : (bound : ℕ) (A B : Type 0) (e : Fault) (a b : Device) → Blames {A = A} bound (Err e) a b → Blames {A = B} bound (Err e) a b
-blames_as bound A B fault.Device a b q = q
-blames_as bound A B fault.Memory a b q = q
-blames_as bound A B (fault.Refused refusal) a b q = q
-
 -- ---- one after another
 
-gave_then : {A B : Type 0} (at : Read A) (k : A × List ℕ → Result (B × List ℕ) Refusal) (old mid new : Option (List ℕ)) (x : A) (r : Result B Fault)
+pub gave_then : {A B : Type 0} (at : Read A) (k : A × List ℕ → Result (B × List ℕ) Refusal) (old mid new : Option (List ℕ)) (x : A) (r : Result B Fault)
     → Gave at old (Ok x) mid → Gave (λ rest. k (x, rest)) mid r new → Gave (λ bytes. at bytes >>= k) old r new
 gave_then at k None mid new x r p q = tt
 gave_then at k (Some bytes) None new x r p q = absurd p
@@ -46,39 +34,43 @@ gave_then at k (Some bytes) (Some rest) None x (Ok y) p q = absurd q
 gave_then at k (Some bytes) (Some rest) (Some after) x (Ok y) p q = ap (λ (s : Result _ Refusal). s >>= k) p ∙ q
 gave_then at k (Some bytes) (Some rest) new x (Err e) p q = fails_by e (at bytes) k (x, rest) p q
 
-gave_fails : {A B : Type 0} (at : Read A) (k : A × List ℕ → Result (B × List ℕ) Refusal) (old new : Option (List ℕ)) (e : Fault)
+pub gave_fails : {A B : Type 0} (at : Read A) (k : A × List ℕ → Result (B × List ℕ) Refusal) (old new : Option (List ℕ)) (e : Fault)
     → Gave at old (Err e) new → Gave {A = B} (λ bytes. at bytes >>= k) old (Err e) new
 gave_fails at k None new e p = tt
 gave_fails at k (Some bytes) new e p = fails_on e (at bytes) k p
 
 -- The first gave a value, and the other whatever it gave.
-pub reads_then : {A B : Type 0} {bound : ℕ} (at : Read A) (k : A × List ℕ → Result (B × List ℕ) Refusal) (a b c : Device) (x : A) (r : Result B Fault)
-    → Reads bound at a (Ok x) b → Reads bound (λ rest. k (x, rest)) b r c → Reads bound (λ bytes. at bytes >>= k) a r c
+pub reads_then : {A B : Type 0} {more bound : ℕ} (at : Read A) (k : A × List ℕ → Result (B × List ℕ) Refusal) (a b c : Device) (x : A) (r : Result B Fault)
+    → Reads bound at a (Ok x) b → ReadsBy more bound (λ rest. k (x, rest)) b r c → ReadsBy more bound (λ bytes. at bytes >>= k) a r c
 reads_then at k a b c x r p q = record {
   gave = gave_then at k a.known b.known c.known x r p.gave q.gave;
   few = λ l. q.few (p.few l);
-  blames = blames_on _ r a b c p.blames q.blames;
+  blames = λ fits. let first = p.blames fits in blames_on _ _ r a b c first (q.blames (fits_after 0 a b first));
 }
 
 -- The first gave none.
-pub reads_fails : {A B : Type 0} {bound : ℕ} (at : Read A) (k : A × List ℕ → Result (B × List ℕ) Refusal) (a b : Device) (e : Fault)
-    → Reads bound at a (Err e) b → Reads {A = B} bound (λ bytes. at bytes >>= k) a (Err e) b
-reads_fails {A} {B} at k a b e p = record { gave = gave_fails at k a.known b.known e p.gave; few = p.few; blames = blames_as _ A B e a b p.blames }
+pub reads_fails : {A B : Type 0} {less more bound : ℕ} (at : Read A) (k : A × List ℕ → Result (B × List ℕ) Refusal) (a b : Device) (e : Fault)
+    → ReadsBy less bound at a (Err e) b → ReadsBy {A = B} more bound (λ bytes. at bytes >>= k) a (Err e) b
+reads_fails {A} {B} {less} {more} {bound} at k a b e p = record {
+  gave = gave_fails at k a.known b.known e p.gave;
+  few = p.few;
+  blames = λ fits. blames_as less more bound A B e a b (p.blames fits);
+}
 
-value_given : {A : Type 0} (x : A) (known : Option (List ℕ)) → Gave (λ rest. Ok (x, rest)) known (Ok x) known
+pub value_given : {A : Type 0} (x : A) (known : Option (List ℕ)) → Gave (λ rest. Ok (x, rest)) known (Ok x) known
 value_given x None = tt
 value_given x (Some bytes) = refl
 
 -- A value that is at hand.
 pub reads_value : {A : Type 0} {bound : ℕ} (x : A) (a : Device) → Reads bound (λ rest. Ok (x, rest)) a (Ok x) a
-reads_value x a = record { gave = value_given x a.known; few = λ l. l; blames = refl }
+reads_value x a = record { gave = value_given x a.known; few = λ l. l; blames = asked_none a }
 
 -- No room was found before anything was read, or after a value.
 pub reads_starved : {A : Type 0} {bound : ℕ} (at : Read A) (a : Device) → Reads bound at a (Err fault.Memory) a
-reads_starved at a = record { gave = starved_given at a.known a.known; few = λ l. l; blames = refl }
+reads_starved at a = record { gave = starved_given at a.known a.known; few = λ l. l; blames = λ fits. well_looser a a (asked_none a fits) }
 
 pub reads_stops : {A B : Type 0} {bound : ℕ} (at : Read A) (f : Read B) (a b : Device) (x : A) → Reads bound at a (Ok x) b → Reads bound f a (Err fault.Memory) b
-reads_stops at f a b x p = record { gave = starved_given f a.known b.known; few = p.few; blames = p.blames }
+reads_stops at f a b x p = record { gave = starved_given f a.known b.known; few = p.few; blames = λ fits. well_looser a b (p.blames fits) }
 
 -- ---- numbers, bytes after their length
 
@@ -163,7 +155,7 @@ pub bytes_more : {bound : ℕ} (n m total : ℕ) (a b c : Device) (xs ys : List 
 bytes_more {bound} n m total a b c xs ys all p q = subst (λ (k : ℕ). Reads bound (bytes_at k) a (Ok (xs ++ ys)) c) all (record {
   gave = more_given n m a.known b.known c.known xs ys p.gave q.gave;
   few = λ l. q.few (p.few l);
-  blames = q.blames ∙ p.blames;
+  blames = λ fits. let first = p.blames fits in given_then 0 a b c first (q.blames (fits_after 0 a b first));
 })
 
 end_given : (n m total : ℕ) (e : Fault) (a b c : Option (List ℕ)) (xs : List ℕ) → n + m ≤ total → Gave (bytes_at n) a (Ok xs) b → Gave {A = List ℕ} (bytes_at m) b (Err e) c → Gave {A = List ℕ} (bytes_at total) a (Err e) c
@@ -172,10 +164,10 @@ end_given n m total e (Some bytes) None c xs le p q = absurd p
 end_given n m total e (Some bytes) (Some rest) c xs le p q = ends_bytes n m total e bytes xs rest le p q
 
 pub bytes_end : {bound : ℕ} (n m total : ℕ) (e : Fault) (a b c : Device) (xs : List ℕ) → n + m ≤ total → Reads bound (bytes_at n) a (Ok xs) b → Reads {A = List ℕ} bound (bytes_at m) b (Err e) c → Reads {A = List ℕ} bound (bytes_at total) a (Err e) c
-bytes_end n m total e a b c xs le p q = record {
+bytes_end {bound} n m total e a b c xs le p q = record {
   gave = end_given n m total e a.known b.known c.known xs le p.gave q.gave;
   few = λ l. q.few (p.few l);
-  blames = blames_on {B = List ℕ} _ (Err e) a b c p.blames q.blames;
+  blames = λ fits. let first = p.blames fits in blames_on {B = List ℕ} 0 bound (Err e) a b c first (q.blames (fits_after 0 a b first));
 }
 
 no_bytes : (bytes : List ℕ) → bytes_at 0 bytes ≡ Ok ([], bytes)
@@ -186,7 +178,7 @@ none_given None = tt
 none_given (Some bytes) = no_bytes bytes
 
 pub bytes_none : {bound : ℕ} (a : Device) → Reads bound (bytes_at 0) a (Ok []) a
-bytes_none a = record { gave = none_given a.known; few = λ l. l; blames = refl }
+bytes_none a = record { gave = none_given a.known; few = λ l. l; blames = asked_none a }
 
 -- ---- loops
 
@@ -203,7 +195,7 @@ Ahead at count (Some bytes) xs left (Some rest) = with_front xs (many_at at left
 pub record Goes {A : Type 0} (bound : ℕ) (at : Read A) (count : ℕ) (old : Device) (xs : List A) (left : ℕ) (new : Device) : Type 0 where
   pub ahead : Ahead at count old.known xs left new.known
   pub few : old.calls ≤ bound → new.calls ≤ bound
-  pub well : new.faults ≡ old.faults
+  pub well : old.passed < 2 ^ 64 → HasGiven 0 old new
 
 same_read : {A : Type 0} (r : Result (List A × List ℕ) Refusal) → with_front [] r ≡ r
 same_read (Ok x) = refl
@@ -214,7 +206,7 @@ start_ahead at count None = tt
 start_ahead at count (Some bytes) = same_read (many_at at count bytes)
 
 pub goes_start : {A : Type 0} {bound : ℕ} (at : Read A) (count left : ℕ) (a : Device) → left ≡ count → Goes bound at count a [] left a
-goes_start {A} {bound} at count left a all = subst (λ (n : ℕ). Goes bound at count a [] n a) (sym all) (record { ahead = start_ahead at count a.known; few = λ l. l; well = refl })
+goes_start {A} {bound} at count left a all = subst (λ (n : ℕ). Goes bound at count a [] n a) (sym all) (record { ahead = start_ahead at count a.known; few = λ l. l; well = asked_none a })
 
 regroup : {A : Type 0} (front : List A) (x : A) (read : Result (List A × List ℕ) Refusal) → with_front front (read >>= λ y. Ok (x ∷ y.0, y.1)) ≡ with_front (front ++ x ∷ []) read
 regroup {A} front x (Ok y) = ap (λ (xs : List A). Ok (xs, y.1)) (sym (append_assoc front (x ∷ []) y.0))
@@ -236,7 +228,7 @@ pub goes_on : {A : Type 0} {bound : ℕ} (at : Read A) (count more left : ℕ) (
 goes_on at count more left a b c xs x is p q = record {
   ahead = on_ahead at count left a.known b.known c.known xs x (subst (λ (n : ℕ). Ahead at count a.known xs n b.known) is p.ahead) q.gave;
   few = λ l. q.few (p.few l);
-  well = q.blames ∙ p.well;
+  well = λ fits. let first = p.well fits in given_then 0 a b c first (q.blames (fits_after 0 a b first));
 }
 
 one_fails : {A : Type 0} (at : Read A) (count left : ℕ) (e : Fault) (xs : List A) (bytes rest : List ℕ) → with_front xs (many_at at (suc left) rest) ≡ many_at at count bytes
@@ -253,10 +245,11 @@ fails_given at count left e (Some bytes) None c xs p q = absurd p
 fails_given at count left e (Some bytes) (Some rest) c xs p q = one_fails at count left e xs bytes rest p q
 
 pub goes_fails : {A : Type 0} {bound : ℕ} (at : Read A) (count more left : ℕ) (e : Fault) (a b c : Device) (xs : List A) → more ≡ suc left → Goes bound at count a xs more b → Reads {A = A} bound at b (Err e) c → Reads {A = List A} bound (many_at at count) a (Err e) c
-goes_fails {A} at count more left e a b c xs is p q = record {
+goes_fails {A} {bound} at count more left e a b c xs is p q = record {
   gave = fails_given at count left e a.known b.known c.known xs (subst (λ (n : ℕ). Ahead at count a.known xs n b.known) is p.ahead) q.gave;
   few = λ l. q.few (p.few l);
-  blames = blames_on {B = List A} _ (Err e) a b c p.well (blames_as _ A (List A) e b c q.blames);
+  blames = λ fits. let first = p.well fits in
+      blames_on {B = List A} 0 bound (Err e) a b c first (blames_as 0 0 bound A (List A) e b c (q.blames (fits_after 0 a b first)));
 }
 
 done_given : {A : Type 0} (at : Read A) (count : ℕ) (a b : Option (List ℕ)) (xs : List A) → Ahead at count a xs 0 b → Gave (many_at at count) a (Ok xs) b
@@ -274,7 +267,7 @@ goes_done at count left a b xs none p = record {
 
 -- No room for one more.
 pub goes_starved : {A B : Type 0} {bound : ℕ} (at : Read A) (f : Read B) (count left : ℕ) (a b : Device) (xs : List A) → Goes bound at count a xs left b → Reads bound f a (Err fault.Memory) b
-goes_starved at f count left a b xs p = record { gave = starved_given f a.known b.known; few = p.few; blames = p.well }
+goes_starved at f count left a b xs p = record { gave = starved_given f a.known b.known; few = p.few; blames = λ fits. well_looser a b (p.well fits) }
 
 -- ---- as many as a count says
 

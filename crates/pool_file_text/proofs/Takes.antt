@@ -1,14 +1,14 @@
 -- A room that was filled, or was not, and what that makes of a reading.
-use Rattle.std.proofs.Common.{◌≡◌, ℕ, ◌≤◌, ◌<◌, List, length, Option, None, Some, Ok, Err, ap, refl, ◌∙◌, arith, inl, inr}
+use Rattle.std.proofs.Common.{◌≡◌, ℕ, ◌+◌, ◌≤◌, ◌<◌, List, length, Option, None, Some, Ok, Err, ap, refl, ◌∙◌, arith, inl, inr}
 use Rattle.std.specs.Io.KnownBytes.{Consumes, IsAtEnd}
 use Rattle.std.proofs.lemmas.Bool.{lt-ltb}
 use Rattle.std.proofs.lemmas.List.{length-append}
 use Rattle.byte_devices.specs.Device.{Device}
-use Rattle.byte_devices.specs.Reading.{HasReadWell, HasReadAll, HasFailed}
+use Rattle.byte_devices.specs.Reading.{AreBytes, HasReadWell, HasReadAll, HasFailed}
 use Rattle.pool_file_text.specs.declared.refusal.Refusal.TheVariants as refusal
 use Rattle.pool_file_text.specs.declared.fault.Fault.TheVariants as fault
 use Rattle.pool_file_text.specs.Lengths.{Read, bytes_at}
-use Rattle.pool_file_text.specs.Taking.{Gave, Reads}
+use Rattle.pool_file_text.specs.Taking.{Gave, HasAskedWell, Reads}
 use Rattle.pool_file_text.proofs.Formats.{bytes_again}
 
 whole_given : (old new : Option (List ℕ)) (room : List ℕ) → Consumes old new room → Gave (bytes_at (length room)) old (Ok room) new
@@ -35,24 +35,42 @@ pub starved_given : {A : Type 0} (at : Read A) (old new : Option (List ℕ)) →
 starved_given at None new = tt
 starved_given at (Some bytes) new = tt
 
--- The room is full.
-pub reads_whole : (bound : ℕ) (a b : Device) (room : List ℕ) → HasReadWell a b room → (a.calls ≤ bound → b.calls ≤ bound)
-    → Reads bound (bytes_at (length room)) a (Ok room) b
-reads_whole bound a b room had few = record { gave = whole_given a.known b.known room had.read.consumed; blames = had.well; few = few }
+asked_by : (more : ℕ) (a b : Device) (bytes : List ℕ) → HasReadWell a b bytes → b.calls ≤ a.calls + length bytes + more → HasAskedWell more a b
+asked_by more a b bytes had giving = record { asked = record { bytes = bytes; read = had.read; giving = giving }; well = had.well }
 
--- The reader was at its end before that.
-pub reads_short : (bound : ℕ) (a b : Device) (n : ℕ) (front : List ℕ) → HasReadAll a b front → length front < n → (a.calls ≤ bound → b.calls ≤ bound)
-    → Reads {A = List ℕ} bound (bytes_at n) a (Err (fault.Refused refusal.CutOff)) b
-reads_short bound a b n front had less few = record {
-  gave = short_given a.known b.known n front had.read.read.consumed had.end less;
-  blames = had.read.well;
+-- The room is full.
+pub reads_whole : (bound : ℕ) (a b : Device) (room : List ℕ) → HasReadWell a b room → AreBytes room → b.calls ≤ a.calls + length room → (a.calls ≤ bound → b.calls ≤ bound)
+    → Reads bound (bytes_at (length room)) a (Ok room) b
+unfolding asked_by
+reads_whole bound a b room had small giving few = record {
+  gave = whole_given a.known b.known room had.read.consumed;
+  blames = λ fits. record { asked = asked_by 0 a b room had (omega (arith, giving)); small = small };
   few = few;
 }
 
--- As many calls were made as the bound allows, or one failed.
-pub reads_out : {A : Type 0} (bound : ℕ) (at : Read A) (a b : Device) → bound ≤ b.calls → (a.calls ≤ bound → b.calls ≤ bound) → Reads bound at a (Err fault.Device) b
-reads_out bound at a b out few = record { gave = blamed_given at a.known b.known; blames = inr out; few = few }
+-- The reader was at its end before that.
+pub reads_short : (bound : ℕ) (a b : Device) (n : ℕ) (front : List ℕ) → HasReadAll a b front → length front < n → b.calls ≤ a.calls + length front + 1
+    → (a.calls ≤ bound → b.calls ≤ bound) → Reads {A = List ℕ} bound (bytes_at n) a (Err (fault.Refused refusal.CutOff)) b
+reads_short bound a b n front had less giving few = record {
+  gave = short_given a.known b.known n front had.read.read.consumed had.end less;
+  blames = λ fits. asked_by 1 a b front had.read giving;
+  few = few;
+}
 
-pub reads_failed : {A : Type 0} (bound : ℕ) (at : Read A) (a b : Device) (front : List ℕ) → HasFailed a b front → (a.calls ≤ bound → b.calls ≤ bound)
-    → Reads bound at a (Err fault.Device) b
-reads_failed bound at a b front had few = record { gave = blamed_given at a.known b.known; blames = inl had.fault; few = few }
+-- As many calls were made as the bound allows.
+pub reads_out : {A : Type 0} (bound : ℕ) (at : Read A) (a b : Device) (front : List ℕ) → HasReadWell a b front → b.calls ≤ a.calls + length front
+    → bound ≤ b.calls → (a.calls ≤ bound → b.calls ≤ bound) → Reads bound at a (Err fault.Device) b
+reads_out bound at a b front had giving out few = record {
+  gave = blamed_given at a.known b.known;
+  blames = λ fits. inr (record { asked = asked_by 0 a b front had (omega (arith, giving)); often = out });
+  few = few;
+}
+
+-- A call failed.
+pub reads_failed : {A : Type 0} (bound : ℕ) (at : Read A) (a b : Device) (front : List ℕ) → HasFailed a b front → b.calls ≤ a.calls + length front + 1
+    → (a.calls ≤ bound → b.calls ≤ bound) → Reads bound at a (Err fault.Device) b
+reads_failed bound at a b front had giving few = record {
+  gave = blamed_given at a.known b.known;
+  blames = λ fits. inl (record { asked = record { bytes = front; read = had.read; giving = giving }; fault = had.fault });
+  few = few;
+}

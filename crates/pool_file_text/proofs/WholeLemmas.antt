@@ -1,21 +1,24 @@
 -- A whole file, read part by part.
-use Rattle.std.proofs.Common.{◌≡◌, ℕ, suc, ◌+◌, ◌≤◌, ◌<◌, Bool, true, false, cond, eqb, List, [], ◌∷◌, length, get_or, drop, Option, None, Some, Result, Ok, Err, refl, sym, ap, subst, ◌∙◌, arith, inl}
+use Rattle.std.proofs.Common.{◌≡◌, ℕ, suc, ◌+◌, ◌^◌, ◌≤◌, ◌<◌, Bool, true, false, cond, eqb, List, [], ◌∷◌, length, get_or, drop, Option, None, Some, Result, Ok, Err, refl, sym, ap, subst, ◌∙◌, arith, inl, inr}
 use Rattle.std.specs.Prelude.{◌||◌}
 use Rattle.std.specs.Int.{w32}
-use Rattle.std.specs.Io.KnownBytes.{Consumes, IsAtEnd}
+use Rattle.std.specs.Io.KnownBytes.{Consumes, Keeps, IsAtEnd}
 use Rattle.std.specs.Str.{bytes_eq}
 use Rattle.std.proofs.Math.Seq.{drop-cons}
 use Rattle.std.proofs.lemmas.Bool.{ne_eqb, eq-eqb}
 use Rattle.byte_devices.specs.Device.{Device, counted_on}
+use Rattle.byte_devices.specs.Reading.{HasReadWell}
+use Rattle.byte_devices.proofs.ReadLemmas.{well_none, one_failed}
 use Rattle.pool_file_text.specs.declared.refusal.Refusal.{Refusal}
 use Rattle.pool_file_text.specs.declared.refusal.Refusal.TheVariants as refusal
 use Rattle.pool_file_text.specs.declared.fault.Fault.{Fault}
 use Rattle.pool_file_text.specs.declared.fault.Fault.TheVariants as fault
 use Rattle.pool_file_text.specs.Format.{RawFile, RawObject, RawTenant, magic, body_text}
 use Rattle.pool_file_text.specs.Lengths.{Read, ◌>>=◌, bytes_at, number_at, counted_at, byte_at, object_at, tenant_at, expected_at, front_at, version_at, body_at, end_at, by_lengths, sealed_at}
-use Rattle.pool_file_text.specs.Taking.{Gave, Reads}
+use Rattle.pool_file_text.specs.Taking.{Gave, HasGiven, ReadsBy, Reads, ReadsAll}
+use Rattle.pool_file_text.proofs.Calls.{asked_none, fits_after, given_then, well_looser, blames_on, blames_as}
 use Rattle.pool_file_text.proofs.Takes.{blamed_given}
-use Rattle.pool_file_text.proofs.Readings.{blames_on, reads_then, reads_fails, reads_value}
+use Rattle.pool_file_text.proofs.Readings.{gave_then, gave_fails, value_given, reads_then, reads_fails, reads_value}
 
 -- ---- a reading of which some is left
 
@@ -26,7 +29,7 @@ Continues whole (Some bytes) rest (Some left) = rest left ≡ whole bytes
 
 pub record Leads {A : Type 0} (bound : ℕ) (whole : Read A) (old : Device) (rest : Read A) (new : Device) : Type 0 where
   pub same : Continues whole old.known rest new.known
-  pub well : new.faults ≡ old.faults
+  pub well : old.passed < 2 ^ 64 → HasGiven 0 old new
   pub few : old.calls ≤ bound → new.calls ≤ bound
 
 starts : {A : Type 0} (whole : Read A) (a : Option (List ℕ)) → Continues whole a whole a
@@ -34,7 +37,7 @@ starts whole None = tt
 starts whole (Some bytes) = refl
 
 pub leads_start : {A : Type 0} {bound : ℕ} (whole : Read A) (a : Device) → Leads bound whole a whole a
-leads_start whole a = record { same = starts whole a.known; well = refl; few = λ l. l }
+leads_start whole a = record { same = starts whole a.known; well = asked_none a; few = λ l. l }
 
 goes : {A B : Type 0} (whole : Read B) (at : Read A) (k : A × List ℕ → Result (B × List ℕ) Refusal) (a b c : Option (List ℕ)) (x : A)
     → Continues whole a (λ bytes. at bytes >>= k) b → Gave at b (Ok x) c → Continues whole a (λ rest. k (x, rest)) c
@@ -45,7 +48,11 @@ goes whole at k (Some bytes) (Some left) (Some after) x p q = sym (ap (λ (r : R
 
 pub leads_on : {A B : Type 0} {bound : ℕ} (whole : Read B) (at : Read A) (k : A × List ℕ → Result (B × List ℕ) Refusal) (a b c : Device) (x : A)
     → Leads bound whole a (λ bytes. at bytes >>= k) b → Reads bound at b (Ok x) c → Leads bound whole a (λ rest. k (x, rest)) c
-leads_on whole at k a b c x p q = record { same = goes whole at k a.known b.known c.known x p.same q.gave; well = q.blames ∙ p.well; few = λ l. q.few (p.few l) }
+leads_on whole at k a b c x p q = record {
+  same = goes whole at k a.known b.known c.known x p.same q.gave;
+  well = λ fits. let first = p.well fits in given_then 0 a b c first (q.blames (fits_after 0 a b first));
+  few = λ l. q.few (p.few l);
+}
 
 ends : {A : Type 0} (whole rest : Read A) (a b c : Option (List ℕ)) (r : Result A Fault) → Continues whole a rest b → Gave rest b r c → Gave whole a r c
 ends whole rest None b c r p q = tt
@@ -59,7 +66,7 @@ ends whole rest (Some bytes) (Some left) c (Err (fault.Refused refusal)) p q = s
 pub leads_end : {A : Type 0} {bound : ℕ} (whole rest : Read A) (a b c : Device) (r : Result A Fault) → Leads bound whole a rest b → Reads bound rest b r c → Reads bound whole a r c
 leads_end whole rest a b c r p q = record {
   gave = ends whole rest a.known b.known c.known r p.same q.gave;
-  blames = blames_on _ r a b c p.well q.blames;
+  blames = λ fits. let first = p.well fits in blames_on _ _ r a b c first (q.blames (fits_after 0 a b first));
   few = λ l. q.few (p.few l);
 }
 
@@ -79,7 +86,7 @@ refused_given A r None = tt
 refused_given A r (Some bytes) = refl
 
 pub reads_refused : {A : Type 0} {bound : ℕ} (r : Refusal) (a : Device) → Reads {A = A} bound (λ rest. Err r) a (Err (fault.Refused r)) a
-reads_refused {A} r a = record { gave = refused_given A r a.known; blames = refl; few = λ l. l }
+reads_refused {A} r a = record { gave = refused_given A r a.known; blames = λ fits. well_looser a a (asked_none a fits); few = λ l. l }
 
 pub expected_other : {bound : ℕ} (expected byte : ℕ) (a b : Device) → ¬ (byte ≡ expected) → Reads bound byte_at a (Ok byte) b
     → Reads bound (expected_at expected) a (Err (fault.Refused refusal.NoPoolFile)) b
@@ -188,11 +195,13 @@ end_given None b c end = tt
 end_given (Some bytes) None c end = absurd c
 end_given (Some bytes) (Some rest) c end = rw (c ∙ end, end) refl
 
-pub end_reads : (bound : ℕ) (a b : Device) (taken : List ℕ) → taken ≡ [] → Consumes a.known b.known taken → IsAtEnd b.known → b.faults ≡ a.faults → b.calls ≤ bound
-    → Reads bound end_at a (Ok tt) b
-end_reads bound a b taken none c end well few = record {
-  gave = end_given a.known b.known (subst (λ (l : List ℕ). Consumes a.known b.known l) none c) end;
-  blames = well;
+pub end_reads : (bound : ℕ) (a b : Device) → HasReadWell a b [] → IsAtEnd b.known → b.calls ≤ a.calls + 1 → b.calls ≤ bound → ReadsBy 1 bound end_at a (Ok tt) b
+end_reads bound a b had end giving few = record {
+  gave = end_given a.known b.known had.read.consumed end;
+  blames = λ fits. record {
+    asked = record { asked = record { bytes = []; read = had.read; giving = omega (arith, giving) }; well = had.well };
+    small = λ i. omega arith;
+  };
   few = λ l. few;
 }
 
@@ -203,12 +212,29 @@ more_given (Some bytes) None taken some c = absurd c
 more_given (Some bytes) (Some rest) [] some c = absurd (omega (arith, some))
 more_given (Some bytes) (Some rest) (x ∷ taken) some c = rw c refl
 
-pub end_trails : (bound : ℕ) (a b : Device) (taken : List ℕ) → 0 < length taken → Consumes a.known b.known taken → b.faults ≡ a.faults → b.calls ≤ bound
-    → Reads bound end_at a (Err (fault.Refused refusal.TrailingBytes)) b
-end_trails bound a b taken some c well few = record { gave = more_given a.known b.known taken some c; blames = well; few = λ l. few }
+pub end_trails : (bound : ℕ) (a b : Device) (taken : List ℕ) → 0 < length taken → HasReadWell a b taken → b.calls ≤ a.calls + 1 → b.calls ≤ bound
+    → ReadsBy 1 bound end_at a (Err (fault.Refused refusal.TrailingBytes)) b
+end_trails bound a b taken some had giving few = record {
+  gave = more_given a.known b.known taken some had.read.consumed;
+  blames = λ fits. record { asked = record { bytes = taken; read = had.read; giving = omega (arith, giving) }; well = had.well };
+  few = λ l. few;
+}
 
-pub end_blames : (bound : ℕ) (a b : Device) → b.faults ≡ counted_on a.faults 1 → b.calls ≤ bound → Reads bound end_at a (Err fault.Device) b
-end_blames bound a b failed few = record { gave = blamed_given end_at a.known b.known; blames = inl failed; few = λ l. few }
+pub end_fails : (bound : ℕ) (a b : Device) → Keeps a.known b.known → b.passed ≡ a.passed → b.faults ≡ counted_on a.faults 1 → b.calls ≤ a.calls + 1 → b.calls ≤ bound
+    → ReadsBy 1 bound end_at a (Err fault.Device) b
+end_fails bound a b keeps passed failed giving few = record {
+  gave = blamed_given end_at a.known b.known;
+  blames = λ fits. let none = one_failed a a b [] (well_none a fits) keeps passed failed in
+      inl (record { asked = record { bytes = []; read = none.read; giving = omega (arith, giving) }; fault = none.fault });
+  few = λ l. few;
+}
+
+pub end_out : (bound : ℕ) (a : Device) → bound ≤ a.calls → ReadsBy 1 bound end_at a (Err fault.Device) a
+end_out bound a out = record {
+  gave = blamed_given end_at a.known a.known;
+  blames = λ fits. inr (record { asked = (asked_none a fits).asked; often = out });
+  few = λ l. l;
+}
 
 -- ---- the whole
 
@@ -218,45 +244,70 @@ behind_digest file digest rest = end_at rest >>= λ end. Ok ((file, digest), end
 abbrev pub behind_body : RawFile → List ℕ → Result ((RawFile × List ℕ) × List ℕ) Refusal
 behind_body file rest = bytes_at 20 rest >>= λ digest. behind_digest file digest.0 digest.1
 
-pub whole_none : {bound : ℕ} (a b : Device) (e : Fault) → Reads {A = RawFile} bound body_at a (Err e) b → Reads bound by_lengths a (Err e) b
+pub whole_none : {bound : ℕ} (a b : Device) (e : Fault) → Reads {A = RawFile} bound body_at a (Err e) b → ReadsBy 1 bound by_lengths a (Err e) b
 unfolding by_lengths
 whole_none a b e p = reads_fails body_at (λ body. behind_body body.0 body.1) a b e p
 
-pub whole_then : {bound : ℕ} (file : RawFile) (a b c : Device) (r : Result (RawFile × List ℕ) Fault) → Reads bound body_at a (Ok file) b → Reads bound (behind_body file) b r c
-    → Reads bound by_lengths a r c
+pub whole_then : {bound : ℕ} (file : RawFile) (a b c : Device) (r : Result (RawFile × List ℕ) Fault) → Reads bound body_at a (Ok file) b → ReadsBy 1 bound (behind_body file) b r c
+    → ReadsBy 1 bound by_lengths a r c
 unfolding by_lengths
 whole_then file a b c r p q = reads_then body_at (λ body. behind_body body.0 body.1) a b c file r p q
 
-pub digest_none : {bound : ℕ} (file : RawFile) (a b : Device) (e : Fault) → Reads {A = List ℕ} bound (bytes_at 20) a (Err e) b → Reads bound (behind_body file) a (Err e) b
+pub digest_none : {bound : ℕ} (file : RawFile) (a b : Device) (e : Fault) → Reads {A = List ℕ} bound (bytes_at 20) a (Err e) b → ReadsBy 1 bound (behind_body file) a (Err e) b
 digest_none file a b e p = reads_fails (bytes_at 20) (λ digest. behind_digest file digest.0 digest.1) a b e p
 
 pub digest_then : {bound : ℕ} (file : RawFile) (digest : List ℕ) (a b c : Device) (r : Result (RawFile × List ℕ) Fault) → Reads bound (bytes_at 20) a (Ok digest) b
-    → Reads bound (behind_digest file digest) b r c → Reads bound (behind_body file) a r c
+    → ReadsBy 1 bound (behind_digest file digest) b r c → ReadsBy 1 bound (behind_body file) a r c
 digest_then file digest a b c r p q = reads_then (bytes_at 20) (λ digest. behind_digest file digest.0 digest.1) a b c digest r p q
 
-pub end_none : {bound : ℕ} (file : RawFile) (digest : List ℕ) (a b : Device) (e : Fault) → Reads {A = Unit} bound end_at a (Err e) b → Reads bound (behind_digest file digest) a (Err e) b
+pub end_none : {bound : ℕ} (file : RawFile) (digest : List ℕ) (a b : Device) (e : Fault) → ReadsBy {A = Unit} 1 bound end_at a (Err e) b
+    → ReadsBy 1 bound (behind_digest file digest) a (Err e) b
 end_none file digest a b e p = reads_fails end_at (λ end. Ok ((file, digest), end.1)) a b e p
 
-pub end_then : {bound : ℕ} (file : RawFile) (digest : List ℕ) (a b : Device) → Reads bound end_at a (Ok tt) b → Reads bound (behind_digest file digest) a (Ok (file, digest)) b
-end_then file digest a b p = reads_then end_at (λ end. Ok ((file, digest), end.1)) a b b tt (Ok (file, digest)) p (reads_value (file, digest) b)
+pub end_then : {bound : ℕ} (file : RawFile) (digest : List ℕ) (a b : Device) → ReadsBy 1 bound end_at a (Ok tt) b → ReadsBy 1 bound (behind_digest file digest) a (Ok (file, digest)) b
+end_then file digest a b p = record {
+  gave = gave_then end_at (λ end. Ok ((file, digest), end.1)) a.known b.known b.known tt (Ok (file, digest)) p.gave (value_given (file, digest) b.known);
+  blames = p.blames;
+  few = p.few;
+}
+
+-- Whatever the counts were.
+pub reads_all : {A : Type 0} (bound : ℕ) (at : Read A) (a b : Device) (r : Result A Fault) → bound ≡ counted_on a.calls (2 ^ 32) → a.calls < 2 ^ 64 → a.passed < 2 ^ 64
+    → ReadsBy 1 bound at a r b → ReadsAll (counted_on a.calls (2 ^ 32)) at a r b
+reads_all bound at a b r is small fits p =
+    subst (λ (n : ℕ). ReadsAll n at a r b) is (record { gave = p.gave; blames = p.blames fits; few = p.few (omega (arith, is, small)) })
 
 -- ---- the digest
 
-pub sealed_none : {bound : ℕ} (digest : List ℕ → List ℕ) (a b : Device) (e : Fault) → Reads {A = RawFile × List ℕ} bound by_lengths a (Err e) b → Reads bound (sealed_at digest) a (Err e) b
+abbrev judged_by : (List ℕ → List ℕ) → (RawFile × List ℕ) × List ℕ → Result (RawFile × List ℕ) Refusal
+judged_by digest whole = cond (bytes_eq whole.0.1 (digest (body_text whole.0.0))) (Ok (whole.0.0, whole.1)) (Err refusal.WrongDigest)
+
+pub sealed_none : {bound : ℕ} (digest : List ℕ → List ℕ) (a b : Device) (e : Fault) → ReadsAll {A = RawFile × List ℕ} bound by_lengths a (Err e) b
+    → ReadsAll bound (sealed_at digest) a (Err e) b
 unfolding sealed_at
-sealed_none digest a b e p =
-    reads_fails by_lengths (λ whole. cond (bytes_eq whole.0.1 (digest (body_text whole.0.0))) (Ok (whole.0.0, whole.1)) (Err refusal.WrongDigest)) a b e p
+sealed_none {bound} digest a b e p = record {
+  gave = gave_fails by_lengths (judged_by digest) a.known b.known e p.gave;
+  blames = blames_as 1 1 bound (RawFile × List ℕ) RawFile e a b p.blames;
+  few = p.few;
+}
 
 pub sealed_reads : {bound : ℕ} (digest : List ℕ → List ℕ) (file : RawFile) (end : List ℕ) (a b : Device) → bytes_eq end (digest (body_text file)) ≡ true
-    → Reads bound by_lengths a (Ok (file, end)) b → Reads bound (sealed_at digest) a (Ok file) b
+    → ReadsAll bound by_lengths a (Ok (file, end)) b → ReadsAll bound (sealed_at digest) a (Ok file) b
 unfolding sealed_at
-sealed_reads {bound} digest file end a b same p =
-    reads_then by_lengths (λ whole. cond (bytes_eq whole.0.1 (digest (body_text whole.0.0))) (Ok (whole.0.0, whole.1)) (Err refusal.WrongDigest)) a b b (file, end) (Ok file) p
-    (subst (λ (t : Bool). Reads bound (λ rest. cond t (Ok (file, rest)) (Err refusal.WrongDigest)) b (Ok file) b) (sym same) (reads_value file b))
+sealed_reads digest file end a b same p = record {
+  gave = gave_then by_lengths (judged_by digest) a.known b.known b.known (file, end) (Ok file) p.gave
+      (subst (λ (t : Bool). Gave (λ rest. cond t (Ok (file, rest)) (Err refusal.WrongDigest)) b.known (Ok file) b.known) (sym same) (value_given file b.known));
+  blames = p.blames;
+  few = p.few;
+}
 
 pub sealed_other : {bound : ℕ} (digest : List ℕ → List ℕ) (file : RawFile) (end : List ℕ) (a b : Device) → bytes_eq end (digest (body_text file)) ≡ false
-    → Reads bound by_lengths a (Ok (file, end)) b → Reads bound (sealed_at digest) a (Err (fault.Refused refusal.WrongDigest)) b
+    → ReadsAll bound by_lengths a (Ok (file, end)) b → ReadsAll bound (sealed_at digest) a (Err (fault.Refused refusal.WrongDigest)) b
 unfolding sealed_at
-sealed_other {bound} digest file end a b other p =
-    reads_then by_lengths (λ whole. cond (bytes_eq whole.0.1 (digest (body_text whole.0.0))) (Ok (whole.0.0, whole.1)) (Err refusal.WrongDigest)) a b b (file, end) (Err (fault.Refused refusal.WrongDigest)) p
-    (subst (λ (t : Bool). Reads bound (λ rest. cond t (Ok (file, rest)) (Err refusal.WrongDigest)) b (Err (fault.Refused refusal.WrongDigest)) b) (sym other) (reads_refused refusal.WrongDigest b))
+sealed_other digest file end a b other p = record {
+  gave = gave_then by_lengths (judged_by digest) a.known b.known b.known (file, end) (Err (fault.Refused refusal.WrongDigest)) p.gave
+      (subst (λ (t : Bool). Gave (λ rest. cond t (Ok (file, rest)) (Err refusal.WrongDigest)) b.known (Err (fault.Refused refusal.WrongDigest)) b.known) (sym other)
+      (refused_given RawFile refusal.WrongDigest b.known));
+  blames = p.blames.asked;
+  few = p.few;
+}

@@ -1,6 +1,7 @@
 -- What calls that read a part of a file do to a reader, by what they answer.
-use Rattle.std.specs.Prelude.{◌≡◌, ℕ, ◌≤◌, List, ◌++◌, length, Option, None, Some, Result, Ok, Err, ◌⊎◌}
-use Rattle.byte_devices.specs.Device.{Device, HasFault}
+use Rattle.std.specs.Prelude.{◌≡◌, ℕ, ◌+◌, ◌^◌, ◌<◌, ◌≤◌, List, ◌++◌, length, Option, None, Some, Result, Ok, Err, ◌⊎◌}
+use Rattle.byte_devices.specs.Device.{Device, HasRead, HasFault, IsWell}
+use Rattle.byte_devices.specs.Reading.{AreBytes}
 use Rattle.pool_file_text.specs.declared.refusal.Refusal.{Refusal}
 use Rattle.pool_file_text.specs.declared.fault.Fault.{Fault}
 use Rattle.pool_file_text.specs.declared.fault.Fault.TheVariants as fault
@@ -25,20 +26,64 @@ Gave at (Some bytes) (Ok x) None = ⊥
 Gave at (Some bytes) (Ok x) (Some rest) = at bytes ≡ Ok (x, rest)
 Gave at (Some bytes) (Err e) new = Fails e (at bytes)
 
--- No call failed, unless the answer blames the device: then one did, or the count of calls is at
--- its bound.
-abbrev pub Blames : {A : Type 0} → ℕ → Result A Fault → Device → Device → Type 0
-Blames bound (Ok x) old new = new.faults ≡ old.faults
-Blames bound (Err fault.Device) old new = HasFault old.faults new.faults ⊎ (bound ≤ new.calls)
-Blames bound (Err fault.Memory) old new = new.faults ≡ old.faults
-Blames bound (Err (fault.Refused refusal)) old new = new.faults ≡ old.faults
+-- Bytes were read, in at most as many calls as there are bytes, and so many more.
+pub record HasAsked (more : ℕ) (old new : Device) : Type 0 where
+  pub bytes : List ℕ
+  pub read : HasRead old new bytes
+  pub giving : new.calls ≤ old.calls + length bytes + more
 
--- A call read as this reading does, and made no call of the reader past the bound.
-pub record Reads {A : Type 0} (bound : ℕ) (at : Read A) (old : Device) (r : Result A Fault)
+-- So it was, and no call failed.
+pub record HasAskedWell (more : ℕ) (old new : Device) : Type 0 where
+  pub asked : HasAsked more old new
+  pub well : IsWell old new
+
+-- And what the reader gave are bytes.
+pub record HasGiven (more : ℕ) (old new : Device) : Type 0 where
+  pub asked : HasAskedWell more old new
+  pub small : AreBytes asked.asked.bytes
+
+-- A call failed, and no other; the reader was called at most once more than it gave bytes.
+pub record HasFailedOnce (old new : Device) : Type 0 where
+  pub asked : HasAsked 1 old new
+  pub fault : HasFault old.faults new.faults
+
+-- The reader does not end: the count of its calls is at the bound, and it gave at least as many
+-- bytes as it was called. No call failed.
+pub record IsEndless (bound : ℕ) (old new : Device) : Type 0 where
+  pub asked : HasAskedWell 0 old new
+  pub often : bound ≤ new.calls
+
+-- Which calls were made, by the answer. After a value the reader was called at most so many times
+-- more than it gave bytes. The device is blamed where a call of it failed, or where it does not
+-- end; after any other fault no call failed, and one at most gave nothing.
+abbrev pub BlamesBy : {A : Type 0} → ℕ → ℕ → Result A Fault → Device → Device → Type 0
+BlamesBy more bound (Ok x) old new = HasGiven more old new
+BlamesBy more bound (Err fault.Device) old new = HasFailedOnce old new ⊎ IsEndless bound old new
+BlamesBy more bound (Err fault.Memory) old new = HasAskedWell 1 old new
+BlamesBy more bound (Err (fault.Refused refusal)) old new = HasAskedWell 1 old new
+
+-- So it is for what is read up to the end of the input, which one call more meets.
+abbrev pub Blames : {A : Type 0} → ℕ → Result A Fault → Device → Device → Type 0
+Blames bound r old new = BlamesBy 1 bound r old new
+
+-- A call read as this reading does, and made no call of the reader past the bound. The count of
+-- bytes is a number of 64 bits.
+pub record ReadsBy {A : Type 0} (more bound : ℕ) (at : Read A) (old : Device) (r : Result A Fault)
+    (new : Device) : Type 0 where
+  pub gave : Gave at old.known r new.known
+  pub blames : old.passed < 2 ^ 64 → BlamesBy more bound r old new
+  pub few : old.calls ≤ bound → new.calls ≤ bound
+
+-- A part of a file was read so: up to a value each call of the reader gave bytes.
+abbrev pub Reads : {A : Type 0} → ℕ → Read A → Device → Result A Fault → Device → Type 0
+Reads bound at old r new = ReadsBy 0 bound at old r new
+
+-- A call read up to the end of the input as this reading does, and made no call past the bound.
+pub record ReadsAll {A : Type 0} (bound : ℕ) (at : Read A) (old : Device) (r : Result A Fault)
     (new : Device) : Type 0 where
   pub gave : Gave at old.known r new.known
   pub blames : Blames bound r old new
-  pub few : old.calls ≤ bound → new.calls ≤ bound
+  pub few : new.calls ≤ bound
 
 -- So many more bytes were read after these.
 abbrev pub Adds : ℕ → ℕ → List ℕ → Device → Result Unit Fault → List ℕ → Device → Type 0

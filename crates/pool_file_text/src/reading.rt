@@ -4,7 +4,7 @@ ghost use Rattle.std.specs.Prelude.{◌≡◌, ◌^◌, ◌==◌, ◌||◌};
 ghost use Rattle.byte_devices.specs.Device.{device_of, calls_of, counted_on, seen};
 ghost use Rattle.pool_file_text.specs.Lengths.{bytes_at, expected_at, front_at, version_at, body_at, end_at, by_lengths};
 ghost use Rattle.pool_file_text.specs.Shown.{file_of};
-ghost use Rattle.pool_file_text.specs.Taking.{shown, Reads};
+ghost use Rattle.pool_file_text.specs.Taking.{shown, ReadsBy, Reads, ReadsAll};
 
 use crate::fault::Fault;
 use crate::fields::{read_byte, read_objects, read_tenants};
@@ -94,7 +94,7 @@ fn read_digest<R: Read>(reader: &mut Counted<R>, bound: u64) -> Result<[u8; 20],
 
 // The end of the input.
 fn read_end<R: Read>(reader: &mut Counted<R>, bound: u64) -> Result<(), Fault>
-    ensures { Reads bound end_at
+    ensures { ReadsBy 1 bound end_at
         (seen (R.remaining (device_of reader.old)) reader.old) result
         (seen (R.remaining (device_of reader.new)) reader.new) }
 {
@@ -115,7 +115,7 @@ fn read_whole<R: Read>(
     reader: &mut Counted<R>,
     bound: u64,
 ) -> Result<(RawFile, [u8; 20]), Fault>
-    ensures { Reads bound by_lengths
+    ensures { ReadsBy 1 bound by_lengths
         (seen (R.remaining (device_of reader.old)) reader.old)
         (shown (λ whole. (file_of whole.0, whole.1)) result)
         (seen (R.remaining (device_of reader.new)) reader.new) }
@@ -138,11 +138,12 @@ pub fn read_file<R: Read>(
     alloc: Global,
     reader: &mut Counted<R>,
 ) -> Result<(RawFile, [u8; 20]), Fault>
-    ensures { Reads (counted_on (calls_of reader.old) (2 ^ 32)) by_lengths
+    ensures { ReadsAll (counted_on (calls_of reader.old) (2 ^ 32)) by_lengths
         (seen (R.remaining (device_of reader.old)) reader.old)
         (shown (λ whole. (file_of whole.0, whole.1)) result)
         (seen (R.remaining (device_of reader.new)) reader.new) }
 {
+    let _passed = reader.passed();
     let bound = reader.calls().saturating_add(READS_LIMIT);
     read_whole(alloc, reader, bound)
 }

@@ -7,7 +7,7 @@ ghost use Rattle.pool_file_text.specs.Format.{body_text, raw_text};
 ghost use Rattle.pool_file_text.specs.Lengths.{sealed_at};
 ghost use Rattle.pool_file_text.specs.Shown.{file_of, lent_file, listed_file, listed_text, object_of};
 ghost use Rattle.pool_file_text.specs.Sinks.{Gives, Goes, Writes};
-ghost use Rattle.pool_file_text.specs.Taking.{shown, Reads};
+ghost use Rattle.pool_file_text.specs.Taking.{shown, ReadsAll};
 
 use crate::digesting::{Fed, Running, Starting};
 use crate::fault::Fault;
@@ -67,7 +67,7 @@ pub fn read_sealed<N: Starting, R: Read>(
     naming: &N,
     reader: &mut Counted<R>,
 ) -> Result<RawFile, Fault>
-    ensures { Reads (counted_on (calls_of reader.old) (2 ^ 32)) (sealed_at N.digest_of)
+    ensures { ReadsAll (counted_on (calls_of reader.old) (2 ^ 32)) (sealed_at N.digest_of)
         (seen (R.remaining (device_of reader.old)) reader.old) (shown file_of result)
         (seen (R.remaining (device_of reader.new)) reader.new) }
 {

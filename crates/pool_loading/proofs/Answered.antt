@@ -23,8 +23,8 @@ pub loads_text : (digest : List ℕ → List ℕ) (f : RawFile) (all : List Name
     → all ≡ saved_in digest f → (old : Option (List ℕ)) → Finds digest old (Ok f)
     → LoadsText digest old (Ok all)
 loads_text digest f all says None found = tt
-loads_text digest f all says (Some bytes) found = λ small.
-    subst (λ (x : List Named). IsTextOf digest x bytes) (sym says) (found small)
+loads_text digest f all says (Some bytes) found =
+    subst (λ (x : List Named). IsTextOf digest x bytes) (sym says) found
 
 pub loads_each : (digest : List ℕ → List ℕ) (f : RawFile) (all : List Named)
     → all ≡ saved_in digest f → (old : Option (List ℕ)) → ReadsTexts digest old (Ok f)
@@ -77,4 +77,4 @@ loads_each_memory digest (Some bytes) = λ all text. tt
 
 pub blamed_memory : {A B : Type 0} (bound : ℕ) (old new : Device) (x : A)
     → IsBlamed bound old (Ok x) new → IsBlamed {A = B} bound old (Err fault.Memory) new
-blamed_memory bound old new x b = record { blames = b.blames; few = b.few }
+blamed_memory bound old new x b = record { blames = b.blames.asked; few = b.few }

@@ -1,5 +1,5 @@
 -- What loading a pool file answers.
-use Rattle.std.specs.Prelude.{◌≡◌, ℕ, ◌<◌, true, List, [], map, length, sum_by, All, Option, None, Some, Result, Ok, Err}
+use Rattle.std.specs.Prelude.{◌≡◌, ℕ, true, List, [], map, length, sum_by, Option, None, Some, Result, Ok, Err}
 use Rattle.std.specs.List.{AllByRecursion}
 use Rattle.content_pool.specs.Pool.{Cells, holds}
 use Rattle.tenant_tables.specs.View.{held}
@@ -66,8 +66,7 @@ LoadsAs digest (Some bytes) (Err fault.Memory) new = Unit {0}
 -- Where repositories are answered, the bytes are a text of them.
 abbrev pub LoadsText : (List ℕ → List ℕ) → Option (List ℕ) → Result (List Named) Fault → Type 0
 LoadsText digest None r = Unit {0}
-LoadsText digest (Some bytes) (Ok all) =
-    All (λ byte. byte < 256) bytes → IsTextOf digest all bytes
+LoadsText digest (Some bytes) (Ok all) = IsTextOf digest all bytes
 LoadsText digest (Some bytes) (Err e) = Unit {0}
 
 -- The answer is these repositories, unless device or memory fails.

@@ -13,10 +13,23 @@ use std::test::Fail;
 // The number of contents in a pool, and the sum of their sizes.
 type Sizes = (u64, u64);
 
+// What is asked of a pool that holds nothing.
+#[derive(Clone, Copy)]
+enum Turn {
+    Names,
+    Keeps,
+    UsesAgain,
+    TakesMany,
+}
+
+// `git hash-object` gave the digits.
+const HELLO: &[u8; 40] = b"ce013625030ba8dba906f756967f9e9ca394464a";
+
 // The digits of the name of `hello` and a line feed as a blob, whether it is given back so, and
 // what is then stored.
-fn of_hello(alloc: Global) -> Result<([u8; 40], bool, Sizes), Fail> {
-    let mut pool = Pool::new(alloc, Sha1Naming);
+fn of_hello(pool: &mut Pool<Sha1Naming>) -> Result<([u8; 40], bool, Sizes), Memory>
+    requires { IsVacant pool.old }
+{
     let (slot, id) = pool.put(Kind::Blob, b"hello\n")?;
     let (kind, bytes) = pool.get(slot);
     let is_same = kind == Kind::Blob && bytes == b"hello\n".as_slice();
@@ -40,9 +53,13 @@ fn held_in_four_ways(alloc: Global, pool: &mut Pool<Sha1Naming>) -> Result<Slot,
 }
 
 // Whether a content that is held four times stays until its last release.
-fn keeps_a_content_until_its_last_release(alloc: Global) -> Result<bool, Fail> {
-    let mut pool = Pool::new(alloc, Sha1Naming);
-    let slot = held_in_four_ways(alloc, &mut pool)?;
+fn keeps_a_content_until_its_last_release(
+    alloc: Global,
+    pool: &mut Pool<Sha1Naming>,
+) -> Result<bool, Fail>
+    requires { IsVacant pool.old }
+{
+    let slot = held_in_four_ways(alloc, pool)?;
     for _ in 0..3u32 {
         pool.release(slot);
         if pool.stored() != (1, 1) {
@@ -54,8 +71,9 @@ fn keeps_a_content_until_its_last_release(alloc: Global) -> Result<bool, Fail> {
 }
 
 // Whether the slot of a released content is that of the next one, and what it then holds.
-fn uses_a_slot_again_after_its_last_release(alloc: Global) -> Result<bool, Fail> {
-    let mut pool = Pool::new(alloc, Sha1Naming);
+fn uses_a_slot_again_after_its_last_release(pool: &mut Pool<Sha1Naming>) -> Result<bool, Memory>
+    requires { IsVacant pool.old }
+{
     let (first, _) = pool.put(Kind::Blob, b"a")?;
     pool.release(first);
     let (second, _) = pool.put(Kind::Blob, b"b")?;
@@ -64,8 +82,9 @@ fn uses_a_slot_again_after_its_last_release(alloc: Global) -> Result<bool, Fail>
 }
 
 // Whether two contents of one name lie apart, and each is given up alone.
-fn tells_two_contents_of_one_name_apart(alloc: Global) -> Result<bool, Fail> {
-    let mut pool = Pool::new(alloc, TailNaming);
+fn tells_two_contents_of_one_name_apart(pool: &mut Pool<TailNaming>) -> Result<bool, Memory>
+    requires { IsVacant pool.old }
+{
     let (ab, first) = pool.put(Kind::Blob, b"ab")?;
     let (ba, second) = pool.put(Kind::Blob, b"ba")?;
     if first != second || ab == ba || pool.stored() != (2, 4) {
@@ -74,11 +93,6 @@ fn tells_two_contents_of_one_name_apart(alloc: Global) -> Result<bool, Fail> {
     pool.release(ab);
     let (_, bytes) = pool.get(ba);
     Ok(bytes == b"ba".as_slice() && pool.stored() == (1, 2))
-}
-
-fn is_as_it_was_after_ten_thousand_contents(alloc: Global) -> Result<bool, Memory> {
-    let mut pool = Pool::new(alloc, Sha1Naming);
-    takes_ten_thousand_contents(&mut pool)
 }
 
 // Whether the pool is as it was after so many contents, each in the slot of the first.
@@ -106,14 +120,39 @@ fn goes_into(pool: &mut Pool<Sha1Naming>, slot: Slot, bytes: &[u8]) -> Result<bo
     Ok(is_alone)
 }
 
+// Whether a new pool keeps each content as it should.
+fn goes_in_turn(alloc: Global, pool: &mut Pool<Sha1Naming>, turn: Turn) -> Result<bool, Fail>
+    requires { IsVacant pool.old }
+{
+    match turn {
+        Turn::Names => Ok(of_hello(pool)? == (*HELLO, true, (1, 6))),
+        Turn::Keeps => keeps_a_content_until_its_last_release(alloc, pool),
+        Turn::UsesAgain => Ok(uses_a_slot_again_after_its_last_release(pool)?),
+        Turn::TakesMany => Ok(takes_ten_thousand_contents(pool)?),
+    }
+}
+
+fn new_pool_goes(alloc: Global, turn: Turn) -> Result<bool, Fail> {
+    let mut pool = Pool::new(alloc, Sha1Naming);
+    let goes = goes_in_turn(alloc, &mut pool, turn);
+    drop(pool);
+    goes
+}
+
+fn new_pool_tells_apart(alloc: Global) -> Result<bool, Memory> {
+    let mut pool = Pool::new(alloc, TailNaming);
+    let tells = tells_two_contents_of_one_name_apart(&mut pool);
+    drop(pool);
+    tells
+}
+
 #[test]
 fn stores_each_content_once(rt: HostRuntime) -> Result<(), Fail> {
-    let name_by_git = *b"ce013625030ba8dba906f756967f9e9ca394464a";
-    assert_eq!(rt; of_hello(rt.alloc())?, (name_by_git, true, (1, 6)));
-    assert!(rt; keeps_a_content_until_its_last_release(rt.alloc())?);
-    assert!(rt; uses_a_slot_again_after_its_last_release(rt.alloc())?);
-    assert!(rt; tells_two_contents_of_one_name_apart(rt.alloc())?);
-    assert!(rt; is_as_it_was_after_ten_thousand_contents(rt.alloc())?);
+    assert!(rt; new_pool_goes(rt.alloc(), Turn::Names)?);
+    assert!(rt; new_pool_goes(rt.alloc(), Turn::Keeps)?);
+    assert!(rt; new_pool_goes(rt.alloc(), Turn::UsesAgain)?);
+    assert!(rt; new_pool_goes(rt.alloc(), Turn::TakesMany)?);
+    assert!(rt; new_pool_tells_apart(rt.alloc())?);
     Ok(())
 }
 
@@ -156,7 +195,10 @@ fn put_alike(
 fn new_pools_answer_alike(alloc: Global) -> Result<bool, Memory> {
     let mut pool = Pool::new(alloc, TailNaming);
     let mut plain = PlainPool::new(alloc, TailNaming);
-    answer_alike(&mut pool, &mut plain)
+    let alike = answer_alike(&mut pool, &mut plain);
+    drop(pool);
+    drop(plain);
+    alike
 }
 
 #[test]
@@ -176,7 +218,9 @@ fn is_unchanged_after_a_refused_growth(rt: HostRuntime) -> Result<(), Fail> {
 // Whether both contents are put, each a second time where a growth was refused and changed nothing.
 fn stays_after_a_refusal(alloc: Global) -> Result<bool, Memory> {
     let mut pool = Pool::new(alloc, TailNaming);
-    put_both(&mut pool)
+    let stays = put_both(&mut pool);
+    drop(pool);
+    stays
 }
 
 fn put_both(pool: &mut Pool<TailNaming>) -> Result<bool, Memory>

@@ -66,12 +66,20 @@ fn is_changed(alloc: Global, copy: &mut Refs) -> Result<bool, Fail> {
     copy.remove(b"refs/heads/none");
     copy.set_head(RefName::read(alloc, b"refs/heads/m")?);
     let copied = copy.copy()?;
-    Ok(copied.head() == b"refs/heads/m".as_slice() && lists(&copied, 0, b"refs/tags/v", 2))
+    let is_copied = is_copy(&copied);
+    drop(copied);
+    Ok(is_copied)
+}
+
+fn is_copy(copied: &Refs) -> bool {
+    copied.head() == b"refs/heads/m".as_slice() && lists(copied, 0, b"refs/tags/v", 2)
 }
 
 fn changes_a_copy(alloc: Global, refs: &Refs) -> Result<bool, Fail> {
     let mut copy = refs.copy()?;
-    is_changed(alloc, &mut copy)
+    let is_changed = is_changed(alloc, &mut copy);
+    drop(copy);
+    is_changed
 }
 
 // Whether a copy is changed, and the refs that it was made of are not.
@@ -84,12 +92,16 @@ fn stays_beside_a_copy(alloc: Global, refs: &mut Refs) -> Result<bool, Fail> {
 
 fn new_refs_go_in_order(alloc: Global) -> Result<bool, Fail> {
     let mut refs = Refs::new(alloc);
-    goes_in_order(alloc, &mut refs)
+    let goes = goes_in_order(alloc, &mut refs);
+    drop(refs);
+    goes
 }
 
 fn new_refs_stay_beside_a_copy(alloc: Global) -> Result<bool, Fail> {
     let mut refs = Refs::new(alloc);
-    stays_beside_a_copy(alloc, &mut refs)
+    let stays = stays_beside_a_copy(alloc, &mut refs);
+    drop(refs);
+    stays
 }
 
 #[test]

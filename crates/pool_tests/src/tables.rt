@@ -197,7 +197,9 @@ fn adds_trees_with_the_sizes_of_their_file_maps<N: Naming>(
 // Owns the forest, apart from the function above: each way out of an owner makes its proof longer.
 fn adds_trees(alloc: Global) -> Result<bool, Fail> {
     let mut forest = Forest::new(alloc, Sha1Naming);
-    adds_trees_with_the_sizes_of_their_file_maps(&mut forest)
+    let adds = adds_trees_with_the_sizes_of_their_file_maps(&mut forest);
+    drop(forest);
+    adds
 }
 
 #[test]

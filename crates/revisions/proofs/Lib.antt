@@ -2,6 +2,7 @@ pub mod Ancestors
 pub mod Bases
 pub mod Cuts
 mod ExpressionExamples
+pub mod FirstPlaces
 pub mod Parting
 pub mod PathSteps
 pub mod ReadingSteps

@@ -1,5 +1,5 @@
 -- How expressions and ranges are read: gitrevisions(7).
-use Rattle.std.specs.Prelude.{◌≡◌, true, false, ℕ, ◌^◌, ◌==◌, ◌&&◌, ◌||◌, not, nat_lt, nat_le, nat_eq, Bool, if◌then◌else◌, List, [], ◌∷◌, ◌++◌, length, drop, Option, None, Some, codes}
+use Rattle.std.specs.Prelude.{◌≡◌, true, false, ℕ, ◌^◌, ◌≤◌, ◌==◌, ◌&&◌, ◌||◌, not, nat_lt, nat_le, nat_eq, Bool, if◌then◌else◌, List, [], ◌∷◌, ◌++◌, length, drop, Option, None, Some, codes}
 use Rattle.std.specs.List.{list_any, starts_with, before_first, after_first}
 use Rattle.std.specs.Option.{option_map, option_and_then}
 use Rattle.std.specs.Str.{bytes_eq}
@@ -123,6 +123,13 @@ parted part (byte ∷ bytes) =
     if starts_with nat_eq (byte ∷ bytes) part
     then Some ([], drop (length part) (byte ∷ bytes))
     else before_both byte (parted part bytes)
+
+-- A text is parted at the first place of a part: what stands before it, the part and what stands
+-- after it are the text, and no place of the part has less before it.
+pub record IsPartedAtFirst (part text before after : List ℕ) : Type 0 where
+  pub whole : text ≡ before ++ (part ++ after)
+  pub first : (other rest : List ℕ) → text ≡ other ++ (part ++ rest)
+      → length before ≤ length other
 
 -- One side may be empty, and is HEAD then; both may not.
 abbrev pub side_of : List ℕ → Option Expression

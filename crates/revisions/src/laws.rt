@@ -1,8 +1,11 @@
-//! Laws of how expressions are read: functions over the definitions alone, which run nothing.
+//! Laws of how expressions and ranges are read: functions over the definitions alone, which run nothing.
 
-ghost use Rattle.std.specs.Prelude.{◌≡◌, ◌++◌, List, ℕ, false};
+ghost use Rattle.std.specs.Prelude.{◌≡◌, ◌≢◌, ◌↔◌, ◌++◌, [], List, ℕ, None, Some, codes, false};
 ghost use Rattle.std.specs.List.{list_any, flat_map, AllByRecursion};
-ghost use Rattle.revisions.specs.ExpressionReading.{cut, is_mark, IsPiece};
+ghost use Rattle.std.specs.Option.{option_map};
+ghost use Rattle.git_model.specs.Bytes.{Holds};
+ghost use Rattle.revisions.specs.declared.commit_range.Range.TheVariants.{From};
+ghost use Rattle.revisions.specs.ExpressionReading.{cut, is_mark, IsPiece, dotted, expression_of, parted, range_of, IsPartedAtFirst};
 
 /// The parts that a text is cut into spell it: nothing is lost, and nothing comes twice.
 pub fn parts_spell_the_text()
@@ -17,4 +20,23 @@ pub fn no_other_parts_spell_it()
         → AllByRecursion IsPiece pieces
         → cut (front ++ flat_map (λ piece. piece) pieces)
         ≡ record { front = front; pieces = pieces } }
+{}
+
+/// A text is parted at the first place of a part, and so nowhere else; it is not parted where the
+/// part does not stand in it. What stands before that place does not hold the part.
+pub fn a_text_is_parted_at_the_first_place()
+    ensures first { (part text before after : List ℕ) → part ≢ []
+        → (parted part text ≡ Some (before, after)) ↔ IsPartedAtFirst part text before after }
+    ensures nowhere { (part text : List ℕ) → part ≢ []
+        → (parted part text ≡ None) ↔ (¬ Holds text part) }
+    ensures before { (part text before after : List ℕ) → part ≢ []
+        → IsPartedAtFirst part text before after → ¬ Holds before part }
+{}
+
+/// A range is parted at its first two dots; a text that does not hold them is an expression.
+pub fn a_range_is_parted_at_its_first_dots()
+    ensures first { (text left right : List ℕ) → IsPartedAtFirst (codes "..") text left right
+        → range_of text ≡ dotted left right }
+    ensures nowhere { (text : List ℕ) → ¬ Holds text (codes "..")
+        → range_of text ≡ option_map From (expression_of text) }
 {}

@@ -5,7 +5,6 @@ use crate::fields::field;
 use crate::history::{History, sets_all, sets_head};
 use crate::made_by_git::{FOUR_COMMITS, TWO_COMMITS};
 use git_objects::{Naming, Sha1Naming};
-use revisions::FirstParentChain;
 use std::alloc::Global;
 use tenant_refs::Refs;
 
@@ -286,14 +285,7 @@ impl<N: Naming> History<N> {
     fn exports_beside(&self, refs: &mut Refs, export: &[u8]) -> bool {
         sets_head(refs, self.alloc, field(export, 0))
             && sets_all(refs, self.alloc, field(export, 1))
-            && self.exports(refs, field(export, 2))
-    }
-
-    fn exports(&self, refs: &Refs, text: &[u8]) -> bool {
-        let mut chain = FirstParentChain::new(self.alloc);
-        let holds = self.prints(refs, &mut chain, b"export", b"0", text);
-        drop(chain);
-        holds
+            && self.prints(refs, b"export", b"0", field(export, 2))
     }
 }
 

@@ -2,7 +2,7 @@
 
 use crate::fields::{field, is_number};
 use crate::history::{History, REFS, sets_all};
-use answers::answer;
+use answers::{answer, answer_along};
 use git_objects::{Naming, Sha1Naming};
 use numerals::read_number;
 use revisions::FirstParentChain;
@@ -172,43 +172,29 @@ impl<N: Naming> History<N> {
     }
 
     fn are_printed_beside(&self, refs: &mut Refs, queries: &Queries) -> bool {
-        sets_all(refs, self.alloc, queries.refs) && self.are_printed_along(refs, queries.printed)
+        sets_all(refs, self.alloc, queries.refs) && self.prints_all(refs, queries.printed)
     }
 
-    // Each query goes on along the first parents that the ones before it met.
-    fn are_printed_along(&self, refs: &Refs, queries: &[u8]) -> bool {
-        let mut chain = FirstParentChain::new(self.alloc);
-        let holds = self.prints_all(refs, &mut chain, queries);
-        drop(chain);
-        holds
-    }
-
-    fn prints_all(&self, refs: &Refs, chain: &mut FirstParentChain, queries: &[u8]) -> bool {
+    fn prints_all(&self, refs: &Refs, queries: &[u8]) -> bool {
         for case in queries.split(|byte| *byte == b';') {
-            if !self.prints_so(refs, chain, case) {
+            if !self.prints_so(refs, case) {
                 return false;
             }
         }
         true
     }
 
-    fn prints_so(&self, refs: &Refs, chain: &mut FirstParentChain, case: &[u8]) -> bool {
+    fn prints_so(&self, refs: &Refs, case: &[u8]) -> bool {
         match read_number(field(case, 1)) {
-            Some(size) => self.refuses_spaces(refs, chain, size as usize, field(case, 0)),
-            None => self.prints(refs, chain, field(case, 1), field(case, 0), field(case, 2)),
+            Some(size) => self.refuses_spaces(refs, size as usize, field(case, 0)),
+            None => self.prints(refs, field(case, 1), field(case, 0), field(case, 2)),
         }
     }
 
-    fn refuses_spaces(
-        &self,
-        refs: &Refs,
-        chain: &mut FirstParentChain,
-        size: usize,
-        code: &[u8],
-    ) -> bool {
+    fn refuses_spaces(&self, refs: &Refs, size: usize, code: &[u8]) -> bool {
         match Vec::from_elem(self.alloc, b' ', size) {
             Ok(query) => {
-                let holds = self.prints(refs, chain, &query, code, b"");
+                let holds = self.prints(refs, &query, code, b"");
                 drop(query);
                 holds
             }
@@ -217,33 +203,97 @@ impl<N: Naming> History<N> {
     }
 
     /// Whether a query is refused with this number, or is not where it is 0, and prints this text.
-    pub fn prints(
-        &self,
-        refs: &Refs,
-        chain: &mut FirstParentChain,
-        query: &[u8],
-        code: &[u8],
-        printed: &[u8],
-    ) -> bool {
+    pub fn prints(&self, refs: &Refs, query: &[u8], code: &[u8], printed: &[u8]) -> bool {
         let mut out = Vec::new(self.alloc);
-        let answered = self.code_of_answer(refs, chain, query, &mut out);
+        let answered = self.code_of_answer(refs, query, &mut out);
         let holds = is_number(code, answered) && is_printed(&out, printed);
         drop(out);
         holds
     }
 
-    fn code_of_answer(
+    fn code_of_answer(&self, refs: &Refs, query: &[u8], out: &mut Vec<u8>) -> u16 {
+        if out.extend_from_slice(ASKED).is_err() {
+            return answers::Fault::Memory.code();
+        }
+        let (pool, table) = (&self.pool, &self.table);
+        code_of(answer(self.alloc, pool, table, refs, query, out))
+    }
+}
+
+// ---- along the first parents that earlier queries met
+
+// A walk begins; goes on past the last commit that was met, and to one before it; begins at another
+// commit; is refused at a commit without a parent; and goes on after a refusal.
+const WALKS: &[u8] = b"\
+    rev-parse main~1;\
+    rev-parse main~2;\
+    rev-parse main~1;\
+    rev-parse side~1;\
+    log main~1..main~0;\
+    rev-parse main~3;\
+    rev-parse main~2;\
+    refs;\
+    abbrev main~2;\
+    cat nothing~1;\
+    cat main~1";
+
+impl<N: Naming> History<N> {
+    fn answers_walks_alike(&mut self) -> bool {
+        if !self.takes_history() {
+            return false;
+        }
+        self.answers_alike_beside_refs()
+    }
+
+    fn answers_alike_beside_refs(&self) -> bool {
+        let mut refs = Refs::new(self.alloc);
+        let holds = sets_all(&mut refs, self.alloc, REFS) && self.answers_alike_along(&refs);
+        drop(refs);
+        holds
+    }
+
+    fn answers_alike_along(&self, refs: &Refs) -> bool {
+        let mut chain = FirstParentChain::new(self.alloc);
+        let holds = self.answers_all_alike(refs, &mut chain);
+        drop(chain);
+        holds
+    }
+
+    fn answers_all_alike(&self, refs: &Refs, chain: &mut FirstParentChain) -> bool {
+        for query in WALKS.split(|byte| *byte == b';') {
+            if !self.answers_alike(refs, chain, query) {
+                return false;
+            }
+        }
+        true
+    }
+
+    // Whether a query has one answer, along the chain and without it.
+    fn answers_alike(&self, refs: &Refs, chain: &mut FirstParentChain, query: &[u8]) -> bool {
+        let mut along = Vec::new(self.alloc);
+        let code = self.code_of_answer_along(refs, chain, query, &mut along);
+        let holds = self.answers_so(refs, query, code, &along);
+        drop(along);
+        holds
+    }
+
+    fn code_of_answer_along(
         &self,
         refs: &Refs,
         chain: &mut FirstParentChain,
         query: &[u8],
         out: &mut Vec<u8>,
     ) -> u16 {
-        if out.extend_from_slice(ASKED).is_err() {
-            return answers::Fault::Memory.code();
-        }
         let (pool, table) = (&self.pool, &self.table);
-        code_of(answer(self.alloc, pool, table, refs, chain, query, out))
+        code_of(answer_along(self.alloc, pool, table, refs, chain, query, out))
+    }
+
+    fn answers_so(&self, refs: &Refs, query: &[u8], code: u16, printed: &[u8]) -> bool {
+        let mut out = Vec::new(self.alloc);
+        let answered = self.code_of_answer(refs, query, &mut out);
+        let holds = answered == code && is_printed(&out, printed);
+        drop(out);
+        holds
     }
 }
 
@@ -283,4 +333,12 @@ fn other_texts_are_refused(rt: HostRuntime) {
 #[test]
 fn without_refs_there_is_head_alone(rt: HostRuntime) {
     assert!(rt; are_printed(rt.alloc(), &NOTHING));
+}
+
+#[test]
+fn kept_first_parents_change_no_answer(rt: HostRuntime) {
+    let mut history = History::new(rt.alloc(), Sha1Naming);
+    let holds = history.answers_walks_alike();
+    drop(history);
+    assert!(rt; holds);
 }

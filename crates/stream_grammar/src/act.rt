@@ -6,8 +6,7 @@ use crate::fault::Fault;
 use crate::feature::Feature;
 use crate::mark::Mark;
 use git_model::FileMode;
-use git_names::RefName;
-use git_objects::Ident;
+use git_names::{Ident, RefName};
 use git_paths::Path;
 
 /// What an item asks for. It borrows the bytes of its item; refs, idents and paths are copies.

@@ -1,7 +1,7 @@
 //! Datarefs: git-fast-import(1), "cat-blob".
 
 use crate::mark::Mark;
-use git_objects::Name;
+use git_names::Name;
 
 /// What a command says for an object: its mark, or its name.
 #[derive(Clone, Copy, PartialEq, Eq)]

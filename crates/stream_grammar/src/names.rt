@@ -9,8 +9,7 @@ ghost use Rattle.stream_grammar.specs.Shown.{commit_shown};
 use crate::commit_ish::CommitIsh;
 use crate::fault::Fault;
 use crate::text::{after_colon, idnum_of};
-use git_names::{RefName, RefNameFault};
-use git_objects::Ident;
+use git_names::{Ident, RefName, RefNameFault};
 use std::alloc::Global;
 
 /// Reads a ref: `Fault::BadRefName` (11) for what is neither a ref name nor `HEAD`, else
@@ -54,9 +53,9 @@ pub fn ident_of(alloc: Global, text: &[u8]) -> Result<Ident, Fault>
 {
     match Ident::read(alloc, text) {
         Ok(ident) => Ok(ident),
-        Err(git_objects::Fault::BadIdentity) => Err(Fault::BadIdentity),
-        Err(git_objects::Fault::BadDate) => Err(Fault::BadDate),
-        Err(git_objects::Fault::Memory) => Err(Fault::Memory),
+        Err(git_names::IdentFault::BadIdentity) => Err(Fault::BadIdentity),
+        Err(git_names::IdentFault::BadDate) => Err(Fault::BadDate),
+        Err(git_names::IdentFault::Memory) => Err(Fault::Memory),
     }
 }
 

@@ -8,7 +8,7 @@ ghost use Rattle.stream_grammar.specs.Texts as texts;
 use crate::data_ref::DataRef;
 use crate::fault::Fault;
 use crate::mark::Mark;
-use git_objects::Name;
+use git_names::Name;
 use numerals::read_number;
 
 // Where the first space of a line is.

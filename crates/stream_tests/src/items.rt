@@ -1,6 +1,6 @@
 //! Items: worked streams beside what they give, cut at every place, and the limits.
 
-use std::alloc::{AllocError, Global};
+use std::alloc::Global;
 use stream_lex::{Fault, Item, Lexer};
 
 // A stream, and what it gives: each item with `|` after it, data in `<` and `>`, and how it ends.
@@ -34,19 +34,19 @@ const STREAMS: &[(&str, &str)] = &[
     ("blob\ndata -1\nblob\n", "blob|fault 4"),
 ];
 
-// Writes an item, and a bar after it.
-fn put(shown: &mut Vec<u8>, item: Item<'_>) -> Result<(), AllocError> {
+// Whether there was room for an item, and a bar after it.
+fn put(shown: &mut Vec<u8>, item: Item<'_>) -> bool {
     match item {
         Item::Line(text) => put_in(b"", text, b"|", shown),
         Item::Data(raw) => put_in(b"<", raw, b">|", shown),
-        Item::Blank => shown.extend_from_slice(b"blank|"),
+        Item::Blank => shown.extend_from_slice(b"blank|").is_ok(),
     }
 }
 
-fn put_in(before: &[u8], text: &[u8], after: &[u8], shown: &mut Vec<u8>) -> Result<(), AllocError> {
-    shown.extend_from_slice(before)?;
-    shown.extend_from_slice(text)?;
-    shown.extend_from_slice(after)
+fn put_in(before: &[u8], text: &[u8], after: &[u8], shown: &mut Vec<u8>) -> bool {
+    shown.extend_from_slice(before).is_ok()
+        && shown.extend_from_slice(text).is_ok()
+        && shown.extend_from_slice(after).is_ok()
 }
 
 // How the stream ends.
@@ -71,62 +71,66 @@ struct Reading {
 }
 
 impl Reading {
+    // Writes the next item; whether there was one, and room for it.
+    fn show_next(&mut self) -> bool {
+        match self.lexer.next() {
+            Ok(Some(item)) => put(&mut self.shown, item),
+            _ => false,
+        }
+    }
+
     // Feeds a piece, and writes the items that it completes.
-    fn feed(&mut self, piece: &[u8]) -> Result<(), AllocError> {
+    fn feed(&mut self, piece: &[u8]) {
         let _ = self.lexer.feed(piece);
         for _ in 0..u64::MAX {
-            match self.lexer.next() {
-                Ok(Some(item)) => put(&mut self.shown, item)?,
-                _ => return Ok(()),
+            if !self.show_next() {
+                return;
             }
         }
-        Ok(())
     }
 
     // Feeds a piece byte by byte.
-    fn feed_bytes(&mut self, piece: &[u8]) -> Result<(), AllocError> {
+    fn feed_bytes(&mut self, piece: &[u8]) {
         for byte in piece {
-            self.feed(&[*byte])?;
+            self.feed(&[*byte]);
         }
-        Ok(())
     }
 
     // Writes how the stream ends, and compares all that was written.
-    fn ends_with(&mut self, items: &[u8]) -> Result<bool, AllocError> {
-        self.shown.extend_from_slice(end_of(&self.lexer))?;
-        Ok(self.shown.as_slice() == items)
+    fn ends_with(&mut self, items: &[u8]) -> bool {
+        self.shown.extend_from_slice(end_of(&self.lexer)).is_ok() && self.shown.as_slice() == items
     }
 
     // The two pieces give these items.
-    fn gives(&mut self, one: &[u8], two: &[u8], items: &[u8]) -> Result<bool, AllocError> {
-        self.feed(one)?;
-        self.feed(two)?;
+    fn gives(&mut self, one: &[u8], two: &[u8], items: &[u8]) -> bool {
+        self.feed(one);
+        self.feed(two);
         self.ends_with(items)
     }
 
     // The stream gives these items byte by byte.
-    fn gives_by_bytes(&mut self, stream: &[u8], items: &[u8]) -> Result<bool, AllocError> {
-        self.feed_bytes(stream)?;
+    fn gives_by_bytes(&mut self, stream: &[u8], items: &[u8]) -> bool {
+        self.feed_bytes(stream);
         self.ends_with(items)
     }
 
     // A line of 1,048,575 bytes, fed byte by byte, is gone over once.
-    fn searches_a_line_once(&mut self) -> Result<bool, AllocError> {
+    fn searches_a_line_once(&mut self) -> bool {
         for _ in 0..1_048_575 {
-            self.feed(b"l")?;
+            self.feed(b"l");
         }
-        self.feed(b"\n")?;
-        Ok(self.shown.len() == 1_048_576 && self.went_over(1_048_576))
+        self.feed(b"\n");
+        self.shown.len() == 1_048_576 && self.went_over(1_048_576)
     }
 
     // So are the lines of a delimited data.
-    fn searches_a_data_once(&mut self) -> Result<bool, AllocError> {
-        self.feed(b"data <<E\n")?;
+    fn searches_a_data_once(&mut self) -> bool {
+        self.feed(b"data <<E\n");
         for _ in 0..10_000 {
-            self.feed_bytes(b"a line\n")?;
+            self.feed_bytes(b"a line\n");
         }
-        self.feed(b"E\n")?;
-        Ok(self.shown.len() == 70_003 && self.went_over(70_011))
+        self.feed(b"E\n");
+        self.shown.len() == 70_003 && self.went_over(70_011)
     }
 
     // So many bytes were fed, and gone over.
@@ -134,26 +138,29 @@ impl Reading {
         self.lexer.fed() == count && self.lexer.searched() == count
     }
 
+    // Feeds a piece so many times.
+    fn feed_often(&mut self, piece: &[u8], times: u32) {
+        for _ in 0..times {
+            self.feed(piece);
+        }
+    }
+
     // Feeds a delimited data of 67,108,863 line ends, and then these bytes.
-    fn feed_large_data(&mut self, lines: &[u8], more: &[u8]) -> Result<(), AllocError> {
-        self.feed(b"data <<E\n")?;
-        for _ in 0..1_024 {
-            self.feed(lines)?;
-        }
-        for _ in 0..1_023 {
-            self.feed(b"\n")?;
-        }
-        self.feed(more)
+    fn feed_large_data(&mut self, lines: &[u8], more: &[u8]) {
+        self.feed(b"data <<E\n");
+        self.feed_often(lines, 1_024);
+        self.feed_often(b"\n", 1_023);
+        self.feed(more);
     }
 
-    fn takes_the_largest_data(&mut self, lines: &[u8]) -> Result<bool, AllocError> {
-        self.feed_large_data(lines, b"\nE\n")?;
-        Ok(!self.shown.is_empty() && self.lexer.end() != Err(Fault::Limit))
+    fn takes_the_largest_data(&mut self, lines: &[u8]) -> bool {
+        self.feed_large_data(lines, b"\nE\n");
+        !self.shown.is_empty() && self.lexer.end() != Err(Fault::Limit)
     }
 
-    fn refuses_a_larger_data(&mut self, lines: &[u8]) -> Result<bool, AllocError> {
-        self.feed_large_data(lines, b"x\nE")?;
-        Ok(self.shown.is_empty() && self.lexer.end() == Err(Fault::Limit))
+    fn refuses_a_larger_data(&mut self, lines: &[u8]) -> bool {
+        self.feed_large_data(lines, b"x\nE");
+        self.shown.is_empty() && self.lexer.end() == Err(Fault::Limit)
     }
 }
 
@@ -164,108 +171,118 @@ fn begin(alloc: Global) -> Reading {
     }
 }
 
-fn gives(alloc: Global, one: &[u8], two: &[u8], items: &[u8]) -> Result<bool, AllocError> {
+fn gives(alloc: Global, one: &[u8], two: &[u8], items: &[u8]) -> bool {
     let mut reading = begin(alloc);
-    reading.gives(one, two, items)
+    let gives = reading.gives(one, two, items);
+    drop(reading);
+    gives
 }
 
-fn gives_by_bytes(alloc: Global, stream: &[u8], items: &[u8]) -> Result<bool, AllocError> {
+fn gives_by_bytes(alloc: Global, stream: &[u8], items: &[u8]) -> bool {
     let mut reading = begin(alloc);
-    reading.gives_by_bytes(stream, items)
+    let gives = reading.gives_by_bytes(stream, items);
+    drop(reading);
+    gives
 }
 
 // The stream gives these items, byte by byte and cut at every place.
-fn gives_however_cut(alloc: Global, stream: &[u8], items: &[u8]) -> Result<bool, AllocError> {
+fn gives_however_cut(alloc: Global, stream: &[u8], items: &[u8]) -> bool {
     for cut in 0..stream.len() {
         let (one, two) = stream.split_at(cut);
-        if !gives(alloc, one, two, items)? {
-            return Ok(false);
+        if !gives(alloc, one, two, items) {
+            return false;
         }
     }
     gives_by_bytes(alloc, stream, items)
 }
 
 // The first stream that gives something else, or none.
-fn first_wrong(alloc: Global) -> Result<Option<&'static str>, AllocError> {
+fn first_wrong(alloc: Global) -> Option<&'static str> {
     for (stream, items) in STREAMS {
-        if !gives_however_cut(alloc, stream.as_bytes(), items.as_bytes())? {
-            return Ok(Some(stream));
+        if !gives_however_cut(alloc, stream.as_bytes(), items.as_bytes()) {
+            return Some(stream);
         }
     }
-    Ok(None)
-}
-
-// So many times this byte.
-fn times(alloc: Global, byte: u8, count: usize) -> Result<Vec<u8>, AllocError> {
-    Ok(vec![in alloc; byte; count]?)
+    None
 }
 
 // Of 1,048,575 bytes: with its line end it is read, and with one byte more it is refused.
-fn long_comments(alloc: Global, comment: &[u8]) -> Result<bool, AllocError> {
-    Ok(
-        gives(alloc, comment, b"\nblob\n", b"blob|end")?
-            && gives(alloc, comment, b"x\nblob\n", b"fault 1")?
-            && gives(alloc, comment, b"x", b"fault 1")?,
-    )
+fn limits_a_comment(alloc: Global, comment: &[u8]) -> bool {
+    gives(alloc, comment, b"\nblob\n", b"blob|end")
+        && gives(alloc, comment, b"x\nblob\n", b"fault 1")
+        && gives(alloc, comment, b"x", b"fault 1")
 }
 
-fn refuses_a_long_comment(alloc: Global) -> Result<bool, AllocError> {
-    let comment = times(alloc, b'#', 1_048_575)?;
-    long_comments(alloc, &comment)
+fn refuses_a_long_comment(alloc: Global) -> bool {
+    let mut comment = Vec::new(alloc);
+    comment.resize(1_048_575, b'#').is_ok() && limits_a_comment(alloc, &comment)
 }
 
-fn searches_a_line_once(alloc: Global) -> Result<bool, AllocError> {
+fn searches_a_line_once(alloc: Global) -> bool {
     let mut reading = begin(alloc);
-    reading.searches_a_line_once()
+    let is_once = reading.searches_a_line_once();
+    drop(reading);
+    is_once
 }
 
-fn searches_a_data_once(alloc: Global) -> Result<bool, AllocError> {
+fn searches_a_data_once(alloc: Global) -> bool {
     let mut reading = begin(alloc);
-    reading.searches_a_data_once()
+    let is_once = reading.searches_a_data_once();
+    drop(reading);
+    is_once
 }
 
-fn takes_the_largest_data(alloc: Global, lines: &[u8]) -> Result<bool, AllocError> {
+fn takes_the_largest_data(alloc: Global, lines: &[u8]) -> bool {
     let mut reading = begin(alloc);
-    reading.takes_the_largest_data(lines)
+    let takes = reading.takes_the_largest_data(lines);
+    drop(reading);
+    takes
 }
 
-fn refuses_a_larger_data(alloc: Global, lines: &[u8]) -> Result<bool, AllocError> {
+fn refuses_a_larger_data(alloc: Global, lines: &[u8]) -> bool {
     let mut reading = begin(alloc);
-    reading.refuses_a_larger_data(lines)
+    let refuses = reading.refuses_a_larger_data(lines);
+    drop(reading);
+    refuses
 }
 
-fn limits_a_delimited_data(alloc: Global) -> Result<bool, AllocError> {
-    let lines = times(alloc, b'\n', 65_535)?;
-    Ok(takes_the_largest_data(alloc, &lines)? && refuses_a_larger_data(alloc, &lines)?)
+fn limits_a_delimited_data(alloc: Global) -> bool {
+    let mut lines = Vec::new(alloc);
+    lines.resize(65_535, b'\n').is_ok()
+        && takes_the_largest_data(alloc, &lines)
+        && refuses_a_larger_data(alloc, &lines)
 }
 
-#[test]
-fn gives_what_the_streams_say_however_they_are_cut(rt: HostRuntime) -> Result<(), AllocError> {
-    assert_eq!(rt; first_wrong(rt.alloc())?, None);
-    Ok(())
-}
-
-#[test]
-fn refuses_a_line_of_more_than_1048575_bytes(rt: HostRuntime) -> Result<(), AllocError> {
-    assert!(rt; refuses_a_long_comment(rt.alloc())?);
-    Ok(())
-}
-
-#[test]
-fn searches_no_byte_twice(rt: HostRuntime) -> Result<(), AllocError> {
-    assert!(rt; searches_a_line_once(rt.alloc())?);
-    assert!(rt; searches_a_data_once(rt.alloc())?);
-    Ok(())
+// Whether the reason of a refusal is told so.
+fn is_told(alloc: Global, fault: Fault, text: &str) -> bool {
+    match fault.to_string(alloc) {
+        Ok(told) => told.as_str() == text,
+        Err(_) => false,
+    }
 }
 
 #[test]
-fn takes_a_delimited_data_of_67108864_bytes_and_no_more(rt: HostRuntime) -> Result<(), AllocError> {
-    assert!(rt; limits_a_delimited_data(rt.alloc())?);
-    Ok(())
+fn gives_what_the_streams_say_however_they_are_cut(rt: HostRuntime) {
+    assert_eq!(rt; first_wrong(rt.alloc()), None);
 }
 
 #[test]
-fn says_what_is_wrong(rt: HostRuntime) -> Result<(), AllocError> {
-    assert!(rt; Fault::CutOff.to_string(rt.alloc())?.as_str() == "the stream is cut off");
-    Ok(())
+fn refuses_a_line_of_more_than_1048575_bytes(rt: HostRuntime) {
+    assert!(rt; refuses_a_long_comment(rt.alloc()));
+}
+
+#[test]
+fn searches_no_byte_twice(rt: HostRuntime) {
+    assert!(rt; searches_a_line_once(rt.alloc()));
+    assert!(rt; searches_a_data_once(rt.alloc()));
+}
+
+#[test]
+fn takes_a_delimited_data_of_67108864_bytes_and_no_more(rt: HostRuntime) {
+    assert!(rt; limits_a_delimited_data(rt.alloc()));
+}
+
+#[test]
+fn says_what_is_wrong(rt: HostRuntime) {
+    assert!(rt; is_told(rt.alloc(), Fault::CutOff, "the stream is cut off"));
 }

@@ -6,6 +6,8 @@ pub mod RunLemmas
 mod SoundLemmas
 mod RestartLemmas
 mod StoredLemmas
+mod SlotSums
+mod CountLemmas
 mod LoadedLemmas
 mod LentLemmas
 mod SavedLemmas

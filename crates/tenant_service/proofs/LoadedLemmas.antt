@@ -215,8 +215,8 @@ pub loads-text : (digest : List ℕ → List ℕ) (known : Option (List ℕ)) (p
     (ts : List Loaded) → loading.LoadsText digest known (Ok (said p ts))
     → LoadsText digest known (Ok (holdings p (map entry_of ts)))
 loads-text digest None p ts h = tt
-loads-text digest (Some bytes) p ts h = λ are.
-    record { all = said p ts; text = h are; has = has-loaded p ts }
+loads-text digest (Some bytes) p ts h =
+    record { all = said p ts; text = h; has = has-loaded p ts }
 
 pub loads-each : (digest : List ℕ → List ℕ) (known : Option (List ℕ)) (p : Cells)
     (ts : List Loaded) → loading.LoadsEach digest known (Ok (said p ts))

@@ -65,7 +65,7 @@ of_entries p (x ∷ es) c listed =
 
 -- ---- contents of tenants
 
-held_objects-in : (ph : Phase) (p : Cells) (t : View) (r : _) → held_objects (held_in ph p t r) ≡ objects p t.entries
+pub held_objects-in : (ph : Phase) (p : Cells) (t : View) (r : _) → held_objects (held_in ph p t r) ≡ objects p t.entries
 held_objects-in phase.Closed p t r = refl
 held_objects-in (phase.Running stream) p t r = refl
 held_objects-in (phase.Dead code) p t r = refl

@@ -1,13 +1,14 @@
 -- What the service holds of a tenant: enough to go on, and neither the repository at Open nor the
 -- bytes since.
-use Rattle.std.specs.Prelude.{◌≡◌, ℕ, Bool, false, nat_lt, List, [], length, map, Option, None, Some, unwrap_or}
+use Rattle.std.specs.Prelude.{◌≡◌, ℕ, Bool, false, nat_lt, List, [], length, map, count_by, Option, None, Some, unwrap_or}
 use Rattle.std.specs.List.{flat_map}
 use Rattle.std.specs.Map.{lookup}
+use Rattle.std.specs.Set.{is_member}
 use Rattle.std.specs.Str.{bytes_eq}
 use Rattle.std.specs.Coded.{Coded, coded_list, coded_ℕ}
 use Rattle.std.specs.FinMap as map
 use Rattle.git_model.specs.RefStore.{RefMap, no_refs}
-use Rattle.git_model.specs.Content.{Content}
+use Rattle.git_model.specs.Content.{Content, same_content}
 use Rattle.git_model.specs.Repository.{Repository, Object}
 use Rattle.stream_lex.specs.Items.{Tail, Rest}
 use Rattle.stream_lex.specs.Running.{more_of}
@@ -71,6 +72,11 @@ has_commit held = nat_lt 0 (length (last_held held).objects)
 -- The contents of all objects of all tenants.
 abbrev pub held_contents : Holdings → List Content
 held_contents all = flat_map (λ e. map (λ o. o.content) (held_objects e.1)) all
+
+-- How many tenants have an object with this content.
+abbrev pub tenants_with : Content → Holdings → ℕ
+tenants_with c all =
+    count_by (λ e. is_member same_content (map (λ o. o.content) (held_objects e.1)) c) all
 
 -- Holdings are told apart by their parts, refs included.
 abbrev pub ref_map_code : Coded RefMap

@@ -1,6 +1,6 @@
 -- The repositories of a service in a pool file: those that are saved, and what is held of those
 -- that were loaded.
-use Rattle.std.specs.Prelude.{◌≡◌, ◌<◌, ℕ, List, [], All, map, Option, None, Some, unwrap_or, Result, Ok, Err}
+use Rattle.std.specs.Prelude.{◌≡◌, ℕ, List, [], map, Option, None, Some, unwrap_or, Result, Ok, Err}
 use Rattle.std.specs.Map.{lookup}
 use Rattle.std.specs.Str.{bytes_eq}
 use Rattle.git_model.specs.Repository.{Repository}
@@ -56,8 +56,7 @@ LoadsAs digest (Some bytes) (Err fault.Memory) new = Unit {0}
 -- Where a service is answered, the bytes are a text of what it has.
 abbrev pub LoadsText : (List ℕ → List ℕ) → Option (List ℕ) → Result Holdings Fault → Type 0
 LoadsText digest None r = Unit {0}
-LoadsText digest (Some bytes) (Ok held) =
-    All (λ byte. byte < 256) bytes → IsLoadedFrom digest bytes held
+LoadsText digest (Some bytes) (Ok held) = IsLoadedFrom digest bytes held
 LoadsText digest (Some bytes) (Err e) = Unit {0}
 
 -- The answer is a service that has these repositories, unless device or memory fails.

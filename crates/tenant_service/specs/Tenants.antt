@@ -1,10 +1,11 @@
 -- What lies where of a tenant: its objects in a table over the shared pool, its refs, and the phase
 -- of its stream.
-use Rattle.std.specs.Prelude.{◌≡◌, ℕ, Bool, true, false, if◌then◌else◌, List, [], length, take, map, nat_lt, sum_by}
+use Rattle.std.specs.Prelude.{◌≡◌, ℕ, Bool, true, false, if◌then◌else◌, List, [], length, take, map, filter_map, nat_lt, sum_by}
 use Rattle.std.specs.List.{AllByRecursion}
+use Rattle.git_model.specs.Content.{Content, same_content}
 use Rattle.git_model.specs.RefStore.{RefStore}
 use Rattle.git_model.specs.Repository.{Object}
-use Rattle.content_pool.specs.Pool.{Cells, holds}
+use Rattle.content_pool.specs.Pool.{Cells, content_of, holds}
 use Rattle.tenant_refs.specs.TenantName.{is_tenant_name}
 use Rattle.tenant_tables.specs.View.{View, held, in_sight}
 use Rattle.tenant_tables.specs.declared.sight.Sight.TheVariants.{Committed}
@@ -20,7 +21,7 @@ use Rattle.tenant_service.specs.declared.tenant.Phase.TheVariants as phase
 use Rattle.tenant_service.specs.declared.tenant.Tenant.{Tenant}
 use Rattle.tenant_service.specs.Alone.{State}
 use Rattle.tenant_stream.specs.Carrying.{Between, stream_in}
-use Rattle.tenant_service.specs.Holding.{Holding, Idle, Busy, Holdings, LeadsTo, IsSoundHolding, held_of, held_objects, last_held}
+use Rattle.tenant_service.specs.Holding.{Holding, Idle, Busy, Holdings, LeadsTo, IsSoundHolding, held_of, held_objects, last_held, tenants_with}
 
 -- After `done` no bytes are kept.
 unfoldable pub kept_tail : Between → Tail
@@ -88,6 +89,16 @@ pub record Shows (held : Holding) (pool : Cells) (table : View) (refs : RefStore
   pub all : objects pool table.entries ≡ held_objects held
   pub committed : take table.committed (objects pool table.entries) ≡ (last_held held).objects
   pub saved : refs ≡ (last_held held).refs
+
+-- How often a pool holds a content, in whatever slots: `Pool::put` leaves each content in one.
+abbrev pub holds_of : Cells → Content → ℕ
+holds_of pool c =
+    sum_by (λ e. if same_content c (content_of e) then e.holds else 0) (filter_map (λ o. o) pool)
+
+-- A pool counts tenants: it holds each content as often as there are tenants that have an object
+-- with it, and so as often as tables hold it, each of which holds a content at most once.
+abbrev pub CountsTenants : Cells → Holdings → Type 0
+CountsTenants pool all = (c : Content) → holds_of pool c ≡ tenants_with c all
 
 -- To what is held of any tenant some repository and stream of its own lead.
 abbrev pub AreLed : (List ℕ → List ℕ) → Holdings → Type 0

@@ -33,7 +33,7 @@ ghost use Rattle.tenant_service.specs.Copying.{HasTaken, IsCopyRun, copy_refusal
 ghost use Rattle.tenant_service.specs.Headline.{IsItsOwn, IsRefused, told_in, told_since, run_of};
 ghost use Rattle.tenant_service.specs.Holding.{Holdings, LeadsTo, IsSoundHolding, Idle, empty_repository, held_of, held_contents, has_commit, last_held, step_held};
 ghost use Rattle.tenant_service.specs.Saved.{saved_of, IsLoadedFrom, LoadsAs, LoadsText, LoadsEach};
-ghost use Rattle.tenant_service.specs.Tenants.{Shows};
+ghost use Rattle.tenant_service.specs.Tenants.{CountsTenants, Shows};
 ghost use Rattle.tenant_tables.specs.StandsIn.{StandsIn};
 
 use crate::copying::{copy, copy_refusal};
@@ -90,8 +90,8 @@ impl<N: Naming> Service<N> {
         }
     }
 
-    /// Every service has come to what it holds of a tenant by steps of that tenant: a fact for
-    /// proofs. A call does nothing.
+    /// To what is held of a tenant some repository and stream of its own lead: a fact for proofs. A
+    /// call does nothing.
     pub fn is_led(&self)
         ensures { (tenant : List ℕ) → (state : State)
             × LeadsTo N.digest_of state (held_of tenant self.now) }
@@ -165,7 +165,8 @@ impl<N: Naming> Service<N> {
     /// The pool of all tenants, and the table and refs of one, for the operator; `None` for a
     /// tenant that is as if never seen. Takes no memory.
     ///
-    /// After the table's committed prefix come the objects of the running stream.
+    /// After the table's committed prefix come the objects of the running stream. The pool holds each
+    /// content as often as there are tenants that have an object with it (`counted`).
     pub fn view(&self, tenant: &[u8]) -> Option<(&Pool<N>, &Table, &Refs)>
         ensures unseen { IsNone result → held_of tenant.now self.now ≡ Idle empty_repository }
         ensures shown { IfSome result (λ lent.
@@ -174,7 +175,9 @@ impl<N: Naming> Service<N> {
             StandsIn N.digest_of lent.0.now lent.1.now.entries) }
         ensures pool { IfSome result (λ lent.
             stored_sizes (live_contents lent.0.now) ≡ stored_sizes (held_contents self.now)) }
+        ensures counted { IfSome result (λ lent. CountsTenants lent.0.now self.now) }
     {
+        self.has_distinct_names();
         let tenants = &self.tenants;
         let Ok(name) = name_of(tenant) else {
             return None;

@@ -16,7 +16,7 @@ ghost use Rattle.tenant_service.specs.Holding.{Idle, IsSoundHolding, step_held, 
 ghost use Rattle.tenant_service.specs.Tenants.{held_in, holding_in, kept_tail, Stands, IsSettled};
 ghost use Rattle.tenant_service.specs.OneStep.{Takes, Fed, refusal_told};
 
-use answers::{Fault, answer};
+use answers::{Fault, answer_along};
 use content_pool::Pool;
 use git_objects::Naming;
 use revisions::FirstParentChain;
@@ -246,7 +246,7 @@ pub fn ask<N: Naming>(
         chain,
         ..
     } = tenant;
-    match answer(alloc, pool, table, refs, chain, query, out) {
+    match answer_along(alloc, pool, table, refs, chain, query, out) {
         Ok(()) => Answer::Ok,
         Err(refusal) => refusal_told(refusal),
     }

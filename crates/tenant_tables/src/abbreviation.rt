@@ -6,7 +6,7 @@ ghost use Rattle.hex.specs.Hex.{decode_sized};
 ghost use Rattle.git_model.specs.ObjectName.{IsObjectName};
 ghost use Rattle.tenant_tables.specs.Abbreviation.{begins, Bounds};
 
-use git_objects::Name;
+use git_names::Name;
 
 /// The name whose forty digits are these and then as many of `digit` as it takes.
 fn padded(digits: &[u8], digit: u8) -> Option<Name>

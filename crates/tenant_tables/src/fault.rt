@@ -3,7 +3,7 @@
 ghost use Rattle.std.specs.Prelude.{◌≡◌};
 ghost use Rattle.tenant_tables.specs.Fault.{fault_code};
 
-use git_objects::Memory;
+use git_names::Memory;
 use thiserror::Error;
 
 /// What `Table::add` and `Table::add_tree` refuse. Nothing has changed after any of them.

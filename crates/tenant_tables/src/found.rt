@@ -1,6 +1,6 @@
 //! What an abbreviation of an object name finds: gitrevisions(7), `<sha1>`.
 
-use git_objects::Name;
+use git_names::Name;
 
 /// How many object names in sight begin with some digits, and which, where it is one.
 #[derive(Clone, Copy, PartialEq, Eq)]

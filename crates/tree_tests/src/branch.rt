@@ -4,14 +4,15 @@ ghost use Rattle.std.specs.Prelude.{◌≢◌};
 ghost use Rattle.git_model.specs.declared.file_mode.FileMode.TheVariants as mode;
 
 use crate::body::Body;
-use crate::step::{HELLO, Step, is, long_path, mode_in, name_in, number_in, path_in, step_of};
+use crate::step::{
+    HELLO, Step, is, is_named, long_path, mode_in, name_in, number_in, path_in, step_of,
+};
 use branch_trees::Files;
 use content_pool::Pool;
 use git_objects::{FileMode, Kind, Name, Naming, Sha1Naming};
 use git_paths::{Path, Place};
 use std::alloc::Global;
 use std::marker::Model;
-use std::test::Fail;
 use tenant_tables::Table;
 use tree_build::{Entry, Fault, Files as PlainFiles};
 
@@ -23,17 +24,27 @@ pub struct Case {
 
 /// The first of these steps, by its position, that a new branch of one of the bodies answers
 /// otherwise.
-pub fn first_wrong(alloc: Global, steps: &str) -> Result<Option<usize>, Fail> {
-    let plain = first_wrong_of::<PlainFiles>(alloc, steps)?;
-    Ok(plain.or(first_wrong_of::<Files>(alloc, steps)?))
+pub fn first_wrong(alloc: Global, steps: &str) -> Option<usize> {
+    let plain = first_wrong_of::<PlainFiles>(alloc, steps);
+    plain.or(first_wrong_of::<Files>(alloc, steps))
 }
 
 /// The same of this body alone.
-pub fn first_wrong_of<B: Body>(alloc: Global, steps: &str) -> Result<Option<usize>, Fail> {
+pub fn first_wrong_of<B: Body>(alloc: Global, steps: &str) -> Option<usize> {
     let mut branch: Branch<B, Sha1Naming> = Branch::new(alloc, Sha1Naming);
     let wrong = branch.first_wrong(steps.as_bytes());
     drop(branch);
     wrong
+}
+
+/// What the first of these cases does that goes otherwise, and the step that does.
+pub fn first_otherwise(alloc: Global, cases: &[Case]) -> Option<(&'static str, usize)> {
+    for case in cases {
+        if let Some(position) = first_wrong(alloc, case.steps) {
+            return Some((case.does, position));
+        }
+    }
+    None
 }
 
 /// The files of a branch, and where their trees would lie.
@@ -45,12 +56,12 @@ pub struct Branch<B: Body, N: Naming> {
     table: Table,
 }
 
-// The number of a refusal, 0 where there is none. Want of memory ends a test.
-fn code_of(answer: Result<(), Fault>) -> Result<u16, Fail> {
+// The number of a refusal, 0 where there is none; none for want of memory, which nothing asks for.
+fn code_of(answer: Result<(), Fault>) -> Option<u64> {
     match answer {
-        Ok(()) => Ok(0),
-        Err(Fault::Memory) => Err(Fail::from(Fault::Memory)),
-        Err(fault) => Ok(fault.code()),
+        Ok(()) => Some(0),
+        Err(Fault::Memory) => None,
+        Err(fault) => Some(u64::from(fault.code())),
     }
 }
 
@@ -66,9 +77,16 @@ fn mode_of(line: &[u8]) -> FileMode
 }
 
 // The name of the blob of such a line.
-fn blob_of(line: &[u8]) -> Result<Name, Fail> {
-    let digits = line.get(7..47).ok_or("no blob")?;
-    Ok(Name::from_hex(digits).ok_or("no name")?)
+fn blob_of(line: &[u8]) -> Option<Name> {
+    Name::from_hex(line.get(7..47)?)
+}
+
+// The path of a text, if it is one.
+fn path_of(alloc: Global, text: &[u8]) -> Option<Path> {
+    match Path::read(alloc, text, Place::Last) {
+        Ok((path, _)) => Some(path),
+        Err(_) => None,
+    }
 }
 
 impl<B: Body, N: Naming> Model for Branch<B, N> {
@@ -98,48 +116,43 @@ impl<B: Body, N: Naming> Branch<B, N> {
 
     // Apart from the function that owns the branch: each way out of an owner makes its proof
     // longer.
-    fn first_wrong(&mut self, steps: &[u8]) -> Result<Option<usize>, Fail> {
+    fn first_wrong(&mut self, steps: &[u8]) -> Option<usize> {
         for (position, line) in steps.split(|byte| *byte == b'\n').enumerate() {
             let step = step_of(line);
-            if !self.takes(&step)? {
-                return Ok(Some(position));
+            if !self.takes(&step) {
+                return Some(position);
             }
         }
-        Ok(None)
+        None
     }
 
     // Whether a step goes as it says. Each function knows some of them, so that its proof is short.
-    fn takes(&mut self, step: &Step<'_>) -> Result<bool, Fail> {
+    fn takes(&mut self, step: &Step<'_>) -> bool {
         if is(step, b"mode") {
             self.has_mode(step)
         } else if is(step, b"none") {
             self.has_none(step)
         } else if is(step, b"tree") {
-            self.has_tree(step)
+            is_named(self.tree_at(path_in(step.first)), name_in(step.second))
         } else {
             self.keeps(step)
         }
     }
 
-    fn keeps(&mut self, step: &Step<'_>) -> Result<bool, Fail> {
+    fn keeps(&mut self, step: &Step<'_>) -> bool {
         if is(step, b"store") {
-            self.stores(step)
+            is_named(self.store(), name_in(step.first))
         } else if is(step, b"stored") {
-            self.has_stored(step)
+            Some(self.table.len() as u64) == number_in(step.first)
         } else if is(step, b"reads") {
             self.has_read(step)
         } else {
-            self.is_answered(step)
+            self.edit(step) == Some(step.code)
         }
     }
 
-    fn is_answered(&mut self, step: &Step<'_>) -> Result<bool, Fail> {
-        let code = self.edit(step)?;
-        Ok(u64::from(code) == step.code)
-    }
-
-    // The number of the refusal of an edit, 0 where there is none.
-    fn edit(&mut self, step: &Step<'_>) -> Result<u16, Fail> {
+    // The number of the refusal of an edit, 0 where there is none; none where it is no edit.
+    fn edit(&mut self, step: &Step<'_>) -> Option<u64> {
         if is(step, b"put") {
             self.put(path_in(step.first), name_in(step.second))
         } else if is(step, b"graft") {
@@ -151,7 +164,7 @@ impl<B: Body, N: Naming> Branch<B, N> {
         }
     }
 
-    fn copy_or_rename(&mut self, step: &Step<'_>) -> Result<u16, Fail> {
+    fn copy_or_rename(&mut self, step: &Step<'_>) -> Option<u64> {
         if is(step, b"copy") {
             self.copy(path_in(step.first), path_in(step.second))
         } else if is(step, b"rename") {
@@ -161,191 +174,188 @@ impl<B: Body, N: Naming> Branch<B, N> {
         }
     }
 
-    fn edit_long(&mut self, step: &Step<'_>) -> Result<u16, Fail> {
+    fn edit_long(&mut self, step: &Step<'_>) -> Option<u64> {
         if is(step, b"put-long") {
             self.put_long(step)
         } else if is(step, b"graft-long") {
             self.graft_long(step)
         } else {
-            self.fill(step)?;
-            Ok(0)
+            self.fills(step).then_some(0)
         }
     }
 
-    // What no number answers.
-    fn fill(&mut self, step: &Step<'_>) -> Result<(), Fail> {
+    // Whether what no number answers was done.
+    fn fills(&mut self, step: &Step<'_>) -> bool {
         if is(step, b"put-line") {
-            self.put_line(step.with)
+            self.puts_line(step.with)
         } else if is(step, b"put-many") {
-            self.put_many(step)
+            self.puts_many(step)
         } else if is(step, b"add-hello") {
-            self.add_blob(b"hello\n")
+            self.adds_blob(b"hello\n")
         } else if is(step, b"clear") {
             self.clear();
-            Ok(())
+            true
         } else {
-            Err(Fail::from("no step"))
+            false
         }
     }
 
-    fn has_mode(&self, step: &Step<'_>) -> Result<bool, Fail> {
-        let mode = mode_in(step.second)?;
-        Ok(self.mode_at(path_in(step.first))? == Some(mode))
+    fn has_mode(&self, step: &Step<'_>) -> bool {
+        let mode = mode_in(step.second);
+        mode.is_some() && self.mode_at(path_in(step.first)) == mode
     }
 
-    fn has_none(&self, step: &Step<'_>) -> Result<bool, Fail> {
-        Ok(self.mode_at(path_in(step.first))?.is_none())
+    fn has_none(&self, step: &Step<'_>) -> bool {
+        match path_of(self.alloc, path_in(step.first)) {
+            Some(path) => self.files.entry(&self.pool, &self.table, &path) == Ok(None),
+            None => false,
+        }
     }
 
-    fn has_tree(&self, step: &Step<'_>) -> Result<bool, Fail> {
-        let name = self.tree_at(path_in(step.first))?;
-        Ok(name.as_slice() == name_in(step.second))
+    fn has_read(&self, step: &Step<'_>) -> bool {
+        match number_in(step.first) {
+            Some(texts) => self.files.reads().unwrap_or(texts) == texts,
+            None => false,
+        }
     }
 
-    fn stores(&mut self, step: &Step<'_>) -> Result<bool, Fail> {
-        let name = self.store()?;
-        Ok(name.as_slice() == name_in(step.first))
-    }
-
-    fn has_stored(&self, step: &Step<'_>) -> Result<bool, Fail> {
-        Ok(self.table.len() as u64 == number_in(step.first)?)
-    }
-
-    fn has_read(&self, step: &Step<'_>) -> Result<bool, Fail> {
-        let texts = number_in(step.first)?;
-        Ok(self.files.reads().unwrap_or(texts) == texts)
-    }
-
-    fn path(&self, text: &[u8]) -> Result<Path, Fail> {
-        let (path, _) = Path::read(self.alloc, text, Place::Last)?;
-        Ok(path)
-    }
-
-    fn paths(&self, from: &[u8], to: &[u8]) -> Result<(Path, Path), Fail> {
-        let from = self.path(from)?;
-        let to = self.path(to)?;
-        Ok((from, to))
-    }
-
-    pub fn put(&mut self, path: &[u8], digits: &[u8]) -> Result<u16, Fail> {
-        let path = self.path(path)?;
+    pub fn put(&mut self, path: &[u8], digits: &[u8]) -> Option<u64> {
+        let path = path_of(self.alloc, path)?;
         self.put_at(&path, digits)
     }
 
-    fn put_long(&mut self, step: &Step<'_>) -> Result<u16, Fail> {
+    fn put_long(&mut self, step: &Step<'_>) -> Option<u64> {
         let path = long_path(self.alloc, step)?;
         self.put_at(&path, HELLO)
     }
 
-    fn put_at(&mut self, path: &Path, digits: &[u8]) -> Result<u16, Fail> {
-        let name = Name::from_hex(digits).ok_or("no name")?;
+    fn put_at(&mut self, path: &Path, digits: &[u8]) -> Option<u64> {
+        let name = Name::from_hex(digits)?;
         let mode = FileMode::Regular;
-        let entry = Entry { mode, name };
+        self.put_file(path, Entry { mode, name })
+    }
+
+    fn put_file(&mut self, path: &Path, entry: Entry) -> Option<u64>
+        requires { entry.mode ≢ mode.Directory }
+    {
         code_of(self.files.put(&self.pool, &self.table, path, entry))
     }
 
-    fn put_many(&mut self, step: &Step<'_>) -> Result<(), Fail> {
-        let directories = number_in(step.first)?;
-        let files = number_in(step.second)?;
+    fn puts_many(&mut self, step: &Step<'_>) -> bool {
+        match (number_in(step.first), number_in(step.second)) {
+            (Some(directories), Some(files)) => self.puts_directories(directories, files),
+            _ => false,
+        }
+    }
+
+    fn puts_directories(&mut self, directories: u64, files: u64) -> bool {
         for directory in 0..directories {
-            self.put_directory(directory, files)?;
+            if !self.puts_directory(directory, files) {
+                return false;
+            }
         }
-        Ok(())
+        true
     }
 
-    fn put_directory(&mut self, directory: u64, files: u64) -> Result<(), Fail> {
+    fn puts_directory(&mut self, directory: u64, files: u64) -> bool {
         for file in 0..files {
-            self.put_numbered(directory, file)?;
+            if !self.puts_numbered(directory, file) {
+                return false;
+            }
         }
-        Ok(())
+        true
     }
 
-    fn put_numbered(&mut self, directory: u64, file: u64) -> Result<u16, Fail> {
-        let path = format!(in self.alloc; "d{directory}/f{file}")?;
-        self.put(path.as_bytes(), HELLO)
+    fn puts_numbered(&mut self, directory: u64, file: u64) -> bool {
+        match format!(in self.alloc; "d{directory}/f{file}") {
+            Ok(path) => self.put(path.as_bytes(), HELLO) == Some(0),
+            Err(_) => false,
+        }
     }
 
-    /// Puts the file of a line of `git ls-tree -r`; a refusal ends a test.
-    pub fn put_line(&mut self, line: &[u8]) -> Result<(), Fail> {
-        let text = line.get(48..).ok_or("no path")?;
-        let path = self.path(text)?;
-        self.put_file(&path, line)
+    /// Whether the file of a line of `git ls-tree -r` is put.
+    pub fn puts_line(&mut self, line: &[u8]) -> bool {
+        self.put_line(line) == Some(0)
     }
 
-    fn put_file(&mut self, path: &Path, line: &[u8]) -> Result<(), Fail> {
+    fn put_line(&mut self, line: &[u8]) -> Option<u64> {
         let name = blob_of(line)?;
+        let path = path_of(self.alloc, line.get(48..)?)?;
         let mode = mode_of(line);
-        let entry = Entry { mode, name };
-        self.files.put(&self.pool, &self.table, path, entry)?;
-        Ok(())
+        self.put_file(&path, Entry { mode, name })
     }
 
-    pub fn drop_path(&mut self, path: &[u8]) -> Result<u16, Fail> {
-        let path = self.path(path)?;
+    pub fn drop_path(&mut self, path: &[u8]) -> Option<u64> {
+        let path = path_of(self.alloc, path)?;
         code_of(self.files.drop_path(&self.pool, &self.table, &path))
     }
 
-    pub fn copy(&mut self, from: &[u8], to: &[u8]) -> Result<u16, Fail> {
-        let (from, to) = self.paths(from, to)?;
-        code_of(self.files.copy(&self.pool, &self.table, &from, &to))
+    pub fn copy(&mut self, from: &[u8], to: &[u8]) -> Option<u64> {
+        let from = path_of(self.alloc, from)?;
+        self.copy_from(&from, to)
     }
 
-    pub fn rename(&mut self, from: &[u8], to: &[u8]) -> Result<u16, Fail> {
-        let (from, to) = self.paths(from, to)?;
-        code_of(self.files.rename(&self.pool, &self.table, &from, &to))
+    fn copy_from(&mut self, from: &Path, to: &[u8]) -> Option<u64> {
+        let to = path_of(self.alloc, to)?;
+        code_of(self.files.copy(&self.pool, &self.table, from, &to))
+    }
+
+    pub fn rename(&mut self, from: &[u8], to: &[u8]) -> Option<u64> {
+        let from = path_of(self.alloc, from)?;
+        self.rename_from(&from, to)
+    }
+
+    fn rename_from(&mut self, from: &Path, to: &[u8]) -> Option<u64> {
+        let to = path_of(self.alloc, to)?;
+        code_of(self.files.rename(&self.pool, &self.table, from, &to))
     }
 
     /// Puts a stored tree at a path, and answers the number of the fault, or 0.
-    pub fn graft(&mut self, path: &[u8], digits: &[u8]) -> Result<u16, Fail> {
-        let path = self.path(path)?;
+    pub fn graft(&mut self, path: &[u8], digits: &[u8]) -> Option<u64> {
+        let path = path_of(self.alloc, path)?;
         self.graft_at(&path, digits)
     }
 
-    fn graft_long(&mut self, step: &Step<'_>) -> Result<u16, Fail> {
+    fn graft_long(&mut self, step: &Step<'_>) -> Option<u64> {
         let path = long_path(self.alloc, step)?;
         self.graft_at(&path, name_in(step.third))
     }
 
-    fn add_blob(&mut self, bytes: &[u8]) -> Result<(), Fail> {
-        self.table.add(&mut self.pool, Kind::Blob, bytes)?;
-        Ok(())
+    fn graft_at(&mut self, path: &Path, digits: &[u8]) -> Option<u64> {
+        let name = Name::from_hex(digits)?;
+        code_of(self.files.graft(&self.pool, &self.table, path, &name))
     }
 
-    fn graft_at(&mut self, path: &Path, digits: &[u8]) -> Result<u16, Fail> {
-        let name = Name::from_hex(digits).ok_or("no name")?;
-        code_of(self.files.graft(&self.pool, &self.table, path, &name))
+    fn adds_blob(&mut self, bytes: &[u8]) -> bool {
+        self.table.add(&mut self.pool, Kind::Blob, bytes).is_ok()
     }
 
     pub fn clear(&mut self) {
         self.files.clear();
     }
 
-    fn entry_at(&self, path: &[u8]) -> Result<Option<Entry>, Fail> {
-        let path = self.path(path)?;
-        self.entry(&path)
+    // What stands at a path, if something does.
+    fn entry_at(&self, path: &[u8]) -> Option<Entry> {
+        let path = path_of(self.alloc, path)?;
+        self.files
+            .entry(&self.pool, &self.table, &path)
+            .unwrap_or(None)
     }
 
-    fn entry(&self, path: &Path) -> Result<Option<Entry>, Fail> {
-        Ok(self.files.entry(&self.pool, &self.table, path)?)
+    fn mode_at(&self, path: &[u8]) -> Option<FileMode> {
+        Some(self.entry_at(path)?.mode)
     }
 
-    fn mode_at(&self, path: &[u8]) -> Result<Option<FileMode>, Fail> {
-        let entry = self.entry_at(path)?;
-        Ok(entry.map(|entry| entry.mode))
+    /// The name of the tree or the blob at a path.
+    pub fn tree_at(&self, path: &[u8]) -> Option<Name> {
+        Some(self.entry_at(path)?.name)
     }
 
-    pub fn tree_at(&self, path: &[u8]) -> Result<[u8; 40], Fail> {
-        let entry = self.entry_at(path)?.ok_or("nothing there")?;
-        Ok(entry.name.to_hex())
-    }
-
-    pub fn store(&mut self) -> Result<[u8; 40], Fail> {
-        let name = self.store_root()?;
-        Ok(name.to_hex())
-    }
-
-    fn store_root(&mut self) -> Result<Name, Fault> {
+    /// The name under which the root is stored.
+    pub fn store(&mut self) -> Option<Name> {
         let root = Path::root(self.alloc);
-        self.files.store(&mut self.pool, &mut self.table, &root)
+        self.files
+            .store(&mut self.pool, &mut self.table, &root)
+            .ok()
     }
 }

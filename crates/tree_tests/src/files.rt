@@ -1,9 +1,8 @@
 //! What no clause says of edits: that calls succeed, and names that Git gave.
 
-use crate::branch::{Case, first_wrong};
+use crate::branch::{Case, first_otherwise};
 use git_paths::{Path, Place};
 use std::alloc::Global;
-use std::test::Fail;
 
 const CASES: &[Case] = &[
     Case {
@@ -97,23 +96,24 @@ const CASES: &[Case] = &[
 ];
 
 #[test]
-fn files_go_as_git_says(rt: HostRuntime) -> Result<(), Fail> {
-    for case in CASES {
-        assert_eq!(rt; first_wrong(rt.alloc(), case.steps)?, None, "{}", case.does);
-    }
-    Ok(())
+fn files_go_as_git_says(rt: HostRuntime) {
+    assert_eq!(rt; first_otherwise(rt.alloc(), CASES), None);
 }
 
-fn printed(alloc: Global, path: &[u8]) -> Result<Vec<u8>, Fail> {
-    let (path, _) = Path::read(alloc, path, Place::Last)?;
+// Whether a path is read, and printed as it was written.
+fn is_printed(alloc: Global, text: &[u8]) -> bool {
+    match Path::read(alloc, text, Place::Last) {
+        Ok((path, _)) => is_quoted_as(alloc, &path, text),
+        Err(_) => false,
+    }
+}
+
+fn is_quoted_as(alloc: Global, path: &Path, text: &[u8]) -> bool {
     let mut out = Vec::new(alloc);
-    path.quote_into(&mut out)?;
-    Ok(out)
+    path.quote_into(&mut out).is_ok() && out.as_slice() == text
 }
 
 #[test]
-fn a_quoted_path_is_printed(rt: HostRuntime) -> Result<(), Fail> {
-    let path = b"\"a\\303\\251\"";
-    assert_eq!(rt; printed(rt.alloc(), path)?.as_slice(), path.as_slice());
-    Ok(())
+fn a_quoted_path_is_printed(rt: HostRuntime) {
+    assert!(rt; is_printed(rt.alloc(), b"\"a\\303\\251\""));
 }

@@ -2,13 +2,12 @@
 
 use crate::body::Body;
 use crate::branch::Branch;
-use crate::made_by_git::TREES;
-use crate::real_trees::put_all;
-use crate::step::HELLO;
+use crate::made_by_git::{Asked, first_otherwise};
+use crate::real_trees::puts_all;
+use crate::step::{HELLO, is_named};
 use branch_trees::Files;
 use git_objects::Sha1Naming;
 use std::alloc::Global;
-use std::test::Fail;
 use tree_build::Files as PlainFiles;
 
 const EDITS: usize = 12;
@@ -35,13 +34,13 @@ impl Random {
 }
 
 // The path of a random line of a list, or one of its directories.
-fn some_path<'a>(random: &mut Random, list: &'a [u8]) -> Result<&'a [u8], Fail> {
+fn some_path<'a>(random: &mut Random, list: &'a [u8]) -> &'a [u8] {
     let count = list.split(|byte| *byte == b'\n').count();
     let mut lines = list.split(|byte| *byte == b'\n');
-    let line = lines.nth(random.below(count)).ok_or("no line")?;
-    let path = line.get(48..).ok_or("no path")?;
+    let line = lines.nth(random.below(count)).unwrap_or(b"");
+    let path = line.get(48..).unwrap_or(b"");
     let most = path.split(|byte| *byte == b'/').count();
-    Ok(front_of(path, random.below(most)))
+    front_of(path, random.below(most))
 }
 
 // A path without so many of its last components.
@@ -65,7 +64,7 @@ struct Edit<'a> {
     tree: &'a [u8],
 }
 
-fn answer_of<B: Body>(branch: &mut Branch<B, Sha1Naming>, edit: &Edit<'_>) -> Result<u16, Fail> {
+fn answer_of<B: Body>(branch: &mut Branch<B, Sha1Naming>, edit: &Edit<'_>) -> Option<u64> {
     match edit.kind {
         0 => branch.put(edit.to, HELLO),
         1 => branch.graft(edit.to, edit.tree),
@@ -75,27 +74,42 @@ fn answer_of<B: Body>(branch: &mut Branch<B, Sha1Naming>, edit: &Edit<'_>) -> Re
     }
 }
 
-fn some_edit<'a>(random: &mut Random, list: &'a [u8], tree: &'a [u8]) -> Result<Edit<'a>, Fail> {
-    Ok(Edit {
+fn some_edit<'a>(random: &mut Random, list: &'a [u8], tree: &'a [u8]) -> Edit<'a> {
+    Edit {
         kind: random.below(5),
-        from: some_path(random, list)?,
-        to: some_path(random, list)?,
+        from: some_path(random, list),
+        to: some_path(random, list),
         tree,
-    })
+    }
+}
+
+// Whether both have a tree of one name.
+fn have_one_name(plain: &Plain, nested: &Nested) -> bool {
+    let name = plain.tree_at(b"");
+    name.is_some() && name == nested.tree_at(b"")
 }
 
 // Whether both answer an edit alike, and have one name then.
-fn goes_alike(plain: &mut Plain, nested: &mut Nested, one: &Edit<'_>) -> Result<bool, Fail> {
-    let answers = answer_of(plain, one)? == answer_of(nested, one)?;
-    Ok(answers && plain.tree_at(b"")? == nested.tree_at(b"")?)
+fn goes_alike(plain: &mut Plain, nested: &mut Nested, one: &Edit<'_>) -> bool {
+    let answer = answer_of(plain, one);
+    answer.is_some() && answer == answer_of(nested, one) && have_one_name(plain, nested)
 }
 
-// Stores the tree of a branch, and begins again from it.
-fn begin_again<B: Body>(branch: &mut Branch<B, Sha1Naming>) -> Result<[u8; 40], Fail> {
-    let name = branch.store()?;
+// Whether the tree of a branch is stored, and the branch begins again from it.
+fn begins_again<B: Body>(branch: &mut Branch<B, Sha1Naming>) -> bool {
+    match branch.store() {
+        Some(name) => begins_from(branch, name.to_hex().as_slice()),
+        None => false,
+    }
+}
+
+fn begins_from<B: Body>(branch: &mut Branch<B, Sha1Naming>, digits: &[u8]) -> bool {
     branch.clear();
-    branch.graft(b"", name.as_slice())?;
-    branch.tree_at(b"")
+    branch.graft(b"", digits).is_some()
+}
+
+fn begin_again_alike(plain: &mut Plain, nested: &mut Nested) -> bool {
+    begins_again(plain) && begins_again(nested) && have_one_name(plain, nested)
 }
 
 fn all_go_alike(
@@ -104,66 +118,55 @@ fn all_go_alike(
     random: &mut Random,
     list: &[u8],
     tree: &[u8],
-) -> Result<bool, Fail> {
+) -> bool {
     for round in 0..EDITS {
-        let one = some_edit(random, list, tree)?;
-        if !goes_alike(plain, nested, &one)? {
-            return Ok(false);
+        let one = some_edit(random, list, tree);
+        if !goes_alike(plain, nested, &one) {
+            return false;
         }
-        if round % 4 == 1 && begin_again(plain)? != begin_again(nested)? {
-            return Ok(false);
+        if round % 4 == 1 && !begin_again_alike(plain, nested) {
+            return false;
         }
     }
-    Ok(true)
+    true
 }
 
 // Whether a branch has this name once the files of a list are put into it, and once they are put
 // back after edits.
-fn is_named<B: Body>(
-    branch: &mut Branch<B, Sha1Naming>,
-    list: &[u8],
-    tree: &[u8],
-) -> Result<bool, Fail> {
+fn gets_name<B: Body>(branch: &mut Branch<B, Sha1Naming>, list: &[u8], tree: &[u8]) -> bool {
     branch.clear();
-    put_all(branch, list)?;
-    Ok(branch.store()?.as_slice() == tree && branch.tree_at(b"")?.as_slice() == tree)
+    puts_all(branch, list) && is_named(branch.store(), tree) && is_named(branch.tree_at(b""), tree)
 }
 
-fn keeps_names(
+fn both_get_name(plain: &mut Plain, nested: &mut Nested, list: &[u8], tree: &[u8]) -> bool {
+    gets_name(plain, list, tree) && gets_name(nested, list, tree)
+}
+
+fn keep_names(
     plain: &mut Plain,
     nested: &mut Nested,
     random: &mut Random,
     list: &[u8],
     tree: &[u8],
-) -> Result<bool, Fail> {
-    let before = is_named(plain, list, tree)? && is_named(nested, list, tree)?;
-    let alike = all_go_alike(plain, nested, random, list, tree)?;
-    Ok(before && alike && is_named(plain, list, tree)? && is_named(nested, list, tree)?)
+) -> bool {
+    both_get_name(plain, nested, list, tree)
+        && all_go_alike(plain, nested, random, list, tree)
+        && both_get_name(plain, nested, list, tree)
 }
 
-fn tree_keeps_names(alloc: Global, seed: u64, list: &[u8], tree: &[u8]) -> Result<bool, Fail> {
+/// Whether both bodies keep the names of a tree of this list through random edits.
+pub fn tree_keeps_names(alloc: Global, seed: u64, list: &[u8], tree: &[u8]) -> bool {
     let mut random = Random { state: seed };
     let mut plain: Plain = Branch::new(alloc, Sha1Naming);
     let mut nested: Nested = Branch::new(alloc, Sha1Naming);
-    let keeps = keeps_names(&mut plain, &mut nested, &mut random, list, tree);
+    let keep = keep_names(&mut plain, &mut nested, &mut random, list, tree);
     drop(plain);
     drop(nested);
-    keeps
+    keep
 }
 
 #[test]
-fn both_bodies_keep_names_through_random_edits(rt: HostRuntime) -> Result<(), Fail> {
-    for (position, tree) in TREES.iter().enumerate() {
-        let (name, list) = *tree;
-        assert!(rt;
-            tree_keeps_names(
-                rt.alloc(),
-                position as u64,
-                list.as_bytes(),
-                name.as_bytes()
-            )?,
-            "{name}"
-        );
-    }
-    Ok(())
+fn both_bodies_keep_names_through_random_edits(rt: HostRuntime) {
+    let otherwise = first_otherwise(rt.alloc(), Asked::KeepsItsNameThroughEdits);
+    assert_eq!(rt; otherwise, None);
 }

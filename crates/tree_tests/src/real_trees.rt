@@ -2,79 +2,55 @@
 
 use crate::body::Body;
 use crate::branch::Branch;
-use crate::made_by_git::TREES;
+use crate::made_by_git::{Asked, first_otherwise};
+use crate::step::is_named;
 use branch_trees::Files;
 use git_objects::Sha1Naming;
 use std::alloc::Global;
-use std::test::Fail;
 use tree_build::Files as PlainFiles;
 
-// Puts the files of a list, as `git ls-tree -r` writes it.
-pub fn put_all<B: Body>(branch: &mut Branch<B, Sha1Naming>, list: &[u8]) -> Result<(), Fail> {
+// Whether the files of a list are put, as `git ls-tree -r` writes it.
+pub fn puts_all<B: Body>(branch: &mut Branch<B, Sha1Naming>, list: &[u8]) -> bool {
     for line in list.split(|byte| *byte == b'\n') {
-        branch.put_line(line)?;
+        if !branch.puts_line(line) {
+            return false;
+        }
     }
-    Ok(())
+    true
 }
 
 // Whether the root has this name before the store, and the store answers it.
-fn names<B: Body>(
-    branch: &mut Branch<B, Sha1Naming>,
-    list: &[u8],
-    name: &[u8],
-) -> Result<bool, Fail> {
-    put_all(branch, list)?;
-    let shown = branch.tree_at(b"")?;
-    let stored = branch.store()?;
-    Ok(shown.as_slice() == name && stored.as_slice() == name)
+fn names<B: Body>(branch: &mut Branch<B, Sha1Naming>, list: &[u8], name: &[u8]) -> bool {
+    puts_all(branch, list) && is_named(branch.tree_at(b""), name) && is_named(branch.store(), name)
 }
 
 // Whether the stored tree stands at the path once it is put there; a refused one leaves nothing.
-fn puts_back<B: Body>(
-    branch: &mut Branch<B, Sha1Naming>,
-    path: &[u8],
-    name: &[u8],
-) -> Result<bool, Fail> {
+fn puts_back<B: Body>(branch: &mut Branch<B, Sha1Naming>, path: &[u8], name: &[u8]) -> bool {
     branch.clear();
-    branch.graft(path, name)?;
-    let there = branch.tree_at(path)?;
-    Ok(there.as_slice() == name)
+    branch.graft(path, name).is_some() && is_named(branch.tree_at(path), name)
 }
 
-fn goes_as_git_says<B: Body>(
-    branch: &mut Branch<B, Sha1Naming>,
-    list: &[u8],
-    name: &[u8],
-) -> Result<bool, Fail> {
-    let is_named = names(branch, list, name)?;
-    let is_below = puts_back(branch, b"some/where", name)?;
-    Ok(is_named && is_below && puts_back(branch, b"", name)?)
+fn goes_as_git_says<B: Body>(branch: &mut Branch<B, Sha1Naming>, list: &[u8], name: &[u8]) -> bool {
+    names(branch, list, name)
+        && puts_back(branch, b"some/where", name)
+        && puts_back(branch, b"", name)
 }
 
-fn new_branch_goes_as_git_says<B: Body>(
-    alloc: Global,
-    list: &[u8],
-    name: &[u8],
-) -> Result<bool, Fail> {
+fn new_branch_goes_as_git_says<B: Body>(alloc: Global, list: &[u8], name: &[u8]) -> bool {
     let mut branch: Branch<B, Sha1Naming> = Branch::new(alloc, Sha1Naming);
     let goes = goes_as_git_says(&mut branch, list, name);
     drop(branch);
     goes
 }
 
-fn both_bodies_go_as_git_says(alloc: Global, list: &[u8], name: &[u8]) -> Result<bool, Fail> {
-    let plain = new_branch_goes_as_git_says::<PlainFiles>(alloc, list, name)?;
-    Ok(plain && new_branch_goes_as_git_says::<Files>(alloc, list, name)?)
+/// Whether both bodies build a tree of this list under this name, and put it back.
+pub fn both_bodies_go_as_git_says(alloc: Global, list: &[u8], name: &[u8]) -> bool {
+    new_branch_goes_as_git_says::<PlainFiles>(alloc, list, name)
+        && new_branch_goes_as_git_says::<Files>(alloc, list, name)
 }
 
 #[test]
-fn trees_get_the_names_that_git_gave_and_are_put_back(rt: HostRuntime) -> Result<(), Fail> {
-    for tree in &TREES {
-        let (name, list) = *tree;
-        assert!(rt;
-            both_bodies_go_as_git_says(rt.alloc(), list.as_bytes(), name.as_bytes())?,
-            "{name}"
-        );
-    }
-    Ok(())
+fn trees_get_the_names_that_git_gave_and_are_put_back(rt: HostRuntime) {
+    let otherwise = first_otherwise(rt.alloc(), Asked::IsBuiltAndPutBack);
+    assert_eq!(rt; otherwise, None);
 }

@@ -19,11 +19,10 @@
 //! under which the root is stored, `stored` how many objects there are then, and `reads` how many
 //! trees were read, where the body counts them.
 
-use git_objects::{FileMode, read_mode};
+use git_objects::{FileMode, Name, read_mode};
 use git_paths::Path;
 use numerals::read_number;
 use std::alloc::Global;
-use std::test::Fail;
 
 /// A blob of `hello` and a line feed, by the name that Git gives it.
 pub const HELLO: &[u8] = b"ce013625030ba8dba906f756967f9e9ca394464a";
@@ -95,36 +94,56 @@ pub fn name_in(word: &[u8]) -> &[u8] {
     }
 }
 
-pub fn number_in(word: &[u8]) -> Result<u64, Fail> {
-    Ok(read_number(word).ok_or("no number")?)
+/// Whether this name has these digits.
+pub fn is_named(name: Option<Name>, digits: &[u8]) -> bool {
+    match name {
+        Some(name) => name.to_hex().as_slice() == digits,
+        None => false,
+    }
 }
 
-pub fn mode_in(word: &[u8]) -> Result<FileMode, Fail> {
-    Ok(read_mode(word).ok_or("no mode")?)
+pub fn number_in(word: &[u8]) -> Option<u64> {
+    read_number(word)
 }
 
-/// The long path of a step.
-pub fn long_path(alloc: Global, step: &Step<'_>) -> Result<Path, Fail> {
+pub fn mode_in(word: &[u8]) -> Option<FileMode> {
+    read_mode(word)
+}
+
+/// The long path of a step, if there was room for it.
+pub fn long_path(alloc: Global, step: &Step<'_>) -> Option<Path> {
     let components = number_in(step.first)?;
     let length = number_in(step.second)?;
-    let mut path = Vec::new(alloc);
-    push_components(&mut path, components, length)?;
-    Ok(Path::from_canonical(alloc, &path)?.ok_or("no path")?)
+    path_with(alloc, components, length)
 }
 
-fn push_components(path: &mut Vec<u8>, components: u64, length: u64) -> Result<(), Fail> {
+fn path_with(alloc: Global, components: u64, length: u64) -> Option<Path> {
+    let mut text = Vec::new(alloc);
+    if !takes_components(&mut text, components, length) {
+        return None;
+    }
+    Path::from_canonical(alloc, &text).unwrap_or(None)
+}
+
+// Whether there was room for so many components of so many letters.
+fn takes_components(text: &mut Vec<u8>, components: u64, length: u64) -> bool {
     for position in 0..components {
-        if position > 0 {
-            path.push(b'/')?;
+        if !takes_component(text, position > 0, length) {
+            return false;
         }
-        push_letters(path, length)?;
     }
-    Ok(())
+    true
 }
 
-fn push_letters(path: &mut Vec<u8>, count: u64) -> Result<(), Fail> {
+fn takes_component(text: &mut Vec<u8>, is_behind: bool, length: u64) -> bool {
+    (!is_behind || text.push(b'/').is_ok()) && takes_letters(text, length)
+}
+
+fn takes_letters(text: &mut Vec<u8>, count: u64) -> bool {
     for _ in 0..count {
-        path.push(b'a')?;
+        if text.push(b'a').is_err() {
+            return false;
+        }
     }
-    Ok(())
+    true
 }

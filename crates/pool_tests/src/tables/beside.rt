@@ -21,7 +21,9 @@ pub enum Step<'a> {
 /// or are not alike after.
 pub fn first_unlike(alloc: Global, steps: &[Step<'_>]) -> Result<Option<usize>, Memory> {
     let mut beside = Beside::new(alloc, TailNaming, TailNaming);
-    beside.first_unlike(steps)
+    let unlike = beside.first_unlike(steps);
+    drop(beside);
+    unlike
 }
 
 /// The two, which nobody else shares a pool with.

@@ -14,7 +14,10 @@ use tenant_tables::Table;
 pub fn takes_hello<N: Naming>(alloc: Global, naming: N, digits: &[u8; 40]) -> Result<bool, Memory> {
     let mut pool = Pool::new(alloc, naming);
     let mut table = Table::new(alloc);
-    takes_hello_from(&mut pool, &mut table, digits)
+    let takes = takes_hello_from(&mut pool, &mut table, digits);
+    drop(table);
+    drop(pool);
+    takes
 }
 
 // Apart from the function that owns the two: each way out of an owner makes its proof longer.

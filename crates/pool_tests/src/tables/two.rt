@@ -43,7 +43,9 @@ pub fn first_wrong<N: Naming>(
     steps: &[Step<'_>],
 ) -> Result<Option<usize>, Fail> {
     let mut two = Two::new(alloc, naming);
-    two.first_wrong(steps)
+    let wrong = two.first_wrong(steps);
+    drop(two);
+    wrong
 }
 
 // Whether an object was added under the name of these digits, or refused by this fault.

@@ -37,7 +37,7 @@ pub returns-clause-found : goal.returns-clause-found
 returns-clause-found g c =
     let D = g.N.Naming.digest_of in
     let same = c.deref-2.ensures.value ∙ c.in_ok-names.ensures ∙ ap (λ (l : List RawObject). names_of D (objects_of l)) c.deref.ensures.value in
-    finds D _ _ _ g.met.N.Naming.answers_names (passed D _ _ _ c.in_ok-file.ensures.gave (c.in_ok-check_file.ensures D same))
+    finds D _ _ _ _ g.met.N.Naming.answers_names c.in_ok-file.ensures (passed D _ _ _ c.in_ok-file.ensures.gave (c.in_ok-check_file.ensures D same))
 
 pub returns-clause-only : goal.returns-clause-only
 returns-clause-only g c =

@@ -1,8 +1,12 @@
 use Rattle.std.proofs.Common.{◌+◌, drop, arith}
 use Rattle.std.proofs.lemmas.List.{drop_all}
 use Rattle.std.proofs.lemmas.Result.{err_from_is_err_and}
-use Rattle.pool_file_text.proofs.WholeLemmas.{drop_next, front_on, front_fails, front_done}
+use Rattle.pool_file_text.specs.Lengths.{front_at}
+use Rattle.pool_file_text.proofs.WholeLemmas.{leads_start, drop_next, front_on, front_fails, front_done}
 use Rattle.pool_file_text.proofs.reading.read_front.Goals as goal
+
+pub loop-byte-init : goal.loop-byte-init
+loop-byte-init g c = leads_start (front_at c.args.expected.now) _
 
 pub returns-in_err-read_expected : goal.returns-in_err-read_expected
 returns-in_err-read_expected g c =

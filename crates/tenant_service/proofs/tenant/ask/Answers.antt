@@ -35,21 +35,21 @@ stands-with digest pool t chain was sound stays = record {
 
 pub returns-in-Ok-clause-stands : goal.returns-in-Ok-clause-stands
 returns-in-Ok-clause-stands g c =
-    stands-with g.N.Naming.digest_of c.args.pool.now c.args.tenant.now c.answer.new.chain c.requires.stands c.requires.sound
-    c.answer.ensures.chain
+    stands-with g.N.Naming.digest_of c.args.pool.now c.args.tenant.now c.answer_along.new.chain c.requires.stands c.requires.sound
+    c.answer_along.ensures.chain
 
 pub returns-in-Ok-clause-own : goal.returns-in-Ok-clause-own
 returns-in-Ok-clause-own g c =
     let t = c.args.tenant.now in
     let saved = saved_is t.phase c.args.pool.now t.table t.refs c.requires.stands.settled in
     let good = good-saved g.N.Naming.digest_of c.args.pool.now t c.requires.stands.settled c.requires.sound in
-    took-told g.N.Naming.digest_of c.args.query.now _ (holding_in c.args.pool.now t) c.args.out.now.items c.answer.new.out.items saved
+    took-told g.N.Naming.digest_of c.args.query.now _ (holding_in c.args.pool.now t) c.args.out.now.items c.answer_along.new.out.items saved
     (c.in-Ok.ensures.told good c.requires.stands.chain)
 
 pub returns-in-Err-clause-stands : goal.returns-in-Err-clause-stands
 returns-in-Err-clause-stands g c =
-    stands-with g.N.Naming.digest_of c.args.pool.now c.args.tenant.now c.answer.new.chain c.requires.stands c.requires.sound
-    c.answer.ensures.chain
+    stands-with g.N.Naming.digest_of c.args.pool.now c.args.tenant.now c.answer_along.new.chain c.requires.stands c.requires.sound
+    c.answer_along.ensures.chain
 
 pub returns-in-Err-clause-own : goal.returns-in-Err-clause-own
 returns-in-Err-clause-own g c =
@@ -57,5 +57,5 @@ returns-in-Err-clause-own g c =
     let saved = saved_is t.phase c.args.pool.now t.table t.refs c.requires.stands.settled in
     let good = good-saved g.N.Naming.digest_of c.args.pool.now t c.requires.stands.settled c.requires.sound in
     rw c.refusal_told.ensures
-    (took-refused_query g.N.Naming.digest_of c.args.query.now _ (holding_in c.args.pool.now t) c.args.out.now.items c.answer.new.out.items
+    (took-refused_query g.N.Naming.digest_of c.args.query.now _ (holding_in c.args.pool.now t) c.args.out.now.items c.answer_along.new.out.items
     c.in-Err.refusal saved (c.in-Err.ensures.told good c.requires.stands.chain) c.in-Err.ensures.same)

@@ -4,6 +4,7 @@ use Rattle.content_pool.proofs.StoredLemmas.{stored_sizes-ListsLive}
 use Rattle.tenant_service.specs.Holding.{Holdings, held_contents}
 use Rattle.tenant_service.specs.Tenants.{holdings}
 use Rattle.tenant_service.proofs.AccountLemmas.{bad-missing, stands-found}
+use Rattle.tenant_service.proofs.CountLemmas.{counts-tenants}
 use Rattle.tenant_service.proofs.StoredLemmas.{lists-live, shows-found, unseen-missing}
 use Rattle.tenant_service.proofs.service.Service.view.Goals as goal
 
@@ -32,3 +33,8 @@ pub returns-clause-stands : goal.returns-clause-stands
 returns-clause-stands g c =
     (stands-found g.N.Naming.digest_of c.self.inside.pool c.args.tenant.now c.self.inside.tenants.entries c.in-Some.tenant.now
     c.self.invariant.accounts (rw c.in-Ok.ensures.1 at (sym c.in-Some.ensures.value))).entries
+
+pub returns-clause-counted : goal.returns-clause-counted
+returns-clause-counted g c =
+    counts-tenants g.N.Naming.digest_of c.self.inside.pool c.self.inside.tenants.entries c.args.self.now
+    c.self.invariant.accounts c.self.invariant.sound c.self.view_is c.has_distinct_names.ensures
