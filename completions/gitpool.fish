@@ -1,0 +1,41 @@
+# Completion of gitpool for fish. completions/README.md says where it goes.
+
+set -l commands serve import ask check copy help
+
+complete -c gitpool -f
+complete -c gitpool -s h -l help -d 'print help'
+complete -c gitpool -n "not __fish_seen_subcommand_from $commands" -a serve -d 'answer frames of steps on standard input'
+complete -c gitpool -n "not __fish_seen_subcommand_from $commands" -a import -d 'import a stream of git-fast-import(1)'
+complete -c gitpool -n "not __fish_seen_subcommand_from $commands" -a ask -d 'print the answer to a query'
+complete -c gitpool -n "not __fish_seen_subcommand_from $commands" -a check -d 'check the pool file and count what it has'
+complete -c gitpool -n "not __fish_seen_subcommand_from $commands" -a copy -d "copy a tenant's repository to an empty tenant"
+complete -c gitpool -n "not __fish_seen_subcommand_from $commands" -a help -d 'print the help of a subcommand'
+complete -c gitpool -n '__fish_seen_subcommand_from serve import ask check copy' -l pool -rF -d 'the pool file'
+complete -c gitpool -n '__fish_seen_subcommand_from help' -a 'serve import ask check copy'
+
+# How many words stand after the subcommand, without options and the file of --pool.
+function __gitpool_place
+    set -l count 0
+    set -l is_file no
+    for it in (commandline -opc)[2..]
+        if test $is_file = yes
+            set is_file no
+        else if test "$it" = --pool
+            set is_file yes
+        else if not string match -q -- '-*' "$it"
+            set count (math $count + 1)
+        end
+    end
+    test $count = $argv[1]
+end
+
+# A query is one word, so fish quotes a space in it.
+set -l is_query '__fish_seen_subcommand_from ask; and __gitpool_place 2'
+complete -c gitpool -n $is_query -a refs -d 'all refs with the names of their objects'
+complete -c gitpool -n $is_query -a head -d 'the ref that HEAD names'
+complete -c gitpool -n $is_query -a export -d 'the repository as a stream of git-fast-import(1)'
+complete -c gitpool -n $is_query -a "'rev-parse '" -d 'the name of the object that an expression names'
+complete -c gitpool -n $is_query -a "'abbrev '" -d 'the shortest beginning of its name'
+complete -c gitpool -n $is_query -a "'cat '" -d 'its name, kind, size and contents'
+complete -c gitpool -n $is_query -a "'ls '" -d 'the entries of a tree'
+complete -c gitpool -n $is_query -a "'log '" -d 'the commits of a range'

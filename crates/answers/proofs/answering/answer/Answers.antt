@@ -1,5 +1,0 @@
-use Rattle.answers.proofs.answering.answer.Goals as goal
-
-pub returns-clause-told : goal.returns-clause-told
-returns-clause-told g c = λ good chain.
-    rw c.in_ok-query.ensures (c.tell_committed.ensures.told good chain)
