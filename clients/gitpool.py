@@ -323,7 +323,9 @@ def link_to(pool: Optional[PathLike]) -> Tuple[str, str]:
         room = tempfile.mkdtemp(prefix="gitpool-")
         return os.path.join(room, "pool"), room
     source = os.path.realpath(pool)
-    for put, folder in ((os.link, tempfile.gettempdir()), (os.link, os.path.dirname(source)), (shutil.copyfile, tempfile.gettempdir())):
+    ways: Tuple[Tuple[Callable[..., object], str], ...] = (
+        (os.link, tempfile.gettempdir()), (os.link, os.path.dirname(source)), (shutil.copyfile, tempfile.gettempdir()))
+    for put, folder in ways:
         named = _put_in_room(put, source, folder)
         if named is not None:
             return named

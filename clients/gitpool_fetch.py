@@ -13,7 +13,7 @@ import gc
 import os
 import re
 import tempfile
-from bisect import bisect_left, bisect_right
+from bisect import bisect_right
 from typing import BinaryIO, Callable, Dict, Iterable, Iterator, List, NamedTuple, Optional, Set, Tuple
 
 from gitpool import Kind, Service, Step
@@ -26,7 +26,7 @@ Report = Callable[[str, int], None]
 _ENTRY = re.compile(rb"([0-7]+) ([^\0]+)\0(.{20})", re.S)
 _NOT_ZERO = re.compile(rb"[^\0]")
 _EMPTY_TREE = bytes.fromhex(EMPTY_TREE.decode())
-_DIRECTORY, _GITLINK = b"40000", b"160000"
+_DIRECTORY, _GITLINK, _FOUR = b"40000", b"160000", ord("4")
 _TREE, _BLOB = TYPES[b"tree"], TYPES[b"blob"]
 
 # Deltas in a row: reading the last one asks for all before it.
@@ -66,40 +66,34 @@ def spots_of(entries: List[Entry]) -> List[int]:
     return spots
 
 
-def changed_spots(old: StoredTree, contents: bytes, number: int) -> Optional[List[int]]:
-    """Where a tree names other objects than an old one, or None where it differs in more than that."""
+def changed_entries(old: StoredTree, contents: bytes, number: int) -> Optional[List[int]]:
+    """The places of the entries that name other objects than in an old tree, or None where a tree differs in more than that."""
     was, old_number, spots, _, _ = old
     size = len(contents)
     if size != len(was):
         return None
     differing = number ^ old_number
     first = size - ((differing.bit_length() + 7) >> 3)
-    before = bisect_right(spots, first)
-    if not before or first >= spots[before - 1] + 20:
+    place = bisect_right(spots, first) - 1
+    if place < 0 or first >= spots[place] + 20:
         return None
     last = size - 1 - (((differing & -differing).bit_length() - 1) >> 3)
-    if last < spots[before - 1] + 20:
-        return [spots[before - 1]]
-    return all_changed_spots(spots, differing.to_bytes(size, "big"))
+    if last < spots[place] + 20:
+        return [place]
+    return all_changed_entries(spots, differing.to_bytes(size, "big"))
 
 
-def all_changed_spots(spots: List[int], differing: bytes) -> Optional[List[int]]:
+def all_changed_entries(spots: List[int], differing: bytes) -> Optional[List[int]]:
     """The same, from the bytes that are not zero where two trees differ."""
     changed = []
     found = _NOT_ZERO.search(differing)
     while found:
-        spot = spot_at(spots, found.start())
-        if spot is None:
+        place = bisect_right(spots, found.start()) - 1
+        if place < 0 or found.start() >= spots[place] + 20:
             return None
-        changed.append(spot)
-        found = _NOT_ZERO.search(differing, spot + 20)
+        changed.append(place)
+        found = _NOT_ZERO.search(differing, spots[place] + 20)
     return changed
-
-
-def spot_at(spots: List[int], place: int) -> Optional[int]:
-    """The spot of which a place in a tree is part, if any."""
-    before = bisect_right(spots, place)
-    return spots[before - 1] if before and place < spots[before - 1] + 20 else None
 
 
 class Fetch:
@@ -173,6 +167,11 @@ class Fetch:
 
     def _objects(self, names: List[bytes]) -> Iterator[Tuple[bytes, bytes, bool]]:
         """The kind and contents of objects, and whether they are new here. What is here already is read here."""
+        if self._is_bare:
+            return ((kind, contents, True) for kind, contents in self._asked(names))
+        return self._found(names)
+
+    def _found(self, names: List[bytes]) -> Iterator[Tuple[bytes, bytes, bool]]:
         here = self._is_here(names)
         asked = self._asked([name for name, is_here in zip(names, here) if not is_here])
         read = self._local.contents(name.hex().encode() for name, is_here in zip(names, here) if is_here)
@@ -273,34 +272,27 @@ class Fetch:
         """Stores a tree that is new, and gives the trees that it has and its base has not, each with its own base."""
         old = None if base is None else self._later.get(base) or self._earlier.get(base)
         number = int.from_bytes(contents, "big")
-        changed = changed_spots(old, contents, number) if old else None
+        changed = changed_entries(old, contents, number) if old else None
         if old is None or not changed:
             return self._take_other_tree(old, name, contents, is_new, writer)
         was, _, spots, _, _ = old
         if is_new:
-            instructions = delta_of_spot(contents, changed[0]) if len(changed) == 1 else delta_of_spots(contents, changed)
+            one = len(changed) == 1
+            instructions = delta_of_spot(contents, spots[changed[0]]) if one else delta_of_spots(contents, [spots[it] for it in changed])
             self._later[name] = (contents, number, spots, *self._store_tree(contents, old, instructions, writer))
         below: List[Root] = []
-        for spot in changed:
+        for place in changed:
+            spot = spots[place]
             target = contents[spot : spot + 20]
             if target not in self._seen:
-                self._take_entry(was[spot : spot + 20], target, self._mode_at(contents, spots, spot), below)
+                # The first digits of a mode tell a directory, 40000, and a gitlink, 160000.
+                start = spots[place - 1] + 20 if place else 0
+                if contents[start] == _FOUR:
+                    below.append((target, was[spot : spot + 20]))
+                elif not contents.startswith(b"16", start):
+                    self._seen.add(target)
+                    self._blobs.append(target)
         return below
-
-    @staticmethod
-    def _mode_at(contents: bytes, spots: List[int], spot: int) -> bytes:
-        """The mode of the entry whose object is named at a spot."""
-        place = bisect_left(spots, spot)
-        start = spots[place - 1] + 20 if place else 0
-        return contents[start : contents.index(b" ", start)]
-
-    def _take_entry(self, base: Optional[bytes], target: bytes, mode: bytes, below: List[Root]) -> None:
-        """Takes what an entry names, for the first time."""
-        if mode == _DIRECTORY:
-            below.append((target, base))
-        elif mode != _GITLINK:
-            self._seen.add(target)
-            self._blobs.append(target)
 
     def _take_other_tree(self, old: Optional[StoredTree], name: bytes, contents: bytes, is_new: bool,
                          writer: PackWriter) -> List[Root]:
@@ -312,8 +304,13 @@ class Fetch:
         bases = {path: target for mode, path, target in _ENTRY.findall(old[0]) if mode == _DIRECTORY} if old else {}
         below: List[Root] = []
         for mode, path, target in entries:
-            if target not in self._seen:
-                self._take_entry(bases.get(path), target, mode, below)
+            if target in self._seen or mode == _GITLINK:
+                continue
+            if mode == _DIRECTORY:
+                below.append((target, bases.get(path)))
+            else:
+                self._seen.add(target)
+                self._blobs.append(target)
         return below
 
     @staticmethod
@@ -381,8 +378,8 @@ class Fetch:
         stem = os.path.join(self._local.git_path("objects/pack"), f"pack-{pack}")
         with open(stem + ".idx", "rb") as index:
             index.seek(8 + 4 * 256)
-            names = index.read(20 * len(self._names))
-        if names != b"".join(sorted(self._names)):
+            table = index.read(20 * len(self._names))
+        if {table[at : at + 20] for at in range(0, len(table), 20)} != set(self._names):
             raise GitError("the pack has other objects than those that were asked for")
         return stem + ".keep"
 

@@ -23,15 +23,14 @@ _BLOCK = 1 << 18
 _MOST_WAITING = 1024
 
 
-@lru_cache(maxsize=None)
-def _stored(size: int) -> bytes:
-    return b"\x78\x01\x01" + struct.pack("<HH", size, size ^ 0xFFFF)
+# What stands before short data, by their sizes.
+_STORED = [b"\x78\x01\x01" + struct.pack("<HH", size, size ^ 0xFFFF) for size in range(_SHORT + 1)]
 
 
 def deflated(data: bytes) -> bytes:
     """Data as zlib has it: without compression where they are short."""
     size = len(data)
-    return zlib.compress(data, 1) if size > _SHORT else _stored(size) + data + zlib.adler32(data).to_bytes(4, "big")
+    return zlib.compress(data, 1) if size > _SHORT else _STORED[size] + data + zlib.adler32(data).to_bytes(4, "big")
 
 
 @lru_cache(maxsize=4096)

@@ -6,15 +6,17 @@ import re
 import shlex
 import sys
 import time
-from typing import BinaryIO, Dict, List, NamedTuple, Optional
+from importlib import import_module
+from typing import TYPE_CHECKING, BinaryIO, Dict, List, NamedTuple, Optional, Tuple
 
 from gitpool import Fault, OutOfMemory, PoolBusy, Service, ServiceError
 from gitpool_faults import explain
-from gitpool_fetch import Fetch
 from gitpool_git import GitError, Repository
 from gitpool_objects import Refusal
-from gitpool_push import Push, Update
 from gitpool_terminal import stop_once
+
+if TYPE_CHECKING:
+    from gitpool_push import Update
 
 CAPABILITIES = b"fetch\npush\noption\ncheck-connectivity\nobject-format\n\n"
 
@@ -172,11 +174,13 @@ class Helper:
     def _list(self, writes: bool) -> None:
         if self._wants(b"object-format"):
             self._out.write(b":object-format sha1\n")
-        if self._local_format() != "sha1":
-            raise UsageError("this repository has sha256 names; gitpool keeps sha1 alone")
         if self._service:
             self._service.kill()
         self._service = self._start(writes)
+        if self._local_format() != "sha1":
+            raise UsageError("this repository has sha256 names; gitpool keeps sha1 alone")
+        # While the program loads its file there is time to load what comes next.
+        import_module("gitpool_push" if writes else "gitpool_fetch")
         found = self._service.refs(self._address.tenant)
         self._refs = {ref.name: ref.target.encode() for ref in found}
         self._head = self._service.head(self._address.tenant)
@@ -210,6 +214,8 @@ class Helper:
             raise UsageError(f"shallow and partial clones are not served (option {self._wishes[b'shallow'].decode()}): clone the whole history")
         service = self._service or self._start(False)
         self._service = service
+        from gitpool_fetch import Fetch
+
         fetch = Fetch(service, self._address.tenant, self._local, self._progress.count)
         kept = fetch.run(dict.fromkeys(line.split(b" ")[0] for line in batch), self._progress.shown and self._verbosity > 0)
         self._progress.end()
@@ -222,7 +228,9 @@ class Helper:
     # Pushes
 
     def _push(self, batch: List[bytes]) -> None:
-        updates = [self._update(line) for line in batch]
+        from gitpool_push import Update
+
+        updates = [Update(*self._update(line)) for line in batch]
         try:
             bad = self._carry_out(updates)
         except Refusal as refusal:
@@ -236,13 +244,15 @@ class Helper:
             self._out.write(b"error %b %b\n" % (update.ref, os.fsencode(why.replace("\n", " "))) if why else b"ok %b\n" % update.ref)
         self._out.write(b"\n")
 
-    def _update(self, line: bytes) -> Update:
+    def _update(self, line: bytes) -> Tuple[bytes, bytes, bool]:
         source, _, ref = line.lstrip(b"+").rpartition(b":")
         leased = ref in self._leases and self._leases[ref].strip(b"0") == self._refs.get(ref, b"").strip(b"0")
-        return Update(source, ref, line.startswith(b"+") or self._wants(b"force") or leased)
+        return source, ref, line.startswith(b"+") or self._wants(b"force") or leased
 
-    def _carry_out(self, updates: List[Update]) -> Dict[bytes, str]:
+    def _carry_out(self, updates: "List[Update]") -> Dict[bytes, str]:
         """Makes the updates, and gives those that were not made, and why."""
+        from gitpool_push import Push
+
         service = self._service or self._start(True)
         self._service = None
         try:

@@ -64,6 +64,7 @@ def clones():
             tips = {clone(f"git{kind}", "file://" + os.path.join(folder, "left.git"), *words),
                     clone(f"packed{kind}", "file://" + os.path.join(folder, "packed.git"), *words), clone(f"gitpool{kind}", url, *words)}
             assert len(tips) == 1, "other tips"
+        os.sync()
         timed("load", program, "check", "--pool", pool)
         timed("load and save", program, "serve", "--pool", pool)
 
@@ -81,6 +82,8 @@ def pushes():
     shutil.copytree(writer, reader)
     for _ in range(rounds):
         change(writer)
+        # A save syncs its file, and would wait for what was written before.
+        os.sync()
         timed("push", "git", "push", "-q", at=writer)
         timed("push of nothing", "git", "push", "-q", at=writer)
         timed("fetch", "git", "fetch", "-q", at=reader)

@@ -9,7 +9,7 @@ import tempfile
 import unittest
 from typing import List, Tuple
 
-from gitpool_fetch import StoredTree, changed_spots, spots_of
+from gitpool_fetch import StoredTree, changed_entries, spots_of
 from gitpool_pack import TYPES, PackWriter, delta_of_ends, delta_of_spot, delta_of_spots, distance, header
 
 
@@ -83,7 +83,7 @@ class Trees(unittest.TestCase):
         contents = b"".join(mode + b" " + path + b"\0" + target for mode, path, target in entries)
         return contents, int.from_bytes(contents, "big"), spots_of(entries), 0, 0
 
-    def test_changed_spots(self) -> None:
+    def test_changed_entries(self) -> None:
         chance = random.Random(7)
         entries = [(b"100644", b"file%d" % it, chance.randbytes(20)) for it in range(30)]
         old = self.tree(entries)
@@ -94,15 +94,15 @@ class Trees(unittest.TestCase):
                 target = bytearray(entries[it][2])
                 target[chance.choice((0, 10, 19))] ^= 0x80
                 new[it] = (*entries[it][:2], bytes(target))
-            found = changed_spots(old, *self.tree(new)[:2])
-            self.assertEqual(found, [old[2][it] for it in changed])
+            found = changed_entries(old, *self.tree(new)[:2])
+            self.assertEqual(found, changed)
 
     def test_other_changes(self) -> None:
         entries = [(b"100644", b"a", b"\1" * 20), (b"100644", b"b", b"\2" * 20)]
         old = self.tree(entries)
         for new in ([(b"100755", b"a", b"\1" * 20), entries[1]], [entries[0], (b"100644", b"c", b"\2" * 20)], entries[:1],
                     [(b"100755", b"a", b"\3" * 20), entries[1]], [(b"100644", b"a", b"\3" * 20), (b"100644", b"c", b"\2" * 20)]):
-            self.assertIsNone(changed_spots(old, *self.tree(new)[:2]))
+            self.assertIsNone(changed_entries(old, *self.tree(new)[:2]))
 
 
 class Packs(unittest.TestCase):
