@@ -1,4 +1,4 @@
-"""Reads a pool file by its documented format, without loading it (crates/pool_file_text/README.md).
+"""Reads a pool file by its documented format, without loading it (crates/pool_file_format/README.md).
 
 Only what the format says is judged: magic, version, lengths and the digest. Whether the objects hang together is for
 `gitpool check`.

@@ -35,7 +35,7 @@ complete -c gitpool -n $is_query -a refs -d 'all refs with the names of their ob
 complete -c gitpool -n $is_query -a head -d 'the ref that HEAD names'
 complete -c gitpool -n $is_query -a export -d 'the repository as a stream of git-fast-import(1)'
 complete -c gitpool -n $is_query -a "'rev-parse '" -d 'the name of the object that an expression names'
-complete -c gitpool -n $is_query -a "'abbrev '" -d 'the shortest beginning of its name'
+complete -c gitpool -n $is_query -a "'abbrev '" -d 'the shortest unambiguous prefix of its name'
 complete -c gitpool -n $is_query -a "'cat '" -d 'its name, kind, size and contents'
 complete -c gitpool -n $is_query -a "'ls '" -d 'the entries of a tree'
 complete -c gitpool -n $is_query -a "'log '" -d 'the commits of a range'

@@ -1,4 +1,4 @@
-"""What each tenant has in a pool file, read by the format in crates/pool_file_text/README.md: a file of version 2."""
+"""What each tenant has in a pool file, read by the format in crates/pool_file_format/README.md: a file of version 2."""
 from __future__ import annotations
 
 import struct

@@ -6,8 +6,7 @@ ghost use Rattle.git_model.specs.GoodRepository.{AreObjects};
 ghost use Rattle.answers.specs.Printed.{begins_no_other, shortest_prefix};
 
 use git_objects::{Name, Naming, has_twenty_bytes};
-use objects_in_sight::Objects;
-use tenant_tables::Found;
+use tenant_tables::{Found, Objects};
 
 /// The fewest digits that a prefix may have.
 const FEWEST_DIGITS: usize = 4;

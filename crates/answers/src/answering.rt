@@ -22,11 +22,10 @@ use crate::ref_printing::append_refs;
 use content_pool::Pool;
 use export_text::append_export;
 use git_objects::{Kind, Name, Naming};
-use objects_in_sight::Objects;
 use revisions::{Expression, FirstParentChain, Range, peel, resolve_expression, resolve_range};
 use std::alloc::Global;
 use tenant_refs::Refs;
-use tenant_tables::{Sight, Table};
+use tenant_tables::{Objects, Sight, Table};
 
 // The object that an expression names.
 fn resolve<N: Naming>(

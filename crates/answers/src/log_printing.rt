@@ -10,7 +10,7 @@ ghost use Rattle.answers.specs.Printed.{line, log_line, log_lines};
 
 use git_objects::{Kind, Memory, Name, Naming, append_parts};
 use memchr::memchr;
-use objects_in_sight::Objects;
+use tenant_tables::Objects;
 
 fn place_of_line_end(text: &[u8]) -> Option<usize>
     ensures first { result ≡ position (λ byte. byte == 10) text.now }

@@ -16,8 +16,8 @@ use git_objects::{
     Kind, Memory, Name, Naming, TreeEntry, append_listing, append_parts, kind_word, read_tree,
 };
 use itoa::Buffer;
-use objects_in_sight::Objects;
 use std::alloc::Global;
+use tenant_tables::Objects;
 
 // Appends an object name, the word of a kind and the size of contents, and the contents.
 fn append_sized(id: Name, word: &[u8], contents: &[u8], out: &mut Vec<u8>) -> Result<(), Memory>

@@ -12,14 +12,14 @@ use Rattle.git_model.specs.Repository.{Object, Repository, object_named, with_ob
 use Rattle.git_model.proofs.CommitReadings.{commit_back}
 use Rattle.tenant_tables.specs.declared.fault.Fault.{Fault as TableFault}
 use Rattle.tenant_tables.specs.Adding.{store_fault}
-use Rattle.tree_build.specs.declared.fault.Fault.{Fault as FilesFault}
-use Rattle.tree_build.specs.FileMap.{Listed, listed}
-use Rattle.tree_build.specs.StoredFiles.{stored_files, stored_map}
-use Rattle.tree_build.specs.StoredTree.{ListsTree}
-use Rattle.tree_build.specs.Storing.{trees_fault, with_trees}
-use Rattle.tree_build.specs.Trees.{nested_trees, tree_id}
-use Rattle.tree_build.proofs.GoodObjects.{files-of, good-trees}
-use Rattle.tree_build.proofs.StoredAgain.{stored-already}
+use Rattle.file_maps.specs.declared.fault.Fault.{Fault as FilesFault}
+use Rattle.file_maps.specs.FileMap.{Listed, listed}
+use Rattle.file_maps.specs.StoredFiles.{stored_files, stored_map}
+use Rattle.file_maps.specs.StoredTree.{ListsTree}
+use Rattle.file_maps.specs.Storing.{trees_fault, with_trees}
+use Rattle.file_maps.specs.Trees.{nested_trees, tree_id}
+use Rattle.file_maps.proofs.GoodObjects.{files-of, good-trees}
+use Rattle.file_maps.proofs.StoredAgain.{stored-already}
 use Rattle.open_commits.specs.declared.fault.Fault.{Fault}
 use Rattle.open_commits.specs.Ends.{Closed, closed, commit_content, commit_of}
 use Rattle.open_commits.specs.Faults.{and_then}

@@ -6,8 +6,8 @@ use Rattle.git_model.specs.Repository.{Object, Repository, object_named, with_ob
 use Rattle.git_model.specs.Tree.{TreeEntry}
 use Rattle.tenant_tables.specs.declared.fault.Fault.{Fault as TableFault}
 use Rattle.tenant_tables.specs.declared.table.TheConstants.{OBJECTS_LIMIT}
-use Rattle.tree_build.specs.Storing.{or_later, trees_fault, with_trees}
-use Rattle.tree_build.specs.Trees.{tree_content, tree_name}
+use Rattle.file_maps.specs.Storing.{or_later, trees_fault, with_trees}
+use Rattle.file_maps.specs.Trees.{tree_content, tree_name}
 use Rattle.export_laws.specs.Told.{AreOf}
 use Rattle.export_laws.proofs.CloseTrees.{IsReachedTree}
 use Rattle.export_laws.proofs.Storing.{stored}

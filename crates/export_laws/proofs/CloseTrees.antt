@@ -15,12 +15,12 @@ use Rattle.git_model.specs.Tree.{TreeEntry, tree_contents}
 use Rattle.git_model.proofs.Places.{first_named, later_named, nothing_named, of_entries}
 use Rattle.git_model.proofs.TreeReadings.{tree_back}
 use Rattle.tenant_tables.specs.declared.table.TheConstants.{CONTENTS_LIMIT}
-use Rattle.tree_build.specs.FileMap.{Listed}
-use Rattle.tree_build.specs.StoredAgain.{AreTreesGood, IsFilled}
-use Rattle.tree_build.specs.StoredTree.{HasTree, Lists, nothing, first_file, first_directory, ListsTree}
-use Rattle.tree_build.specs.Trees.{depth_of, nested_trees, tree_content, tree_name}
-use Rattle.tree_build.proofs.GoodObjects.{good-trees}
-use Rattle.tree_build.proofs.StoredAgain.{trees-held}
+use Rattle.file_maps.specs.FileMap.{Listed}
+use Rattle.file_maps.specs.StoredAgain.{AreTreesGood, IsFilled}
+use Rattle.file_maps.specs.StoredTree.{HasTree, Lists, nothing, first_file, first_directory, ListsTree}
+use Rattle.file_maps.specs.Trees.{depth_of, nested_trees, tree_content, tree_name}
+use Rattle.file_maps.proofs.GoodObjects.{good-trees}
+use Rattle.file_maps.proofs.StoredAgain.{trees-held}
 use Rattle.export_text.specs.Reached.{reached_objects}
 use Rattle.export_laws.proofs.Known.{reached-on}
 

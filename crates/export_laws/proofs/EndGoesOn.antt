@@ -12,9 +12,9 @@ use Rattle.git_model.specs.RefStore.{RefStore, first_head, listed_refs}
 use Rattle.git_model.specs.Repository.{Object, Repository}
 use Rattle.git_model.specs.Tag.{Tag}
 use Rattle.git_model.specs.TagReading.{tag_read}
-use Rattle.tree_build.specs.FileMap.{listed}
-use Rattle.tree_build.specs.StoredFiles.{stored_map}
-use Rattle.tree_build.proofs.Listing.{all-append}
+use Rattle.file_maps.specs.FileMap.{listed}
+use Rattle.file_maps.specs.StoredFiles.{stored_map}
+use Rattle.file_maps.proofs.Listing.{all-append}
 use Rattle.stream_grammar.specs.Acts.{Act, Author, BeginCommit, BeginTag, Committer, Encoding, OpenCommit, StoreTag, TagTarget, Tagger, Wait}
 use Rattle.stream_grammar.specs.Commands.{Done}
 use Rattle.stream_grammar.specs.Names.{Marked}

@@ -11,14 +11,14 @@ use Rattle.std.proofs.lemmas.Bool.{le-leb}
 use Rattle.std.proofs.lemmas.List.{append-nil, length-append}
 use Rattle.git_paths.specs.Order.{path_cmp, path_cmp-total}
 use Rattle.git_paths.proofs.Decided.{test-from_IsWithinLimits}
-use Rattle.tree_build.specs.declared.entry.Entry.{Entry}
-use Rattle.tree_build.specs.Edits.{is_root, moved, put_at, put_fault, with_files}
-use Rattle.tree_build.specs.FileMap.{AreFiles, ArePairwiseApart, FileMap, IsFile, Listed, Path, is_apart, listed}
-use Rattle.tree_build.specs.declared.check.TheConstants.{FILES_LIMIT}
-use Rattle.tree_build.proofs.Apart.{both_true, is_apart-symmetric}
-use Rattle.tree_build.proofs.Listing.{all-append}
-use Rattle.tree_build.proofs.Maps.{empty-of, len-of, listed-of, retain_keys-of, with_files-of}
-use Rattle.tree_build.proofs.Puts.{AreFiles-nil, AreFiles-put_all, true-T}
+use Rattle.file_maps.specs.declared.entry.Entry.{Entry}
+use Rattle.file_maps.specs.Edits.{is_root, moved, put_at, put_fault, with_files}
+use Rattle.file_maps.specs.FileMap.{AreFiles, ArePairwiseApart, FileMap, IsFile, Listed, Path, is_apart, listed}
+use Rattle.file_maps.specs.declared.check.TheConstants.{FILES_LIMIT}
+use Rattle.file_maps.proofs.Apart.{both_true, is_apart-symmetric}
+use Rattle.file_maps.proofs.Listing.{all-append}
+use Rattle.file_maps.proofs.Maps.{empty-of, len-of, listed-of, retain_keys-of, with_files-of}
+use Rattle.file_maps.proofs.Puts.{AreFiles-nil, AreFiles-put_all, true-T}
 use Rattle.export_laws.specs.Putting.{Puts, nothing, first_file}
 
 abbrev File : Type 0

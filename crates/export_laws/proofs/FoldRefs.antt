@@ -19,9 +19,9 @@ use Rattle.std.proofs.lemmas.Map.Views.{list_any-from_Contains}
 use Rattle.git_model.specs.GoodRepository.{refs_limit}
 use Rattle.git_model.specs.RefStore.{RefMap, RefStore, listed_refs, no_refs, target_of, with_ref}
 use Rattle.git_model.specs.Repository.{Object, Repository}
-use Rattle.commit_reach.proofs.Orders.{in_order_members}
-use Rattle.tree_build.proofs.Apart.{both_true}
-use Rattle.tree_build.proofs.Puts.{T-true}
+use Rattle.commit_walk.proofs.Orders.{in_order_members}
+use Rattle.file_maps.proofs.Apart.{both_true}
+use Rattle.file_maps.proofs.Puts.{T-true}
 use Rattle.import_session.specs.Checkpoints.{by_head, by_tags}
 use Rattle.import_session.specs.Workspace.{PendingTags}
 use Rattle.export_text.specs.Reached.{is_exportable, ref_of_tag, reached_objects, reached_tags, tag_refs}

@@ -16,7 +16,7 @@ use Rattle.git_model.specs.Repository.{Object, Repository, object_named}
 use Rattle.git_model.proofs.Earlier.{place_within, references_fall}
 use Rattle.git_model.proofs.Least.{least}
 use Rattle.git_model.proofs.Places.{at_place, later_place, first_named, later_named, first_object, later_object}
-use Rattle.commit_reach.proofs.Named.{there}
+use Rattle.commit_walk.proofs.Named.{there}
 
 -- ---- first ones, and one after them
 

@@ -39,13 +39,13 @@ use Rattle.git_model.proofs.Places.{first_named, first_place, later_named, later
 use Rattle.git_model.proofs.TreeReadings.{tree_back}
 use Rattle.git_names.specs.Naming.{AnswersNames, tail_digest}
 use Rattle.tenant_tables.specs.Sums.{FitsBehind, HasFiles, IsTreeText}
-use Rattle.tree_build.specs.declared.entry.Entry.{Entry}
-use Rattle.tree_build.specs.Edits.{with_files}
-use Rattle.tree_build.specs.FileMap.{Listed, Path, listed}
-use Rattle.tree_build.specs.StoredFiles.{listed_by, listed_within, stored_files, stored_map}
-use Rattle.tree_build.specs.StoredTree.{HasTree, file_from}
-use Rattle.tree_build.proofs.ListedOrder.{listed-with}
-use Rattle.tree_build.proofs.StoredFiles.{entries-at}
+use Rattle.file_maps.specs.declared.entry.Entry.{Entry}
+use Rattle.file_maps.specs.Edits.{with_files}
+use Rattle.file_maps.specs.FileMap.{Listed, Path, listed}
+use Rattle.file_maps.specs.StoredFiles.{listed_by, listed_within, stored_files, stored_map}
+use Rattle.file_maps.specs.StoredTree.{HasTree, file_from}
+use Rattle.file_maps.proofs.ListedOrder.{listed-with}
+use Rattle.file_maps.proofs.StoredFiles.{entries-at}
 use Rattle.export_text.specs.Limits.{Fits, FitsCommit, FitsPath}
 use Rattle.export_text.specs.Reached.{each_once, is_tag, reached_tags, ref_of_tag, tag_refs}
 use Rattle.import_session.specs.Sound.{IsSoundRepository}

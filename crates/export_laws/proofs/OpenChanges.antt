@@ -12,9 +12,9 @@ use Rattle.git_model.specs.Content.{Content}
 use Rattle.git_model.specs.Peeling.{is_of}
 use Rattle.git_model.specs.Repository.{Object, object_named}
 use Rattle.git_model.proofs.Peelings.{is_of_kind}
-use Rattle.tree_build.specs.declared.entry.Entry.{Entry}
-use Rattle.tree_build.specs.Edits.{moved, put_at, put_fault}
-use Rattle.tree_build.specs.FileMap.{FileMap, Listed, Path}
+use Rattle.file_maps.specs.declared.entry.Entry.{Entry}
+use Rattle.file_maps.specs.Edits.{moved, put_at, put_fault}
+use Rattle.file_maps.specs.FileMap.{FileMap, Listed, Path}
 use Rattle.stream_grammar.specs.Acts.{DeleteAll, Modify}
 use Rattle.open_commits.specs.declared.fault.Fault.{Fault as CommitFault}
 use Rattle.open_commits.specs.declared.fault.Fault.TheVariants as commit_fault

@@ -4,8 +4,8 @@ use Rattle.std.proofs.lemmas.List.Elements.{All-head}
 use Rattle.git_model.specs.GoodRepository.{AreObjects}
 use Rattle.git_model.specs.Repository.{Object}
 use Rattle.tenant_tables.specs.Sums.{TreesFit}
-use Rattle.tree_build.specs.FileMap.{FileMap}
-use Rattle.tree_build.specs.StoredFiles.{commit_map}
+use Rattle.file_maps.specs.FileMap.{FileMap}
+use Rattle.file_maps.specs.StoredFiles.{commit_map}
 use Rattle.stream_grammar.specs.Acts.{Author, BeginCommit, Committer, Encoding, OpenCommit, Reset, Wait}
 use Rattle.stream_grammar.specs.Names.{Expression}
 use Rattle.open_commits.specs.OpenCommit.{Header, OpenCommit as Open, begun}

@@ -13,7 +13,7 @@ use Rattle.git_model.proofs.Peelings.{is_of_kind}
 use Rattle.revisions.specs.declared.fault.Fault.TheVariants as revision_fault
 use Rattle.revisions.specs.Faults.{or_fault}
 use Rattle.revisions.specs.Resolution.{peeled}
-use Rattle.tree_build.specs.StoredFiles.{commit_map}
+use Rattle.file_maps.specs.StoredFiles.{commit_map}
 use Rattle.stream_grammar.specs.Acts.{Merge, StartFrom}
 use Rattle.stream_grammar.specs.Names.{Marked}
 use Rattle.open_commits.specs.OpenCommit.{OpenCommit}

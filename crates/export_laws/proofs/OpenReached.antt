@@ -13,17 +13,17 @@ use Rattle.git_model.specs.Repository.{Object, Repository}
 use Rattle.git_model.specs.Tree.{TreeEntry}
 use Rattle.git_model.proofs.Growing.{prefix_is}
 use Rattle.git_model.proofs.TreeReadings.{tree_back}
-use Rattle.tree_build.specs.declared.entry.Entry.{Entry}
-use Rattle.tree_build.specs.FileMap.{Listed, Path}
-use Rattle.tree_build.specs.HeldFiles.{IsHeld}
-use Rattle.tree_build.specs.StoredFiles.{stored_files}
-use Rattle.tree_build.specs.StoredTree.{HasTree, Lists, ListsTree, nothing, first_file, first_directory}
-use Rattle.tree_build.specs.Trees.{tree_content}
-use Rattle.tree_build.proofs.Apart.{all-both, all-map, all-weaker}
-use Rattle.tree_build.proofs.GoodObjects.{files-of, listed-stored}
-use Rattle.tree_build.proofs.GoodTrees.{has-longer, lists-longer}
-use Rattle.tree_build.proofs.HeldTrees.{stored-held}
-use Rattle.tree_build.proofs.Listing.{IsSound, all-append, tree-sound}
+use Rattle.file_maps.specs.declared.entry.Entry.{Entry}
+use Rattle.file_maps.specs.FileMap.{Listed, Path}
+use Rattle.file_maps.specs.HeldFiles.{IsHeld}
+use Rattle.file_maps.specs.StoredFiles.{stored_files}
+use Rattle.file_maps.specs.StoredTree.{HasTree, Lists, ListsTree, nothing, first_file, first_directory}
+use Rattle.file_maps.specs.Trees.{tree_content}
+use Rattle.file_maps.proofs.Apart.{all-both, all-map, all-weaker}
+use Rattle.file_maps.proofs.GoodObjects.{files-of, listed-stored}
+use Rattle.file_maps.proofs.GoodTrees.{has-longer, lists-longer}
+use Rattle.file_maps.proofs.HeldTrees.{stored-held}
+use Rattle.file_maps.proofs.Listing.{IsSound, all-append, tree-sound}
 use Rattle.export_laws.proofs.Known.{reached-on}
 
 -- A file that an export tells: its blob stands among some first objects, and a ref reaches it. A

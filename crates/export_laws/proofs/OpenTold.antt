@@ -14,9 +14,9 @@ use Rattle.git_model.specs.References.{Reference, kind_named, reference}
 use Rattle.git_model.specs.Repository.{Object, Repository, object_named}
 use Rattle.git_model.proofs.CommitReadings.{commit_back}
 use Rattle.tenant_tables.specs.Sums.{TreesFit}
-use Rattle.tree_build.specs.FileMap.{FileMap, Listed, listed}
-use Rattle.tree_build.specs.StoredFiles.{commit_map, stored_files, stored_map}
-use Rattle.tree_build.proofs.Apart.{all-weaker}
+use Rattle.file_maps.specs.FileMap.{FileMap, Listed, listed}
+use Rattle.file_maps.specs.StoredFiles.{commit_map, stored_files, stored_map}
+use Rattle.file_maps.proofs.Apart.{all-weaker}
 use Rattle.stream_grammar.specs.Acts.{Author, BeginCommit, Committer, Encoding, OpenCommit, Wait}
 use Rattle.stream_grammar.specs.Commands.{Done}
 use Rattle.open_commits.specs.OpenCommit.{Header, OpenCommit as Open}

@@ -14,20 +14,20 @@ use Rattle.git_model.specs.Repository.{Object}
 use Rattle.git_paths.specs.Paths.{IsComponent, joined, is_within_limits}
 use Rattle.git_paths.proofs.Decided.{test-from_IsWithinLimits}
 use Rattle.tenant_tables.specs.Sums.{IsWithin, TreesFit}
-use Rattle.tree_build.specs.declared.check.TheConstants.{FILES_LIMIT}
-use Rattle.tree_build.specs.Edits.{is_root, moved, put_fault, put_tree_at}
-use Rattle.tree_build.specs.FileMap.{AreFiles, FileMap, Listed, listed}
-use Rattle.tree_build.specs.Storable.{files_summary, longest_of}
-use Rattle.tree_build.specs.StoredFiles.{commit_map, stored_files, stored_map, tree_of_commit}
-use Rattle.tree_build.specs.StoredTree.{ListsTree}
-use Rattle.tree_build.proofs.Fits.{depth_each}
-use Rattle.tree_build.proofs.GoodObjects.{files-of}
-use Rattle.tree_build.proofs.Grafting.{no_roots}
-use Rattle.tree_build.proofs.ListedOrder.{listed-with, tree-in-order}
-use Rattle.tree_build.proofs.Listing.{tree-sound}
-use Rattle.tree_build.proofs.Puts.{AreFiles-nil}
-use Rattle.tree_build.proofs.StoredPut.{stored-put}
-use Rattle.tree_build.proofs.SumsBehind.{within-from}
+use Rattle.file_maps.specs.declared.check.TheConstants.{FILES_LIMIT}
+use Rattle.file_maps.specs.Edits.{is_root, moved, put_fault, put_tree_at}
+use Rattle.file_maps.specs.FileMap.{AreFiles, FileMap, Listed, listed}
+use Rattle.file_maps.specs.Storable.{files_summary, longest_of}
+use Rattle.file_maps.specs.StoredFiles.{commit_map, stored_files, stored_map, tree_of_commit}
+use Rattle.file_maps.specs.StoredTree.{ListsTree}
+use Rattle.file_maps.proofs.Fits.{depth_each}
+use Rattle.file_maps.proofs.GoodObjects.{files-of}
+use Rattle.file_maps.proofs.Grafting.{no_roots}
+use Rattle.file_maps.proofs.ListedOrder.{listed-with, tree-in-order}
+use Rattle.file_maps.proofs.Listing.{tree-sound}
+use Rattle.file_maps.proofs.Puts.{AreFiles-nil}
+use Rattle.file_maps.proofs.StoredPut.{stored-put}
+use Rattle.file_maps.proofs.SumsBehind.{within-from}
 use Rattle.open_commits.specs.OpenCommit.{OpenCommit}
 use Rattle.open_commits.specs.Parents.{changed_to, started_from}
 use Rattle.open_commits.proofs.Starting.{root-put}

@@ -9,7 +9,7 @@ use Rattle.import_session.specs.declared.branches.Tip.{Tip}
 use Rattle.import_session.specs.declared.branches.Tip.TheVariants.{Unborn, Deleted, At}
 use Rattle.import_session.specs.Branches.{tip_of, with_branch}
 use Rattle.import_session.specs.Workspace.{Branches, PendingTags}
-use Rattle.tree_build.proofs.Listing.{all-append}
+use Rattle.file_maps.proofs.Listing.{all-append}
 use Rattle.export_laws.proofs.RefsBranches.{placed-distinct}
 use Rattle.export_laws.proofs.RefsHeld.{bytes-are, same-bytes}
 use Rattle.export_laws.proofs.RefsReset.{placed, placed-tip}

@@ -13,8 +13,8 @@ use Rattle.std.proofs.lemmas.Bool.{cases_Bool, false≢true, or_cases, or_left, 
 use Rattle.std.proofs.lemmas.Cmp.{nat_list_cmp_total, tied_itself}
 use Rattle.std.proofs.lemmas.Slice.Eq.{bytes_eq-Decides}
 use Rattle.git_model.specs.RefStore.{RefStore, listed_refs, target_of, with_ref, without_ref}
-use Rattle.tree_build.proofs.Apart.{all-weaker, both_true}
-use Rattle.tree_build.proofs.Puts.{T-true}
+use Rattle.file_maps.proofs.Apart.{all-weaker, both_true}
+use Rattle.file_maps.proofs.Puts.{T-true}
 use Rattle.export_text.specs.Reached.{each_once}
 
 abbrev bytes_cmp : List ℕ → List ℕ → Ordering

@@ -14,7 +14,7 @@ use Rattle.git_model.specs.Repository.{Object, Repository, object_named}
 use Rattle.git_model.specs.TagReading.{tag_read}
 use Rattle.git_model.proofs.Places.{first_named, later_named, nothing_named}
 use Rattle.export_text.specs.Reached.{each_once, extra_tag_refs, is_missing, ref_of_tag, reached_tags, tag_ref}
-use Rattle.tree_build.proofs.Apart.{all-filter, filter-all}
+use Rattle.file_maps.proofs.Apart.{all-filter, filter-all}
 use Rattle.export_laws.proofs.RefsHeld.{bytes-are, each-any, listed-held, once-all, same-bytes, zipped}
 use Rattle.export_laws.proofs.RefsRemoved.{IsExtra}
 

@@ -7,7 +7,7 @@ use Rattle.std.proofs.lemmas.Bool.{cases_Bool, false≢true, le-leb, leb-true}
 use Rattle.git_model.specs.GoodRepository.{AreObjects, AreRefs, refs_limit}
 use Rattle.git_model.specs.RefStore.{RefStore, listed_refs, target_of}
 use Rattle.git_model.specs.Repository.{Object, Repository}
-use Rattle.tree_build.proofs.Puts.{length-filter-le}
+use Rattle.file_maps.proofs.Puts.{length-filter-le}
 use Rattle.import_session.specs.declared.branches.Tip.{Tip}
 use Rattle.import_session.specs.declared.branches.Tip.TheVariants.{Unborn, Deleted, At}
 use Rattle.import_session.specs.Branches.{tip_of}

@@ -19,9 +19,9 @@ use Rattle.git_model.specs.Tag.{Tag, CanWriteTag}
 use Rattle.git_model.specs.TagReading.{tag_read}
 use Rattle.git_model.proofs.RefNames.{is_ref_name-Decides}
 use Rattle.tenant_tables.specs.Sums.{TreesFit}
-use Rattle.tree_build.specs.FileMap.{IsFile, Listed, listed}
-use Rattle.tree_build.specs.StoredFiles.{stored_map}
-use Rattle.tree_build.proofs.Listing.{all-append}
+use Rattle.file_maps.specs.FileMap.{IsFile, Listed, listed}
+use Rattle.file_maps.specs.StoredFiles.{stored_map}
+use Rattle.file_maps.proofs.Listing.{all-append}
 use Rattle.stream_grammar.specs.Acts.{Act, Encoding, OpenCommit, StoreTag, TagTarget, Tagger}
 use Rattle.stream_grammar.specs.Commands.{Done}
 use Rattle.stream_grammar.specs.Names.{Marked}

@@ -15,7 +15,7 @@ use Rattle.git_model.specs.References.{Reference, kind_named, place_of, referenc
 use Rattle.git_model.specs.Repository.{Repository, object_named}
 use Rattle.git_model.proofs.Earlier.{place_within, references_fall}
 use Rattle.git_model.proofs.Least.{least}
-use Rattle.tree_build.proofs.GoodObjects.{refers-before}
+use Rattle.file_maps.proofs.GoodObjects.{refers-before}
 use Rattle.export_laws.specs.Told.{AreTold, Told}
 use Rattle.export_laws.specs.Whole.{HasReached}
 use Rattle.export_laws.proofs.RefsKnown.{IsRef, each-ref}

@@ -2,7 +2,7 @@
 use Rattle.std.specs.Prelude.{ℕ, List, Option, Some}
 use Rattle.git_model.specs.Commit.{Commit}
 use Rattle.git_model.specs.Repository.{Object}
-use Rattle.tree_build.specs.StoredFiles.{stored_map}
+use Rattle.file_maps.specs.StoredFiles.{stored_map}
 use Rattle.open_commits.specs.OpenCommit.{Header, OpenCommit}
 use Rattle.export_text.specs.ExportActs.{number_of}
 use Rattle.export_text.specs.ExportItems.{scratch}

@@ -1,8 +1,8 @@
 -- Files that are put one by one: git-fast-import(1), "filemodify".
 use Rattle.std.specs.Prelude.{◌≡◌, [], ◌∷◌, None}
-use Rattle.tree_build.specs.declared.entry.Entry.{Entry}
-use Rattle.tree_build.specs.Edits.{moved, put_at, put_fault}
-use Rattle.tree_build.specs.FileMap.{FileMap, Listed, Path}
+use Rattle.file_maps.specs.declared.entry.Entry.{Entry}
+use Rattle.file_maps.specs.Edits.{moved, put_at, put_fault}
+use Rattle.file_maps.specs.FileMap.{FileMap, Listed, Path}
 
 -- Files are put one after another, each at its path and in place of what stands there, and lead
 -- from one file map to another; no limit refuses one.

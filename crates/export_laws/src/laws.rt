@@ -10,7 +10,7 @@ ghost use Rattle.git_model.specs.Reach.{is_referred_to};
 ghost use Rattle.git_model.specs.Repository.{Object, Repository};
 ghost use Rattle.git_names.specs.Naming.{AnswersNames};
 ghost use Rattle.tenant_tables.specs.Sums.{TreesFit};
-ghost use Rattle.tree_build.specs.FileMap.{AreFiles, FileMap, listed};
+ghost use Rattle.file_maps.specs.FileMap.{AreFiles, FileMap, listed};
 ghost use Rattle.export_text.specs.Reached.{is_exportable, reached_tags};
 ghost use Rattle.import_session.specs.Sound.{IsSound, IsSoundRepository};
 ghost use Rattle.import_session.specs.Tags.{tag_limit};

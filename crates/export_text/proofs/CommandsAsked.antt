@@ -13,9 +13,9 @@ use Rattle.git_model.specs.Repository.{Object}
 use Rattle.git_model.specs.Tag.{Tag, CanWriteTag}
 use Rattle.git_model.proofs.Earlier.{place_within}
 use Rattle.git_model.proofs.OneLine.{bytes_of}
-use Rattle.tree_build.specs.declared.entry.Entry.{Entry}
-use Rattle.tree_build.specs.FileMap.{Path, Listed, listed}
-use Rattle.tree_build.specs.StoredFiles.{stored_map}
+use Rattle.file_maps.specs.declared.entry.Entry.{Entry}
+use Rattle.file_maps.specs.FileMap.{Path, Listed, listed}
+use Rattle.file_maps.specs.StoredFiles.{stored_map}
 use Rattle.stream_lex.specs.Items.{Item, Line, Data, Blank}
 use Rattle.stream_grammar.specs.declared.data_ref.DataRef.TheVariants as data_ref
 use Rattle.stream_grammar.specs.declared.fault.Fault.{Fault}

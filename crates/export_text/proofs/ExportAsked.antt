@@ -31,15 +31,15 @@ use Rattle.git_model.proofs.CommitReadings.{commit_back}
 use Rattle.git_model.proofs.Places.{first_object, later_object, at_place}
 use Rattle.git_model.proofs.TagReadings.{tag_back}
 use Rattle.git_paths.specs.Paths.{IsComponent, IsPath}
-use Rattle.tree_build.specs.declared.entry.Entry.{Entry}
-use Rattle.tree_build.specs.Edits.{moved}
-use Rattle.tree_build.specs.FileMap.{Path, Listed, listed}
-use Rattle.tree_build.specs.StoredFiles.{stored_files, stored_map}
-use Rattle.tree_build.specs.StoredTree.{Lists, nothing, first_file, first_directory}
-use Rattle.tree_build.proofs.Apart.{all-map, all-weaker, all-filter, filter-all}
-use Rattle.tree_build.proofs.GoodObjects.{files-of}
-use Rattle.tree_build.proofs.ListedOrder.{tree-in-order, listed-with}
-use Rattle.tree_build.proofs.Listing.{all-append, tree-sound, IsSound}
+use Rattle.file_maps.specs.declared.entry.Entry.{Entry}
+use Rattle.file_maps.specs.Edits.{moved}
+use Rattle.file_maps.specs.FileMap.{Path, Listed, listed}
+use Rattle.file_maps.specs.StoredFiles.{stored_files, stored_map}
+use Rattle.file_maps.specs.StoredTree.{Lists, nothing, first_file, first_directory}
+use Rattle.file_maps.proofs.Apart.{all-map, all-weaker, all-filter, filter-all}
+use Rattle.file_maps.proofs.GoodObjects.{files-of}
+use Rattle.file_maps.proofs.ListedOrder.{tree-in-order, listed-with}
+use Rattle.file_maps.proofs.Listing.{all-append, tree-sound, IsSound}
 use Rattle.stream_lex.specs.Items.{Item}
 use Rattle.stream_grammar.specs.Commands.{end_of}
 use Rattle.export_text.specs.Export.{items_of_ref, ref_items, object_items, saving_items, removal_items, all_ref_items, export_items}

@@ -16,12 +16,12 @@ use Rattle.git_objects.specs.declared.tree_entry.TreeEntry as entry
 use Rattle.git_objects.specs.Parts.{entry_of, entries_of as parts_of}
 use Rattle.git_paths.specs.Paths.{joined}
 use Rattle.git_paths.specs.Quoting.{quoted}
-use Rattle.tree_build.specs.FileMap.{Path, Listed, listed}
-use Rattle.tree_build.specs.Edits.{moved}
-use Rattle.tree_build.specs.StoredTree.{file_from}
-use Rattle.tree_build.specs.StoredFiles.{listed_by, listed_within, stored_files, stored_map}
-use Rattle.tree_build.proofs.GoodObjects.{files-of}
-use Rattle.tree_build.proofs.ListedOrder.{tree-in-order, listed-with}
+use Rattle.file_maps.specs.FileMap.{Path, Listed, listed}
+use Rattle.file_maps.specs.Edits.{moved}
+use Rattle.file_maps.specs.StoredTree.{file_from}
+use Rattle.file_maps.specs.StoredFiles.{listed_by, listed_within, stored_files, stored_map}
+use Rattle.file_maps.proofs.GoodObjects.{files-of}
+use Rattle.file_maps.proofs.ListedOrder.{tree-in-order, listed-with}
 use Rattle.stream_lex.specs.Items.{Item, Line}
 use Rattle.export_text.specs.ItemText.{items_text}
 use Rattle.export_text.specs.ExportItems.{dataref_text, item_of_file}

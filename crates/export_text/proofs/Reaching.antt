@@ -13,8 +13,8 @@ use Rattle.git_model.specs.GoodRepository.{AreObjects}
 use Rattle.git_model.specs.Reach.{IsClosed, Reaches, is_reachable, is_referred_to}
 use Rattle.git_model.proofs.Least.{least}
 use Rattle.git_model.proofs.Earlier.{place_within, references_fall}
-use Rattle.commit_reach.proofs.Named.{there, not_there}
-use Rattle.commit_reach.proofs.Walks.{Reaches-itself}
+use Rattle.commit_walk.proofs.Named.{there, not_there}
+use Rattle.commit_walk.proofs.Walks.{Reaches-itself}
 use Rattle.export_text.specs.Marking.{marked, reached_flags}
 
 onward : (leads : List ℕ → List (List ℕ)) (from to next : List ℕ) → Reaches leads from to

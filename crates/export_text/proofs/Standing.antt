@@ -10,8 +10,8 @@ use Rattle.git_model.specs.Repository.{Object, object_named}
 use Rattle.git_model.specs.References.{reference, references_of, references_in, referred_by, commit_references, object_at, place_of}
 use Rattle.git_model.specs.GoodRepository.{AreObjects, IsObject, IsValid, StandsBefore}
 use Rattle.git_model.proofs.Places.{stands_at, at_place}
-use Rattle.commit_reach.proofs.CommitsAt.{object_told}
-use Rattle.commit_reach.proofs.Named.{there}
+use Rattle.commit_walk.proofs.CommitsAt.{object_told}
+use Rattle.commit_walk.proofs.Named.{there}
 use Rattle.export_text.specs.Marking.{marked, names_in}
 
 pub record IsAt (os : List Object) (place : ℕ) (id : List ℕ) (k : Kind) (bytes : List ℕ) : Type 0 where

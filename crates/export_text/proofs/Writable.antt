@@ -33,11 +33,11 @@ use Rattle.git_model.specs.Content.{Content, no_content}
 use Rattle.git_model.proofs.OneLine.{IsOneLine, all_from, is_no_end, ident_one_line, digits_one_line, tag_name_one_line, word_one_line}
 use Rattle.git_paths.specs.Paths.{joined}
 use Rattle.git_paths.specs.Quoting.{letters, letter_of_byte, is_special, escape_by, escape, quoted}
-use Rattle.tree_build.specs.declared.entry.Entry.{Entry}
-use Rattle.tree_build.specs.FileMap.{Path, listed}
-use Rattle.tree_build.specs.StoredFiles.{stored_map}
-use Rattle.tree_build.proofs.Apart.{all-map, all-weaker}
-use Rattle.tree_build.proofs.Listing.{all-append}
+use Rattle.file_maps.specs.declared.entry.Entry.{Entry}
+use Rattle.file_maps.specs.FileMap.{Path, listed}
+use Rattle.file_maps.specs.StoredFiles.{stored_map}
+use Rattle.file_maps.proofs.Apart.{all-map, all-weaker}
+use Rattle.file_maps.proofs.Listing.{all-append}
 use Rattle.stream_lex.specs.declared.header.LineKind.TheVariants.{Other}
 use Rattle.stream_lex.specs.Headers.{HasNoLineEnd, kind_of, longest_line, is_line_end}
 use Rattle.stream_lex.specs.Items.{Item, Line, Data, Blank}

@@ -13,9 +13,9 @@ use Rattle.git_model.specs.TagReading.{tag_read}
 use Rattle.git_model.specs.RefStore.{RefStore, first_head, listed_refs}
 use Rattle.git_model.specs.Repository.{Object, Repository}
 use Rattle.git_model.specs.References.{content_named, place_of}
-use Rattle.tree_build.specs.declared.entry.Entry.{Entry}
-use Rattle.tree_build.specs.FileMap.{Path, listed}
-use Rattle.tree_build.specs.StoredFiles.{stored_map}
+use Rattle.file_maps.specs.declared.entry.Entry.{Entry}
+use Rattle.file_maps.specs.FileMap.{Path, listed}
+use Rattle.file_maps.specs.StoredFiles.{stored_map}
 use Rattle.stream_grammar.specs.declared.data_ref.DataRef.{DataRef}
 use Rattle.stream_grammar.specs.declared.data_ref.DataRef.TheVariants as data_ref
 use Rattle.stream_grammar.specs.declared.feature.Feature.TheVariants as feature

@@ -14,9 +14,9 @@ use Rattle.git_model.specs.Repository.{Object}
 use Rattle.git_model.specs.References.{place_of}
 use Rattle.git_paths.specs.Paths.{joined}
 use Rattle.git_paths.specs.Quoting.{quoted}
-use Rattle.tree_build.specs.declared.entry.Entry.{Entry}
-use Rattle.tree_build.specs.FileMap.{Path, listed}
-use Rattle.tree_build.specs.StoredFiles.{stored_map}
+use Rattle.file_maps.specs.declared.entry.Entry.{Entry}
+use Rattle.file_maps.specs.FileMap.{Path, listed}
+use Rattle.file_maps.specs.StoredFiles.{stored_map}
 use Rattle.stream_lex.specs.Items.{Item, Line, Data, Blank}
 
 -- The mark of an object is its place in the repository, counted from 1.

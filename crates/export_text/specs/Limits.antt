@@ -10,9 +10,9 @@ use Rattle.git_model.specs.RefStore.{target_of}
 use Rattle.git_model.specs.Repository.{Object, Repository}
 use Rattle.git_model.specs.GoodRepository.{IsShortRefName}
 use Rattle.git_paths.specs.Paths.{AreOfBytes, IsWithinLimits}
-use Rattle.tree_build.specs.declared.entry.Entry.{Entry}
-use Rattle.tree_build.specs.FileMap.{Path, listed}
-use Rattle.tree_build.specs.StoredFiles.{stored_map}
+use Rattle.file_maps.specs.declared.entry.Entry.{Entry}
+use Rattle.file_maps.specs.FileMap.{Path, listed}
+use Rattle.file_maps.specs.StoredFiles.{stored_map}
 use Rattle.stream_lex.specs.Headers.{largest_data, longest_line}
 
 -- A word and what it says are no longer than a line.

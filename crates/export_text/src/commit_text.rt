@@ -16,8 +16,8 @@ use crate::item_text::{append_blank, append_data, append_line, append_line_if};
 use crate::mark_text::append_marked;
 use crate::told::Directories;
 use git_objects::{CommitParts, Memory, Name, Naming, read_commit};
-use objects_in_sight::Objects;
 use std::alloc::Global;
+use tenant_tables::Objects;
 
 /// The branch on which commits are exported.
 pub const SCRATCH: &[u8] = b"refs/export/scratch";

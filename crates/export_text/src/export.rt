@@ -18,9 +18,9 @@ use crate::ref_text::{append_refs, append_removals};
 use crate::tag_refs::tag_refs;
 use git_names::RefName;
 use git_objects::{Memory, Naming};
-use objects_in_sight::Objects;
 use std::alloc::Global;
 use tenant_refs::Refs;
+use tenant_tables::Objects;
 
 /// How many refs an import may set beside one scratch branch.
 const IMPORTED_REFS_LIMIT: usize = 65_535;

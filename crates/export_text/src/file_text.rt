@@ -21,8 +21,8 @@ use git_objects::{
     FileMode, Kind, Memory, Name, Naming, TreeEntry, append_parts, read_tree, six_digits,
 };
 use git_paths::quote_into;
-use objects_in_sight::Objects;
 use std::alloc::Global;
+use tenant_tables::Objects;
 
 // Appends what a file holds: a blob by its mark, and a gitlink by its name.
 fn append_dataref<N: Naming>(

@@ -7,7 +7,7 @@ ghost use Rattle.export_text.specs.ExportItems.{mark_if, mark_text, marked};
 
 use git_objects::{Memory, Name, Naming, append_parts};
 use itoa::Buffer;
-use objects_in_sight::Objects;
+use tenant_tables::Objects;
 
 // The mark of an object: its place, counted from 1. It may be one more than a place can be.
 fn mark_of<N: Naming>(objects: &Objects<'_, N>, id: &Name) -> u128

@@ -4,7 +4,7 @@ ghost use Rattle.std.specs.Prelude.{◌≡◌, [], ◌∷◌, length};
 ghost use Rattle.export_text.specs.Marking.{marked};
 
 use git_objects::{Name, Naming};
-use objects_in_sight::Objects;
+use tenant_tables::Objects;
 
 /// Sets the flag of the object of this name, if there is one. Takes no memory.
 pub fn mark<N: Naming>(objects: &Objects<'_, N>, id: &Name, flags: &mut [bool])

@@ -17,8 +17,8 @@ use crate::mark_text::append_marked;
 use crate::tag_text::append_tag;
 use crate::told::Directories;
 use git_objects::{Kind, Memory, Name, Naming};
-use objects_in_sight::Objects;
 use std::alloc::Global;
+use tenant_tables::Objects;
 
 fn append_blob<N: Naming>(
     objects: &Objects<'_, N>,

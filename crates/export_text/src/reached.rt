@@ -11,9 +11,9 @@ ghost use Rattle.export_text.specs.Marking.{marked, reached_flags};
 use crate::marking::mark;
 use crate::referring::mark_references;
 use git_objects::{Memory, Naming};
-use objects_in_sight::Objects;
 use std::alloc::Global;
 use tenant_refs::Refs;
+use tenant_tables::Objects;
 
 // Marks what the refs hold.
 fn mark_targets<N: Naming>(objects: &Objects<'_, N>, refs: &Refs, flags: &mut [bool])

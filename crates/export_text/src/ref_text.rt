@@ -16,9 +16,9 @@ use crate::mark_text::append_marked;
 use crate::tag_text::append_tag;
 use git_names::RefName;
 use git_objects::{Kind, Memory, Name, Naming};
-use objects_in_sight::Objects;
 use std::alloc::Global;
 use tenant_refs::Refs;
+use tenant_tables::Objects;
 
 /// The name that no object has: a ref that is reset to it is removed.
 const NO_NAME: &[u8] = b"0000000000000000000000000000000000000000";

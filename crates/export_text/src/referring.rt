@@ -15,8 +15,8 @@ ghost use Rattle.export_text.specs.Marking.{marked, names_in};
 
 use crate::marking::{mark, mark_all};
 use git_objects::{FileMode, Kind, Memory, Naming, TreeEntry, read_commit, read_tag, read_tree};
-use objects_in_sight::Objects;
 use std::alloc::Global;
+use tenant_tables::Objects;
 
 // A gitlink refers to nothing here.
 fn is_reference(mode: FileMode) -> bool

@@ -14,8 +14,8 @@ ghost use Rattle.export_text.specs.Reached.{is_tag, reached_tags, ref_of_tag, ta
 
 use git_names::{RefName, RefNameFault};
 use git_objects::{Kind, Memory, Naming, read_tag};
-use objects_in_sight::Objects;
 use std::alloc::Global;
+use tenant_tables::Objects;
 
 // Appends the ref of the tag of this name.
 fn push_ref(alloc: Global, name: &[u8], names: &mut Vec<RefName>) -> Result<(), Memory>

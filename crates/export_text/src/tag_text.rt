@@ -10,8 +10,8 @@ ghost use Rattle.export_text.specs.ExportItems.{tag_items};
 use crate::item_text::{append_data, append_line, append_line_if};
 use crate::mark_text::{append_mark_if, append_marked};
 use git_objects::{Memory, Name, Naming, TagParts, read_tag};
-use objects_in_sight::Objects;
 use std::alloc::Global;
+use tenant_tables::Objects;
 
 fn append_parts_of_tag<N: Naming>(
     objects: &Objects<'_, N>,

@@ -5,69 +5,19 @@ use Rattle.std.specs.Io.KnownBytes.{Appends, Consumes, Keeps, IsAtEnd}
 use Rattle.git_model.specs.Repository.{Repository}
 use Rattle.git_names.specs.Naming.{AnswersNames}
 use Rattle.git_objects.specs.Device.{Device, AppendsFront}
-use Rattle.stream_lex.specs.Items.{Item, Tail, Rest, Failed, Reading}
-use Rattle.stream_lex.specs.Reading.{reading}
-use Rattle.stream_lex.specs.Running.{more_of}
-use Rattle.stream_lex.proofs.Walks.{reading-append}
-use Rattle.import_session.specs.declared.fault.Fault.{Fault}
 use Rattle.import_session.specs.Sound.{IsSoundRepository}
-use Rattle.import_session.specs.Stream.{End, Outcome, Running, Step, Runs, begun, carried, at_tail, finished, going_on, step, tail_outcome}
-use Rattle.import_session.specs.Workspace.{opened}
+use Rattle.import_session.specs.Stream.{End, Outcome, finished}
 use Rattle.export_text.specs.Export.{export_text}
 use Rattle.export_laws.specs.Copies.{CanBeCopied, IsCopyOf}
 use Rattle.export_laws.specs.Ends.{IsImported as IsWellImported}
 use Rattle.export_laws.proofs.EndImported.{export-imported}
-use Rattle.tenant_service.specs.Alone.{stream_of}
 use Rattle.tenant_service.specs.Holding.{empty_repository}
 use Rattle.tenant_service.proofs.ExportLemmas.{EndsWell, export-ends}
 use Rattle.gitpool.specs.declared.import_fault.ImportFault.{ImportFault}
 use Rattle.gitpool.specs.declared.import_fault.ImportFault.TheVariants as fault
-use Rattle.gitpool.specs.Import.{IsImported, IsGivenUp, IsStopped, IsSettled, Imports, end_of, outcome_of, printed_by, printed_so_far}
+use Rattle.gitpool.specs.Import.{IsImported, IsGivenUp, IsStopped, IsSettled, Imports, Unkept, end_of, outcome_of, printed_by, printed_so_far}
 use Rattle.gitpool.specs.Exports.{HasExport, TakesExport}
-use Rattle.gitpool.proofs.ImportLemmas.{IsFront}
-
--- ---- what a front of a stream prints is a front of what all of it prints
-
-nothing-first : (whole : List ℕ) → IsFront whole []
-nothing-first whole = record { rest = whole; parts = refl }
-
-at-tail-first : (now : Running) (tail : Tail) (whole : List ℕ) → IsFront whole (at_tail now tail).replies
-unfolding at_tail
-at-tail-first now tail whole = by now.is_done tail
-  where
-    by : (b : Bool) (t : Tail) → IsFront whole (cond b (record { replies = []; standing = Runs now (Rest false []) }) (tail_outcome now t)).replies
-    by true t = nothing-first whole
-    by false (Rest skips bytes) = nothing-first whole
-    by false (Failed f) = nothing-first whole
-
-carried-first : (digest : List ℕ → List ℕ) (now : Running) (items more : List Item) (tail tail' : Tail)
-    → IsFront (carried digest now (items ++ more) tail').replies (carried digest now items tail).replies
-unfolding carried
-carried-first digest now [] more tail tail' = at-tail-first now tail _
-carried-first digest now (item ∷ items) more tail tail' =
-    by (λ next. carried-first digest next items more tail tail') (step digest now item)
-  where
-    by : ((next : Running) → IsFront (carried digest next (items ++ more) tail').replies (carried digest next items tail).replies)
-        → (taken : Result Step Fault)
-        → IsFront (going_on now taken (λ next. carried digest next (items ++ more) tail')).replies
-        (going_on now taken (λ next. carried digest next items tail)).replies
-    by rest (Ok s) =
-        let later = rest s.running in
-        record {
-          rest = later.rest;
-          parts = ap (λ (l : List ℕ). s.reply ++ l) later.parts ∙ sym (append_assoc s.reply _ later.rest);
-        }
-    by rest (Err f) = nothing-first _
-
-stream-first : (digest : List ℕ → List ℕ) (repository : Repository) (bytes more : List ℕ)
-    → IsFront (stream_of digest repository (bytes ++ more)).replies (stream_of digest repository bytes).replies
-unfolding stream_of
-stream-first digest repository bytes more =
-    let first = reading false bytes in
-    let later = more_of first.tail more in
-    subst (λ (r : Reading). IsFront (carried digest (begun (opened repository)) r.items r.tail).replies (stream_of digest repository bytes).replies)
-    (sym (reading-append bytes more false))
-    (carried-first digest (begun (opened repository)) first.items later.items first.tail later.tail)
+use Rattle.gitpool.proofs.StreamLemmas.{stream-first}
 
 -- a front of nothing is nothing
 empty-front : (out rest : List ℕ) → [] ≡ out ++ rest → out ≡ []
@@ -117,7 +67,7 @@ module _ (digest : List ℕ → List ℕ) (names : AnswersNames digest) (reposit
       (sym (ap (λ (o : Outcome). o.replies) well.runs) ∙ ap (λ (l : List ℕ). (outcome_of digest l).replies) parts ∙ first.parts)
 
   -- all of it was read, or all that counts
-  whole : (bytes rest : List ℕ) → text ≡ bytes ++ rest → (rest ≡ []) ⊎ IsSettled digest bytes
+  whole : (bytes rest : List ℕ) → text ≡ bytes ++ rest → (rest ≡ []) ⊎ IsSettled digest empty_repository bytes
       → outcome_of digest bytes ≡ outcome_of digest text
   whole bytes rest parts (inl none) =
       ap (outcome_of digest) (sym (parts ∙ ap (λ (l : List ℕ). bytes ++ l) none ∙ append-nil bytes))
@@ -127,7 +77,7 @@ module _ (digest : List ℕ → List ℕ) (names : AnswersNames digest) (reposit
       → end_of digest bytes ≡ record { fault = None; reply = []; repository = imported.left }
   end-is bytes same = ap (λ (o : Outcome). finished digest o.standing) (same ∙ well.runs) ∙ well.ends
 
-  printed-is : (bytes : List ℕ) → outcome_of digest bytes ≡ outcome_of digest text → printed_by digest bytes ≡ []
+  printed-is : (bytes : List ℕ) → outcome_of digest bytes ≡ outcome_of digest text → printed_by digest empty_repository bytes ≡ []
   printed-is bytes same =
       ap (λ (o : Outcome). o.replies ++ (finished digest o.standing).reply) (same ∙ well.runs)
       ∙ ap (λ (e : End). e.reply) well.ends
@@ -136,37 +86,37 @@ module _ (digest : List ℕ → List ℕ) (names : AnswersNames digest) (reposit
   copied = subst (λ (e : End). IsCopyOf repository e.repository) (sym (end-is text refl)) imported.copy
 
   at-end : (text bytes : List ℕ) (known : Option (List ℕ)) (p : IsPart text known bytes)
-      → IsAtEnd known ⊎ IsSettled digest bytes → (p.rest ≡ []) ⊎ IsSettled digest bytes
+      → IsAtEnd known ⊎ IsSettled digest empty_repository bytes → (p.rest ≡ []) ⊎ IsSettled digest empty_repository bytes
   at-end text bytes known p (inl end) = inl (subst IsAtEnd p.left end)
   at-end text bytes known p (inr settled) = inr settled
 
   import-well : (reader reader' writer writer' : Device) (end : Option ℕ) → HasExport reader.known repository
-      → IsImported digest reader reader' writer writer' end → (end ≡ None) × Keeps writer.known writer'.known
+      → IsImported digest empty_repository Unkept reader reader' writer writer' end → (end ≡ None) × Keeps writer.known writer'.known
   import-well reader reader' writer writer' end has i =
       let p = part text reader.known reader'.known i.bytes has i.read.consumed in
       let same = whole i.bytes p.rest p.parts (at-end text i.bytes reader'.known p i.last) in (
         sym i.ended ∙ ap (λ (e : End). e.fault) (end-is i.bytes same),
-        appends-none writer.known writer'.known (printed_by digest i.bytes) (printed-is i.bytes same) i.written,
+        appends-none writer.known writer'.known (printed_by digest empty_repository i.bytes) (printed-is i.bytes same) i.written,
       )
 
   given-up : (reader reader' writer writer' : Device) → HasExport reader.known repository
-      → IsGivenUp digest reader reader' writer writer' → Keeps writer.known writer'.known
+      → IsGivenUp digest empty_repository Unkept reader reader' writer writer' → Keeps writer.known writer'.known
   given-up reader reader' writer writer' has g = by g.at_end refl
     where
       p : IsPart text reader'.known g.bytes
       p = part text reader.known reader'.known g.bytes has g.read.consumed
 
-      none : (b : Bool) → g.at_end ≡ b → printed_so_far digest g.bytes b ≡ []
+      none : (b : Bool) → g.at_end ≡ b → printed_so_far digest empty_repository g.bytes b ≡ []
       none true ended = printed-is g.bytes (whole g.bytes p.rest p.parts (at-end text g.bytes reader'.known p (g.end ended).1))
       none false running = none-printed g.bytes p.rest p.parts
 
       by : (b : Bool) → g.at_end ≡ b → Keeps writer.known writer'.known
       by b is =
-          front-none writer.known writer'.known (printed_so_far digest g.bytes g.at_end)
-          (ap (printed_so_far digest g.bytes) is ∙ none b is) g.written
+          front-none writer.known writer'.known (printed_so_far digest empty_repository g.bytes g.at_end)
+          (ap (printed_so_far digest empty_repository g.bytes) is ∙ none b is) g.written
 
   stopped : (reader reader' writer writer' : Device) → HasExport reader.known repository
-      → IsStopped digest reader reader' writer writer' → Keeps writer.known writer'.known
+      → IsStopped digest empty_repository Unkept reader reader' writer writer' → Keeps writer.known writer'.known
   stopped reader reader' writer writer' has s =
       let p = part text reader.known reader'.known s.bytes has s.read.consumed in
       front-none writer.known writer'.known (outcome_of digest s.bytes).replies (none-printed s.bytes p.rest p.parts) s.written

@@ -1,3 +1,5 @@
 mod ServeLemmas
+mod StreamLemmas
+mod StepLemmas
 pub mod ImportLemmas
 mod ExportLemmas

@@ -7,14 +7,14 @@ use Rattle.std.proofs.lemmas.List.{length-append}
 use Rattle.git_objects.specs.Device.{Device, HasRead, HasFault, IsWell, AppendsFront}
 use Rattle.git_objects.proofs.KnownBytes.{Appends-nil, Appends-trans, HasRead-trans}
 use Rattle.service_steps.specs.declared.answer.Answer.{Answer}
-use Rattle.step_frames.specs.declared.fault.FrameFault.{FrameFault}
-use Rattle.step_frames.specs.declared.fault.FrameFault.TheVariants as fault
+use Rattle.service_steps.specs.declared.frame_fault.FrameFault.{FrameFault}
+use Rattle.service_steps.specs.declared.frame_fault.FrameFault.TheVariants as fault
 use Rattle.service_steps.specs.declared.step.Step.{Step}
-use Rattle.step_frames.specs.Frames.{frame_of, step_text, answer_text, IsGood}
-use Rattle.step_frames.specs.Reading.{HasReadWell, ReadsStep}
-use Rattle.step_frames.proofs.ReadLemmas.{well_none, well_more}
-use Rattle.step_frames.proofs.FrameLemmas.{none_read}
-use Rattle.step_frames.proofs.WriteLemmas.{front_of_later}
+use Rattle.service_steps.specs.Frames.{frame_of, step_text, answer_text, IsGood}
+use Rattle.service_steps.specs.Reading.{HasReadWell, ReadsStep}
+use Rattle.service_steps.proofs.ReadLemmas.{well_none, well_more}
+use Rattle.service_steps.proofs.FrameLemmas.{none_read}
+use Rattle.service_steps.proofs.WriteLemmas.{front_of_later}
 use Rattle.tenant_service.specs.Headline.{Told, told_in, Run, IsItsOwn, IsRefused}
 use Rattle.tenant_service.specs.Holding.{Holdings, held_of}
 use Rattle.gitpool.specs.Serving.{steps_text, answers_text, Served, AreAnswered, Serves}

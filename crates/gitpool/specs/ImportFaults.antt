@@ -1,7 +1,7 @@
 -- Why an import did not end well: the numbers of its faults.
 use Rattle.std.specs.Prelude.{ℕ, Result, Ok, Err}
-use Rattle.tenant_stream.specs.declared.stop.Stop.{Stop}
-use Rattle.tenant_stream.specs.declared.stop.Stop.TheVariants as stop
+use Rattle.service_steps.specs.declared.answer.Answer.{Answer}
+use Rattle.service_steps.specs.declared.answer.Answer.TheVariants as answer
 use Rattle.gitpool.specs.declared.import_fault.ImportFault.{ImportFault}
 use Rattle.gitpool.specs.declared.import_fault.ImportFault.TheVariants as fault
 
@@ -11,8 +11,8 @@ code_of (fault.Stream code) = code
 code_of fault.Device = 68
 code_of fault.Memory = 90
 
--- What the answer of a stream is to the import.
-abbrev pub as_import : Result Unit Stop → Result Unit ImportFault
-as_import (Ok u) = Ok tt
-as_import (Err (stop.Fault code)) = Err (fault.Stream code)
-as_import (Err (stop.Memory count)) = Err fault.Memory
+-- What the answer of a step is to the import.
+abbrev pub as_import : Answer → Result Unit ImportFault
+as_import answer.Ok = Ok tt
+as_import (answer.Fault code) = Err (fault.Stream code)
+as_import (answer.Memory items) = Err fault.Memory

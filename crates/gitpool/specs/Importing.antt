@@ -1,128 +1,182 @@
--- An import between two pieces, what one more does to it, and how it ends.
-use Rattle.std.specs.Prelude.{◌≡◌, ℕ, List, [], Option, None, Some, Result, Ok, Err, ◌⊎◌}
+-- An import of a tenant between two pieces of its stream, what one more does, and how it ends.
+use Rattle.std.specs.Prelude.{◌≡◌, ℕ, Bool, true, false, if◌then◌else◌, List, [], ◌∷◌, ◌++◌, map, Option, None, Some, Result, Ok, Err, ◌⊎◌}
+use Rattle.std.specs.List.{AllByRecursion, flat_map}
 use Rattle.std.specs.Io.KnownBytes.{Appends, IsAtEnd}
-use Rattle.git_model.specs.RefStore.{RefStore, no_refs}
 use Rattle.git_model.specs.Repository.{Repository}
 use Rattle.git_objects.specs.Device.{Device, HasRead, HasFault, IsWell, AppendsFront}
-use Rattle.content_pool.specs.Pool.{Cells, holds}
-use Rattle.tenant_tables.specs.View.{View, held}
-use Rattle.tenant_tables.specs.StandsIn.{StandsIn}
-use Rattle.stream_lex.specs.Running.{extended}
-use Rattle.import_session.specs.Stream.{Running, Runs, Refused, End, after_reply, finished}
-use Rattle.import_session.specs.Held.{FilesStand}
-use Rattle.import_session.specs.Sound.{IsSound}
+use Rattle.import_session.specs.Stream.{Standing, Runs, Refused}
+use Rattle.tenant_refs.specs.TenantName.{is_tenant_name}
+use Rattle.tenant_service.specs.Alone.{Call, Open, Feed, End, Streaming, stream_of, added}
+use Rattle.tenant_service.specs.Copying.{HasTaken}
+use Rattle.tenant_service.specs.Headline.{Run, call_of}
+use Rattle.tenant_service.specs.Holding.{Holding, Idle, Busy, Holdings, LeadsTo, held_of}
+use Rattle.tenant_service.specs.StepName.{name_of}
 use Rattle.gitpool.specs.declared.import_fault.ImportFault.{ImportFault}
 use Rattle.gitpool.specs.declared.import_fault.ImportFault.TheVariants as fault
 use Rattle.gitpool.specs.Devices.{AreWell}
-use Rattle.gitpool.specs.Import.{HasAsked, IsSettled, Imports, outcome_of, end_of}
-use Rattle.tenant_stream.specs.Carrying.{Between, IsDrained, outcome_behind, new_stream, stream_in}
+use Rattle.gitpool.specs.Import.{Deeds, HasAsked, IsSettled, ImportsInto, IsGivenUp, end_in}
 
--- The one stream, its repository, and the replies that were not written yet.
-pub record Importing : Type 0 where
-  pub pool : Cells
-  pub table : View
-  pub refs : RefStore
-  pub between : Between
-  pub out : List ℕ
+-- ---- the steps
 
--- The running stream.
-abbrev pub running_of : Importing → Running
-running_of i = stream_in i.between i.pool i.table i.refs
+-- A run is of this tenant alone: these calls, in turn.
+pub record IsRunOf (tenant : List ℕ) (calls : List Call) (run : Run) : Type 0 where
+  pub named : AllByRecursion (λ taken. name_of taken.0 ≡ tenant) run
+  pub are : map (λ taken. call_of taken.0) run ≡ calls
 
--- No content but the table's is held, the stream is sound, the files that it holds stand among the
--- table's objects, and every reply was written.
-pub record IsReady (digest : List ℕ → List ℕ) (i : Importing) : Type 0 where
-  pub stands : StandsIn digest i.pool i.table.entries
-  pub files : FilesStand i.between.session.own i.pool i.table
-  pub sound : IsSound digest (running_of i).workspace
-  pub alone : (s : ℕ) → holds i.pool s ≡ held i.table.entries s
-  pub written : i.out ≡ []
+-- A service took these calls of a tenant, and no other step: to every tenant they were told what
+-- they are told in a repository of its own.
+abbrev pub HasTakenCalls : (List ℕ → List ℕ) → List ℕ → Holdings → Holdings → List Call → Type 0
+HasTakenCalls digest tenant before after calls =
+    HasTaken digest before after (λ run. IsRunOf tenant calls run)
 
--- Before the first byte.
-pub record IsNewImport (digest : List ℕ → List ℕ) (i : Importing) : Type 0 where
-  pub ready : IsReady digest i
-  pub between : i.between ≡ new_stream
-  pub table : i.table ≡ record { entries = []; committed = 0 }
-  pub refs : i.refs ≡ no_refs
+-- A stream is fed in pieces, and then ended, or not.
+abbrev pub stream_calls : List (List ℕ) → Bool → List Call
+stream_calls pieces ended = map Feed pieces ++ (if ended then End ∷ [] else [])
+
+-- A service took the calls of these bytes of a stream, which was open.
+pub record HasFed (digest : List ℕ → List ℕ) (tenant : List ℕ) (before after : Holdings)
+    (ended : Bool) (bytes : List ℕ) : Type 0 where
+  pub pieces : List (List ℕ)
+  pub parts : flat_map (λ piece. piece) pieces ≡ bytes
+  pub taken : HasTakenCalls digest tenant before after (stream_calls pieces ended)
+
+-- A service took the calls of an import of these bytes: a stream was opened, fed, and ended, or
+-- not.
+pub record HasImported (digest : List ℕ → List ℕ) (tenant : List ℕ) (before after : Holdings)
+    (ended : Bool) (bytes : List ℕ) : Type 0 where
+  pub pieces : List (List ℕ)
+  pub parts : flat_map (λ piece. piece) pieces ≡ bytes
+  pub taken : HasTakenCalls digest tenant before after (Open ∷ stream_calls pieces ended)
+
+-- ---- Open
+
+-- A tenant has this repository and no stream, so that a stream of it can be opened.
+abbrev pub CanOpen : List ℕ → Holdings → Repository → Type 0
+CanOpen tenant all repository =
+    (is_tenant_name tenant ≡ true) × (held_of tenant all ≡ Idle repository)
+
+-- Why none can be: a bad name, or a stream that is there, be it dead.
+abbrev pub stream_refusal : Holding → Option ℕ
+stream_refusal (Idle repository) = None
+stream_refusal (Busy standing) = Some 31
+
+abbrev pub open_refusal : List ℕ → Holdings → Option ℕ
+open_refusal tenant all =
+    if is_tenant_name tenant then stream_refusal (held_of tenant all) else Some 32
+
+-- The Open was refused, and nothing was read or written.
+pub record IsUnopened (digest : List ℕ → List ℕ) (tenant : List ℕ) (before after : Holdings)
+    (code : ℕ) (reader reader' writer writer' : Device) (answer : Result Unit ImportFault)
+    : Type 0 where
+  pub answered : answer ≡ Err (fault.Stream code)
+  pub unread : reader' ≡ reader
+  pub unwritten : writer' ≡ writer
+  pub taken : HasTakenCalls digest tenant before after (Open ∷ [])
+
+-- ---- a piece
+
+-- A tenant has a stream of these bytes over this repository, which runs.
+abbrev pub IsStreaming : (List ℕ → List ℕ) → List ℕ → Repository → List ℕ → Holdings → Type 0
+IsStreaming digest tenant repository bytes all = (is_tenant_name tenant ≡ true)
+    × LeadsTo digest (Streaming repository bytes) (held_of tenant all)
+
+-- What a piece prints after the bytes before it.
+abbrev pub replies_to : (List ℕ → List ℕ) → Repository → List ℕ → List ℕ → List ℕ
+replies_to digest repository bytes piece = added (stream_of digest repository bytes).replies
+    (stream_of digest repository (bytes ++ piece)).replies
 
 -- A piece was carried out, and its replies were written.
-pub record Passes (digest : List ℕ → List ℕ) (old : Importing) (piece : List ℕ) (writer : Device)
-    (new : Importing) (writer' : Device) : Type 0 where
-  pub replies : List ℕ
-  pub goes : (more : List ℕ)
-      → outcome_behind digest (running_of old) (extended old.between.tail piece) more
-      ≡ after_reply replies (outcome_behind digest (running_of new) new.between.tail more)
-  pub drained : IsDrained new.between.session.is_done new.between.tail
-  pub written : Appends writer.known writer'.known replies
+pub record Passes (digest : List ℕ → List ℕ) (tenant : List ℕ) (repository : Repository)
+    (bytes piece : List ℕ) (writer : Device) (after : Holdings) (writer' : Device) : Type 0 where
+  pub streaming : IsStreaming digest tenant repository (bytes ++ piece) after
+  pub written : Appends writer.known writer'.known (replies_to digest repository bytes piece)
   pub well : IsWell writer writer'
-  pub ready : IsReady digest new
 
 -- It refused the stream, and the replies before that were written.
-pub record IsRefusedWith (digest : List ℕ → List ℕ) (old : Importing) (piece : List ℕ) (code : ℕ)
-    (writer writer' : Device) : Type 0 where
-  pub replies : List ℕ
-  pub repository : Repository
-  pub refused : (more : List ℕ)
-      → outcome_behind digest (running_of old) (extended old.between.tail piece) more
-      ≡ record { replies = replies; standing = Refused code repository }
-  pub written : Appends writer.known writer'.known replies
+pub record IsRefusedWith (digest : List ℕ → List ℕ) (repository : Repository)
+    (bytes piece : List ℕ) (code : ℕ) (writer writer' : Device) : Type 0 where
+  pub left : Repository
+  pub refused : (stream_of digest repository (bytes ++ piece)).standing ≡ Refused code left
+  pub written : Appends writer.known writer'.known (replies_to digest repository bytes piece)
   pub well : IsWell writer writer'
 
 -- A prefix of its replies was written.
-abbrev pub IsWrittenFront : (List ℕ → List ℕ) → Importing → List ℕ → Device → Device → Type 0
-IsWrittenFront digest old piece writer writer' = AppendsFront writer.known writer'.known
-    (outcome_behind digest (running_of old) (extended old.between.tail piece) []).replies
+abbrev pub IsWrittenFront : (List ℕ → List ℕ) → Repository → List ℕ → List ℕ → Device → Device
+    → Type 0
+IsWrittenFront digest repository bytes piece writer writer' =
+    AppendsFront writer.known writer'.known (replies_to digest repository bytes piece)
 
 -- What came of a piece, by the answer.
-abbrev pub PassesOn : (List ℕ → List ℕ) → Importing → List ℕ → Device → Result Unit ImportFault
-    → Importing → Device → Type 0
-PassesOn digest old piece writer (Ok u) new writer' = Passes digest old piece writer new writer'
-PassesOn digest old piece writer (Err (fault.Stream code)) new writer' =
-    IsRefusedWith digest old piece code writer writer'
-PassesOn digest old piece writer (Err fault.Device) new writer' =
-    IsWrittenFront digest old piece writer writer' × HasFault writer.faults writer'.faults
-PassesOn digest old piece writer (Err fault.Memory) new writer' =
-    IsWrittenFront digest old piece writer writer' × IsWell writer writer'
+abbrev pub PassesOn : (List ℕ → List ℕ) → List ℕ → Repository → List ℕ → List ℕ → Device
+    → Result Unit ImportFault → Holdings → Device → Type 0
+PassesOn digest tenant repository bytes piece writer (Ok u) after writer' =
+    Passes digest tenant repository bytes piece writer after writer'
+PassesOn digest tenant repository bytes piece writer (Err (fault.Stream code)) after writer' =
+    IsRefusedWith digest repository bytes piece code writer writer'
+PassesOn digest tenant repository bytes piece writer (Err fault.Device) after writer' =
+    IsWrittenFront digest repository bytes piece writer writer'
+    × HasFault writer.faults writer'.faults
+PassesOn digest tenant repository bytes piece writer (Err fault.Memory) after writer' =
+    IsWrittenFront digest repository bytes piece writer writer' × IsWell writer writer'
 
--- How the stream ends where no more bytes come.
-abbrev pub end_of_import : (List ℕ → List ℕ) → Importing → End
-end_of_import digest i = finished digest (Runs (running_of i) i.between.tail)
+-- ---- the end
 
 -- It ended so, and the reply of its end was written.
-pub record IsEndWritten (digest : List ℕ → List ℕ) (i : Importing) (fault : Option ℕ)
-    (writer writer' : Device) : Type 0 where
-  pub ended : (end_of_import digest i).fault ≡ fault
-  pub written : Appends writer.known writer'.known (end_of_import digest i).reply
+pub record IsEndWritten (digest : List ℕ → List ℕ) (repository : Repository) (bytes : List ℕ)
+    (fault : Option ℕ) (writer writer' : Device) : Type 0 where
+  pub ended : (end_in digest repository bytes).fault ≡ fault
+  pub written : Appends writer.known writer'.known (end_in digest repository bytes).reply
   pub well : IsWell writer writer'
 
 -- What came of the end, by the answer. Where memory ran out nothing was written for it.
-abbrev pub EndsImport : (List ℕ → List ℕ) → Importing → Device → Result Unit ImportFault → Device
-    → Type 0
-EndsImport digest i writer (Ok u) writer' = IsEndWritten digest i None writer writer'
-EndsImport digest i writer (Err (fault.Stream code)) writer' =
-    IsEndWritten digest i (Some code) writer writer'
-EndsImport digest i writer (Err fault.Device) writer' =
-    AppendsFront writer.known writer'.known (end_of_import digest i).reply
+abbrev pub EndsImport : (List ℕ → List ℕ) → Repository → List ℕ → Device
+    → Result Unit ImportFault → Device → Type 0
+EndsImport digest repository bytes writer (Ok u) writer' =
+    IsEndWritten digest repository bytes None writer writer'
+EndsImport digest repository bytes writer (Err (fault.Stream code)) writer' =
+    IsEndWritten digest repository bytes (Some code) writer writer'
+EndsImport digest repository bytes writer (Err fault.Device) writer' =
+    AppendsFront writer.known writer'.known (end_in digest repository bytes).reply
     × HasFault writer.faults writer'.faults
-EndsImport digest i writer (Err fault.Memory) writer' =
+EndsImport digest repository bytes writer (Err fault.Memory) writer' =
     Appends writer.known writer'.known [] × IsWell writer writer'
 
+-- A stream that was refused, or ran out of memory, is ended. Where a device failed it is left as it
+-- stands.
+abbrev pub GivesUp : (List ℕ → List ℕ) → List ℕ → Holdings → Holdings → ImportFault → Type 0
+GivesUp digest tenant before after (fault.Stream code) =
+    HasTakenCalls digest tenant before after (End ∷ [])
+GivesUp digest tenant before after fault.Device = after ≡ before
+GivesUp digest tenant before after fault.Memory =
+    HasTakenCalls digest tenant before after (End ∷ [])
+
+-- ---- all pieces
+
 -- All that counts was read, carried out and answered: the input ended, or `done` was read.
-pub record IsReadThrough (digest : List ℕ → List ℕ) (reader reader' writer : Device) (i : Importing)
+pub record IsReadThrough (digest : List ℕ → List ℕ) (tenant : List ℕ) (repository : Repository)
+    (before : Holdings) (reader reader' writer : Device) (after : Holdings)
     (writer' : Device) : Type 0 where
   pub bytes : List ℕ
+  pub fed : HasFed digest tenant before after false bytes
   pub read : HasRead reader reader' bytes
   pub asked : HasAsked reader reader' bytes
-  pub written : Appends writer.known writer'.known (outcome_of digest bytes).replies
-  pub ends : end_of digest bytes ≡ end_of_import digest i
-  pub last : IsAtEnd reader'.known ⊎ IsSettled digest bytes
+  pub written : Appends writer.known writer'.known (stream_of digest repository bytes).replies
+  pub streaming : IsStreaming digest tenant repository bytes after
+  pub last : IsAtEnd reader'.known ⊎ IsSettled digest repository bytes
   pub well : AreWell reader reader' writer writer'
-  pub ready : IsReady digest i
+
+-- The stream was fed, and not ended.
+abbrev pub Fed : (List ℕ → List ℕ) → List ℕ → Holdings → Holdings → Deeds
+Fed digest tenant before after ended bytes = HasFed digest tenant before after false bytes
 
 -- What came of reading, by the answer.
-abbrev pub ReadsAll : (List ℕ → List ℕ) → Device → Device → Device → Result Unit ImportFault
-    → Importing → Device → Type 0
-ReadsAll digest reader reader' writer (Ok u) i writer' =
-    IsReadThrough digest reader reader' writer i writer'
-ReadsAll digest reader reader' writer (Err e) i writer' =
-    Imports digest reader reader' writer writer' (Err e)
+abbrev pub ReadsAll : (List ℕ → List ℕ) → List ℕ → Repository → Holdings → Device → Device
+    → Device → Result Unit ImportFault → Holdings → Device → Type 0
+ReadsAll digest tenant repository before reader reader' writer (Ok u) after writer' =
+    IsReadThrough digest tenant repository before reader reader' writer after writer'
+ReadsAll digest tenant repository before reader reader' writer (Err fault.Device) after writer' =
+    (g : IsGivenUp digest repository (Fed digest tenant before after) reader reader' writer writer')
+    × (g.at_end ≡ false)
+ReadsAll digest tenant repository before reader reader' writer (Err e) after writer' =
+    ImportsInto digest repository (Fed digest tenant before after) reader reader' writer writer'
+    (Err e)

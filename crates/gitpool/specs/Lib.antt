@@ -9,13 +9,16 @@ pub use Rattle.content_pool.specs.LiveContents
 pub use Rattle.tenant_tables.specs.StandsIn
 pub use Rattle.import_session.specs.Sound
 pub use Rattle.export_laws.specs.Copies as Copied
-pub use Rattle.pool_file.specs.Judging
-pub use Rattle.pool_file.specs.Repositories
-pub use Rattle.pool_file.specs.Saving
-pub use Rattle.pool_saving.specs.Saves
+pub use Rattle.pool_file_checks.specs.Judging
+pub use Rattle.pool_file_checks.specs.Repositories
+pub use Rattle.pool_file_checks.specs.Saving
+pub use Rattle.pool_file.specs.Saves
 pub use Rattle.tenant_service.specs.Alone
 pub use Rattle.tenant_service.specs.Headline
 pub use Rattle.tenant_service.specs.Holding
+pub use Rattle.tenant_service.specs.HeldObjects
+pub use Rattle.tenant_service.specs.HeldSteps
+pub use Rattle.tenant_service.specs.Soundness
 pub use Rattle.tenant_service.specs.Saved
 pub use Rattle.tenant_service.specs.Copying
 pub use Rattle.tenant_service.specs.Copies

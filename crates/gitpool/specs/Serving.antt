@@ -3,9 +3,9 @@ use Rattle.std.specs.Prelude.{◌≡◌, ◌≤◌, ℕ, ◌^◌, List, [], ◌+
 use Rattle.std.specs.List.{AllByRecursion, flat_map}
 use Rattle.std.specs.Io.KnownBytes.{Appends, IsAtEnd}
 use Rattle.git_objects.specs.Device.{Device, HasRead, HasFault, AppendsFront}
-use Rattle.step_frames.specs.declared.fault.FrameFault.{FrameFault}
-use Rattle.step_frames.specs.declared.fault.FrameFault.TheVariants as fault
-use Rattle.step_frames.specs.Frames.{frame_of, step_text, answer_text, IsGood, IsUnfinished, IsCutOff, IsBad}
+use Rattle.service_steps.specs.declared.frame_fault.FrameFault.{FrameFault}
+use Rattle.service_steps.specs.declared.frame_fault.FrameFault.TheVariants as fault
+use Rattle.service_steps.specs.Frames.{frame_of, step_text, answer_text, IsGood, IsUnfinished, IsCutOff, IsBad}
 use Rattle.tenant_service.specs.Headline.{Run, IsItsOwn, IsRefused}
 use Rattle.tenant_service.specs.Holding.{Holdings, held_of}
 use Rattle.gitpool.specs.Devices.{AreWell, HasReadFailed, HasWriteFailed}

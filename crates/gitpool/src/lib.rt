@@ -2,30 +2,31 @@
 //!
 //! A tenant is told what it would be told if nobody else were there: `Service::run` says so, for
 //! every list of steps of any tenants, however interleaved. `Service::save` writes all repositories
-//! to a pool file, and `Service::load` reads them. `import_one` carries one stream from a reader to
-//! a writer, over an empty repository; `Line` is a command line of the program. `laws` has what is
-//! true of exports.
+//! to a pool file, and `Service::load` reads them. `import` carries one stream of a tenant from a
+//! reader to a writer, and `import_one` one over an empty repository; `Line` is a command line of
+//! the program. `laws` has what is true of exports.
 //!
 //! A program that uses these calls needs no other crate of this repository: whatever their
 //! signatures name is passed on.
 #![tactic(auto)]
 
-mod import;
 mod import_fault;
+mod importing;
 pub mod laws;
 mod serving;
+mod single_import;
 
 pub use command_lines::Line;
 pub use content_pool::{Pool, Slot};
 pub use git_objects::{
     Counted, DeviceFault, Kind, Memory, Name, Naming, Sha1Naming, TailNaming, write_all,
 };
-pub use import::import_one;
 pub use import_fault::ImportFault;
-pub use pool_file_text::{Fault as PoolFault, Refusal, Running, Starting};
-pub use service_steps::{Answer, Reply, ServiceFault, Step};
+pub use importing::import;
+pub use pool_file_format::{Fault as PoolFault, Refusal, Running, Starting};
+pub use service_steps::{Answer, FrameFault, Reply, ServiceFault, Step};
 pub use serving::serve;
-pub use step_frames::FrameFault;
+pub use single_import::import_one;
 pub use tenant_refs::Refs;
 pub use tenant_service::Service;
 pub use tenant_tables::{Found, Sight, Summary, Table};

@@ -7,9 +7,9 @@ ghost use Rattle.git_objects.specs.Device.{device_of, seen};
 ghost use Rattle.gitpool.specs.Serving.{Serves};
 
 use git_objects::{Counted, Naming};
+use service_steps::{FrameFault, Frames, write_answer};
 use std::alloc::Global;
 use std::io::{Read, Write};
-use step_frames::{FrameFault, Frames, write_answer};
 use tenant_service::Service;
 
 // How many frames are taken before their sender counts as one that never ends.

@@ -19,7 +19,7 @@ const MEMORY: u8 = 5;
 pub enum RunFault {
     /// A step was refused, under this number.
     Step(u16),
-    /// The one stream of a run without words was refused.
+    /// A stream was refused, or not imported to its end.
     Import(ImportFault),
     /// The frames of steps were refused.
     Frames(FrameFault),

@@ -95,10 +95,9 @@ fn import(
     service: &mut Service<Sha1Naming>,
     tenant: &[u8],
 ) -> Result<(), RunFault> {
-    let mut out = Vec::new(rt.alloc());
     let mut reader = Counted::new(rt.stdin());
     let mut writer = Counted::new(rt.stdout());
-    steps::import(service, tenant, &mut out, &mut reader, &mut writer)
+    Ok(gitpool::import(rt.alloc(), service, tenant, &mut reader, &mut writer)?)
 }
 
 fn ask(

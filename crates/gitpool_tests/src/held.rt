@@ -1,12 +1,14 @@
 //! What is held after each step, of how many tenants, and of whom something is lent: contents are
 //! held once, and those of a stream go with it.
 
-use crate::rows::{Do, Row, first_otherwise};
+use crate::rows::{Do, Row, first_otherwise, goes};
 use crate::told::{asks, code_of, feeds, takes, tells};
-use gitpool::{Service, Sha1Naming, Step};
+use gitpool::{Service, Sha1Naming, Slot, Step};
 use std::alloc::Global;
 
 const HELLO: &[u8] = b"blob\nmark :1\ndata 6\nhello\n";
+
+const HELLO_SHOWN: &[u8] = b"ce013625030ba8dba906f756967f9e9ca394464a blob 6\nhello\n\n";
 
 const HELLO_AND_MARK: &[u8] = b"blob\nmark :1\ndata 6\nhello\nget-mark :1\n";
 
@@ -21,17 +23,28 @@ const COMMIT_OF_FILE: &[u8] = b"commit refs/heads/m\ncommitter A <a@b> 0 +0000\n
 
 const DIRECTORY: &[u8] = b"040000 tree e31a96220fbfbe7601ecc086a36b96dc27a8867e\ta\n";
 
-// In turn: two open streams share a content until both are given up; two tenants share it; a fault,
-// an end in a data and one in a command give up what was not saved; what stands before `done` is
-// saved; a fault behind a checkpoint leaves the tree of no bytes and the commit that it saved; a
-// directory that is shown is stored until a fault.
-const ROWS: &[Row] = &[
+// Two open streams share a content until both are given up.
+const SHARED: &[Row] = &[
     ((Do::Open, b"a", b""), (0, b""), (0, 0, 0)),
     ((Do::Feed, b"a", HELLO), (0, b""), (1, 6, 0)),
     ((Do::Open, b"b", b""), (0, b""), (1, 6, 0)),
     ((Do::Feed, b"b", HELLO), (0, b""), (1, 6, 0)),
     ((Do::Feed, b"a", b"get-mark :9\n"), (13, b""), (1, 6, 0)),
+    (
+        (Do::Feed, b"b", b"cat-blob :1\n"),
+        (0, HELLO_SHOWN),
+        (1, 6, 0),
+    ),
     ((Do::Restart, b"", b""), (0, b""), (0, 0, 0)),
+];
+
+// How many objects `a` and `b` list after each of these.
+const LISTED: &[(usize, usize)] = &[(0, 0), (1, 0), (1, 0), (1, 1), (0, 1), (0, 1), (0, 0)];
+
+// In turn: two tenants share a content; a fault, an end in a data and one in a command give up what
+// was not saved; what stands before `done` is saved; a fault behind a checkpoint leaves the tree of
+// no bytes and the commit that it saved; a directory that is shown is stored until a fault.
+const ROWS: &[Row] = &[
     ((Do::Open, b"a", b""), (0, b""), (0, 0, 0)),
     ((Do::Feed, b"a", HELLO), (0, b""), (1, 6, 0)),
     ((Do::End, b"a", b""), (0, b""), (1, 6, 1)),
@@ -78,6 +91,52 @@ fn first_wrong(alloc: Global) -> Option<usize> {
 #[test]
 fn holds_each_content_once_and_what_was_saved(rt: HostRuntime) {
     assert_eq!(rt; first_wrong(rt.alloc()), None);
+}
+
+fn listed_of(service: &Service<Sha1Naming>, tenant: &[u8]) -> usize {
+    match service.view(tenant) {
+        Some((_, table, _)) => table.len(),
+        None => 0,
+    }
+}
+
+// The slot of a tenant's first object.
+fn slot_of(service: &Service<Sha1Naming>, tenant: &[u8]) -> Option<Slot> {
+    match service.view(tenant) {
+        Some((_, table, _)) => match table.at(0) {
+            Some((_, slot)) => Some(slot),
+            None => None,
+        },
+        None => None,
+    }
+}
+
+// Whether `a` and `b` list so many objects; where both have one, it lies in one slot.
+fn are_listed(service: &Service<Sha1Naming>, listed: (usize, usize)) -> bool {
+    let are_so_many = (listed_of(service, b"a"), listed_of(service, b"b")) == listed;
+    are_so_many && (listed != (1, 1) || slot_of(service, b"a") == slot_of(service, b"b"))
+}
+
+// The first of the rows that share, by its place, that goes otherwise or lists others.
+fn first_listed_otherwise(alloc: Global, service: &mut Service<Sha1Naming>) -> Option<usize> {
+    for (place, (row, listed)) in SHARED.iter().zip(LISTED.iter()).enumerate() {
+        if !goes(alloc, service, row) || !are_listed(service, *listed) {
+            return Some(place);
+        }
+    }
+    None
+}
+
+fn first_wrong_in_its_slots(alloc: Global) -> Option<usize> {
+    let mut service = Service::new(alloc, Sha1Naming);
+    let place = first_listed_otherwise(alloc, &mut service);
+    drop(service);
+    place
+}
+
+#[test]
+fn holds_a_content_of_two_tenants_in_one_slot_until_both_give_it_up(rt: HostRuntime) {
+    assert_eq!(rt; first_wrong_in_its_slots(rt.alloc()), None);
 }
 
 // Whether the steps of a tenant are told so, and something is lent of it before it opens a stream,

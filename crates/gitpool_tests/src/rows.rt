@@ -51,7 +51,8 @@ fn held_by<N: Naming>(service: &Service<N>) -> (u64, u64, u64) {
     (number, size, service.tenants())
 }
 
-fn goes<N: Naming>(alloc: Global, service: &mut Service<N>, row: &Row) -> bool {
+/// Whether a step or copy is told so, and so much is held after it.
+pub fn goes<N: Naming>(alloc: Global, service: &mut Service<N>, row: &Row) -> bool {
     let mut out = Vec::new(alloc);
     let answer = answer_of(service, row, &mut out);
     (code_of(answer), out.as_slice()) == row.1 && held_by(service) == row.2

@@ -16,6 +16,56 @@ const VERSION_2: &[u8] = b"gitpool\n\0\0\0\x02\0\0\0\0\0\0\0\x01\x03\0\0\0\0\0\0
     \0\x0frefs/heads/main\
     \xab\xab\xab\xab\xab\xab\xab\xab\xab\xab\xab\xab\xab\xab\xab\xab\xab\xab\xab\x11";
 
+// Version 1 with one thing changed, and the number that refuses it. Under a digest made right: an
+// object of no kind, the number of no object, and a ref to the blob.
+const REFUSED: &[(&[u8], u16)] = &[
+    (
+        b"gitpool\n\0\0\0\x01\0\0\0\0\0\0\0\x01\x05\0\0\0\0\0\0\0\x02ab\
+            \0\0\0\0\0\0\0\x01\0\x01t\0\0\0\0\0\0\0\x01\0\0\0\0\0\0\0\0\0\0\0\0\0\0\0\0\
+            \xab\xab\xab\xab\xab\xab\xab\xab\xab\xab\xab\xab\xab\xab\xab\xab\xab\xab\xab\x4b",
+        65,
+    ),
+    (
+        b"gitpool\n\0\0\0\x01\0\0\0\0\0\0\0\x01\x03\0\0\0\0\0\0\0\x02ab\
+            \0\0\0\0\0\0\0\x01\0\x01t\0\0\0\0\0\0\0\x01\0\0\0\0\0\0\0\x01\0\0\0\0\0\0\0\0\
+            \xab\xab\xab\xab\xab\xab\xab\xab\xab\xab\xab\xab\xab\xab\xab\xab\xab\xab\xab\x4a",
+        64,
+    ),
+    (
+        b"gitpool\n\0\0\0\x01\0\0\0\0\0\0\0\x01\x03\0\0\0\0\0\0\0\x02ab\
+            \0\0\0\0\0\0\0\x01\0\x01t\0\0\0\0\0\0\0\x01\0\0\0\0\0\0\0\0\0\0\0\0\0\0\0\x01\
+            \0\x1erefs/namespaces/t/refs/heads/m\0\0\0\0\0\0\0\0\
+            \xab\xab\xab\xab\xab\xab\xab\xab\xab\xab\xab\xab\xab\xab\xab\xab\xab\xab\xab\xb9",
+        67,
+    ),
+    // The number of version 2, but no HEAD; the count of no objects; another byte of the blob; a byte
+    // more.
+    (
+        b"gitpool\n\0\0\0\x02\0\0\0\0\0\0\0\x01\x03\0\0\0\0\0\0\0\x02ab\
+            \0\0\0\0\0\0\0\x01\0\x01t\0\0\0\0\0\0\0\x01\0\0\0\0\0\0\0\0\0\0\0\0\0\0\0\0\
+            \xab\xab\xab\xab\xab\xab\xab\xab\xab\xab\xab\xab\xab\xab\xab\xab\xab\xab\xab\x49",
+        62,
+    ),
+    (
+        b"gitpool\n\0\0\0\x01\0\0\0\0\0\0\0\0\x03\0\0\0\0\0\0\0\x02ab\
+            \0\0\0\0\0\0\0\x01\0\x01t\0\0\0\0\0\0\0\x01\0\0\0\0\0\0\0\0\0\0\0\0\0\0\0\0\
+            \xab\xab\xab\xab\xab\xab\xab\xab\xab\xab\xab\xab\xab\xab\xab\xab\xab\xab\xab\x49",
+        62,
+    ),
+    (
+        b"gitpool\n\0\0\0\x01\0\0\0\0\0\0\0\x01\x03\0\0\0\0\0\0\0\x02ac\
+            \0\0\0\0\0\0\0\x01\0\x01t\0\0\0\0\0\0\0\x01\0\0\0\0\0\0\0\0\0\0\0\0\0\0\0\0\
+            \xab\xab\xab\xab\xab\xab\xab\xab\xab\xab\xab\xab\xab\xab\xab\xab\xab\xab\xab\x49",
+        63,
+    ),
+    (
+        b"gitpool\n\0\0\0\x01\0\0\0\0\0\0\0\x01\x03\0\0\0\0\0\0\0\x02ab\
+            \0\0\0\0\0\0\0\x01\0\x01t\0\0\0\0\0\0\0\x01\0\0\0\0\0\0\0\0\0\0\0\0\0\0\0\0\
+            \xab\xab\xab\xab\xab\xab\xab\xab\xab\xab\xab\xab\xab\xab\xab\xab\xab\xab\xab\x49\0",
+        69,
+    ),
+];
+
 /// Whether a service is saved as this file.
 pub fn is_saved_as<N: Naming + Starting>(alloc: Global, service: &Service<N>, file: &[u8]) -> bool {
     let mut writer = Counted::new(Vec::new(alloc));
@@ -60,6 +110,67 @@ fn comes_back(alloc: Global, file: &[u8]) -> bool {
     }
 }
 
+// The number that refuses a file, 0 where it is loaded.
+fn number_of(alloc: Global, file: &[u8]) -> u16 {
+    match refusal_of(alloc, TailNaming, file).0 {
+        Some(fault) => fault.code(),
+        None => 0,
+    }
+}
+
+// The first of the changed files, by its place, that is refused otherwise.
+fn first_otherwise(alloc: Global) -> Option<usize> {
+    for (place, (file, number)) in REFUSED.iter().enumerate() {
+        if number_of(alloc, file) != *number {
+            return Some(place);
+        }
+    }
+    None
+}
+
+// The first front of a file, by its size, that is not refused as cut off (62).
+fn first_front_otherwise(alloc: Global, file: &[u8]) -> Option<usize> {
+    for size in 0..file.len() {
+        if number_of(alloc, file.split_at(size).0) != 62 {
+            return Some(size);
+        }
+    }
+    None
+}
+
+// Whether this number may refuse a file whose byte at this place is another.
+fn may_refuse(place: usize, number: u16) -> bool {
+    match place {
+        0..=7 => number == 60,
+        8..=11 => number == 61,
+        _ => number == 62 || number == 63 || number == 69,
+    }
+}
+
+// Whether a file is refused so where the byte at this place is greater by two: neither version's
+// number becomes the other's.
+fn is_refused_with_change(alloc: Global, bytes: &mut [u8], place: usize) -> bool {
+    if place < bytes.len() {
+        bytes[place] = bytes[place].wrapping_add(2);
+    }
+    may_refuse(place, number_of(alloc, bytes))
+}
+
+fn is_change_refused(alloc: Global, file: &[u8], place: usize) -> bool {
+    let mut bytes = Vec::new(alloc);
+    bytes.extend_from_slice(file).is_ok() && is_refused_with_change(alloc, &mut bytes, place)
+}
+
+// The first place of a file whose byte can be another.
+fn first_change_otherwise(alloc: Global, file: &[u8]) -> Option<usize> {
+    for place in 0..file.len() {
+        if !is_change_refused(alloc, file, place) {
+            return Some(place);
+        }
+    }
+    None
+}
+
 // How many calls one loading of version 1 makes over a slice.
 const READS: u64 = 21;
 
@@ -86,4 +197,21 @@ fn version_2_comes_back(rt: HostRuntime) {
 #[test]
 fn is_not_loaded_from_a_device_that_fails(rt: HostRuntime) {
     assert!(rt; fails_at_each(rt.alloc()));
+}
+
+#[test]
+fn is_not_loaded_from_a_file_with_one_thing_wrong(rt: HostRuntime) {
+    assert_eq!(rt; first_otherwise(rt.alloc()), None);
+}
+
+#[test]
+fn is_not_loaded_from_a_front_of_a_file(rt: HostRuntime) {
+    assert_eq!(rt; first_front_otherwise(rt.alloc(), VERSION_1), None);
+    assert_eq!(rt; first_front_otherwise(rt.alloc(), VERSION_2), None);
+}
+
+#[test]
+fn is_not_loaded_where_one_byte_is_another(rt: HostRuntime) {
+    assert_eq!(rt; first_change_otherwise(rt.alloc(), VERSION_1), None);
+    assert_eq!(rt; first_change_otherwise(rt.alloc(), VERSION_2), None);
 }

@@ -2,9 +2,9 @@
 
 use byte_devices::{FailingReader, FailingWriter};
 use gitpool::{Answer, Counted, FrameFault, Step};
+use service_steps::{Frames, write_answer};
 use std::alloc::Global;
 use std::io::Read;
-use step_frames::{Frames, write_answer};
 
 // Each kind of frame, one after the other.
 const FRAMES: &[u8] = b"\x01\0\x01t\0\0\0\0\

@@ -5,10 +5,10 @@ use Rattle.git_model.specs.RefStore.{RefStore}
 use Rattle.git_model.specs.Repository.{Object}
 use Rattle.content_pool.specs.Pool.{Cells}
 use Rattle.tenant_tables.specs.View.{View}
-use Rattle.tree_build.specs.declared.fault.Fault.{Fault as FilesFault}
-use Rattle.tree_build.specs.Edits.{put_fault}
-use Rattle.tree_build.specs.FileMap.{FileMap}
-use Rattle.tree_build.specs.StoredFiles.{commit_map, stored_files, tree_of_commit}
+use Rattle.file_maps.specs.declared.fault.Fault.{Fault as FilesFault}
+use Rattle.file_maps.specs.Edits.{put_fault}
+use Rattle.file_maps.specs.FileMap.{FileMap}
+use Rattle.file_maps.specs.StoredFiles.{commit_map, stored_files, tree_of_commit}
 use Rattle.stream_grammar.specs.Acts.{Act}
 use Rattle.open_commits.specs.declared.fault.Fault.{Fault as CommitFault}
 use Rattle.open_commits.specs.declared.fault.Fault.TheVariants as commit_fault

@@ -6,9 +6,9 @@ use Rattle.git_model.specs.Content.{Content, name_by}
 use Rattle.git_model.specs.Repository.{Object, with_object}
 use Rattle.tenant_tables.specs.declared.fault.Fault.{Fault as TableFault}
 use Rattle.tenant_tables.specs.Adding.{store_fault}
-use Rattle.tree_build.specs.FileMap.{FileMap}
-use Rattle.branch_trees.specs.Branch.{Branch, IsBranch, files_in}
-use Rattle.branch_trees.proofs.Growing.{branch_stays}
+use Rattle.file_maps.specs.FileMap.{FileMap}
+use Rattle.tree_build.specs.Branch.{Branch, IsBranch, files_in}
+use Rattle.tree_build.proofs.Growing.{branch_stays}
 use Rattle.open_commits.specs.OpenCommit.{HeldCommit, Stands, commit_in}
 use Rattle.import_session.specs.declared.fault.Fault.{Fault}
 use Rattle.import_session.specs.Storing.{stored_or, with_content}

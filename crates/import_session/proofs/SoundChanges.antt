@@ -17,12 +17,12 @@ use Rattle.git_paths.specs.Paths.{IsPath}
 use Rattle.stream_grammar.specs.Acts.{Act, StartFrom, Merge, Modify, Delete, Copy, Rename, DeleteAll}
 use Rattle.stream_grammar.specs.WellFormed.{IsWellFormed}
 use Rattle.stream_grammar.specs.declared.data_ref.DataRef.{DataRef}
-use Rattle.tree_build.specs.declared.entry.Entry.{Entry}
-use Rattle.tree_build.specs.declared.fault.Fault.{Fault as FilesFault}
-use Rattle.tree_build.specs.Edits.{copied, files_at, move_fault, moved, put_at, put_fault, put_tree_at, renamed}
-use Rattle.tree_build.specs.FileMap.{AreFiles, FileMap, Path, listed}
-use Rattle.tree_build.specs.StoredFiles.{commit_map, stored_files, tree_of_commit}
-use Rattle.tree_build.proofs.Maps.{empty-of}
+use Rattle.file_maps.specs.declared.entry.Entry.{Entry}
+use Rattle.file_maps.specs.declared.fault.Fault.{Fault as FilesFault}
+use Rattle.file_maps.specs.Edits.{copied, files_at, move_fault, moved, put_at, put_fault, put_tree_at, renamed}
+use Rattle.file_maps.specs.FileMap.{AreFiles, FileMap, Path, listed}
+use Rattle.file_maps.specs.StoredFiles.{commit_map, stored_files, tree_of_commit}
+use Rattle.file_maps.proofs.Maps.{empty-of}
 use Rattle.tenant_tables.proofs.StoredGood.{Grows}
 use Rattle.open_commits.specs.declared.fault.Fault.{Fault as CommitFault}
 use Rattle.open_commits.specs.Faults.{and_then as commit_then}

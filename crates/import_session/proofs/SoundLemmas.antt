@@ -49,7 +49,7 @@ use Rattle.import_session.specs.Tags.{is_tag_ref, room_for_tag, said_more, tag_c
 use Rattle.import_session.specs.Checkpoints.{checkpoint, fit, saved_refs}
 use Rattle.import_session.specs.Meaning.{after_act, blob_stored, feature_set, head_set, placed_by, said_of_commit, said_of_tag, set_by, shown_by, shown_object, stored_or_shown, within_commit}
 use Rattle.git_paths.specs.Paths.{IsPath}
-use Rattle.tree_build.specs.FileMap.{Path}
+use Rattle.file_maps.specs.FileMap.{Path}
 use Rattle.open_commits.specs.declared.fault.Fault.{Fault as CommitFault}
 use Rattle.open_commits.specs.Changes.{contents_put}
 use Rattle.open_commits.specs.Ends.{Closed, closed}

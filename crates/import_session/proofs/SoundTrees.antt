@@ -8,8 +8,8 @@ use Rattle.git_model.specs.Repository.{Object}
 use Rattle.tenant_tables.specs.declared.fault.Fault.{Fault as TableFault}
 use Rattle.tenant_tables.specs.Adding.{store_fault}
 use Rattle.tenant_tables.specs.Sums.{Sums, sums_behind, TreesFit}
-use Rattle.tree_build.specs.FileMap.{Path}
-use Rattle.tree_build.proofs.FitTrees.{other-fits}
+use Rattle.file_maps.specs.FileMap.{Path}
+use Rattle.file_maps.proofs.FitTrees.{other-fits}
 use Rattle.open_commits.specs.declared.fault.Fault.{Fault as CommitFault}
 use Rattle.open_commits.specs.Changes.{Left, contents_put}
 use Rattle.open_commits.specs.OpenCommit.{OpenCommit}

@@ -3,8 +3,8 @@ use Rattle.std.specs.Prelude.{ℕ, List, ◌++◌, Option, None, Some, Result, O
 use Rattle.git_objects.specs.Listing.{listing}
 use Rattle.git_paths.specs.Paths.{joined}
 use Rattle.git_paths.specs.Quoting.{quoted}
-use Rattle.tree_build.specs.declared.entry.Entry.{Entry}
-use Rattle.tree_build.specs.FileMap.{Path}
+use Rattle.file_maps.specs.declared.entry.Entry.{Entry}
+use Rattle.file_maps.specs.FileMap.{Path}
 use Rattle.stream_grammar.specs.declared.fault.Fault.TheVariants as text_fault
 use Rattle.stream_grammar.specs.Acts.{Act, StartFrom, Merge, Modify, Delete, Copy, Rename, DeleteAll}
 use Rattle.open_commits.specs.OpenCommit.{OpenCommit}

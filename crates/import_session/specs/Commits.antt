@@ -5,7 +5,7 @@ use Rattle.git_model.specs.declared.file_mode.FileMode.{FileMode}
 use Rattle.git_model.specs.declared.kind.Kind.TheVariants as kind
 use Rattle.git_model.specs.References.{kind_named}
 use Rattle.git_model.specs.Repository.{Object}
-use Rattle.tree_build.specs.FileMap.{Path}
+use Rattle.file_maps.specs.FileMap.{Path}
 use Rattle.stream_grammar.specs.declared.fault.Fault.TheVariants as text_fault
 use Rattle.open_commits.specs.OpenCommit.{Header, OpenCommit, begun}
 use Rattle.open_commits.specs.Changes.{all_deleted}

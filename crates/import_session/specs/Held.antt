@@ -4,7 +4,7 @@ use Rattle.git_model.specs.Repository.{Object}
 use Rattle.content_pool.specs.Pool.{Cells}
 use Rattle.tenant_tables.specs.Objects.{objects}
 use Rattle.tenant_tables.specs.View.{View}
-use Rattle.branch_trees.specs.Branch.{IsBranch}
+use Rattle.tree_build.specs.Branch.{IsBranch}
 use Rattle.open_commits.specs.OpenCommit.{Stands}
 use Rattle.import_session.specs.Session.{Own}
 

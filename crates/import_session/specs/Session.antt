@@ -16,7 +16,7 @@ use Rattle.import_session.specs.declared.fault.Fault.TheVariants as fault
 use Rattle.import_session.specs.declared.own.Own.{Own as LentOwn}
 use Rattle.import_session.specs.declared.said.Said.{Said}
 use Rattle.import_session.specs.declared.said.Inline.{Inline}
-use Rattle.branch_trees.specs.Branch.{Branch}
+use Rattle.tree_build.specs.Branch.{Branch}
 use Rattle.open_commits.specs.OpenCommit.{HeldCommit, commit_held, commit_in}
 use Rattle.import_session.specs.Faults.{text_first}
 use Rattle.import_session.specs.Workspace.{Workspace, Marks, Branches, PendingTags, Effect}

@@ -15,14 +15,13 @@ use crate::fault::Fault;
 use crate::head::Head;
 use crate::own::Own;
 use crate::print::print_kept;
-use commit_reach::reaches;
+use commit_walk::reaches;
 use content_pool::Pool;
 use git_objects::{Kind, Name, Naming};
-use objects_in_sight::Objects;
 use revisions::peel;
 use std::alloc::Global;
 use tenant_refs::{ChangesFault, RefChange, RefName, Refs};
-use tenant_tables::{Sight, Table};
+use tenant_tables::{Objects, Sight, Table};
 
 /// How many refs a repository may have.
 pub const REFS_LIMIT: usize = 65_536;

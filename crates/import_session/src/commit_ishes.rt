@@ -24,11 +24,10 @@ use crate::marks;
 use crate::own::Own;
 use content_pool::Pool;
 use git_objects::{Kind, Name, Naming};
-use objects_in_sight::Objects;
 use revisions::{peel, resolve};
 use stream_grammar::CommitIsh;
 use tenant_refs::{RefName, Refs};
-use tenant_tables::{Sight, Table};
+use tenant_tables::{Objects, Sight, Table};
 
 fn fault_of(fault: revisions::Fault) -> Fault
     ensures { result ≡ resolving_fault fault }

@@ -8,7 +8,7 @@ ghost use Rattle.git_model.specs.Repository.{Object};
 ghost use Rattle.tenant_tables.specs.Objects.{objects};
 ghost use Rattle.tenant_tables.specs.Room.{HasRoomBeside};
 ghost use Rattle.tenant_tables.specs.StandsIn.{StandsIn};
-ghost use Rattle.branch_trees.specs.Branch.{IsBranch};
+ghost use Rattle.tree_build.specs.Branch.{IsBranch};
 ghost use Rattle.open_commits.specs.OpenCommit.{begun, commit_held, header_shown, shown_in, IsHeld};
 ghost use Rattle.import_session.specs.Branches.{branch_set, commit_at};
 ghost use Rattle.import_session.specs.Workspace.{quiet};
@@ -25,7 +25,6 @@ use crate::fault::Fault;
 use crate::marks;
 use crate::own::{Own, keep_open};
 use crate::said::Said;
-use branch_trees::Files;
 use content_pool::Pool;
 use git_objects::{Name, Naming};
 use open_commits::{Header, OpenCommit};
@@ -33,6 +32,7 @@ use std::alloc::Global;
 use stream_grammar::Mark;
 use tenant_refs::{RefName, Refs};
 use tenant_tables::Table;
+use tree_build::Files;
 
 fn bytes_of(encoding: Option<Encoding>) -> Option<Vec<u8>>
     ensures { option_map (λ text. text.items) result ≡ encoding }

@@ -20,11 +20,10 @@ use crate::print::print_line;
 use content_pool::Pool;
 use git_objects::{FileMode, Kind, Memory, Name, Naming, TreeEntry, append_listing};
 use git_paths::Path;
-use objects_in_sight::Objects;
 use revisions::entry_below;
 use std::alloc::Global;
 use stream_grammar::DataRef;
-use tenant_tables::{Sight, Table};
+use tenant_tables::{Objects, Sight, Table};
 
 fn append_entry(
     path: &Path,

@@ -19,7 +19,6 @@ use crate::fault::Fault;
 use crate::head::Head;
 use crate::lines::say_of_tag;
 use crate::said::{Inline, Said, said_of};
-use branch_trees::Files;
 use content_pool::Pool;
 use git_objects::{Name, Naming};
 use indexmap::IndexMap;
@@ -28,6 +27,7 @@ use std::alloc::Global;
 use stream_grammar::{Act, Feature, Mark};
 use tenant_refs::{RefName, Refs};
 use tenant_tables::Table;
+use tree_build::Files;
 
 /// What a stream has of its own.
 #[derive(Drop)]

@@ -6,11 +6,11 @@ ghost use Rattle.hex.specs.Hex.{encode_lower};
 ghost use Rattle.import_session.specs.Changes.{entry_line};
 ghost use Rattle.import_session.specs.Meaning.{blob_text};
 
+use file_maps::Entry;
 use git_objects::{Memory, Name, append_listing};
 use git_paths::Path;
 use itoa::Buffer;
 use tenant_refs::RefName;
-use tree_build::Entry;
 
 fn append_all(parts: &[&[u8]], out: &mut Vec<u8>) -> Result<(), Memory>
     ensures written { OnOk result (out.new.items

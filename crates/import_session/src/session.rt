@@ -48,7 +48,7 @@ pub struct Session {
 
 impl Model for Session {
     ghost use Rattle.std.specs.Coded.{codes};
-    ghost use Rattle.branch_trees.specs.ShapeCode.{branch_code};
+    ghost use Rattle.tree_build.specs.ShapeCode.{branch_code};
     ghost use Rattle.import_session.specs.Session.{Kept, own_shown};
 
     ghost Value = { Kept };

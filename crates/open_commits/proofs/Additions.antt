@@ -9,9 +9,9 @@ use Rattle.content_pool.specs.Pool.{Cells}
 use Rattle.tenant_tables.specs.Lent.{IsUnchanged}
 use Rattle.tenant_tables.specs.Objects.{objects}
 use Rattle.tenant_tables.specs.View.{View}
-use Rattle.tree_build.specs.declared.fault.Fault.{Fault as FilesFault}
-use Rattle.tree_build.specs.Trees.{tree_name, tree_content}
-use Rattle.tree_build.specs.Storing.{with_trees, AddsTrees, StoresTrees}
+use Rattle.file_maps.specs.declared.fault.Fault.{Fault as FilesFault}
+use Rattle.file_maps.specs.Trees.{tree_name, tree_content}
+use Rattle.file_maps.specs.Storing.{with_trees, AddsTrees, StoresTrees}
 use Rattle.open_commits.specs.Calls.{AddsOnly}
 
 pub one_added : (id : List ℕ) (c : Content) (os : List Object)

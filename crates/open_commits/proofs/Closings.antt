@@ -5,13 +5,13 @@ use Rattle.git_model.specs.declared.kind.Kind.TheVariants as kind
 use Rattle.git_model.specs.Commit.{commit_contents}
 use Rattle.git_model.specs.Content.{content_from, name_by}
 use Rattle.git_model.specs.Repository.{Object}
-use Rattle.tree_build.specs.declared.fault.Fault.{Fault as FilesFault}
-use Rattle.tree_build.specs.declared.fault.Fault.TheVariants as files_fault
-use Rattle.tree_build.specs.FileMap.{Listed, listed}
-use Rattle.tree_build.specs.Edits.{files_at}
-use Rattle.tree_build.specs.Trees.{nested_trees, tree_id}
-use Rattle.tree_build.specs.Storing.{with_trees, trees_fault}
-use Rattle.tree_build.proofs.ListedOrder.{cut-root}
+use Rattle.file_maps.specs.declared.fault.Fault.{Fault as FilesFault}
+use Rattle.file_maps.specs.declared.fault.Fault.TheVariants as files_fault
+use Rattle.file_maps.specs.FileMap.{Listed, listed}
+use Rattle.file_maps.specs.Edits.{files_at}
+use Rattle.file_maps.specs.Trees.{nested_trees, tree_id}
+use Rattle.file_maps.specs.Storing.{with_trees, trees_fault}
+use Rattle.file_maps.proofs.ListedOrder.{cut-root}
 use Rattle.open_commits.specs.declared.fault.Fault.{Fault}
 use Rattle.open_commits.specs.declared.fault.Fault.TheVariants as fault
 use Rattle.open_commits.specs.Faults.{editing_fault, and_then}

@@ -6,13 +6,13 @@ use Rattle.git_model.specs.declared.kind.Kind.TheVariants as kind
 use Rattle.git_model.specs.Content.{content_from}
 use Rattle.git_model.specs.GoodRepository.{AreObjects}
 use Rattle.git_model.specs.Repository.{Object}
-use Rattle.tree_build.specs.declared.fault.Fault.{Fault as FilesFault}
-use Rattle.tree_build.specs.Calls.{Edits}
-use Rattle.tree_build.specs.FileMap.{Path, Listed, FileMap}
-use Rattle.tree_build.specs.Edits.{moved, put_tree_at, put_fault}
-use Rattle.tree_build.specs.Grafts.{Grafts, tree_fault, or_else}
-use Rattle.tree_build.specs.StoredFiles.{stored_files}
-use Rattle.tree_build.proofs.GoodObjects.{listed-stored}
+use Rattle.file_maps.specs.declared.fault.Fault.{Fault as FilesFault}
+use Rattle.file_maps.specs.Calls.{Edits}
+use Rattle.file_maps.specs.FileMap.{Path, Listed, FileMap}
+use Rattle.file_maps.specs.Edits.{moved, put_tree_at, put_fault}
+use Rattle.file_maps.specs.Grafts.{Grafts, tree_fault, or_else}
+use Rattle.file_maps.specs.StoredFiles.{stored_files}
+use Rattle.file_maps.proofs.GoodObjects.{listed-stored}
 use Rattle.open_commits.specs.declared.fault.Fault.{Fault}
 use Rattle.open_commits.specs.declared.fault.Fault.TheVariants as fault
 use Rattle.open_commits.specs.Faults.{editing_fault}

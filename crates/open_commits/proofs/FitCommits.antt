@@ -9,13 +9,13 @@ use Rattle.git_model.specs.GoodRepository.{AreObjects}
 use Rattle.git_model.specs.Repository.{Object}
 use Rattle.git_names.specs.Naming.{AnswersNames}
 use Rattle.tenant_tables.specs.Sums.{TreesFit}
-use Rattle.tree_build.specs.declared.entry.Entry.{Entry}
-use Rattle.tree_build.specs.FileMap.{Path, Listed, listed, AreFiles}
-use Rattle.tree_build.specs.Edits.{files_at}
-use Rattle.tree_build.specs.HeldFiles.{IsHeld}
-use Rattle.tree_build.specs.Trees.{entry_at}
-use Rattle.tree_build.proofs.FitTrees.{nested-fit, other-fits}
-use Rattle.tree_build.proofs.ListedOrder.{cut-root}
+use Rattle.file_maps.specs.declared.entry.Entry.{Entry}
+use Rattle.file_maps.specs.FileMap.{Path, Listed, listed, AreFiles}
+use Rattle.file_maps.specs.Edits.{files_at}
+use Rattle.file_maps.specs.HeldFiles.{IsHeld}
+use Rattle.file_maps.specs.Trees.{entry_at}
+use Rattle.file_maps.proofs.FitTrees.{nested-fit, other-fits}
+use Rattle.file_maps.proofs.ListedOrder.{cut-root}
 use Rattle.open_commits.specs.declared.fault.Fault.{Fault}
 use Rattle.open_commits.specs.Faults.{and_then}
 use Rattle.open_commits.specs.OpenCommit.{OpenCommit}

@@ -32,22 +32,22 @@ use Rattle.stream_grammar.specs.declared.data_ref.DataRef.TheVariants as data_re
 use Rattle.tenant_tables.specs.declared.fault.Fault.{Fault as TableFault}
 use Rattle.tenant_tables.specs.Adding.{store_fault}
 use Rattle.tenant_tables.proofs.StoredGood.{MayStore, Holds, there, stored_good}
-use Rattle.tree_build.specs.declared.entry.Entry.{Entry}
-use Rattle.tree_build.specs.declared.fault.Fault.{Fault as FilesFault}
-use Rattle.tree_build.specs.FileMap.{Path, Listed, FileMap, listed, AreFiles}
-use Rattle.tree_build.specs.Edits.{files_at, moved, put_at, put_tree_at, copied, renamed, without, is_outside, with_files}
-use Rattle.tree_build.specs.GoodTrees.{StayGood}
-use Rattle.tree_build.specs.HeldFiles.{IsHeld}
-use Rattle.tree_build.specs.Kept.{stays}
-use Rattle.tree_build.specs.StoredFiles.{stored_files, tree_of_commit}
-use Rattle.tree_build.specs.Storing.{with_trees, trees_fault}
-use Rattle.tree_build.specs.Trees.{nested_trees, tree_id, entry_at, tree_content, tree_entries}
-use Rattle.tree_build.proofs.Apart.{all-map, all-weaker, cut-all}
-use Rattle.tree_build.proofs.EditedMaps.{all-edited, all-without}
-use Rattle.tree_build.proofs.HeldTrees.{stored-held}
-use Rattle.tree_build.proofs.ListedOrder.{cut-root}
-use Rattle.tree_build.proofs.Maps.{empty-of, retain-twice}
-use Rattle.tree_build.proofs.TreesAdded.{name_of, nested_added}
+use Rattle.file_maps.specs.declared.entry.Entry.{Entry}
+use Rattle.file_maps.specs.declared.fault.Fault.{Fault as FilesFault}
+use Rattle.file_maps.specs.FileMap.{Path, Listed, FileMap, listed, AreFiles}
+use Rattle.file_maps.specs.Edits.{files_at, moved, put_at, put_tree_at, copied, renamed, without, is_outside, with_files}
+use Rattle.file_maps.specs.GoodTrees.{StayGood}
+use Rattle.file_maps.specs.HeldFiles.{IsHeld}
+use Rattle.file_maps.specs.Kept.{stays}
+use Rattle.file_maps.specs.StoredFiles.{stored_files, tree_of_commit}
+use Rattle.file_maps.specs.Storing.{with_trees, trees_fault}
+use Rattle.file_maps.specs.Trees.{nested_trees, tree_id, entry_at, tree_content, tree_entries}
+use Rattle.file_maps.proofs.Apart.{all-map, all-weaker, cut-all}
+use Rattle.file_maps.proofs.EditedMaps.{all-edited, all-without}
+use Rattle.file_maps.proofs.HeldTrees.{stored-held}
+use Rattle.file_maps.proofs.ListedOrder.{cut-root}
+use Rattle.file_maps.proofs.Maps.{empty-of, retain-twice}
+use Rattle.file_maps.proofs.TreesAdded.{name_of, nested_added}
 use Rattle.open_commits.specs.declared.fault.Fault.{Fault}
 use Rattle.open_commits.specs.declared.fault.Fault.TheVariants as fault
 use Rattle.open_commits.specs.Faults.{and_then, or_fault}

@@ -19,13 +19,13 @@ use Rattle.stream_grammar.specs.declared.data_ref.DataRef.{DataRef}
 use Rattle.stream_grammar.specs.declared.data_ref.DataRef.TheVariants as data_ref
 use Rattle.stream_grammar.specs.WellFormed.{IsReferred}
 use Rattle.tenant_tables.proofs.StoredGood.{there}
-use Rattle.tree_build.specs.declared.entry.Entry.{Entry}
-use Rattle.tree_build.specs.declared.fault.Fault.{Fault as FilesFault}
-use Rattle.tree_build.specs.Edits.{copied, files_at, move_fault, moved, put_at, put_fault, put_tree_at, renamed}
-use Rattle.tree_build.specs.FileMap.{AreFiles, FileMap, Listed, Path, listed}
-use Rattle.tree_build.specs.StoredFiles.{stored_files, tree_of_commit}
-use Rattle.tree_build.proofs.EditedMaps.{AllEntries, IsMapOf, copied-is, file-put-is, renamed-is, without-is}
-use Rattle.tree_build.proofs.StoredPut.{stored-put}
+use Rattle.file_maps.specs.declared.entry.Entry.{Entry}
+use Rattle.file_maps.specs.declared.fault.Fault.{Fault as FilesFault}
+use Rattle.file_maps.specs.Edits.{copied, files_at, move_fault, moved, put_at, put_fault, put_tree_at, renamed}
+use Rattle.file_maps.specs.FileMap.{AreFiles, FileMap, Listed, Path, listed}
+use Rattle.file_maps.specs.StoredFiles.{stored_files, tree_of_commit}
+use Rattle.file_maps.proofs.EditedMaps.{AllEntries, IsMapOf, copied-is, file-put-is, renamed-is, without-is}
+use Rattle.file_maps.proofs.StoredPut.{stored-put}
 use Rattle.open_commits.specs.declared.fault.Fault.{Fault}
 use Rattle.open_commits.specs.declared.fault.Fault.TheVariants as fault
 use Rattle.open_commits.specs.Faults.{and_then, or_fault}

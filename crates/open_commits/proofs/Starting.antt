@@ -4,10 +4,10 @@ use Rattle.std.specs.FinMap as finmap
 use Rattle.std.specs.FinMap.{same_map, get-retain_keys, get-empty}
 use Rattle.git_model.specs.Repository.{Object}
 use Rattle.git_paths.specs.Order.{path_cmp, path_cmp-total, path_cmp-IsAntisymmetric}
-use Rattle.tree_build.specs.declared.fault.Fault.{Fault as FilesFault}
-use Rattle.tree_build.specs.FileMap.{Listed, FileMap, is_apart}
-use Rattle.tree_build.specs.Edits.{moved, with_files, put_tree_at, put_fault}
-use Rattle.tree_build.specs.StoredFiles.{stored_files, tree_of_commit, commit_map}
+use Rattle.file_maps.specs.declared.fault.Fault.{Fault as FilesFault}
+use Rattle.file_maps.specs.FileMap.{Listed, FileMap, is_apart}
+use Rattle.file_maps.specs.Edits.{moved, with_files, put_tree_at, put_fault}
+use Rattle.file_maps.specs.StoredFiles.{stored_files, tree_of_commit, commit_map}
 use Rattle.open_commits.specs.declared.fault.Fault.{Fault}
 use Rattle.open_commits.specs.declared.fault.Fault.TheVariants as fault
 use Rattle.open_commits.specs.OpenCommit.{OpenCommit}

@@ -4,13 +4,13 @@ use Rattle.std.specs.Prelude.{OnOk}
 use Rattle.git_model.specs.declared.file_mode.FileMode.{FileMode}
 use Rattle.git_model.specs.Content.{Content, name_by}
 use Rattle.git_model.specs.Repository.{Object}
-use Rattle.tree_build.specs.FileMap.{Path, FileMap, listed}
-use Rattle.tree_build.specs.Edits.{files_at}
-use Rattle.tree_build.specs.Trees.{tree_id}
-use Rattle.tree_build.proofs.ListedOrder.{cut-root}
-use Rattle.branch_trees.specs.Shape.{What, file, unopened, opened, Shape, none, row}
-use Rattle.branch_trees.specs.Branch.{Branch, files_in, root_name, closed_by, closed_along, closed_from, Reads}
-use Rattle.branch_trees.proofs.Growing.{branch_stays}
+use Rattle.file_maps.specs.FileMap.{Path, FileMap, listed}
+use Rattle.file_maps.specs.Edits.{files_at}
+use Rattle.file_maps.specs.Trees.{tree_id}
+use Rattle.file_maps.proofs.ListedOrder.{cut-root}
+use Rattle.tree_build.specs.Shape.{What, file, unopened, opened, Shape, none, row}
+use Rattle.tree_build.specs.Branch.{Branch, files_in, root_name, closed_by, closed_along, closed_from, Reads}
+use Rattle.tree_build.proofs.Growing.{branch_stays}
 use Rattle.open_commits.specs.declared.fault.Fault.{Fault}
 use Rattle.open_commits.specs.Faults.{and_then}
 use Rattle.open_commits.specs.OpenCommit.{OpenCommit, HeldCommit, Stands, commit_in}

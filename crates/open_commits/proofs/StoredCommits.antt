@@ -12,8 +12,8 @@ use Rattle.git_model.specs.Repository.{Object, object_named}
 use Rattle.git_model.specs.References.{references_in, kind_named, place_of}
 use Rattle.git_model.specs.GoodRepository.{IsValid, IsObject, StandsBefore, AreObjects}
 use Rattle.git_model.proofs.Places.{stands_at, at_place}
-use Rattle.tree_build.specs.Grafts.{tree_fault, content_fault, kind_fault}
-use Rattle.tree_build.specs.StoredFiles.{tree_of_commit}
+use Rattle.file_maps.specs.Grafts.{tree_fault, content_fault, kind_fault}
+use Rattle.file_maps.specs.StoredFiles.{tree_of_commit}
 
 -- a commit stands under its name, and its tree is there
 pub record IsStoredCommit (os : List Object) (id : List ℕ) : Type 0 where

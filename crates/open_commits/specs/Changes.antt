@@ -9,10 +9,10 @@ use Rattle.git_model.specs.declared.kind.Kind.TheVariants as kind
 use Rattle.git_model.specs.Content.{Content, content_from, name_by}
 use Rattle.git_model.specs.Peeling.{is_of}
 use Rattle.git_model.specs.Repository.{Object, object_named}
-use Rattle.tree_build.specs.declared.entry.Entry.{Entry}
-use Rattle.tree_build.specs.Edits.{files_at, moved, put_at, put_tree_at, without, copied, renamed, put_fault, move_fault}
-use Rattle.tree_build.specs.FileMap.{Path}
-use Rattle.tree_build.specs.StoredFiles.{stored_files}
+use Rattle.file_maps.specs.declared.entry.Entry.{Entry}
+use Rattle.file_maps.specs.Edits.{files_at, moved, put_at, put_tree_at, without, copied, renamed, put_fault, move_fault}
+use Rattle.file_maps.specs.FileMap.{Path}
+use Rattle.file_maps.specs.StoredFiles.{stored_files}
 use Rattle.stream_grammar.specs.declared.data_ref.DataRef.{DataRef}
 use Rattle.stream_grammar.specs.declared.data_ref.DataRef.TheVariants as data_ref
 use Rattle.open_commits.specs.declared.fault.Fault.{Fault}

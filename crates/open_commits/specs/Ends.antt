@@ -4,9 +4,9 @@ use Rattle.git_model.specs.declared.kind.Kind.TheVariants as kind
 use Rattle.git_model.specs.Commit.{Commit, commit_contents}
 use Rattle.git_model.specs.Content.{Content, content_from, name_by}
 use Rattle.git_model.specs.Repository.{Object}
-use Rattle.tree_build.specs.FileMap.{listed}
-use Rattle.tree_build.specs.Trees.{tree_id}
-use Rattle.branch_trees.specs.Branch.{root_name}
+use Rattle.file_maps.specs.FileMap.{listed}
+use Rattle.file_maps.specs.Trees.{tree_id}
+use Rattle.tree_build.specs.Branch.{root_name}
 use Rattle.open_commits.specs.declared.fault.Fault.{Fault}
 use Rattle.open_commits.specs.Faults.{and_then}
 use Rattle.open_commits.specs.OpenCommit.{OpenCommit, HeldCommit, commit_in}

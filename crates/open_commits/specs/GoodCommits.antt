@@ -7,8 +7,8 @@ use Rattle.git_model.specs.GoodRepository.{AreObjects, parents_limit}
 use Rattle.git_model.specs.Ident.{IsWrittenIdent}
 use Rattle.git_model.specs.References.{kind_named}
 use Rattle.git_model.specs.Repository.{Object}
-use Rattle.tree_build.specs.FileMap.{listed}
-use Rattle.tree_build.specs.HeldFiles.{IsHeld}
+use Rattle.file_maps.specs.FileMap.{listed}
+use Rattle.file_maps.specs.HeldFiles.{IsHeld}
 use Rattle.open_commits.specs.OpenCommit.{Header, OpenCommit}
 
 -- What a header says can be written.

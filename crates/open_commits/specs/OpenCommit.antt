@@ -3,8 +3,8 @@ use Rattle.std.specs.Prelude.{ℕ, List, [], Option}
 use Rattle.std.specs.FinMap as finmap
 use Rattle.std.specs.Option.{option_map}
 use Rattle.git_model.specs.Repository.{Object}
-use Rattle.tree_build.specs.FileMap.{FileMap}
-use Rattle.branch_trees.specs.Branch.{Branch, IsBranch, files_in, root_name}
+use Rattle.file_maps.specs.FileMap.{FileMap}
+use Rattle.tree_build.specs.Branch.{Branch, IsBranch, files_in, root_name}
 use Rattle.open_commits.specs.declared.open_commit.Header.{Header as LentHeader}
 use Rattle.open_commits.specs.declared.open_commit.OpenCommit.{OpenCommit as LentCommit}
 

@@ -2,10 +2,10 @@
 use Rattle.std.specs.Prelude.{ℕ, nat_lt, if◌then◌else◌, List, [], ◌∷◌, ◌++◌, length, Option, None, Some, Result, Ok, Err}
 use Rattle.git_model.specs.GoodRepository.{parents_limit}
 use Rattle.git_model.specs.Repository.{Object}
-use Rattle.tree_build.specs.declared.fault.Fault.{Fault as FilesFault}
-use Rattle.tree_build.specs.FileMap.{FileMap}
-use Rattle.tree_build.specs.Edits.{put_fault}
-use Rattle.tree_build.specs.StoredFiles.{stored_files, tree_of_commit, commit_map}
+use Rattle.file_maps.specs.declared.fault.Fault.{Fault as FilesFault}
+use Rattle.file_maps.specs.FileMap.{FileMap}
+use Rattle.file_maps.specs.Edits.{put_fault}
+use Rattle.file_maps.specs.StoredFiles.{stored_files, tree_of_commit, commit_map}
 use Rattle.open_commits.specs.declared.fault.Fault.{Fault}
 use Rattle.open_commits.specs.declared.fault.Fault.TheVariants as fault
 use Rattle.open_commits.specs.Faults.{editing_fault}

@@ -3,10 +3,10 @@ use Rattle.std.specs.Prelude.{ℕ, List, Option, None, Some, Result, Ok}
 use Rattle.git_model.specs.declared.file_mode.FileMode.{FileMode}
 use Rattle.git_model.specs.declared.file_mode.FileMode.TheVariants as mode
 use Rattle.git_model.specs.Repository.{Object}
-use Rattle.tree_build.specs.declared.entry.Entry.{Entry}
-use Rattle.tree_build.specs.FileMap.{Path, FileMap}
-use Rattle.tree_build.specs.Edits.{files_at}
-use Rattle.tree_build.specs.Trees.{entry_at}
+use Rattle.file_maps.specs.declared.entry.Entry.{Entry}
+use Rattle.file_maps.specs.FileMap.{Path, FileMap}
+use Rattle.file_maps.specs.Edits.{files_at}
+use Rattle.file_maps.specs.Trees.{entry_at}
 use Rattle.open_commits.specs.declared.fault.Fault.{Fault}
 use Rattle.open_commits.specs.Faults.{and_then}
 use Rattle.open_commits.specs.Storing.{trees_stored}

@@ -5,10 +5,10 @@ use Rattle.git_model.specs.Repository.{Object, with_object}
 use Rattle.git_model.specs.Tree.{TreeEntry}
 use Rattle.tenant_tables.specs.declared.fault.Fault.{Fault as TableFault}
 use Rattle.tenant_tables.specs.Adding.{store_fault}
-use Rattle.tree_build.specs.declared.fault.Fault.{Fault as FilesFault}
-use Rattle.tree_build.specs.FileMap.{Listed}
-use Rattle.tree_build.specs.Trees.{nested_trees}
-use Rattle.tree_build.specs.Storing.{with_trees, trees_fault}
+use Rattle.file_maps.specs.declared.fault.Fault.{Fault as FilesFault}
+use Rattle.file_maps.specs.FileMap.{Listed}
+use Rattle.file_maps.specs.Trees.{nested_trees}
+use Rattle.file_maps.specs.Storing.{with_trees, trees_fault}
 use Rattle.open_commits.specs.declared.fault.Fault.{Fault}
 use Rattle.open_commits.specs.Faults.{storing_fault, editing_fault}
 

@@ -6,7 +6,7 @@ ghost use Rattle.git_model.specs.GoodRepository.{AreObjects};
 ghost use Rattle.git_model.specs.Repository.{Object};
 ghost use Rattle.tenant_tables.specs.Objects.{objects};
 ghost use Rattle.tenant_tables.specs.StandsIn.{StandsIn};
-ghost use Rattle.tree_build.specs.Grafts.{tree_fault};
+ghost use Rattle.file_maps.specs.Grafts.{tree_fault};
 ghost use Rattle.open_commits.specs.OpenCommit.{commit_held, shown_in, tree_known, IsHeld};
 ghost use Rattle.open_commits.specs.Changes.{entry_of, modified, file_put, tree_put, deleted, copied_to, renamed_to, all_deleted};
 ghost use Rattle.open_commits.specs.Calls.{Changes};
@@ -15,12 +15,12 @@ use crate::datarefs::{blob_of, link_of, tree_of};
 use crate::fault::Fault;
 use crate::open_commit::OpenCommit;
 use content_pool::Pool;
+use file_maps::Entry;
 use git_objects::{FileMode, Name, Naming};
 use git_paths::Path;
 use indexmap::IndexMap;
 use stream_grammar::{DataRef, Mark};
 use tenant_tables::Table;
-use tree_build::Entry;
 
 fn gitlink_to(name: Name) -> Entry
     ensures { result ≡ entry_of mode.Gitlink name }

@@ -14,10 +14,10 @@ use crate::fault::Fault;
 use crate::open_commit::OpenCommit;
 use crate::storing::store;
 use content_pool::Pool;
+use file_maps::Entry;
 use git_objects::{FileMode, Kind, Naming};
 use git_paths::Path;
 use tenant_tables::Table;
-use tree_build::Entry;
 
 impl OpenCommit {
     /// `M` with `inline`, at its data: puts a file with these contents at a path, in place of what

@@ -9,9 +9,8 @@ use crate::fault::Fault;
 use content_pool::Pool;
 use git_objects::{Kind, Name, Naming};
 use indexmap::IndexMap;
-use objects_in_sight::Objects;
 use stream_grammar::{DataRef, Mark};
-use tenant_tables::{Sight, Table};
+use tenant_tables::{Objects, Sight, Table};
 
 fn find(marks: &IndexMap<Mark, Name>, mark: Mark) -> Result<Name, Fault>
     ensures { result ≡ marked_name marks.now.entries mark }

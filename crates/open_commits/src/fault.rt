@@ -84,20 +84,20 @@ impl<T: Drop> From<AllocFailed<T>> for Fault {
     }
 }
 
-impl From<tree_build::Fault> for Fault {
+impl From<file_maps::Fault> for Fault {
     ghost use Rattle.open_commits.specs.Faults.{editing_fault};
 
     ghost from_gives = { λ refusal fault. fault ≡ editing_fault refusal };
 
-    fn from(refusal: tree_build::Fault) -> Fault {
+    fn from(refusal: file_maps::Fault) -> Fault {
         match refusal {
-            tree_build::Fault::ObjectUnknown => Fault::ObjectUnknown,
-            tree_build::Fault::WrongKind => Fault::WrongKind,
-            tree_build::Fault::SourceMissing => Fault::SourceMissing,
-            tree_build::Fault::RootNotDirectory => Fault::RootNotDirectory,
-            tree_build::Fault::NameCollision => Fault::NameCollision,
-            tree_build::Fault::Limit => Fault::Limit,
-            tree_build::Fault::Memory => Fault::Memory,
+            file_maps::Fault::ObjectUnknown => Fault::ObjectUnknown,
+            file_maps::Fault::WrongKind => Fault::WrongKind,
+            file_maps::Fault::SourceMissing => Fault::SourceMissing,
+            file_maps::Fault::RootNotDirectory => Fault::RootNotDirectory,
+            file_maps::Fault::NameCollision => Fault::NameCollision,
+            file_maps::Fault::Limit => Fault::Limit,
+            file_maps::Fault::Memory => Fault::Memory,
         }
     }
 }

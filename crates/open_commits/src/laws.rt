@@ -9,7 +9,7 @@ ghost use Rattle.git_model.specs.Repository.{Object};
 ghost use Rattle.git_names.specs.Naming.{AnswersNames};
 ghost use Rattle.stream_grammar.specs.declared.data_ref.DataRef.{DataRef};
 ghost use Rattle.tenant_tables.specs.Sums.{TreesFit};
-ghost use Rattle.tree_build.specs.FileMap.{Path, AreFiles, listed};
+ghost use Rattle.file_maps.specs.FileMap.{Path, AreFiles, listed};
 ghost use Rattle.open_commits.specs.OpenCommit.{Header, OpenCommit, begun};
 ghost use Rattle.open_commits.specs.Parents.{started_from, merged};
 ghost use Rattle.open_commits.specs.Changes.{Marks, Left, modified, contents_put, deleted, copied_to, renamed_to, all_deleted};

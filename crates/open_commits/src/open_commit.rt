@@ -5,13 +5,13 @@
 
 ghost use Rattle.std.specs.Prelude.{◌≡◌, List, IfOk};
 ghost use Rattle.git_model.specs.Repository.{Object};
-ghost use Rattle.branch_trees.specs.Branch.{IsBranch, files_in};
+ghost use Rattle.tree_build.specs.Branch.{IsBranch, files_in};
 ghost use Rattle.open_commits.specs.OpenCommit.{begun_on, commit_held, header_shown, shown_in, IsHeld};
 
-use branch_trees::Files;
 use git_names::{Ident, Memory, Name, RefName};
 use std::alloc::Global;
 use stream_grammar::Mark;
+use tree_build::Files;
 
 /// What the lines of a commit before its message said.
 #[derive(Drop)]

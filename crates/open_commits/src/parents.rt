@@ -9,8 +9,8 @@ ghost use Rattle.git_model.specs.References.{kind_named};
 ghost use Rattle.git_model.specs.Repository.{Object};
 ghost use Rattle.tenant_tables.specs.Objects.{objects};
 ghost use Rattle.tenant_tables.specs.StandsIn.{StandsIn};
-ghost use Rattle.tree_build.specs.Grafts.{tree_fault};
-ghost use Rattle.tree_build.specs.StoredFiles.{tree_of_commit};
+ghost use Rattle.file_maps.specs.Grafts.{tree_fault};
+ghost use Rattle.file_maps.specs.StoredFiles.{tree_of_commit};
 ghost use Rattle.open_commits.specs.OpenCommit.{commit_held, shown_in, tree_known, IsHeld};
 ghost use Rattle.open_commits.specs.Parents.{started_from, merged};
 ghost use Rattle.open_commits.specs.Calls.{Changes};
@@ -20,9 +20,8 @@ use crate::open_commit::OpenCommit;
 use content_pool::Pool;
 use git_objects::{Name, Naming, read_commit};
 use git_paths::Path;
-use objects_in_sight::Objects;
 use std::alloc::Global;
-use tenant_tables::{Sight, Table};
+use tenant_tables::{Objects, Sight, Table};
 
 /// How many parents a commit may have.
 pub const PARENTS_LIMIT: usize = 1024;

@@ -12,10 +12,10 @@ ghost use Rattle.open_commits.specs.Calls.{AddsOnly, Gives};
 use crate::fault::Fault;
 use crate::open_commit::OpenCommit;
 use content_pool::Pool;
+use file_maps::Entry;
 use git_objects::{FileMode, Naming};
 use git_paths::Path;
 use tenant_tables::Table;
-use tree_build::Entry;
 
 impl OpenCommit {
     /// `ls` with a path alone: what stands there, if anything; the root is always a directory. The

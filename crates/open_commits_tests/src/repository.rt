@@ -2,8 +2,8 @@
 
 use crate::taking::{answers, begin_on, code_of, files_left, put_back, taken};
 use crate::words::{header_with, is, long_path, mark_of, mode, number, object, path_of, word};
-use branch_trees::Files;
 use content_pool::Pool;
+use file_maps::Entry;
 use git_objects::{FileMode, Kind, Name, Naming, Sha1Naming};
 use git_paths::Path;
 use indexmap::IndexMap;
@@ -12,7 +12,7 @@ use std::alloc::Global;
 use std::marker::Model;
 use stream_grammar::{DataRef, Mark};
 use tenant_tables::{Fault, Table};
-use tree_build::Entry;
+use tree_build::Files;
 
 /// What happens, in words and as steps over an empty repository.
 pub struct Case {

@@ -4,14 +4,14 @@
 
 ghost use Rattle.std.specs.Prelude.{◌≡◌, ◌≢◌, List, None, Err, IsTrue, IfSome};
 ghost use Rattle.git_model.specs.Repository.{Object as StoredObject};
-ghost use Rattle.branch_trees.specs.Branch.{IsBranch};
+ghost use Rattle.tree_build.specs.Branch.{IsBranch};
 ghost use Rattle.open_commits.specs.declared.fault.Fault.TheVariants as fault;
 ghost use Rattle.open_commits.specs.OpenCommit.{IsHeld};
 
-use branch_trees::Files;
 use open_commits::{Fault, Header, OpenCommit};
 use std::alloc::Global;
 use std::mem;
+use tree_build::Files;
 
 /// The number of an answer, 0 where nothing is refused, and 90 for want of memory, which no step asks
 /// for.

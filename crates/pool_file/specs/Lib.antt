@@ -1,5 +1,9 @@
 -- In reading order.
-pub mod Repositories
-pub mod Saved
-pub mod Saving
-pub mod Judging
+pub mod Refs
+pub mod Loading
+pub mod Building
+pub mod Tables
+pub mod Listing
+pub mod Worth
+pub mod Lent
+pub mod Saves

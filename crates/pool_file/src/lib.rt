@@ -1,10 +1,26 @@
-//! The pool file: all repositories of a service in one file.
+//! The pool file: all repositories of a service in one file, loaded and saved.
 //!
-//! Which repositories have a file, which bytes it has, and which repositories a file says; and a
-//! file is read and judged.
+//! A load makes one pool of all contents, and a table and refs for each tenant. A save copies no
+//! content: it first plans what is written, as the contents in the order of the file and each
+//! tenant's numbers in it, and then writes it.
 #![tactic(auto)]
 
-mod judged;
-pub mod laws;
+mod building;
+mod content;
+mod contents;
+mod listing;
+mod loading;
+mod order;
+mod plan;
+mod raw_refs;
+mod refs;
+mod saving;
+mod tables;
+mod tenant;
+mod tenant_view;
+mod tenants;
 
-pub use judged::{Judged, read_judged};
+pub use loading::load;
+pub use saving::{save, save_views};
+pub use tenant::Tenant;
+pub use tenant_view::TenantView;

@@ -10,10 +10,10 @@ use Rattle.git_model.specs.Content.{content_from}
 use Rattle.git_model.specs.Tag.{Tag, CanWriteTag, tag_contents}
 use Rattle.git_model.specs.Commit.{Commit, CanWriteCommit, commit_contents}
 use Rattle.git_model.specs.GoodRepository.{IsCommit, IsTag}
-use Rattle.pool_file_text.specs.declared.refusal.Refusal.{Refusal}
-use Rattle.pool_file_text.specs.declared.fault.Fault.{Fault}
-use Rattle.pool_file_text.specs.declared.fault.Fault.TheVariants as fault
-use Rattle.pool_file_text.specs.Format.{RawObject}
+use Rattle.pool_file_format.specs.declared.refusal.Refusal.{Refusal}
+use Rattle.pool_file_format.specs.declared.fault.Fault.{Fault}
+use Rattle.pool_file_format.specs.declared.fault.Fault.TheVariants as fault
+use Rattle.pool_file_format.specs.Format.{RawObject}
 use Rattle.pool_file_checks.specs.Checks.{Checks, Passes, Refuses, Checked}
 use Rattle.pool_file_checks.specs.Objects.{kind_byte, IsText, IsContent, object_key, CanStore, object_checks}
 

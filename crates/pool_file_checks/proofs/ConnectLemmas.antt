@@ -20,7 +20,7 @@ use Rattle.git_model.specs.Modes.{kind_of_mode}
 use Rattle.git_model.specs.References.{Reference, reference, is_reference, tree_references, references_in, place_of, kind_named, object_at, no_object}
 use Rattle.git_model.specs.GoodRepository.{StandsBefore}
 use Rattle.git_model.proofs.Places.{first_place, later_place, first_named, later_named, nothing_named}
-use Rattle.pool_file_text.specs.Format.{RawObject}
+use Rattle.pool_file_format.specs.Format.{RawObject}
 use Rattle.pool_file_checks.specs.Objects.{IsText, CanStore}
 use Rattle.pool_file_checks.specs.Own.{content_of, content_at, Rows, objects_in}
 use Rattle.pool_file_checks.specs.Connecting.{EntryStands}

@@ -6,3 +6,24 @@ pub mod RefLemmas
 pub mod HeldLemmas
 pub mod SumLemmas
 pub mod WholeLemmas
+pub mod Members
+pub mod Keys
+pub mod Rising
+pub mod Numbers
+pub mod Passing
+pub mod FileContents
+pub mod OwnObjects
+pub mod FileRefLemmas
+pub mod Said
+pub mod Found
+pub mod GoodObjects
+pub mod RawTenants
+pub mod Saving
+pub mod Saved
+pub mod OwnTrees
+pub mod OwnGood
+pub mod OwnRefs
+pub mod Savable
+pub mod Texts
+pub mod JudgedFiles
+mod Examples

@@ -9,11 +9,11 @@ use Rattle.std.proofs.lemmas.List.{get_or-map, map-append, take-append-drop}
 use Rattle.git_model.specs.declared.kind.Kind.TheVariants as kind
 use Rattle.git_model.specs.ObjectName.{object_name}
 use Rattle.git_model.specs.Content.{content_from, name_by}
-use Rattle.pool_file_text.specs.declared.raw.RawObject.{RawObject as Read}
-use Rattle.pool_file_text.specs.declared.fault.Fault.{Fault}
-use Rattle.pool_file_text.specs.declared.fault.Fault.TheVariants as fault
-use Rattle.pool_file_text.specs.Format.{RawObject}
-use Rattle.pool_file_text.specs.Shown.{object_of, objects_of}
+use Rattle.pool_file_format.specs.declared.raw.RawObject.{RawObject as Read}
+use Rattle.pool_file_format.specs.declared.fault.Fault.{Fault}
+use Rattle.pool_file_format.specs.declared.fault.Fault.TheVariants as fault
+use Rattle.pool_file_format.specs.Format.{RawObject}
+use Rattle.pool_file_format.specs.Shown.{object_of, objects_of}
 use Rattle.pool_file_checks.specs.Own.{kind_of, content_of, content_at, names_of, Rows, row, rows_of, AreDistinct}
 use Rattle.pool_file_checks.specs.Indexing.{Adds, Indexes}
 

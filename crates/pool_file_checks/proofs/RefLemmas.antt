@@ -5,9 +5,9 @@ use Rattle.git_model.specs.declared.kind.Kind.{Kind}
 use Rattle.git_model.specs.declared.kind.Kind.TheVariants as kind
 use Rattle.git_model.specs.Tag.{Tag, CanWriteTag, tag_contents}
 use Rattle.git_model.specs.GoodRepository.{IsShortRefName}
-use Rattle.pool_file_text.specs.declared.raw.RawRef.{RawRef as Ref}
-use Rattle.pool_file_text.specs.Shown.{refs_of}
-use Rattle.pool_file_text.specs.Format.{RawObject, RawRef}
+use Rattle.pool_file_format.specs.declared.raw.RawRef.{RawRef as Ref}
+use Rattle.pool_file_format.specs.Shown.{refs_of}
+use Rattle.pool_file_format.specs.Format.{RawObject, RawRef}
 use Rattle.pool_file_checks.specs.Objects.{kind_byte}
 use Rattle.pool_file_checks.specs.FileRefs.{IsOwnTag, MayTarget, target_at, IsGoodRef}
 use Rattle.pool_file_checks.proofs.CheckLemmas.{either}

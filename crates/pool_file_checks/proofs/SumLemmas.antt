@@ -19,11 +19,11 @@ use Rattle.tenant_tables.specs.declared.summary.Summary.{Summary}
 use Rattle.tenant_tables.specs.declared.entry.Entry.{Entry}
 use Rattle.tenant_tables.specs.View.{Entries, entry_named, summary_of}
 use Rattle.tenant_tables.specs.Trees.{SummedBehind, no_files, below, one_file, by_mode, both, tree_summary}
-use Rattle.pool_file_text.specs.declared.refusal.Refusal.TheVariants as refusal
-use Rattle.pool_file_text.specs.declared.fault.Fault.{Fault}
-use Rattle.pool_file_text.specs.declared.fault.Fault.TheVariants as fault
+use Rattle.pool_file_format.specs.declared.refusal.Refusal.TheVariants as refusal
+use Rattle.pool_file_format.specs.declared.fault.Fault.{Fault}
+use Rattle.pool_file_format.specs.declared.fault.Fault.TheVariants as fault
 use Rattle.pool_file_checks.specs.Checks.{Checked}
-use Rattle.pool_file_text.specs.Format.{RawObject}
+use Rattle.pool_file_format.specs.Format.{RawObject}
 use Rattle.pool_file_checks.specs.Own.{Rows, content_at, objects_in}
 use Rattle.pool_file_checks.proofs.TenantLemmas.{left_at}
 use Rattle.pool_file_checks.specs.Sums.{AddsSum, EntryFits, Fits, FitsBehind, HasFiles, IsWithin, SameSums, SumWhere, Sums, TreesFit, sum_of_entry, sum_of_tree, sums_behind}

@@ -4,13 +4,13 @@ use Rattle.std.specs.Prelude.{All}
 use Rattle.std.proofs.lemmas.List.{length-map}
 use Rattle.std.proofs.lemmas.List.Elements.{All-nil, All-cons}
 use Rattle.std.specs.List.{IsDistinct}
-use Rattle.pool_file_text.specs.declared.raw.RawObject.{RawObject as Read}
-use Rattle.pool_file_text.specs.declared.raw.RawTenant.{RawTenant as Tenant}
-use Rattle.pool_file_text.specs.declared.refusal.Refusal.TheVariants as refusal
-use Rattle.pool_file_text.specs.declared.fault.Fault.{Fault}
-use Rattle.pool_file_text.specs.declared.fault.Fault.TheVariants as fault
-use Rattle.pool_file_text.specs.Format.{RawObject, RawTenant}
-use Rattle.pool_file_text.specs.Shown.{object_of, objects_of, tenants_of}
+use Rattle.pool_file_format.specs.declared.raw.RawObject.{RawObject as Read}
+use Rattle.pool_file_format.specs.declared.raw.RawTenant.{RawTenant as Tenant}
+use Rattle.pool_file_format.specs.declared.refusal.Refusal.TheVariants as refusal
+use Rattle.pool_file_format.specs.declared.fault.Fault.{Fault}
+use Rattle.pool_file_format.specs.declared.fault.Fault.TheVariants as fault
+use Rattle.pool_file_format.specs.Format.{RawObject, RawTenant}
+use Rattle.pool_file_format.specs.Shown.{object_of, objects_of, tenants_of}
 use Rattle.pool_file_checks.specs.Checks.{Checks, Passes, Checked}
 use Rattle.pool_file_checks.specs.Objects.{object_key, CanStore, object_checks}
 use Rattle.pool_file_checks.specs.Own.{names_of, Rows, rows_of, objects_in, own_objects, AreDistinct}

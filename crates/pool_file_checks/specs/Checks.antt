@@ -1,8 +1,8 @@
 -- Checks in their order, each with the refusal where it fails.
 use Rattle.std.specs.Prelude.{◌≡◌, ◌⊎◌, List, [], ◌∷◌, Result, Ok, Err}
-use Rattle.pool_file_text.specs.declared.refusal.Refusal.{Refusal}
-use Rattle.pool_file_text.specs.declared.fault.Fault.{Fault}
-use Rattle.pool_file_text.specs.declared.fault.Fault.TheVariants as fault
+use Rattle.pool_file_format.specs.declared.refusal.Refusal.{Refusal}
+use Rattle.pool_file_format.specs.declared.fault.Fault.{Fault}
+use Rattle.pool_file_format.specs.declared.fault.Fault.TheVariants as fault
 
 -- What must hold, in order, each with the refusal where it does not.
 abbrev pub Checks : Type 1

@@ -6,8 +6,8 @@ use Rattle.git_model.specs.declared.kind.Kind.TheVariants as kind
 use Rattle.git_model.specs.Tag.{Tag, CanWriteTag, tag_contents}
 use Rattle.git_model.specs.GoodRepository.{IsShortRefName}
 use Rattle.tenant_refs.specs.FullName.{namespaces}
-use Rattle.pool_file_text.specs.declared.refusal.Refusal.TheVariants as refusal
-use Rattle.pool_file_text.specs.Format.{RawObject, RawRef, RawTenant}
+use Rattle.pool_file_format.specs.declared.refusal.Refusal.TheVariants as refusal
+use Rattle.pool_file_format.specs.Format.{RawObject, RawRef, RawTenant}
 use Rattle.pool_file_checks.specs.Checks.{Checks}
 use Rattle.pool_file_checks.specs.Objects.{kind_byte, IsBehind}
 

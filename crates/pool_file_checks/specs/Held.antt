@@ -1,8 +1,8 @@
 -- That each object of a file is a tenant's, which is a rule of this service's own.
 use Rattle.std.specs.Prelude.{◌≡◌, ◌↔◌, ℕ, ◌<◌, Bool, true, false, List, [], ◌∷◌, length, slice_index_or}
 use Rattle.std.specs.List.{flat_map, Contains}
-use Rattle.pool_file_text.specs.declared.refusal.Refusal.TheVariants as refusal
-use Rattle.pool_file_text.specs.Format.{RawTenant}
+use Rattle.pool_file_format.specs.declared.refusal.Refusal.TheVariants as refusal
+use Rattle.pool_file_format.specs.Format.{RawTenant}
 use Rattle.pool_file_checks.specs.Checks.{Checks}
 
 -- All numbers that tenants have.

@@ -2,9 +2,9 @@
 use Rattle.std.specs.Prelude.{◌≡◌, ℕ, List, [], ◌∷◌, ◌++◌, Result, Ok, Err, IsSome}
 use Rattle.std.specs.Map.{lookup}
 use Rattle.std.specs.Str.{bytes_eq}
-use Rattle.pool_file_text.specs.declared.refusal.Refusal.TheVariants as refusal
-use Rattle.pool_file_text.specs.declared.fault.Fault.{Fault}
-use Rattle.pool_file_text.specs.declared.fault.Fault.TheVariants as fault
+use Rattle.pool_file_format.specs.declared.refusal.Refusal.TheVariants as refusal
+use Rattle.pool_file_format.specs.declared.fault.Fault.{Fault}
+use Rattle.pool_file_format.specs.declared.fault.Fault.TheVariants as fault
 use Rattle.pool_file_checks.specs.Own.{Rows, AreDistinct}
 
 -- The rows have one more at their end, under a name that is new; or the name is there.

@@ -12,8 +12,8 @@ use Rattle.git_model.specs.Tag.{Tag}
 use Rattle.git_model.specs.Content.{Content}
 use Rattle.git_model.specs.GoodRepository.{IsCommit, IsTag, contents_limit}
 pub use Rattle.tenant_tables.specs.Sums.{IsTreeText}
-use Rattle.pool_file_text.specs.declared.refusal.Refusal.TheVariants as refusal
-use Rattle.pool_file_text.specs.Format.{RawObject}
+use Rattle.pool_file_format.specs.declared.refusal.Refusal.TheVariants as refusal
+use Rattle.pool_file_format.specs.Format.{RawObject}
 use Rattle.pool_file_checks.specs.Checks.{Checks}
 
 -- The byte of a kind.

@@ -7,7 +7,7 @@ use Rattle.git_model.specs.declared.kind.Kind.{Kind}
 use Rattle.git_model.specs.declared.kind.Kind.TheVariants as kind
 use Rattle.git_model.specs.Content.{Content, content_from, name_by}
 use Rattle.git_model.specs.Repository.{Object}
-use Rattle.pool_file_text.specs.Format.{RawObject}
+use Rattle.pool_file_format.specs.Format.{RawObject}
 
 -- The kind of a byte; one that is no kind's says nothing, and is a blob's.
 abbrev pub kind_of : ℕ → Kind

@@ -7,9 +7,9 @@ use Rattle.git_model.specs.declared.kind.Kind.{Kind}
 use Rattle.git_model.specs.Tree.{TreeEntry}
 use Rattle.tenant_tables.specs.declared.summary.Summary.{Summary}
 pub use Rattle.tenant_tables.specs.Sums.{Sums, sum_of_entry, sum_of_tree, HasFiles, IsWithin, FitsBehind, Fits, sums_behind, TreesFit}
-use Rattle.pool_file_text.specs.declared.refusal.Refusal.TheVariants as refusal
-use Rattle.pool_file_text.specs.declared.fault.Fault.{Fault}
-use Rattle.pool_file_text.specs.declared.fault.Fault.TheVariants as fault
+use Rattle.pool_file_format.specs.declared.refusal.Refusal.TheVariants as refusal
+use Rattle.pool_file_format.specs.declared.fault.Fault.{Fault}
+use Rattle.pool_file_format.specs.declared.fault.Fault.TheVariants as fault
 
 -- The sum where this holds, and none where it does not.
 abbrev pub SumWhere : Type 0 → Summary → Option Summary → Type 0

@@ -4,8 +4,8 @@ use Rattle.std.specs.Prelude.{◌≡◌, ◌≢◌, ◌⊎◌, ℕ, ◌<◌, ◌
 use Rattle.git_model.specs.RefStore.{first_head}
 use Rattle.git_model.specs.GoodRepository.{objects_limit, refs_limit}
 use Rattle.tenant_refs.specs.TenantName.{IsTenantName}
-use Rattle.pool_file_text.specs.declared.refusal.Refusal.TheVariants as refusal
-use Rattle.pool_file_text.specs.Format.{RawTenant}
+use Rattle.pool_file_format.specs.declared.refusal.Refusal.TheVariants as refusal
+use Rattle.pool_file_format.specs.Format.{RawTenant}
 use Rattle.pool_file_checks.specs.Checks.{Checks}
 use Rattle.pool_file_checks.specs.Objects.{IsBehind}
 

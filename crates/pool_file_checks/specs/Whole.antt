@@ -1,7 +1,7 @@
 -- All checks of a file, in their order. The rules are this service's own.
 use Rattle.std.specs.Prelude.{ℕ, List, [], ◌∷◌, ◌++◌, length, Option, None, Some}
-use Rattle.pool_file_text.specs.declared.refusal.Refusal.TheVariants as refusal
-use Rattle.pool_file_text.specs.Format.{RawObject, RawTenant, RawFile}
+use Rattle.pool_file_format.specs.declared.refusal.Refusal.TheVariants as refusal
+use Rattle.pool_file_format.specs.Format.{RawObject, RawTenant, RawFile}
 use Rattle.pool_file_checks.specs.Checks.{Checks}
 use Rattle.pool_file_checks.specs.Objects.{object_checks}
 use Rattle.pool_file_checks.specs.Own.{names_of, rows_of, own_objects, AreDistinct}

@@ -3,9 +3,9 @@
 ghost use Rattle.std.specs.Prelude.{◌≡◌, ◌↔◌, ◌++◌, [], ◌∷◌, ℕ, List, length, true, IsTrue, All, IfOk};
 ghost use Rattle.pool_file_checks.specs.Checks.{Checked};
 ghost use Rattle.pool_file_checks.specs.Held.{AreMarked, held_checks};
-ghost use Rattle.pool_file_text.specs.Shown.{tenants_of};
+ghost use Rattle.pool_file_format.specs.Shown.{tenants_of};
 
-use pool_file_text::{Fault, RawTenant, Refusal};
+use pool_file_format::{Fault, RawTenant, Refusal};
 use std::alloc::Global;
 
 // Sets the flag of a number, if it has one.

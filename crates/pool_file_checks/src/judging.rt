@@ -7,11 +7,11 @@ ghost use Rattle.std.specs.Cmp.Lexicographic.{slice_cmp};
 ghost use Rattle.std.specs.declared.cmp.Ordering.TheVariants.{Less};
 ghost use Rattle.pool_file_checks.specs.Checks.{Checked};
 ghost use Rattle.pool_file_checks.specs.Objects.{CanStore, IsBehind, object_key, object_checks};
-ghost use Rattle.pool_file_text.specs.Shown.{object_of, objects_of};
+ghost use Rattle.pool_file_format.specs.Shown.{object_of, objects_of};
 
 use crate::contents::{is_content, kind_from};
 use git_objects::Memory;
-use pool_file_text::{Fault, RawObject, Refusal};
+use pool_file_format::{Fault, RawObject, Refusal};
 use std::alloc::Global;
 use std::cmp::Ordering;
 

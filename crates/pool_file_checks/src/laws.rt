@@ -1,10 +1,15 @@
-//! Laws of the checks: functions over the definitions alone, which run nothing.
+//! Laws of pool files and of their checks: functions over the definitions alone, which run nothing.
 
-ghost use Rattle.std.specs.Prelude.{◌≡◌, ℕ, List, None};
-ghost use Rattle.pool_file_text.specs.Format.{RawObject, RawFile};
+ghost use Rattle.std.specs.Prelude.{◌≡◌, ℕ, List, None, ◌<◌, [], All, Ok};
+ghost use Rattle.pool_file_format.specs.Format.{RawObject, RawFile, FitsFile};
 ghost use Rattle.pool_file_checks.specs.Checks.{Passes, Refuses};
 ghost use Rattle.pool_file_checks.specs.Objects.{object_checks};
 ghost use Rattle.pool_file_checks.specs.Whole.{file_checks};
+ghost use Rattle.git_names.specs.Naming.{AnswersNames};
+ghost use Rattle.pool_file_format.specs.Lengths.{sealed_at};
+ghost use Rattle.pool_file_checks.specs.Repositories.{Named, raw_of};
+ghost use Rattle.pool_file_checks.specs.Saved.{saved_in};
+ghost use Rattle.pool_file_checks.specs.Saving.{CanSave, IsTextOf};
 
 /// Of the checks of objects one refusal at most is the first, and none where all hold.
 pub fn one_refusal_is_first()
@@ -21,4 +26,40 @@ pub fn one_refusal_of_a_file_is_first()
         → Refuses (file_checks digest f) s → r ≡ s }
     ensures none { (digest : List ℕ → List ℕ) (f : RawFile) (r : _) → Passes (file_checks digest f)
         → Refuses (file_checks digest f) r → ⊥ }
+{}
+
+/// What a good file says are repositories that have this file.
+pub fn what_is_said_is_saved()
+    ensures file { (digest : List ℕ → List ℕ) (f : RawFile) → Passes (file_checks digest f)
+        → raw_of f.version (saved_in digest f) ≡ f }
+{}
+
+/// The file of repositories is good, and says them.
+pub fn what_is_saved_is_said()
+    ensures passes { (version : ℕ) (digest : List ℕ → List ℕ) (all : List Named)
+        → CanSave version digest all → Passes (file_checks digest (raw_of version all)) }
+    ensures again { (version : ℕ) (digest : List ℕ → List ℕ) (all : List Named)
+        → CanSave version digest all → saved_in digest (raw_of version all) ≡ all }
+{}
+
+/// What a good file says can be saved in its version, where objects are named by 20 bytes.
+pub fn what_is_said_can_be_saved()
+    ensures said { (digest : List ℕ → List ℕ) (f : RawFile) → AnswersNames digest → FitsFile f
+        → Passes (file_checks digest f) → CanSave f.version digest (saved_in digest f) }
+{}
+
+/// What is read as a good file is a text of the repositories that it says; each text is read as the
+/// repositories that it is a text of, and is a text of no others.
+pub fn texts_are_read()
+    ensures found { (digest : List ℕ → List ℕ) (bytes : List ℕ) (f : RawFile)
+        → AnswersNames digest → All (λ byte. byte < 256) bytes
+        → sealed_at digest bytes ≡ Ok (f, []) → Passes (file_checks digest f)
+        → IsTextOf digest (saved_in digest f) bytes }
+    ensures again { (digest : List ℕ → List ℕ) (all : List Named) (bytes : List ℕ)
+        → AnswersNames digest → IsTextOf digest all bytes
+        → (f : RawFile) × (sealed_at digest bytes ≡ Ok (f, []))
+        × Passes (file_checks digest f) × (saved_in digest f ≡ all) }
+    ensures one { (digest : List ℕ → List ℕ) (all others : List Named) (bytes : List ℕ)
+        → AnswersNames digest → IsTextOf digest all bytes → IsTextOf digest others bytes
+        → all ≡ others }
 {}

@@ -1,11 +1,12 @@
-//! What a pool file may say: the checks of its objects and of each tenant, in their order.
+//! What a pool file may say, and which repositories it says.
 //!
-//! What is judged are raw values, as they were read. Nothing here reads or writes a file, and
-//! nothing knows a pool or a table.
+//! The checks of its objects and of each tenant stand in their order; `read_judged` reads a file and
+//! judges it. Nothing here knows a pool or a table.
 #![tactic(auto)]
 
 mod contents;
 mod held;
+mod judged;
 mod judging;
 pub mod laws;
 mod naming;
@@ -20,6 +21,7 @@ mod tenants;
 mod whole;
 
 pub use held::check_held;
+pub use judged::{Judged, read_judged};
 pub use judging::check_objects;
 pub use naming::{kind_of, name_objects};
 pub use own::index_objects;

@@ -3,11 +3,11 @@
 ghost use Rattle.std.specs.Prelude.{◌≡◌, IfOk};
 ghost use Rattle.git_model.specs.Content.{content_from};
 ghost use Rattle.pool_file_checks.specs.Own.{kind_of, content_at, names_of};
-ghost use Rattle.pool_file_text.specs.Shown.{objects_of};
+ghost use Rattle.pool_file_format.specs.Shown.{objects_of};
 
 use git_names::{Memory, Name, Naming, name_of};
 use git_objects::Kind;
-use pool_file_text::RawObject;
+use pool_file_format::RawObject;
 use std::alloc::Global;
 
 /// The kind of a byte that is one's; every other is a blob's.

@@ -3,11 +3,11 @@
 ghost use Rattle.std.specs.Prelude.{◌<◌, [], length, All, slice_index_or};
 ghost use Rattle.pool_file_checks.specs.Own.{rows_of};
 ghost use Rattle.pool_file_checks.specs.Indexing.{Adds, Indexes};
-ghost use Rattle.pool_file_text.specs.Taking.{shown};
+ghost use Rattle.pool_file_format.specs.Taking.{shown};
 
 use git_names::Name;
 use indexmap::IndexMap;
-use pool_file_text::{Fault, Refusal};
+use pool_file_format::{Fault, Refusal};
 use std::alloc::Global;
 
 // Adds the number of an object under its name, unless another object has it.

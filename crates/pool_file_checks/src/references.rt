@@ -7,15 +7,15 @@ ghost use Rattle.pool_file_checks.specs.Checks.{Checked};
 ghost use Rattle.pool_file_checks.specs.Connecting.{AreConnected};
 ghost use Rattle.pool_file_checks.specs.Objects.{IsText, CanStore};
 ghost use Rattle.pool_file_checks.specs.Own.{objects_in};
-ghost use Rattle.pool_file_text.specs.Shown.{objects_of};
-ghost use Rattle.pool_file_text.specs.declared.refusal.Refusal.TheVariants as refusal;
+ghost use Rattle.pool_file_format.specs.Shown.{objects_of};
+ghost use Rattle.pool_file_format.specs.declared.refusal.Refusal.TheVariants as refusal;
 
 use crate::naming::content_at;
 use crate::standing::{commit_stands, entries_stand, stands_before};
 use git_names::Name;
 use git_objects::{Kind, Memory, read_commit, read_tag, read_tree};
 use indexmap::IndexMap;
-use pool_file_text::{Fault, RawObject, Refusal};
+use pool_file_format::{Fault, RawObject, Refusal};
 use std::alloc::Global;
 
 fn tree_is_connected(

@@ -4,12 +4,12 @@ ghost use Rattle.std.specs.Prelude.{◌↔◌, ◌<◌, map, IfOk, IsTrue, All, 
 ghost use Rattle.tenant_refs.specs.FullName.{namespaces as namespaces_of};
 ghost use Rattle.pool_file_checks.specs.Checks.{Checked};
 ghost use Rattle.pool_file_checks.specs.FileRefs.{IsGoodRef, AreRising, ref_checks};
-ghost use Rattle.pool_file_text.specs.Shown.{objects_of, ref_of, refs_of, tenant_of};
+ghost use Rattle.pool_file_format.specs.Shown.{objects_of, ref_of, refs_of, tenant_of};
 
 use crate::order::is_behind;
 use crate::targets::{is_short_ref_name, may_stand, target_at};
 use git_objects::Memory;
-use pool_file_text::{Fault, RawObject, RawRef, RawTenant, Refusal};
+use pool_file_format::{Fault, RawObject, RawRef, RawTenant, Refusal};
 use std::alloc::Global;
 use tenant_refs::namespaces;
 

@@ -7,13 +7,13 @@ ghost use Rattle.git_model.specs.GoodRepository.{StandsBefore};
 ghost use Rattle.git_objects.specs.Parts.{entry_of, entries_of, commit_of};
 ghost use Rattle.pool_file_checks.specs.Connecting.{EntryStands};
 ghost use Rattle.pool_file_checks.specs.Own.{content_at, objects_in};
-ghost use Rattle.pool_file_text.specs.Shown.{objects_of};
+ghost use Rattle.pool_file_format.specs.Shown.{objects_of};
 
 use crate::naming::content_at;
 use git_names::Name;
 use git_objects::{CommitParts, FileMode, Kind, TreeEntry, kind_of_mode};
 use indexmap::IndexMap;
-use pool_file_text::RawObject;
+use pool_file_format::RawObject;
 
 // Whether the object of a number is of a kind.
 fn is_kind(objects: &[RawObject], number: usize, kind: Kind) -> bool

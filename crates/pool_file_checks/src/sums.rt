@@ -7,13 +7,13 @@ ghost use Rattle.tenant_tables.specs.Trees.{no_files, below, one_file, both};
 ghost use Rattle.pool_file_checks.specs.Checks.{Checked};
 ghost use Rattle.pool_file_checks.specs.Own.{objects_in};
 ghost use Rattle.pool_file_checks.specs.Sums.{AddsSum, EntryFits, Fits, FitsBehind, IsWithin, SumWhere, TreesFit, sum_of_entry, sum_of_tree};
-ghost use Rattle.pool_file_text.specs.Shown.{objects_of};
+ghost use Rattle.pool_file_format.specs.Shown.{objects_of};
 
 use crate::naming::content_at;
 use git_names::Name;
 use git_objects::{FileMode, Kind, Memory, TreeEntry, read_tree};
 use indexmap::IndexMap;
-use pool_file_text::{Fault, RawObject, Refusal};
+use pool_file_format::{Fault, RawObject, Refusal};
 use std::alloc::Global;
 use tenant_tables::Summary;
 

@@ -6,12 +6,12 @@ ghost use Rattle.git_model.specs.Content.{content_from};
 ghost use Rattle.git_model.specs.GoodRepository.{IsShortRefName};
 ghost use Rattle.pool_file_checks.specs.FileRefs.{IsOwnTag, MayTarget, target_at};
 ghost use Rattle.pool_file_checks.specs.Objects.{raw_object};
-ghost use Rattle.pool_file_text.specs.Shown.{object_of, objects_of};
+ghost use Rattle.pool_file_format.specs.Shown.{object_of, objects_of};
 
 use crate::contents::kind_from;
 use git_names::{REF_NAME_LIMIT, is_ref_name};
 use git_objects::{Kind, Memory, read_tag};
-use pool_file_text::RawObject;
+use pool_file_format::RawObject;
 use std::alloc::Global;
 
 /// The object at a place of a tenant's, where there is one.

@@ -5,10 +5,10 @@ ghost use Rattle.std.specs.Option.{option_map};
 ghost use Rattle.git_model.specs.RefStore.{first_head};
 ghost use Rattle.pool_file_checks.specs.Checks.{Checked};
 ghost use Rattle.pool_file_checks.specs.Tenants.{IsNameIn, IsWorthSaving, name_checks, number_checks};
-ghost use Rattle.pool_file_text.specs.Shown.{tenant_of};
+ghost use Rattle.pool_file_format.specs.Shown.{tenant_of};
 
 use crate::order::is_behind;
-use pool_file_text::{Fault, RawTenant, Refusal};
+use pool_file_format::{Fault, RawTenant, Refusal};
 use tenant_refs::{FIRST_HEAD, is_tenant_name};
 
 // How many objects and refs a tenant may have.

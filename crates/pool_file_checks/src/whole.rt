@@ -7,7 +7,7 @@ ghost use Rattle.pool_file_checks.specs.Checks.{Passes, Checked};
 ghost use Rattle.pool_file_checks.specs.Objects.{CanStore};
 ghost use Rattle.pool_file_checks.specs.Own.{names_of};
 ghost use Rattle.pool_file_checks.specs.Whole.{own_checks, one_tenant_checks, tenant_checks, file_checks};
-ghost use Rattle.pool_file_text.specs.Shown.{objects_of, tenant_of, tenants_of, file_of};
+ghost use Rattle.pool_file_format.specs.Shown.{objects_of, tenant_of, tenants_of, file_of};
 
 use crate::held::check_held;
 use crate::judging::check_objects;
@@ -17,7 +17,7 @@ use crate::refs::check_refs;
 use crate::sums::check_sums;
 use crate::tenants::{check_name, check_numbers};
 use git_names::Name;
-use pool_file_text::{Fault, RawFile, RawObject, RawTenant};
+use pool_file_format::{Fault, RawFile, RawObject, RawTenant};
 use std::alloc::Global;
 
 // Whether these are the same numbers.

@@ -3,7 +3,7 @@
 use crate::parts::{code_of, number_of, printed};
 use byte_devices::{Counted, DeviceFault, FailingReader, FailingWriter};
 use git_names::TailNaming;
-use pool_file_text::{Fault, RawFile, read_sealed, write_sealed};
+use pool_file_format::{Fault, RawFile, read_sealed, write_sealed};
 use std::alloc::Global;
 use std::io::Read;
 

@@ -4,7 +4,7 @@ use crate::parts::{Named, Object, code_of, with_names};
 use git_names::{Name, Naming};
 use indexmap::IndexMap;
 use pool_file_checks::{check_references, check_sums, index_objects};
-use pool_file_text::{Fault, RawObject};
+use pool_file_format::{Fault, RawObject};
 use std::alloc::Global;
 
 /// A check of the objects of a tenant.

@@ -4,8 +4,8 @@ use crate::files::{VERSION_1, VERSION_2, changed};
 use crate::parts::{code_of, number_of};
 use byte_devices::Counted;
 use git_names::TailNaming;
-use pool_file::read_judged;
-use pool_file_text::{Fault, Starting};
+use pool_file_checks::read_judged;
+use pool_file_format::{Fault, Starting};
 use std::alloc::Global;
 
 // What is answered where one byte of version 1 is greater by one and the digest is made right,

@@ -5,7 +5,7 @@ use crate::files::VERSION_2;
 use crate::parts::printed;
 use byte_devices::{Counted, DeviceFault, FailingWriter};
 use git_names::TailNaming;
-use pool_file_text::{Fault, LentObject, RawFile, RawObject, read_sealed, write_lent};
+use pool_file_format::{Fault, LentObject, RawFile, RawObject, read_sealed, write_lent};
 use std::alloc::{AllocError, Global};
 use std::io::Write;
 

@@ -6,7 +6,7 @@
 //! the lines after it show.
 
 use crate::parts::{Object, number_of, push_object, tenant_of};
-use pool_file_text::{Fault, RawFile, RawObject, RawRef, RawTenant};
+use pool_file_format::{Fault, RawFile, RawObject, RawRef, RawTenant};
 use std::alloc::Global;
 
 // The names in these contents are those that `git hash-object` gave.

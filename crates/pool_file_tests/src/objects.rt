@@ -2,7 +2,7 @@
 
 use crate::parts::{Object, code_of, objects_of};
 use pool_file_checks::check_objects;
-use pool_file_text::Fault;
+use pool_file_format::Fault;
 use std::alloc::Global;
 
 // Objects, and the number of the refusal, 0 for none.

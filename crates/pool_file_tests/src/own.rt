@@ -5,7 +5,7 @@ use crate::parts::{Object, with_names};
 use git_names::{Name, Naming, Sha1Naming, TailNaming};
 use indexmap::IndexMap;
 use pool_file_checks::index_objects;
-use pool_file_text::Fault;
+use pool_file_format::Fault;
 use std::alloc::Global;
 
 const OBJECTS: &[Object<'static>] = &[

@@ -3,7 +3,7 @@
 use byte_devices::Counted;
 use git_names::{Name, Naming};
 use pool_file_checks::name_objects;
-use pool_file_text::{Fault, RawFile, RawObject, RawTenant, Starting, write_sealed};
+use pool_file_format::{Fault, RawFile, RawObject, RawTenant, Starting, write_sealed};
 use std::alloc::Global;
 
 /// The byte of a kind, and contents.

@@ -5,7 +5,7 @@ use crate::parts::{Object, code_of};
 use git_names::{Kind, Name, Sha1Naming, name_of};
 use indexmap::IndexMap;
 use pool_file_checks::check_sums;
-use pool_file_text::{Fault, RawObject};
+use pool_file_format::{Fault, RawObject};
 use std::alloc::Global;
 
 // The names in these contents are those that `git mktree` gave.

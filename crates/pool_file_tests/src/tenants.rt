@@ -3,7 +3,7 @@
 use crate::lines::push_ref;
 use crate::parts::{Object, code_of, objects_of, tenant_of};
 use pool_file_checks::{check_held, check_name, check_numbers, check_refs};
-use pool_file_text::{Fault, RawObject, RawRef, RawTenant};
+use pool_file_format::{Fault, RawObject, RawRef, RawTenant};
 use std::alloc::Global;
 
 const MAIN: &[u8] = b"refs/heads/main";

@@ -5,7 +5,7 @@ use crate::lines::{code_in, file_of, is_row};
 use crate::parts::{code_of, printed};
 use git_names::Sha1Naming;
 use pool_file_checks::{check_file, name_objects};
-use pool_file_text::{Fault, RawFile};
+use pool_file_format::{Fault, RawFile};
 use std::alloc::Global;
 
 // Files as module `lines` reads them.

@@ -1,10 +1,10 @@
 -- A text is parted at the first place of a part.
-use Rattle.std.proofs.Common.{◌≡◌, ◌≢◌, ℕ, ◌+◌, ◌<◌, ◌≤◌, true, false, Bool, List, [], ◌∷◌, ◌++◌, length, take, drop, Option, Some, None, is_some, nat_eq, refl, sym, ap, subst, ◌∙◌, append_assoc, arith}
+use Rattle.std.proofs.Common.{◌≡◌, ◌≢◌, ℕ, ◌+◌, ◌≤◌, true, false, Bool, List, [], ◌∷◌, ◌++◌, length, take, drop, Some, None, is_some, nat_eq, refl, sym, ap, subst, ◌∙◌, append_assoc, arith}
 use Rattle.std.specs.Prelude.{◌↔◌, codes}
 use Rattle.std.specs.List.{starts_with}
 use Rattle.std.specs.Option.{option_map}
 use Rattle.std.proofs.lemmas.List.{append_cancel_left, drop_at, length-append, take_at}
-use Rattle.git_model.specs.Bytes.{BeginsWith, Holds, holds}
+use Rattle.git_model.specs.Bytes.{BeginsWith, Holds}
 use Rattle.git_model.proofs.Texts.{begins_test, holds_test}
 use Rattle.revisions.specs.declared.commit_range.Range.TheVariants.{From}
 use Rattle.revisions.specs.ExpressionReading.{before_both, dotted, expression_of, parted, range_from, range_of, IsPartedAtFirst}

@@ -2,7 +2,7 @@
 use Rattle.std.specs.Prelude.{ℕ, List, Result, Ok}
 use Rattle.git_model.specs.RefStore.{RefStore}
 use Rattle.git_model.specs.Repository.{Object}
-use Rattle.commit_reach.specs.Logs.{log_of}
+use Rattle.commit_walk.specs.Logs.{log_of}
 use Rattle.revisions.specs.declared.fault.Fault.{Fault}
 use Rattle.revisions.specs.declared.fault.Fault.TheVariants as fault
 use Rattle.revisions.specs.declared.commit_range.Range.{Range}

@@ -9,10 +9,9 @@ ghost use Rattle.revisions.specs.Resolution.{is_head, ref_meant_by, only_one, ab
 
 use crate::fault::Fault;
 use git_objects::{Memory, Name, Naming};
-use objects_in_sight::Objects;
 use std::alloc::Global;
 use tenant_refs::Refs;
-use tenant_tables::Found;
+use tenant_tables::{Found, Objects};
 
 // Whether a base stands for the ref that HEAD names.
 fn is_head(base: &[u8]) -> bool

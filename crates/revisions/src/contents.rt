@@ -12,7 +12,7 @@ ghost use Rattle.git_model.specs.Tree.{TreeEntry as Entry, CanWriteTree, tree_co
 ghost use Rattle.git_model.specs.TreeReading.{tree_read};
 ghost use Rattle.git_objects.specs.Parts.{entry_of, entries_of};
 
-use commit_reach::first_parent_in;
+use commit_walk::first_parent_in;
 use git_objects::{Memory, Name, TreeEntry, read_commit, read_tag, read_tree};
 use std::alloc::Global;
 

@@ -10,9 +10,9 @@ ghost use Rattle.revisions.specs.Resolution.{nth_ancestor};
 use crate::fault::Fault;
 use crate::parents::nth_parent;
 use git_objects::{Memory, Name, Naming};
-use objects_in_sight::Objects;
 use std::alloc::Global;
 use std::marker::Model;
+use tenant_tables::Objects;
 
 /// The commits that the last walk along first parents met, from the one that it began at on. The
 /// next walk that begins there looks them up, and goes on after the last.

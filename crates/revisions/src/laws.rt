@@ -1,4 +1,5 @@
-//! Laws of how expressions and ranges are read: functions over the definitions alone, which run nothing.
+//! Laws of how expressions and ranges are read: functions over the definitions alone, which run
+//! nothing.
 
 ghost use Rattle.std.specs.Prelude.{◌≡◌, ◌≢◌, ◌↔◌, ◌++◌, [], List, ℕ, None, Some, codes, false};
 ghost use Rattle.std.specs.List.{list_any, flat_map, AllByRecursion};

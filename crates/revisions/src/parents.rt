@@ -10,8 +10,8 @@ ghost use Rattle.revisions.specs.Resolution.{nth_parent};
 use crate::contents::parent_in;
 use crate::fault::Fault;
 use git_objects::{Kind, Memory, Name, Naming};
-use objects_in_sight::Objects;
 use std::alloc::Global;
+use tenant_tables::Objects;
 
 // The parent at a position of an object of this kind with these contents.
 fn parent_from(

@@ -12,8 +12,8 @@ ghost use Rattle.revisions.specs.Resolution.{peeled, peeled_untagged};
 use crate::contents::{target_in, tree_in};
 use crate::fault::Fault;
 use git_objects::{Kind, Memory, Name, Naming};
-use objects_in_sight::Objects;
 use std::alloc::Global;
+use tenant_tables::Objects;
 
 // Whether there is an object of this name and of this kind.
 fn is_of<N: Naming>(objects: &Objects<'_, N>, wanted: Kind, id: &Name) -> bool

@@ -17,13 +17,12 @@ use crate::fault::Fault;
 use crate::first_parents::FirstParentChain;
 use crate::range_reading::read_range;
 use crate::resolving::resolve_commit;
-use commit_reach::{log_of, reached_from};
+use commit_walk::{log_of, reached_from};
 use content_pool::Pool;
 use git_objects::{Kind, Memory, Name, Naming};
-use objects_in_sight::Objects;
 use std::alloc::Global;
 use tenant_refs::Refs;
-use tenant_tables::{Sight, Table};
+use tenant_tables::{Objects, Sight, Table};
 
 /// The commits of the range that a text is, among the objects of a table that are in sight:
 /// `read_range`, and then `resolve_range`.

@@ -21,10 +21,9 @@ use crate::suffix::Suffix;
 use content_pool::Pool;
 use git_objects::{FileMode, Kind, Name, Naming, TreeEntry};
 use git_paths::Path;
-use objects_in_sight::Objects;
 use std::alloc::Global;
 use tenant_refs::Refs;
-use tenant_tables::{Sight, Table};
+use tenant_tables::{Objects, Sight, Table};
 
 // The object at a path of a tree. A path past the limits has none.
 #[tactic(auto, unfolding(crate::specs::Resolution::at_path))]

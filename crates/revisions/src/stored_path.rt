@@ -12,8 +12,8 @@ ghost use Rattle.git_objects.specs.Parts.{entry_of};
 use crate::contents::entry_in;
 use git_objects::{FileMode, Kind, Memory, Name, Naming, TreeEntry};
 use git_paths::Path;
-use objects_in_sight::Objects;
 use std::alloc::Global;
+use tenant_tables::Objects;
 
 // The entry of this name in an object of this kind with these contents.
 fn entry_from<'a>(

@@ -1,1 +1,5 @@
+-- In reading order.
 pub mod Faults
+pub mod Frames
+pub mod FrameFaults
+pub mod Reading

@@ -27,7 +27,8 @@ use Rattle.tenant_service.specs.declared.tenant.Tenant.{Tenant}
 use Rattle.tenant_service.specs.Alone.{Call, Turn, turn}
 use Rattle.tenant_stream.specs.Carrying.{HasAmpleRoom}
 use Rattle.tenant_service.specs.Headline.{stop_told}
-use Rattle.tenant_service.specs.Holding.{Holding, Idle, Busy, empty_repository, held_of, step_held}
+use Rattle.tenant_service.specs.Holding.{Holding, Idle, Busy, empty_repository, held_of}
+use Rattle.tenant_service.specs.HeldSteps.{step_held}
 use Rattle.tenant_service.specs.Tenants.{Tenants, Stands, HoldsIn, kept_tail, held_in, holding_in, holdings, all_held, Accounts}
 use Rattle.tenant_service.specs.OneStep.{Takes, store, Serves}
 

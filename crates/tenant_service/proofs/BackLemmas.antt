@@ -12,11 +12,12 @@ use Rattle.git_model.specs.Repository.{Object}
 use Rattle.content_pool.specs.Pool.{Cells}
 use Rattle.tenant_refs.specs.TenantName.{is_tenant_name}
 use Rattle.import_session.specs.Stream.{Runs, Refused}
-use Rattle.pool_file.specs.Repositories.{Named, contents_of, file_text}
-use Rattle.pool_file.specs.Saving.{IsGood, IsTextOf}
-use Rattle.pool_file.proofs.Members.{Has, has_map, from_map, has_flat_map, of_flat_map}
-use Rattle.pool_file.proofs.Texts.{one_list}
-use Rattle.tenant_service.specs.Holding.{Holding, Holdings, Idle, Busy, empty_repository, held_of, held_contents, held_objects, last_held}
+use Rattle.pool_file_checks.specs.Repositories.{Named, contents_of, file_text}
+use Rattle.pool_file_checks.specs.Saving.{IsGood, IsTextOf}
+use Rattle.pool_file_checks.proofs.Members.{Has, has_map, from_map, has_flat_map, of_flat_map}
+use Rattle.pool_file_checks.proofs.Texts.{one_list}
+use Rattle.tenant_service.specs.Holding.{Holding, Holdings, Idle, Busy, empty_repository, held_of}
+use Rattle.tenant_service.specs.HeldObjects.{held_contents, held_objects, last_held}
 use Rattle.tenant_service.specs.Saved.{last_named, saved_of, repository_of, IsLoadedFrom}
 use Rattle.tenant_service.specs.Tenants.{Tenants, AreSound, holdings}
 use Rattle.tenant_service.proofs.SoundLemmas.{last-sound}

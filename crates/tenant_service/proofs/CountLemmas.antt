@@ -18,10 +18,12 @@ use Rattle.git_model.proofs.Places.{first_place, later_place, first_object, late
 use Rattle.content_pool.specs.Pool.{Cells, holds}
 use Rattle.content_pool.proofs.StoredLemmas.{same_content-decides}
 use Rattle.tenant_tables.specs.View.{held}
-use Rattle.pool_file.proofs.Members.{Has}
+use Rattle.pool_file_checks.proofs.Members.{Has}
 use Rattle.import_session.specs.Stream.{Runs, Refused}
 use Rattle.tenant_service.specs.declared.tenant.Tenant.{Tenant}
-use Rattle.tenant_service.specs.Holding.{Holding, Holdings, Idle, Busy, IsSoundHolding, empty_repository, held_objects, tenants_with}
+use Rattle.tenant_service.specs.Holding.{Holding, Holdings, Idle, Busy, empty_repository}
+use Rattle.tenant_service.specs.Soundness.{IsSoundHolding}
+use Rattle.tenant_service.specs.HeldObjects.{held_objects, tenants_with}
 use Rattle.tenant_service.specs.Tenants.{Tenants, Stands, Accounts, AreSound, CountsTenants, all_held, holding_in, holdings}
 use Rattle.tenant_service.proofs.BackLemmas.{found-once}
 use Rattle.tenant_service.proofs.SlotSums.{over, holds-over, over-same, over-none, over-sum, over-entries}

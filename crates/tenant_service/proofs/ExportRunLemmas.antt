@@ -7,8 +7,8 @@ use Rattle.std.proofs.lemmas.Cmp.{nat_list_cmp_total}
 use Rattle.std.proofs.lemmas.Slice.Eq.{bytes_eq-Decides}
 use Rattle.git_model.specs.Repository.{Repository}
 use Rattle.git_model.specs.RefStore.{RefMap, first_head, listed_refs}
-use Rattle.pool_file.proofs.Keys.{key_cmp, key_exact}
-use Rattle.tree_build.proofs.Apart.{both_true}
+use Rattle.pool_file_checks.proofs.Keys.{key_cmp, key_exact}
+use Rattle.file_maps.proofs.Apart.{both_true}
 use Rattle.tenant_refs.specs.TenantName.{is_tenant_name}
 use Rattle.answers.specs.declared.fault.Fault.{Fault}
 use Rattle.answers.specs.declared.query.Query.TheVariants.{Export}
@@ -29,7 +29,8 @@ use Rattle.git_names.specs.Naming.{AnswersNames}
 use Rattle.tenant_service.specs.Copying.{GoesOn, IsCall, IsFedAndEnded, IsImport, IsExport, HasTaken, copy_refusal, first_refusal, has_nothing, held_refusal}
 use Rattle.tenant_service.specs.Headline.{Told, Run, IsItsOwn, call_of, concerns, left_alone, part_of, steps_of, stop_told, told_alone, told_by, told_to}
 use Rattle.tenant_service.specs.StepName.{name_of}
-use Rattle.tenant_service.specs.Holding.{Holding, Holdings, Idle, Busy, LeadsTo, empty_repository, held_of, last_held}
+use Rattle.tenant_service.specs.Holding.{Holding, Holdings, Idle, Busy, LeadsTo, empty_repository, held_of}
+use Rattle.tenant_service.specs.HeldObjects.{last_held}
 use Rattle.tenant_service.specs.Copies.{CopiesAs, HoldsCopy}
 use Rattle.tenant_service.proofs.ExportLemmas.{EndsWell, end-turn, export-ends, feed-turn}
 use Rattle.tenant_service.specs.Tenants.{AreLed, AreSound}

@@ -5,9 +5,9 @@ use Rattle.std.proofs.lemmas.List.{map-append}
 use Rattle.content_pool.specs.Pool.{Cells}
 use Rattle.tenant_tables.specs.Objects.{objects}
 use Rattle.tenant_tables.specs.StandsIn.{StandsIn}
-use Rattle.pool_file.specs.Repositories.{Named}
-use Rattle.pool_saving.specs.declared.saved.Saved.{Saved}
-use Rattle.pool_saving.specs.Worth.{AllStand, named_in, to_save, worth_saving}
+use Rattle.pool_file_checks.specs.Repositories.{Named}
+use Rattle.pool_file.specs.declared.tenant_view.TenantView.{TenantView}
+use Rattle.pool_file.specs.Worth.{AllStand, named_in, to_save, worth_saving}
 use Rattle.tenant_service.specs.declared.tenant.Tenant.{Tenant}
 use Rattle.tenant_service.specs.Entries.{Parts, parts_lent, parts_of}
 use Rattle.tenant_service.specs.Saved.{last_named, saved_of}
@@ -20,8 +20,8 @@ take-next [] i x h = cc h
 take-next (y ∷ ys) zero x h = let same : y ≡ x = cc h in ap (λ z. z ∷ []) same
 take-next (y ∷ ys) (suc i) x h = ap (λ zs. y ∷ zs) (take-next ys i x h)
 
-pub lent-next : (es : List (List ℕ × Tenant)) (lent more : List Saved) (i : ℕ)
-    (e : List ℕ × Tenant) (s : Saved) → map parts_lent lent ≡ map parts_of (take i es)
+pub lent-next : (es : List (List ℕ × Tenant)) (lent more : List TenantView) (i : ℕ)
+    (e : List ℕ × Tenant) (s : TenantView) → map parts_lent lent ≡ map parts_of (take i es)
     → slice_get es i ≡ Some e → more ≡ lent ++ s ∷ [] → parts_lent s ≡ parts_of e
     → map parts_lent more ≡ map parts_of (take (i + 1) es)
 lent-next es lent more i e s before got is same =
@@ -32,7 +32,7 @@ lent-next es lent more i e s before got is same =
 
 -- ---- what is saved of those that are lent
 
-pub all-stand : (digest : List ℕ → List ℕ) (p : Cells) (es : Tenants) (lent : List Saved)
+pub all-stand : (digest : List ℕ → List ℕ) (p : Cells) (es : Tenants) (lent : List TenantView)
     → AllByRecursion (λ e. Stands digest p e.1) es → map parts_lent lent ≡ map parts_of es
     → AllStand digest p lent
 all-stand digest p es [] all is = tt
@@ -53,7 +53,7 @@ named_by p parts = record {
   };
 }
 
-named-parts : (p : Cells) (lent : List Saved)
+named-parts : (p : Cells) (lent : List TenantView)
     → map (named_in p) lent ≡ map (named_by p) (map parts_lent lent)
 unfolding named_by
 named-parts p [] = refl
@@ -74,7 +74,7 @@ named-last digest p (e ∷ es) all =
       repository = record { objects = objects_are i; refs = refs_are i };
     } ∷ rest i
 
-pub saved-lent : (digest : List ℕ → List ℕ) (p : Cells) (es : Tenants) (lent : List Saved)
+pub saved-lent : (digest : List ℕ → List ℕ) (p : Cells) (es : Tenants) (lent : List TenantView)
     → AllByRecursion (λ e. Stands digest p e.1) es → map parts_lent lent ≡ map parts_of es
     → to_save p lent ≡ saved_of (holdings p es)
 saved-lent digest p es lent all is =

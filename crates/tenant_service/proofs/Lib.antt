@@ -1,6 +1,6 @@
 mod StreamLemmas
 mod TenantLemmas
-mod OwnLemmas
+pub mod OwnLemmas
 pub mod AccountLemmas
 pub mod RunLemmas
 mod SoundLemmas

@@ -15,17 +15,18 @@ use Rattle.tenant_tables.specs.View.{held}
 use Rattle.import_session.specs.Sound.{IsSoundRepository}
 use Rattle.import_session.proofs.SoundLemmas.{empty_is_sound}
 use Rattle.pool_file_checks.specs.FileRefs.{AreRising}
-use Rattle.pool_file.specs.Repositories.{Named}
-use Rattle.pool_file.specs.Saving.{IsGood}
-use Rattle.pool_file.proofs.Keys.{key_cmp}
-use Rattle.pool_file.proofs.Rising.{rising_first, rising_rest}
-use Rattle.pool_loading.specs.Loading as loading
-use Rattle.pool_loading.specs.Loading.{said, named_in, AreTenants, IsTenant}
-use Rattle.pool_loading.specs.declared.tenant.Tenant.{Tenant as Loaded}
+use Rattle.pool_file_checks.specs.Repositories.{Named}
+use Rattle.pool_file_checks.specs.Saving.{IsGood}
+use Rattle.pool_file_checks.proofs.Keys.{key_cmp}
+use Rattle.pool_file_checks.proofs.Rising.{rising_first, rising_rest}
+use Rattle.pool_file.specs.Loading as loading
+use Rattle.pool_file.specs.Loading.{said, named_in, AreTenants, IsTenant}
+use Rattle.pool_file.specs.declared.tenant.Tenant.{Tenant as Loaded}
 use Rattle.tenant_service.specs.declared.tenant.Tenant.{Tenant}
 use Rattle.tenant_service.specs.Alone.{Closed}
 use Rattle.tenant_service.specs.Entries.{entry_of, AreAll}
-use Rattle.tenant_service.specs.Holding.{Holding, Idle, IsSoundHolding, LeadsTo, empty_repository}
+use Rattle.tenant_service.specs.Holding.{Holding, Idle, LeadsTo, empty_repository}
+use Rattle.tenant_service.specs.Soundness.{IsSoundHolding}
 use Rattle.tenant_service.specs.Saved.{repository_of, HasJust, LoadsAs, LoadsText, LoadsEach}
 use Rattle.tenant_service.specs.Tenants.{Tenants, Stands, Accounts, IsService, holding_in, holdings, all_held}
 

@@ -18,7 +18,9 @@ use Rattle.answers.specs.Answers.{answer_to}
 use Rattle.service_steps.specs.declared.answer.Answer.TheVariants as answer
 use Rattle.tenant_service.specs.Alone.{Call, Open, Feed, End, Ask, Restart, State, Closed, Streaming, Dead, Turn, turn, Stopped, stop_at, stop_behind, stream_of, last_of, feed_stop, open_alone, feed_alone, added, fed_by, fed, fed_well, fed_until, ended, closed, last_alone, answered, asked, run_alone}
 use Rattle.tenant_service.specs.Headline.{told_by}
-use Rattle.tenant_service.specs.Holding.{Holding, Idle, Busy, LeadsTo, last_held, standing_answer, gone_on, held_until, open_held, feed_held, fed_held, step_held}
+use Rattle.tenant_service.specs.Holding.{Holding, Idle, Busy, LeadsTo}
+use Rattle.tenant_service.specs.HeldObjects.{last_held}
+use Rattle.tenant_service.specs.HeldSteps.{standing_answer, gone_on, held_until, open_held, feed_held, fed_held, step_held}
 use Rattle.tenant_stream.proofs.StreamLemmas.{carried-done, carried-tail}
 
 -- ---- items after items

@@ -7,7 +7,8 @@ use Rattle.indexmap.specs.Layout.{set_value_at}
 use Rattle.content_pool.specs.Pool.{Cells}
 use Rattle.tenant_tables.specs.StandsIn.{LeavesOthers}
 use Rattle.tenant_service.specs.declared.tenant.Tenant.{Tenant}
-use Rattle.tenant_service.specs.Holding.{Holding, Holdings, Idle, last_held}
+use Rattle.tenant_service.specs.Holding.{Holding, Holdings, Idle}
+use Rattle.tenant_service.specs.HeldObjects.{last_held}
 use Rattle.tenant_service.specs.Tenants.{Tenants, Stands, Accounts, holding_in, holdings}
 use Rattle.tenant_service.specs.OneStep.{restarted, first_restarted, restarted_at}
 use Rattle.tenant_service.proofs.AccountLemmas.{changed, all_parts}

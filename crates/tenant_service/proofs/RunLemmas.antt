@@ -16,7 +16,9 @@ use Rattle.service_steps.specs.declared.step.Step.{Step}
 use Rattle.service_steps.specs.declared.step.Step.TheVariants as step
 use Rattle.tenant_service.specs.Alone.{Call, State, Closed, Turn, added, run_alone}
 use Rattle.tenant_service.specs.Headline.{Told, told_by, told_in, Run, concerns, call_of, stop_told, part_of, steps_of, told_to, told_alone, left_alone, IsItsOwn, IsRefused, told_by_reply, told_since, run_of}
-use Rattle.tenant_service.specs.Holding.{Holding, Holdings, Idle, LeadsTo, empty_repository, held_of, last_held, step_held}
+use Rattle.tenant_service.specs.Holding.{Holding, Holdings, Idle, LeadsTo, empty_repository, held_of}
+use Rattle.tenant_service.specs.HeldObjects.{last_held}
+use Rattle.tenant_service.specs.HeldSteps.{step_held}
 use Rattle.tenant_service.specs.Tenants.{Tenants, Accounts, AreLed, holdings}
 use Rattle.tenant_service.specs.OneStep.{Takes, store, Calls, Steps, restarted}
 use Rattle.tenant_service.proofs.OwnLemmas.{meets}

@@ -21,17 +21,17 @@ use Rattle.content_pool.proofs.StoredLemmas.{same_content-decides}
 use Rattle.tenant_refs.specs.FullName.{namespace_of, namespaces, full_name}
 use Rattle.tenant_refs.specs.TenantName.{IsTenantName, is_tenant_name, parts_of}
 use Rattle.tenant_refs.proofs.Names.{is_tenant_name-Decides}
-use Rattle.pool_file_text.specs.Format.{FitsFile, FitsObject, FitsRef, FitsTenant, FitsNumber}
+use Rattle.pool_file_format.specs.Format.{FitsFile, FitsObject, FitsRef, FitsTenant, FitsNumber}
 use Rattle.pool_file_checks.specs.Objects.{kind_byte, raw_object}
-use Rattle.pool_file.specs.Repositories.{Named, content_key, contents_of, listed_contents, number_in, raw_ref, raw_tenant, raw_of}
-use Rattle.pool_file.specs.Saving.{IsGood, CanSaveOne, CanSave}
-use Rattle.pool_file.proofs.Members.{Has, all_has, all_from_has, has_map, from_map, has_flat_map, of_flat_map}
-use Rattle.pool_file.proofs.Keys.{key_cmp, keyed, AreSorted}
-use Rattle.pool_file.proofs.Rising.{rising_sorted}
-use Rattle.pool_file.proofs.Found.{lists_contents, find_has}
-use Rattle.pool_file.proofs.Numbers.{numbered}
-use Rattle.pool_saving.specs.Listing.{listed_by}
-use Rattle.pool_saving.specs.Worth.{is_worth_saving, worth_saving}
+use Rattle.pool_file_checks.specs.Repositories.{Named, content_key, contents_of, listed_contents, number_in, raw_ref, raw_tenant, raw_of}
+use Rattle.pool_file_checks.specs.Saving.{IsGood, CanSaveOne, CanSave}
+use Rattle.pool_file_checks.proofs.Members.{Has, all_has, all_from_has, has_map, from_map, has_flat_map, of_flat_map}
+use Rattle.pool_file_checks.proofs.Keys.{key_cmp, keyed, AreSorted}
+use Rattle.pool_file_checks.proofs.Rising.{rising_sorted}
+use Rattle.pool_file_checks.proofs.Found.{lists_contents, find_has}
+use Rattle.pool_file_checks.proofs.Numbers.{numbered}
+use Rattle.pool_file.specs.Listing.{listed_by}
+use Rattle.pool_file.specs.Worth.{is_worth_saving, worth_saving}
 use Rattle.tenant_service.proofs.LoadedLemmas.{distinct-rising}
 use Rattle.tenant_service.proofs.SavedLemmas.{listed_has, listed_rises}
 

@@ -14,14 +14,15 @@ use Rattle.git_model.specs.Repository.{Repository, Object, object_named}
 use Rattle.git_model.specs.RefStore.{RefMap, RefStore, first_head, no_refs}
 use Rattle.git_model.specs.GoodRepository.{AreRefs, MayHold}
 use Rattle.pool_file_checks.specs.FileRefs.{AreRising}
-use Rattle.pool_file.specs.Repositories.{Named}
-use Rattle.pool_file.proofs.Members.{Has, from_map}
-use Rattle.pool_file.proofs.Keys.{key_cmp, key_exact, tied, ties}
-use Rattle.pool_file.proofs.Rising.{rising_sorted}
-use Rattle.pool_file.proofs.Found.{find_has}
-use Rattle.pool_saving.specs.Listing.{listed_by}
-use Rattle.pool_saving.specs.Worth.{is_worth_saving}
-use Rattle.tenant_service.specs.Holding.{Holding, Holdings, Idle, empty_repository, held_of, last_held}
+use Rattle.pool_file_checks.specs.Repositories.{Named}
+use Rattle.pool_file_checks.proofs.Members.{Has, from_map}
+use Rattle.pool_file_checks.proofs.Keys.{key_cmp, key_exact, tied, ties}
+use Rattle.pool_file_checks.proofs.Rising.{rising_sorted}
+use Rattle.pool_file_checks.proofs.Found.{find_has}
+use Rattle.pool_file.specs.Listing.{listed_by}
+use Rattle.pool_file.specs.Worth.{is_worth_saving}
+use Rattle.tenant_service.specs.Holding.{Holding, Holdings, Idle, empty_repository, held_of}
+use Rattle.tenant_service.specs.HeldObjects.{last_held}
 use Rattle.tenant_service.specs.Saved.{last_named, saved_of, repository_of}
 
 -- ---- a list by its keys has what is found first

@@ -26,7 +26,10 @@ use Rattle.tenant_service.specs.declared.tenant.Phase.{Phase}
 use Rattle.tenant_service.specs.declared.tenant.Phase.TheVariants as phase
 use Rattle.tenant_service.specs.declared.tenant.Tenant.{Tenant}
 use Rattle.tenant_service.specs.Alone.{Call, Open, Feed, End, Ask, Restart, Turn, Stopped, answered, asked, ended, ended_well, stop_at, stop_behind, unless_out_of_memory}
-use Rattle.tenant_service.specs.Holding.{Holding, Holdings, Idle, Busy, IsSoundHolding, end_held, fed_held, feed_held, gone_on, held_of, held_until, last_held, open_held, step_held}
+use Rattle.tenant_service.specs.Holding.{Holding, Holdings, Idle, Busy, held_of}
+use Rattle.tenant_service.specs.Soundness.{IsSoundHolding}
+use Rattle.tenant_service.specs.HeldSteps.{end_held, fed_held, feed_held, gone_on, held_until, open_held, step_held}
+use Rattle.tenant_service.specs.HeldObjects.{last_held}
 use Rattle.tenant_service.specs.Tenants.{Tenants, AreSound, held_in, holding_in, holdings}
 use Rattle.tenant_service.specs.OneStep.{Takes, Calls, Steps, store}
 use Rattle.tenant_service.proofs.AccountLemmas.{held-found}

@@ -10,12 +10,13 @@ use Rattle.git_model.specs.Repository.{Object, object_named}
 use Rattle.git_model.proofs.Places.{first_named, later_named}
 use Rattle.content_pool.specs.LiveContents.{stored_sizes}
 use Rattle.content_pool.proofs.StoredLemmas.{stored_sizes-same_members}
-use Rattle.pool_file.proofs.Members.{Has, contained, has_contained, has_left, has_right, of_flat_map}
+use Rattle.pool_file_checks.proofs.Members.{Has, contained, has_contained, has_left, has_right, of_flat_map}
 use Rattle.import_session.specs.Stream.{Runs, Refused}
 use Rattle.service_steps.specs.declared.answer.Answer.{Answer}
 use Rattle.service_steps.specs.declared.answer.Answer.TheVariants as answer
 use Rattle.tenant_service.specs.Copies.{CopiesAs, HoldsCopy, StoresAs}
-use Rattle.tenant_service.specs.Holding.{Holding, Holdings, Idle, Busy, empty_repository, held_contents, held_objects, held_of, last_held}
+use Rattle.tenant_service.specs.Holding.{Holding, Holdings, Idle, Busy, empty_repository, held_of}
+use Rattle.tenant_service.specs.HeldObjects.{held_contents, held_objects, last_held}
 use Rattle.tenant_service.proofs.BackLemmas.{found-once}
 
 abbrev contents : List Object → List Content

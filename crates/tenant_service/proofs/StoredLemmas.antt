@@ -21,7 +21,8 @@ use Rattle.tenant_tables.proofs.TableLemmas.{length-objects}
 use Rattle.tenant_service.specs.declared.tenant.Phase.{Phase}
 use Rattle.tenant_service.specs.declared.tenant.Phase.TheVariants as phase
 use Rattle.tenant_service.specs.declared.tenant.Tenant.{Tenant}
-use Rattle.tenant_service.specs.Holding.{Holding, Holdings, Idle, empty_repository, held_of, held_objects, held_contents, has_commit}
+use Rattle.tenant_service.specs.Holding.{Holding, Holdings, Idle, empty_repository, held_of}
+use Rattle.tenant_service.specs.HeldObjects.{held_objects, held_contents, has_commit}
 use Rattle.tenant_service.specs.Tenants.{Tenants, Stands, IsSettled, Accounts, held_in, holding_in, holdings, all_held, has_committed, Shows}
 use Rattle.tenant_service.proofs.TenantLemmas.{all_committed}
 use Rattle.tenant_service.proofs.AccountLemmas.{stands-found, held-found, held-missing}

@@ -24,7 +24,9 @@ use Rattle.tenant_service.specs.declared.tenant.Phase.TheVariants as phase
 use Rattle.tenant_service.specs.Alone.{Open, Ask, End as EndCall, Turn, turn, Stopped, answered, asked, unless_out_of_memory, ended, ended_well, end_answer, closed}
 use Rattle.tenant_stream.specs.Carrying.{outcome_behind, Between, new_stream, stream_in, Carries, Feeds, Stays, IsEnd, StopsAtEnd}
 use Rattle.tenant_service.specs.Headline.{stop_told}
-use Rattle.tenant_service.specs.Holding.{Holding, Idle, Busy, empty_repository, last_held, step_held, fed_held, held_until, gone_on, standing_answer, end_held}
+use Rattle.tenant_service.specs.Holding.{Holding, Idle, Busy, empty_repository}
+use Rattle.tenant_service.specs.HeldObjects.{last_held}
+use Rattle.tenant_service.specs.HeldSteps.{step_held, fed_held, held_until, gone_on, standing_answer, end_held}
 use Rattle.tenant_service.specs.Tenants.{held_in, standing_in, kept_tail, IsSettled}
 use Rattle.tenant_service.specs.OneStep.{Takes, GoesTo, StopsBehind, Fed, refusal_told}
 use Rattle.tenant_stream.proofs.StreamLemmas.{carried-done}

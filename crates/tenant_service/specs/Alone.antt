@@ -35,11 +35,11 @@ pub record Turn (S : Type 0) : Type 0 where
 abbrev pub turn : {S : Type 0} → Answer → List ℕ → S → Turn S
 turn answer reply state = record { answer = answer; reply = reply; state = state }
 
--- A call that is refused leaves all as it was.
+-- A call that is refused changes nothing.
 abbrev pub refused_under : {S : Type 0} → ℕ → S → Turn S
 refused_under code state = turn (answer.Fault code) [] state
 
--- A call that takes memory may run out of it, and then leaves this. Every other call may not.
+-- A call that needs memory may run out of it, and then leaves `left`. No other call may.
 abbrev pub unless_out_of_memory : {S : Type 0} → Option ℕ → S → Turn S → Turn S
 unless_out_of_memory (Some zero) left well = turn (answer.Memory 0) [] left
 unless_out_of_memory _ left well = well
@@ -55,11 +55,11 @@ abbrev pub last_of : Standing → Repository
 last_of (Runs now tail) = last_checkpoint now.workspace
 last_of (Refused code repository) = repository
 
--- What the longer replies add to the replies before.
+-- What all replies add to the replies before.
 abbrev pub added : List ℕ → List ℕ → List ℕ
 added before all = drop (length before) all
 
--- A stop for want of memory: the replies until then, and the repository at the last checkpoint.
+-- A stop because memory ran out: the replies until then, and the repository at the last checkpoint.
 pub record Stopped : Type 0 where
   pub replies : List ℕ
   pub repository : Repository
@@ -70,8 +70,8 @@ stop_at replies (Runs now tail) =
     else Some (record { replies = replies; repository = last_checkpoint now.workspace })
 stop_at replies (Refused code repository) = None
 
--- The stop after the first so many items: what they print, and the last checkpoint then. There is
--- none after more items than there are, after a fault, or after `done`.
+-- The stop after the first `count` items: what they print, and the last checkpoint then. There is
+-- no stop if there are fewer items, after a fault, or after `done`.
 unfoldable pub stop_behind : (List ℕ → List ℕ) → Running → List Item → ℕ → Option Stopped
 stop_behind digest now items count =
     if nat_le count (length items) then
@@ -79,15 +79,15 @@ stop_behind digest now items count =
     stop_at first.replies first.standing)
     else None
 
--- Open: there is a stream then, of no bytes yet.
+-- Open starts a stream, which has no bytes yet.
 abbrev pub open_alone : Option ℕ → State → Turn State
 open_alone stop (Closed repository) =
     unless_out_of_memory stop (Closed repository) (turn answer.Ok [] (Streaming repository []))
 open_alone stop (Streaming repository bytes) = refused_under 31 (Streaming repository bytes)
 open_alone stop (Dead code repository) = refused_under 31 (Dead code repository)
 
--- Feed: what the longer bytes print beyond what was printed; a fault of theirs makes the stream
--- dead under its number.
+-- Feed prints what all bytes print beyond what was printed before. A fault in them makes the stream
+-- dead under the fault's number.
 abbrev pub fed_by : Repository → List ℕ → List ℕ → Standing → Turn State
 fed_by repository bytes reply (Runs now tail) = turn answer.Ok reply (Streaming repository bytes)
 fed_by repository bytes reply (Refused code left) = turn (answer.Fault code) reply (Dead code left)
@@ -98,14 +98,14 @@ fed_well digest repository bytes piece =
     let all = stream_of digest repository (bytes ++ piece) in
     fed_by repository (bytes ++ piece) (added before.replies all.replies) all.standing
 
--- The stop of a Feed after so many of the items that it completes.
+-- The stop of a Feed after `count` of the items that it completes.
 abbrev pub feed_stop : (List ℕ → List ℕ) → Repository → List ℕ → List ℕ → ℕ → Option Stopped
 feed_stop digest repository bytes piece count =
     let before = (reading false bytes).items in
     let all = (reading false (bytes ++ piece)).items in
     stop_behind digest (begun (opened repository)) all (length before + count)
 
--- A stop that there is makes the stream dead under 90.
+-- If there is such a stop, the stream is dead under 90.
 abbrev pub fed_until : List ℕ → ℕ → Option Stopped → Turn State → Turn State
 fed_until before count (Some stopped) well =
     turn (answer.Memory count) (added before stopped.replies) (Dead 90 stopped.repository)
@@ -122,7 +122,7 @@ feed_alone digest piece stop (Closed repository) = refused_under 30 (Closed repo
 feed_alone digest piece stop (Streaming repository bytes) = fed digest stop repository bytes piece
 feed_alone digest piece stop (Dead code repository) = refused_under code (Dead code repository)
 
--- End: there is no stream then. Its fault is answered, and the reply of the end is printed.
+-- End closes the stream, answers the fault of its end, and prints the reply of its end.
 abbrev pub end_answer : Option ℕ → Answer
 end_answer None = answer.Ok
 end_answer (Some code) = answer.Fault code
@@ -131,7 +131,7 @@ abbrev pub ended_well : (List ℕ → List ℕ) → Standing → Turn Repository
 ended_well digest standing =
     let end = finished digest standing in turn (end_answer end.fault) end.reply end.repository
 
--- After `done`, and after a refusal, an end takes no memory.
+-- After `done`, and after a refusal, an end needs no memory.
 abbrev pub ended : (List ℕ → List ℕ) → Option ℕ → Standing → Turn Repository
 ended digest stop (Refused code repository) = ended_well digest (Refused code repository)
 ended digest stop (Runs now tail) =
@@ -149,14 +149,14 @@ end_alone digest stop (Streaming repository bytes) =
 end_alone digest stop (Dead code repository) =
     closed Closed (ended digest stop (Refused code repository))
 
--- Restart: there is no stream then, and the repository is that at the last checkpoint.
+-- Restart closes the stream, and leaves the repository at the last checkpoint.
 abbrev pub last_alone : (List ℕ → List ℕ) → State → Repository
 last_alone digest (Closed repository) = repository
 last_alone digest (Streaming repository bytes) =
     last_of (stream_of digest repository bytes).standing
 last_alone digest (Dead code repository) = repository
 
--- Ask: what the repository at the last checkpoint answers. Nothing changes.
+-- Ask answers from the repository at the last checkpoint, and changes nothing.
 abbrev pub answered : {S : Type 0} → Result (List ℕ) Fault → S → Turn S
 answered (Ok text) state = turn answer.Ok text state
 answered (Err refusal) state = refused_under (code_of refusal) state

@@ -7,7 +7,8 @@ use Rattle.service_steps.specs.declared.answer.Answer.TheVariants as answer
 use Rattle.export_laws.specs.Copies.{IsCopyOf}
 use Rattle.tenant_service.specs.Alone.{Call, Open, Feed, End, Closed}
 use Rattle.tenant_service.specs.Headline.{Told, told_alone, left_alone}
-use Rattle.tenant_service.specs.Holding.{Holding, Holdings, Idle, Busy, empty_repository, held_contents}
+use Rattle.tenant_service.specs.Holding.{Holding, Holdings, Idle, Busy, empty_repository}
+use Rattle.tenant_service.specs.HeldObjects.{held_contents}
 
 -- A text is imported at once, and no step runs out of memory.
 abbrev pub import_steps : List ℕ → List (Call × Option ℕ)
@@ -26,13 +27,13 @@ pub record Takes (digest : List ℕ → List ℕ) (text : List ℕ) (repository 
   pub leaves : left_alone digest (Closed empty_repository) (import_steps text) ≡ Closed left
   pub copy : IsCopyOf repository left
 
--- A copy of a repository is held of a tenant, and no stream.
+-- The service holds a copy of a repository for a tenant, and no stream.
 abbrev pub HoldsCopy : Repository → Holding → Type 0
 HoldsCopy repository (Idle left) = IsCopyOf repository left
 HoldsCopy repository (Busy standing) = ⊥
 
--- What a copy of a repository is answered that may be copied, and what is held then: Ok, and a
--- copy; or want of memory, which alone may stop it.
+-- If a repository may be copied, the answer is Ok, and then the other tenant has a copy. Only want
+-- of memory may stop it.
 abbrev pub CopiesAs : Answer → Repository → Holding → Type 0
 CopiesAs answer.Ok repository held = HoldsCopy repository held
 CopiesAs (answer.Memory items) repository held = Unit {0}

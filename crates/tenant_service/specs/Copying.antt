@@ -21,13 +21,13 @@ abbrev pub has_nothing : Repository → Bool
 has_nothing repository = (length repository.objects == 0)
     && (length (listed_refs repository.refs) == 0) && bytes_eq repository.refs.head first_head
 
--- Why a tenant takes no copy: it has a stream, be it dead, or its repository has something.
+-- Why a tenant takes no copy: it has a stream, running or dead, or its repository is not empty.
 abbrev pub held_refusal : Holding → Option ServiceFault
 held_refusal (Idle repository) =
     if has_nothing repository then None else Some fault.TenantNotEmpty
 held_refusal (Busy standing) = Some fault.StreamIsOpen
 
--- Why a copy is refused before its first step, where it is.
+-- Why a copy is refused before its first step, if it is.
 abbrev pub copy_refusal : List ℕ → List ℕ → Holdings → Option ServiceFault
 copy_refusal from to all =
     if is_tenant_name from && is_tenant_name to then held_refusal (held_of to all)
@@ -43,37 +43,37 @@ first_refusal answer.Ok later = later
 first_refusal (answer.Fault code) later = answer.Fault code
 first_refusal (answer.Memory items) later = answer.Memory items
 
--- After an Ok the run goes on so. Any other answer ends it, and is what the copy answers.
+-- After an Ok the run goes on as `so` says. Any other answer ends it, and is the copy's answer.
 abbrev pub GoesOn : Answer → Run → Answer → Type 0 → Type 0
 GoesOn answer.Ok later told so = so
 GoesOn (answer.Fault code) later told so = (later ≡ []) × (told ≡ answer.Fault code)
 GoesOn (answer.Memory items) later told so = (later ≡ []) × (told ≡ answer.Memory items)
 
--- A stream is fed a text at once, and ended, whatever the Feed was answered.
+-- A stream is fed a whole text and then ended, whatever the Feed answers.
 abbrev pub IsFedAndEnded : List ℕ → List ℕ → Run → Answer → Type 0
 IsFedAndEnded to text (fed ∷ ended ∷ []) told = IsCall to (Feed text) fed.0
     × IsCall to End ended.0 × (told ≡ first_refusal fed.1.answer ended.1.answer)
 IsFedAndEnded to text _ told = ⊥
 
--- A tenant is told a text: a stream is opened, and where that is well, fed and ended.
+-- A tenant imports a text: a stream is opened and, if the answer is Ok, fed and ended.
 abbrev pub IsImport : List ℕ → List ℕ → Run → Answer → Type 0
 IsImport to text [] told = ⊥
 IsImport to text (opened ∷ later) told = IsCall to Open opened.0
     × GoesOn opened.1.answer later told (IsFedAndEnded to text later told)
 
--- A tenant is asked for its export, and where there is one, the other tenant is told its text.
+-- One tenant is asked for its export and, if there is one, the other tenant imports its text.
 abbrev pub IsExport : List ℕ → List ℕ → Run → Answer → Type 0
 IsExport from to [] told = ⊥
 IsExport from to (asked ∷ later) told = IsCall from (Ask (codes "export")) asked.0
     × GoesOn asked.1.answer later told (IsImport to asked.1.reply later told)
 
--- The steps of a copy, and what it answers: none where it is refused before them.
+-- The steps of a copy, and what it answers. A copy that is refused before them has no steps.
 abbrev pub IsCopyRun : Option ServiceFault → List ℕ → List ℕ → Run → Answer → Type 0
 IsCopyRun (Some refusal) from to run told = (run ≡ []) × (told ≡ answer.Fault (code_of refusal))
 IsCopyRun None from to run told = IsExport from to run told
 
--- A run of which this holds was taken, and every tenant was told what it is told in a repository of
--- its own.
+-- A run that meets `Is` was taken, and every tenant was told what it is told in a repository of its
+-- own.
 pub record HasTaken (digest : List ℕ → List ℕ) (before after : Holdings) (Is : Run → Type 0)
     : Type 0 where
   pub run : Run

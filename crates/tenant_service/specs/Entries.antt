@@ -3,8 +3,8 @@
 use Rattle.std.specs.Prelude.{◌≡◌, ℕ, List, [], ◌++◌, map}
 use Rattle.git_model.specs.RefStore.{RefStore}
 use Rattle.tenant_tables.specs.View.{View}
-use Rattle.pool_loading.specs.declared.tenant.Tenant.{Tenant as Loaded}
-use Rattle.pool_saving.specs.declared.saved.Saved.{Saved}
+use Rattle.pool_file.specs.declared.tenant.Tenant.{Tenant as Loaded}
+use Rattle.pool_file.specs.declared.tenant_view.TenantView.{TenantView}
 use Rattle.tenant_service.specs.declared.tenant.Phase.TheVariants as phase
 use Rattle.tenant_service.specs.declared.tenant.Tenant.{Tenant}
 use Rattle.tenant_service.specs.Tenants.{Tenants}
@@ -21,7 +21,7 @@ entry_of loaded = (
   },
 )
 
--- Those that were taken in, and after them those that are left, are all.
+-- The tenants that were taken in, followed by those that are left, are all of them.
 abbrev pub AreAll : Tenants → List Loaded → List Loaded → Type 0
 AreAll taken rest all = taken ++ map entry_of rest ≡ map entry_of all
 
@@ -31,7 +31,7 @@ pub record Parts : Type 0 where
   pub table : View
   pub refs : RefStore
 
-abbrev pub parts_lent : Saved → Parts
+abbrev pub parts_lent : TenantView → Parts
 parts_lent saved = record {
   name = saved.name.now;
   table = saved.table.now;

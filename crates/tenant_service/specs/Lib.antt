@@ -1,9 +1,12 @@
--- In reading order: a repository of its own, runs of many tenants, and what the service holds; what
--- of it a pool file has; copies, and what one leaves; then where a tenant's parts lie, and what one
--- step does to them.
+-- In reading order: a repository of its own, runs of many tenants, and what the service holds; its
+-- objects, what each call does to it, and whether it is sound; what of it a pool file has; copies, and
+-- what a copy leaves; then where the parts of a tenant lie, and what one step does to them.
 pub mod Alone
 pub mod Headline
 pub mod Holding
+pub mod HeldObjects
+pub mod HeldSteps
+pub mod Soundness
 pub mod StepName
 pub mod Saved
 pub mod Copying

@@ -19,7 +19,9 @@ use Rattle.tenant_stream.specs.declared.stop.Stop.TheVariants as stop
 use Rattle.tenant_stream.specs.Carrying.{outcome_behind}
 use Rattle.tenant_service.specs.Alone.{Call, Turn, stop_behind}
 use Rattle.tenant_service.specs.Headline.{call_of, stop_told}
-use Rattle.tenant_service.specs.Holding.{Holding, Idle, Holdings, held_of, last_held, step_held}
+use Rattle.tenant_service.specs.Holding.{Holding, Idle, Holdings, held_of}
+use Rattle.tenant_service.specs.HeldObjects.{last_held}
+use Rattle.tenant_service.specs.HeldSteps.{step_held}
 use Rattle.tenant_service.specs.StepName.{name_of}
 use Rattle.tenant_service.specs.Tenants.{Tenants, Accounts, holdings}
 
@@ -30,7 +32,7 @@ pub record Takes (t : Turn Holding) (answer : Answer) (out out' : List ℕ) (lef
   pub printed : out' ≡ out ++ t.reply
   pub leaves : t.state ≡ left
 
--- What bytes did to a stream: they print on, and leave a stream that stands so.
+-- What bytes did to a stream: it printed their replies, and stands as they left it.
 pub record GoesTo (digest : List ℕ → List ℕ) (now : Running) (tail : Tail) (piece : List ℕ)
     (out out' : List ℕ) (left : Standing) : Type 0 where
   pub replies : List ℕ
@@ -55,7 +57,7 @@ Fed digest now tail piece out (Err (stop.Fault code)) out' next kept =
 Fed digest now tail piece out (Err (stop.Memory count)) out' next kept =
     StopsBehind digest now tail piece count out out' next
 
--- What a query is answered that has no answer: want of memory is told apart.
+-- What a query is answered that is refused. Want of memory has an answer of its own.
 abbrev pub refusal_told : Fault → Answer
 refusal_told fault.Memory = answers.Memory 0
 refusal_told fault.WrongKind = answers.Fault (code_of fault.WrongKind)
@@ -77,7 +79,8 @@ store pool tenants = record { pool = pool; tenants = tenants }
 abbrev pub held_in_store : List ℕ → Store → Holding
 held_in_store name s = held_of name (holdings s.pool s.tenants)
 
--- A call of the tenant of this name was answered and printed as it says, and is in the accounts.
+-- A call of the tenant of this name was answered and printed as `step_held` says, and it changed no
+-- other tenant. The accounts hold again.
 pub record Serves (digest : List ℕ → List ℕ) (name : List ℕ) (call : Call) (before : Store)
     (answer : Answer) (out out' : List ℕ) (after : Store) : Type 0 where
   pub accounts : Accounts digest after.pool after.tenants

@@ -4,47 +4,48 @@ use Rattle.std.specs.Prelude.{◌≡◌, ℕ, List, [], map, Option, None, Some,
 use Rattle.std.specs.Map.{lookup}
 use Rattle.std.specs.Str.{bytes_eq}
 use Rattle.git_model.specs.Repository.{Repository}
-use Rattle.pool_file_text.specs.declared.fault.Fault.{Fault}
-use Rattle.pool_file_text.specs.declared.fault.Fault.TheVariants as fault
-use Rattle.pool_file.specs.Repositories.{Named}
-use Rattle.pool_file.specs.Saving.{IsTextOf}
-use Rattle.pool_file.specs.Judging.{IsRefused}
-use Rattle.pool_loading.specs.Loading.{AreRead}
-use Rattle.pool_saving.specs.Worth.{worth_saving}
-use Rattle.tenant_service.specs.Holding.{Holdings, Idle, empty_repository, held_of, last_held}
+use Rattle.pool_file_format.specs.declared.fault.Fault.{Fault}
+use Rattle.pool_file_format.specs.declared.fault.Fault.TheVariants as fault
+use Rattle.pool_file_checks.specs.Repositories.{Named}
+use Rattle.pool_file_checks.specs.Saving.{IsTextOf}
+use Rattle.pool_file_checks.specs.Judging.{IsRefused}
+use Rattle.pool_file.specs.Loading.{AreRead}
+use Rattle.pool_file.specs.Worth.{worth_saving}
+use Rattle.tenant_service.specs.Holding.{Holdings, Idle, empty_repository, held_of}
+use Rattle.tenant_service.specs.HeldObjects.{last_held}
 
 -- The repository of each tenant at its last checkpoint, under the tenant's name.
 abbrev pub last_named : Holdings → List Named
 last_named all = map (λ e. record { tenant = e.0; repository = last_held e.1 }) all
 
--- Those that are saved: they have an object, or another HEAD than the first.
+-- Those that are saved: each has an object, or a HEAD other than the first.
 abbrev pub saved_of : Holdings → List Named
 saved_of all = worth_saving (last_named all)
 
--- The repository of a tenant among some; an empty one, where it has none there.
+-- The repository of a tenant among some, or an empty one if it has none there.
 abbrev pub repository_of : List ℕ → List Named → Repository
 repository_of tenant all =
     unwrap_or (lookup (bytes_eq tenant) (map (λ n. (n.tenant, n.repository)) all)) empty_repository
 
--- Of each tenant its repository among these is held, and no stream.
+-- The service holds just these repositories, an empty one of every other tenant, and no stream.
 abbrev pub HasJust : List Named → Holdings → Type 0
 HasJust all held = (tenant : List ℕ) → held_of tenant held ≡ Idle (repository_of tenant all)
 
--- What is held is of the repositories that a file says, which all of the bytes are read as.
+-- All of the bytes are read as some repositories, and the service holds just these.
 pub record IsReadFrom (digest : List ℕ → List ℕ) (bytes : List ℕ) (held : Holdings) : Type 0 where
   pub all : List Named
   pub read : AreRead digest bytes all
   pub has : HasJust all held
 
--- What is held is of repositories that the bytes are a text of.
+-- The bytes are a text of some repositories, and the service holds just these.
 pub record IsLoadedFrom (digest : List ℕ → List ℕ) (bytes : List ℕ) (held : Holdings)
     : Type 0 where
   pub all : List Named
   pub text : IsTextOf digest all bytes
   pub has : HasJust all held
 
--- What is answered where the reader has these bytes, and which it has after it. Device and memory
--- may fail in place of any answer.
+-- What is answered if the reader has these bytes, and which bytes it has afterwards. A fault of a
+-- device, or want of memory, may stand in place of any answer.
 abbrev pub LoadsAs : (List ℕ → List ℕ) → Option (List ℕ) → Result Holdings Fault
     → Option (List ℕ) → Type 0
 LoadsAs digest None r new = Unit {0}
@@ -53,7 +54,7 @@ LoadsAs digest (Some bytes) (Err (fault.Refused r)) new = IsRefused digest bytes
 LoadsAs digest (Some bytes) (Err fault.Device) new = Unit {0}
 LoadsAs digest (Some bytes) (Err fault.Memory) new = Unit {0}
 
--- Where a service is answered, the bytes are a text of what it has.
+-- If the answer is a service, the bytes are a text of what it has.
 abbrev pub LoadsText : (List ℕ → List ℕ) → Option (List ℕ) → Result Holdings Fault → Type 0
 LoadsText digest None r = Unit {0}
 LoadsText digest (Some bytes) (Ok held) = IsLoadedFrom digest bytes held
@@ -66,7 +67,7 @@ IsAnswer all (Err (fault.Refused r)) = ⊥
 IsAnswer all (Err fault.Device) = Unit {0}
 IsAnswer all (Err fault.Memory) = Unit {0}
 
--- Each text of repositories is answered by a service that has just these.
+-- If the bytes are a text of some repositories, the answer is a service that has just these.
 abbrev pub LoadsEach : (List ℕ → List ℕ) → Option (List ℕ) → Result Holdings Fault → Type 0
 LoadsEach digest None r = Unit {0}
 LoadsEach digest (Some bytes) r =

@@ -1,5 +1,5 @@
--- What lies where of a tenant: its objects in a table over the shared pool, its refs, and the phase
--- of its stream.
+-- Where the parts of a tenant lie: its objects in a table over the shared pool, its refs, and the
+-- phase of its stream.
 use Rattle.std.specs.Prelude.{◌≡◌, ℕ, Bool, true, false, if◌then◌else◌, List, [], length, take, map, filter_map, nat_lt, sum_by}
 use Rattle.std.specs.List.{AllByRecursion}
 use Rattle.git_model.specs.Content.{Content, same_content}
@@ -21,7 +21,9 @@ use Rattle.tenant_service.specs.declared.tenant.Phase.TheVariants as phase
 use Rattle.tenant_service.specs.declared.tenant.Tenant.{Tenant}
 use Rattle.tenant_service.specs.Alone.{State}
 use Rattle.tenant_stream.specs.Carrying.{Between, stream_in}
-use Rattle.tenant_service.specs.Holding.{Holding, Idle, Busy, Holdings, LeadsTo, IsSoundHolding, held_of, held_objects, last_held, tenants_with}
+use Rattle.tenant_service.specs.Holding.{Holding, Idle, Busy, Holdings, LeadsTo, held_of}
+use Rattle.tenant_service.specs.Soundness.{IsSoundHolding}
+use Rattle.tenant_service.specs.HeldObjects.{held_objects, last_held, tenants_with}
 
 -- After `done` no bytes are kept.
 unfoldable pub kept_tail : Between → Tail
@@ -46,14 +48,14 @@ IsSettled phase.Closed table = table.committed ≡ length table.entries
 IsSettled (phase.Running stream) table = Unit {0}
 IsSettled (phase.Dead code) table = table.committed ≡ length table.entries
 
--- The files that a stream holds of its commits, where one runs, stand among the objects.
+-- If a stream runs, the files that it holds of its commits stand among the objects.
 abbrev pub HoldsIn : List Object → Phase → Type 0
 HoldsIn objects phase.Closed = Unit {0}
 HoldsIn objects (phase.Running stream) = HoldsFiles objects stream.session.own
 HoldsIn objects (phase.Dead code) = Unit {0}
 
--- A tenant's table stands in the pool, among its objects what its stream holds, and among those of
--- the last checkpoint the first parents that queries met.
+-- A tenant's table stands in the pool. The files that its stream holds are among its objects, and
+-- the first parents that queries met are among the objects of the last checkpoint.
 pub record Stands (digest : List ℕ → List ℕ) (pool : Cells) (tenant : Tenant) : Type 0 where
   pub entries : StandsIn digest pool tenant.table.entries
   pub settled : IsSettled tenant.phase tenant.table
@@ -100,11 +102,11 @@ holds_of pool c =
 abbrev pub CountsTenants : Cells → Holdings → Type 0
 CountsTenants pool all = (c : Content) → holds_of pool c ≡ tenants_with c all
 
--- To what is held of any tenant some repository and stream of its own lead.
+-- For every tenant some state of its own leads to what is held of it.
 abbrev pub AreLed : (List ℕ → List ℕ) → Holdings → Type 0
 AreLed digest all = (tenant : List ℕ) → (state : State) × LeadsTo digest state (held_of tenant all)
 
--- What is held of any tenant is sound.
+-- What is held of every tenant is sound.
 abbrev pub AreSound : (List ℕ → List ℕ) → Holdings → Type 0
 AreSound digest all = (tenant : List ℕ) → IsSoundHolding digest (held_of tenant all)
 

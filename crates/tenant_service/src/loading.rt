@@ -10,7 +10,7 @@ use crate::tenant::{Phase, Tenant};
 use crate::tenants::add_tenant;
 use git_objects::Memory;
 use indexmap::IndexMap;
-use pool_loading::Tenant as Loaded;
+use pool_file::Tenant as Loaded;
 use revisions::FirstParentChain;
 use std::alloc::Global;
 use tenant_refs::TenantName;

@@ -5,7 +5,7 @@ ghost use Rattle.tenant_service.specs.Entries.{parts_lent, parts_of};
 
 use crate::tenant::Tenant;
 use indexmap::IndexMap;
-use pool_saving::Saved;
+use pool_file::TenantView;
 use std::alloc::{AllocError, Global};
 use tenant_refs::TenantName;
 
@@ -14,7 +14,7 @@ use tenant_refs::TenantName;
 pub fn lend_all<'a>(
     alloc: Global,
     tenants: &'a IndexMap<TenantName, Tenant>,
-) -> Result<Vec<Saved<'a>>, AllocError>
+) -> Result<Vec<TenantView<'a>>, AllocError>
     ensures { IfOk result (λ lent.
         map parts_lent lent.items ≡ map parts_of tenants.entry.now.entries) }
 {
@@ -23,7 +23,7 @@ pub fn lend_all<'a>(
         let (name, tenant) = tenants.get_index(place).unwrap();
         let table = &tenant.table;
         let refs = &tenant.refs;
-        lent.push(Saved { name, table, refs })?;
+        lent.push(TenantView { name, table, refs })?;
     }
     Ok(lent)
 }

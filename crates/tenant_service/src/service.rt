@@ -18,10 +18,10 @@ ghost use Rattle.byte_devices.specs.Device.{device_of, calls_of, counted_on, see
 ghost use Rattle.content_pool.specs.LiveContents.{live_contents, stored_sizes};
 ghost use Rattle.export_laws.specs.Copies.{CanBeCopied};
 ghost use Rattle.git_model.specs.Content.{same_content};
-ghost use Rattle.pool_file.specs.Judging.{IsBlamed};
-ghost use Rattle.pool_file.specs.Repositories.{file_text};
-ghost use Rattle.pool_file.specs.Saving.{IsTextOf};
-ghost use Rattle.pool_saving.specs.Saves.{Saves};
+ghost use Rattle.pool_file_checks.specs.Judging.{IsBlamed};
+ghost use Rattle.pool_file_checks.specs.Repositories.{file_text};
+ghost use Rattle.pool_file_checks.specs.Saving.{IsTextOf};
+ghost use Rattle.pool_file.specs.Saves.{Saves};
 ghost use Rattle.std.specs.List.{AllByRecursion, IsDistinct};
 ghost use Rattle.std.specs.Map.{keys_of};
 ghost use Rattle.std.specs.Set.{unique_keys};
@@ -31,7 +31,10 @@ ghost use Rattle.tenant_service.specs.Alone.{added, Restart, State};
 ghost use Rattle.tenant_service.specs.Copies.{CopiesAs, StoresAs};
 ghost use Rattle.tenant_service.specs.Copying.{HasTaken, IsCopyRun, copy_refusal};
 ghost use Rattle.tenant_service.specs.Headline.{IsItsOwn, IsRefused, told_in, told_since, run_of};
-ghost use Rattle.tenant_service.specs.Holding.{Holdings, LeadsTo, IsSoundHolding, Idle, empty_repository, held_of, held_contents, has_commit, last_held, step_held};
+ghost use Rattle.tenant_service.specs.Holding.{Holdings, LeadsTo, Idle, empty_repository, held_of};
+ghost use Rattle.tenant_service.specs.Soundness.{IsSoundHolding};
+ghost use Rattle.tenant_service.specs.HeldObjects.{held_contents, has_commit, has_read_done as read_done, last_held};
+ghost use Rattle.tenant_service.specs.HeldSteps.{step_held};
 ghost use Rattle.tenant_service.specs.Saved.{saved_of, IsLoadedFrom, LoadsAs, LoadsText, LoadsEach};
 ghost use Rattle.tenant_service.specs.Tenants.{CountsTenants, Shows};
 ghost use Rattle.tenant_tables.specs.StandsIn.{StandsIn};
@@ -39,13 +42,13 @@ ghost use Rattle.tenant_tables.specs.StandsIn.{StandsIn};
 use crate::copying::{copy, copy_refusal};
 use crate::loading::tenants_of;
 use crate::saving::lend_all;
-use crate::tenant::Tenant;
+use crate::tenant::{Tenant, has_read_done};
 use crate::tenants::{count_committed, name_of, take_step};
 use byte_devices::Counted;
 use content_pool::Pool;
 use git_objects::{Memory, Naming};
 use indexmap::IndexMap;
-use pool_file_text::{Fault, Starting};
+use pool_file_format::{Fault, Starting};
 use service_steps::{Answer, Reply, Step};
 use std::alloc::Global;
 use std::io::{Read, Write};
@@ -64,8 +67,8 @@ pub struct Service<N: Naming> {
 impl<N: Naming> Model for Service<N> {
     ghost use Rattle.tenant_service.specs.Holding.{Holdings};
     ghost use Rattle.std.specs.Coded.{codes};
-    ghost use Rattle.tenant_service.specs.Holding.{ref_map_code};
-    ghost use Rattle.tree_build.specs.FileMap.{file_map_code};
+    ghost use Rattle.tenant_service.specs.HeldObjects.{ref_map_code};
+    ghost use Rattle.file_maps.specs.FileMap.{file_map_code};
     ghost use Rattle.tenant_service.specs.Tenants.{IsService, holdings};
 
     ghost Value = { Holdings };
@@ -160,6 +163,21 @@ impl<N: Naming> Service<N> {
         ensures { result ≡ count_by (λ e. has_commit e.1) self.now }
     {
         count_committed(&self.tenants) as u64
+    }
+
+    /// Whether a tenant has a stream that has read `done`, so that no later byte of it counts.
+    /// Takes no memory.
+    pub fn has_read_done(&self, tenant: &[u8]) -> bool
+        ensures { result ≡ read_done (held_of tenant.now self.now) }
+    {
+        let tenants = &self.tenants;
+        let Ok(name) = name_of(tenant) else {
+            return false;
+        };
+        match tenants.get(&name) {
+            Some(tenant) => has_read_done(tenant),
+            None => false,
+        }
     }
 
     /// The pool of all tenants, and the table and refs of one, for the operator; `None` for a
@@ -310,7 +328,7 @@ impl<N: Starting> Service<N> {
             (seen (R.remaining (device_of reader.old)) reader.old) result
             (seen (R.remaining (device_of reader.new)) reader.new) }
     {
-        let (pool, loaded) = pool_loading::load(alloc, naming, reader)?;
+        let (pool, loaded) = pool_file::load(alloc, naming, reader)?;
         let tenants = tenants_of(alloc, loaded)?;
         Ok(Service {
             alloc,
@@ -332,6 +350,6 @@ impl<N: Starting> Service<N> {
             (file_text N.digest_of (saved_of self.now)) }
     {
         let lent = lend_all(self.alloc, &self.tenants)?;
-        pool_saving::save(self.alloc, &self.pool, &lent, writer)
+        pool_file::save_views(self.alloc, &self.pool, &lent, writer)
     }
 }

@@ -12,7 +12,10 @@ ghost use Rattle.import_session.specs.Sound.{IsSound};
 ghost use Rattle.tenant_service.specs.Alone.{Open, Feed, End, Ask, Restart};
 ghost use Rattle.tenant_stream.specs.Carrying.{HasAmpleRoom, stream_in};
 ghost use Rattle.tenant_service.specs.Headline.{stop_told};
-ghost use Rattle.tenant_service.specs.Holding.{Idle, IsSoundHolding, step_held, empty_repository, last_held};
+ghost use Rattle.tenant_service.specs.Holding.{Idle, empty_repository};
+ghost use Rattle.tenant_service.specs.Soundness.{IsSoundHolding};
+ghost use Rattle.tenant_service.specs.HeldSteps.{step_held};
+ghost use Rattle.tenant_service.specs.HeldObjects.{has_read_done, last_held};
 ghost use Rattle.tenant_service.specs.Tenants.{held_in, holding_in, kept_tail, Stands, IsSettled};
 ghost use Rattle.tenant_service.specs.OneStep.{Takes, Fed, refusal_told};
 
@@ -177,6 +180,16 @@ pub fn feed<N: Naming>(
             give_up(pool, tenant, Phase::Dead(OUT_OF_MEMORY));
             Answer::Memory(items)
         }
+    }
+}
+
+/// Whether the stream of a tenant has read `done`.
+pub fn has_read_done(tenant: &Tenant) -> bool
+    ensures { (pool : Cells) → result ≡ has_read_done (holding_in pool tenant.now) }
+{
+    match &tenant.phase {
+        Phase::Running(stream) => stream.is_done(),
+        _ => false,
     }
 }
 

@@ -11,7 +11,7 @@ use Rattle.import_session.specs.Stream.{Running, Runs, Outcome, End, after_reply
 use Rattle.tenant_stream.specs.declared.stop.Stop.{Stop}
 use Rattle.tenant_stream.specs.declared.stop.Stop.TheVariants as stop
 -- For codes of values that hold a stream: it holds files of commits as branches.
-pub use Rattle.branch_trees.specs.ShapeCode.{branch_code}
+pub use Rattle.tree_build.specs.ShapeCode.{branch_code}
 
 -- What is kept of a stream between two pieces: its session, and the bytes of which no item was
 -- given yet.

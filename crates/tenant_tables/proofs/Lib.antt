@@ -10,3 +10,5 @@ pub mod AddLemmas
 pub mod Abbreviations
 pub mod FoundLemmas
 pub mod StoredGood
+pub mod InSight
+pub mod Positions

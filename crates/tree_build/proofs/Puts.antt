@@ -1,132 +1,205 @@
--- Files put among files that stand in order.
-use Rattle.std.proofs.Common.{◌≡◌, ◌+◌, ◌≤◌, Bool, true, false, T, cond, is_some, List, [], ◌∷◌}
-use Rattle.std.proofs.Common.{length, filter, Option, None, refl, sym, ap, ◌∙◌, subst, arith}
+-- Branches after something was put at a path.
+use Rattle.std.proofs.Common.{◌≡◌, ◌≢◌, ℕ, ◌+◌, ◌-◌, ◌<◌, ◌≤◌, true, false, List, [], ◌∷◌, ◌++◌, filter, length, refl, sym, ap, ◌∙◌, subst, arith}
+use Rattle.std.specs.Prelude.{Option, None, Some, nat_le}
+use Rattle.std.specs.FinMap as finmap
+use Rattle.std.specs.FinMap.{len-entries}
+use Rattle.std.proofs.lemmas.Bool.{le-leb, lt-leb}
 use Rattle.std.specs.List.{AllByRecursion}
-use Rattle.std.specs.Ordering.{eq_by_cmp, is_eq}
-use Rattle.std.specs.declared.cmp.Ordering.{Ordering}
-use Rattle.std.specs.declared.cmp.Ordering.TheVariants.{Less, Equal, Greater}
-use Rattle.std.specs.FinMap.Entries.{put, find, is_sorted, by_order, is_sorted-put}
-use Rattle.std.specs.FinMap.Entries.{is_sorted-where_key, length-put}
-use Rattle.git_paths.specs.Order.{path_cmp, path_cmp-total, path_cmp-IsAntisymmetric}
-use Rattle.git_paths.proofs.Cases.{by_cases}
-use Rattle.tree_build.specs.declared.entry.Entry.{Entry}
-use Rattle.tree_build.specs.declared.check.TheConstants.{FILES_LIMIT}
-use Rattle.tree_build.specs.FileMap.{Path, Listed, is_apart, ArePairwiseApart, IsFile, AreFiles}
-use Rattle.tree_build.specs.Kept.{put_all}
-use Rattle.tree_build.proofs.Apart.{is_apart-symmetric, not_apart_itself, all-filter, apart-filter}
+use Rattle.std.specs.Map.{keys_of}
+use Rattle.git_model.specs.Repository.{Object}
+use Rattle.std.proofs.lemmas.List.{append-nil}
+use Rattle.git_model.specs.declared.file_mode.FileMode.TheVariants as mode
+use Rattle.git_model.specs.ObjectName.{IsObjectName}
+use Rattle.git_paths.specs.Paths.{IsPath, is_within_limits}
+use Rattle.file_maps.specs.declared.entry.Entry.{Entry}
+use Rattle.file_maps.specs.FileMap.{Path, Listed, FileMap, AreFiles, listed, ArePairwiseApart}
+use Rattle.file_maps.specs.Edits.{with_files, moved, put_tree_at, put_fault}
+use Rattle.file_maps.specs.Kept.{stays, IsBelow}
+use Rattle.file_maps.specs.StoredFiles.{stored_files}
+use Rattle.file_maps.proofs.Edited.{edited, edited-is, AreFiles-edited, refusal-is, one-below, one-apart}
+use Rattle.file_maps.proofs.Maps.{listed-of}
+use Rattle.tree_build.specs.Shape.{file, opened, Shape, none, Held, shape_files, held_files}
+use Rattle.tree_build.specs.Branch.{Branch, root_files, files_in, IsHeld, IsBranch, closed_along}
+use Rattle.tree_build.specs.Editing.{new_directory, placed, taken}
+use Rattle.tree_build.specs.Opened.{recounted, too_many}
+use Rattle.file_maps.specs.declared.fault.Fault.{Fault}
+use Rattle.std.specs.Prelude.{Result}
+use Rattle.file_maps.specs.Calls.{Edits}
+use Rattle.file_maps.specs.declared.fault.Fault.TheVariants as fault
+use Rattle.tree_build.proofs.Ordered.{branch_listed}
+use Rattle.tree_build.proofs.Mapped.{put_map}
+use Rattle.tree_build.proofs.Placed.{placed_shape, placed_count, placed_look}
+use Rattle.tree_build.proofs.Branches.{map_is, opened_files, drop_few}
 
-pub T-true : (b : Bool) → T b → b ≡ true
-T-true true h = refl
-T-true false h = absurd h
+-- a map with files put into it that may be
+pub put_are_files : (m : FileMap) (to : Path) (fs : Listed) → AreFiles (listed m)
+    → AllByRecursion (IsBelow to) (moved to fs) → ArePairwiseApart (moved to fs)
+    → put_fault (moved to fs) (put_tree_at m to fs) ≡ None → AreFiles (listed (put_tree_at m to fs))
+put_are_files m to fs h below apart clean =
+    let same : edited None to (listed m) (moved to fs) ≡ put_tree_at m to fs = ap (λ (x : FileMap). put_tree_at x to fs) (map_is m) in
+    let n = length (filter (stays None to) (keys_of (listed m))) in
+    let unrefused = refusal-is None to (listed m) (moved to fs) n h below apart refl
+    ∙ ap (put_fault (moved to fs)) same ∙ clean in
+    let good = AreFiles-edited None to (listed m) (moved to fs) n h below apart refl unrefused in
+    subst (λ (x : FileMap). AreFiles (listed x))
+    (sym (edited-is None to (listed m) (moved to fs) h) ∙ same)
+    (subst AreFiles (sym (listed-of _ good)) good)
 
-pub true-T : (b : Bool) → b ≡ true → T b
-true-T b e = subst T (sym e) tt
+module _ (os : List Object) (h : Held) (held : IsHeld os h) (full : held_files (stored_files os) h ≢ [])
+    (inside : Shape) (tree : Option (List ℕ)) where
+  abbrev before : Held
+  before = record { what = opened tree; inside = inside }
 
-equal : (r : Ordering) → is_eq r ≡ true → r ≡ Equal
-equal Less e = cc
-equal Equal e = refl
-equal Greater e = cc
+  abbrev after : Path → ℕ → ℕ → Branch
+  after path files reads =
+      record { root = new_directory (placed path h inside); files = files; reads = reads }
 
--- what holds of a file and of others holds of all of them
-pub all-put : (P : Path × Entry → Type 0) (p : Path) (e : Entry) (fs : Listed) → P (p, e)
-    → AllByRecursion P fs → AllByRecursion P (put path_cmp p e fs)
-all-put P p e [] h rest = (h, tt)
-all-put P p e (f ∷ fs) h rest =
-    elim (path_cmp p f.0) as (λ r. path_cmp p f.0 ≡ r → AllByRecursion P (by_order r ((p, e) ∷ f ∷ fs) ((f.0, e) ∷ fs) (f ∷ put path_cmp p e fs))) [
-      | Less ↦ λ is. (h, rest)
-      | Equal ↦ λ is. (subst (λ (x : Path). P (x, e)) (path_cmp-IsAntisymmetric p f.0 is) h, rest.1)
-      | Greater ↦ λ is. (rest.0, all-put P p e fs h rest.1)
-    ] refl
+  sound_inside : (old : Branch) → old.root ≡ before → IsBranch os old → IsHeld os before
+  sound_inside old is b = subst (λ (x : Held). IsHeld os x) is b.held
 
-pub all-put_all : (P : Path × Entry → Type 0) (held files : Listed) → AllByRecursion P held
-    → AllByRecursion P files → AllByRecursion P (put_all held files)
-all-put_all P held [] h k = h
-all-put_all P held (f ∷ files) h k =
-    all-put P f.0 f.1 (put_all held files) k.0 (all-put_all P held files h k.1)
+  pub put_sound : (path : Path) → path ≢ [] → IsPath path → (old : Branch) → old.root ≡ before → IsBranch os old
+      → IsHeld os (new_directory (placed path h inside))
+  put_sound [] ne p old is b = absurd (ne refl)
+  put_sound (c ∷ path) ne p old is b =
+      (tt, placed_shape os h held full path c p inside (sound_inside old is b).1)
 
-apart-put : (p : Path) (e : Entry) (fs : Listed) → AllByRecursion (λ g. is_apart p g.0 ≡ true) fs
-    → ArePairwiseApart fs → ArePairwiseApart (put path_cmp p e fs)
-apart-put p e [] h rest = (tt, tt)
-apart-put p e (f ∷ fs) h rest =
-    elim (path_cmp p f.0) as (λ r. ArePairwiseApart (by_order r ((p, e) ∷ f ∷ fs) ((f.0, e) ∷ fs) (f ∷ put path_cmp p e fs))) [
-      | Less ↦ (h, rest)
-      | Equal ↦ rest
-      | Greater ↦ (
-        all-put (λ (g : Path × Entry). is_apart f.0 g.0 ≡ true) p e fs
-            (is_apart-symmetric f.0 p ∙ h.0) rest.0,
-        apart-put p e fs h.1 rest.1,
-      )
-    ]
+  pub put_count : (path : Path) → path ≢ [] → (old : Branch) → old.root ≡ before → IsBranch os old
+      → closed_along inside path ≡ 0
+      → length (shape_files (stored_files os) (placed path h inside))
+      ≡ old.files - taken (stored_files os) true path inside + length (held_files (stored_files os) h)
+  put_count [] ne old is b shut = absurd (ne refl)
+  put_count (c ∷ path) ne old is b shut =
+      let n = placed_count os h held full path c inside (sound_inside old is b).1 shut in
+      let few = drop_few os true (c ∷ path) ne inside tree old is b shut in
+      let m : old.files ≡ length (shape_files (stored_files os) inside) = b.counted
+      ∙ ap (λ (x : Held). length (held_files (stored_files os) x)) is in
+      omega arith
 
--- nothing is found of a path that stands apart from all
-none_apart : (p : Path) (fs : Listed) → AllByRecursion (λ g. is_apart p g.0 ≡ true) fs
-    → find path_cmp p fs ≡ None
-none_apart p [] h = refl
-none_apart p (f ∷ fs) h =
-    by_cases (eq_by_cmp path_cmp p f.0)
-    (λ yea. let same = path_cmp-IsAntisymmetric p f.0 (equal (path_cmp p f.0) yea) in absurd (not_apart_itself p (subst (λ (x : Path). is_apart p x ≡ true) (sym same) h.0)))
-    (λ nay. rw nay (none_apart p fs h.1))
+  pub put_files : (path : Path) → path ≢ [] → IsPath path → (old : Branch) → old.root ≡ before → IsBranch os old
+      → closed_along inside path ≡ 0 → (files reads : ℕ)
+      → files_in os (after path files reads) ≡ put_tree_at (files_in os old) path (held_files (stored_files os) h)
+  unfolding files_in
+  put_files [] ne p old is b shut files reads = absurd (ne refl)
+  put_files (c ∷ path) ne p old is b shut files reads =
+      put_map (shape_files (stored_files os) inside) (shape_files (stored_files os) (placed (c ∷ path) h inside)) (c ∷ path)
+      (held_files (stored_files os) h)
+      (placed_look os h held full path c p inside (sound_inside old is b).1 shut)
+      ∙ ap (λ (x : Held). put_tree_at (with_files finmap.empty (held_files (stored_files os) x)) (c ∷ path) (held_files (stored_files os) h)) (sym is)
 
--- Files that may be put: each stands apart from those that are held, and from each other.
-pub record MayPut (held files : Listed) : Type 0 where
-  pub outside : AllByRecursion (λ f. AllByRecursion (λ g. is_apart f.0 g.0 ≡ true) held) files
-  pub apart : ArePairwiseApart files
+  -- how many files the map has then
+  pub put_len : (path : Path) → path ≢ [] → IsPath path → (old : Branch) → old.root ≡ before → IsBranch os old
+      → closed_along inside path ≡ 0
+      → finmap.len (put_tree_at (files_in os old) path (held_files (stored_files os) h))
+      ≡ old.files - taken (stored_files os) true path inside + length (held_files (stored_files os) h)
+  put_len path ne p old is b shut =
+      ap (λ (m : FileMap). finmap.len m) (sym (put_files path ne p old is b shut 0 0))
+      ∙ len-entries (files_in os (after path 0 0))
+      ∙ ap (λ (fs : Listed). length fs) (branch_listed os (after path 0 0) (put_sound path ne p old is b))
+      ∙ put_count path ne old is b shut
 
-pub sorted-put_all : (held files : Listed) → T (is_sorted path_cmp held)
-    → T (is_sorted path_cmp (put_all held files))
-sorted-put_all held [] h = h
-sorted-put_all held (f ∷ files) h =
-    is_sorted-put path_cmp path_cmp-total f.0 f.1 (put_all held files) (sorted-put_all held files h)
+  pub put_branch : (path : Path) → path ≢ [] → IsPath path → (old : Branch) → old.root ≡ before → IsBranch os old
+      → closed_along inside path ≡ 0 → (files reads : ℕ)
+      → files ≡ old.files - taken (stored_files os) true path inside + length (held_files (stored_files os) h)
+      → AreFiles (listed (put_tree_at (files_in os old) path (held_files (stored_files os) h)))
+      → IsBranch os (after path files reads)
+  put_branch path ne p old is b shut files reads count good = record {
+    directory = tt;
+    held = put_sound path ne p old is b;
+    counted = count ∙ sym (put_count path ne old is b shut);
+    files = subst (λ (m : FileMap). AreFiles (listed m)) (sym (put_files path ne p old is b shut files reads)) good;
+  }
 
-apart_from_all : (held files : Listed) (p : Path) → AllByRecursion (λ g. is_apart p g.0 ≡ true) held
-    → AllByRecursion (λ g. is_apart p g.0 ≡ true) files
-    → AllByRecursion (λ g. is_apart p g.0 ≡ true) (put_all held files)
-apart_from_all held files p h k =
-    all-put_all (λ (g : Path × Entry). is_apart p g.0 ≡ true) held files h k
+-- ---- limits
 
-pub apart-put_all : (held files : Listed) → MayPut held files → ArePairwiseApart held
-    → ArePairwiseApart (put_all held files)
-apart-put_all held [] may h = h
-apart-put_all held (f ∷ files) may h =
-    apart-put f.0 f.1 (put_all held files) (apart_from_all held files f.0 may.outside.0 may.apart.0)
-    (apart-put_all held files (record { outside = may.outside.1; apart = may.apart.1 }) h)
+pub many : (n : ℕ) → 1048576 < n → too_many n ≡ Some fault.Limit
+many n h = let over : nat_le n 1048576 ≡ false = lt-leb n 1048576 h in rw over refl
 
-pub length-put_all : (held files : Listed) → MayPut held files → T (is_sorted path_cmp held)
-    → length (put_all held files) ≡ length held + length files
-length-put_all held [] may h = omega arith
-length-put_all held (f ∷ files) may h =
-    let rest = length-put_all held files (record { outside = may.outside.1; apart = may.apart.1 }) h in
-    let none = none_apart f.0 (put_all held files) (apart_from_all held files f.0 may.outside.0 may.apart.0) in
-    let one = length-put path_cmp path_cmp-total f.0 f.1 (put_all held files) (sorted-put_all held files h) in
-    let more : length (put path_cmp f.0 f.1 (put_all held files)) ≡ length (put_all held files) + 1 = one
-    ∙ ap
-    (λ (o : Option Entry). cond (is_some o) (length (put_all held files)) (length (put_all held files) + 1)) none in
-    omega arith
+pub not_many : (n : ℕ) → n ≤ 1048576 → too_many n ≡ None
+not_many n h = let yes_it : nat_le n 1048576 ≡ true = le-leb n 1048576 h in rw yes_it refl
 
-pub AreFiles-put_all : (held files : Listed) → AreFiles held → MayPut held files
-    → AllByRecursion IsFile files → length held + length files ≤ FILES_LIMIT
-    → AreFiles (put_all held files)
-AreFiles-put_all held files h may each few = record {
-  in_order = T-true _ (sorted-put_all held files (true-T _ h.in_order));
-  each = all-put_all IsFile held files h.each each;
-  apart = apart-put_all held files may h.apart;
-  few = let n = length-put_all held files may (true-T _ h.in_order) in omega arith;
-}
+-- what is put may be put, if the map does not get too many files
+abbrev pub MayHave : List Object → Path → Held → Branch → Type 0
+MayHave os path h b =
+    finmap.len (put_tree_at (files_in os b) path (held_files (stored_files os) h)) ≤ 1048576
+    → AreFiles (listed (put_tree_at (files_in os b) path (held_files (stored_files os) h)))
 
-pub length-filter-le : {A : Type 0} (t : A → Bool) (xs : List A) → length (filter t xs) ≤ length xs
-length-filter-le t [] = omega arith
-length-filter-le t (x ∷ xs) =
-    let n = length-filter-le t xs in by_cases (t x) (λ yea. rw yea (omega arith)) (λ nay. rw nay (omega arith))
+-- ---- one file
 
-pub AreFiles-filter : (t : Path → Bool) (fs : Listed) → AreFiles fs
-    → AreFiles (filter (λ f. t f.0) fs)
-AreFiles-filter t fs h = record {
-  in_order = T-true _ (is_sorted-where_key path_cmp t fs (true-T _ h.in_order));
-  each = all-filter IsFile (λ f. t f.0) fs h.each;
-  apart = apart-filter (λ f. t f.0) fs h.apart;
-  few = let n = length-filter-le (λ (f : Path × Entry). t f.0) fs in let m = h.few in omega arith;
-}
+pub one_fault : (path : Path) (e : Entry) (after : FileMap) → path ≢ [] → is_within_limits path ≡ true
+    → put_fault (moved path (([], e) ∷ [])) after ≡ too_many (finmap.len after)
+unfolding put_fault
+one_fault [] e after ne within = absurd (ne refl)
+one_fault (c ∷ path) e after ne within =
+    let same : is_within_limits ((c ∷ path) ++ []) ≡ true = ap is_within_limits (append-nil (c ∷ path)) ∙ within in
+    rw same refl
 
-pub AreFiles-nil : (fs : Listed) → fs ≡ [] → AreFiles fs
-AreFiles-nil fs e =
-    subst AreFiles (sym e) (record { in_order = refl; each = tt; apart = tt; few = omega arith })
+pub root_fault : (path : Path) (e : Entry) (after : FileMap) → path ≡ []
+    → put_fault (moved path (([], e) ∷ [])) after ≡ Some fault.RootNotDirectory
+unfolding put_fault
+root_fault path e after is = ap (λ (p : Path). put_fault (moved p (([], e) ∷ [])) after) is
+
+pub long_fault : (path : Path) (e : Entry) (after : FileMap) → path ≢ [] → is_within_limits path ≡ false
+    → put_fault (moved path (([], e) ∷ [])) after ≡ Some fault.Limit
+unfolding put_fault
+long_fault [] e after ne long = absurd (ne refl)
+long_fault (c ∷ path) e after ne long =
+    let same : is_within_limits ((c ∷ path) ++ []) ≡ false = ap is_within_limits (append-nil (c ∷ path)) ∙ long in
+    rw same refl
+
+pub one_good : (os : List Object) (b : Branch) → IsBranch os b → (path : Path) (e : Entry) → path ≢ [] → IsPath path
+    → is_within_limits path ≡ true → e.mode ≢ mode.Directory → IsObjectName e.name
+    → MayHave os path (record { what = file e; inside = none }) b
+one_good os b h path e ne p within m id few =
+    let files : moved path (([], e) ∷ []) ≡ (path, e) ∷ [] = ap (λ (q : Path). (q, e) ∷ []) (append-nil path) in
+    put_are_files (files_in os b) path (([], e) ∷ []) h.files
+    (one-below path e (moved path (([], e) ∷ [])) files p m id) (one-apart path e (moved path (([], e) ∷ [])) files)
+    (one_fault path e (put_tree_at (files_in os b) path (([], e) ∷ [])) ne within
+    ∙ not_many (finmap.len (put_tree_at (files_in os b) path (([], e) ∷ []))) few)
+
+pub edits_put : {A : Type 0} (result : Result A Fault) (m old new : FileMap) → m ≡ old → (q path : Path) → q ≡ path
+    → (e : Entry) → path ≢ [] → is_within_limits path ≡ true
+    → Edits result m new (too_many (finmap.len (put_tree_at m q (([], e) ∷ [])))) (put_tree_at m q (([], e) ∷ []))
+    → Edits result old new (put_fault (moved path (([], e) ∷ [])) (put_tree_at old path (([], e) ∷ []))) (put_tree_at old path (([], e) ∷ []))
+edits_put result m old new same q path is e ne within h =
+    subst (λ (f : Option Fault). Edits result old new f (put_tree_at old path (([], e) ∷ [])))
+    (sym (one_fault path e (put_tree_at old path (([], e) ∷ [])) ne within))
+    (subst (λ (p : Path). Edits result old new (too_many (finmap.len (put_tree_at old p (([], e) ∷ [])))) (put_tree_at old p (([], e) ∷ []))) is
+    (subst (λ (x : FileMap). Edits result x new (too_many (finmap.len (put_tree_at x q (([], e) ∷ [])))) (put_tree_at x q (([], e) ∷ []))) same h))
+
+-- ---- a node of which the number of files is counted already
+
+module _ (os : List Object) (h : Held) (held : IsHeld os h) (full : held_files (stored_files os) h ≢ [])
+    (inside : Shape) (tree : Option (List ℕ)) (path : Path) (ne : path ≢ []) (p : IsPath path)
+    (old : Branch) (is : old.root ≡ record { what = opened tree; inside = inside })
+    (b : IsBranch os (recounted os old)) (shut : closed_along inside path ≡ 0)
+    (total : ℕ) (all : total ≡ length (root_files os old) + length (held_files (stored_files os) h)) where
+  same_files : files_in os (recounted os old) ≡ files_in os old
+  same_files = opened_files os old (recounted os old) refl
+
+  abbrev with_node : FileMap
+  with_node = put_tree_at (files_in os old) path (held_files (stored_files os) h)
+
+  spelled : put_tree_at (files_in os (recounted os old)) path (held_files (stored_files os) h) ≡ with_node
+  spelled = ap (λ (m : FileMap). put_tree_at m path (held_files (stored_files os) h)) same_files
+
+  pub total_few : taken (stored_files os) true path inside ≤ length (root_files os old)
+  total_few = drop_few os true path ne inside tree (recounted os old) is b shut
+
+  pub total_len : finmap.len with_node ≡ total - taken (stored_files os) true path inside
+  total_len =
+      let len = put_len os h held full inside tree path ne p (recounted os old) is b shut in
+      let few = total_few in
+      ap (λ (m : FileMap). finmap.len m) (sym spelled) ∙ len ∙ omega arith
+
+  pub total_files : (files reads : ℕ)
+      → files_in os (record { root = new_directory (placed path h inside); files = files; reads = reads })
+      ≡ with_node
+  total_files files reads = put_files os h held full inside tree path ne p (recounted os old) is b shut files reads ∙ spelled
+
+  pub total_branch : (files reads : ℕ) → files ≡ total - taken (stored_files os) true path inside
+      → AreFiles (listed with_node)
+      → IsBranch os (record { root = new_directory (placed path h inside); files = files; reads = reads })
+  total_branch files reads count good =
+      let few = total_few in
+      put_branch os h held full inside tree path ne p (recounted os old) is b shut files reads (count ∙ omega arith)
+      (subst (λ (m : FileMap). AreFiles (listed m)) (sym spelled) good)

@@ -1,14 +1,121 @@
-//! What stands at a path of a file map.
+//! What stands at a path of a branch: what was opened is looked into, and what was not is read.
 
-use git_model::FileMode;
-use git_objects::Name;
+ghost use Rattle.std.specs.Prelude.{◌≡◌, ◌≢◌, [], ◌∷◌, Some, IfOk};
+ghost use Rattle.tenant_tables.specs.Objects.{objects};
+ghost use Rattle.tenant_tables.specs.StandsIn.{StandsIn};
+ghost use Rattle.file_maps.specs.StoredFiles.{stored_files};
+ghost use Rattle.file_maps.specs.Trees.{tree_id, entry_at};
+ghost use Rattle.tree_build.specs.Shape.{shape_files, held_files};
+ghost use Rattle.tree_build.specs.Branch.{IsDirectory, IsShape, IsHeld, IsBranch, files_in};
+ghost use Rattle.tree_build.specs.Nodes.{held, shape_of};
+ghost use Rattle.tree_build.specs.Standing.{stands_at};
 
-/// What stands at a path: the mode, and the object name of the blob, of the tree, or of the commit
-/// of a gitlink.
-#[derive(Clone, Copy, Debug, PartialEq, Eq)]
-pub struct Entry {
-    /// What stands there.
-    pub mode: FileMode,
-    /// The name of its object.
-    pub name: Name,
+use crate::component::Component;
+use crate::dir::Node;
+use crate::files::Files;
+use crate::names::place_of;
+use crate::naming::{entry_here, tree_of};
+use crate::reading::stored_entry;
+use content_pool::Pool;
+use file_maps::Entry;
+use git_objects::{FileMode, Memory, Name, Naming};
+use git_paths::{Components, Path};
+use std::alloc::Global;
+use tenant_tables::Table;
+
+/// What stands at a path of what is held at an entry.
+#[cycle(looking)]
+pub(crate) fn entry_at<N: Naming>(
+    alloc: Global,
+    pool: &Pool<N>,
+    table: &Table,
+    node: &Node,
+    path: &Components<'_>,
+) -> Result<Option<Entry>, Memory>
+    requires stands { StandsIn N.digest_of pool.now table.now.entries }
+    requires sound { IsHeld (objects pool.now table.now.entries) (held node.now) }
+    requires some { path.now ≡ []
+        → held_files (stored_files (objects pool.now table.now.entries)) (held node.now) ≢ [] }
+    ensures { IfOk result (λ o. o ≡ stands_at N.digest_of
+        (held_files (stored_files (objects pool.now table.now.entries)) (held node.now)) path.now) }
+{
+    let Some((name, rest)) = path.split_first() else {
+        return Ok(Some(entry_here(alloc, pool, table, node)?));
+    };
+    match node {
+        Node::File(_) => Ok(None),
+        Node::Unopened(tree) => stored_entry(alloc, pool, table, tree, name, &rest, &mut 0),
+        Node::Opened(dir) => entry_below(alloc, pool, table, &dir.entries, name, &rest),
+    }
+}
+
+#[cycle(looking)]
+#[tactic(auto, using(crate::proofs::Searched::ordered))]
+fn entry_below<N: Naming>(
+    alloc: Global,
+    pool: &Pool<N>,
+    table: &Table,
+    entries: &[(Component, Node)],
+    name: &[u8],
+    rest: &Components<'_>,
+) -> Result<Option<Entry>, Memory>
+    requires stands { StandsIn N.digest_of pool.now table.now.entries }
+    requires sound { IsShape (objects pool.now table.now.entries) (shape_of entries.now) }
+    ensures { IfOk result (λ o. o ≡ stands_at N.digest_of
+        (shape_files (stored_files (objects pool.now table.now.entries)) (shape_of entries.now))
+        (name.now ∷ rest.now)) }
+{
+    match place_of(entries, name) {
+        Some(place) => entry_at(alloc, pool, table, &entries[place].1, rest),
+        None => Ok(None),
+    }
+}
+
+// The name of the tree of the root.
+fn root_tree<N: Naming>(
+    alloc: Global,
+    pool: &Pool<N>,
+    table: &Table,
+    root: &Node,
+) -> Result<Name, Memory>
+    requires stands { StandsIn N.digest_of pool.now table.now.entries }
+    requires directory { IsDirectory (held root.now).what }
+    requires sound { IsHeld (objects pool.now table.now.entries) (held root.now) }
+    ensures { IfOk result (λ id. id ≡ tree_id N.digest_of
+        (held_files (stored_files (objects pool.now table.now.entries)) (held root.now))) }
+{
+    match root {
+        Node::File(file) => Ok(file.name),
+        Node::Unopened(tree) => Ok(*tree),
+        Node::Opened(dir) => tree_of(alloc, pool, table, dir),
+    }
+}
+
+impl Files {
+    /// What stands at a path: a file, a directory with the name of its tree, or nothing. The root
+    /// is always a directory.
+    ///
+    /// The trees are named and not stored, nothing is opened, and what is read on the way is not
+    /// counted by `reads`. Takes memory for the contents of opened directories; `Memory` (90) is
+    /// the only refusal.
+    ///
+    /// The pool and the table are those that the value stands in.
+    pub fn entry<N: Naming>(
+        &self,
+        pool: &Pool<N>,
+        table: &Table,
+        path: &Path,
+    ) -> Result<Option<Entry>, Memory>
+        requires stands { StandsIn N.digest_of pool.now table.now.entries }
+        requires branch { IsBranch (objects pool.now table.now.entries) self.now }
+        ensures { IfOk result (λ o. o ≡ entry_at N.digest_of
+            (files_in (objects pool.now table.now.entries) self.now) path.now) }
+    {
+        if path.is_root() {
+            let name = root_tree(self.alloc, pool, table, &self.root)?;
+            let mode = FileMode::Directory;
+            return Ok(Some(Entry { mode, name }));
+        }
+        entry_at(self.alloc, pool, table, &self.root, &path.components())
+    }
 }

@@ -1,21 +1,26 @@
-//! The files of a branch: which file stands at each path, and the trees that they make.
+//! Branches as trees of directories that are opened only where somebody looks.
 #![tactic(auto)]
 
-mod below;
-mod check;
+mod component;
+mod copying;
+mod counting;
+mod dir;
+mod dropping;
+mod edits;
 mod entry;
-mod fault;
+mod extents;
 mod files;
-mod grafted;
+mod grafting;
 pub mod laws;
-mod map;
+mod moving;
+mod names;
 mod naming;
+mod opening;
+mod placing;
+mod reading;
+mod stores;
 mod storing;
+mod sums;
+mod within;
 
-pub use check::FILES_LIMIT;
-pub use entry::Entry;
-pub use fault::Fault;
 pub use files::Files;
-pub use grafted::{is_small, read_entries, tree_summary};
-pub use naming::contents_of;
-pub use storing::add_entries;

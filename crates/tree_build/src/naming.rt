@@ -1,153 +1,135 @@
-//! The names of the trees that files make, without storing them.
+//! The names of the trees of opened directories, without storing them.
 
-ghost use Rattle.std.specs.Prelude.{◌≡◌, [], map, IfOk, OnOk};
+ghost use Rattle.std.specs.Prelude.{◌≡◌, ◌≢◌, [], Some, IfOk, OnOk};
+ghost use Rattle.git_model.specs.declared.file_mode.FileMode.TheVariants as mode;
 ghost use Rattle.git_objects.specs.Parts.{entry_of, entries_of};
-ghost use Rattle.git_model.specs.Tree.{tree_contents};
-ghost use Rattle.tree_build.specs.Edits.{is_root};
-ghost use Rattle.tree_build.specs.Trees.{entries_within, tree_name, file_of, entry_or};
-ghost use Rattle.tree_build.specs.Below.{files_below, group_of, groups_of, entry_by, id_of, direct_of};
+ghost use Rattle.tenant_tables.specs.Objects.{objects};
+ghost use Rattle.tenant_tables.specs.StandsIn.{StandsIn};
+ghost use Rattle.file_maps.specs.StoredFiles.{stored_files};
+ghost use Rattle.file_maps.specs.Trees.{tree_entries, tree_id, tree_name};
+ghost use Rattle.tree_build.specs.Shape.{opened, shape_files, held_files};
+ghost use Rattle.tree_build.specs.Branch.{IsShape, IsHeld};
+ghost use Rattle.tree_build.specs.Nodes.{held, shape_of};
+ghost use Rattle.tree_build.specs.Standing.{stands_at};
 
-use crate::below::{Below, Group, depth_of, file_of, grouped, is_nowhere};
-use crate::entry::Entry;
+use crate::component::Component;
+use crate::dir::{Dir, Node};
 use content_pool::Pool;
-use git_objects::{FileMode, Kind, Memory, Name, Naming, TreeEntry, write_tree};
-use git_paths::Path;
+use file_maps::{Entry, contents_of};
+use git_objects::{FileMode, Kind, Memory, Name, Naming, TreeEntry};
 use std::alloc::Global;
+use tenant_tables::Table;
 
-/// The entry of a group, with the name of its object.
-pub(crate) fn entry_by<'a>(group: &Group<'a>, id: Name) -> TreeEntry<'a>
-    ensures { entry_of result ≡ entry_by (group_of group.now) id }
-{
-    let name = group.name;
-    match file_of(&group.below) {
-        Some(file) => TreeEntry {
-            mode: file.mode,
-            name,
-            id,
-        },
-        None => TreeEntry {
-            mode: FileMode::Directory,
-            name,
-            id,
-        },
-    }
-}
-
-/// The contents of the tree with these entries, in this order. `Memory` (90) is the only refusal.
-pub fn contents_of(alloc: Global, entries: &[TreeEntry<'_>]) -> Result<Vec<u8>, Memory>
-    ensures { IfOk result (λ v. v.items ≡ tree_contents (entries_of entries.now)) }
-{
-    let mut contents = Vec::new(alloc);
-    write_tree(entries, &mut contents)?;
-    Ok(contents)
-}
-
-// The name of the tree with these entries.
-fn name_of_entries<N: Naming>(
-    alloc: Global,
-    pool: &Pool<N>,
-    entries: &[TreeEntry<'_>],
-) -> Result<Name, Memory>
-    ensures { IfOk result (λ id. id ≡ tree_name N.digest_of (entries_of entries.now)) }
-{
-    let contents = contents_of(alloc, entries)?;
-    pool.name_of(Kind::Tree, &contents)
-}
-
-/// The name of the tree of these files, whose paths have at most `deep` components.
+/// The name of the tree of an opened directory.
 #[cycle(naming)]
-pub(crate) fn tree_id<N: Naming>(
+pub(crate) fn tree_of<N: Naming>(
     alloc: Global,
     pool: &Pool<N>,
-    deep: usize,
-    files: &[Below<'_>],
+    table: &Table,
+    dir: &Dir,
 ) -> Result<Name, Memory>
-    ensures { IfOk result (λ id. id
-        ≡ tree_name N.digest_of (entries_within N.digest_of deep (files_below files.now))) }
+    requires stands { StandsIn N.digest_of pool.now table.now.entries }
+    requires sound { IsHeld (objects pool.now table.now.entries)
+        (record { what = opened dir.now.tree; inside = dir.now.entries }) }
+    ensures { IfOk result (λ id. id ≡ tree_id N.digest_of
+        (shape_files (stored_files (objects pool.now table.now.entries)) dir.now.entries)) }
 {
-    if deep == 0 {
-        return pool.name_of(Kind::Tree, &[]);
+    match dir.tree {
+        Some(name) => Ok(name),
+        None => tree_of_entries(alloc, pool, table, &dir.entries),
     }
-    match grouped(alloc, files) {
-        Ok(groups) => tree_of_groups(alloc, pool, deep - 1, &groups),
+}
+
+#[cycle(naming)]
+fn tree_of_entries<N: Naming>(
+    alloc: Global,
+    pool: &Pool<N>,
+    table: &Table,
+    entries: &[(Component, Node)],
+) -> Result<Name, Memory>
+    requires stands { StandsIn N.digest_of pool.now table.now.entries }
+    requires sound { IsShape (objects pool.now table.now.entries) (shape_of entries.now) }
+    ensures { IfOk result (λ id. id ≡ tree_id N.digest_of
+        (shape_files (stored_files (objects pool.now table.now.entries)) (shape_of entries.now))) }
+{
+    let mut rows = Vec::new(alloc);
+    match push_rows(alloc, pool, table, entries, &mut rows) {
+        Ok(()) => name_of_rows(alloc, pool, &rows),
         Err(_) => Err(Memory),
     }
 }
 
-// The name of the tree of these groups.
+// Puts what stands in a directory, as its tree has it, where there is nothing.
 #[cycle(naming)]
-fn tree_of_groups<N: Naming>(
+fn push_rows<'a, N: Naming>(
     alloc: Global,
     pool: &Pool<N>,
-    deep: usize,
-    groups: &[Group<'_>],
-) -> Result<Name, Memory>
-    ensures { IfOk result (λ id. id
-        ≡ tree_name N.digest_of (map (direct_of N.digest_of deep) (groups_of groups.now))) }
-{
-    let mut entries = Vec::new(alloc);
-    match push_entries(alloc, pool, deep, groups, &mut entries) {
-        Ok(()) => name_of_entries(alloc, pool, &entries),
-        Err(_) => Err(Memory),
-    }
-}
-
-// Puts the entries of these groups where there are none.
-#[cycle(naming)]
-fn push_entries<'a, N: Naming>(
-    alloc: Global,
-    pool: &Pool<N>,
-    deep: usize,
-    groups: &[Group<'a>],
-    entries: &mut Vec<TreeEntry<'a>>,
+    table: &Table,
+    entries: &'a [(Component, Node)],
+    rows: &mut Vec<TreeEntry<'a>>,
 ) -> Result<(), Memory>
-    requires { entries.old.items ≡ [] }
-    ensures { OnOk result (entries_of entries.new.items
-        ≡ map (direct_of N.digest_of deep) (groups_of groups.now)) }
+    requires stands { StandsIn N.digest_of pool.now table.now.entries }
+    requires sound { IsShape (objects pool.now table.now.entries) (shape_of entries.now) }
+    requires none { rows.old.items ≡ [] }
+    ensures { OnOk result (entries_of rows.new.items ≡ tree_entries N.digest_of
+        (shape_files (stored_files (objects pool.now table.now.entries)) (shape_of entries.now))) }
 {
-    for group in groups {
-        let id = id_of(alloc, pool, deep, group)?;
-        if entries.push(entry_by(group, id)).is_err() {
+    for entry in entries {
+        let held = entry_here(alloc, pool, table, &entry.1)?;
+        if rows.push(row_of(entry, held)).is_err() {
             return Err(Memory);
         }
     }
     Ok(())
 }
 
-#[cycle(naming)]
-fn id_of<N: Naming>(
+// The name of the tree with these entries.
+fn name_of_rows<N: Naming>(
     alloc: Global,
     pool: &Pool<N>,
-    deep: usize,
-    group: &Group<'_>,
+    rows: &[TreeEntry<'_>],
 ) -> Result<Name, Memory>
-    ensures { IfOk result (λ id. id ≡ id_of N.digest_of deep (group_of group.now)) }
+    ensures { IfOk result (λ id. id ≡ tree_name N.digest_of (entries_of rows.now)) }
 {
-    match file_of(&group.below) {
-        Some(file) => Ok(file.name),
-        None => tree_id(alloc, pool, deep, &group.below),
+    let contents = contents_of(alloc, rows)?;
+    pool.name_of(Kind::Tree, &contents)
+}
+
+fn row_of<'a>(entry: &'a (Component, Node), held: Entry) -> TreeEntry<'a>
+    ensures { entry_of result ≡ record { mode = held.mode; name = entry.now.0; id = held.name } }
+{
+    TreeEntry {
+        mode: held.mode,
+        name: entry.0.as_bytes(),
+        id: held.name,
     }
 }
 
-/// What stands at a path where these files stand at or below it, by their paths from there.
-pub(crate) fn entry_of<N: Naming>(
+fn directory(name: Name) -> Entry
+    ensures { result ≡ record { mode = mode.Directory; name = name } }
+{
+    let mode = FileMode::Directory;
+    Entry { mode, name }
+}
+
+/// What is held at an entry: a file, or a directory with the name of its tree.
+#[cycle(naming)]
+pub(crate) fn entry_here<N: Naming>(
     alloc: Global,
     pool: &Pool<N>,
-    path: &Path,
-    files: &[Below<'_>],
-) -> Result<Option<Entry>, Memory>
-    ensures { let files = files_below files.now in
-        IfOk result (λ o. o ≡ entry_or N.digest_of (is_root path.now) files (file_of files)) }
+    table: &Table,
+    node: &Node,
+) -> Result<Entry, Memory>
+    requires stands { StandsIn N.digest_of pool.now table.now.entries }
+    requires sound { IsHeld (objects pool.now table.now.entries) (held node.now) }
+    requires some { held_files (stored_files (objects pool.now table.now.entries)) (held node.now)
+        ≢ [] }
+    ensures { IfOk result (λ e. Some e ≡ stands_at N.digest_of
+        (held_files (stored_files (objects pool.now table.now.entries)) (held node.now)) []) }
 {
-    match file_of(files) {
-        Some(file) => Ok(Some(file)),
-        None => {
-            if is_nowhere(path, files) {
-                return Ok(None);
-            }
-            let name = tree_id(alloc, pool, depth_of(files), files)?;
-            let mode = FileMode::Directory;
-            Ok(Some(Entry { mode, name }))
-        }
+    match node {
+        Node::File(file) => Ok(*file),
+        Node::Unopened(name) => Ok(directory(*name)),
+        Node::Opened(dir) => Ok(directory(tree_of(alloc, pool, table, dir)?)),
     }
 }

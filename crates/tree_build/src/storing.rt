@@ -1,201 +1,229 @@
-//! Storing the trees that files make, children first.
+//! Storing the trees of directories that were opened, children first.
 
-ghost use Rattle.std.specs.Prelude.{◌≡◌, ◌≤◌, [], ◌∷◌, None, Some, OnOk, OnErr};
-ghost use Rattle.git_objects.specs.Parts.{entries_of};
+ghost use Rattle.std.specs.Prelude.{◌≡◌, ◌≢◌, ◌<◌, ◌≤◌, ◌+◌, length, [], ◌∷◌, None, Some, IfOk, OnOk, get_or, fold, map, take};
+ghost use Rattle.git_model.specs.declared.file_mode.FileMode.TheVariants as mode;
 ghost use Rattle.git_model.specs.ObjectName.{IsObjectName};
-ghost use Rattle.git_model.specs.Tree.{tree_contents};
+ghost use Rattle.git_objects.specs.Parts.{entry_of, entries_of};
+ghost use Rattle.std.specs.List.{AllByRecursion};
+ghost use Rattle.tenant_tables.specs.Objects.{objects};
 ghost use Rattle.tenant_tables.specs.StandsIn.{StandsIn};
-ghost use Rattle.tenant_tables.specs.Trees.{FitsTree};
-ghost use Rattle.tenant_tables.specs.View.{summary_of};
-ghost use Rattle.tree_build.specs.declared.entry.Entry.{Entry};
-ghost use Rattle.tree_build.specs.Trees.{entries_within, trees_within, nested_trees, tree_id, tree_name, depth_of, file_of, grouped};
-ghost use Rattle.tree_build.specs.Below.{files_below, group_of, groups_of, id_of, group_trees};
-ghost use Rattle.tree_build.specs.Storing.{StoresTrees, HasRoomBeside, as_fault};
-ghost use Rattle.tree_build.specs.Storable.{files_summary, longest_of, AreStorable, IsStorableGroup, IsKnownGroup};
+ghost use Rattle.file_maps.specs.Trees.{nested_trees, tree_id, tree_name, file_of, unless_file};
+ghost use Rattle.file_maps.specs.Storable.{AreStorable};
+ghost use Rattle.file_maps.specs.StoredFiles.{stored_files};
+ghost use Rattle.file_maps.specs.StoredTree.{ListsTree};
+ghost use Rattle.file_maps.specs.Storing.{StoresTrees, HasRoomBeside};
+ghost use Rattle.tree_build.specs.Shape.{opened, shape_files, held_files};
+ghost use Rattle.tree_build.specs.Branch.{IsShape, IsHeld};
+ghost use Rattle.tree_build.specs.Nodes.{held, shape_of};
+ghost use Rattle.tree_build.specs.Stores.{bare, bare_held, IsNamed, AreNamed, entry_of_what, entries_of_shape, parts_of, trees_below, trees_of_parts};
 
-use crate::below::{Below, Group, depth_of, file_of, grouped};
-use crate::fault::Fault;
-use crate::naming::{contents_of, entry_by};
+use crate::component::Component;
+use crate::dir::{Dir, Node};
+use crate::sums::summary_of;
 use content_pool::Pool;
-use git_objects::{Name, Naming, TreeEntry, has_twenty_bytes};
+use file_maps::{Fault, add_entries};
+use git_objects::{FileMode, Memory, Name, Naming, TreeEntry, has_twenty_bytes};
 use std::alloc::Global;
-use tenant_tables::{Fault as TableFault, Summary, Table};
+use tenant_tables::Table;
 
-fn as_fault(refusal: TableFault) -> Fault
-    ensures { result ≡ as_fault refusal }
-{
-    match refusal {
-        TableFault::Limit => Fault::Limit,
-        TableFault::NameCollision => Fault::NameCollision,
-        TableFault::Memory => Fault::Memory,
-    }
-}
-
-// The most components of a path, and the most bytes.
-fn extent_of(files: &[Below<'_>]) -> (usize, usize)
-    ensures depth { result.0 ≡ depth_of (files_below files.now) }
-    ensures longest { result.1 ≡ longest_of (files_below files.now) }
-{
-    let mut depth = 0;
-    let mut longest = 0;
-    for file in files {
-        depth = depth.max(file.path.len());
-        longest = longest.max(file.path.as_bytes().len());
-    }
-    (depth, longest)
-}
-
-/// The summary of the tree of these files.
-fn summary_of(files: &[Below<'_>]) -> Summary
-    requires { AreStorable (files_below files.now) }
-    ensures { result ≡ files_summary (files_below files.now) }
-{
-    let (depth, longest) = extent_of(files);
-    Summary {
-        files: files.len() as u32,
-        depth: depth as u32,
-        longest: longest as u32,
-    }
-}
-
-/// Adds the tree with these entries to a table, and answers its name: git-mktree(1).
-///
-/// The entries make a tree whose directories stand in the table, and the summary is that of its
-/// files. A tree that is there is found. `Fault::Limit` (25) where the contents are too long or the
-/// table is full, else `Fault::NameCollision` (24) where the table has another object of its name;
-/// `Fault::Memory` (90) where a growth was refused. Nothing has changed after these.
-///
-/// The pool is the one that the table stands in.
-pub fn add_entries<N: Naming>(
-    alloc: Global,
-    pool: &mut Pool<N>,
-    table: &mut Table,
-    entries: &[TreeEntry<'_>],
-    summary: Summary,
-) -> Result<Name, Fault>
-    requires stands { StandsIn N.digest_of pool.old table.old.entries }
-    requires room { HasRoomBeside pool.old table.old.entries }
-    requires fits { FitsTree table.old.entries (tree_contents (entries_of entries.now)) summary }
-    ensures stores { StoresTrees result N.digest_of pool.old table.old pool.new table.new
-        (entries_of entries.now ∷ []) (tree_name N.digest_of (entries_of entries.now)) }
-    ensures known { OnOk result (summary_of (tree_name N.digest_of (entries_of entries.now))
-        table.new.entries ≡ Some summary) }
-    ensures same { OnErr result ((table.new ≡ table.old) × (pool.new ≡ pool.old)) }
-{
-    let contents = contents_of(alloc, entries)?;
-    match table.add_tree(pool, &contents, summary) {
-        Ok(id) => Ok(id),
-        Err(refusal) => Err(as_fault(refusal)),
-    }
-}
-
-/// Stores the trees of files whose paths have at most `deep` components, and answers the name of
-/// the last one, which is the tree of all.
+/// Stores the trees of an opened directory that were not stored, and answers the name of its tree.
 #[cycle(storing)]
-pub(crate) fn store_trees<N: Naming>(
+pub(crate) fn store_dir<N: Naming>(
     alloc: Global,
     pool: &mut Pool<N>,
     table: &mut Table,
-    deep: usize,
-    files: &[Below<'_>],
+    dir: &mut Dir,
 ) -> Result<Name, Fault>
-    requires deep { depth_of (files_below files.now) ≤ deep }
-    requires files { AreStorable (files_below files.now) }
     requires stands { StandsIn N.digest_of pool.old table.old.entries }
     requires room { HasRoomBeside pool.old table.old.entries }
-    ensures stores { StoresTrees result N.digest_of pool.old table.old pool.new table.new
-        (trees_within N.digest_of deep (files_below files.now))
-        (tree_name N.digest_of (entries_within N.digest_of deep (files_below files.now))) }
-    ensures known { OnOk result (summary_of
-        (tree_name N.digest_of (entries_within N.digest_of deep (files_below files.now)))
-        table.new.entries ≡ Some (files_summary (files_below files.now))) }
+    requires sound { IsHeld (objects pool.old table.old.entries)
+        (record { what = opened dir.old.tree; inside = dir.old.entries }) }
+    requires storable { AreStorable (shape_files (stored_files
+        (objects pool.old table.old.entries)) dir.old.entries) }
+    ensures stores { let files = shape_files (stored_files (objects pool.old table.old.entries))
+        dir.old.entries in
+        StoresTrees result N.digest_of pool.old table.old pool.new table.new
+        (nested_trees N.digest_of files) (tree_id N.digest_of files) }
+    ensures same { bare dir.new.entries ≡ bare dir.old.entries }
+    ensures sound { IsHeld (objects pool.new table.new.entries)
+        (record { what = opened dir.new.tree; inside = dir.new.entries }) }
+    ensures named { IfOk result (λ id. dir.new.tree ≡ Some id) }
 {
-    let groups = match grouped(alloc, files) {
-        Ok(groups) => groups,
-        Err(_) => return Err(Fault::Memory),
-    };
-    store_groups(alloc, pool, table, deep, files, &groups)
-}
-
-// Stores the trees of these files, which make these groups.
-#[cycle(storing)]
-fn store_groups<N: Naming>(
-    alloc: Global,
-    pool: &mut Pool<N>,
-    table: &mut Table,
-    deep: usize,
-    files: &[Below<'_>],
-    groups: &[Group<'_>],
-) -> Result<Name, Fault>
-    requires deep { depth_of (files_below files.now) ≤ deep }
-    requires files { AreStorable (files_below files.now) }
-    requires groups { groups_of groups.now ≡ grouped (files_below files.now) }
-    requires stands { StandsIn N.digest_of pool.old table.old.entries }
-    requires room { HasRoomBeside pool.old table.old.entries }
-    ensures stores { StoresTrees result N.digest_of pool.old table.old pool.new table.new
-        (trees_within N.digest_of deep (files_below files.now))
-        (tree_name N.digest_of (entries_within N.digest_of deep (files_below files.now))) }
-    ensures known { OnOk result (summary_of
-        (tree_name N.digest_of (entries_within N.digest_of deep (files_below files.now)))
-        table.new.entries ≡ Some (files_summary (files_below files.now))) }
-{
-    let mut entries = Vec::new(alloc);
-    for group in groups {
-        let id = match store_group(alloc, pool, table, deep - 1, group) {
-            Ok(id) => id,
-            Err(refusal) => return Err(refusal),
-        };
-        has_twenty_bytes(&id);
-        if entries.push(entry_by(group, id)).is_err() {
-            return Err(Fault::Memory);
+    match dir.tree {
+        Some(name) => Ok(name),
+        None => {
+            match store_inside(alloc, pool, table, &mut dir.entries) {
+                Ok(()) => {}
+                Err(refusal) => return Err(refusal),
+            }
+            let added = add_tree(alloc, pool, table, &dir.entries);
+            match added {
+                Ok(name) => dir.tree = Some(name),
+                Err(_) => {}
+            }
+            added
         }
     }
-    add_entries(alloc, pool, table, &entries, summary_of(files))
 }
 
-// Stores the trees of a group, and answers the name of its object.
+// Stores the trees of what stands in a directory.
 #[cycle(storing)]
-fn store_group<N: Naming>(
+fn store_inside<N: Naming>(
     alloc: Global,
     pool: &mut Pool<N>,
     table: &mut Table,
-    deep: usize,
-    group: &Group<'_>,
-) -> Result<Name, Fault>
-    requires group { IsStorableGroup deep (group_of group.now) }
+    entries: &mut Vec<(Component, Node)>,
+) -> Result<(), Fault>
     requires stands { StandsIn N.digest_of pool.old table.old.entries }
     requires room { HasRoomBeside pool.old table.old.entries }
-    ensures stores { StoresTrees result N.digest_of pool.old table.old pool.new table.new
-        (group_trees N.digest_of deep (group_of group.now))
-        (id_of N.digest_of deep (group_of group.now)) }
-    ensures known { OnOk result (IsKnownGroup N.digest_of deep table.new.entries
-        (group_of group.now)) }
+    requires sound { IsShape (objects pool.old table.old.entries) (shape_of entries.old.items) }
+    requires storable { AreStorable (shape_files (stored_files
+        (objects pool.old table.old.entries)) (shape_of entries.old.items)) }
+    ensures stores { let parts = parts_of (stored_files (objects pool.old table.old.entries))
+        (shape_of entries.old.items) in
+        StoresTrees result N.digest_of pool.old table.old pool.new table.new
+        (trees_of_parts N.digest_of parts) tt }
+    ensures same { bare (shape_of entries.new.items) ≡ bare (shape_of entries.old.items) }
+    ensures sound { IsShape (objects pool.new table.new.entries) (shape_of entries.new.items) }
+    ensures named { OnOk result (AreNamed (shape_of entries.new.items)) }
 {
-    match file_of(&group.below) {
-        Some(file) => Ok(file.name),
-        None => store_trees(alloc, pool, table, deep, &group.below),
+    for place in 0..entries.len() {
+        match store_at(alloc, pool, table, entries, place) {
+            Ok(()) => {}
+            Err(refusal) => return Err(refusal),
+        }
+    }
+    Ok(())
+}
+
+// Stores the trees of what stands at one entry.
+#[cycle(storing)]
+fn store_at<N: Naming>(
+    alloc: Global,
+    pool: &mut Pool<N>,
+    table: &mut Table,
+    entries: &mut Vec<(Component, Node)>,
+    place: usize,
+) -> Result<(), Fault>
+    requires place { place < length entries.old.items }
+    requires stands { StandsIn N.digest_of pool.old table.old.entries }
+    requires room { HasRoomBeside pool.old table.old.entries }
+    requires sound { IsShape (objects pool.old table.old.entries) (shape_of entries.old.items) }
+    requires storable { AreStorable (shape_files (stored_files
+        (objects pool.old table.old.entries)) (shape_of entries.old.items)) }
+    ensures stores { let parts = parts_of (stored_files (objects pool.old table.old.entries))
+        (shape_of entries.old.items) in
+        StoresTrees result N.digest_of pool.old table.old pool.new table.new
+        (trees_below N.digest_of (get_or parts place ([], [])).1) tt }
+    ensures same { bare (shape_of entries.new.items) ≡ bare (shape_of entries.old.items) }
+    ensures sound { IsShape (objects pool.new table.new.entries) (shape_of entries.new.items) }
+    ensures named { OnOk result (AreNamed (shape_of (take place entries.old.items)) → AreNamed
+        (shape_of (take (place + 1) entries.new.items))) }
+{
+    store_node(alloc, pool, table, &mut entries[place].1)
+}
+
+// Stores the trees of what is held at an entry, if it is a directory.
+#[cycle(storing)]
+fn store_node<N: Naming>(
+    alloc: Global,
+    pool: &mut Pool<N>,
+    table: &mut Table,
+    node: &mut Node,
+) -> Result<(), Fault>
+    requires stands { StandsIn N.digest_of pool.old table.old.entries }
+    requires room { HasRoomBeside pool.old table.old.entries }
+    requires sound { IsHeld (objects pool.old table.old.entries) (held node.old) }
+    requires storable { let files = held_files (stored_files (objects pool.old table.old.entries))
+        (held node.old) in
+        file_of files ≡ None → AreStorable files }
+    ensures stores { let files = held_files (stored_files (objects pool.old table.old.entries))
+        (held node.old) in
+        StoresTrees result N.digest_of pool.old table.old pool.new table.new
+        (trees_below N.digest_of files) tt }
+    ensures same { bare_held (held node.new) ≡ bare_held (held node.old) }
+    ensures sound { IsHeld (objects pool.new table.new.entries) (held node.new) }
+    ensures named { OnOk result (IsNamed (held node.new).what) }
+{
+    match node {
+        Node::File(_) => Ok(()),
+        Node::Unopened(_) => Ok(()),
+        Node::Opened(dir) => match store_dir(alloc, pool, table, dir) {
+            Ok(_) => Ok(()),
+            Err(refusal) => Err(refusal),
+        },
     }
 }
 
-/// Stores the trees of files below a directory, and answers the name of the last one. Where the one
-/// file is no directory, that is the empty tree.
-pub(crate) fn store_files<N: Naming>(
+// Adds the tree of a directory in which each directory is stored.
+fn add_tree<N: Naming>(
     alloc: Global,
     pool: &mut Pool<N>,
     table: &mut Table,
-    files: &[Below<'_>],
+    entries: &[(Component, Node)],
 ) -> Result<Name, Fault>
-    requires files { file_of (files_below files.now) ≡ None → AreStorable (files_below files.now) }
-    requires file { (e : Entry) → file_of (files_below files.now) ≡ Some e
-        → depth_of (files_below files.now) ≡ 0 }
     requires stands { StandsIn N.digest_of pool.old table.old.entries }
     requires room { HasRoomBeside pool.old table.old.entries }
-    ensures { StoresTrees result N.digest_of pool.old table.old pool.new table.new
-        (nested_trees N.digest_of (files_below files.now))
-        (tree_id N.digest_of (files_below files.now)) }
+    requires sound { IsShape (objects pool.old table.old.entries) (shape_of entries.now) }
+    requires named { AreNamed (shape_of entries.now) }
+    requires storable { AreStorable (shape_files (stored_files
+        (objects pool.old table.old.entries)) (shape_of entries.now)) }
+    ensures stores { StoresTrees result N.digest_of pool.old table.old pool.new table.new
+        (entries_of_shape (shape_of entries.now) ∷ [])
+        (tree_name N.digest_of (entries_of_shape (shape_of entries.now))) }
+    ensures lists { IfOk result (λ id. ListsTree (objects pool.new table.new.entries) id
+        (shape_files (stored_files (objects pool.old table.old.entries)) (shape_of entries.now))) }
 {
-    match file_of(files) {
-        Some(_) => store_trees(alloc, pool, table, 0, &[]),
-        None => store_trees(alloc, pool, table, depth_of(files), files),
+    let rows = rows_of(alloc, entries)?;
+    let summary = summary_of(table, &rows);
+    add_entries(alloc, pool, table, &rows, summary)
+}
+
+// What stands at an entry as a tree has it.
+fn row_of<'a>(entry: &'a (Component, Node)) -> TreeEntry<'a>
+    requires { IsNamed (held entry.now.1).what }
+    ensures { entry_of result ≡ entry_of_what entry.now.0 (held entry.now.1).what }
+{
+    let name = entry.0.as_bytes();
+    match &entry.1 {
+        Node::File(file) => TreeEntry {
+            mode: file.mode,
+            name,
+            id: file.name,
+        },
+        Node::Unopened(id) => directory(name, *id),
+        Node::Opened(dir) => directory(name, dir.tree.unwrap()),
     }
+}
+
+fn directory<'a>(name: &'a [u8], id: Name) -> TreeEntry<'a>
+    ensures { entry_of result ≡ record { mode = mode.Directory; name = name.now; id = id } }
+{
+    TreeEntry {
+        mode: FileMode::Directory,
+        name,
+        id,
+    }
+}
+
+// What stands in a directory as a tree has it.
+fn rows_of<'a>(
+    alloc: Global,
+    entries: &'a [(Component, Node)],
+) -> Result<Vec<TreeEntry<'a>>, Memory>
+    requires { AreNamed (shape_of entries.now) }
+    ensures rows { IfOk result (λ rows. entries_of rows.items ≡ entries_of_shape
+        (shape_of entries.now)) }
+    ensures ids { IfOk result (λ rows. AllByRecursion (λ e. IsObjectName e.id)
+        (entries_of rows.items)) }
+{
+    let mut rows = Vec::new(alloc);
+    for entry in entries {
+        let row = row_of(entry);
+        has_twenty_bytes(&row.id);
+        if rows.push(row).is_err() {
+            return Err(Memory);
+        }
+    }
+    Ok(rows)
 }

@@ -7,17 +7,17 @@ ghost use Rattle.git_model.specs.declared.file_mode.FileMode.TheVariants as mode
 ghost use Rattle.tenant_tables.specs.Objects.{objects};
 ghost use Rattle.tenant_tables.specs.Room.{HasRoomBeside};
 ghost use Rattle.tenant_tables.specs.StandsIn.{StandsIn};
-ghost use Rattle.tree_build.specs.declared.fault.Fault.TheVariants as fault;
-ghost use Rattle.branch_trees.specs.Branch.{IsBranch};
-ghost use Rattle.branch_trees.proofs.Growing.{branch_stays};
+ghost use Rattle.file_maps.specs.declared.fault.Fault.TheVariants as fault;
+ghost use Rattle.tree_build.specs.Branch.{IsBranch};
+ghost use Rattle.tree_build.proofs.Growing.{branch_stays};
 
-use branch_trees::Files;
 use content_pool::Pool;
+use file_maps::{Entry, Fault, Files as PlainFiles};
 use git_objects::{Memory, Name, Naming};
 use git_paths::Path;
 use std::alloc::Global;
 use tenant_tables::Table;
-use tree_build::{Entry, Fault, Files as PlainFiles};
+use tree_build::Files;
 
 /// The files of a branch.
 pub trait Body: Sized + Drop {

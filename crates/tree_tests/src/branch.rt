@@ -7,14 +7,14 @@ use crate::body::Body;
 use crate::step::{
     HELLO, Step, is, is_named, long_path, mode_in, name_in, number_in, path_in, step_of,
 };
-use branch_trees::Files;
 use content_pool::Pool;
+use file_maps::{Entry, Fault, Files as PlainFiles};
 use git_objects::{FileMode, Kind, Name, Naming, Sha1Naming};
 use git_paths::{Path, Place};
 use std::alloc::Global;
 use std::marker::Model;
 use tenant_tables::Table;
-use tree_build::{Entry, Fault, Files as PlainFiles};
+use tree_build::Files;
 
 /// What a branch does, in words and as lines of steps from an empty one.
 pub struct Case {

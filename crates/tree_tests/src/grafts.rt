@@ -1,8 +1,8 @@
 //! Stored trees that are put at a path, beside the names that Git gives.
 
 use crate::branch::{Case, first_otherwise, first_wrong, first_wrong_of};
-use branch_trees::Files;
 use std::alloc::Global;
+use tree_build::Files;
 
 const CASES: &[Case] = &[
     // `git mktree` gave the name of the tree with a/b/test.txt alone.

@@ -1,4 +1,4 @@
-//! Tests of tree_build and branch_trees: edits, grafts and the trees of a branch, beside the names
+//! Tests of file_maps and tree_build: edits, grafts and the trees of a branch, beside the names
 //! that Git gives. Nothing else stands here.
 #![tactic(auto)]
 

@@ -5,10 +5,10 @@ use crate::branch::Branch;
 use crate::made_by_git::{Asked, first_otherwise};
 use crate::real_trees::puts_all;
 use crate::step::{HELLO, is_named};
-use branch_trees::Files;
+use file_maps::Files as PlainFiles;
 use git_objects::Sha1Naming;
 use std::alloc::Global;
-use tree_build::Files as PlainFiles;
+use tree_build::Files;
 
 const EDITS: usize = 12;
 

@@ -4,10 +4,10 @@ use crate::body::Body;
 use crate::branch::Branch;
 use crate::made_by_git::{Asked, first_otherwise};
 use crate::step::is_named;
-use branch_trees::Files;
+use file_maps::Files as PlainFiles;
 use git_objects::Sha1Naming;
 use std::alloc::Global;
-use tree_build::Files as PlainFiles;
+use tree_build::Files;
 
 // Whether the files of a list are put, as `git ls-tree -r` writes it.
 pub fn puts_all<B: Body>(branch: &mut Branch<B, Sha1Naming>, list: &[u8]) -> bool {

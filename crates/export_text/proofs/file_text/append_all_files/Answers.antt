@@ -1,8 +1,8 @@
 use Rattle.std.proofs.Common.{ℕ, List, [], ◌∷◌, ◌++◌, map, ap, ◌∙◌, codes}
 use Rattle.std.proofs.lemmas.Result.{on_ok_weaker}
 use Rattle.stream_lex.specs.Items.{Line}
-use Rattle.tree_build.specs.FileMap.{listed}
-use Rattle.tree_build.specs.StoredFiles.{stored_map}
+use Rattle.file_maps.specs.FileMap.{listed}
+use Rattle.file_maps.specs.StoredFiles.{stored_map}
 use Rattle.export_text.specs.ExportItems.{item_of_file}
 use Rattle.export_text.specs.Lines.{lines_within}
 use Rattle.export_text.proofs.Again.{still-told}

@@ -1,7 +1,7 @@
 use Rattle.std.proofs.Common.{◌≡◌, ◌++◌, sym, subst}
 use Rattle.std.specs.Prelude.{OnOk}
 use Rattle.git_model.specs.Repository.{Object}
-use Rattle.commit_reach.proofs.CommitsAt.{nothing_told}
+use Rattle.commit_walk.proofs.CommitsAt.{nothing_told}
 use Rattle.export_text.specs.ItemText.{items_text}
 use Rattle.export_text.specs.ExportItems.{items_of_object}
 use Rattle.export_text.proofs.Standing.{at-told}

@@ -1,6 +1,6 @@
 use Rattle.std.proofs.Common.{ℕ, false, length, replicate, ap, ◌∙◌}
 use Rattle.std.proofs.lemmas.List.{length-replicate}
-use Rattle.commit_reach.proofs.Answers.{lent}
+use Rattle.commit_walk.proofs.Answers.{lent}
 use Rattle.export_text.proofs.reached.reached.Goals as goal
 
 pub walk-requires : goal.walk-requires

@@ -2,7 +2,7 @@ use Rattle.std.proofs.Common.{◌≡◌, ◌++◌, [], ◌∷◌, map, sym, subs
 use Rattle.std.specs.List.{filter}
 use Rattle.std.specs.Prelude.{OnOk}
 use Rattle.git_model.specs.Repository.{Object}
-use Rattle.commit_reach.proofs.CommitsAt.{nothing_told}
+use Rattle.commit_walk.proofs.CommitsAt.{nothing_told}
 use Rattle.export_text.specs.Reached.{is_tag, ref_of_tag}
 use Rattle.export_text.proofs.Standing.{at-told}
 use Rattle.export_text.proofs.tag_refs.push_if_tag.Goals as goal

@@ -4,7 +4,7 @@ use Rattle.std.specs.Cmp.Lexicographic.{slice_cmp, texts_ties}
 use Rattle.std.specs.FinMap.{nat_cmp-IsAntisymmetric, slice_cmp-IsAntisymmetric}
 use Rattle.std.proofs.lemmas.Cmp.{nat_list_cmp_total}
 use Rattle.std.proofs.lemmas.List.Filters.{dedup_is}
-use Rattle.commit_reach.proofs.Orders.{sorted_in_order}
+use Rattle.commit_walk.proofs.Orders.{sorted_in_order}
 use Rattle.export_text.specs.Reached.{each_once}
 use Rattle.export_text.proofs.tag_refs.tag_refs.Goals as goal
 

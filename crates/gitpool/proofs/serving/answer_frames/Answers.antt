@@ -2,7 +2,7 @@ use Rattle.std.proofs.Common.{Option, Ok, subst, arith}
 use Rattle.std.proofs.lemmas.Result.{err_from_is_err_and}
 use Rattle.git_objects.specs.Device.{Device, device_of, seen}
 use Rattle.service_steps.specs.declared.step.Step.{Step}
-use Rattle.step_frames.specs.Reading.{ReadsStep}
+use Rattle.service_steps.specs.Reading.{ReadsStep}
 use Rattle.gitpool.proofs.ServeLemmas.{so_far_new, ends_at, fails_at, taken_by, told_whole, so_far_more, write_fails, limit_reached}
 use Rattle.gitpool.proofs.serving.answer_frames.Goals as goal
 

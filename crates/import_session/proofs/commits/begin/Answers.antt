@@ -1,7 +1,7 @@
 use Rattle.std.proofs.Common.{ap, sym, ◌∙◌}
 use Rattle.std.proofs.lemmas.Result.{err_from_is_err_and}
 use Rattle.tenant_tables.specs.Objects.{objects}
-use Rattle.branch_trees.specs.Branch.{files_in}
+use Rattle.tree_build.specs.Branch.{files_in}
 use Rattle.open_commits.specs.OpenCommit.{begun, header_shown, shown_in}
 use Rattle.import_session.specs.Commits.{begun_from, started_or_cleared}
 use Rattle.import_session.proofs.CommitLemmas.{begun_on_first, begun_refused}

@@ -1,8 +1,8 @@
 use Rattle.std.proofs.Common.{◌≡◌, None, List, ℕ, ◌∙◌}
 use Rattle.git_model.specs.CommitReading.{commit_read}
 use Rattle.tenant_tables.specs.Objects.{objects}
-use Rattle.tree_build.specs.Grafts.{tree_fault}
-use Rattle.tree_build.specs.StoredFiles.{tree_of_commit}
+use Rattle.file_maps.specs.Grafts.{tree_fault}
+use Rattle.file_maps.specs.StoredFiles.{tree_of_commit}
 use Rattle.open_commits.specs.declared.fault.Fault.{Fault}
 use Rattle.open_commits.specs.declared.fault.Fault.TheVariants as fault
 use Rattle.open_commits.proofs.StoredCommits.{stored_commit, matched, told_bytes, told_tree}

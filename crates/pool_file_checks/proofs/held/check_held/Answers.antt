@@ -1,9 +1,9 @@
 use Rattle.std.proofs.Common.{ℕ, ◌+◌, ◌≤◌, Bool, List, ◌++◌, length, drop, refl, subst, inl, arith}
 use Rattle.std.proofs.lemmas.List.{drop_all}
 use Rattle.std.proofs.lemmas.Bool.{iff_false}
-use Rattle.pool_file_text.specs.declared.raw.RawTenant.{RawTenant}
+use Rattle.pool_file_format.specs.declared.raw.RawTenant.{RawTenant}
 use Rattle.pool_file_checks.specs.Held.{numbers_of, AreMarked}
-use Rattle.pool_file_text.specs.Shown.{tenants_of}
+use Rattle.pool_file_format.specs.Shown.{tenants_of}
 use Rattle.pool_file_checks.proofs.TenantLemmas.{left_at}
 use Rattle.pool_file_checks.proofs.HeldLemmas.{Marks, marks_on, marks_end, marked_all}
 use Rattle.pool_file_checks.proofs.held.check_held.Goals as goal

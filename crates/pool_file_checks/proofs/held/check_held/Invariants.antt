@@ -1,6 +1,6 @@
 use Rattle.std.proofs.Common.{drop}
 use Rattle.pool_file_checks.specs.Held.{numbers_of}
-use Rattle.pool_file_text.specs.Shown.{tenants_of}
+use Rattle.pool_file_format.specs.Shown.{tenants_of}
 use Rattle.pool_file_checks.proofs.HeldLemmas.{Marks}
 use Rattle.pool_file_checks.proofs.held.check_held.Given as goal
 

@@ -1,6 +1,6 @@
 use Rattle.std.proofs.Common.{ℕ, ◌+◌, List, [], ◌∷◌, ◌++◌, drop, get_or, subst, arith}
 use Rattle.std.proofs.lemmas.List.{drop_all}
-use Rattle.pool_file_text.proofs.WholeLemmas.{drop_next}
+use Rattle.pool_file_format.proofs.WholeLemmas.{drop_next}
 use Rattle.pool_file_checks.proofs.HeldLemmas.{Marks, marks_on, marks_end}
 use Rattle.pool_file_checks.proofs.held.mark_all.Goals as goal
 

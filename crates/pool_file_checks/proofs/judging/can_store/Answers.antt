@@ -2,7 +2,7 @@ use Rattle.std.proofs.Common.{subst}
 use Rattle.std.specs.Prelude.{IfOk, IsTrue, ◌↔◌}
 use Rattle.git_model.specs.Content.{content_from}
 use Rattle.pool_file_checks.specs.Objects.{IsContent}
-use Rattle.pool_file_text.specs.Shown.{object_of}
+use Rattle.pool_file_format.specs.Shown.{object_of}
 use Rattle.pool_file_checks.proofs.CheckLemmas.{is_stored}
 use Rattle.pool_file_checks.proofs.judging.can_store.Goals as goal
 

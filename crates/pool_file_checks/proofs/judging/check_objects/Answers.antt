@@ -2,7 +2,7 @@ use Rattle.std.proofs.Common.{◌≡◌, ◌+◌, suc, None, ◌∷◌, drop, ap
 use Rattle.std.specs.Option.{option_map}
 use Rattle.std.proofs.lemmas.List.{drop_all}
 use Rattle.std.proofs.lemmas.Result.{err_from_is_err_and}
-use Rattle.pool_file_text.specs.Shown.{object_of, objects_of}
+use Rattle.pool_file_format.specs.Shown.{object_of, objects_of}
 use Rattle.pool_file_checks.specs.Objects.{object_key, object_checks}
 use Rattle.pool_file_checks.proofs.CheckLemmas.{Leads, leads_same, object_on, object_stops}
 use Rattle.pool_file_checks.proofs.TenantLemmas.{left_at}

@@ -1,6 +1,6 @@
 use Rattle.std.proofs.Common.{None, drop}
 use Rattle.std.specs.Option.{option_map}
-use Rattle.pool_file_text.specs.Shown.{object_of, objects_of}
+use Rattle.pool_file_format.specs.Shown.{object_of, objects_of}
 use Rattle.pool_file_checks.specs.Objects.{object_key, object_checks}
 use Rattle.pool_file_checks.proofs.CheckLemmas.{Leads}
 use Rattle.pool_file_checks.proofs.judging.check_objects.Given as goal

@@ -1,7 +1,7 @@
 use Rattle.std.proofs.Common.{ap, ◌∙◌}
-use Rattle.pool_file_text.specs.declared.raw.RawObject.{RawObject as Read}
+use Rattle.pool_file_format.specs.declared.raw.RawObject.{RawObject as Read}
 use Rattle.pool_file_checks.specs.Own.{content_of}
-use Rattle.pool_file_text.specs.Shown.{object_of}
+use Rattle.pool_file_format.specs.Shown.{object_of}
 use Rattle.pool_file_checks.proofs.OwnLemmas.{content_within, content_past}
 use Rattle.pool_file_checks.proofs.naming.content_at.Goals as goal
 

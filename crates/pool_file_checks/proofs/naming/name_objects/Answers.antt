@@ -1,7 +1,7 @@
 use Rattle.std.proofs.Common.{◌+◌, ◌∙◌, sym, ap, List, take_all, arith}
-use Rattle.pool_file_text.specs.declared.raw.RawObject.{RawObject as Read}
+use Rattle.pool_file_format.specs.declared.raw.RawObject.{RawObject as Read}
 use Rattle.pool_file_checks.specs.Own.{names_of}
-use Rattle.pool_file_text.specs.Shown.{objects_of}
+use Rattle.pool_file_format.specs.Shown.{objects_of}
 use Rattle.pool_file_checks.proofs.OwnLemmas.{named_on}
 use Rattle.pool_file_checks.proofs.naming.name_objects.Goals as goal
 

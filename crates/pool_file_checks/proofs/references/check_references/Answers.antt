@@ -1,6 +1,6 @@
 use Rattle.std.proofs.Common.{refl, inl, arith}
 use Rattle.std.proofs.lemmas.Bool.{iff_false}
-use Rattle.pool_file_text.specs.Shown.{objects_of}
+use Rattle.pool_file_format.specs.Shown.{objects_of}
 use Rattle.pool_file_checks.proofs.ConnectLemmas.{own_length}
 use Rattle.pool_file_checks.proofs.references.check_references.Goals as goal
 

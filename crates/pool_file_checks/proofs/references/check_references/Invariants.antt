@@ -4,7 +4,7 @@ use Rattle.git_model.specs.References.{references_in, object_at}
 use Rattle.git_model.specs.GoodRepository.{StandsBefore}
 use Rattle.pool_file_checks.specs.Objects.{CanStore}
 use Rattle.pool_file_checks.specs.Own.{objects_in}
-use Rattle.pool_file_text.specs.Shown.{objects_of}
+use Rattle.pool_file_format.specs.Shown.{objects_of}
 use Rattle.pool_file_checks.proofs.references.check_references.Given as goal
 
 -- What the objects so far refer to stands before them.

@@ -6,7 +6,7 @@ use Rattle.git_model.specs.Commit.{Commit}
 use Rattle.git_model.specs.References.{commit_references}
 use Rattle.git_model.specs.GoodRepository.{StandsBefore}
 use Rattle.pool_file_checks.specs.Own.{objects_in}
-use Rattle.pool_file_text.specs.Shown.{objects_of}
+use Rattle.pool_file_format.specs.Shown.{objects_of}
 use Rattle.pool_file_checks.proofs.references.commit_is_connected.Goals as goal
 
 pub returns-in-Ok-Some : goal.returns-in-Ok-Some

@@ -6,7 +6,7 @@ use Rattle.git_model.specs.References.{references_in, object_at}
 use Rattle.git_model.specs.GoodRepository.{StandsBefore}
 use Rattle.pool_file_checks.specs.Objects.{IsText}
 use Rattle.pool_file_checks.specs.Own.{objects_in}
-use Rattle.pool_file_text.specs.Shown.{objects_of}
+use Rattle.pool_file_format.specs.Shown.{objects_of}
 use Rattle.pool_file_checks.proofs.ConnectLemmas.{is_stored_text, own_content, own_past}
 use Rattle.pool_file_checks.proofs.references.place_is_connected.Goals as goal
 

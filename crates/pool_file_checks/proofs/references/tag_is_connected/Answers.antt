@@ -4,7 +4,7 @@ use Rattle.git_model.specs.Tag.{Tag}
 use Rattle.git_model.specs.References.{reference}
 use Rattle.git_model.specs.GoodRepository.{StandsBefore}
 use Rattle.pool_file_checks.specs.Own.{objects_in}
-use Rattle.pool_file_text.specs.Shown.{objects_of}
+use Rattle.pool_file_format.specs.Shown.{objects_of}
 use Rattle.pool_file_checks.proofs.ConnectLemmas.{one_stands}
 use Rattle.pool_file_checks.proofs.references.tag_is_connected.Goals as goal
 

@@ -1,6 +1,6 @@
 use Rattle.git_objects.specs.Parts.{entries_of}
 use Rattle.pool_file_checks.specs.Own.{objects_in}
-use Rattle.pool_file_text.specs.Shown.{objects_of}
+use Rattle.pool_file_format.specs.Shown.{objects_of}
 use Rattle.pool_file_checks.proofs.ConnectLemmas.{tree_connected}
 use Rattle.pool_file_checks.proofs.references.tree_is_connected.Goals as goal
 

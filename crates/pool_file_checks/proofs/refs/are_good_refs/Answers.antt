@@ -4,8 +4,8 @@ use Rattle.std.proofs.lemmas.List.{drop_all}
 use Rattle.std.proofs.lemmas.List.Elements.{All-nil}
 use Rattle.std.proofs.lemmas.Bool.{false≢true, iff_false}
 use Rattle.pool_file_checks.specs.FileRefs.{IsGoodRef}
-use Rattle.pool_file_text.specs.declared.raw.RawRef.{RawRef}
-use Rattle.pool_file_text.specs.Shown.{objects_of, ref_of, refs_of}
+use Rattle.pool_file_format.specs.declared.raw.RawRef.{RawRef}
+use Rattle.pool_file_format.specs.Shown.{objects_of, ref_of, refs_of}
 use Rattle.pool_file_checks.proofs.TenantLemmas.{all_on, fails_at}
 use Rattle.pool_file_checks.proofs.refs.are_good_refs.Goals as goal
 

@@ -1,7 +1,7 @@
 use Rattle.std.proofs.Common.{drop}
 use Rattle.std.specs.Prelude.{All}
 use Rattle.pool_file_checks.specs.FileRefs.{IsGoodRef}
-use Rattle.pool_file_text.specs.Shown.{objects_of, refs_of}
+use Rattle.pool_file_format.specs.Shown.{objects_of, refs_of}
 use Rattle.pool_file_checks.proofs.refs.are_good_refs.Given as goal
 
 -- Where those that are left are good, all are.

@@ -1,7 +1,7 @@
 use Rattle.std.proofs.Common.{nat_lt, rules, tests}
 use Rattle.std.proofs.lemmas.Iterator.{YieldsList-from_slice}
 use Rattle.std.proofs.lemmas.Iterator.Search.{all_from_yields_List}
-use Rattle.pool_file_text.specs.Shown.{ref_of}
+use Rattle.pool_file_format.specs.Shown.{ref_of}
 use Rattle.pool_file_checks.proofs.TenantLemmas.{decides_below}
 use Rattle.pool_file_checks.proofs.refs.are_placed.Goals as goal
 

@@ -3,9 +3,9 @@ use Rattle.std.specs.Prelude.{◌↔◌, IsTrue}
 use Rattle.std.specs.Option.{option_map}
 use Rattle.std.proofs.lemmas.List.{drop_all}
 use Rattle.std.proofs.lemmas.Bool.{false≢true, iff_false}
-use Rattle.pool_file_text.specs.declared.raw.RawRef.{RawRef}
+use Rattle.pool_file_format.specs.declared.raw.RawRef.{RawRef}
 use Rattle.pool_file_checks.specs.Objects.{IsBehind}
-use Rattle.pool_file_text.specs.Shown.{refs_of}
+use Rattle.pool_file_format.specs.Shown.{refs_of}
 use Rattle.pool_file_checks.proofs.TenantLemmas.{Rises, left_at, rises_on, rises_not, rises_end}
 use Rattle.pool_file_checks.proofs.refs.are_rising.Goals as goal
 

@@ -1,6 +1,6 @@
 use Rattle.std.proofs.Common.{drop, map}
 use Rattle.std.specs.Option.{option_map}
-use Rattle.pool_file_text.specs.Shown.{refs_of}
+use Rattle.pool_file_format.specs.Shown.{refs_of}
 use Rattle.pool_file_checks.proofs.TenantLemmas.{Rises}
 use Rattle.pool_file_checks.proofs.refs.are_rising.Given as goal
 

@@ -1,8 +1,8 @@
 use Rattle.std.proofs.Common.{List, None, map, refl, sym, subst, inl, inr}
 use Rattle.std.proofs.lemmas.Bool.{iff_false}
 use Rattle.git_model.specs.GoodRepository.{IsShortRefName}
-use Rattle.pool_file_text.specs.declared.raw.RawRef.{RawRef}
-use Rattle.pool_file_text.specs.Shown.{refs_of}
+use Rattle.pool_file_format.specs.declared.raw.RawRef.{RawRef}
+use Rattle.pool_file_format.specs.Shown.{refs_of}
 use Rattle.pool_file_checks.specs.FileRefs.{AreRising}
 use Rattle.pool_file_checks.proofs.RefLemmas.{same_places}
 use Rattle.pool_file_checks.proofs.refs.check_refs.Goals as goal

@@ -4,9 +4,9 @@ use Rattle.std.specs.Prelude.{◌↔◌, IsTrue, IfOk, IfSome}
 use Rattle.std.proofs.lemmas.Bool.Decides.{Decides-eqb}
 use Rattle.std.proofs.lemmas.Slice.Eq.{strip_prefix_is}
 use Rattle.git_model.specs.GoodRepository.{IsShortRefName}
-use Rattle.pool_file_text.specs.Format.{RawObject}
+use Rattle.pool_file_format.specs.Format.{RawObject}
 use Rattle.pool_file_checks.specs.FileRefs.{MayTarget}
-use Rattle.pool_file_text.specs.Shown.{objects_of, ref_of}
+use Rattle.pool_file_format.specs.Shown.{objects_of, ref_of}
 use Rattle.pool_file_checks.proofs.RefLemmas.{good_ref}
 use Rattle.pool_file_checks.proofs.refs.is_good_ref.Goals as goal
 

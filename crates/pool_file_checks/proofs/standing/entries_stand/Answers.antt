@@ -6,7 +6,7 @@ use Rattle.std.proofs.lemmas.Bool.{false≢true, iff_false}
 use Rattle.git_objects.specs.Parts.{entry_of, entries_of}
 use Rattle.pool_file_checks.specs.Connecting.{EntryStands}
 use Rattle.pool_file_checks.specs.Own.{objects_in}
-use Rattle.pool_file_text.specs.Shown.{objects_of}
+use Rattle.pool_file_format.specs.Shown.{objects_of}
 use Rattle.pool_file_checks.proofs.TenantLemmas.{all_on, fails_at}
 use Rattle.pool_file_checks.proofs.standing.entries_stand.Goals as goal
 

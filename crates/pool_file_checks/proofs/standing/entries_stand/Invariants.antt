@@ -3,7 +3,7 @@ use Rattle.std.specs.Prelude.{All}
 use Rattle.git_objects.specs.Parts.{entries_of}
 use Rattle.pool_file_checks.specs.Own.{objects_in}
 use Rattle.pool_file_checks.specs.Connecting.{EntryStands}
-use Rattle.pool_file_text.specs.Shown.{objects_of}
+use Rattle.pool_file_format.specs.Shown.{objects_of}
 use Rattle.pool_file_checks.proofs.standing.entries_stand.Given as goal
 
 -- Where those that are left stand, all do.

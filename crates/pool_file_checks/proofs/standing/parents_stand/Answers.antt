@@ -5,7 +5,7 @@ use Rattle.git_model.specs.declared.kind.Kind.TheVariants as kind
 use Rattle.git_model.specs.References.{reference}
 use Rattle.git_model.specs.GoodRepository.{StandsBefore}
 use Rattle.pool_file_checks.specs.Own.{objects_in}
-use Rattle.pool_file_text.specs.Shown.{objects_of}
+use Rattle.pool_file_format.specs.Shown.{objects_of}
 use Rattle.pool_file_checks.proofs.standing.parents_stand.Goals as goal
 
 pub loop-parent-preserved : goal.loop-parent-preserved

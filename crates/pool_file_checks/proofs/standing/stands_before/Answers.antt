@@ -1,6 +1,6 @@
 use Rattle.std.proofs.Common.{arith}
 use Rattle.std.proofs.lemmas.Bool.{false≢true}
-use Rattle.pool_file_text.specs.Shown.{objects_of}
+use Rattle.pool_file_format.specs.Shown.{objects_of}
 use Rattle.pool_file_checks.proofs.ConnectLemmas.{IsFound, found, stands_found, found_before, found_kind, stands_nowhere}
 use Rattle.pool_file_checks.proofs.standing.stands_before.Goals as goal
 

@@ -1,5 +1,5 @@
 use Rattle.std.proofs.lemmas.Result.{err_from_is_err_and}
-use Rattle.pool_file_text.specs.Shown.{objects_of}
+use Rattle.pool_file_format.specs.Shown.{objects_of}
 use Rattle.pool_file_checks.specs.Own.{objects_in}
 use Rattle.pool_file_checks.proofs.SumLemmas.{row_on, row_stops, rows_done}
 use Rattle.pool_file_checks.proofs.sums.check_sums.Goals as goal

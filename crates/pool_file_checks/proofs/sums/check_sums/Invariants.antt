@@ -1,4 +1,4 @@
-use Rattle.pool_file_text.specs.Shown.{objects_of}
+use Rattle.pool_file_format.specs.Shown.{objects_of}
 use Rattle.pool_file_checks.specs.Own.{objects_in}
 use Rattle.pool_file_checks.proofs.SumLemmas.{Settles}
 use Rattle.pool_file_checks.proofs.sums.check_sums.Given as goal

@@ -1,7 +1,7 @@
 use Rattle.std.proofs.Common.{refl}
 use Rattle.std.proofs.lemmas.Bool.{false≢true, iff_false}
 use Rattle.git_model.specs.GoodRepository.{IsShortRefName}
-use Rattle.pool_file_text.specs.Shown.{object_of}
+use Rattle.pool_file_format.specs.Shown.{object_of}
 use Rattle.pool_file_checks.specs.FileRefs.{MayTarget}
 use Rattle.pool_file_checks.proofs.CheckLemmas.{either}
 use Rattle.pool_file_checks.proofs.targets.may_stand.Goals as goal

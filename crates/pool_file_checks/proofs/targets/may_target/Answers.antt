@@ -1,5 +1,5 @@
 use Rattle.std.proofs.lemmas.Bool.{false≢true}
-use Rattle.pool_file_text.specs.Shown.{object_of}
+use Rattle.pool_file_format.specs.Shown.{object_of}
 use Rattle.pool_file_checks.proofs.RefLemmas.{no_target}
 use Rattle.pool_file_checks.proofs.targets.may_target.Goals as goal
 

@@ -1,9 +1,9 @@
 use Rattle.std.proofs.Common.{List, None, Err, length, ◌++◌, sym, ap, subst, ◌∙◌}
 use Rattle.std.specs.Prelude.{All}
 use Rattle.std.proofs.lemmas.Result.{err_from_is_err_and}
-use Rattle.pool_file_text.specs.declared.raw.RawObject.{RawObject}
-use Rattle.pool_file_text.specs.declared.raw.RawTenant.{RawTenant}
-use Rattle.pool_file_text.specs.Shown.{objects_of, tenants_of}
+use Rattle.pool_file_format.specs.declared.raw.RawObject.{RawObject}
+use Rattle.pool_file_format.specs.declared.raw.RawTenant.{RawTenant}
+use Rattle.pool_file_format.specs.Shown.{objects_of, tenants_of}
 use Rattle.pool_file_checks.specs.Checks.{Passes, Checked}
 use Rattle.pool_file_checks.specs.Objects.{CanStore, object_checks}
 use Rattle.pool_file_checks.specs.Own.{names_of}

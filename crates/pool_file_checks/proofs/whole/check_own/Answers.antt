@@ -1,5 +1,5 @@
 use Rattle.std.proofs.lemmas.Result.{err_from_is_err_and}
-use Rattle.pool_file_text.specs.Shown.{objects_of}
+use Rattle.pool_file_format.specs.Shown.{objects_of}
 use Rattle.pool_file_checks.proofs.WholeLemmas.{within_names, indexed, not_connected, connected}
 use Rattle.pool_file_checks.proofs.whole.check_own.Goals as goal
 

@@ -2,7 +2,7 @@ use Rattle.std.proofs.Common.{List, ℕ, ◌<◌, Err, length, sym, subst}
 use Rattle.std.specs.Prelude.{All}
 use Rattle.std.specs.Option.{option_map}
 use Rattle.std.proofs.lemmas.Result.{err_from_is_err_and}
-use Rattle.pool_file_text.specs.Shown.{objects_of, tenant_of}
+use Rattle.pool_file_format.specs.Shown.{objects_of, tenant_of}
 use Rattle.pool_file_checks.specs.Checks.{Passes, Checked}
 use Rattle.pool_file_checks.specs.Whole.{own_checks}
 use Rattle.pool_file_checks.proofs.WholeLemmas.{name_stops, numbers_stop, counted, own_stops, refs_decide}

@@ -1,8 +1,8 @@
 use Rattle.std.proofs.Common.{List, ℕ, None, Some, ◌+◌, drop, sym, subst, arith}
 use Rattle.std.specs.Option.{option_map}
 use Rattle.std.proofs.lemmas.Result.{err_from_is_err_and}
-use Rattle.pool_file_text.specs.declared.raw.RawTenant.{RawTenant}
-use Rattle.pool_file_text.specs.Shown.{objects_of, tenant_of, tenants_of}
+use Rattle.pool_file_format.specs.declared.raw.RawTenant.{RawTenant}
+use Rattle.pool_file_format.specs.Shown.{objects_of, tenant_of, tenants_of}
 use Rattle.pool_file_checks.specs.Checks.{Passes}
 use Rattle.pool_file_checks.specs.Whole.{own_checks, tenant_checks}
 use Rattle.pool_file_checks.proofs.CheckLemmas.{Leads, leads_same}

@@ -5,7 +5,7 @@ use Rattle.pool_file_checks.specs.Objects.{CanStore}
 use Rattle.pool_file_checks.specs.Own.{names_of}
 use Rattle.pool_file_checks.specs.Checks.{Passes}
 use Rattle.pool_file_checks.specs.Whole.{own_checks, tenant_checks}
-use Rattle.pool_file_text.specs.Shown.{objects_of, tenants_of}
+use Rattle.pool_file_format.specs.Shown.{objects_of, tenants_of}
 use Rattle.pool_file_checks.proofs.CheckLemmas.{Leads}
 use Rattle.pool_file_checks.proofs.whole.check_tenants.Given as goal
 

@@ -1,7 +1,7 @@
 use Rattle.std.proofs.Common.{ℕ, List, Result, Ok, sym, ap, ◌∙◌}
 use Rattle.std.proofs.lemmas.List.Elements.{All-contains_itself}
-use Rattle.commit_reach.specs.Logs.{log_of}
-use Rattle.commit_reach.proofs.LogOrder.{one_log}
+use Rattle.commit_walk.specs.Logs.{log_of}
+use Rattle.commit_walk.proofs.LogOrder.{one_log}
 use Rattle.revisions.specs.declared.commit_range.Range.{Range}
 use Rattle.revisions.specs.declared.fault.Fault.{Fault}
 use Rattle.revisions.specs.Faults.{and_then}

@@ -7,7 +7,7 @@ use Rattle.tenant_tables.specs.declared.sight.Sight.TheVariants.{Committed}
 use Rattle.tenant_tables.specs.Objects.{objects}
 use Rattle.revisions.specs.FirstParents.{IsFirstParentChain}
 use Rattle.tenant_service.specs.declared.tenant.Tenant.{Tenant}
-use Rattle.tenant_service.specs.Holding.{IsSoundHolding}
+use Rattle.tenant_service.specs.Soundness.{IsSoundHolding}
 use Rattle.tenant_service.specs.Tenants.{Stands, IsSettled, holding_in}
 use Rattle.tenant_service.proofs.SoundLemmas.{last-sound}
 use Rattle.tenant_service.proofs.TenantLemmas.{saved_is, took-told, took-refused_query}

@@ -1,6 +1,7 @@
 use Rattle.std.proofs.Common.{sym, subst}
 use Rattle.import_session.proofs.SoundLemmas.{empty_is_sound}
-use Rattle.tenant_service.specs.Holding.{Holding, IsSoundHolding}
+use Rattle.tenant_service.specs.Holding.{Holding}
+use Rattle.tenant_service.specs.Soundness.{IsSoundHolding}
 use Rattle.tenant_service.proofs.tenant.ask_nobody.Goals as goal
 
 pub ask-answer-requires : goal.ask-answer-requires

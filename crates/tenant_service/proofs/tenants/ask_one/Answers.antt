@@ -1,7 +1,8 @@
 use Rattle.std.proofs.Common.{sym, subst}
 use Rattle.tenant_service.specs.Alone.{Ask}
 use Rattle.tenant_service.specs.Headline.{stop_told}
-use Rattle.tenant_service.specs.Holding.{Holding, step_held}
+use Rattle.tenant_service.specs.Holding.{Holding}
+use Rattle.tenant_service.specs.HeldSteps.{step_held}
 use Rattle.tenant_service.specs.OneStep.{Takes}
 use Rattle.tenant_service.specs.Tenants.{holding_in}
 use Rattle.tenant_service.proofs.AccountLemmas.{stands-found, held-missing, serves-found, serves-same, leaves-same}

@@ -1,28 +1,76 @@
-use Rattle.std.proofs.Common.{◌≡◌, ◌-◌, List, map, IfOk, sym, ap, ◌∙◌, subst, arith}
+use Rattle.std.proofs.Common.{◌≡◌, List, [], ◌∷◌, ◌++◌, map, IfOk, sym, ap, ◌∙◌, subst, rules, arith}
+use Rattle.std.proofs.lemmas.List.{map-append, take_all}
 use Rattle.git_model.specs.Tree.{TreeEntry}
-use Rattle.tree_build.specs.Trees.{tree_name}
-use Rattle.tree_build.specs.Below.{files_below, groups_of, direct_of}
-use Rattle.tree_build.proofs.Nested.{entries-nil, entries-step, entries_turn, pushed}
+use Rattle.git_objects.specs.Parts.{entry_of, entries_of}
+use Rattle.file_maps.specs.StoredFiles.{stored_files}
+use Rattle.file_maps.specs.Trees.{tree_name}
+use Rattle.file_maps.proofs.Nested.{pushed}
+use Rattle.file_maps.proofs.TreeOf
+use Rattle.tree_build.specs.Stores.{parts_of}
+use Rattle.tree_build.proofs.Inside.{entries-inside}
+use Rattle.tenant_tables.specs.Objects.{objects}
+use Rattle.tree_build.specs.Shape.{Directory}
+use Rattle.tree_build.specs.Nodes.{shape_of}
+use Rattle.tree_build.proofs.Here.{here-unopened, here-opened, tree-known, some-at, one-row}
+use Rattle.tree_build.proofs.Places.{Entries, sound-at, size-at}
 use Rattle.tree_build.proofs.naming.+naming.Goals as goal
 
-pub tree_id-returns-then-deep-eq0 : goal.tree_id-returns-then-deep-eq0
-tree_id-returns-then-deep-eq0 g t c =
-    subst
-    (λ (es : List TreeEntry). IfOk c.name_of.result (λ id. id ≡ tree_name g.N.Naming.digest_of es))
-    (sym (entries-nil g.N.Naming.digest_of c.args.deep (files_below c.args.files.now) c.if-deep-eq0.true)) c.name_of.ensures
+pub entry_here-returns-in-Unopened : goal.entry_here-returns-in-Unopened
+entry_here-returns-in-Unopened g t c =
+    here-unopened g.N.Naming.digest_of c.args.pool.now c.args.table.now.entries c.requires.stands c.args.node.now c.in-Unopened.name c.directory.result
+    c.in-Unopened.is c.requires.sound c.requires.some c.directory.ensures
 
-pub tree_id-returns-in-Ok : goal.tree_id-returns-in-Ok
-tree_id-returns-in-Ok g t c =
-    subst
-    (λ (es : List TreeEntry). IfOk c.tree_of_groups.result (λ id. id ≡ tree_name g.N.Naming.digest_of es))
-    (ap (map (direct_of g.N.Naming.digest_of (c.args.deep - 1))) (ap groups_of c.deref.ensures.value ∙ c.in-Ok.ensures)
+pub entry_here-returns-in_ok-tree_of-in-Opened : goal.entry_here-returns-in_ok-tree_of-in-Opened
+entry_here-returns-in_ok-tree_of-in-Opened g t c =
+    here-opened g.N.Naming.digest_of c.args.pool.now c.args.table.now.entries c.requires.stands c.args.node.now c.in-Opened.dir c.in_ok-tree_of-in-Opened.field-0 c.directory-in-Opened.result
+    c.in-Opened.is c.requires.some c.in_ok-tree_of-in-Opened.ensures c.directory-in-Opened.ensures
+
+pub tree_of-returns-in-Some : goal.tree_of-returns-in-Some
+tree_of-returns-in-Some g t c =
+    tree-known g.N.Naming.digest_of c.args.pool.now c.args.table.now.entries c.requires.stands c.args.dir.now c.in-Some.name
+    (sym (ap (λ (d : Directory). d.tree) c.dir.view_is) ∙ c.in-Some.is)
+    c.requires.sound
+
+pub push_rows-entry_here-requires : goal.push_rows-entry_here-requires
+push_rows-entry_here-requires g t c κs within =
+    let os = objects c.args.pool.now c.args.table.now.entries in
+    let size = size-at c.args.entries.now c.loop-entry.entry-index c.entry-item.result c.loop-entry-test.true c.entry-item.is in (
+      omega (arith, c.decreases, size),
+      (
+        search (rules, within),
+        (
+          c.requires.stands,
+          (
+            sound-at os c.args.entries.now c.loop-entry.entry-index c.entry-item.result c.loop-entry-test.true c.entry-item.is c.requires.sound,
+            some-at os c.args.entries.now c.loop-entry.entry-index c.entry-item.result c.loop-entry-test.true c.entry-item.is c.requires.sound,
+          ),
+        ),
+      ),
+    )
+
+pub push_rows-loop-entry-preserved : goal.push_rows-loop-entry-preserved
+push_rows-loop-entry-preserved g t c =
+    let os = objects c.args.pool.now c.args.table.now.entries in
+    let one = pushed c.push.result c.is_err.result c.push.new.self.items c.loop-entry.rows.items c.row_of.result c.is_err.ensures.negation c.if-is_err.false c.push.ensures.items in
+    ap entries_of one ∙ map-append entry_of c.loop-entry.rows.items (c.row_of.result ∷ [])
+    ∙ ap (λ (l : List TreeEntry). l ++ entry_of c.row_of.result ∷ []) c.loop-entry.invariant
     ∙ sym
-    (entries-step g.N.Naming.digest_of c.args.deep (files_below c.args.files.now) (omega arith)))
-    c.tree_of_groups.ensures
+    (one-row g.N.Naming.digest_of (stored_files os) c.args.entries.now c.loop-entry.entry-index c.entry-item.result c.in_ok-held.held (entry_of c.row_of.result)
+    c.loop-entry-test.true c.entry-item.is
+    (some-at os c.args.entries.now c.loop-entry.entry-index c.entry-item.result c.loop-entry-test.true c.entry-item.is c.requires.sound)
+    c.in_ok-held.ensures c.row_of.ensures)
 
-pub push_entries-loop-group-preserved : goal.push_entries-loop-group-preserved
-push_entries-loop-group-preserved g t c =
-    entries_turn g.N.Naming.digest_of
-    c.args.deep c.args.groups.now c.loop-group.group-index c.group-item.result c.in_ok-id.id c.entry_by.result _ _
-    c.loop-group-test.true c.group-item.is c.in_ok-id.ensures c.entry_by.ensures c.loop-group.invariant
-    (pushed c.push.result c.is_err.result _ _ _ c.is_err.ensures.negation c.if-is_err.false c.push.ensures.items)
+pub push_rows-returns : goal.push_rows-returns
+push_rows-returns g t c =
+    let os = objects c.args.pool.now c.args.table.now.entries in
+    c.loop-entry.invariant
+    ∙ ap
+    (λ (l : Entries). map (TreeOf.entry_of g.N.Naming.digest_of) (parts_of (stored_files os) (shape_of l)))
+    (take_all c.loop-entry.entry-index c.args.entries.now c.loop-entry-test.false)
+    ∙ sym (entries-inside g.N.Naming.digest_of os (shape_of c.args.entries.now) c.requires.sound)
+
+pub tree_of_entries-returns-in-Ok : goal.tree_of_entries-returns-in-Ok
+tree_of_entries-returns-in-Ok g t c =
+    subst
+    (λ (es : List TreeEntry). IfOk c.name_of_rows.result (λ id. id ≡ tree_name g.N.Naming.digest_of es))
+    (ap entries_of c.deref.ensures.value ∙ c.in-Ok.ensures) c.name_of_rows.ensures

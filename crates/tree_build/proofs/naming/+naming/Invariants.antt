@@ -1,20 +1,25 @@
 use Rattle.std.proofs.Common.{◌≡◌, ◌+◌, ◌*◌, map, take}
 use Rattle.git_objects.specs.Parts.{entries_of}
-use Rattle.tree_build.specs.Below.{groups_of, direct_of}
+use Rattle.tenant_tables.specs.Objects.{objects}
+use Rattle.file_maps.specs.StoredFiles.{stored_files}
+use Rattle.file_maps.proofs.TreeOf.{entry_of}
+use Rattle.tree_build.specs.Nodes.{held, shape_of}
+use Rattle.tree_build.specs.ShapeCode.{shape_size}
+use Rattle.tree_build.specs.Stores.{parts_of}
 use Rattle.tree_build.proofs.naming.+naming.Given as goal
 
-abbrev pub decreases-id_of : goal.decreases-id_of
-decreases-id_of g l = 4 * l.deep + 1
+abbrev pub decreases-tree_of : goal.decreases-tree_of
+decreases-tree_of g l = 4 * shape_size l.dir.now.entries + 3
 
-abbrev pub decreases-tree_id : goal.decreases-tree_id
-decreases-tree_id g l = 4 * l.deep
+abbrev pub decreases-tree_of_entries : goal.decreases-tree_of_entries
+decreases-tree_of_entries g l = 4 * shape_size (shape_of l.entries.now) + 2
 
-abbrev pub decreases-tree_of_groups : goal.decreases-tree_of_groups
-decreases-tree_of_groups g l = 4 * l.deep + 3
+abbrev pub decreases-push_rows : goal.decreases-push_rows
+decreases-push_rows g l = 4 * shape_size (shape_of l.entries.now) + 1
 
-abbrev pub decreases-push_entries : goal.decreases-push_entries
-decreases-push_entries g l = 4 * l.deep + 2
+abbrev pub decreases-entry_here : goal.decreases-entry_here
+decreases-entry_here g l = 4 * shape_size (held l.node.now).inside + 4
 
-abbrev pub invariant-push_entries-loop-group : goal.invariant-push_entries-loop-group
-invariant-push_entries-loop-group g l =
-    entries_of l.entries.items ≡ map (direct_of g.N.Naming.digest_of l.deep) (groups_of (take l.group-index l.groups))
+abbrev pub invariant-push_rows-loop-entry : goal.invariant-push_rows-loop-entry
+invariant-push_rows-loop-entry g l =
+    entries_of l.rows.items ≡ map (entry_of g.N.Naming.digest_of) (parts_of (stored_files (objects l.pool l.table.entries)) (shape_of (take l.entry-index l.entries)))

@@ -1,161 +1,255 @@
-use Rattle.std.proofs.Common.{◌≡◌, ℕ, ◌-◌, ◌<◌, ◌≤◌, List, [], ◌∷◌, ◌++◌, length, take, map, OnOk}
-use Rattle.std.proofs.Common.{Some, refl, sym, ap, ◌∙◌, subst, rules, arith}
-use Rattle.std.specs.List.{AllByRecursion}
-use Rattle.git_model.specs.ObjectName.{IsObjectName}
-use Rattle.git_model.specs.Tree.{TreeEntry, tree_contents}
-use Rattle.git_objects.specs.declared.tree_entry.TreeEntry as declared
-use Rattle.git_objects.specs.Parts.{entries_of}
-use Rattle.tenant_tables.specs.Trees.{FitsTree}
-use Rattle.tenant_tables.specs.View.{summary_of}
-use Rattle.tenant_tables.specs.declared.summary.Summary.{Summary}
-use Rattle.tree_build.specs.declared.below.Group.{Group}
-use Rattle.tree_build.specs.FileMap.{Listed}
-use Rattle.tree_build.specs.Trees.{grouped, tree_name, entries_within, trees_within}
-use Rattle.tree_build.specs.Below.{files_below, groups_of, group_of}
-use Rattle.tree_build.specs.Storing.{StoresTrees}
-use Rattle.tree_build.specs.Storable.{IsKnownGroup}
-use Rattle.tree_build.proofs.Nested.{entries_turn, entries_end, pushed, direct_of}
-use Rattle.tree_build.proofs.Sums.{fits-tree}
-use Rattle.tree_build.proofs.Stored.{adds-none, stopped, trees_of, trees-any, entries-any}
-use Rattle.tree_build.proofs.Stored.{deep_some}
-use Rattle.tree_build.proofs.Turns.{each-storable, ids_turn, known_turn, adds_turn, unrefused_turn}
-use Rattle.tree_build.proofs.Turns.{stopped_here, refused_here, stores-last, all_trees}
-use Rattle.std.proofs.lemmas.List.{take_all, length-map}
+use Rattle.std.proofs.Common.{◌≡◌, ℕ, ◌<◌, List, [], ◌∷◌, get_or, length, Option, None, Ok, refl, sym, ap, ◌∙◌, subst, rules, arith}
+use Rattle.std.proofs.lemmas.Result.{on_ok_weaker}
+use Rattle.std.proofs.lemmas.List.{take_all, append-nil}
+use Rattle.git_model.specs.Tree.{TreeEntry}
+use Rattle.file_maps.specs.declared.entry.Entry.{Entry}
+use Rattle.tenant_tables.specs.Objects.{objects}
+use Rattle.file_maps.specs.FileMap.{Listed}
+use Rattle.file_maps.specs.Trees.{Groups, file_of, unless_file, nested_trees, tree_id, tree_name}
+use Rattle.file_maps.specs.StoredTree.{ListsTree}
+use Rattle.file_maps.specs.Storable.{AreStorable}
+use Rattle.file_maps.specs.StoredFiles.{stored_files}
+use Rattle.file_maps.specs.Storing.{StoresTrees, AddsSome}
+use Rattle.tree_build.specs.Shape.{Shape, Directory, unopened, opened, shape_files, held_files}
+use Rattle.tree_build.specs.Nodes.{held, shape_of}
+use Rattle.tree_build.specs.Branch.{IsWhat, IsShape, IsHeld}
+use Rattle.tree_build.specs.ShapeCode.{shape_size}
+use Rattle.tree_build.specs.Stores.{parts_of, entries_of_shape, AreNamed, trees_below, trees_of_parts}
+use Rattle.tree_build.proofs.Places.{sound-at, part-at, parts-length, same-set, sound-set, named-set, size-at, same-size, same-length, storable-at}
+use Rattle.tree_build.proofs.Later.{adds-grow, stores-grow, files-later, shape-later}
+use Rattle.tree_build.proofs.Held.{adds-named}
+use Rattle.tree_build.proofs.Inside.{no-root, parts-stay, files-stay, stores-own, refused-inside, stores-known}
+use Rattle.tree_build.proofs.PartTurns.{adds_turn, unrefused_turn, refused_turn, all_parts}
 use Rattle.tree_build.proofs.storing.+storing.Goals as goal
 
-pub store_trees-returns-in-Err-clause-stores : goal.store_trees-returns-in-Err-clause-stores
-store_trees-returns-in-Err-clause-stores g t c =
-    stopped g.N.Naming.digest_of _ _ _ _ _ []
-    (trees_within g.N.Naming.digest_of c.args.deep (files_below c.args.files.now))
-    (adds-none g.N.Naming.digest_of c.args.pool.now c.args.table.now c.requires.stands c.requires.room) refl refl
-
-pub store_trees-store_groups-requires : goal.store_trees-store_groups-requires
-store_trees-store_groups-requires g t c κs within = (
-  omega (arith, c.decreases),
-  (
-    search (rules, within),
-    (
-      c.requires.deep,
-      (
-        c.requires.files,
-        (
-          ap groups_of c.deref.ensures.value ∙ c.in-Ok.ensures,
-          (c.requires.stands, c.requires.room),
-        ),
-      ),
-    ),
-  ),
-)
-
-pub store_groups-overflow_sub-deep : goal.store_groups-overflow_sub-deep
-store_groups-overflow_sub-deep g t c =
-    let are = c.requires.groups in
-    deep_some
-    (files_below c.args.files.now) c.loop-group.group-index c.args.deep c.requires.files.each c.requires.deep
-    (subst (λ n. c.loop-group.group-index < n) (sym (length-map c.args.groups.now group_of) ∙ ap length are) c.loop-group-test.true)
-
-pub store_groups-store_group-requires : goal.store_groups-store_group-requires
-store_groups-store_group-requires g t c κs within =
-    let are = c.requires.groups in
-    let deep : 0 < c.args.deep = store_groups-overflow_sub-deep g t c in (
-      omega (arith, c.decreases),
+pub store_at-store_node-requires : goal.store_at-store_node-requires
+store_at-store_node-requires g t c κs within =
+    let os = objects c.args.pool.now c.args.table.now.entries in
+    let size = size-at c.args.entries.now.items c.args.place c.index_mut.result.now c.requires.place c.index_mut.ensures.value in (
+      omega (arith, c.decreases, size),
       (
         search (rules, within),
         (
-          each-storable c.args.deep
-              (files_below c.args.files.now) c.args.groups.now c.loop-group.group-index c.group-item.result c.requires.files c.requires.deep are c.loop-group-test.true c.group-item.is,
-          (c.loop-group.invariant.adds.stands, c.loop-group.invariant.adds.room),
+          c.requires.stands,
+          (
+            c.requires.room,
+            (
+              sound-at os c.args.entries.now.items c.args.place c.index_mut.result.now c.requires.place c.index_mut.ensures.value c.requires.sound,
+              storable-at os c.args.entries.now.items c.args.place c.index_mut.result.now c.requires.place c.index_mut.ensures.value c.requires.sound c.requires.storable,
+            ),
+          ),
         ),
       ),
     )
 
-pub store_groups-returns-in-Err-clause-stores : goal.store_groups-returns-in-Err-clause-stores
-store_groups-returns-in-Err-clause-stores g t c =
-    let are = c.requires.groups in
-    refused_here g.N.Naming.digest_of
-    (c.args.deep - 1) _ _ _ _ _ _ c.args.groups.now c.loop-group.group-index c.group-item.result c.loop-group-test.true c.group-item.is
-    _ _ _
-    (trees-any g.N.Naming.digest_of c.args.deep (files_below c.args.files.now) c.args.groups.now c.requires.files.each c.requires.deep are)
-    c.loop-group.invariant.adds c.loop-group.invariant.unrefused c.in-Err.ensures.stores
+pub store_at-returns-clause-stores : goal.store_at-returns-clause-stores
+store_at-returns-clause-stores g t c =
+    subst
+    (λ (x : List ℕ × Listed). StoresTrees c.store_node.result g.N.Naming.digest_of c.args.pool.now c.args.table.now c.store_node.new.pool c.store_node.new.table (trees_below g.N.Naming.digest_of x.1) tt)
+    (sym (part-at (stored_files (objects c.args.pool.now c.args.table.now.entries)) c.args.entries.now.items c.args.place c.index_mut.result.now ([], []) c.requires.place c.index_mut.ensures.value))
+    c.store_node.ensures.stores
 
-pub store_groups-returns-then-is_err-clause-stores : goal.store_groups-returns-then-is_err-clause-stores
-store_groups-returns-then-is_err-clause-stores g t c =
-    let are = c.requires.groups in
-    stopped_here g.N.Naming.digest_of
-    (c.args.deep - 1) _ _ _ _ _ _ c.args.groups.now c.loop-group.group-index c.group-item.result c.loop-group-test.true c.group-item.is
-    _ _
-    (trees-any g.N.Naming.digest_of c.args.deep (files_below c.args.files.now) c.args.groups.now c.requires.files.each c.requires.deep are)
-    c.loop-group.invariant.adds c.loop-group.invariant.unrefused c.in-Ok.ensures.stores.2 c.in-Ok.ensures.stores.1
+pub store_at-returns-clause-same : goal.store_at-returns-clause-same
+store_at-returns-clause-same g t c =
+    same-set c.args.entries.now.items c.args.place c.index_mut.result.now c.store_node.new.node c.requires.place c.index_mut.ensures.value c.store_node.ensures.same
 
-pub store_groups-loop-group-preserved : goal.store_groups-loop-group-preserved
-store_groups-loop-group-preserved g t c =
-    let one = pushed c.push.result c.is_err.result c.push.new.self.items c.loop-group.entries.items c.entry_by.result c.is_err.ensures.negation c.if-is_err.false c.push.ensures.items in record {
-      entries =
-          entries_turn g.N.Naming.digest_of
-          (c.args.deep - 1) c.args.groups.now c.loop-group.group-index c.group-item.result c.in-Ok.id c.entry_by.result _ _
-          c.loop-group-test.true c.group-item.is c.in-Ok.ensures.stores.0 c.entry_by.ensures c.loop-group.invariant.entries one;
-      ids =
-          ids_turn
-          (group_of c.group-item.result) c.in-Ok.id c.entry_by.result _ _ c.has_twenty_bytes.ensures c.entry_by.ensures c.loop-group.invariant.ids one;
-      adds =
-          adds_turn g.N.Naming.digest_of
-          (c.args.deep - 1) _ _ _ _ _ _ c.args.groups.now c.loop-group.group-index c.group-item.result c.loop-group-test.true c.group-item.is
-          c.loop-group.invariant.adds c.in-Ok.ensures.stores.2;
-      unrefused =
-          unrefused_turn g.N.Naming.digest_of
-          (c.args.deep - 1) _ _ c.store_group.new.pool _ _ c.store_group.new.table c.args.groups.now c.loop-group.group-index c.group-item.result c.loop-group-test.true c.group-item.is
-          c.loop-group.invariant.adds c.loop-group.invariant.unrefused c.in-Ok.ensures.stores.1;
-      known =
-          known_turn g.N.Naming.digest_of
-          (c.args.deep - 1) _ _ c.in-Ok.ensures.stores.2.kept c.args.groups.now c.loop-group.group-index c.group-item.result c.loop-group-test.true c.group-item.is
-          c.loop-group.invariant.known c.in-Ok.ensures.known;
+pub store_at-returns-clause-sound : goal.store_at-returns-clause-sound
+store_at-returns-clause-sound g t c =
+    let grows = stores-grow g.N.Naming.digest_of c.store_node.result c.args.pool.now c.store_node.new.pool c.args.table.now c.store_node.new.table _ tt c.store_node.ensures.stores in
+    sound-set (objects c.store_node.new.pool c.store_node.new.table.entries) c.args.entries.now.items c.args.place c.index_mut.result.now c.store_node.new.node c.requires.place c.index_mut.ensures.value c.store_node.ensures.same
+    (shape-later _ _ grows (shape_of c.args.entries.now.items) c.requires.sound) c.store_node.ensures.sound
+
+pub store_at-returns-clause-named : goal.store_at-returns-clause-named
+store_at-returns-clause-named g t c =
+    on_ok_weaker c.store_node.result
+    (λ one. named-set c.args.entries.now.items c.args.place c.index_mut.result.now.0 c.store_node.new.node c.requires.place one)
+    c.store_node.ensures.named
+
+pub store_node-store_dir-requires : goal.store_node-store_dir-requires
+store_node-store_dir-requires g t c κs within =
+    let os = objects c.args.pool.now c.args.table.now.entries in
+    let sound = subst (λ n. IsHeld os (held n)) c.in-Opened.is c.requires.sound in
+    let storable = subst (λ n. file_of (held_files (stored_files os) (held n)) ≡ None → AreStorable (held_files (stored_files os) (held n))) c.in-Opened.is c.requires.storable in
+    let size = ap (λ n. shape_size (held n).inside) c.in-Opened.is in (
+      omega (arith, c.decreases, size),
+      (
+        search (rules, within),
+        (
+          c.requires.stands,
+          (c.requires.room, (sound, storable (no-root (stored_files os) c.in-Opened.dir.entries))),
+        ),
+      ),
+    )
+
+pub store_node-returns-in-Unopened-clause-stores : goal.store_node-returns-in-Unopened-clause-stores
+store_node-returns-in-Unopened-clause-stores g t c =
+    let os = objects c.args.pool.now c.args.table.now.entries in
+    let sound = subst (λ n. IsHeld os (held n)) c.in-Unopened.is c.requires.sound in
+    let adds = adds-named g.N.Naming.digest_of c.args.pool.now c.args.table.now c.requires.stands c.requires.room (unopened c.in-Unopened.field-0) [] sound.0 tt [] in
+    subst (λ n. StoresTrees {name = Unit {0}} (Ok (tt {0})) g.N.Naming.digest_of c.args.pool.now c.args.table.now c.args.pool.now c.args.table.now (trees_below g.N.Naming.digest_of (held_files (stored_files os) (held n))) (tt {0}))
+    (sym c.in-Unopened.is) (refl, adds.1, adds.0)
+
+pub store_node-returns-in-Ok-clause-stores : goal.store_node-returns-in-Ok-clause-stores
+store_node-returns-in-Ok-clause-stores g t c =
+    let os = objects c.args.pool.now c.args.table.now.entries in
+    let fs = shape_files (stored_files os) c.in-Opened.dir.entries in
+    let stores = c.in-Ok.ensures.stores in
+    subst (λ n. StoresTrees {name = Unit {0}} (Ok (tt {0})) g.N.Naming.digest_of c.args.pool.now c.args.table.now c.store_dir.new.pool c.store_dir.new.table (trees_below g.N.Naming.digest_of (held_files (stored_files os) (held n))) (tt {0}))
+    (sym c.in-Opened.is)
+    (subst (λ (o : Option Entry). StoresTrees {name = Unit {0}} (Ok (tt {0})) g.N.Naming.digest_of c.args.pool.now c.args.table.now c.store_dir.new.pool c.store_dir.new.table (unless_file o (nested_trees g.N.Naming.digest_of fs)) (tt {0}))
+    (sym (no-root (stored_files os) c.in-Opened.dir.entries)) (refl, stores.1, stores.2))
+
+pub store_node-returns-in-Err-clause-stores : goal.store_node-returns-in-Err-clause-stores
+store_node-returns-in-Err-clause-stores g t c =
+    let os = objects c.args.pool.now c.args.table.now.entries in
+    let fs = shape_files (stored_files os) c.in-Opened.dir.entries in
+    subst (λ n. AddsSome g.N.Naming.digest_of c.args.pool.now c.args.table.now c.store_dir.new.pool c.store_dir.new.table (trees_below g.N.Naming.digest_of (held_files (stored_files os) (held n))) c.in-Err.refusal)
+    (sym c.in-Opened.is)
+    (subst (λ (o : Option Entry). AddsSome g.N.Naming.digest_of c.args.pool.now c.args.table.now c.store_dir.new.pool c.store_dir.new.table (unless_file o (nested_trees g.N.Naming.digest_of fs)) c.in-Err.refusal)
+    (sym (no-root (stored_files os) c.in-Opened.dir.entries)) c.in-Err.ensures.stores)
+
+-- ---- a directory
+
+pub store_dir-returns-in-Err-clause-stores : goal.store_dir-returns-in-Err-clause-stores
+store_dir-returns-in-Err-clause-stores g t c =
+    let os = objects c.args.pool.now c.args.table.now.entries in
+    let is = ap (λ (d : Directory). d.entries) c.dir.view_is in
+    subst (λ (s : Shape). AddsSome g.N.Naming.digest_of c.args.pool.now c.args.table.now c.store_inside.new.pool c.store_inside.new.table (nested_trees g.N.Naming.digest_of (shape_files (stored_files os) s)) c.in-Err.refusal) is
+    (refused-inside g.N.Naming.digest_of c.args.pool.now c.store_inside.new.pool c.args.table.now c.store_inside.new.table
+    (shape_of c.dir.inside.entries.items) (subst (IsShape os) (sym is) c.requires.sound.1) c.requires.stands c.requires.room c.in-Err.refusal c.in-Err.ensures.stores)
+
+pub store_dir-add_tree-added-requires-clause-storable : goal.store_dir-add_tree-added-requires-clause-storable
+store_dir-add_tree-added-requires-clause-storable g t c =
+    let os = objects c.args.pool.now c.args.table.now.entries in
+    let is = ap (λ (d : Directory). d.entries) c.dir.view_is in
+    let grows = stores-grow g.N.Naming.digest_of c.store_inside.result c.args.pool.now c.store_inside.new.pool c.args.table.now c.store_inside.new.table _ (tt {0}) c.store_inside.ensures.stores in
+    let same = files-stay os (objects c.store_inside.new.pool c.store_inside.new.table.entries) grows (shape_of c.dir.inside.entries.items) (shape_of c.store_inside.new.entries.items) (subst (IsShape os) (sym is) c.requires.sound.1) c.store_inside.ensures.same in
+    subst (λ es. AreStorable (shape_files (stored_files (objects c.store_inside.new.pool c.store_inside.new.table.entries)) (shape_of es))) (sym c.deref.ensures.value)
+    (subst AreStorable (sym (same ∙ ap (shape_files (stored_files os)) is)) c.requires.storable)
+
+pub store_dir-returns-in-Some-clause-stores : goal.store_dir-returns-in-Some-clause-stores
+store_dir-returns-in-Some-clause-stores g t c =
+    let os = objects c.args.pool.now c.args.table.now.entries in
+    let fs = shape_files (stored_files os) c.args.dir.now.entries in
+    stores-known g.N.Naming.digest_of c.args.pool.now c.args.table.now c.in-Some.name fs c.requires.stands c.requires.room
+    (subst (λ (o : Option (List ℕ)). IsWhat os (opened o) fs) (sym (ap (λ (d : Directory). d.tree) c.dir.view_is) ∙ c.in-Some.is) c.requires.sound.0)
+
+pub store_dir-returns-in-Ok-added-clause-stores : goal.store_dir-returns-in-Ok-added-clause-stores
+store_dir-returns-in-Ok-added-clause-stores g t c =
+    let os = objects c.args.pool.now c.args.table.now.entries in
+    let is = ap (λ (d : Directory). d.entries) c.dir.view_is in
+    let grows = stores-grow g.N.Naming.digest_of c.store_inside.result c.args.pool.now c.store_inside.new.pool c.args.table.now c.store_inside.new.table _ (tt {0}) c.store_inside.ensures.stores in
+    let stores = c.in-Ok.ensures.stores in
+    subst (λ (s : Shape). StoresTrees (Ok c.in-Ok-added.name) g.N.Naming.digest_of c.args.pool.now c.args.table.now c.add_tree-added.new.pool c.add_tree-added.new.table (nested_trees g.N.Naming.digest_of (shape_files (stored_files os) s)) (tree_id g.N.Naming.digest_of (shape_files (stored_files os) s))) is
+    (stores-own g.N.Naming.digest_of c.args.pool.now c.store_inside.new.pool c.args.table.now c.store_inside.new.table
+    (shape_of c.dir.inside.entries.items) (shape_of c.store_inside.new.entries.items)
+    (subst (IsShape os) (sym is) c.requires.sound.1) grows c.store_inside.ensures.same c.in-Ok.ensures.sound c.in-Ok.ensures.named stores.2.stands
+    c.add_tree-added.new.pool c.add_tree-added.new.table (Ok c.in-Ok-added.name) (refl, stores.1, stores.2)
+    (subst (λ es. StoresTrees (Ok c.in-Ok-added.name) g.N.Naming.digest_of c.store_inside.new.pool c.store_inside.new.table c.add_tree-added.new.pool c.add_tree-added.new.table (entries_of_shape (shape_of es) ∷ []) (tree_name g.N.Naming.digest_of (entries_of_shape (shape_of es)))) c.deref.ensures.value c.in-Ok-added.ensures.stores))
+
+pub store_dir-returns-in-Ok-added-clause-sound : goal.store_dir-returns-in-Ok-added-clause-sound
+store_dir-returns-in-Ok-added-clause-sound g t c =
+    let os = objects c.store_inside.new.pool c.store_inside.new.table.entries in
+    let after = objects c.add_tree-added.new.pool c.add_tree-added.new.table.entries in
+    let grows = stores-grow g.N.Naming.digest_of c.add_tree-added.result c.store_inside.new.pool c.add_tree-added.new.pool c.store_inside.new.table c.add_tree-added.new.table _ _ c.add_tree-added.ensures.stores in
+    let s = shape_of c.store_inside.new.entries.items in
+    let sound = c.in-Ok.ensures.sound in (
+      subst (ListsTree after c.in-Ok-added.name) (sym (files-later os after grows s sound))
+          (subst (λ es. ListsTree after c.in-Ok-added.name (shape_files (stored_files os) (shape_of es))) c.deref.ensures.value c.in-Ok-added.ensures.lists),
+      shape-later os after grows s sound,
+    )
+
+pub store_dir-returns-in-Err-added-clause-stores : goal.store_dir-returns-in-Err-added-clause-stores
+store_dir-returns-in-Err-added-clause-stores g t c =
+    let os = objects c.args.pool.now c.args.table.now.entries in
+    let is = ap (λ (d : Directory). d.entries) c.dir.view_is in
+    let grows = stores-grow g.N.Naming.digest_of c.store_inside.result c.args.pool.now c.store_inside.new.pool c.args.table.now c.store_inside.new.table _ (tt {0}) c.store_inside.ensures.stores in
+    let stores = c.in-Ok.ensures.stores in
+    subst (λ (s : Shape). StoresTrees c.add_tree-added.result g.N.Naming.digest_of c.args.pool.now c.args.table.now c.add_tree-added.new.pool c.add_tree-added.new.table (nested_trees g.N.Naming.digest_of (shape_files (stored_files os) s)) (tree_id g.N.Naming.digest_of (shape_files (stored_files os) s))) is
+    (stores-own g.N.Naming.digest_of c.args.pool.now c.store_inside.new.pool c.args.table.now c.store_inside.new.table
+    (shape_of c.dir.inside.entries.items) (shape_of c.store_inside.new.entries.items)
+    (subst (IsShape os) (sym is) c.requires.sound.1) grows c.store_inside.ensures.same c.in-Ok.ensures.sound c.in-Ok.ensures.named stores.2.stands
+    c.add_tree-added.new.pool c.add_tree-added.new.table c.add_tree-added.result (refl, stores.1, stores.2)
+    (subst (λ es. StoresTrees c.add_tree-added.result g.N.Naming.digest_of c.store_inside.new.pool c.store_inside.new.table c.add_tree-added.new.pool c.add_tree-added.new.table (entries_of_shape (shape_of es) ∷ []) (tree_name g.N.Naming.digest_of (entries_of_shape (shape_of es)))) c.deref.ensures.value c.add_tree-added.ensures.stores))
+
+pub store_dir-returns-in-Err-added-clause-sound : goal.store_dir-returns-in-Err-added-clause-sound
+store_dir-returns-in-Err-added-clause-sound g t c =
+    let os = objects c.store_inside.new.pool c.store_inside.new.table.entries in
+    let after = objects c.add_tree-added.new.pool c.add_tree-added.new.table.entries in
+    let grows = stores-grow g.N.Naming.digest_of c.add_tree-added.result c.store_inside.new.pool c.add_tree-added.new.pool c.store_inside.new.table c.add_tree-added.new.table _ _ c.add_tree-added.ensures.stores in
+    let s = shape_of c.store_inside.new.entries.items in (
+      subst (λ (o : Option (List ℕ)). IsWhat after (opened o) (shape_files (stored_files after) s)) (sym c.in-None.is) tt,
+      shape-later os after grows s c.in-Ok.ensures.sound,
+    )
+
+-- ---- its entries
+
+pub store_inside-store_at-requires : goal.store_inside-store_at-requires
+store_inside-store_at-requires g t c κs within =
+    let os = objects c.args.pool.now c.args.table.now.entries in
+    let now = objects c.loop-place.pool c.loop-place.table.entries in
+    let inv = c.loop-place.invariant in
+    let grows = adds-grow g.N.Naming.digest_of c.args.pool.now c.loop-place.pool c.args.table.now c.loop-place.table _ inv.adds in
+    let size = same-size (shape_of c.loop-place.entries.items) (shape_of c.args.entries.now.items) inv.same in
+    let many = same-length c.loop-place.entries.items c.args.entries.now.items inv.same in
+    let files = files-stay os now grows (shape_of c.args.entries.now.items) (shape_of c.loop-place.entries.items) c.requires.sound inv.same in (
+      omega (arith, c.decreases, size),
+      (
+        search (rules, within),
+        (
+          omega (arith, c.loop-place-test.true, c.len-place-end.ensures, many),
+          (inv.adds.stands, (inv.adds.room, (inv.sound, subst AreStorable (sym files) c.requires.storable))),
+        ),
+      ),
+    )
+
+pub store_inside-returns-in-Err-clause-stores : goal.store_inside-returns-in-Err-clause-stores
+store_inside-returns-in-Err-clause-stores g t c =
+    let os = objects c.args.pool.now c.args.table.now.entries in
+    let now = objects c.loop-place.pool c.loop-place.table.entries in
+    let parts = parts_of (stored_files os) (shape_of c.args.entries.now.items) in
+    let inv = c.loop-place.invariant in
+    let grows = adds-grow g.N.Naming.digest_of c.args.pool.now c.loop-place.pool c.args.table.now c.loop-place.table _ inv.adds in
+    let same = parts-stay os now grows (shape_of c.args.entries.now.items) (shape_of c.loop-place.entries.items) c.requires.sound inv.same in
+    let many = parts-length (stored_files os) c.args.entries.now.items in
+    refused_turn g.N.Naming.digest_of c.args.pool.now c.loop-place.pool c.store_at.new.pool c.args.table.now c.loop-place.table c.store_at.new.table parts c.loop-place.place
+    (omega (arith, c.loop-place-test.true, c.len-place-end.ensures, many))
+    (trees_of_parts g.N.Naming.digest_of parts) [] c.in-Err.refusal (sym (append-nil (trees_of_parts g.N.Naming.digest_of parts)))
+    inv.adds inv.unrefused
+    (subst (λ (ps : Groups). AddsSome g.N.Naming.digest_of c.loop-place.pool c.loop-place.table c.store_at.new.pool c.store_at.new.table (trees_below g.N.Naming.digest_of (get_or ps c.loop-place.place ([], [])).1) c.in-Err.refusal) same c.in-Err.ensures.stores)
+
+pub store_inside-loop-place-preserved : goal.store_inside-loop-place-preserved
+store_inside-loop-place-preserved g t c =
+    let os = objects c.args.pool.now c.args.table.now.entries in
+    let now = objects c.loop-place.pool c.loop-place.table.entries in
+    let parts = parts_of (stored_files os) (shape_of c.args.entries.now.items) in
+    let inv = c.loop-place.invariant in
+    let grows = adds-grow g.N.Naming.digest_of c.args.pool.now c.loop-place.pool c.args.table.now c.loop-place.table _ inv.adds in
+    let same = parts-stay os now grows (shape_of c.args.entries.now.items) (shape_of c.loop-place.entries.items) c.requires.sound inv.same in
+    let many = parts-length (stored_files os) c.args.entries.now.items in
+    let lt : c.loop-place.place < length parts = omega (arith, c.loop-place-test.true, c.len-place-end.ensures, many) in
+    let stores = subst (λ (ps : Groups). StoresTrees {name = Unit {0}} (Ok (tt {0})) g.N.Naming.digest_of c.loop-place.pool c.loop-place.table c.store_at.new.pool c.store_at.new.table (trees_below g.N.Naming.digest_of (get_or ps c.loop-place.place ([], [])).1) (tt {0})) same
+    (refl, c.in-Ok.ensures.stores.1, c.in-Ok.ensures.stores.2) in record {
+      same = c.in-Ok.ensures.same ∙ inv.same;
+      sound = c.in-Ok.ensures.sound;
+      adds = adds_turn g.N.Naming.digest_of c.args.pool.now c.loop-place.pool c.store_at.new.pool c.args.table.now c.loop-place.table c.store_at.new.table parts c.loop-place.place lt inv.adds stores.2;
+      unrefused = unrefused_turn g.N.Naming.digest_of c.args.pool.now c.loop-place.pool c.store_at.new.pool c.args.table.now c.loop-place.table c.store_at.new.table parts c.loop-place.place lt inv.adds inv.unrefused stores.1;
+      named = c.in-Ok.ensures.named inv.named;
     }
 
--- the entries at the end of the loop
-module _ (digest : List ℕ → List ℕ) (deep : ℕ) (fs : Listed) (gs : List Group) (i : ℕ) (seen es : List declared.TreeEntry) where
-  the_entries : length gs ≤ i
-      → entries_of es ≡ map (direct_of digest (deep - 1)) (groups_of (take i gs))
-      → groups_of gs ≡ grouped fs → seen ≡ es
-      → entries_of seen ≡ map (direct_of digest (deep - 1)) (grouped fs)
-  the_entries done sofar are same =
-      ap entries_of same ∙ entries_end digest (deep - 1) gs i es fs done sofar are
+pub store_inside-returns-clause-stores : goal.store_inside-returns-clause-stores
+store_inside-returns-clause-stores g t c =
+    let os = objects c.args.pool.now c.args.table.now.entries in
+    let parts = parts_of (stored_files os) (shape_of c.args.entries.now.items) in
+    let inv = c.loop-place.invariant in
+    let many = parts-length (stored_files os) c.args.entries.now.items in
+    let all = all_parts g.N.Naming.digest_of parts c.loop-place.place (omega (arith, c.loop-place-test.false, c.len-place-end.ensures, many)) in
+    subst (λ (ts : List (List TreeEntry)). StoresTrees {name = Unit {0}} (Ok (tt {0})) g.N.Naming.digest_of c.args.pool.now c.args.table.now c.loop-place.pool c.loop-place.table ts (tt {0})) all
+    (refl, inv.unrefused, inv.adds)
 
-pub store_groups-add_entries-requires-clause-fits : goal.store_groups-add_entries-requires-clause-fits
-store_groups-add_entries-requires-clause-fits g t c =
-    let are = c.requires.groups in
-    let entries = the_entries g.N.Naming.digest_of c.args.deep (files_below c.args.files.now) c.args.groups.now c.loop-group.group-index c.deref.result.now c.loop-group.entries.items c.loop-group-test.false c.loop-group.invariant.entries are c.deref.ensures.value in
-    subst
-    (λ (s : Summary). FitsTree c.loop-group.table.entries (tree_contents (entries_of c.deref.result.now)) s)
-    (sym c.summary_of.ensures)
-    (fits-tree g.N.Naming.digest_of (c.args.deep - 1) _ c.loop-group.table.entries (files_below c.args.files.now) (tree_contents (entries_of c.deref.result.now)) refl c.requires.files
-    (subst (AllByRecursion (IsKnownGroup g.N.Naming.digest_of (c.args.deep - 1) c.loop-group.table.entries)) (ap groups_of (take_all c.loop-group.group-index c.args.groups.now c.loop-group-test.false) ∙ are) c.loop-group.invariant.known)
-    (subst (AllByRecursion (λ e. IsObjectName e.id)) (ap entries_of (sym c.deref.ensures.value) ∙ entries) c.loop-group.invariant.ids)
-    (ap tree_contents entries))
-
-pub store_groups-returns-clause-stores : goal.store_groups-returns-clause-stores
-store_groups-returns-clause-stores g t c =
-    let are = c.requires.groups in
-    let entries : entries_of c.deref.result.now ≡ entries_within g.N.Naming.digest_of c.args.deep (files_below c.args.files.now) =
-    the_entries g.N.Naming.digest_of c.args.deep
-    (files_below c.args.files.now) c.args.groups.now c.loop-group.group-index c.deref.result.now c.loop-group.entries.items c.loop-group-test.false c.loop-group.invariant.entries are c.deref.ensures.value
-    ∙ sym
-    (entries-any g.N.Naming.digest_of c.args.deep (files_below c.args.files.now) c.requires.files.each c.requires.deep) in
-    stores-last g.N.Naming.digest_of (c.args.deep - 1) c.add_entries.result _ _ _ _ _ _ _
-    (trees_of g.N.Naming.digest_of (c.args.deep - 1) (take c.loop-group.group-index c.args.groups.now))
-    (entries_within g.N.Naming.digest_of c.args.deep (files_below c.args.files.now)) _
-    c.loop-group.invariant.adds c.loop-group.invariant.unrefused
-    (trees-any g.N.Naming.digest_of c.args.deep (files_below c.args.files.now) c.args.groups.now c.requires.files.each c.requires.deep are
-    ∙ ap (λ (l : List (List TreeEntry)). l ++ entries_within g.N.Naming.digest_of c.args.deep (files_below c.args.files.now) ∷ []) (sym (all_trees g.N.Naming.digest_of (c.args.deep - 1) c.args.groups.now c.loop-group.group-index c.loop-group-test.false)))
-    (subst (λ (es : List TreeEntry). StoresTrees c.add_entries.result g.N.Naming.digest_of c.loop-group.pool c.loop-group.table c.add_entries.new.pool c.add_entries.new.table (es ∷ []) (tree_name g.N.Naming.digest_of es)) entries c.add_entries.ensures.stores)
-
-pub store_groups-returns-clause-known : goal.store_groups-returns-clause-known
-store_groups-returns-clause-known g t c =
-    let are = c.requires.groups in
-    let entries : entries_of c.deref.result.now ≡ entries_within g.N.Naming.digest_of c.args.deep (files_below c.args.files.now) =
-    the_entries g.N.Naming.digest_of c.args.deep
-    (files_below c.args.files.now) c.args.groups.now c.loop-group.group-index c.deref.result.now c.loop-group.entries.items c.loop-group-test.false c.loop-group.invariant.entries are c.deref.ensures.value
-    ∙ sym
-    (entries-any g.N.Naming.digest_of c.args.deep (files_below c.args.files.now) c.requires.files.each c.requires.deep) in
-    subst
-    (λ (s : Summary). OnOk c.add_entries.result (summary_of (tree_name g.N.Naming.digest_of (entries_within g.N.Naming.digest_of c.args.deep (files_below c.args.files.now))) c.add_entries.new.table.entries ≡ Some s)) c.summary_of.ensures
-    (subst (λ (es : List TreeEntry). OnOk c.add_entries.result (summary_of (tree_name g.N.Naming.digest_of es) c.add_entries.new.table.entries ≡ Some c.summary_of.result)) entries c.add_entries.ensures.known)
+pub store_inside-returns-clause-named : goal.store_inside-returns-clause-named
+store_inside-returns-clause-named g t c =
+    let inv = c.loop-place.invariant in
+    let many = same-length c.loop-place.entries.items c.args.entries.now.items inv.same in
+    subst (λ es. AreNamed (shape_of es))
+    (take_all c.loop-place.place c.loop-place.entries.items (omega (arith, c.loop-place-test.false, c.len-place-end.ensures, many))) inv.named

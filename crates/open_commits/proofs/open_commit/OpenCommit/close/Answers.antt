@@ -1,5 +1,5 @@
 use Rattle.std.proofs.Common.{◌≡◌, [], Some, sym, subst, ◌∙◌}
-use Rattle.branch_trees.specs.Branch.{Branch, IsBranch, files_in, root_name, closed_from, Reads}
+use Rattle.tree_build.specs.Branch.{Branch, IsBranch, files_in, root_name, closed_from, Reads}
 use Rattle.std.proofs.lemmas.Result.{err_from_is_err_and}
 use Rattle.tenant_tables.specs.Objects.{objects}
 use Rattle.git_model.specs.declared.kind.Kind.TheVariants as kind

@@ -1,6 +1,6 @@
 use Rattle.std.proofs.lemmas.Result.{err_from_is_err_and}
 use Rattle.tenant_tables.specs.Objects.{objects}
-use Rattle.branch_trees.specs.Branch.{files_in}
+use Rattle.tree_build.specs.Branch.{files_in}
 use Rattle.open_commits.specs.OpenCommit.{shown_in}
 use Rattle.open_commits.proofs.FileChanges.{grafts-stored, put-done, put-refused}
 use Rattle.open_commits.proofs.open_commit.OpenCommit.put_tree.Goals as goal

@@ -1,5 +1,5 @@
 use Rattle.tenant_tables.proofs.RoomLemmas.{room-none}
-use Rattle.tree_build.proofs.Turns.{stands-none}
+use Rattle.file_maps.proofs.Turns.{stands-none}
 use Rattle.open_commits_tests.proofs.repository.Repository.new.Goals as goal
 
 pub invariant_of-result : goal.invariant_of-result

@@ -1,6 +1,7 @@
 use Rattle.std.proofs.Common.{ap, ◌∙◌}
 use Rattle.content_pool.specs.LiveContents.{stored_sizes}
-use Rattle.tenant_service.specs.Holding.{Holdings, held_contents}
+use Rattle.tenant_service.specs.Holding.{Holdings}
+use Rattle.tenant_service.specs.HeldObjects.{held_contents}
 use Rattle.tenant_service.specs.Tenants.{holdings}
 use Rattle.tenant_service.proofs.StoredLemmas.{lists-live}
 use Rattle.tenant_service.proofs.service.Service.stored.Goals as goal

@@ -1,6 +1,7 @@
 use Rattle.std.proofs.Common.{ap, ◌∙◌}
 use Rattle.std.specs.Prelude.{count_by}
-use Rattle.tenant_service.specs.Holding.{Holdings, has_commit}
+use Rattle.tenant_service.specs.Holding.{Holdings}
+use Rattle.tenant_service.specs.HeldObjects.{has_commit}
 use Rattle.tenant_service.proofs.StoredLemmas.{count-commits}
 use Rattle.tenant_service.proofs.service.Service.tenants.Goals as goal
 

@@ -1,7 +1,8 @@
 use Rattle.std.proofs.Common.{ap, sym, ◌∙◌}
 use Rattle.content_pool.specs.LiveContents.{stored_sizes}
 use Rattle.content_pool.proofs.StoredLemmas.{stored_sizes-ListsLive}
-use Rattle.tenant_service.specs.Holding.{Holdings, held_contents}
+use Rattle.tenant_service.specs.Holding.{Holdings}
+use Rattle.tenant_service.specs.HeldObjects.{held_contents}
 use Rattle.tenant_service.specs.Tenants.{holdings}
 use Rattle.tenant_service.proofs.AccountLemmas.{bad-missing, stands-found}
 use Rattle.tenant_service.proofs.CountLemmas.{counts-tenants}

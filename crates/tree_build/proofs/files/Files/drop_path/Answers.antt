@@ -1,21 +1,16 @@
-use Rattle.std.proofs.Common.{refl, sym, ap, ◌∙◌, subst}
-use Rattle.std.specs.FinMap.{from_sorted}
-use Rattle.git_paths.specs.Order.{path_cmp}
-use Rattle.tree_build.specs.FileMap.{Listed, FileMap, AreFiles}
-use Rattle.tree_build.specs.Edits.{without, is_outside}
-use Rattle.tree_build.proofs.Puts.{AreFiles-filter}
-use Rattle.tree_build.proofs.Maps.{retain_keys-of}
+use Rattle.std.proofs.Common.{refl, sym, ◌∙◌, arith}
+use Rattle.tenant_tables.specs.Objects.{objects}
+use Rattle.tree_build.specs.Branch.{files_in}
+use Rattle.tree_build.proofs.Branches.{without_root}
 use Rattle.tree_build.proofs.files.Files.drop_path.Goals as goal
 
-pub invariant_of-self : goal.invariant_of-self
-invariant_of-self g c =
-    subst AreFiles (sym c.drop_below.ensures)
-    (AreFiles-filter (is_outside c.args.path.now) c.self.inside.files.entries c.self.invariant)
+pub returns-then-is_root-clause-edits : goal.returns-then-is_root-clause-edits
+returns-then-is_root-clause-edits g c =
+    let os = objects c.args.pool.now c.args.table.now.entries in (
+      refl,
+      c.clear.ensures.files os
+          ∙ sym (without_root (files_in os c.args.self.now) c.args.path.now (c.is_root.ensures.0 c.if-is_root.true)),
+    )
 
-pub returns : goal.returns
-returns g c = (
-  refl,
-  ap (λ (l : Listed). from_sorted {R = path_cmp} l) c.drop_below.ensures
-      ∙ retain_keys-of (is_outside c.args.path.now) c.self.inside.files.entries c.self.invariant
-      ∙ ap (λ (m : FileMap). without m c.args.path.now) c.self.view_is,
-)
+pub returns-then-is_root-clause-open : goal.returns-then-is_root-clause-open
+returns-then-is_root-clause-open g c = λ q. let none = c.clear.ensures.«open» q in omega arith

@@ -1,17 +1,37 @@
-use Rattle.std.proofs.Common.{◌≡◌, sym, ap, ◌∙◌, subst}
-use Rattle.std.specs.Prelude.{IfOk}
-use Rattle.tree_build.specs.FileMap.{Listed, listed}
-use Rattle.tree_build.specs.Edits.{cut, is_root}
-use Rattle.tree_build.specs.Trees.{file_of, entry_or}
-use Rattle.tree_build.specs.Below.{files_below}
-use Rattle.tree_build.proofs.Maps.{listed-of}
+use Rattle.std.proofs.Common.{◌≡◌, ℕ, List, Option, Some, IfOk, refl, sym, ap, ◌∙◌, subst}
+use Rattle.git_model.specs.declared.file_mode.FileMode.TheVariants as mode
+use Rattle.tenant_tables.specs.Objects.{objects}
+use Rattle.file_maps.specs.declared.entry.Entry.{Entry}
+use Rattle.file_maps.specs.FileMap.{Path}
+use Rattle.file_maps.specs.StoredFiles.{stored_files}
+use Rattle.file_maps.specs.Trees.{tree_id, entry_at}
+use Rattle.tree_build.specs.Branch.{Branch, files_in, root_files}
+use Rattle.tree_build.specs.Nodes.{held}
+use Rattle.tree_build.specs.Shape.{held_files}
+use Rattle.tree_build.specs.Standing.{stands_at}
+use Rattle.tree_build.proofs.Looked.{entry-path, entry-root, root-file}
+use Rattle.tree_build.proofs.Ordered.{branch_listed}
 use Rattle.tree_build.proofs.files.Files.entry.Goals as goal
+
+pub returns-then-is_root : goal.returns-then-is_root
+returns-then-is_root g c =
+    let os = objects c.args.pool.now c.args.table.now.entries in
+    let b = c.args.self.now in
+    let root = ap (λ (x : Branch). held_files (stored_files os) x.root) c.self.view_is in
+    ap (λ (id : List ℕ). Some (record { mode = mode.Directory; name = id }))
+    (c.in_ok-name.ensures ∙ ap (tree_id g.N.Naming.digest_of) root)
+    ∙ entry-root g.N.Naming.digest_of (files_in os b) (root_files os b) (branch_listed os b c.requires.branch.held)
+    (root-file os b.root c.requires.branch.directory c.requires.branch.held)
+    ∙ ap (λ (p : Path). entry_at g.N.Naming.digest_of (files_in os b) p) (sym (c.if-is_root.ensures.0 refl))
 
 pub returns : goal.returns
 returns g c =
-    subst
-    (λ (l : Listed). IfOk c.entry_of.result (λ o. o ≡ entry_or g.N.Naming.digest_of (is_root c.args.path.now) l (file_of l)))
-    (ap files_below c.deref.ensures.value ∙ c.in_ok-files.ensures
-    ∙ ap (cut c.args.path.now)
-    (sym (listed-of c.self.inside.files.entries c.self.invariant) ∙ ap listed c.self.view_is))
-    c.entry_of.ensures
+    let os = objects c.args.pool.now c.args.table.now.entries in
+    let b = c.args.self.now in
+    let root = ap (λ (x : Branch). held_files (stored_files os) x.root) c.self.view_is in
+    subst (λ (x : Option Entry). IfOk c.entry_at.result (λ o. o ≡ x))
+    (ap (stands_at g.N.Naming.digest_of (held_files (stored_files os) (held c.self.inside.root))) c.components.ensures
+    ∙ ap (λ fs. stands_at g.N.Naming.digest_of fs c.args.path.now) root
+    ∙ entry-path g.N.Naming.digest_of (files_in os b) (root_files os b) (branch_listed os b c.requires.branch.held) c.args.path.now
+    (λ is. let no = c.if-is_root.ensures.1 is in cc no))
+    c.entry_at.ensures

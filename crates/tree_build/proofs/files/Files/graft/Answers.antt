@@ -1,63 +1,107 @@
-use Rattle.std.proofs.Common.{Result, Err, sym, ap, ◌∙◌, subst}
-use Rattle.std.proofs.lemmas.Result.{err_from_is_err_and}
+use Rattle.std.proofs.Common.{◌≡◌, Bool, Ok, Err, Some, None, refl, sym, ap, ◌∙◌}
+use Rattle.git_paths.specs.Paths.{behind}
+use Rattle.tenant_tables.specs.declared.summary.Summary.{Summary}
 use Rattle.tenant_tables.specs.Objects.{objects}
-use Rattle.tree_build.specs.declared.fault.Fault.{Fault}
-use Rattle.tree_build.specs.declared.fault.Fault.TheVariants as fault
-use Rattle.tree_build.specs.FileMap.{FileMap, Listed}
-use Rattle.tree_build.specs.Edits.{moved, put_tree_at, put_fault}
-use Rattle.tree_build.specs.Grafts.{Grafts}
-use Rattle.tree_build.specs.Gathers.{Gathers}
-use Rattle.tree_build.proofs.Listing.{tree-apart, tree-sound}
-use Rattle.tree_build.proofs.Standing.{tree-lists, tree-summary}
-use Rattle.tree_build.proofs.Grafting.{too_large, grafts-memory, grafts-edits, gathered-below, gathered-apart, grafts-put}
+use Rattle.file_maps.specs.declared.fault.Fault.TheVariants as fault
+use Rattle.file_maps.specs.FileMap.{Path}
+use Rattle.file_maps.specs.Storable.{files_summary}
+use Rattle.file_maps.specs.StoredFiles.{stored_files}
+use Rattle.file_maps.proofs.Grafting.{grafts-edits}
+use Rattle.tree_build.specs.Branch.{files_in}
+use Rattle.tree_build.specs.Limits.{may_stand}
+use Rattle.tree_build.proofs.Limits.{put_limit}
+use Rattle.tree_build.proofs.Grafted.{IsStored, tree-here, placeable, root-edits, root-branch}
 use Rattle.tree_build.proofs.files.Files.graft.Goals as goal
+use Rattle.tree_build.proofs.files.Files.graft.Goals.{In_ok-summary, After-may_stand}
+use Rattle.tree_build.proofs.files.Files.graft.Given.{Over}
 
-pub returns-then-not-is_small : goal.returns-then-not-is_small
-returns-then-not-is_small g c =
+-- the tree that is put
+put : (g : Over) (c : In_ok-summary g)
+    → IsStored (objects c.args.pool.now c.args.table.now.entries) c.args.name.now
+    c.in_ok-summary.summary
+put g c =
+    tree-here g.N.Naming.digest_of c.args.pool.now c.args.table.now.entries c.requires.stands
+    c.args.name.now c.in_ok-summary.summary c.in_ok-summary.ensures.tree
+
+-- whether its files may stand at the path
+stand : (g : Over) (c : After-may_stand g) (b : Bool) → c.may_stand.result ≡ b
+    → may_stand c.args.path.now
+    (files_summary
+    (stored_files (objects c.args.pool.now c.args.table.now.entries) c.args.name.now)) ≡ b
+stand g c b is =
+    let stored = tree-here g.N.Naming.digest_of c.args.pool.now c.args.table.now.entries
+    c.requires.stands c.args.name.now c.in_ok-summary.summary c.in_ok-summary.ensures.tree in
+    ap (may_stand c.args.path.now) (sym stored.sum) ∙ sym c.may_stand.ensures ∙ is
+
+pub returns-then-not-may_stand-clause-edits : goal.returns-then-not-may_stand-clause-edits
+returns-then-not-may_stand-clause-edits g c =
     let os = objects c.args.pool.now c.args.table.now.entries in
-    let summary = c.in_ok-tree_summary.ensures.tree in
-    let t = tree-lists g.N.Naming.digest_of c.args.pool.now c.args.table.now.entries c.requires.stands c.args.name.now c.in_ok-tree_summary.field-0 summary in
-    let sum = tree-summary g.N.Naming.digest_of c.args.pool.now c.args.table.now.entries c.requires.stands c.args.name.now c.in_ok-tree_summary.field-0 t.0 summary t.1 in
-    let refusal =
-    too_large c.args.path.now c.self.inside.files.entries t.0 c.in_ok-tree_summary.field-0 c.self.invariant
-    (tree-apart os c.args.name.now t.0 t.1) (tree-sound os c.args.name.now t.0 t.1) sum
-    (sym c.is_small.ensures ∙ c.if-not-is_small.true) in
-    grafts-edits os c.args.name.now c.args.path.now c.args.self.now
-    (Err fault.Limit) c.args.self.now t.0 t.1
+    let id = c.args.name.now in
+    let at = goal.at.returns-then-not-may_stand-clause-edits g c in
+    let tree = (put g at.In_ok-summary).tree in
+    let fs = placeable g.N.Naming.digest_of c.args.pool.now c.args.table.now.entries
+    c.requires.stands id tree in
+    let old = files_in os c.args.self.now in
+    grafts-edits os id c.args.path.now old (Err fault.Limit) old (stored_files os id) tree
     (λ _. (
-      ap
-          (λ (m : FileMap). put_fault (moved c.args.path.now t.0) (put_tree_at m c.args.path.now t.0))
-          (sym c.self.view_is)
-          ∙ refusal,
-      λ i. c.args.self.now,
+      put_limit c.args.path.now (stored_files os id) old c.requires.branch.files fs.sound fs.apart
+          (stand g at.After-may_stand _ c.if-not-may_stand.true),
+      refl,
     ))
 
-pub returns-in_err-gather : goal.returns-in_err-gather
-returns-in_err-gather g c =
+pub returns-then-is_root-clause-edits : goal.returns-then-is_root-clause-edits
+returns-then-is_root-clause-edits g c =
     let os = objects c.args.pool.now c.args.table.now.entries in
-    let failed = err_from_is_err_and c.from_residual-in_err-gather.result c.from_residual-in_err-gather.ensures.1 in
-    let t = tree-lists g.N.Naming.digest_of c.args.pool.now c.args.table.now.entries c.requires.stands c.args.name.now c.in_ok-tree_summary.field-0 c.in_ok-tree_summary.ensures.tree in
-    subst
-    (λ (r : Result (Unit {0}) Fault). Grafts r os c.args.name.now c.args.path.now c.args.self.now c.args.self.now)
-    (sym (failed.1 ∙ ap (λ (e : Fault). Err e) failed.2))
-    (grafts-memory os c.args.name.now c.args.path.now c.args.self.now c.args.self.now t.0 t.1)
+    let id = c.args.name.now in
+    let at = goal.at.returns-then-is_root-clause-edits g c in
+    let tree = (put g at.In_ok-summary).tree in
+    let root = c.is_root.ensures.0 c.if-is_root.true in
+    grafts-edits os id c.args.path.now (files_in os c.args.self.now) (Ok tt)
+    (files_in os c.take_tree.new.self) (stored_files os id) tree
+    (root-edits g.N.Naming.digest_of c.args.pool.now c.args.table.now.entries c.requires.stands id
+    tree
+    (ap (λ (p : Path). may_stand p (files_summary (stored_files os id))) (sym root)
+    ∙ stand g at.After-may_stand _ c.if-not-may_stand.false)
+    c.in_ok-summary.summary.files c.args.self.now c.take_tree.new.self c.args.path.now root
+    c.requires.branch c.take_tree.ensures)
 
-pub replace-requires-clause-below : goal.replace-requires-clause-below
-replace-requires-clause-below g c =
+pub returns-then-is_root-clause-branch : goal.returns-then-is_root-clause-branch
+returns-then-is_root-clause-branch g c memory =
     let os = objects c.args.pool.now c.args.table.now.entries in
-    gathered-below os c.args.path.now c.args.name.now c.gather.new.files.items
-    (subst (λ (l : Listed). Gathers os c.args.path.now c.args.name.now l c.gather.new.files.items) c.new-files.ensures.items c.in_ok-gather.ensures.gathers)
-    c.in_ok-gather.ensures.paths
+    let id = c.args.name.now in
+    let at = goal.at.returns-then-is_root-clause-branch g c in
+    let stored = put g at.In_ok-summary in
+    let root = c.is_root.ensures.0 c.if-is_root.true in
+    root-branch g.N.Naming.digest_of c.args.pool.now c.args.table.now.entries c.requires.stands id
+    stored.tree
+    (ap (λ (p : Path). may_stand p (files_summary (stored_files os id))) (sym root)
+    ∙ stand g at.After-may_stand _ c.if-not-may_stand.false)
+    c.in_ok-summary.summary.files c.args.self.now c.take_tree.new.self
+    (ap (λ (s : Summary). s.files) stored.sum) c.requires.branch c.take_tree.ensures
 
-pub replace-requires-clause-apart : goal.replace-requires-clause-apart
-replace-requires-clause-apart g c =
-    let os = objects c.args.pool.now c.args.table.now.entries in
-    gathered-apart os c.args.path.now c.args.name.now c.gather.new.files.items
-    (subst (λ (l : Listed). Gathers os c.args.path.now c.args.name.now l c.gather.new.files.items) c.new-files.ensures.items c.in_ok-gather.ensures.gathers)
+pub returns-then-is_root-clause-open : goal.returns-then-is_root-clause-open
+returns-then-is_root-clause-open g c =
+    λ q apart. absurd
+    (let root = sym (c.is_root.ensures.0 c.if-is_root.true) in
+    let here : Some q ≡ None = ap (λ (p : Path). behind p q) root ∙ apart in cc here)
 
-pub returns : goal.returns
-returns g c =
+pub put_tree-requires-clause-tree : goal.put_tree-requires-clause-tree
+put_tree-requires-clause-tree g c =
+    (put g (goal.at.put_tree-requires-clause-tree g c).In_ok-summary).tree
+
+pub put_tree-requires-clause-files : goal.put_tree-requires-clause-files
+put_tree-requires-clause-files g c =
+    ap (λ (s : Summary). s.files)
+    (put g (goal.at.put_tree-requires-clause-files g c).In_ok-summary).sum
+
+pub put_tree-requires-clause-fits : goal.put_tree-requires-clause-fits
+put_tree-requires-clause-fits g c =
+    stand g (goal.at.put_tree-requires-clause-fits g c).After-may_stand _ c.if-not-may_stand.false
+
+pub returns-clause-edits : goal.returns-clause-edits
+returns-clause-edits g c =
     let os = objects c.args.pool.now c.args.table.now.entries in
-    grafts-put os c.args.name.now c.args.path.now c.args.self.now c.replace.new.self c.replace.result c.gather.new.files.items
-    (subst (λ (l : Listed). Gathers os c.args.path.now c.args.name.now l c.gather.new.files.items) c.new-files.ensures.items c.in_ok-gather.ensures.gathers)
-    c.replace.ensures
+    let id = c.args.name.now in
+    grafts-edits os id c.args.path.now (files_in os c.args.self.now) c.put_tree.result
+    (files_in os c.put_tree.new.self) (stored_files os id)
+    (put g (goal.at.returns-clause-edits g c).In_ok-summary).tree c.put_tree.ensures.edits

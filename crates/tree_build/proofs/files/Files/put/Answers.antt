@@ -1,12 +1,76 @@
-use Rattle.tree_build.proofs.Edited.{one-below, one-apart, edits-put}
+use Rattle.std.proofs.Common.{◌≡◌, ℕ, ◌+◌, Bool, false, refl, sym, ap, ◌∙◌, subst, arith}
+use Rattle.std.specs.Prelude.{IsTrue}
+use Rattle.std.proofs.lemmas.Bool.{false≢true}
+use Rattle.git_paths.specs.Paths.{is_within_limits}
+use Rattle.tenant_tables.specs.Objects.{objects}
+use Rattle.file_maps.specs.Edits.{put_at}
+use Rattle.tree_build.specs.Branch.{files_in}
+use Rattle.tree_build.proofs.Puts.{root_fault, long_fault, one_good, edits_put}
+use Rattle.tree_build.proofs.Branches.{branch_few}
+use Rattle.tree_build.proofs.Taken.{recount}
+use Rattle.tree_build.proofs.OpenStays.{on_ok_both, open_file}
 use Rattle.tree_build.proofs.files.Files.put.Goals as goal
 
-pub replace-requires-clause-below : goal.replace-requires-clause-below
-replace-requires-clause-below g c =
-    one-below c.args.path.now c.args.entry _ c.in_ok-files.ensures c.has_components.ensures c.requires.file c.has_twenty_bytes.ensures
+no_path : {b : Bool} → IsTrue b → b ≡ false → ⊥
+no_path {b} yea nay = false≢true (subst IsTrue nay yea)
 
-pub replace-requires-clause-apart : goal.replace-requires-clause-apart
-replace-requires-clause-apart g c = one-apart c.args.path.now c.args.entry _ c.in_ok-files.ensures
+pub returns-then-is_root-clause-edits : goal.returns-then-is_root-clause-edits
+returns-then-is_root-clause-edits g c memory =
+    let os = objects c.args.pool.now c.args.table.now.entries in (
+      root_fault c.args.path.now c.args.entry (put_at (files_in os c.args.self.now) c.args.path.now c.args.entry)
+          (c.is_root.ensures.0 c.if-is_root.true),
+      refl,
+    )
 
-pub returns : goal.returns
-returns g c = edits-put _ _ _ c.args.path.now c.args.entry _ c.in_ok-files.ensures c.replace.ensures
+pub returns-then-not-is_short-clause-edits : goal.returns-then-not-is_short-clause-edits
+returns-then-not-is_short-clause-edits g c memory =
+    let os = objects c.args.pool.now c.args.table.now.entries in (
+      long_fault c.args.path.now c.args.entry (put_at (files_in os c.args.self.now) c.args.path.now c.args.entry)
+          (λ e. no_path (c.is_root.ensures.1 e) c.if-is_root.false)
+          (sym c.is_short.ensures ∙ c.if-not-is_short.true),
+      refl,
+    )
+
+pub put_node-requires-clause-good : goal.put_node-requires-clause-good
+put_node-requires-clause-good g c =
+    let os = objects c.args.pool.now c.args.table.now.entries in
+    one_good os c.open_to.new.self c.in_ok-open_to.ensures.branch c.components-path.result c.args.entry
+    (λ e. no_path (c.is_root.ensures.1 (sym c.components-path.ensures ∙ e)) c.if-is_root.false)
+    c.has_components.ensures
+    (ap is_within_limits c.components-path.ensures ∙ sym c.is_short.ensures ∙ c.if-not-is_short.false)
+    c.requires.file c.has_twenty_bytes.ensures
+
+pub returns-clause-edits : goal.returns-clause-edits
+returns-clause-edits g c =
+    let os = objects c.args.pool.now c.args.table.now.entries in
+    edits_put c.put_node.result (files_in os c.open_to.new.self) (files_in os c.args.self.now) (files_in os c.put_node.new.self)
+    c.in_ok-open_to.ensures.files c.components-path.result c.args.path.now c.components-path.ensures c.args.entry
+    (λ e. no_path (c.is_root.ensures.1 e) c.if-is_root.false)
+    (sym c.is_short.ensures ∙ c.if-not-is_short.false)
+    c.put_node.ensures.edits
+
+pub returns-clause-open : goal.returns-clause-open
+returns-clause-open g c =
+    on_ok_both c.put_node.result
+    (open_file c.args.self.now.root c.open_to.new.self.root c.put_node.new.self.root c.components-path.result c.args.entry c.in_ok-open_to.ensures.«open»)
+    c.put_node.ensures.«open» c.put_node.ensures.there
+
+pub overflow_add-total : goal.overflow_add-total
+overflow_add-total g c =
+    let os = objects c.args.pool.now c.args.table.now.entries in
+    let b = c.in_ok-open_to.ensures.branch in
+    let few = branch_few os c.open_to.new.self b in
+    let all = c.file_count-total.ensures ∙ b.counted in
+    omega arith
+
+pub put_node-requires-clause-branch : goal.put_node-requires-clause-branch
+put_node-requires-clause-branch g c =
+    recount (objects c.args.pool.now c.args.table.now.entries) c.open_to.new.self c.in_ok-open_to.ensures.branch
+    c.open_to.new.self.files c.open_to.new.self.reads
+
+pub put_node-requires-clause-total : goal.put_node-requires-clause-total
+put_node-requires-clause-total g c =
+    ap (λ (n : ℕ). n + 1) (c.file_count-total.ensures ∙ c.in_ok-open_to.ensures.branch.counted)
+
+pub returns-clause-branch : goal.returns-clause-branch
+returns-clause-branch g c = λ ne. c.put_node.ensures.still ne c.in_ok-open_to.ensures.branch

@@ -1,8 +1,41 @@
-use Rattle.tree_build.specs.Edits.{moved, files_at}
-use Rattle.tree_build.proofs.Edited.{edits-renamed}
+use Rattle.std.proofs.Common.{◌≡◌, sym, ap, ◌∙◌, subst}
+use Rattle.std.specs.Prelude.{None, Err}
+use Rattle.std.proofs.lemmas.Result.{err_from_is_err_and}
+use Rattle.tenant_tables.specs.Objects.{objects}
+use Rattle.file_maps.specs.declared.fault.Fault.{Fault}
+use Rattle.file_maps.specs.Calls.{Edits}
+use Rattle.file_maps.specs.Edits.{files_at, moved, renamed, move_fault}
+use Rattle.file_maps.specs.FileMap.{FileMap}
+use Rattle.tree_build.specs.Branch.{files_in}
+use Rattle.tree_build.specs.Moving.{path_fault}
+use Rattle.tree_build.proofs.Moves.{another, refused}
 use Rattle.tree_build.proofs.files.Files.rename.Goals as goal
 
-pub returns : goal.returns
-returns g c =
-    edits-renamed c.move_files.result c.args.self.now c.move_files.new.self c.args.from.now c.args.to.now
-    (moved c.args.to.now (files_at c.args.self.now c.args.from.now)) c.move_files.ensures
+pub returns-in_err-open_source-clause-edits : goal.returns-in_err-open_source-clause-edits
+returns-in_err-open_source-clause-edits g c =
+    let os = objects c.args.pool.now c.args.table.now.entries in
+    let old = files_in os c.args.self.now in
+    let failed = err_from_is_err_and c.from_residual.result c.from_residual.ensures.1 in
+    refused c.from_residual.result c.in_err-open_source.field-0.0
+    (failed.1 ∙ ap (λ (e : Fault). Err e) failed.2)
+    old (files_in os c.open_source.new.self) (moved c.args.to.now (files_at old c.args.from.now))
+    (renamed old c.args.from.now c.args.to.now)
+    (λ memory. (
+      c.in_err-open_source.ensures.refusal memory,
+      c.in_err-open_source.ensures.files
+          (another c.in_err-open_source.field-0.0 memory),
+    ))
+
+pub move_source-requires-clause-clean : goal.move_source-requires-clause-clean
+move_source-requires-clause-clean g c =
+    let os = objects c.args.pool.now c.args.table.now.entries in
+    subst (λ (m : FileMap). path_fault (moved c.args.to.now (files_at m c.args.from.now)) ≡ None)
+    (sym (c.in_ok-open_source.ensures.files (λ e. cc e))) c.in_ok-open_source.ensures.clean
+
+pub returns-clause-edits : goal.returns-clause-edits
+returns-clause-edits g c =
+    let os = objects c.args.pool.now c.args.table.now.entries in
+    subst (λ (m : FileMap). Edits c.move_source.result m (files_in os c.move_source.new.self)
+    (move_fault (moved c.args.to.now (files_at m c.args.from.now)) (renamed m c.args.from.now c.args.to.now))
+    (renamed m c.args.from.now c.args.to.now))
+    (c.in_ok-open_source.ensures.files (λ e. cc e)) c.move_source.ensures.edits

@@ -1,45 +1,52 @@
-use Rattle.std.proofs.Common.{◌≡◌, sym, ap, ◌∙◌, subst}
-use Rattle.tree_build.specs.FileMap.{Listed, listed}
-use Rattle.tree_build.specs.Edits.{cut, files_at}
-use Rattle.tree_build.specs.Trees.{file_of, depth_of, nested_trees, tree_id}
-use Rattle.tree_build.specs.Below.{files_below}
-use Rattle.tree_build.specs.Storing.{StoresTrees}
-use Rattle.tree_build.specs.Storable.{AreStorable}
-use Rattle.tree_build.proofs.Maps.{listed-of}
-use Rattle.tree_build.proofs.Cutting.{storable-cut, depth-file}
-use Rattle.tree_build.proofs.Turns.{stores-stands, stores-room, stores-others}
+use Rattle.std.proofs.Common.{sym, ap, ◌∙◌, subst, arith}
+use Rattle.tenant_tables.specs.Objects.{objects}
+use Rattle.file_maps.specs.FileMap.{Path, Listed}
+use Rattle.file_maps.specs.Edits.{cut}
+use Rattle.file_maps.specs.Storable.{AreStorable}
+use Rattle.file_maps.specs.StoredFiles.{stored_files}
+use Rattle.tree_build.specs.Branch.{Branch}
+use Rattle.tree_build.specs.Nodes.{held}
+use Rattle.tree_build.specs.Shape.{held_files}
+use Rattle.tree_build.specs.Stores.{bare_held}
+use Rattle.tree_build.proofs.Later.{stores-grow}
+use Rattle.tree_build.proofs.Ordered.{branch_listed}
+use Rattle.tree_build.proofs.StoredAt.{StoresFiles, closed-same, files-kept, branch-kept, root-storable}
 use Rattle.tree_build.proofs.files.Files.store.Goals as goal
 
-pub store_files-requires-clause-files : goal.store_files-requires-clause-files
-store_files-requires-clause-files g c none =
-    let are = ap files_below c.deref.ensures.value ∙ c.in-Ok.ensures in
-    subst AreStorable (sym are)
-    (storable-cut c.args.at.now c.self.inside.files.entries c.self.invariant (sym (ap file_of are) ∙ none))
-
-pub store_files-requires-clause-file : goal.store_files-requires-clause-file
-store_files-requires-clause-file g c e found =
-    let are = ap files_below c.deref.ensures.value ∙ c.in-Ok.ensures in
-    ap depth_of are
-    ∙ depth-file c.args.at.now c.self.inside.files.entries e c.self.invariant (sym (ap file_of are) ∙ found)
+pub store_path-requires-clause-storable : goal.store_path-requires-clause-storable
+store_path-requires-clause-storable g c =
+    let os = objects c.args.pool.now c.args.table.now.entries in
+    λ none. subst (λ (b : Branch). AreStorable (held_files (stored_files os) b.root)) (sym c.self.view_is)
+    (root-storable os c.args.self.now c.requires.branch)
 
 pub returns-clause-stores : goal.returns-clause-stores
 returns-clause-stores g c =
-    subst
-    (λ (l : Listed). StoresTrees c.store_files.result g.N.Naming.digest_of c.args.pool.now c.args.table.now c.store_files.new.pool c.store_files.new.table
-    (nested_trees g.N.Naming.digest_of l) (tree_id g.N.Naming.digest_of l))
-    (ap files_below c.deref.ensures.value ∙ c.in-Ok.ensures
-    ∙ ap (cut c.args.at.now)
-    (sym (listed-of c.self.inside.files.entries c.self.invariant) ∙ ap listed c.self.view_is))
-    c.store_files.ensures
+    let os = objects c.args.pool.now c.args.table.now.entries in
+    let k = stored_files os in
+    subst (λ (l : Listed). StoresFiles g.N.Naming.digest_of c.store_path.result c.args.pool.now c.args.table.now c.store_path.new.pool c.store_path.new.table l)
+    (ap (λ (p : Path). cut p (held_files k (held c.self.inside.root))) c.components.ensures
+    ∙ ap (λ (b : Branch). cut c.args.at.now (held_files k b.root)) c.self.view_is
+    ∙ ap (cut c.args.at.now) (sym (branch_listed os c.args.self.now c.requires.branch.held)))
+    c.store_path.ensures.stores
 
-pub returns-clause-stands : goal.returns-clause-stands
-returns-clause-stands g c =
-    stores-stands g.N.Naming.digest_of _ _ _ _ _ _ c.store_files.result c.store_files.ensures
+pub returns-clause-branch : goal.returns-clause-branch
+returns-clause-branch g c =
+    let os = objects c.args.pool.now c.args.table.now.entries in
+    let grows = stores-grow g.N.Naming.digest_of c.store_path.result c.args.pool.now c.store_path.new.pool c.args.table.now c.store_path.new.table _ _ c.store_path.ensures.stores in
+    branch-kept os (objects c.store_path.new.pool c.store_path.new.table.entries) grows c.args.self.now _ c.requires.branch
+    (c.store_path.ensures.same ∙ ap (λ (b : Branch). bare_held b.root) c.self.view_is)
+    c.store_path.ensures.sound (ap (λ (b : Branch). b.files) c.self.view_is)
 
-pub returns-clause-room : goal.returns-clause-room
-returns-clause-room g c =
-    stores-room g.N.Naming.digest_of _ _ _ _ _ _ c.store_files.result c.store_files.ensures
+pub returns-clause-files : goal.returns-clause-files
+returns-clause-files g c =
+    let os = objects c.args.pool.now c.args.table.now.entries in
+    let grows = stores-grow g.N.Naming.digest_of c.store_path.result c.args.pool.now c.store_path.new.pool c.args.table.now c.store_path.new.table _ _ c.store_path.ensures.stores in
+    files-kept os (objects c.store_path.new.pool c.store_path.new.table.entries) grows c.args.self.now _ c.requires.branch
+    (c.store_path.ensures.same ∙ ap (λ (b : Branch). bare_held b.root) c.self.view_is)
+    c.store_path.ensures.sound (ap (λ (b : Branch). b.files) c.self.view_is)
 
-pub returns-clause-others : goal.returns-clause-others
-returns-clause-others g c =
-    stores-others g.N.Naming.digest_of _ _ _ _ _ _ c.store_files.result c.store_files.ensures
+pub returns-clause-open : goal.returns-clause-open
+returns-clause-open g c =
+    λ q. let same = closed-same (held c.store_path.new.node) c.args.self.now.root q
+    (c.store_path.ensures.same ∙ ap (λ (b : Branch). bare_held b.root) c.self.view_is) in
+    omega (arith, same)

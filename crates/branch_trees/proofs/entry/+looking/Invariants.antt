@@ -1,8 +1,0 @@
-use Rattle.std.proofs.Common.{◌+◌, ◌*◌, length}
-use Rattle.branch_trees.proofs.entry.+looking.Given as goal
-
-abbrev pub decreases-entry_at : goal.decreases-entry_at
-decreases-entry_at g l = 2 * length l.path.now
-
-abbrev pub decreases-entry_below : goal.decreases-entry_below
-decreases-entry_below g l = 2 * length l.rest.now + 1

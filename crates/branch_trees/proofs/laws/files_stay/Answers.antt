@@ -1,5 +1,0 @@
-use Rattle.branch_trees.proofs.Growing.{branch_stays}
-use Rattle.branch_trees.proofs.laws.files_stay.Goals as goal
-
-pub returns : goal.returns
-returns c = λ os id content b h. branch_stays id content os b h

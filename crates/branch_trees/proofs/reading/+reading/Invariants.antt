@@ -1,5 +1,0 @@
-use Rattle.std.proofs.Common.{length}
-use Rattle.branch_trees.proofs.reading.+reading.Given as goal
-
-abbrev pub decreases-stored_entry : goal.decreases-stored_entry
-decreases-stored_entry g l = length l.rest.now

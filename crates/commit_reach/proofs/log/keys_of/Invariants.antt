@@ -1,5 +1,0 @@
-use Rattle.commit_reach.proofs.LogOrder.{AreKeysTo}
-use Rattle.commit_reach.proofs.log.keys_of.Given as goal
-
-abbrev pub invariant-loop-place : goal.invariant-loop-place
-invariant-loop-place g l = AreKeysTo g.N.Naming.digest_of l.objects l.flags l.place l.keys.items

@@ -1,0 +1,22 @@
+use Rattle.std.proofs.Common.{ℕ, false, length, replicate, ap, ◌∙◌}
+use Rattle.std.proofs.lemmas.List.{length-replicate}
+use Rattle.commit_walk.proofs.Answers.{lent}
+use Rattle.commit_walk.proofs.reach.reached_from.Goals as goal
+
+pub mark_reached-requires : goal.mark_reached-requires
+mark_reached-requires g c =
+    c.deref_mut.ensures.value ∙ c.in_ok-flags.ensures.items_if_clones_equal (λ y e. e)
+    ∙ ap (λ (n : ℕ). replicate n false) c.len.ensures
+
+pub returns-clause-size : goal.returns-clause-size
+returns-clause-size g c =
+    let same = c.mark_reached.auto.flags ∙ ap length c.deref_mut.ensures.value in
+    let blank = c.in_ok-flags.ensures.items_if_clones_equal (λ y e. e) in
+    ap length (lent c.in_ok-flags.flags.len c.mark_reached.new.flags c.in_ok-flags.flags.items c.in_ok-flags.flags.ok.0 same)
+    ∙ same ∙ ap length blank ∙ length-replicate c.len.result false ∙ c.len.ensures
+
+pub returns-clause-reached : goal.returns-clause-reached
+returns-clause-reached g c good =
+    lent c.in_ok-flags.flags.len c.mark_reached.new.flags c.in_ok-flags.flags.items c.in_ok-flags.flags.ok.0
+    (c.mark_reached.auto.flags ∙ ap length c.deref_mut.ensures.value)
+    ∙ c.in_ok-mark_reached.ensures good

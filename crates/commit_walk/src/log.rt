@@ -1,0 +1,105 @@
+//! The log of a set of commits: git-log(1), from new to old.
+
+ghost use Rattle.std.specs.Prelude.{◌≡◌, ◌++◌, ◌∷◌, [], ℕ, ◌<◌, ◌↔◌, List, Bool, length, map, filter, true, IfOk, OnOk, IsTrue};
+ghost use Rattle.git_model.specs.Commit.{Commit, CanWriteCommit, commit_contents};
+ghost use Rattle.git_model.specs.CommitReading.{commit_time};
+ghost use Rattle.git_model.specs.Repository.{Object};
+ghost use Rattle.git_model.specs.References.{object_at};
+ghost use Rattle.git_model.specs.GoodRepository.{AreObjects};
+ghost use Rattle.git_model.specs.Peeling.{is_of};
+ghost use Rattle.commit_walk.specs.Logs.{log_key, log_of, in_log_order, IsLogOf};
+
+use crate::log_key::LogKey;
+use crate::times::time_in;
+use git_objects::{Kind, Memory, Name, Naming};
+use std::alloc::Global;
+use std::cmp::Reverse;
+use tenant_tables::Objects;
+
+/// The log of the commits that have a flag, of which there is one for each object, the oldest
+/// object first: their names by the committer's time from new to old, and of one time by rising
+/// name. That is promised where the objects are good and none but commits have a flag.
+///
+/// `Memory` (90) where there is no room for it.
+pub fn log_of<N: Naming>(
+    alloc: Global,
+    objects: &Objects<'_, N>,
+    flags: &[bool],
+) -> Result<Vec<Name>, Memory>
+    ensures { (set : List ℕ → Bool) → AreObjects N.digest_of objects.now
+        → flags.now ≡ map (λ o. set o.id) objects.now
+        → ((id : List ℕ) → IsTrue (set id) → IsTrue (is_of objects.now Kind.Commit id))
+        → IfOk result (λ ids. ids.items ≡ log_of objects.now set) }
+{
+    let mut keys = keys_of(alloc, objects, flags)?;
+    keys.sort_unstable();
+    keys.dedup();
+    let ids = ids_of(alloc, &keys)?;
+    Ok(ids)
+}
+
+fn ids_of(alloc: Global, keys: &[LogKey]) -> Result<Vec<Name>, Memory>
+    ensures { IfOk result (λ ids. ids.items ≡ map (λ k. k.id) keys.now) }
+{
+    let ids = keys.iter().map(|key| key.id).collect(alloc)?;
+    Ok(ids)
+}
+
+// The keys of the commits that have a flag.
+fn keys_of<N: Naming>(
+    alloc: Global,
+    objects: &Objects<'_, N>,
+    flags: &[bool],
+) -> Result<Vec<LogKey>, Memory>
+    ensures { (set : List ℕ → Bool) → AreObjects N.digest_of objects.now
+        → flags.now ≡ map (λ o. set o.id) objects.now
+        → ((id : List ℕ) → IsTrue (set id) → IsTrue (is_of objects.now Kind.Commit id))
+        → IfOk result (λ keys. keys.items
+        ≡ map (λ o. log_key objects.now o.id) (filter (λ o. set o.id) objects.now)) }
+{
+    let count = flags.iter().filter(|flag| **flag).count();
+    let mut keys = Vec::with_capacity(alloc, count)?;
+    for (place, flag) in flags.iter().enumerate() {
+        if *flag {
+            push_key(objects, place, &mut keys)?;
+        }
+    }
+    Ok(keys)
+}
+
+// Appends the key of the commit at a position.
+fn push_key<N: Naming>(
+    objects: &Objects<'_, N>,
+    place: usize,
+    keys: &mut Vec<LogKey>,
+) -> Result<(), Memory>
+    ensures { AreObjects N.digest_of objects.now → place < length objects.now
+        → IsTrue (is_of objects.now Kind.Commit (object_at place objects.now).id)
+        → OnOk result (keys.new.items
+        ≡ keys.old.items ++ log_key objects.now (object_at place objects.now).id ∷ []) }
+{
+    let Some(found) = objects.at(place) else {
+        return Ok(());
+    };
+    let (id, _, contents) = found;
+    keys.push(key_in(id, contents))?;
+    Ok(())
+}
+
+// The key of the commit with this name and these contents.
+fn key_in(id: Name, contents: &[u8]) -> LogKey
+    ensures { (c : Commit) → CanWriteCommit c → contents.now ≡ commit_contents c
+        → result ≡ record { time = commit_time c; id = id } }
+{
+    LogKey {
+        newest: Reverse(time_in(contents)),
+        id,
+    }
+}
+
+/// The log of a set of commits is one list and no other: each list that has the set's members, each
+/// before all later ones, is the one that `log_of` answers.
+pub fn a_log_is_one_list()
+    ensures { (os : List Object) (set : List ℕ → Bool) (log : List (List ℕ))
+        → IsLogOf os set log ↔ (log ≡ log_of os set) }
+{}

@@ -1,0 +1,31 @@
+//! Marks of objects, a flag for each position from a floor on.
+
+ghost use Rattle.std.specs.Prelude.{[], ◌∷◌};
+ghost use Rattle.commit_walk.specs.Marks.{Marks};
+
+use git_objects::{Name, Naming};
+use tenant_tables::Objects;
+
+/// Marks the objects of these names, where their positions have a flag. Takes no memory.
+pub fn mark_all<N: Naming>(objects: &Objects<'_, N>, floor: usize, ids: &[Name], flags: &mut [bool])
+    ensures { Marks objects.now floor flags.old flags.new ids.now }
+{
+    for id in ids {
+        mark(objects, floor, id, flags);
+    }
+}
+
+fn mark<N: Naming>(objects: &Objects<'_, N>, floor: usize, id: &Name, flags: &mut [bool])
+    ensures { Marks objects.now floor flags.old flags.new (id.now ∷ []) }
+{
+    let Some(place) = objects.place(id) else {
+        return;
+    };
+    if place < floor {
+        return;
+    }
+    let offset = place - floor;
+    if offset < flags.len() {
+        flags[offset] = true;
+    }
+}

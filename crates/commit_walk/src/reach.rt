@@ -1,0 +1,165 @@
+//! Walks from a commit to all that it reaches.
+
+ghost use Rattle.std.specs.Prelude.{◌≡◌, ◌+◌, ◌-◌, ◌<◌, ◌≤◌, Bool, List, length, map, replicate, false, IfOk, OnOk};
+ghost use Rattle.git_model.specs.References.{object_at, parents_of};
+ghost use Rattle.git_model.specs.GoodRepository.{AreObjects};
+ghost use Rattle.git_model.specs.Reach.{reaches};
+ghost use Rattle.tenant_tables.specs.Objects.{objects};
+ghost use Rattle.tenant_tables.specs.StandsIn.{StandsIn};
+ghost use Rattle.commit_walk.specs.Marks.{is_marked, Marks, IsReached};
+
+use crate::commits::{commit_place, parents_at};
+use crate::marks::mark_all;
+use content_pool::Pool;
+use git_objects::{Memory, Name, Naming};
+use std::alloc::Global;
+use tenant_tables::{Objects, Sight, Table};
+
+/// Whether the commit `old` is reached from the commit `tip`: whether it is that commit, one of its
+/// parents, one of theirs, and so on. `false` where one of the names is no commit of the table.
+///
+/// The pool is the one that the table stands in. The answer is right where the table's objects are
+/// good (AreObjects of git_model): then nothing that stands before `old` need be looked at, and
+/// what is read are the commits after it. `Memory` (90) where there is no room for the walk.
+pub fn reaches<N: Naming>(
+    alloc: Global,
+    pool: &Pool<N>,
+    table: &Table,
+    tip: &Name,
+    old: &Name,
+) -> Result<bool, Memory>
+    requires { StandsIn N.digest_of pool.now table.now.entries }
+    ensures { let os = objects pool.now table.now.entries in
+        AreObjects N.digest_of os → IfOk result (λ yes. yes ≡ reaches os tip.now old.now) }
+{
+    let objects = Objects::of(pool, table, Sight::All);
+    let Some(floor) = commit_place(&objects, old) else {
+        return Ok(false);
+    };
+    let Some(top) = commit_place(&objects, tip) else {
+        return Ok(false);
+    };
+    if top < floor {
+        return Ok(false);
+    }
+    let is_reached = is_floor_reached(alloc, &objects, floor, top)?;
+    Ok(is_reached)
+}
+
+// Whether the commit at position `floor` is reached from the one at `top`.
+fn is_floor_reached<N: Naming>(
+    alloc: Global,
+    objects: &Objects<'_, N>,
+    floor: usize,
+    top: usize,
+) -> Result<bool, Memory>
+    requires above { floor ≤ top }
+    requires within { top < length objects.now }
+    ensures { AreObjects N.digest_of objects.now → IfOk result (λ yes. (flags : List Bool)
+        × IsReached objects.now (object_at top objects.now).id floor flags
+        × (is_marked floor flags floor ≡ yes)) }
+{
+    let count = objects.len();
+    prove!(top < count);
+    let mut flags = vec![in alloc; false; top - floor + 1]?;
+    let is_reached = walk_to(alloc, objects, floor, top, &mut flags)?;
+    Ok(is_reached)
+}
+
+// Walks, and tells whether the commit at position `floor` was marked.
+fn walk_to<N: Naming>(
+    alloc: Global,
+    objects: &Objects<'_, N>,
+    floor: usize,
+    top: usize,
+    flags: &mut [bool],
+) -> Result<bool, Memory>
+    requires above { floor ≤ top }
+    requires within { top < length objects.now }
+    requires blank { flags.old ≡ replicate (top - floor + 1) false }
+    ensures { AreObjects N.digest_of objects.now → IfOk result (λ yes. (flags : List Bool)
+        × IsReached objects.now (object_at top objects.now).id floor flags
+        × (is_marked floor flags floor ≡ yes)) }
+{
+    walk(alloc, objects, floor, top, flags)?;
+    Ok(flags[0])
+}
+
+/// Which of the objects are commits that are reached from the commit `tip`: a flag for each, the
+/// oldest object first. All are `false` where the name is no commit's.
+///
+/// The answer is right where the objects are good (AreObjects of git_model). `Memory` (90) where
+/// there is no room for the walk.
+pub fn reached_from<N: Naming>(
+    alloc: Global,
+    objects: &Objects<'_, N>,
+    tip: &Name,
+) -> Result<Vec<bool>, Memory>
+    ensures size { IfOk result (λ flags. length flags.items ≡ length objects.now) }
+    ensures reached { AreObjects N.digest_of objects.now → IfOk result
+        (λ flags. flags.items ≡ map (λ o. reaches objects.now tip.now o.id) objects.now) }
+{
+    let mut flags = vec![in alloc; false; objects.len()]?;
+    mark_reached(alloc, objects, tip, &mut flags)?;
+    Ok(flags)
+}
+
+// Marks the commits that the commit `tip` reaches; none where the name is no commit's.
+fn mark_reached<N: Naming>(
+    alloc: Global,
+    objects: &Objects<'_, N>,
+    tip: &Name,
+    flags: &mut [bool],
+) -> Result<(), Memory>
+    requires { flags.old ≡ replicate (length objects.now) false }
+    ensures { AreObjects N.digest_of objects.now → OnOk result
+        (flags.new ≡ map (λ o. reaches objects.now tip.now o.id) objects.now) }
+{
+    let Some(top) = commit_place(objects, tip) else {
+        return Ok(());
+    };
+    walk(alloc, objects, 0, top, flags)
+}
+
+// Marks all that the commit at position `top` reaches, from position `floor` on.
+fn walk<N: Naming>(
+    alloc: Global,
+    objects: &Objects<'_, N>,
+    floor: usize,
+    top: usize,
+    flags: &mut [bool],
+) -> Result<(), Memory>
+    requires above { floor ≤ top }
+    requires within { top < floor + length flags.old }
+    requires there { floor + length flags.old ≤ length objects.now }
+    requires blank { flags.old ≡ replicate (length flags.old) false }
+    ensures { AreObjects N.digest_of objects.now → OnOk result
+        (IsReached objects.now (object_at top objects.now).id floor flags.new) }
+{
+    flags[top - floor] = true;
+    let mut place = top;
+    while place > floor {
+        if flags[place - floor] {
+            mark_parents(alloc, objects, floor, place, flags)?;
+        }
+        place -= 1;
+    }
+    Ok(())
+}
+
+// Marks the parents of the commit at a position.
+fn mark_parents<N: Naming>(
+    alloc: Global,
+    objects: &Objects<'_, N>,
+    floor: usize,
+    place: usize,
+    flags: &mut [bool],
+) -> Result<(), Memory>
+    requires { place < length objects.now }
+    ensures { AreObjects N.digest_of objects.now → OnOk result (Marks objects.now floor flags.old
+        flags.new (parents_of objects.now (object_at place objects.now).id)) }
+{
+    let parents = parents_at(alloc, objects, place)?;
+    mark_all(objects, floor, &parents, flags);
+    Ok(())
+}

@@ -1,0 +1,46 @@
+-- Putting a stored tree at a path: git-fast-import(1), "filemodify" with mode 040000. These are not
+-- Git's grafts.
+use Rattle.std.specs.Prelude.{◌≡◌, ℕ, List, Option, None, Some, Result}
+use Rattle.git_model.specs.declared.kind.Kind.{Kind}
+use Rattle.git_model.specs.declared.kind.Kind.TheVariants as kind
+use Rattle.git_model.specs.Content.{Content}
+use Rattle.git_model.specs.Repository.{Object, object_named}
+use Rattle.file_maps.specs.declared.fault.Fault.{Fault}
+use Rattle.file_maps.specs.declared.fault.Fault.TheVariants as fault
+use Rattle.file_maps.specs.FileMap.{Path, Listed, FileMap}
+use Rattle.file_maps.specs.Edits.{moved, put_tree_at, put_fault}
+use Rattle.file_maps.specs.Calls.{Edits}
+use Rattle.file_maps.specs.StoredTree.{AreFilesOf}
+
+-- A kind other than a tree's is refused.
+abbrev pub kind_fault : Kind → Option Fault
+kind_fault kind.Tree = None
+kind_fault kind.Blob = Some fault.WrongKind
+kind_fault kind.Commit = Some fault.WrongKind
+kind_fault kind.Tag = Some fault.WrongKind
+
+abbrev pub content_fault : Option Content → Option Fault
+content_fault None = Some fault.ObjectUnknown
+content_fault (Some c) = kind_fault c.kind
+
+-- Why the object of a name is no stored tree: there is none, or it has another kind.
+abbrev pub tree_fault : List Object → List ℕ → Option Fault
+tree_fault os id = content_fault (object_named id os)
+
+abbrev pub or_else : Option Fault → Option Fault → Option Fault
+or_else (Some e) later = Some e
+or_else None later = later
+
+-- Why a stored tree cannot be put: it is none; else its files cannot be put, which would leave a
+-- map with them.
+abbrev pub graft_fault : List Object → List ℕ → Listed → FileMap → Option Fault
+graft_fault os id files after = or_else (tree_fault os id) (put_fault files after)
+
+-- A call put the tree of a name at a path. Where the name is a tree's, these are its files.
+pub record Grafts {A : Type 0} (result : Result A Fault) (os : List Object) (id : List ℕ)
+    (path : Path) (old new : FileMap) : Type 0 where
+  pub files : Listed
+  pub listed : tree_fault os id ≡ None → AreFilesOf os id files
+  pub edits : Edits result old new
+      (graft_fault os id (moved path files) (put_tree_at old path files))
+      (put_tree_at old path files)

@@ -1,0 +1,18 @@
+-- In reading order.
+pub mod Faults
+pub mod FileMap
+pub mod HeldFiles
+pub mod Edits
+pub mod Kept
+pub mod Calls
+pub mod Trees
+pub mod ByComponent
+pub mod StoredTree
+pub mod Grafts
+pub mod Below
+pub mod Storing
+pub mod Storable
+pub mod Gathers
+pub mod StoredFiles
+pub mod StoredAgain
+pub mod GoodTrees

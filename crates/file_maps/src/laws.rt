@@ -1,0 +1,157 @@
+//! Laws of file maps: functions over the definitions alone, which run nothing.
+
+ghost use Rattle.std.specs.Prelude.{◌≡◌, ◌≢◌, ◌↔◌, ℕ, List, [], ◌∷◌, ◌++◌, All, None, Some};
+ghost use Rattle.std.specs.FinMap as finmap;
+ghost use Rattle.git_model.specs.declared.kind.Kind.TheVariants as kind;
+ghost use Rattle.git_model.specs.GoodRepository.{AreObjects, MayAdd};
+ghost use Rattle.git_model.specs.References.{kind_named};
+ghost use Rattle.git_model.specs.Content.{Content};
+ghost use Rattle.git_model.specs.Repository.{Object, Repository, with_object};
+ghost use Rattle.git_model.specs.RefStore.{no_refs};
+ghost use Rattle.git_model.specs.Tree.{TreeEntry};
+ghost use Rattle.git_names.specs.Naming.{AnswersNames};
+ghost use Rattle.content_pool.specs.Pool.{Cells};
+ghost use Rattle.tenant_tables.specs.View.{Entries, summary_of};
+ghost use Rattle.tenant_tables.specs.Objects.{objects};
+ghost use Rattle.tenant_tables.specs.StandsIn.{StandsIn};
+ghost use Rattle.tenant_tables.specs.Sums.{IsWithin, TreesFit};
+ghost use Rattle.file_maps.specs.FileMap.{FileMap, Path, Listed, AreFiles, listed};
+ghost use Rattle.file_maps.specs.HeldFiles.{IsHeld};
+ghost use Rattle.file_maps.specs.Edits.{files_at, with_files};
+ghost use Rattle.file_maps.specs.Trees.{grouped, nested_trees, tree_entries, tree_id};
+ghost use Rattle.file_maps.specs.ByComponent.{IsByFirstComponent, IsTreeOf};
+ghost use Rattle.file_maps.specs.StoredTree.{HasTree, ListsTree, AreFilesOf};
+ghost use Rattle.file_maps.specs.Storable.{files_summary};
+ghost use Rattle.file_maps.specs.Storing.{trees_fault, with_trees};
+ghost use Rattle.file_maps.specs.StoredFiles.{stored_files};
+ghost use Rattle.file_maps.specs.GoodTrees.{IsTreeOfFiles, IsRepository, StayGood};
+ghost use Rattle.file_maps.specs.StoredAgain.{AreTreesGood, IsStoredAlready};
+
+/// The files below any path, taken by neighbours with one first component, are the files at or
+/// below each component that comes next: in the order of whole paths all files of one directory
+/// stand side by side.
+pub fn files_by_component()
+    ensures { (m : FileMap) (top : Path) → AreFiles (listed m)
+        → IsByFirstComponent m top (grouped (files_at m top)) }
+{}
+
+/// The tree of what is below any path has an entry for each component where something stands one
+/// component further, with its mode and its object name, and no other.
+pub fn trees_by_component()
+    ensures { (digest : List ℕ → List ℕ) (m : FileMap) (top : Path) → AreFiles (listed m)
+        → IsTreeOf digest m top (tree_entries digest (files_at m top)) }
+{}
+
+/// A stored tree is made again by its files: they have its name, and to store them adds nothing.
+pub fn stored_trees_stay()
+    ensures { (digest : List ℕ → List ℕ) (os : List Object) → AreTreesGood digest os
+        → (id : List ℕ) (files : Listed) → ListsTree os id files
+        → IsStoredAlready digest os id files }
+{}
+
+/// The trees of a table that stands in its pool are good.
+pub fn table_trees_are_good()
+    ensures { (digest : List ℕ → List ℕ) (pool : Cells) (entries : Entries)
+        → StandsIn digest pool entries → AreTreesGood digest (objects pool entries) }
+{}
+
+/// So each of them is made again by its files, as the function reads them, and stays as it is.
+pub fn table_trees_stay()
+    ensures { (digest : List ℕ → List ℕ) (pool : Cells) (entries : Entries)
+        → StandsIn digest pool entries
+        → (id : List ℕ) (es : List TreeEntry) → HasTree (objects pool entries) id es
+        → IsStoredAlready digest (objects pool entries) id
+        (stored_files (objects pool entries) id) }
+{}
+
+/// The summary that a table keeps beside a tree is that of the tree's files: how many they are, the
+/// most components of a path, and the most bytes of one.
+pub fn table_summaries_are_of_files()
+    ensures { (digest : List ℕ → List ℕ) (pool : Cells) (entries : Entries)
+        → StandsIn digest pool entries
+        → (id : List ℕ) (files : Listed) → ListsTree (objects pool entries) id files
+        → summary_of id entries ≡ Some (files_summary files) }
+{}
+
+/// In a good repository each tree has files, those that the function gives, and no others.
+pub fn good_trees_have_files()
+    ensures { (digest : List ℕ → List ℕ) (os : List Object) → AreObjects digest os
+        → (id : List ℕ) → kind_named id os ≡ Some kind.Tree
+        → AreFilesOf os id (stored_files os id) }
+{}
+
+/// So whatever files a tree has, the function gives them.
+pub fn files_are_the_stored_files()
+    ensures { (digest : List ℕ → List ℕ) (os : List Object) → AreObjects digest os
+        → (id : List ℕ) (files : Listed) → AreFilesOf os id files → files ≡ stored_files os id }
+{}
+
+/// The trees of good objects are those of file maps, so that `stored_trees_stay` speaks of them.
+pub fn good_objects_have_good_trees()
+    ensures { (digest : List ℕ → List ℕ) (os : List Object) → AreObjects digest os
+        → AreTreesGood digest os }
+{}
+
+/// Good objects have trees that fit, each after those before it, exactly where the files of each
+/// tree are within the limits.
+pub fn trees_fit_where_their_files_do()
+    ensures { (digest : List ℕ → List ℕ) (os : List Object) → AreObjects digest os
+        → TreesFit [] os ↔ ((id : List ℕ) (files : Listed) → ListsTree os id files
+        → IsWithin (files_summary files)) }
+{}
+
+/// A stored tree lists its files in the order of a file map.
+pub fn stored_files_are_in_order()
+    ensures { (os : List Object) (id : List ℕ) (files : Listed) → ListsTree os id files
+        → files_at (with_files finmap.empty files) [] ≡ files }
+{}
+
+/// What a tree lists stays while trees are added.
+pub fn stored_files_stay()
+    ensures { (digest : List ℕ → List ℕ) (trees : List (List TreeEntry)) (os : List Object)
+        (id : List ℕ) (files : Listed) → ListsTree os id files
+        → ListsTree (with_trees digest trees os) id files }
+{}
+
+/// A good repository stays good where an object is added that may be, and, if it is a tree, has the
+/// files of a file map within the limits.
+pub fn one_more_object_keeps_a_repository()
+    ensures { (digest : List ℕ → List ℕ) (r : Repository) (o : Object)
+        → IsRepository digest r → MayAdd digest r.objects o
+        → (o.content.kind ≡ kind.Tree → IsTreeOfFiles (r.objects ++ o ∷ []) o.id)
+        → IsRepository digest (record r { objects = r.objects ++ o ∷ [] }) }
+{}
+
+/// A repository with no objects and no refs is good.
+pub fn an_empty_repository_is_good()
+    ensures { (digest : List ℕ → List ℕ)
+        → IsRepository digest (record { objects = []; refs = no_refs }) }
+{}
+
+/// The trees of the files below a path, children first, may be added to good objects where each
+/// file's object is there and the table refuses none: the objects stay good, and the tree of the
+/// path is there.
+pub fn trees_keep_objects_good()
+    ensures { (digest : List ℕ → List ℕ) → AnswersNames digest
+        → (os : List Object) → AreObjects digest os
+        → (m : FileMap) → AreFiles (listed m) → All (IsHeld os) (listed m)
+        → (path : Path) → trees_fault digest (nested_trees digest (files_at m path)) os ≡ None
+        → StayGood digest os (with_trees digest (nested_trees digest (files_at m path)) os)
+        (tree_id digest (files_at m path)) }
+{}
+
+/// Where trees fit before, they fit with those too: the trees of files within the limits are within
+/// them.
+pub fn trees_keep_fitting()
+    ensures { (digest : List ℕ → List ℕ) → AnswersNames digest
+        → (os : List Object) → AreObjects digest os → TreesFit [] os
+        → (m : FileMap) → AreFiles (listed m) → All (IsHeld os) (listed m)
+        → (path : Path) → trees_fault digest (nested_trees digest (files_at m path)) os ≡ None
+        → TreesFit [] (with_trees digest (nested_trees digest (files_at m path)) os) }
+{}
+
+/// An object that is no tree leaves them so.
+pub fn other_objects_keep_trees_fitting()
+    ensures { (os : List Object) → TreesFit [] os → (id : List ℕ) (content : Content)
+        → content.kind ≢ kind.Tree → TreesFit [] (with_object id content os) }
+{}

@@ -1,0 +1,28 @@
+use Rattle.std.proofs.Common.{refl}
+use Rattle.std.proofs.lemmas.Result.{err_from_is_err_and}
+use Rattle.git_objects.specs.Device.{device_of, seen}
+use Rattle.gitpool.proofs.StepLemmas.{calls-one, end-step}
+use Rattle.gitpool.proofs.ImportLemmas.{ends_import, end_fails}
+use Rattle.gitpool.proofs.importing.end.Goals as goal
+
+pub returns-in_err-write_replies-clause-taken : goal.returns-in_err-write_replies-clause-taken
+returns-in_err-write_replies-clause-taken g c = calls-one _ _ c.args.service.now c.step-ended.new.self _ _ _ refl refl c.step-ended.ensures.own
+
+pub returns-in_err-write_replies-clause-ended : goal.returns-in_err-write_replies-clause-ended
+returns-in_err-write_replies-clause-ended g c = λ repository bytes streaming.
+    let p = err_from_is_err_and c.from_residual.result c.from_residual.ensures.1 in
+    rw (p.1, p.2)
+    (end_fails _ _ _ (seen (g.W.Write.contents (device_of c.args.writer.now)) c.args.writer.now)
+    (seen (g.W.Write.contents (device_of c.write_replies.new.writer)) c.write_replies.new.writer) c.step-ended.result _
+    (end-step _ _ _ c.step-ended.result _ _ c.args.service.now c.step-ended.new.self refl c.requires.emptied c.step-ended.ensures.own repository bytes refl streaming)
+    c.in_err-write_replies.ensures.front c.in_err-write_replies.ensures.cause)
+
+pub returns-clause-taken : goal.returns-clause-taken
+returns-clause-taken g c = calls-one _ _ c.args.service.now c.step-ended.new.self _ _ _ refl refl c.step-ended.ensures.own
+
+pub returns-clause-ended : goal.returns-clause-ended
+returns-clause-ended g c = λ repository bytes streaming.
+    rw c.as_import.ensures
+    (ends_import _ _ _ _ _ c.step-ended.result _
+    (end-step _ _ _ c.step-ended.result _ _ c.args.service.now c.step-ended.new.self refl c.requires.emptied c.step-ended.ensures.own repository bytes refl streaming)
+    c.in_ok-write_replies.ensures.written c.in_ok-write_replies.ensures.well)

@@ -1,2 +1,0 @@
-pub mod InSight
-pub mod Positions

@@ -1,0 +1,17 @@
+use Rattle.std.proofs.Common.{arith}
+use Rattle.pool_file_format.specs.Shown.{tenant_of}
+use Rattle.pool_file.proofs.Slots.{slots_live}
+use Rattle.pool_file.proofs.Built.{adds_one}
+use Rattle.pool_file.proofs.building.add_tenant.Goals as goal
+
+pub build_tenant-requires-clause-live : goal.build_tenant-requires-clause-live
+build_tenant-requires-clause-live g c =
+    slots_live c.args.pool.now c.args.slots.now
+    (λ s. let a = c.requires.under.counts s in omega arith)
+
+pub returns : goal.returns
+returns g c =
+    rw c.in_ok-push.ensures.items
+    (adds_one g.N.Naming.digest_of c.args.slots.now c.args.pool.now c.build_tenant.new.pool
+    c.args.tenants.now.items (tenant_of c.args.tenant.now) c.in_ok-built.built
+    c.requires.under c.in_ok-built.ensures)

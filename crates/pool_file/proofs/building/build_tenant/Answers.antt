@@ -1,0 +1,53 @@
+use Rattle.std.proofs.Common.{◌≡◌, ◌<◌, ℕ, List, length, sym, ap, ◌∙◌, subst}
+use Rattle.std.specs.Prelude.{All}
+use Rattle.git_model.specs.Repository.{Object}
+use Rattle.tenant_tables.specs.Objects.{objects}
+use Rattle.pool_file_format.specs.Shown.{tenant_of}
+use Rattle.pool_file_checks.specs.Own.{own_objects}
+use Rattle.pool_file_checks.specs.Saved.{refs_at}
+use Rattle.pool_file_checks.proofs.Passing.{holds}
+use Rattle.pool_file.specs.Building.{objects_at}
+use Rattle.pool_file.proofs.Slots.{numbers_in}
+use Rattle.pool_file.proofs.Built.{counted_by}
+use Rattle.pool_file.proofs.building.build_tenant.Goals as goal
+
+pub load_table-requires-clause-numbers : goal.load_table-requires-clause-numbers
+load_table-requires-clause-numbers g c =
+    let pool = c.args.pool.now in
+    let slots = c.args.slots.now in
+    let q = c.requires.checked in
+    let h = holds g.N.Naming.digest_of q.version (objects_at pool slots) q.last
+    (tenant_of c.args.tenant.now) q.passes in
+    subst (λ (l : List ℕ). All (λ n. n < length slots) l) (sym c.deref-2.ensures.value)
+    (numbers_in pool slots c.args.tenant.now.numbers.items h.numbers)
+
+pub load_refs-requires-clause-counted : goal.load_refs-requires-clause-counted
+load_refs-requires-clause-counted g c =
+    counted_by g.N.Naming.digest_of (objects_at c.args.pool.now c.args.slots.now)
+    c.deref-2.result.now c.args.tenant.now.numbers.items c.load_table.new.pool
+    c.in_ok-table.table.entries c.in_ok-table.ensures.objects c.deref-2.ensures.value
+
+pub returns : goal.returns
+returns g c =
+    let os = objects_at c.args.pool.now c.args.slots.now in
+    let t = tenant_of c.args.tenant.now in
+    let after = c.load_table.new.pool in
+    let name : c.read_tenant_name-name.result ≡ t.name =
+    c.read_tenant_name-name.ensures.name ∙ c.deref.ensures.value in
+    let own : objects after c.in_ok-table.table.entries
+    ≡ own_objects g.N.Naming.digest_of os t.numbers =
+    c.in_ok-table.ensures.objects ∙ ap (own_objects g.N.Naming.digest_of os) c.deref-2.ensures.value in
+    let refs = c.in_ok-refs.ensures after
+    ∙ ap (λ (l : List Object). refs_at t.name l t.refs t.head) own in
+    record {
+      built = record {
+        name = c.read_tenant_name-name.ensures.well_formed;
+        stands = c.in_ok-table.ensures.stands;
+        committed = c.in_ok-table.ensures.committed;
+      };
+      says = λ i. record {
+        tenant = name i;
+        repository = record { objects = own i; refs = refs i };
+      };
+      others = c.in_ok-table.ensures.others;
+    }

@@ -1,5 +1,0 @@
-use Rattle.pool_file.proofs.Said.{file_again}
-use Rattle.pool_file.proofs.laws.what_is_said_is_saved.Goals as goal
-
-pub returns : goal.returns
-returns c = record { file = file_again }

@@ -1,0 +1,57 @@
+-- The contents of a file in a pool, and the tenants over it, while they are built.
+use Rattle.std.specs.Prelude.{◌≡◌, ℕ, ◌+◌, ◌≤◌, ◌==◌, true, List, [], ◌++◌, map, length, count_by, Option, None}
+use Rattle.std.specs.List.{AllByRecursion}
+use Rattle.content_pool.specs.Pool.{Cells, holds, content}
+use Rattle.tenant_refs.specs.TenantName.{is_tenant_name}
+use Rattle.tenant_tables.specs.StandsIn.{StandsIn, LeavesOthers}
+use Rattle.pool_file_format.specs.Format.{RawObject, RawTenant}
+use Rattle.pool_file_checks.specs.Checks.{Passes}
+use Rattle.pool_file_checks.specs.Objects.{raw_object, object_checks}
+use Rattle.pool_file_checks.specs.Whole.{one_tenant_checks}
+use Rattle.pool_file_checks.specs.Saved.{named_at}
+use Rattle.pool_file.specs.declared.tenant.Tenant.{Tenant}
+use Rattle.pool_file.specs.Loading.{named_in, said, all_held}
+
+-- The objects of a file whose contents lie in these slots, in turn.
+unfoldable pub objects_at : Cells → List ℕ → List RawObject
+objects_at pool slots = map (λ s. raw_object (content pool s)) slots
+
+-- How often a slot is one of these.
+unfoldable pub times_in : List ℕ → ℕ → ℕ
+times_in slots s = count_by (λ t. t == s) slots
+
+-- A tenant of a file with these objects that passed its checks.
+pub record IsChecked (digest : List ℕ → List ℕ) (os : List RawObject) (t : RawTenant) : Type 0 where
+  pub objects : Passes (object_checks None os)
+  pub version : ℕ
+  pub last : Option (List ℕ)
+  pub passes : Passes (one_tenant_checks digest version os last t)
+
+-- A tenant has a good name, and its objects stand in the pool and are committed.
+pub record IsBuilt (digest : List ℕ → List ℕ) (pool : Cells) (t : Tenant) : Type 0 where
+  pub name : is_tenant_name t.name ≡ true
+  pub stands : StandsIn digest pool t.table.entries
+  pub committed : t.table.committed ≡ length t.table.entries
+
+-- The pool counts a hold for each of these slots, which are distinct, and for what each tenant
+-- holds, and no others.
+pub record AreUnder (digest : List ℕ → List ℕ) (slots : List ℕ) (pool : Cells)
+    (tenants : List Tenant) : Type 0 where
+  pub once : (s : ℕ) → times_in slots s ≤ 1
+  pub counts : (s : ℕ) → holds pool s ≡ times_in slots s + all_held tenants s
+  pub each : AllByRecursion (IsBuilt digest pool) tenants
+
+-- A tenant is built that is what the file says of it.
+pub record Builds (digest : List ℕ → List ℕ) (os : List RawObject) (r : RawTenant) (before : Cells)
+    (after : Cells) (t : Tenant) : Type 0 where
+  pub built : IsBuilt digest after t
+  pub says : named_in after t ≡ named_at digest os r
+  pub others : LeavesOthers before [] after t.table.entries
+
+-- Tenants are built after others, and are what the file says of them.
+pub record Adds (digest : List ℕ → List ℕ) (slots : List ℕ) (before : Cells) (old : List Tenant)
+    (rs : List RawTenant) (after : Cells) (new : List Tenant) : Type 0 where
+  pub under : AreUnder digest slots after new
+  pub objects : objects_at after slots ≡ objects_at before slots
+  pub says : said after new
+      ≡ said before old ++ map (named_at digest (objects_at before slots)) rs

@@ -1,0 +1,158 @@
+//! What a good file says, built: its contents in one pool, and the tenants over it.
+
+ghost use Rattle.std.specs.Prelude.{◌≡◌, [], ◌∷◌, true, All, IfOk, OnOk};
+ghost use Rattle.content_pool.specs.Pool.{IsLive, IsVacant};
+ghost use Rattle.tenant_refs.specs.TenantName.{IsTenantName, is_tenant_name};
+ghost use Rattle.tenant_tables.specs.Room.{HasRoomBeside};
+ghost use Rattle.pool_file_format.specs.Shown.{objects_of, tenant_of, tenants_of, file_of};
+ghost use Rattle.pool_file_checks.specs.Checks.{Passes};
+ghost use Rattle.pool_file_checks.specs.Own.{names_of};
+ghost use Rattle.pool_file_checks.specs.Whole.{file_checks};
+ghost use Rattle.pool_file_checks.specs.Saved.{saved_in};
+ghost use Rattle.pool_file.specs.Loading.{said, AreTenants};
+ghost use Rattle.pool_file.specs.Building.{objects_at, IsChecked, AreUnder, Builds, Adds};
+
+use crate::contents::{release_contents, store_contents};
+use crate::refs::load_refs;
+use crate::tables::load_table;
+use crate::tenant::Tenant;
+use content_pool::{Pool, Slot};
+use git_names::{Memory, Name, Naming};
+use pool_file_checks::Judged;
+use pool_file_format::{RawFile, RawTenant};
+use std::alloc::Global;
+use tenant_refs::TenantName;
+
+fn read_tenant_name(text: &[u8]) -> TenantName
+    requires { IsTenantName text.now }
+    ensures name { result ≡ text.now }
+    ensures well_formed { is_tenant_name result ≡ true }
+{
+    match TenantName::read(text) {
+        Ok(name) => name,
+        Err(_) => unreachable!(),
+    }
+}
+
+// Builds a tenant of a file whose contents lie in these slots.
+fn build_tenant<N: Naming>(
+    alloc: Global,
+    pool: &mut Pool<N>,
+    slots: &[Slot],
+    names: &[Name],
+    tenant: &RawTenant,
+) -> Result<Tenant, Memory>
+    requires live { All (IsLive pool.old) slots.now }
+    requires room { HasRoomBeside pool.old [] }
+    requires named { names.now ≡ names_of N.digest_of (objects_at pool.old slots.now) }
+    requires checked { IsChecked N.digest_of (objects_at pool.old slots.now)
+        (tenant_of tenant.now) }
+    ensures { IfOk result (λ t. Builds N.digest_of (objects_at pool.old slots.now)
+        (tenant_of tenant.now) pool.old pool.new t) }
+{
+    let name = read_tenant_name(&tenant.name);
+    let table = load_table(alloc, pool, slots, names, &tenant.numbers)?;
+    let refs = load_refs(alloc, &table, tenant)?;
+    Ok(Tenant { name, table, refs })
+}
+
+// Each tenant holds a slot once at most, and there are fewer than 2^63 tenants: a fact for proofs.
+fn has_room<N: Naming>(pool: &Pool<N>, slots: &[Slot], tenants: &Vec<Tenant>)
+    requires { AreUnder N.digest_of slots.now pool.now tenants.now.items }
+    ensures { HasRoomBeside pool.now [] }
+{
+    let _few = tenants.len();
+}
+
+fn add_tenant<N: Naming>(
+    alloc: Global,
+    pool: &mut Pool<N>,
+    slots: &[Slot],
+    names: &[Name],
+    tenants: &mut Vec<Tenant>,
+    tenant: &RawTenant,
+) -> Result<(), Memory>
+    requires under { AreUnder N.digest_of slots.now pool.old tenants.old.items }
+    requires named { names.now ≡ names_of N.digest_of (objects_at pool.old slots.now) }
+    requires checked { IsChecked N.digest_of (objects_at pool.old slots.now)
+        (tenant_of tenant.now) }
+    ensures { OnOk result (Adds N.digest_of slots.now pool.old tenants.old.items
+        (tenant_of tenant.now ∷ []) pool.new tenants.new.items) }
+{
+    has_room(pool, slots, tenants);
+    let built = build_tenant(alloc, pool, slots, names, tenant)?;
+    tenants.push(built)?;
+    Ok(())
+}
+
+fn add_tenants<N: Naming>(
+    alloc: Global,
+    pool: &mut Pool<N>,
+    slots: &[Slot],
+    names: &[Name],
+    tenants: &mut Vec<Tenant>,
+    all: &[RawTenant],
+) -> Result<(), Memory>
+    requires under { AreUnder N.digest_of slots.now pool.old tenants.old.items }
+    requires named { names.now ≡ names_of N.digest_of (objects_at pool.old slots.now) }
+    requires checked { All (IsChecked N.digest_of (objects_at pool.old slots.now))
+        (tenants_of all.now) }
+    ensures { OnOk result (Adds N.digest_of slots.now pool.old tenants.old.items
+        (tenants_of all.now) pool.new tenants.new.items) }
+{
+    for tenant in all {
+        add_tenant(alloc, pool, slots, names, tenants, tenant)?;
+    }
+    Ok(())
+}
+
+// Puts the contents into the pool, builds the tenants over them, and gives up the file's own holds.
+fn fill<N: Naming>(
+    alloc: Global,
+    pool: &mut Pool<N>,
+    tenants: &mut Vec<Tenant>,
+    names: &[Name],
+    file: RawFile,
+) -> Result<(), Memory>
+    requires named { names.now ≡ names_of N.digest_of (objects_of file.objects.items) }
+    requires vacant { IsVacant pool.old }
+    requires none { tenants.old.items ≡ [] }
+    requires checked { Passes (file_checks N.digest_of (file_of file)) }
+    ensures says { OnOk result (said pool.new tenants.new.items
+        ≡ saved_in N.digest_of (file_of file)) }
+    ensures tenants { OnOk result (AreTenants N.digest_of pool.new tenants.new.items) }
+{
+    let RawFile {
+        version: _,
+        objects,
+        tenants: all,
+    } = file;
+    let slots = store_contents(alloc, pool, names, objects)?;
+    add_tenants(alloc, pool, &slots, names, tenants, &all)?;
+    release_contents(pool, &slots);
+    Ok(())
+}
+
+/// Builds what a file says that passed its checks: the pool that holds each content once, and the
+/// tenants over it in the order of the file. Each content is moved into the pool, under the name
+/// that was made when the file was judged.
+///
+/// `Memory` (90) where there is no room for them.
+pub fn build<N: Naming>(
+    alloc: Global,
+    naming: N,
+    judged: Judged,
+) -> Result<(Pool<N>, Vec<Tenant>), Memory>
+    requires named { judged.names.items
+        ≡ names_of N.digest_of (objects_of judged.file.objects.items) }
+    requires checked { Passes (file_checks N.digest_of (file_of judged.file)) }
+    ensures says { IfOk result
+        (λ r. said r.0 r.1.items ≡ saved_in N.digest_of (file_of judged.file)) }
+    ensures tenants { IfOk result (λ r. AreTenants N.digest_of r.0 r.1.items) }
+{
+    let Judged { file, names } = judged;
+    let mut pool = Pool::new(alloc, naming);
+    let mut tenants = Vec::new(alloc);
+    fill(alloc, &mut pool, &mut tenants, &names, file)?;
+    Ok((pool, tenants))
+}

@@ -1,0 +1,61 @@
+//! What a save writes, without a copy of any content.
+
+ghost use Rattle.std.specs.Prelude.{◌≡◌, IfOk, map};
+ghost use Rattle.pool_file_format.specs.Shown.{lent_object_of, lent_file};
+ghost use Rattle.pool_file_checks.specs.Repositories.{raw_of};
+ghost use Rattle.pool_file.specs.Worth.{AllStand, to_save};
+ghost use Rattle.pool_file.specs.Lent.{objects_lent};
+
+use crate::content::LentContent;
+use crate::listing::listed_contents;
+use crate::tenant_view::TenantView;
+use crate::tenants::{raw_tenants, tenants_to_save};
+use content_pool::Pool;
+use git_names::{Memory, Naming};
+use pool_file_format::{LentObject, RawTenant};
+use std::alloc::Global;
+
+/// The objects in the order of the file, and the tenants with their numbers in it.
+#[derive(Drop)]
+pub struct Plan<'a> {
+    pub objects: Vec<LentObject<'a>>,
+    pub tenants: Vec<RawTenant>,
+}
+
+// The contents as they are written.
+fn lent_objects<'a>(
+    alloc: Global,
+    contents: &[LentContent<'a>],
+) -> Result<Vec<LentObject<'a>>, Memory>
+    ensures { IfOk result
+        (λ objects. map lent_object_of objects.items ≡ objects_lent contents.now) }
+{
+    let mut objects = Vec::with_capacity(alloc, contents.len())?;
+    for content in contents {
+        objects.push(LentObject {
+            kind: content.kind,
+            bytes: content.bytes,
+        })?;
+    }
+    Ok(objects)
+}
+
+/// The file of the tenants that are worth saving.
+///
+/// `Memory` (90) where there is no room for it.
+pub fn planned<'a, N: Naming>(
+    alloc: Global,
+    pool: &'a Pool<N>,
+    tenants: &[TenantView<'a>],
+) -> Result<Plan<'a>, Memory>
+    requires { AllStand N.digest_of pool.now tenants.now }
+    ensures { IfOk result
+        (λ plan. lent_file plan.objects.items plan.tenants.items
+        ≡ raw_of 2 (to_save pool.now tenants.now)) }
+{
+    let saved = tenants_to_save(alloc, tenants)?;
+    let contents = listed_contents(alloc, pool, &saved)?;
+    let tenants = raw_tenants(alloc, pool, &contents, &saved)?;
+    let objects = lent_objects(alloc, &contents)?;
+    Ok(Plan { objects, tenants })
+}

@@ -1,0 +1,73 @@
+//! The refs of a tenant, with their full names and the places of their targets.
+
+ghost use Rattle.std.specs.Prelude.{◌≡◌, ◌++◌, IfOk, map};
+ghost use Rattle.git_model.specs.References.{place_of};
+ghost use Rattle.git_model.specs.RefStore.{listed_refs};
+ghost use Rattle.pool_file_format.specs.Shown.{refs_of};
+ghost use Rattle.pool_file_checks.specs.Repositories.{raw_ref};
+ghost use Rattle.pool_file.specs.Worth.{named_with};
+
+use crate::tenant_view::TenantView;
+use git_names::{Memory, Name, Naming};
+use pool_file_format::RawRef;
+use std::alloc::Global;
+use tenant_refs::namespaces;
+use tenant_tables::Objects;
+
+// The place of a name among objects; their number, where it is not there.
+fn place_of<N: Naming>(objects: &Objects<'_, N>, id: &Name) -> usize
+    ensures { result ≡ place_of id.now objects.now }
+{
+    match objects.place(id) {
+        Some(place) => place,
+        None => objects.len(),
+    }
+}
+
+// One text after another.
+fn joined(alloc: Global, front: &[u8], rest: &[u8]) -> Result<Vec<u8>, Memory>
+    ensures { IfOk result (λ whole. whole.items ≡ front.now ++ rest.now) }
+{
+    let mut whole = Vec::with_capacity(alloc, front.len())?;
+    whole.extend_from_slice(front)?;
+    whole.extend_from_slice(rest)?;
+    Ok(whole)
+}
+
+// A ref of a tenant whose refs have this front, as the file has it.
+fn raw_ref<N: Naming>(
+    alloc: Global,
+    front: &[u8],
+    objects: &Objects<'_, N>,
+    ref_name: &[u8],
+    target: &Name,
+) -> Result<RawRef, Memory>
+    ensures { IfOk result (λ one. (one.name.items ≡ front.now ++ ref_name.now)
+        × (one.place ≡ place_of target.now objects.now)) }
+{
+    let name = joined(alloc, front, ref_name)?;
+    let place = place_of(objects, target) as u64;
+    Ok(RawRef { name, place })
+}
+
+/// All refs of a tenant that has these objects, as the file has them.
+///
+/// `Memory` (90) where there is no room for them.
+pub fn raw_refs<N: Naming>(
+    alloc: Global,
+    tenant: &TenantView<'_>,
+    objects: &Objects<'_, N>,
+) -> Result<Vec<RawRef>, Memory>
+    ensures { IfOk result (λ refs. refs_of refs.items
+        ≡ map (raw_ref (named_with tenant.now objects.now)) (listed_refs tenant.now.refs.now)) }
+{
+    let front = namespaces(alloc, tenant.name.as_bytes())?;
+    let mut refs = Vec::new(alloc);
+    for position in 0..tenant.refs.len() {
+        let Some(entry) = tenant.refs.at(position) else {
+            return Ok(refs);
+        };
+        refs.push(raw_ref(alloc, &front, objects, entry.0, &entry.1)?)?;
+    }
+    Ok(refs)
+}

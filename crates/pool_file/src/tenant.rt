@@ -1,0 +1,29 @@
+//! A tenant as it is loaded, and as it can be saved.
+
+ghost use Rattle.std.specs.Prelude.{◌≡◌};
+ghost use Rattle.pool_file.specs.Worth.{tenant_seen};
+
+use crate::tenant_view::TenantView;
+use tenant_refs::{Refs, TenantName};
+use tenant_tables::Table;
+
+/// A tenant of a pool file: its name, its objects, all of them committed, and its refs.
+#[derive(Drop)]
+pub struct Tenant {
+    pub name: TenantName,
+    pub table: Table,
+    pub refs: Refs,
+}
+
+impl Tenant {
+    // The tenant, lent to be saved.
+    pub(crate) fn view(&self) -> TenantView<'_>
+        ensures { tenant_seen result ≡ self.now }
+    {
+        TenantView {
+            name: &self.name,
+            table: &self.table,
+            refs: &self.refs,
+        }
+    }
+}

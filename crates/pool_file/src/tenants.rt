@@ -1,0 +1,107 @@
+//! Which tenants are saved, and each of them as the file has it.
+
+ghost use Rattle.std.specs.Prelude.{◌≡◌, ℕ, List, IfOk, map};
+ghost use Rattle.content_pool.specs.Pool.{Cells};
+ghost use Rattle.pool_file_format.specs.Shown.{tenant_of, tenants_of};
+ghost use Rattle.pool_file_checks.specs.Repositories.{Named, raw_tenant, listed_contents};
+ghost use Rattle.pool_file.specs.Listing.{IsInOrder};
+ghost use Rattle.pool_file.specs.Worth.{AllStand, named_with, named_in, to_save};
+ghost use Rattle.pool_file.specs.Lent.{Lists, lent_key};
+
+use crate::content::{LentContent, lent_contents};
+use crate::listing::numbers_of;
+use crate::raw_refs::raw_refs;
+use crate::tenant_view::TenantView;
+use content_pool::Pool;
+use git_names::{Memory, Naming};
+use pool_file_format::RawTenant;
+use std::alloc::Global;
+use std::collections::BTreeSet;
+use tenant_refs::TenantName;
+use tenant_tables::Objects;
+
+// A tenant in the order of names.
+#[derive(Clone, Copy)]
+#[derive_where(PartialEq, Eq, PartialOrd, Ord)]
+struct ByName<'a> {
+    name: &'a TenantName,
+    #[derive_where(skip)]
+    tenant: TenantView<'a>,
+}
+
+// The tenants of a set, by their rising names.
+fn all_tenants<'a>(
+    alloc: Global,
+    by_name: BTreeSet<ByName<'a>>,
+) -> Result<Vec<TenantView<'a>>, Memory>
+    ensures { IfOk result (λ tenants. tenants.items ≡ map (λ one. one.tenant) by_name.entry.keys) }
+{
+    Ok(by_name.into_iter().map(|one| one.tenant).collect(alloc)?)
+}
+
+/// Those tenants that are worth saving, by their rising names; of several of one name the first.
+///
+/// `Memory` (90) where there is no room for them.
+pub fn tenants_to_save<'a>(
+    alloc: Global,
+    tenants: &[TenantView<'a>],
+) -> Result<Vec<TenantView<'a>>, Memory>
+    ensures saved { IfOk result (λ saved. (pool : Cells)
+        → map (named_in pool) saved.items ≡ to_save pool tenants.now) }
+    ensures stand { IfOk result (λ saved. (digest : List ℕ → List ℕ) (pool : Cells)
+        → AllStand digest pool tenants.now → AllStand digest pool saved.items) }
+{
+    let mut by_name = BTreeSet::new(alloc);
+    for tenant in tenants {
+        if tenant.is_worth_saving() {
+            by_name.insert(ByName {
+                name: tenant.name,
+                tenant: *tenant,
+            })?;
+        }
+    }
+    all_tenants(alloc, by_name)
+}
+
+// A tenant that has these objects as the file has it, whose contents are these.
+fn raw_tenant<'a, N: Naming>(
+    alloc: Global,
+    contents: &[LentContent<'a>],
+    tenant: &TenantView<'_>,
+    objects: &Objects<'a, N>,
+) -> Result<RawTenant, Memory>
+    requires { IsInOrder lent_key contents.now }
+    ensures { IfOk result (λ raw. (all : List Named) → Lists contents.now all
+        → tenant_of raw ≡ raw_tenant (listed_contents all) (named_with tenant.now objects.now)) }
+{
+    let own = lent_contents(alloc, objects)?;
+    Ok(RawTenant {
+        name: Vec::from_slice(alloc, tenant.name.as_bytes())?,
+        numbers: numbers_of(alloc, contents, &own)?,
+        refs: raw_refs(alloc, tenant, objects)?,
+        head: Vec::from_slice(alloc, tenant.refs.head())?,
+    })
+}
+
+/// All tenants as the file has them, whose contents are these.
+///
+/// `Memory` (90) where there is no room for them.
+pub fn raw_tenants<'a, N: Naming>(
+    alloc: Global,
+    pool: &'a Pool<N>,
+    contents: &[LentContent<'a>],
+    tenants: &[TenantView<'a>],
+) -> Result<Vec<RawTenant>, Memory>
+    requires stand { AllStand N.digest_of pool.now tenants.now }
+    requires order { IsInOrder lent_key contents.now }
+    ensures { IfOk result (λ raws. (all : List Named) → Lists contents.now all
+        → tenants_of raws.items
+        ≡ map (raw_tenant (listed_contents all)) (map (named_in pool.now) tenants.now)) }
+{
+    let mut raws = Vec::new(alloc);
+    for tenant in tenants {
+        let objects = tenant.committed(pool);
+        raws.push(raw_tenant(alloc, contents, tenant, &objects)?)?;
+    }
+    Ok(raws)
+}

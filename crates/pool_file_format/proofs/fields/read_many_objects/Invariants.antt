@@ -1,0 +1,10 @@
+use Rattle.std.proofs.Common.{◌-◌}
+use Rattle.byte_devices.specs.Device.{device_of, seen}
+use Rattle.pool_file_format.specs.Lengths.{object_at}
+use Rattle.pool_file_format.specs.Shown.{objects_of}
+use Rattle.pool_file_format.proofs.Readings.{Goes}
+use Rattle.pool_file_format.proofs.fields.read_many_objects.Given as goal
+
+abbrev pub invariant-loop : goal.invariant-loop
+invariant-loop g l = Goes l.bound object_at l.count (seen (g.R.Read.remaining (device_of l.fn.reader)) l.fn.reader)
+    (objects_of l.objects.items) (l.count - l.counter) (seen (g.R.Read.remaining (device_of l.reader)) l.reader)

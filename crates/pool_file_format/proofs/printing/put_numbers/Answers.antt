@@ -1,0 +1,15 @@
+use Rattle.std.proofs.Common.{length, refl}
+use Rattle.std.specs.List.{flat_map}
+use Rattle.std.proofs.lemmas.Result.{err_from_is_err_and}
+use Rattle.pool_file_format.specs.Format.{number_text}
+use Rattle.pool_file_format.proofs.Pieces.{then_is, stops_is}
+use Rattle.pool_file_format.proofs.printing.put_numbers.Goals as goal
+
+pub returns-in_err-put_u64 : goal.returns-in_err-put_u64
+returns-in_err-put_u64 g c =
+    let p = err_from_is_err_and c.from_residual.result c.from_residual.ensures.1 in
+    rw (p.1, p.2) (stops_is g.S.Sink.Took g.S.Sink.Failed _ _ _ (number_text (length c.args.numbers.now)) (number_text (length c.args.numbers.now)) (flat_map number_text c.args.numbers.now) g.met.S.Sink.adds_up refl c.in_err-put_u64.ensures)
+
+pub returns : goal.returns
+returns g c =
+    then_is g.S.Sink.Took g.S.Sink.Failed _ _ _ _ (number_text (length c.args.numbers.now)) (number_text (length c.args.numbers.now)) (flat_map number_text c.args.numbers.now) (flat_map number_text c.args.numbers.now) g.met.S.Sink.adds_up refl refl c.in_ok-put_u64.ensures (c.put_many_numbers.ensures)

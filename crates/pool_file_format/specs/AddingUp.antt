@@ -1,0 +1,146 @@
+-- Pieces that a writer takes, a digest, or a sink after one of these, add up.
+use Rattle.std.proofs.Common.{◌≡◌, ℕ, List, [], ◌++◌, Option, refl, sym, ap, subst, ◌∙◌, append_assoc, append-nil}
+use Rattle.std.specs.Io.KnownBytes.{Appends}
+use Rattle.byte_devices.specs.declared.counted.Counted.{Counted}
+use Rattle.byte_devices.specs.Device.{AppendsFront, HasFault, device_of, seen}
+use Rattle.byte_devices.proofs.KnownBytes.{Appends-nil, Appends-trans}
+use Rattle.pool_file_format.specs.declared.digesting.Fed.{Fed}
+use Rattle.pool_file_format.specs.declared.gathering.Digested.{Digested}
+use Rattle.pool_file_format.specs.declared.gathering.Gathered.{Gathered}
+use Rattle.pool_file_format.specs.Sinks.{Moves, AddsUp, HasWritten, HasBroken, Goes, HasGathered, TookBoth, FailedBoth, TookBlocks, FailedBlocks}
+
+later_front : (a b c : Option (List ℕ)) (xs ys : List ℕ) → Appends a b xs → AppendsFront b c ys
+    → AppendsFront a c (xs ++ ys)
+later_front a b c xs ys p q = record {
+  front = xs ++ q.front;
+  rest = q.rest;
+  parts = ap (λ (l : List ℕ). xs ++ l) q.parts ∙ sym (append_assoc xs q.front q.rest);
+  appends = Appends-trans a b c xs q.front p q.appends;
+}
+
+earlier_front : (a b : Option (List ℕ)) (xs ys : List ℕ) → AppendsFront a b xs
+    → AppendsFront a b (xs ++ ys)
+earlier_front a b xs ys p = record {
+  front = p.front;
+  rest = p.rest ++ ys;
+  parts = ap (λ (l : List ℕ). l ++ ys) p.parts ∙ append_assoc p.front p.rest ys;
+  appends = p.appends;
+}
+
+pub writers_add_up : {W : Type 0} (contents : W → Option (List ℕ)) → AddsUp {S = Counted W}
+    (λ old new bytes. HasWritten (seen (contents (device_of old)) old)
+    (seen (contents (device_of new)) new) bytes)
+    (λ old new bytes. HasBroken (seen (contents (device_of old)) old)
+    (seen (contents (device_of new)) new) bytes)
+writers_add_up contents = record {
+  none = λ a. record { appends = Appends-nil (contents (device_of a)); well = refl };
+  both = λ a b c xs ys p q. record {
+    appends = Appends-trans (contents (device_of a)) (contents (device_of b))
+        (contents (device_of c)) xs ys p.appends q.appends;
+    well = q.well ∙ p.well;
+  };
+  later = λ a b c xs ys p q. record {
+    front = later_front (contents (device_of a)) (contents (device_of b)) (contents (device_of c))
+        xs ys p.appends q.front;
+    fault = subst (λ (n : ℕ). HasFault n (seen (contents (device_of c)) c).faults) p.well q.fault;
+  };
+  earlier = λ a b xs ys p. record {
+    front = earlier_front (contents (device_of a)) (contents (device_of b)) xs ys p.front;
+    fault = p.fault;
+  };
+}
+
+goes_on : {D : Type 0} (Holds : D → List ℕ → Type 0) (a b c : D) (xs ys : List ℕ)
+    → Goes Holds a b xs → Goes Holds b c ys → Goes Holds a c (xs ++ ys)
+goes_on Holds a b c xs ys p q message h = subst (λ (l : List ℕ). Holds c l)
+    (append_assoc message xs ys) (q (message ++ xs) (p message h))
+
+pub fed_adds_up : {D : Type 0} (Holds : D → List ℕ → Type 0) → AddsUp {S = Fed D}
+    (λ old new bytes. Goes Holds old.running new.running bytes) (λ old new bytes. ⊥)
+fed_adds_up Holds = record {
+  none = λ a message h. subst (λ (l : List ℕ). Holds a.running l) (sym (append-nil message)) h;
+  both = λ a b c xs ys p q. goes_on Holds a.running b.running c.running xs ys p q;
+  later = λ a b c xs ys p q. q;
+  earlier = λ a b xs ys p. p;
+}
+
+pub digested_adds_up : {D S : Type 0} (Holds : D → List ℕ → Type 0) (Took Failed : Moves S)
+    → AddsUp Took Failed
+    → AddsUp {S = Digested D S} (TookBoth Holds Took) (FailedBoth Failed)
+digested_adds_up Holds Took Failed laws = record {
+  none = λ a. (
+    refl,
+    (
+      refl,
+      (
+        λ message h. subst (λ (l : List ℕ). Holds a.running.now l)
+            (sym (append-nil message)) h,
+        laws.none a.sink.now,
+      ),
+    ),
+  );
+  both = λ a b c xs ys p q. (
+    q.0 ∙ p.0,
+    (
+      q.1.0 ∙ p.1.0,
+      (
+        goes_on Holds a.running.now b.running.now c.running.now xs ys p.1.1.0 q.1.1.0,
+        laws.both a.sink.now b.sink.now c.sink.now xs ys p.1.1.1 q.1.1.1,
+      ),
+    ),
+  );
+  later = λ a b c xs ys p q. (
+    q.0 ∙ p.0,
+    (q.1.0 ∙ p.1.0, laws.later a.sink.now b.sink.now c.sink.now xs ys p.1.1.1 q.1.1),
+  );
+  earlier = λ a b xs ys p. (p.0, (p.1.0, laws.earlier a.sink.now b.sink.now xs ys p.1.1));
+}
+
+-- What waited, one text and another one, where the first one was gathered: they were sent before
+-- the other one.
+sent_before : (waited xs ys sent waits : List ℕ) → waited ++ xs ≡ sent ++ waits
+    → waited ++ (xs ++ ys) ≡ sent ++ (waits ++ ys)
+sent_before waited xs ys sent waits parts =
+    sym (append_assoc waited xs ys) ∙ ap (λ (l : List ℕ). l ++ ys) parts
+    ∙ append_assoc sent waits ys
+
+gathers_both : {S : Type 0} (Took Failed : Moves S) → AddsUp Took Failed
+    → (a b c : S) (waited between waits xs ys : List ℕ) → HasGathered Took a b waited between xs
+    → HasGathered Took b c between waits ys → HasGathered Took a c waited waits (xs ++ ys)
+gathers_both Took Failed laws a b c waited between waits xs ys p q = record {
+  sent = p.sent ++ q.sent;
+  took = laws.both a b c p.sent q.sent p.took q.took;
+  parts = sent_before waited xs ys p.sent between p.parts ∙ ap (λ (l : List ℕ). p.sent ++ l) q.parts
+      ∙ sym (append_assoc p.sent q.sent waits);
+}
+
+gathers_later : {S : Type 0} (Took Failed : Moves S) → AddsUp Took Failed
+    → (a b c : S) (waited between xs ys : List ℕ) → HasGathered Took a b waited between xs
+    → Failed b c (between ++ ys) → Failed a c (waited ++ (xs ++ ys))
+gathers_later Took Failed laws a b c waited between xs ys p q =
+    subst (λ (l : List ℕ). Failed a c l) (sym (sent_before waited xs ys p.sent between p.parts))
+    (laws.later a b c p.sent (between ++ ys) p.took q)
+
+pub gathered_adds_up : {S : Type 0} (Took Failed : Moves S) → AddsUp Took Failed
+    → AddsUp {S = Gathered S} (TookBlocks Took) (FailedBlocks Failed)
+gathered_adds_up Took Failed laws = record {
+  none = λ a. (
+    refl,
+    record { sent = []; took = laws.none a.sink.now; parts = append-nil a.block.items },
+  );
+  both = λ a b c xs ys p q. (
+    q.0 ∙ p.0,
+    gathers_both Took Failed laws a.sink.now b.sink.now c.sink.now
+        a.block.items b.block.items c.block.items xs ys p.1 q.1,
+  );
+  later = λ a b c xs ys p q. (
+    q.0 ∙ p.0,
+    gathers_later Took Failed laws a.sink.now b.sink.now c.sink.now
+        a.block.items b.block.items xs ys p.1 q.1,
+  );
+  earlier = λ a b xs ys p. (
+    p.0,
+    subst (λ (l : List ℕ). Failed a.sink.now b.sink.now l) (append_assoc a.block.items xs ys)
+        (laws.earlier a.sink.now b.sink.now (a.block.items ++ xs) ys p.1),
+  );
+}

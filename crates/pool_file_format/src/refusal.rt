@@ -1,0 +1,57 @@
+//! What is wrong with bytes that are no pool file.
+
+ghost use Rattle.std.specs.Prelude.{◌≡◌};
+ghost use Rattle.pool_file_format.specs.Faults.{number_of};
+
+use thiserror::Error;
+
+/// The first thing that is wrong with bytes that are no pool file.
+#[derive(Clone, Copy, Debug, PartialEq, Eq, Error)]
+pub enum Refusal {
+    /// The first bytes are not those of a pool file: 60.
+    #[error("fault 60")]
+    NoPoolFile,
+    /// The version is none that is read: 61.
+    #[error("fault 61")]
+    UnknownVersion,
+    /// The bytes end before the file does: 62.
+    #[error("fault 62")]
+    CutOff,
+    /// The digest is not that of the bytes before it: 63.
+    #[error("fault 63")]
+    WrongDigest,
+    /// The bytes are not the one text of what they say: 64.
+    #[error("fault 64")]
+    NotCanonical,
+    /// An object that can't be: 65.
+    #[error("fault 65")]
+    BadObject,
+    /// Something that is referred to does not stand before: 66.
+    #[error("fault 66")]
+    MissingReference,
+    /// A bad ref, or one to a target of a wrong kind: 67.
+    #[error("fault 67")]
+    BadRef,
+    /// Bytes stand after the digest: 69.
+    #[error("fault 69")]
+    TrailingBytes,
+}
+
+impl Refusal {
+    /// The number of the refusal.
+    pub fn code(self) -> u16
+        ensures { result ≡ number_of self }
+    {
+        match self {
+            Refusal::NoPoolFile => 60,
+            Refusal::UnknownVersion => 61,
+            Refusal::CutOff => 62,
+            Refusal::WrongDigest => 63,
+            Refusal::NotCanonical => 64,
+            Refusal::BadObject => 65,
+            Refusal::MissingReference => 66,
+            Refusal::BadRef => 67,
+            Refusal::TrailingBytes => 69,
+        }
+    }
+}

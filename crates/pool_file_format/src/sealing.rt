@@ -1,0 +1,177 @@
+//! Whole files with their digests: read, and written.
+
+ghost use Rattle.std.specs.Prelude.{◌≡◌, ◌^◌, [], OnOk};
+ghost use Rattle.std.specs.Str.{bytes_eq};
+ghost use Rattle.byte_devices.specs.Device.{device_of, calls_of, counted_on, seen};
+ghost use Rattle.pool_file_format.specs.Format.{body_text, raw_text};
+ghost use Rattle.pool_file_format.specs.Lengths.{sealed_at};
+ghost use Rattle.pool_file_format.specs.Shown.{file_of, lent_file, listed_file, listed_text, object_of};
+ghost use Rattle.pool_file_format.specs.Sinks.{Gives, Goes, Writes};
+ghost use Rattle.pool_file_format.specs.Taking.{shown, ReadsAll};
+
+use crate::digesting::{Fed, Running, Starting};
+use crate::fault::Fault;
+use crate::gathering::{Digested, Gathered};
+use crate::listed::{LentObject, Listed, Printed};
+use crate::printing::put_body;
+use crate::raw::{RawFile, RawObject, RawTenant};
+use crate::reading::read_file;
+use crate::refusal::Refusal;
+use crate::sink::Sink;
+use byte_devices::{Counted, DeviceFault};
+use std::alloc::Global;
+use std::io::{Read, Write};
+
+// The lists of a file, lent.
+fn listed(file: &RawFile) -> Listed<'_, RawObject>
+    ensures { listed_file object_of result ≡ file_of file.now }
+{
+    Listed {
+        version: file.version,
+        objects: &file.objects,
+        tenants: &file.tenants,
+    }
+}
+
+/// The digest of all bytes of a file that stand before its digest. Takes no memory.
+pub fn digest_of<N: Starting>(naming: &N, file: &RawFile) -> [u8; 20]
+    ensures { result ≡ N.digest_of (body_text (file_of file.now)) }
+{
+    let mut fed = Fed {
+        running: naming.start(),
+    };
+    // A digest takes all, so this answers no fault.
+    let _fed = put_body(&mut fed, &listed(file));
+    let Fed { running } = fed;
+    N::end(running)
+}
+
+// Whether these are the same bytes.
+fn is_same(digest: &[u8], other: &[u8]) -> bool
+    ensures { result ≡ bytes_eq digest.now other.now }
+{
+    digest == other
+}
+
+/// Reads a file by its lengths, up to the end of the input, and checks its digest. What the file
+/// says is not judged.
+///
+/// `Refused` with the first thing that is wrong from left to right: `NoPoolFile` (60) at the first
+/// byte that is none of `gitpool LF`, `UnknownVersion` (61) for a version that is not 1 or 2,
+/// `CutOff` (62) where the input ends early, `TrailingBytes` (69) where it goes on after the
+/// digest; and then `WrongDigest` (63) where that is not the digest of the bytes before it.
+/// `Device` (68) where a call of `read` answered an error, or 2^32 calls were made. `Memory` (90)
+/// where there is no room for what is read.
+pub fn read_sealed<N: Starting, R: Read>(
+    alloc: Global,
+    naming: &N,
+    reader: &mut Counted<R>,
+) -> Result<RawFile, Fault>
+    ensures { ReadsAll (counted_on (calls_of reader.old) (2 ^ 32)) (sealed_at N.digest_of)
+        (seen (R.remaining (device_of reader.old)) reader.old) (shown file_of result)
+        (seen (R.remaining (device_of reader.new)) reader.new) }
+{
+    let (file, digest) = read_file(alloc, reader)?;
+    let own = digest_of(naming, &file);
+    if !is_same(&digest, &own) {
+        return Err(Fault::Refused(Refusal::WrongDigest));
+    }
+    Ok(file)
+}
+
+/// Writes a file, and its digest after it. Takes no memory.
+///
+/// `DeviceFault` (68) where a call of `write` answered an error or took nothing; a prefix of the
+/// text then stands written.
+pub fn write_sealed<N: Starting, W: Write>(
+    naming: &N,
+    file: &RawFile,
+    writer: &mut Counted<W>,
+) -> Result<(), DeviceFault>
+    ensures { Writes (seen (W.contents (device_of writer.old)) writer.old) result
+        (seen (W.contents (device_of writer.new)) writer.new)
+        (raw_text N.digest_of (file_of file.now)) }
+{
+    put_body(writer, &listed(file))?;
+    let digest = digest_of(naming, file);
+    writer.take(&digest)
+}
+
+// All bytes of a file before its digest, into a sink that gathers and where nothing waits. Nothing
+// waits there after it.
+fn put_gathered<S: Sink, O: Printed>(
+    gathered: &mut Gathered<'_, S>,
+    file: &Listed<'_, O>,
+) -> Result<(), DeviceFault>
+    requires { gathered.old.block.items ≡ [] }
+    ensures gives { Gives S.Took S.Failed gathered.old.sink.now result gathered.new.sink.now
+        (listed_text O.object file.now) }
+    ensures same { gathered.new.sink.ghost_name ≡ gathered.old.sink.ghost_name }
+{
+    put_body(gathered, file)?;
+    gathered.pass_on()
+}
+
+// The same in blocks, into any sink.
+fn put_blocks<S: Sink, O: Printed>(
+    alloc: Global,
+    sink: &mut S,
+    file: &Listed<'_, O>,
+) -> Result<(), DeviceFault>
+    ensures { Gives S.Took S.Failed sink.old result sink.new
+        (listed_text O.object file.now) }
+{
+    let mut gathered = Gathered {
+        block: Vec::new(alloc),
+        sink,
+    };
+    let answer = put_gathered(&mut gathered, file);
+    let Gathered {
+        block: _block,
+        sink: _sink,
+    } = gathered;
+    answer
+}
+
+// The same in blocks, into a digest and a sink.
+fn put_both<D: Running, S: Sink, O: Printed>(
+    alloc: Global,
+    running: &mut D,
+    sink: &mut S,
+    file: &Listed<'_, O>,
+) -> Result<(), DeviceFault>
+    ensures gives { Gives S.Took S.Failed sink.old result sink.new
+        (listed_text O.object file.now) }
+    ensures fed { OnOk result (Goes D.Holds running.old running.new
+        (listed_text O.object file.now)) }
+{
+    let mut digested = Digested { running, sink };
+    put_blocks(alloc, &mut digested, file)
+}
+
+/// Writes a file of version 2 whose objects' contents are lent, and its digest after it, in one
+/// pass: no contents are copied but those that are gathered into blocks of 64 KiB at most.
+///
+/// `DeviceFault` (68) where a call of `write` answered an error or took nothing; a prefix of the
+/// text then stands written. Takes memory for a block; where there is none, each piece is written
+/// by a call of its own.
+pub fn write_lent<N: Starting, W: Write>(
+    alloc: Global,
+    naming: &N,
+    objects: &[LentObject<'_>],
+    tenants: &[RawTenant],
+    writer: &mut Counted<W>,
+) -> Result<(), DeviceFault>
+    ensures { Writes (seen (W.contents (device_of writer.old)) writer.old) result
+        (seen (W.contents (device_of writer.new)) writer.new)
+        (raw_text N.digest_of (lent_file objects.now tenants.now)) }
+{
+    let file = Listed {
+        version: 2,
+        objects,
+        tenants,
+    };
+    let mut running = naming.start();
+    put_both(alloc, &mut running, writer, &file)?;
+    writer.take(&N::end(running))
+}

@@ -1,7 +1,0 @@
-use Rattle.std.proofs.Common.{drop}
-use Rattle.pool_loading.proofs.StoredContents.{AreReleased}
-use Rattle.pool_loading.proofs.contents.release_contents.Given as goal
-
--- Those before the place of the loop are released.
-abbrev pub invariant-loop-slot : goal.invariant-loop-slot
-invariant-loop-slot g l = AreReleased l.fn.pool l.pool (drop l.slot-index l.slots) l.slots

@@ -1,5 +1,0 @@
--- In reading order.
-pub mod Refs
-pub mod Loading
-pub mod Building
-pub mod Tables

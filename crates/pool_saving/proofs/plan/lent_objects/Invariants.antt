@@ -1,9 +1,0 @@
-use Rattle.std.proofs.Common.{◌≡◌, map, take}
-use Rattle.pool_file_text.specs.Shown.{lent_object_of}
-use Rattle.pool_saving.specs.Lent.{objects_lent}
-use Rattle.pool_saving.proofs.plan.lent_objects.Given as goal
-
--- The objects are those before the place of the loop.
-abbrev pub invariant-loop-content : goal.invariant-loop-content
-invariant-loop-content l = map lent_object_of l.objects.items
-    ≡ objects_lent (take l.content-index l.contents)

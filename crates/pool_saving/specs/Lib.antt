@@ -1,5 +1,0 @@
--- In reading order.
-pub mod Listing
-pub mod Worth
-pub mod Lent
-pub mod Saves

@@ -1,0 +1,70 @@
+//! Why no further frame is read, or no further answer written.
+
+ghost use Rattle.std.specs.Prelude.{◌≡◌};
+ghost use Rattle.service_steps.specs.FrameFaults.{code_of, frame_fault};
+
+use byte_devices::{DeviceFault, FillFault};
+use std::alloc::AllocError;
+use thiserror::Error;
+
+/// Why frames did not go on.
+#[derive(Clone, Copy, Debug, PartialEq, Eq, Error)]
+pub enum FrameFault {
+    /// The kind of a frame is none, or a length is not one of its kind: 50.
+    #[error("fault 50")]
+    BadFrame,
+    /// The input ended inside a frame: 51.
+    #[error("fault 51")]
+    CutOff,
+    /// A call of the reader or the writer failed, or 2^32 frames were read: 68.
+    #[error("fault 68")]
+    Device,
+    /// Memory ran out: 90.
+    #[error("fault 90")]
+    Memory,
+}
+
+impl FrameFault {
+    /// The number of the fault, for messages and exit statuses.
+    pub fn code(self) -> u16
+        ensures { result ≡ code_of self }
+    {
+        match self {
+            FrameFault::BadFrame => 50,
+            FrameFault::CutOff => 51,
+            FrameFault::Device => 68,
+            FrameFault::Memory => 90,
+        }
+    }
+}
+
+impl From<DeviceFault> for FrameFault {
+    ghost use Rattle.service_steps.specs.declared.frame_fault.FrameFault.TheVariants as fault;
+
+    ghost from_gives = { λ _ failed. failed ≡ fault.Device };
+
+    fn from(_failed: DeviceFault) -> FrameFault {
+        FrameFault::Device
+    }
+}
+
+impl From<FillFault> for FrameFault {
+    ghost from_gives = { λ short fault. fault ≡ frame_fault short };
+
+    fn from(short: FillFault) -> FrameFault {
+        match short {
+            FillFault::Ended => FrameFault::CutOff,
+            FillFault::Failed => FrameFault::Device,
+        }
+    }
+}
+
+impl From<AllocError> for FrameFault {
+    ghost use Rattle.service_steps.specs.declared.frame_fault.FrameFault.TheVariants as fault;
+
+    ghost from_gives = { λ _ refused. refused ≡ fault.Memory };
+
+    fn from(_refused: AllocError) -> FrameFault {
+        FrameFault::Memory
+    }
+}

@@ -1,0 +1,98 @@
+//! The steps that a reader gives, frame by frame.
+//!
+//! Nothing is read ahead: where a frame is whole, no byte after it was asked for, and where a part
+//! is wrong, none after that part.
+
+ghost use Rattle.std.specs.Prelude.{◌≡◌, ◌≤◌, length};
+ghost use Rattle.service_steps.specs.Frames.{tenant_limit, body_limit, framed, frame_of};
+ghost use Rattle.byte_devices.specs.Device.{device_of, seen};
+ghost use Rattle.service_steps.specs.Reading.{ReadsKind, ReadsStep};
+
+use crate::Step;
+use crate::frame_fault::FrameFault;
+use crate::kind::Kind;
+use crate::sized::{read_behind_u16, read_behind_u32};
+use byte_devices::{Counted, FillFault, fill};
+use std::alloc::Global;
+use std::io::Read;
+
+// The kind of the next frame; none where the input ends before it.
+fn read_kind<R: Read>(reader: &mut Counted<R>) -> Result<Option<Kind>, FrameFault>
+    ensures { ReadsKind (seen (R.remaining (device_of reader.old)) reader.old) result
+        (seen (R.remaining (device_of reader.new)) reader.new) }
+{
+    let mut byte = [0];
+    match fill(reader, &mut byte) {
+        Ok(()) => match Kind::of(byte[0]) {
+            Some(kind) => Ok(Some(kind)),
+            None => Err(FrameFault::BadFrame),
+        },
+        Err(FillFault::Ended) => Ok(None),
+        Err(FillFault::Failed) => Err(FrameFault::Device),
+    }
+}
+
+/// A reader of frames, which keeps the room of the last one for the next.
+#[derive(Drop)]
+pub struct Frames {
+    tenant: Vec<u8>,
+    body: Vec<u8>,
+}
+
+impl Frames {
+    /// Takes no memory; what it keeps later comes from `alloc`.
+    pub fn new(alloc: Global) -> Frames {
+        Frames {
+            tenant: Vec::new(alloc),
+            body: Vec::new(alloc),
+        }
+    }
+
+    /// Reads the next frame, and lends its step; none where the input ends before it.
+    ///
+    /// `BadFrame` (50) as soon as a part is there that is wrong: a kind that is none, a name in a
+    /// restart, a body that the kind has not or that has more than 16,777,216 bytes. `CutOff` (51)
+    /// where the input ends inside a frame. `Device` (68) where a call of the reader failed.
+    /// `Memory` (90) where there is no room for a name or a body. No frame can be read after
+    /// these.
+    pub fn next<R: Read>(&mut self, reader: &mut Counted<R>) -> Result<Option<Step<'_>>, FrameFault>
+        ensures { ReadsStep (seen (R.remaining (device_of reader.old)) reader.old) result
+            (seen (R.remaining (device_of reader.new)) reader.new) }
+    {
+        let kind = match read_kind(reader) {
+            Ok(Some(kind)) => kind,
+            Ok(None) => return Ok(None),
+            Err(fault) => return Err(fault),
+        };
+        match read_behind_u16(reader, kind.tenant_limit(), &mut self.tenant) {
+            Ok(()) => {}
+            Err(fault) => return Err(fault),
+        }
+        match read_behind_u32(reader, kind.body_limit(), &mut self.body) {
+            Ok(()) => {}
+            Err(fault) => return Err(fault),
+        }
+        Ok(Some(step_of(kind, &self.tenant, &self.body)))
+    }
+}
+
+// The step of a frame.
+fn step_of<'a>(kind: Kind, tenant: &'a [u8], body: &'a [u8]) -> Step<'a>
+    requires tenant { length tenant.now ≤ tenant_limit kind }
+    requires body { length body.now ≤ body_limit kind }
+    ensures { frame_of result ≡ framed kind tenant.now body.now }
+{
+    match kind {
+        Kind::Open => Step::Open { tenant },
+        Kind::Feed => Step::Feed {
+            tenant,
+            bytes: body,
+        },
+        Kind::End => Step::End { tenant },
+        Kind::Ask => Step::Ask {
+            tenant,
+            query: body,
+        },
+        Kind::Restart => Step::Restart,
+    }
+}

@@ -1,0 +1,57 @@
+//! Answers as bytes.
+
+ghost use Rattle.std.specs.Prelude.{◌≡◌, OnOk, OnErr};
+ghost use Rattle.std.specs.Io.KnownBytes.{Appends};
+ghost use Rattle.byte_devices.specs.Device.{device_of, faults_of, AppendsFront, HasFault};
+ghost use Rattle.service_steps.specs.Frames.{status_of, answer_head, answer_text};
+
+use crate::Answer;
+use byte_devices::{Counted, DeviceFault, write_all};
+use byteorder::{BigEndian, ByteOrder};
+use std::io::Write;
+
+// Bytes before those of the reply.
+const HEAD: usize = 17;
+
+fn status_of(answer: Answer) -> (u8, u64)
+    ensures { (result.0, result.1) ≡ status_of answer }
+{
+    match answer {
+        Answer::Ok => (0, 0),
+        Answer::Fault(code) => (1, code as u64),
+        Answer::Memory(items) => (2, items),
+    }
+}
+
+#[tactic(auto, unfolding(crate::specs::Frames::answer_head))]
+fn answer_head(answer: Answer, size: u64) -> [u8; HEAD]
+    ensures { result ≡ answer_head answer size }
+{
+    let (status, value) = status_of(answer);
+    let mut head = [0; HEAD];
+    head[0] = status;
+    BigEndian::write_u64(&mut head[1..9], value);
+    BigEndian::write_u64(&mut head[9..], size);
+    head
+}
+
+/// Writes an answer and the bytes of its reply, as one frame. Takes no memory.
+///
+/// `DeviceFault` (68) where a call of the writer failed; a prefix of the frame then stands written,
+/// and the writer's `faults` rose, unless they stood at their greatest.
+pub fn write_answer<W: Write>(
+    writer: &mut Counted<W>,
+    answer: Answer,
+    reply: &[u8],
+) -> Result<(), DeviceFault>
+    ensures written { OnOk result (Appends (W.contents (device_of writer.old))
+        (W.contents (device_of writer.new)) (answer_text answer reply.now)) }
+    ensures well { OnOk result (faults_of writer.new ≡ faults_of writer.old) }
+    ensures front { OnErr result (AppendsFront (W.contents (device_of writer.old))
+        (W.contents (device_of writer.new)) (answer_text answer reply.now)) }
+    ensures cause { OnErr result (HasFault (faults_of writer.old) (faults_of writer.new)) }
+{
+    let head = answer_head(answer, reply.len() as u64);
+    write_all(writer, &head)?;
+    write_all(writer, reply)
+}

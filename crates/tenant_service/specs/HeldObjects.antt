@@ -1,0 +1,49 @@
+-- The objects of what is held, the contents of all tenants, and a code of refs.
+use Rattle.std.specs.Prelude.{ℕ, Bool, false, nat_lt, List, length, map, count_by}
+use Rattle.std.specs.List.{flat_map}
+use Rattle.std.specs.Set.{is_member}
+use Rattle.std.specs.Coded.{Coded, coded_list, coded_ℕ}
+use Rattle.std.specs.FinMap as map
+use Rattle.git_model.specs.RefStore.{RefMap}
+use Rattle.git_model.specs.Content.{Content, same_content}
+use Rattle.git_model.specs.Repository.{Repository, Object}
+use Rattle.import_session.specs.Stream.{Standing, Runs, Refused}
+use Rattle.tenant_service.specs.Alone.{last_of}
+use Rattle.tenant_service.specs.Holding.{Holding, Idle, Busy, Holdings}
+
+-- The objects of a tenant, those of its running stream so far included.
+abbrev pub standing_objects : Standing → List Object
+standing_objects (Runs now tail) = now.workspace.objects
+standing_objects (Refused code repository) = repository.objects
+
+abbrev pub held_objects : Holding → List Object
+held_objects (Idle repository) = repository.objects
+held_objects (Busy standing) = standing_objects standing
+
+-- The repository at the last checkpoint.
+abbrev pub last_held : Holding → Repository
+last_held (Idle repository) = repository
+last_held (Busy standing) = last_of standing
+
+-- Whether a stream runs that has read `done`: no byte that comes counts then.
+abbrev pub has_read_done : Holding → Bool
+has_read_done (Idle repository) = false
+has_read_done (Busy (Runs now tail)) = now.is_done
+has_read_done (Busy (Refused code repository)) = false
+
+-- Whether the repository at the last checkpoint has an object.
+abbrev pub has_commit : Holding → Bool
+has_commit held = nat_lt 0 (length (last_held held).objects)
+
+-- The contents of all objects of all tenants.
+abbrev pub held_contents : Holdings → List Content
+held_contents all = flat_map (λ e. map (λ o. o.content) (held_objects e.1)) all
+
+-- How many tenants have an object with this content.
+abbrev pub tenants_with : Content → Holdings → ℕ
+tenants_with c all =
+    count_by (λ e. is_member same_content (map (λ o. o.content) (held_objects e.1)) c) all
+
+-- Holdings are told apart by their parts, refs included.
+abbrev pub ref_map_code : Coded RefMap
+ref_map_code = map.code (coded_list coded_ℕ) (coded_list coded_ℕ)

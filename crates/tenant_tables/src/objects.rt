@@ -1,0 +1,98 @@
+//! The objects of a table that are in sight: "object database" of gitglossary(7).
+//!
+//! What is not in sight does not exist here: neither another tenant's objects nor, where the sight
+//! is the committed prefix, those of the open stream. Contracts see the list of the objects, oldest
+//! first, and neither the pool nor the table.
+
+ghost use Rattle.std.specs.Prelude.{◌≡◌, length, map, is_some};
+ghost use Rattle.std.specs.Option.{option_map};
+ghost use Rattle.git_model.specs.Content.{content_from};
+ghost use Rattle.git_model.specs.Repository.{object_named};
+ghost use Rattle.tenant_tables.specs.Abbreviation.{found_among};
+ghost use Rattle.tenant_tables.specs.Objects.{objects};
+ghost use Rattle.tenant_tables.specs.StandsIn.{StandsIn};
+ghost use Rattle.tenant_tables.specs.View.{in_sight, slot_of};
+
+use crate::{Found, Sight, Table};
+use content_pool::{Pool, Slot};
+use git_model::Kind;
+use git_names::{Name, Naming};
+use std::marker::Model;
+
+fn slot_in_sight(table: &Table, sight: Sight, id: &Name) -> Option<Slot>
+    ensures { result ≡ slot_of id.now (in_sight sight table.now) }
+{
+    match sight {
+        Sight::All => table.find(id),
+        Sight::Committed => table.find_committed(id),
+    }
+}
+
+/// The objects of a table that are in sight.
+#[derive(Drop)]
+pub struct Objects<'a, N: Naming> {
+    pub(crate) pool: &'a Pool<N>,
+    pub(crate) table: &'a Table,
+    pub(crate) sight: Sight,
+}
+
+impl<'a, N: Naming> Model for Objects<'a, N> {
+    ghost use Rattle.std.specs.Prelude.{List};
+    ghost use Rattle.git_model.specs.Repository.{Object};
+    ghost use Rattle.tenant_tables.specs.Objects.{objects};
+    ghost use Rattle.tenant_tables.specs.StandsIn.{StandsIn};
+    ghost use Rattle.tenant_tables.specs.View.{in_sight};
+
+    ghost Value = { List Object };
+
+    ghost view = { λ o. objects o.pool.now (in_sight o.sight o.table.now) };
+
+    ghost invariant = { λ o. StandsIn N.digest_of o.pool.now o.table.now.entries };
+}
+
+impl<'a, N: Naming> Objects<'a, N> {
+    /// The objects of this table in sight. The pool is the one that the table stands in. Takes no
+    /// memory.
+    pub fn of(pool: &'a Pool<N>, table: &'a Table, sight: Sight) -> Objects<'a, N>
+        requires { StandsIn N.digest_of pool.now table.now.entries }
+        ensures { result ≡ objects pool.now (in_sight sight table.now) }
+    {
+        Objects { pool, table, sight }
+    }
+
+    /// The kind and the contents of the object of this name; `None` where there is no such object.
+    /// Takes no memory.
+    pub fn get(&self, id: &Name) -> Option<(Kind, &'a [u8])>
+        ensures { option_map (λ r. content_from r.0 r.1.now) result ≡ object_named id.now self.now }
+    {
+        match slot_in_sight(self.table, self.sight, id) {
+            Some(slot) => Some(self.pool.get(slot)),
+            None => None,
+        }
+    }
+
+    /// Whether there is an object of this name. Takes no memory.
+    pub fn has(&self, id: &Name) -> bool
+        ensures { result ≡ is_some (object_named id.now self.now) }
+    {
+        self.get(id).is_some()
+    }
+
+    /// How many objects there are. Takes no memory.
+    pub fn len(&self) -> usize
+        ensures { result ≡ length self.now }
+    {
+        match self.sight {
+            Sight::All => self.table.len(),
+            Sight::Committed => self.table.committed_len(),
+        }
+    }
+
+    /// The one object name that begins with these hexadecimal digits of either case, if it is one.
+    /// Takes no memory.
+    pub fn starting_with(&self, digits: &[u8]) -> Found
+        ensures { result ≡ found_among digits.now (map (λ o. o.id) self.now) }
+    {
+        self.table.starting_with(digits, self.sight)
+    }
+}

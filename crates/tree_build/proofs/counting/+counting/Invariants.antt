@@ -1,0 +1,18 @@
+use Rattle.std.proofs.Common.{◌≡◌, ◌+◌, ◌*◌, length, drop}
+use Rattle.tenant_tables.specs.Objects.{objects}
+use Rattle.file_maps.specs.StoredFiles.{stored_files}
+use Rattle.tree_build.specs.Shape.{shape_files}
+use Rattle.tree_build.specs.ShapeCode.{shape_size}
+use Rattle.tree_build.specs.Nodes.{held, shape_of}
+use Rattle.tree_build.proofs.counting.+counting.Given as goal
+
+abbrev pub decreases-count : goal.decreases-count
+decreases-count g l = 2 * shape_size (held l.node.now).inside + 1
+
+abbrev pub decreases-count_all : goal.decreases-count_all
+decreases-count_all g l = 2 * shape_size (shape_of l.entries.now)
+
+abbrev pub invariant-count_all-loop-entry : goal.invariant-count_all-loop-entry
+invariant-count_all-loop-entry g l =
+    l.files + length (shape_files (stored_files (objects l.pool l.table.entries)) (shape_of (drop l.entry-index l.entries)))
+    ≡ length (shape_files (stored_files (objects l.pool l.table.entries)) (shape_of l.entries))

@@ -1,0 +1,56 @@
+use Rattle.std.proofs.Common.{◌≡◌, ℕ, List, Bool, [], ◌∷◌, length, refl, sym, ap, ◌∙◌, arith, rules}
+use Rattle.std.specs.Prelude.{Option, None, slice_index_or}
+use Rattle.tenant_tables.proofs.EntryLemmas.{position-found}
+use Rattle.tenant_tables.specs.Objects.{objects}
+use Rattle.file_maps.specs.FileMap.{Path}
+use Rattle.file_maps.specs.StoredFiles.{stored_files}
+use Rattle.tree_build.specs.Shape.{Held}
+use Rattle.tree_build.specs.Nodes.{held, shape_of, has_name}
+use Rattle.tree_build.specs.Editing.{entries_in, taken, taken_at}
+use Rattle.tree_build.proofs.Entries.{entry_at, count_there}
+use Rattle.tree_build.proofs.Named.{shape_found, shape_lacks, found_within, not_found}
+use Rattle.tree_build.proofs.counting.+taking.Goals as goal
+
+none_taken : (known : List ℕ → List (Path × Rattle.file_maps.specs.declared.entry.Entry.Entry)) (clear : Bool) (path : Path) (n : ℕ) → taken_at known clear path None n ≡ 0
+none_taken known clear [] n = refl
+none_taken known clear (d ∷ path) n = refl
+
+pub taken-taken_below-requires : goal.taken-taken_below-requires
+taken-taken_below-requires g t c κs within =
+    let os = objects c.args.pool.now c.args.table.now.entries in
+    let d = c.decreases in
+    let n = ap (λ (p : Path). length p) c.in-Some.ensures in
+    let at = sym c.place_of.ensures ∙ c.in-Some-place_of.is in
+    let y = slice_index_or c.args.entries.now c.in-Some-place_of.at c.index-entries-at.result in
+    let found = shape_found c.in-Some.name.now c.args.entries.now c.in-Some-place_of.at
+    (position-found (has_name c.in-Some.name.now) c.args.entries.now c.in-Some-place_of.at at)
+    (found_within (has_name c.in-Some.name.now) c.args.entries.now c.in-Some-place_of.at at)
+    y (ap (slice_index_or c.args.entries.now c.in-Some-place_of.at) (sym c.index-entries-at.is)) in
+    let e = entry_at os (shape_of c.args.entries.now) c.requires.sound c.in-Some.name.now (held y.1) found.0 in
+    let m = count_there (stored_files os) (shape_of c.args.entries.now) c.in-Some.name.now (held y.1) found.0 in
+    let few = c.requires.few in
+    (omega arith, (search (rules, within), (c.requires.stands, ((e.0.sound, e.1), omega arith))))
+
+pub taken-returns-in-Some-place_of : goal.taken-returns-in-Some-place_of
+taken-returns-in-Some-place_of g t c =
+    let os = objects c.args.pool.now c.args.table.now.entries in
+    let at = sym c.place_of.ensures ∙ c.in-Some-place_of.is in
+    let y = slice_index_or c.args.entries.now c.in-Some-place_of.at c.index-entries-at.result in
+    let found = shape_found c.in-Some.name.now c.args.entries.now c.in-Some-place_of.at
+    (position-found (has_name c.in-Some.name.now) c.args.entries.now c.in-Some-place_of.at at)
+    (found_within (has_name c.in-Some.name.now) c.args.entries.now c.in-Some-place_of.at at)
+    y (ap (slice_index_or c.args.entries.now c.in-Some-place_of.at) (sym c.index-entries-at.is)) in
+    c.taken_below.ensures
+    ∙ ap (λ (o : Option Held). taken_at (stored_files os) c.args.clear c.in-Some.rest o
+    (taken (stored_files os) c.args.clear c.in-Some.rest (entries_in o))) (sym found.0)
+    ∙ ap (λ (p : Path). taken (stored_files os) c.args.clear p (shape_of c.args.entries.now)) (sym c.in-Some.ensures)
+
+pub taken-returns-in-None : goal.taken-returns-in-None
+taken-returns-in-None g t c =
+    let os = objects c.args.pool.now c.args.table.now.entries in
+    let lacks = shape_lacks c.in-Some.name.now c.args.entries.now
+    (not_found (has_name c.in-Some.name.now) c.args.entries.now (sym c.place_of.ensures ∙ c.in-None.is)) in
+    sym (ap (λ (p : Path). taken (stored_files os) c.args.clear p (shape_of c.args.entries.now)) c.in-Some.ensures
+    ∙ ap (λ (o : Option Held). taken_at (stored_files os) c.args.clear c.in-Some.rest o
+    (taken (stored_files os) c.args.clear c.in-Some.rest (entries_in o))) lacks.0
+    ∙ none_taken (stored_files os) c.args.clear c.in-Some.rest (taken (stored_files os) c.args.clear c.in-Some.rest (entries_in None)))

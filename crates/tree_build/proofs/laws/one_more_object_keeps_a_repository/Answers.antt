@@ -1,5 +1,0 @@
-use Rattle.tree_build.proofs.GoodTrees.{repository-grows}
-use Rattle.tree_build.proofs.laws.one_more_object_keeps_a_repository.Goals as goal
-
-pub returns : goal.returns
-returns c = repository-grows

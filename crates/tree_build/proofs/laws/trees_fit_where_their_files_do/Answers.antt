@@ -1,5 +1,0 @@
-use Rattle.tree_build.proofs.SumsBehind.{fit-from, within-from}
-use Rattle.tree_build.proofs.laws.trees_fit_where_their_files_do.Goals as goal
-
-pub returns : goal.returns
-returns c digest os good = (within-from digest os good, fit-from digest os good)

@@ -1,0 +1,105 @@
+//! Copies of what is held. A directory that is a stored tree as it stands is copied by its name.
+
+ghost use Rattle.std.specs.Prelude.{◌≡◌, Some, IfOk};
+ghost use Rattle.std.specs.Option.{option_map};
+ghost use Rattle.tree_build.specs.Shape.{opened};
+ghost use Rattle.tree_build.specs.Nodes.{held, shape_of};
+ghost use Rattle.tree_build.specs.Searches.{AreOrdered};
+ghost use Rattle.tree_build.specs.Editing.{child};
+ghost use Rattle.tree_build.specs.Moving.{standing, copied_shape, copied_held};
+
+use crate::component::Component;
+use crate::dir::{Dir, Node};
+use crate::names::place_of;
+use git_objects::Memory;
+use git_paths::Components;
+use std::alloc::Global;
+
+// Takes memory for the entries of directories that were edited.
+#[cycle(copying)]
+fn copied(alloc: Global, node: &Node) -> Result<Node, Memory>
+    ensures { IfOk result (λ copy. held copy ≡ copied_held (held node.now)) }
+{
+    match node {
+        Node::File(file) => Ok(Node::File(*file)),
+        Node::Unopened(tree) => Ok(Node::Unopened(*tree)),
+        Node::Opened(dir) => copied_dir(alloc, dir),
+    }
+}
+
+#[cycle(copying)]
+fn copied_dir(alloc: Global, dir: &Dir) -> Result<Node, Memory>
+    ensures { IfOk result (λ copy. held copy ≡ copied_held
+        (record { what = opened dir.now.tree; inside = dir.now.entries })) }
+{
+    let tree = dir.tree;
+    match tree {
+        Some(tree) => Ok(Node::Unopened(tree)),
+        None => {
+            let entries = copied_entries(alloc, &dir.entries)?;
+            Ok(Node::Opened(Dir { entries, tree }))
+        }
+    }
+}
+
+#[cycle(copying)]
+fn copied_entries(
+    alloc: Global,
+    entries: &[(Component, Node)],
+) -> Result<Vec<(Component, Node)>, Memory>
+    ensures { IfOk result (λ copies. shape_of copies.items ≡ copied_shape (shape_of entries.now)) }
+{
+    let mut copies = Vec::with_capacity(alloc, entries.len())?;
+    for entry in entries {
+        copies.push((entry.0.copied(alloc)?, copied(alloc, &entry.1)?))?;
+    }
+    Ok(copies)
+}
+
+/// What stands at a path below a node, where the directories on the way were opened.
+#[cycle(finding)]
+pub(crate) fn find_at<'a>(node: &'a Node, path: &Components<'_>) -> Option<&'a Node>
+    requires { AreOrdered (held node.now).inside }
+    ensures { option_map (λ n. held n.now) result ≡ standing path.now (Some (held node.now)) }
+{
+    let Some((name, rest)) = path.split_first() else {
+        return Some(node);
+    };
+    match node {
+        Node::Opened(dir) => find_below(&dir.entries, name, &rest),
+        _ => None,
+    }
+}
+
+#[cycle(finding)]
+fn find_below<'a>(
+    entries: &'a [(Component, Node)],
+    name: &[u8],
+    rest: &Components<'_>,
+) -> Option<&'a Node>
+    requires { AreOrdered (shape_of entries.now) }
+    ensures { option_map (λ n. held n.now) result
+        ≡ standing rest.now (child (shape_of entries.now) name.now) }
+{
+    match place_of(entries, name) {
+        Some(place) => find_at(&entries[place].1, rest),
+        None => None,
+    }
+}
+
+/// A copy of what stands at a path below a node, where the directories on the way were opened.
+/// Takes memory for the entries of directories that were edited.
+pub(crate) fn copy_at(
+    alloc: Global,
+    node: &Node,
+    path: &Components<'_>,
+) -> Result<Option<Node>, Memory>
+    requires { AreOrdered (held node.now).inside }
+    ensures { IfOk result (λ copy. option_map held copy
+        ≡ option_map copied_held (standing path.now (Some (held node.now)))) }
+{
+    match find_at(node, path) {
+        Some(found) => Ok(Some(copied(alloc, found)?)),
+        None => Ok(None),
+    }
+}

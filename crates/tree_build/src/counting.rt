@@ -1,0 +1,115 @@
+//! How many files stand below a node. Of a directory that nobody looked into the table knows it.
+
+ghost use Rattle.std.specs.Prelude.{◌≡◌, ◌≤◌, length, Some};
+ghost use Rattle.tenant_tables.specs.Objects.{objects};
+ghost use Rattle.tenant_tables.specs.StandsIn.{StandsIn};
+ghost use Rattle.tenant_tables.specs.View.{summary_of};
+ghost use Rattle.file_maps.specs.StoredFiles.{stored_files};
+ghost use Rattle.tree_build.specs.Shape.{shape_files, held_files};
+ghost use Rattle.tree_build.specs.Branch.{IsShape, IsHeld};
+ghost use Rattle.tree_build.specs.Nodes.{held, shape_of};
+ghost use Rattle.tree_build.specs.Opened.{files_of};
+ghost use Rattle.tree_build.specs.Editing.{entries_in, taken, taken_at};
+
+use crate::component::Component;
+use crate::dir::Node;
+use crate::names::place_of;
+use content_pool::Pool;
+use git_objects::{Name, Naming};
+use git_paths::Components;
+use tenant_tables::Table;
+
+// How many files a stored tree has.
+fn count_stored(table: &Table, id: &Name) -> usize
+    ensures { result ≡ files_of (summary_of id.now table.now.entries) }
+{
+    match table.summary(id) {
+        Some(summary) => summary.files as usize,
+        None => 0,
+    }
+}
+
+/// How many files stand at or below a node.
+#[cycle(counting)]
+pub(crate) fn count<N: Naming>(pool: &Pool<N>, table: &Table, node: &Node) -> usize
+    requires stands { StandsIn N.digest_of pool.now table.now.entries }
+    requires sound { IsHeld (objects pool.now table.now.entries) (held node.now) }
+    requires few { length (held_files (stored_files (objects pool.now table.now.entries))
+        (held node.now)) ≤ 1048576 }
+    ensures { result ≡ length (held_files (stored_files (objects pool.now table.now.entries))
+        (held node.now)) }
+{
+    match node {
+        Node::File(_) => 1,
+        Node::Unopened(id) => count_stored(table, id),
+        Node::Opened(dir) => count_all(pool, table, &dir.entries),
+    }
+}
+
+#[cycle(counting)]
+fn count_all<N: Naming>(pool: &Pool<N>, table: &Table, entries: &[(Component, Node)]) -> usize
+    requires stands { StandsIn N.digest_of pool.now table.now.entries }
+    requires sound { IsShape (objects pool.now table.now.entries) (shape_of entries.now) }
+    requires few { length (shape_files (stored_files (objects pool.now table.now.entries))
+        (shape_of entries.now)) ≤ 1048576 }
+    ensures { result ≡ length (shape_files (stored_files (objects pool.now table.now.entries))
+        (shape_of entries.now)) }
+{
+    let mut files = 0;
+    for entry in entries {
+        files += count(pool, table, &entry.1);
+    }
+    files
+}
+
+/// How many files go where a path of a directory is dropped, or where the way to it is to be clear.
+#[cycle(taking)]
+#[tactic(auto, using(crate::proofs::Searched::ordered))]
+pub(crate) fn taken<N: Naming>(
+    pool: &Pool<N>,
+    table: &Table,
+    entries: &[(Component, Node)],
+    path: &Components<'_>,
+    clear: bool,
+) -> usize
+    requires stands { StandsIn N.digest_of pool.now table.now.entries }
+    requires sound { IsShape (objects pool.now table.now.entries) (shape_of entries.now) }
+    requires few { length (shape_files (stored_files (objects pool.now table.now.entries))
+        (shape_of entries.now)) ≤ 1048576 }
+    ensures { result ≡ taken (stored_files (objects pool.now table.now.entries)) clear path.now
+        (shape_of entries.now) }
+{
+    let Some((name, rest)) = path.split_first() else {
+        return 0;
+    };
+    match place_of(entries, name) {
+        Some(at) => taken_below(pool, table, &entries[at].1, &rest, clear),
+        None => 0,
+    }
+}
+
+#[cycle(taking)]
+fn taken_below<N: Naming>(
+    pool: &Pool<N>,
+    table: &Table,
+    node: &Node,
+    rest: &Components<'_>,
+    clear: bool,
+) -> usize
+    requires stands { StandsIn N.digest_of pool.now table.now.entries }
+    requires sound { IsHeld (objects pool.now table.now.entries) (held node.now) }
+    requires few { length (held_files (stored_files (objects pool.now table.now.entries))
+        (held node.now)) ≤ 1048576 }
+    ensures { let known = stored_files (objects pool.now table.now.entries) in
+        result ≡ taken_at known clear rest.now (Some (held node.now))
+        (taken known clear rest.now (entries_in (Some (held node.now)))) }
+{
+    if rest.len() == 0 {
+        return count(pool, table, node);
+    }
+    match node {
+        Node::File(_) => { if clear { 1 } else { 0 } }
+        Node::Unopened(_) => 0,
+        Node::Opened(dir) => taken(pool, table, &dir.entries, rest, clear),
+    }
+}

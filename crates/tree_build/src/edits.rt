@@ -1,0 +1,229 @@
+//! Edits of a branch whose directories on the way to a path are opened.
+
+ghost use Rattle.std.specs.Prelude.{◌≡◌, ◌≢◌, ◌≤◌, ◌+◌, [], ◌∷◌, ◌++◌, length, None, Err, OnOk};
+ghost use Rattle.std.specs.FinMap as finmap;
+ghost use Rattle.tenant_tables.specs.Objects.{objects};
+ghost use Rattle.tenant_tables.specs.StandsIn.{StandsIn};
+ghost use Rattle.file_maps.specs.declared.fault.Fault.TheVariants as fault;
+ghost use Rattle.file_maps.specs.Edits.{without, moved, put_at, put_tree_at, put_fault};
+ghost use Rattle.git_model.specs.declared.file_mode.FileMode.TheVariants as mode;
+ghost use Rattle.git_paths.specs.Paths.{behind, is_within_limits};
+ghost use Rattle.file_maps.specs.FileMap.{Path as FilePath, AreFiles, listed};
+ghost use Rattle.file_maps.specs.StoredFiles.{stored_files};
+ghost use Rattle.tree_build.specs.Shape.{held_files};
+ghost use Rattle.tree_build.specs.Nodes.{held};
+ghost use Rattle.file_maps.specs.Calls.{Edits};
+ghost use Rattle.tree_build.specs.Branch.{root_files, files_in, IsHeld, IsBranch, Reads, closed_from};
+ghost use Rattle.tree_build.specs.Opened.{recounted, is_kept, too_many};
+
+use crate::component::has_components;
+use crate::counting::taken;
+use crate::dir::Node;
+use crate::dropping::take_at;
+use crate::files::Files;
+use crate::opening::open_below;
+use crate::placing::place;
+use content_pool::Pool;
+use file_maps::{Entry, FILES_LIMIT, Fault};
+use git_objects::{Memory, Naming, has_twenty_bytes};
+use git_paths::{Components, Path};
+use tenant_tables::Table;
+
+impl Files {
+    /// Opens the directories on the way to a path.
+    pub(crate) fn open_to<N: Naming>(
+        &mut self,
+        pool: &Pool<N>,
+        table: &Table,
+        path: &Components<'_>,
+    ) -> Result<(), Memory>
+        requires stands { StandsIn N.digest_of pool.now table.now.entries }
+        requires branch { IsBranch (objects pool.now table.now.entries) self.old }
+        ensures branch { OnOk result (IsBranch (objects pool.now table.now.entries) self.new) }
+        ensures files { OnOk result (files_in (objects pool.now table.now.entries) self.new
+            ≡ files_in (objects pool.now table.now.entries) self.old) }
+        ensures shut { OnOk result (closed_from self.new.root path.now ≡ 0) }
+        ensures open { OnOk result ((q : FilePath)
+            → closed_from self.new.root q ≤ closed_from self.old.root q) }
+        ensures reads { Reads self.old self.new (closed_from self.old.root path.now) }
+    {
+        open_below(
+            self.alloc,
+            pool,
+            table,
+            &mut self.root,
+            path,
+            &mut self.reads,
+        )
+    }
+
+    /// Drops what stands at or below a path, and, where the way is to be clear, a file on the way.
+    /// Where nothing goes, each directory stays the stored tree that it is.
+    pub(crate) fn take_out<N: Naming>(
+        &mut self,
+        pool: &Pool<N>,
+        table: &Table,
+        path: &Components<'_>,
+        clear: bool,
+    )
+        requires stands { StandsIn N.digest_of pool.now table.now.entries }
+        requires branch { IsBranch (objects pool.now table.now.entries) self.old }
+        requires shut { closed_from self.old.root path.now ≡ 0 }
+        requires some { path.now ≢ [] }
+        ensures branch { IsBranch (objects pool.now table.now.entries) self.new }
+        ensures files { files_in (objects pool.now table.now.entries) self.new
+            ≡ finmap.retain_keys (files_in (objects pool.now table.now.entries) self.old)
+            (is_kept clear path.now) }
+        ensures open { (q : FilePath) → closed_from self.new.root q ≤ closed_from self.old.root q }
+        ensures reads { self.new.reads ≡ self.old.reads }
+    {
+        match &mut self.root {
+            Node::Opened(dir) => {
+                let gone = taken(pool, table, &dir.entries, path, clear);
+                if gone == 0 {
+                    return;
+                }
+                take_at(dir, path, clear);
+                self.files -= gone;
+            }
+            _ => {}
+        }
+    }
+
+    /// Takes out the files at or below a path; at the root, all. Where there is none, nothing
+    /// changes: git-fast-import(1), "filedelete".
+    ///
+    /// Answers want of memory, 90, alone; the value may then only be cleared or dropped. The pool
+    /// and the table are those of the value.
+    pub fn drop_path<N: Naming>(
+        &mut self,
+        pool: &Pool<N>,
+        table: &Table,
+        path: &Path,
+    ) -> Result<(), Fault>
+        requires stands { StandsIn N.digest_of pool.now table.now.entries }
+        requires branch { IsBranch (objects pool.now table.now.entries) self.old }
+        ensures edits { let os = objects pool.now table.now.entries in
+            let m = files_in os self.old in
+            Edits result m (files_in os self.new) None (without m path.now) }
+        ensures branch { result ≢ Err fault.Memory
+            → IsBranch (objects pool.now table.now.entries) self.new }
+        ensures reads { Reads self.old self.new (closed_from self.old.root path.now) }
+        ensures open { OnOk result ((q : FilePath)
+            → closed_from self.new.root q ≤ closed_from self.old.root q) }
+    {
+        if path.is_root() {
+            self.clear();
+            return Ok(());
+        }
+        let path = path.components();
+        self.open_to(pool, table, &path)?;
+        self.take_out(pool, table, &path, false);
+        Ok(())
+    }
+
+    /// Puts a node at a path, in place of what stands there, below it, or on the way to it. `total`
+    /// is how many files there are with those of the node.
+    pub(crate) fn put_node<N: Naming>(
+        &mut self,
+        pool: &Pool<N>,
+        table: &Table,
+        path: &Components<'_>,
+        node: Node,
+        total: usize,
+    ) -> Result<(), Fault>
+        requires stands { StandsIn N.digest_of pool.now table.now.entries }
+        requires branch { let os = objects pool.now table.now.entries in
+            IsBranch os (recounted os self.old) }
+        requires shut { closed_from self.old.root path.now ≡ 0 }
+        requires some { path.now ≢ [] }
+        requires held { IsHeld (objects pool.now table.now.entries) (held node) }
+        requires full { held_files (stored_files (objects pool.now table.now.entries)) (held node)
+            ≢ [] }
+        requires total { let os = objects pool.now table.now.entries in
+            total ≡ length (root_files os self.old)
+            + length (held_files (stored_files os) (held node)) }
+        requires good { let os = objects pool.now table.now.entries in
+            let after = put_tree_at (files_in os self.old) path.now
+            (held_files (stored_files os) (held node)) in
+            finmap.len after ≤ 1048576 → AreFiles (listed after) }
+        ensures edits { let os = objects pool.now table.now.entries in
+            let m = files_in os self.old in
+            let after = put_tree_at m path.now (held_files (stored_files os) (held node)) in
+            Edits result m (files_in os self.new) (too_many (finmap.len after)) after }
+        ensures branch { OnOk result (IsBranch (objects pool.now table.now.entries) self.new) }
+        ensures still { result ≢ Err fault.Memory
+            → IsBranch (objects pool.now table.now.entries) self.old
+            → IsBranch (objects pool.now table.now.entries) self.new }
+        ensures reads { self.new.reads ≡ self.old.reads }
+        ensures open { OnOk result ((q : FilePath) → behind path.now q ≡ None
+            → closed_from self.new.root q ≤ closed_from self.old.root q) }
+        ensures there { OnOk result ((rest : FilePath)
+            → closed_from self.new.root (path.now ++ rest)
+            ≡ closed_from (held node) rest) }
+    {
+        has_components(path);
+        match &mut self.root {
+            Node::Opened(dir) => {
+                let files = total - taken(pool, table, &dir.entries, path, true);
+                if files > FILES_LIMIT {
+                    return Err(Fault::Limit);
+                }
+                place(self.alloc, dir, path, node)?;
+                self.files = files;
+                Ok(())
+            }
+            _ => Ok(()),
+        }
+    }
+
+    /// Puts a file at a path, in place of what stands there, below it, or on a prefix of it:
+    /// git-fast-import(1), "filemodify".
+    ///
+    /// The entry is no directory. `Fault::RootNotDirectory` (20) at the root; else `Fault::Limit`
+    /// (25) where the path has more than 16,383 bytes or 256 components, or there would be more
+    /// than 1,048,576 files. The files have not changed after these. Takes memory for the path and
+    /// for the entries of the trees that it reads; after `Fault::Memory` (90) the value may only be
+    /// cleared or dropped. The pool and the table are those of the value.
+    pub fn put<N: Naming>(
+        &mut self,
+        pool: &Pool<N>,
+        table: &Table,
+        path: &Path,
+        entry: Entry,
+    ) -> Result<(), Fault>
+        requires file { entry.mode ≢ mode.Directory }
+        requires stands { StandsIn N.digest_of pool.now table.now.entries }
+        requires branch { IsBranch (objects pool.now table.now.entries) self.old }
+        ensures edits { let os = objects pool.now table.now.entries in
+            let m = files_in os self.old in
+            let after = put_at m path.now entry in
+            Edits result m (files_in os self.new)
+            (put_fault (moved path.now (([], entry) ∷ [])) after) after }
+        ensures branch { result ≢ Err fault.Memory
+            → IsBranch (objects pool.now table.now.entries) self.new }
+        ensures reads { Reads self.old self.new (closed_from self.old.root path.now) }
+        ensures open { OnOk result ((q : FilePath)
+            → closed_from self.new.root q ≤ closed_from self.old.root q) }
+        ensures shut { OnOk result (closed_from self.new.root path.now ≡ 0) }
+    {
+        has_twenty_bytes(&entry.name);
+        if path.is_root() {
+            return Err(Fault::RootNotDirectory);
+        }
+        if !is_short(path) {
+            return Err(Fault::Limit);
+        }
+        let path = path.components();
+        has_components(&path);
+        self.open_to(pool, table, &path)?;
+        let total = self.file_count() + 1;
+        self.put_node(pool, table, &path, Node::File(entry), total)
+    }
+}
+
+fn is_short(path: &Path) -> bool
+    ensures { result ≡ is_within_limits path.now }
+{
+    path.is_within_limits()
+}

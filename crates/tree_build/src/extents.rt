@@ -1,0 +1,98 @@
+//! How many files stand at a node, how deep they stand, and how long their paths are.
+//!
+//! Of a stored tree the table knows it, so that only directories that were edited are walked.
+
+ghost use Rattle.std.specs.Prelude.{◌≡◌, [], ◌∷◌};
+ghost use Rattle.tenant_tables.specs.Objects.{objects};
+ghost use Rattle.tenant_tables.specs.StandsIn.{StandsIn};
+ghost use Rattle.file_maps.specs.Edits.{moved};
+ghost use Rattle.file_maps.specs.Storable.{files_summary};
+ghost use Rattle.file_maps.specs.StoredFiles.{stored_files};
+ghost use Rattle.tree_build.specs.Shape.{opened, shape_files, held_files};
+ghost use Rattle.tree_build.specs.Branch.{IsShape, IsHeld};
+ghost use Rattle.tree_build.specs.Nodes.{held, shape_of};
+ghost use Rattle.tree_build.specs.Sums.{IsSmall};
+
+use crate::component::Component;
+use crate::dir::{Dir, Node};
+use crate::sums::{below, both, no_files, one_file};
+use content_pool::Pool;
+use git_objects::Naming;
+use tenant_tables::{Summary, Table};
+
+// The file at a node itself.
+fn file_here() -> Summary
+    ensures { result ≡ record { files = 1; depth = 0; longest = 0 } }
+{
+    Summary {
+        files: 1,
+        depth: 0,
+        longest: 0,
+    }
+}
+
+/// The summary of the files at or below a node.
+#[cycle(measuring)]
+pub(crate) fn extent<N: Naming>(pool: &Pool<N>, table: &Table, node: &Node) -> Summary
+    requires stands { StandsIn N.digest_of pool.now table.now.entries }
+    requires sound { IsHeld (objects pool.now table.now.entries) (held node.now) }
+    requires small { IsSmall (files_summary (held_files
+        (stored_files (objects pool.now table.now.entries)) (held node.now))) }
+    ensures { result ≡ files_summary (held_files
+        (stored_files (objects pool.now table.now.entries)) (held node.now)) }
+{
+    match node {
+        Node::File(_) => file_here(),
+        Node::Unopened(tree) => table.summary(tree).unwrap_or(no_files()),
+        Node::Opened(dir) => extent_of_dir(pool, table, dir),
+    }
+}
+
+// A directory that is a stored tree as it stands is not walked.
+#[cycle(measuring)]
+fn extent_of_dir<N: Naming>(pool: &Pool<N>, table: &Table, dir: &Dir) -> Summary
+    requires stands { StandsIn N.digest_of pool.now table.now.entries }
+    requires sound { IsHeld (objects pool.now table.now.entries)
+        (record { what = opened dir.now.tree; inside = dir.now.entries }) }
+    requires small { IsSmall (files_summary (shape_files
+        (stored_files (objects pool.now table.now.entries)) dir.now.entries)) }
+    ensures { result ≡ files_summary (shape_files
+        (stored_files (objects pool.now table.now.entries)) dir.now.entries) }
+{
+    match dir.tree {
+        Some(tree) => table.summary(&tree).unwrap_or(no_files()),
+        None => extent_of_all(pool, table, &dir.entries),
+    }
+}
+
+#[cycle(measuring)]
+fn extent_of_all<N: Naming>(pool: &Pool<N>, table: &Table, entries: &[(Component, Node)]) -> Summary
+    requires stands { StandsIn N.digest_of pool.now table.now.entries }
+    requires sound { IsShape (objects pool.now table.now.entries) (shape_of entries.now) }
+    requires small { IsSmall (files_summary (shape_files
+        (stored_files (objects pool.now table.now.entries)) (shape_of entries.now))) }
+    ensures { result ≡ files_summary (shape_files
+        (stored_files (objects pool.now table.now.entries)) (shape_of entries.now)) }
+{
+    let mut sum = no_files();
+    for entry in entries {
+        sum = both(sum, extent_under(pool, table, entry.0.as_bytes(), &entry.1));
+    }
+    sum
+}
+
+// The summary of the files at or below an entry, by their paths below its directory.
+#[cycle(measuring)]
+fn extent_under<N: Naming>(pool: &Pool<N>, table: &Table, name: &[u8], node: &Node) -> Summary
+    requires stands { StandsIn N.digest_of pool.now table.now.entries }
+    requires sound { IsHeld (objects pool.now table.now.entries) (held node.now) }
+    requires small { IsSmall (files_summary (moved (name.now ∷ []) (held_files
+        (stored_files (objects pool.now table.now.entries)) (held node.now)))) }
+    ensures { result ≡ files_summary (moved (name.now ∷ []) (held_files
+        (stored_files (objects pool.now table.now.entries)) (held node.now))) }
+{
+    match node {
+        Node::File(_) => one_file(name),
+        _ => below(name, extent(pool, table, node)),
+    }
+}

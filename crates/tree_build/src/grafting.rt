@@ -1,0 +1,139 @@
+//! Putting a stored tree at a path of a branch, by its name. It is not read.
+
+ghost use Rattle.std.specs.Prelude.{◌≡◌, ◌≢◌, ◌≤◌, true, [], length, Some, None, Err, IsTrue, OnOk, ◌↔◌};
+ghost use Rattle.tenant_tables.specs.Objects.{objects};
+ghost use Rattle.tenant_tables.specs.StandsIn.{StandsIn};
+ghost use Rattle.file_maps.specs.declared.fault.Fault.TheVariants as fault;
+ghost use Rattle.git_paths.specs.Paths.{behind};
+ghost use Rattle.file_maps.specs.Calls.{Edits};
+ghost use Rattle.file_maps.specs.FileMap.{Path as FilePath};
+ghost use Rattle.file_maps.specs.Edits.{moved, put_tree_at, put_fault};
+ghost use Rattle.file_maps.specs.Grafts.{Grafts};
+ghost use Rattle.file_maps.specs.Storable.{files_summary};
+ghost use Rattle.file_maps.specs.StoredFiles.{stored_files};
+ghost use Rattle.file_maps.specs.StoredTree.{ListsTree};
+ghost use Rattle.tree_build.specs.Branch.{files_in, IsBranch, root_name, Reads, closed_from};
+ghost use Rattle.tree_build.specs.Limits.{may_stand, TakesTree};
+
+use crate::component::has_components;
+use crate::dir::Node;
+use crate::files::Files;
+use crate::within::fits_below;
+use content_pool::Pool;
+use file_maps::{Fault, is_small, tree_summary};
+use git_objects::{Name, Naming};
+use git_paths::Path;
+use tenant_tables::{Summary, Table};
+
+// Whether files of this summary may stand below a path.
+fn may_stand(path: &Path, files: Summary) -> bool
+    ensures { result ≡ may_stand path.now files }
+{
+    if files.files == 0 {
+        return true;
+    }
+    is_small(files) && fits_below(path, files)
+}
+
+impl Files {
+    // Whether these are known to be the files of a stored tree.
+    fn is_tree(&self, tree: &Name) -> bool
+        ensures { IsTrue result ↔ (root_name self.now ≡ Some tree.now) }
+    {
+        match self.tree() {
+            Some(known) => known == *tree,
+            None => false,
+        }
+    }
+
+    // Takes a stored tree with so many files in place of all that was there.
+    fn take_tree(&mut self, tree: &Name, files: usize)
+        ensures { TakesTree tree.now files self.old self.new }
+    {
+        if !self.is_tree(tree) {
+            self.root = Node::Unopened(*tree);
+            self.files = files;
+        }
+    }
+
+    /// Puts the files of a stored tree below a path, in place of what stands there, below it, or on
+    /// a prefix of it; at the root, in place of all; not Git's grafts: git-fast-import(1),
+    /// "filemodify" with mode 040000. The tree without files takes out what stands there. The tree
+    /// itself is not read; at the root nothing is.
+    ///
+    /// `Fault::ObjectUnknown` (14) where the table has no object of this name, and
+    /// `Fault::WrongKind` (15) where it is no tree; then `Fault::Limit` (25) where a path would
+    /// have more than 16,383 bytes or 256 components, or there would be more than 1,048,576 files.
+    /// The files have not changed after these. Takes memory for the path and for the entries of the
+    /// trees on the way; after `Fault::Memory` (90) the value may only be cleared or dropped. The
+    /// pool and the table are those of the value.
+    pub fn graft<N: Naming>(
+        &mut self,
+        pool: &Pool<N>,
+        table: &Table,
+        path: &Path,
+        name: &Name,
+    ) -> Result<(), Fault>
+        requires stands { StandsIn N.digest_of pool.now table.now.entries }
+        requires branch { IsBranch (objects pool.now table.now.entries) self.old }
+        ensures edits { let os = objects pool.now table.now.entries in
+            Grafts result os name.now path.now (files_in os self.old) (files_in os self.new) }
+        ensures branch { result ≢ Err fault.Memory
+            → IsBranch (objects pool.now table.now.entries) self.new }
+        ensures reads { Reads self.old self.new (closed_from self.old.root path.now) }
+        ensures open { OnOk result ((q : FilePath) → behind path.now q ≡ None
+            → closed_from self.new.root q ≤ closed_from self.old.root q) }
+        ensures kept { OnOk result (path.now ≡ [] → root_name self.old ≡ Some name.now
+            → self.new ≡ self.old) }
+    {
+        let summary = tree_summary(pool, table, name)?;
+        if !may_stand(path, summary) {
+            return Err(Fault::Limit);
+        }
+        let files = summary.files as usize;
+        if path.is_root() {
+            self.take_tree(name, files);
+            return Ok(());
+        }
+        self.put_tree(pool, table, path, name, files)
+    }
+
+    // Puts a stored tree with so many files at a path below the root.
+    fn put_tree<N: Naming>(
+        &mut self,
+        pool: &Pool<N>,
+        table: &Table,
+        path: &Path,
+        name: &Name,
+        files: usize,
+    ) -> Result<(), Fault>
+        requires stands { StandsIn N.digest_of pool.now table.now.entries }
+        requires branch { IsBranch (objects pool.now table.now.entries) self.old }
+        requires some { path.now ≢ [] }
+        requires tree { ListsTree (objects pool.now table.now.entries) name.now
+            (stored_files (objects pool.now table.now.entries) name.now) }
+        requires files { files
+            ≡ length (stored_files (objects pool.now table.now.entries) name.now) }
+        requires fits { may_stand path.now
+            (files_summary (stored_files (objects pool.now table.now.entries) name.now)) ≡ true }
+        ensures edits { let os = objects pool.now table.now.entries in
+            let m = files_in os self.old in
+            let files = stored_files os name.now in let after = put_tree_at m path.now files in
+            Edits result m (files_in os self.new) (put_fault (moved path.now files) after) after }
+        ensures branch { result ≢ Err fault.Memory
+            → IsBranch (objects pool.now table.now.entries) self.new }
+        ensures reads { Reads self.old self.new (closed_from self.old.root path.now) }
+        ensures open { OnOk result ((q : FilePath) → behind path.now q ≡ None
+            → closed_from self.new.root q ≤ closed_from self.old.root q) }
+    {
+        let path = path.components();
+        has_components(&path);
+        self.open_to(pool, table, &path)?;
+        if files == 0 {
+            self.take_out(pool, table, &path, true);
+            return Ok(());
+        }
+        let total = self.file_count() + files;
+        self.put_node(pool, table, &path, Node::Unopened(*name), total)
+    }
+}

@@ -1,0 +1,105 @@
+//! The entries of an opened directory: in Git's order, with distinct names.
+//!
+//! A name is sought by halves, first as that of a directory, after which Git's order has a slash,
+//! and then as that of a file.
+
+ghost use Rattle.std.specs.Prelude.{◌≡◌, ◌≤◌, ◌++◌, length, position, OnOk, MatchOption};
+ghost use Rattle.std.specs.Option.{option_map};
+ghost use Rattle.git_model.specs.Tree.{order_key, slash_of};
+ghost use Rattle.git_objects.specs.Parts.{entry_of};
+ghost use Rattle.tree_build.specs.Branch.{slash_after};
+ghost use Rattle.tree_build.specs.Editing.{child, inserted, removed};
+ghost use Rattle.tree_build.specs.Nodes.{held, shape_of, has_name};
+ghost use Rattle.tree_build.specs.Searches.{AreOrdered, is_behind, IsPlaceBehind, HasNone};
+
+use crate::component::Component;
+use crate::dir::Node;
+use git_objects::{FileMode, Memory, Name, TreeEntry};
+
+// An entry as Git's order sees it.
+fn ordered(name: &[u8], mode: FileMode) -> TreeEntry<'_>
+    ensures { order_key (entry_of result) ≡ name.now ++ slash_of mode }
+{
+    let id = Name::from_bytes([0; 20]);
+    TreeEntry { mode, name, id }
+}
+
+/// As what Git's order takes a node: as a file or as a directory.
+pub(crate) fn order_mode(node: &Node) -> FileMode
+    ensures { slash_of result ≡ slash_after (held node.now).what }
+{
+    match node {
+        Node::File(_) => FileMode::Regular,
+        _ => FileMode::Directory,
+    }
+}
+
+fn comes_before(entry: &TreeEntry<'_>, other: &(Component, Node)) -> bool
+    ensures { result ≡ is_behind (order_key (entry_of entry.now)) other.now }
+{
+    let node = order_mode(&other.1);
+    entry.order(&ordered(other.0.as_bytes(), node)).is_lt()
+}
+
+// From where on all entries come after another in Git's order; none before it does.
+fn place_behind(entries: &[(Component, Node)], entry: &TreeEntry<'_>) -> usize
+    requires { AreOrdered (shape_of entries.now) }
+    ensures within { result ≤ length entries.now }
+    ensures point { IsPlaceBehind (order_key (entry_of entry.now)) entries.now result }
+{
+    entries.partition_point(|other| !comes_before(entry, other))
+}
+
+// Where the entry of a name stands, if a new one of this mode would come right after it. An entry
+// of this name and mode is always found.
+fn place_before(entries: &[(Component, Node)], name: &[u8], mode: FileMode) -> Option<usize>
+    requires { AreOrdered (shape_of entries.now) }
+    ensures { MatchOption result (HasNone name.now (slash_of mode) entries.now)
+        (λ at. position (has_name name.now) entries.now ≡ Some at) }
+{
+    let next = place_behind(entries, &ordered(name, mode));
+    if next == 0 {
+        return None;
+    }
+    let at = next - 1;
+    let is_named = entries[at].0.as_bytes() == name;
+    if is_named { Some(at) } else { None }
+}
+
+/// Where the entry of a name stands.
+pub(crate) fn place_of(entries: &[(Component, Node)], name: &[u8]) -> Option<usize>
+    requires { AreOrdered (shape_of entries.now) }
+    ensures { result ≡ position (has_name name.now) entries.now }
+{
+    match place_before(entries, name, FileMode::Directory) {
+        Some(at) => Some(at),
+        None => place_before(entries, name, FileMode::Regular),
+    }
+}
+
+/// Puts an entry in its place among others. Takes memory for it.
+pub(crate) fn insert(
+    entries: &mut Vec<(Component, Node)>,
+    name: Component,
+    node: Node,
+) -> Result<(), Memory>
+    requires { AreOrdered (shape_of entries.old.items) }
+    ensures { OnOk result (shape_of entries.new.items
+        ≡ inserted name (held node) (shape_of entries.old.items)) }
+{
+    let place = place_behind(entries, &ordered(name.as_bytes(), order_mode(&node)));
+    entries.insert(place, (name, node))?;
+    Ok(())
+}
+
+/// Takes out the entry of a name, if there is one, and answers what stood there.
+pub(crate) fn remove(entries: &mut Vec<(Component, Node)>, name: &[u8]) -> Option<Node>
+    requires { AreOrdered (shape_of entries.old.items) }
+    ensures entries { shape_of entries.new.items ≡ removed (shape_of entries.old.items) name.now }
+    ensures node { option_map held result ≡ child (shape_of entries.old.items) name.now }
+{
+    match place_of(entries, name) {
+        Some(place) => Some(entries.remove(place).1),
+        None => None,
+    }
+}

@@ -1,0 +1,134 @@
+//! Opening directories: their direct entries are read, and their own directories stay unread.
+
+ghost use Rattle.std.specs.Prelude.{◌≡◌, Some, IsSome, All, IfOk, OnOk};
+ghost use Rattle.git_model.specs.Tree.{IsEntryName, CanWriteEntry};
+ghost use Rattle.git_objects.specs.Parts.{entry_of, entries_of};
+ghost use Rattle.tenant_tables.specs.Objects.{objects};
+ghost use Rattle.tenant_tables.specs.StandsIn.{StandsIn};
+ghost use Rattle.tenant_tables.specs.View.{summary_of};
+ghost use Rattle.file_maps.specs.StoredTree.{ListsTree};
+ghost use Rattle.file_maps.specs.StoredFiles.{stored_files};
+ghost use Rattle.tree_build.specs.Shape.{shape_files};
+ghost use Rattle.tree_build.specs.Branch.{IsShape, IsHeld, closed_along, closed_from};
+ghost use Rattle.tree_build.specs.Nodes.{held, shape_of};
+ghost use Rattle.tree_build.specs.Opened.{entry_held, tree_shape, IsOpening, OpensAlong, OpensHeld, ReadsMore};
+
+use crate::component::Component;
+use crate::dir::{Dir, Node};
+use crate::names::place_of;
+use content_pool::Pool;
+use file_maps::{Entry, read_entries};
+use git_objects::{FileMode, Memory, Name, Naming, TreeEntry};
+use git_paths::Components;
+use std::alloc::Global;
+use tenant_tables::Table;
+
+// What stands at an entry of a tree.
+fn node_of(entry: &TreeEntry<'_>) -> Node
+    ensures { held result ≡ entry_held (entry_of entry.now) }
+{
+    let mode = entry.mode;
+    let name = entry.id;
+    match mode {
+        FileMode::Directory => Node::Unopened(name),
+        _ => Node::File(Entry { mode, name }),
+    }
+}
+
+fn row_of(alloc: Global, entry: &TreeEntry<'_>) -> Result<(Component, Node), Memory>
+    requires { IsEntryName entry.now.name.now }
+    ensures name { IfOk result (λ r. r.0 ≡ entry.now.name.now) }
+    ensures held { IfOk result (λ r. held r.1 ≡ entry_held (entry_of entry.now)) }
+{
+    Ok((Component::new(alloc, entry.name)?, node_of(entry)))
+}
+
+// What stands at the entries of a tree.
+fn rows_of(alloc: Global, entries: &[TreeEntry<'_>]) -> Result<Vec<(Component, Node)>, Memory>
+    requires { All CanWriteEntry (entries_of entries.now) }
+    ensures { IfOk result (λ rows. shape_of rows.items ≡ tree_shape (entries_of entries.now)) }
+{
+    let mut rows = Vec::with_capacity(alloc, entries.len())?;
+    for entry in entries {
+        rows.push(row_of(alloc, entry)?)?;
+    }
+    Ok(rows)
+}
+
+/// The directory of a stored tree, opened. Takes memory for its entries.
+pub(crate) fn open<N: Naming>(
+    alloc: Global,
+    pool: &Pool<N>,
+    table: &Table,
+    id: &Name,
+) -> Result<Dir, Memory>
+    requires stands { StandsIn N.digest_of pool.now table.now.entries }
+    requires tree { ListsTree (objects pool.now table.now.entries) id.now
+        (stored_files (objects pool.now table.now.entries) id.now) }
+    ensures { IfOk result (λ d. IsOpening (objects pool.now table.now.entries) id.now d) }
+{
+    let entries = read_entries(alloc, pool, table, id)?;
+    Ok(Dir {
+        entries: rows_of(alloc, &entries)?,
+        tree: Some(*id),
+    })
+}
+
+/// Opens the directories on the way to a path, and counts the trees that are read. Takes memory for
+/// their entries.
+#[cycle(opening)]
+#[tactic(auto, using(crate::proofs::Searched::ordered))]
+pub(crate) fn open_along<N: Naming>(
+    alloc: Global,
+    pool: &Pool<N>,
+    table: &Table,
+    dir: &mut Dir,
+    path: &Components<'_>,
+    reads: &mut u64,
+) -> Result<(), Memory>
+    requires stands { StandsIn N.digest_of pool.now table.now.entries }
+    requires sound { IsShape (objects pool.now table.now.entries) dir.old.entries }
+    ensures opens { OnOk result (OpensAlong (objects pool.now table.now.entries) path.now
+        dir.old dir.new) }
+    ensures reads { ReadsMore reads.old reads.new (closed_along dir.old.entries path.now) }
+{
+    let Some((name, rest)) = path.split_first() else {
+        return Ok(());
+    };
+    match place_of(&dir.entries, name) {
+        Some(at) => open_below(alloc, pool, table, &mut dir.entries[at].1, &rest, reads),
+        None => Ok(()),
+    }
+}
+
+/// Opens a node and the directories below it on the way to a path.
+#[cycle(opening)]
+pub(crate) fn open_below<N: Naming>(
+    alloc: Global,
+    pool: &Pool<N>,
+    table: &Table,
+    node: &mut Node,
+    rest: &Components<'_>,
+    reads: &mut u64,
+) -> Result<(), Memory>
+    requires stands { StandsIn N.digest_of pool.now table.now.entries }
+    requires sound { IsHeld (objects pool.now table.now.entries) (held node.old) }
+    ensures opens { OnOk result (OpensHeld (objects pool.now table.now.entries) rest.now
+        (held node.old) (held node.new)) }
+    ensures reads { ReadsMore reads.old reads.new (closed_from (held node.old) rest.now) }
+{
+    if rest.len() == 0 {
+        return Ok(());
+    }
+    match node {
+        Node::File(_) => Ok(()),
+        Node::Opened(dir) => open_along(alloc, pool, table, dir, rest, reads),
+        Node::Unopened(id) => {
+            let mut dir = open(alloc, pool, table, id)?;
+            *reads = reads.saturating_add(1);
+            open_along(alloc, pool, table, &mut dir, rest, reads)?;
+            *node = Node::Opened(dir);
+            Ok(())
+        }
+    }
+}

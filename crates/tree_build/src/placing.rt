@@ -1,0 +1,140 @@
+//! Putting something at a path of an opened directory.
+//!
+//! What stands there, below it or on the way to it goes; each directory on the way is opened
+//! before.
+
+ghost use Rattle.std.specs.Prelude.{◌≡◌, ◌≢◌, [], true, false, position, None, OnOk, MatchOption};
+ghost use Rattle.git_paths.specs.Paths.{IsComponent};
+ghost use Rattle.tree_build.specs.Nodes.{held, shape_of, has_name};
+ghost use Rattle.tree_build.specs.Searches.{AreOrdered};
+ghost use Rattle.tree_build.specs.Editing.{child, removed, inserted, new_directory, has_opened, is_opened, entries_in, put_next, placed};
+
+use crate::component::{Component, has_components};
+use crate::dir::{Dir, Node};
+use crate::names::{insert, order_mode, place_of};
+use git_objects::Memory;
+use git_paths::Components;
+use std::alloc::Global;
+
+// Puts a node in place of the entry that stands at a place.
+fn put_instead(
+    entries: &mut Vec<(Component, Node)>,
+    at: usize,
+    name: &[u8],
+    node: Node,
+) -> Result<(), Memory>
+    requires ordered { AreOrdered (shape_of entries.old.items) }
+    requires there { position (has_name name.now) entries.old.items ≡ Some at }
+    ensures { OnOk result (shape_of entries.new.items
+        ≡ inserted name.now (held node) (removed (shape_of entries.old.items) name.now)) }
+{
+    if order_mode(&entries[at].1) == order_mode(&node) {
+        entries[at].1 = node;
+        return Ok(());
+    }
+    let (owned, _) = entries.remove(at);
+    insert(entries, owned, node)
+}
+
+// Puts an entry in place of that of its name.
+fn put_entry(
+    alloc: Global,
+    entries: &mut Vec<(Component, Node)>,
+    name: &[u8],
+    node: Node,
+) -> Result<(), Memory>
+    requires name { IsComponent name.now }
+    requires ordered { AreOrdered (shape_of entries.old.items) }
+    ensures { OnOk result (shape_of entries.new.items
+        ≡ inserted name.now (held node) (removed (shape_of entries.old.items) name.now)) }
+{
+    match place_of(entries, name) {
+        Some(at) => put_instead(entries, at, name, node),
+        None => insert(entries, Component::new(alloc, name)?, node),
+    }
+}
+
+// Where the entry of a name stands, if it is an opened directory.
+fn opened_place(entries: &[(Component, Node)], name: &[u8]) -> Option<usize>
+    requires { AreOrdered (shape_of entries.now) }
+    ensures { MatchOption result (has_opened (child (shape_of entries.now) name.now) ≡ false)
+        (λ at. (position (has_name name.now) entries.now ≡ Some at)
+        × (has_opened (child (shape_of entries.now) name.now) ≡ true)) }
+{
+    match place_of(entries, name) {
+        Some(at) => match &entries[at].1 {
+            Node::Opened(_) => Some(at),
+            _ => None,
+        },
+        None => None,
+    }
+}
+
+/// Puts a node at a path below a directory. Takes memory for the names on the way.
+#[cycle(placing)]
+pub(crate) fn place(
+    alloc: Global,
+    dir: &mut Dir,
+    path: &Components<'_>,
+    node: Node,
+) -> Result<(), Memory>
+    requires { AreOrdered dir.old.entries }
+    ensures entries { OnOk result (dir.new.entries ≡ placed path.now (held node) dir.old.entries) }
+    ensures tree { OnOk result (path.now ≢ [] → dir.new.tree ≡ None) }
+{
+    let Some((name, rest)) = path.split_first() else {
+        return Ok(());
+    };
+    has_components(path);
+    dir.tree = None;
+    match rest.split_first() {
+        Some(_) => place_below(alloc, &mut dir.entries, name, &rest, node),
+        None => put_entry(alloc, &mut dir.entries, name, node),
+    }
+}
+
+// Puts a node at a path below an entry of a directory.
+#[cycle(placing)]
+fn place_below(
+    alloc: Global,
+    entries: &mut Vec<(Component, Node)>,
+    name: &[u8],
+    rest: &Components<'_>,
+    node: Node,
+) -> Result<(), Memory>
+    requires name { IsComponent name.now }
+    requires ordered { AreOrdered (shape_of entries.old.items) }
+    requires rest { rest.now ≢ [] }
+    ensures { OnOk result (shape_of entries.new.items
+        ≡ put_next (shape_of entries.old.items) name.now rest.now (held node)
+        (placed rest.now (held node) (entries_in (child (shape_of entries.old.items) name.now)))) }
+{
+    match opened_place(entries, name) {
+        Some(at) => place_inside(alloc, &mut entries[at].1, rest, node),
+        None => {
+            let mut below = Dir::empty(alloc);
+            place(alloc, &mut below, rest, node)?;
+            put_entry(alloc, entries, name, Node::Opened(below))
+        }
+    }
+}
+
+// Puts a node at a path below an opened directory.
+#[cycle(placing)]
+fn place_inside(
+    alloc: Global,
+    at: &mut Node,
+    rest: &Components<'_>,
+    node: Node,
+) -> Result<(), Memory>
+    requires opened { is_opened (held at.old).what ≡ true }
+    requires ordered { AreOrdered (held at.old).inside }
+    requires rest { rest.now ≢ [] }
+    ensures { OnOk result (held at.new
+        ≡ new_directory (placed rest.now (held node) (held at.old).inside)) }
+{
+    match at {
+        Node::Opened(dir) => place(alloc, dir, rest, node),
+        _ => Ok(()),
+    }
+}

@@ -1,0 +1,86 @@
+//! What stands at a path of a stored tree, read from a table.
+
+ghost use Rattle.std.specs.Prelude.{◌≡◌, ◌≤◌, ◌+◌, ◌∷◌, length, IfOk};
+ghost use Rattle.std.specs.Option.{option_map};
+ghost use Rattle.git_objects.specs.Parts.{entries_of};
+ghost use Rattle.file_maps.specs.ByComponent.{what};
+ghost use Rattle.tenant_tables.specs.Objects.{objects};
+ghost use Rattle.tenant_tables.specs.StandsIn.{StandsIn};
+ghost use Rattle.file_maps.specs.Edits.{cut};
+ghost use Rattle.file_maps.specs.StoredFiles.{stored_files};
+ghost use Rattle.file_maps.specs.StoredTree.{ListsTree};
+ghost use Rattle.tree_build.specs.Standing.{stands_at, row_named, IsRow, IsFoundAt};
+
+use content_pool::Pool;
+use file_maps::{Entry, read_entries};
+use git_objects::{FileMode, Memory, Name, Naming, TreeEntry};
+use git_paths::Components;
+use std::alloc::Global;
+use tenant_tables::Table;
+
+// What stands under a name among the entries of a tree.
+fn row_named(rows: &[TreeEntry<'_>], name: &[u8]) -> Option<Entry>
+    ensures { result ≡ option_map what (row_named (entries_of rows.now) name.now) }
+{
+    for row in rows {
+        if row.name == name {
+            return Some(Entry {
+                mode: row.mode,
+                name: row.id,
+            });
+        }
+    }
+    None
+}
+
+// What the stored tree of this name has under the name of an entry.
+fn row_at<N: Naming>(
+    alloc: Global,
+    pool: &Pool<N>,
+    table: &Table,
+    tree: &Name,
+    name: &[u8],
+) -> Result<Option<Entry>, Memory>
+    requires stands { StandsIn N.digest_of pool.now table.now.entries }
+    requires tree { ListsTree (objects pool.now table.now.entries) tree.now
+        (stored_files (objects pool.now table.now.entries) tree.now) }
+    ensures { IfOk result (λ o. IsRow (objects pool.now table.now.entries) tree.now name.now o) }
+{
+    let rows = read_entries(alloc, pool, table, tree)?;
+    Ok(row_named(&rows, name))
+}
+
+/// What stands in the stored tree of this name at a path of this first component. The trees that
+/// are read are counted.
+#[cycle(reading)]
+pub(crate) fn stored_entry<N: Naming>(
+    alloc: Global,
+    pool: &Pool<N>,
+    table: &Table,
+    tree: &Name,
+    name: &[u8],
+    rest: &Components<'_>,
+    reads: &mut u64,
+) -> Result<Option<Entry>, Memory>
+    requires stands { StandsIn N.digest_of pool.now table.now.entries }
+    requires tree { ListsTree (objects pool.now table.now.entries) tree.now
+        (stored_files (objects pool.now table.now.entries) tree.now) }
+    ensures entry { IfOk result (λ o. o ≡ stands_at N.digest_of
+        (stored_files (objects pool.now table.now.entries) tree.now) (name.now ∷ rest.now)) }
+    ensures found { IfOk result (λ o. IsFoundAt (objects pool.now table.now.entries) o
+        (cut (name.now ∷ rest.now) (stored_files (objects pool.now table.now.entries) tree.now))) }
+    ensures counted { reads.old ≤ reads.new }
+    ensures bounded { reads.new ≤ reads.old + (1 + length rest.now) }
+{
+    *reads = reads.saturating_add(1);
+    let Some(row) = row_at(alloc, pool, table, tree, name)? else {
+        return Ok(None);
+    };
+    match rest.split_first() {
+        None => Ok(Some(row)),
+        Some((next, left)) => match row.mode {
+            FileMode::Directory => stored_entry(alloc, pool, table, &row.name, next, &left, reads),
+            _ => Ok(None),
+        },
+    }
+}

@@ -1,0 +1,220 @@
+//! Storing the trees at a path of a branch. What is on the way there and was not opened is read,
+//! and stays as it is.
+
+ghost use Rattle.std.specs.Prelude.{◌≡◌, ◌≤◌, ◌+◌, [], ◌∷◌, None, Some, IfOk};
+ghost use Rattle.tenant_tables.specs.Objects.{objects};
+ghost use Rattle.tenant_tables.specs.StandsIn.{StandsIn, LeavesOthers};
+ghost use Rattle.file_maps.specs.FileMap.{Path, Listed};
+ghost use Rattle.file_maps.specs.Edits.{cut, files_at};
+ghost use Rattle.file_maps.specs.Trees.{nested_trees, tree_id, tree_name, file_of};
+ghost use Rattle.file_maps.specs.Storable.{AreStorable};
+ghost use Rattle.file_maps.specs.StoredFiles.{stored_files};
+ghost use Rattle.file_maps.specs.StoredTree.{ListsTree};
+ghost use Rattle.file_maps.specs.Storing.{StoresTrees, HasRoomBeside};
+ghost use Rattle.tree_build.specs.Shape.{shape_files, held_files};
+ghost use Rattle.tree_build.specs.Branch.{IsDirectory, IsShape, IsHeld, IsBranch, files_in, root_name, known_tree, closed_along, closed_from, Reads};
+ghost use Rattle.tree_build.specs.Nodes.{held, shape_of};
+ghost use Rattle.tree_build.specs.Standing.{IsFoundAt};
+ghost use Rattle.tree_build.specs.Stores.{bare, bare_held};
+
+use crate::component::Component;
+use crate::dir::Node;
+use crate::files::Files;
+use crate::names::place_of;
+use crate::reading::stored_entry;
+use crate::storing::store_dir;
+use crate::sums::no_files;
+use content_pool::Pool;
+use file_maps::{Entry, Fault, add_entries};
+use git_objects::{FileMode, Name, Naming};
+use git_paths::{Components, Path};
+use std::alloc::Global;
+use tenant_tables::Table;
+
+// Stores the tree without entries.
+fn store_none<N: Naming>(
+    alloc: Global,
+    pool: &mut Pool<N>,
+    table: &mut Table,
+) -> Result<Name, Fault>
+    requires stands { StandsIn N.digest_of pool.old table.old.entries }
+    requires room { HasRoomBeside pool.old table.old.entries }
+    ensures { StoresTrees result N.digest_of pool.old table.old pool.new table.new
+        ([] ∷ []) (tree_name N.digest_of []) }
+{
+    add_entries(alloc, pool, table, &[], no_files())
+}
+
+// The tree of what was found in a stored tree, which is stored too.
+fn store_found<N: Naming>(
+    alloc: Global,
+    pool: &mut Pool<N>,
+    table: &mut Table,
+    found: Option<Entry>,
+) -> Result<Name, Fault>
+    requires stands { StandsIn N.digest_of pool.old table.old.entries }
+    requires room { HasRoomBeside pool.old table.old.entries }
+    ensures { (files : Listed) → IsFoundAt (objects pool.old table.old.entries) found files
+        → StoresTrees result N.digest_of pool.old table.old pool.new table.new
+        (nested_trees N.digest_of files) (tree_id N.digest_of files) }
+{
+    match found {
+        Some(entry) => match entry.mode {
+            FileMode::Directory => Ok(entry.name),
+            _ => store_none(alloc, pool, table),
+        },
+        None => store_none(alloc, pool, table),
+    }
+}
+
+// Stores the tree of what is held at an entry.
+fn store_here<N: Naming>(
+    alloc: Global,
+    pool: &mut Pool<N>,
+    table: &mut Table,
+    node: &mut Node,
+) -> Result<Name, Fault>
+    requires stands { StandsIn N.digest_of pool.old table.old.entries }
+    requires room { HasRoomBeside pool.old table.old.entries }
+    requires sound { IsHeld (objects pool.old table.old.entries) (held node.old) }
+    requires storable { let files = held_files (stored_files (objects pool.old table.old.entries))
+        (held node.old) in
+        file_of files ≡ None → AreStorable files }
+    ensures stores { let files = held_files (stored_files (objects pool.old table.old.entries))
+        (held node.old) in
+        StoresTrees result N.digest_of pool.old table.old pool.new table.new
+        (nested_trees N.digest_of files) (tree_id N.digest_of files) }
+    ensures same { bare_held (held node.new) ≡ bare_held (held node.old) }
+    ensures sound { IsHeld (objects pool.new table.new.entries) (held node.new) }
+    ensures named { IsDirectory (held node.old).what → IfOk result
+        (λ id. known_tree (held node.new).what ≡ Some id) }
+{
+    match node {
+        Node::File(_) => store_none(alloc, pool, table),
+        Node::Unopened(tree) => Ok(*tree),
+        Node::Opened(dir) => store_dir(alloc, pool, table, dir),
+    }
+}
+
+// Stores the trees at a path of what is held at an entry.
+#[cycle(walking)]
+fn store_path<N: Naming>(
+    alloc: Global,
+    pool: &mut Pool<N>,
+    table: &mut Table,
+    node: &mut Node,
+    path: &Components<'_>,
+    reads: &mut u64,
+) -> Result<Name, Fault>
+    requires stands { StandsIn N.digest_of pool.old table.old.entries }
+    requires room { HasRoomBeside pool.old table.old.entries }
+    requires sound { IsHeld (objects pool.old table.old.entries) (held node.old) }
+    requires storable { let files = held_files (stored_files (objects pool.old table.old.entries))
+        (held node.old) in
+        file_of files ≡ None → AreStorable files }
+    ensures stores { let files = cut path.now (held_files
+        (stored_files (objects pool.old table.old.entries)) (held node.old)) in
+        StoresTrees result N.digest_of pool.old table.old pool.new table.new
+        (nested_trees N.digest_of files) (tree_id N.digest_of files) }
+    ensures same { bare_held (held node.new) ≡ bare_held (held node.old) }
+    ensures sound { IsHeld (objects pool.new table.new.entries) (held node.new) }
+    ensures named { path.now ≡ [] → IsDirectory (held node.old).what
+        → IfOk result (λ id. known_tree (held node.new).what ≡ Some id) }
+    ensures counted { reads.old ≤ reads.new }
+    ensures bounded { reads.new ≤ reads.old + closed_from (held node.old) path.now }
+{
+    let Some((name, rest)) = path.split_first() else {
+        return store_here(alloc, pool, table, node);
+    };
+    match node {
+        Node::File(_) => store_none(alloc, pool, table),
+        Node::Unopened(tree) => match stored_entry(alloc, pool, table, tree, name, &rest, reads) {
+            Ok(found) => store_found(alloc, pool, table, found),
+            Err(_) => Err(Fault::Memory),
+        },
+        Node::Opened(dir) => store_below(alloc, pool, table, &mut dir.entries, name, &rest, reads),
+    }
+}
+
+// Stores the trees at a path of what stands in a directory.
+#[cycle(walking)]
+#[tactic(auto, using(crate::proofs::Searched::ordered))]
+fn store_below<N: Naming>(
+    alloc: Global,
+    pool: &mut Pool<N>,
+    table: &mut Table,
+    entries: &mut Vec<(Component, Node)>,
+    name: &[u8],
+    rest: &Components<'_>,
+    reads: &mut u64,
+) -> Result<Name, Fault>
+    requires stands { StandsIn N.digest_of pool.old table.old.entries }
+    requires room { HasRoomBeside pool.old table.old.entries }
+    requires sound { IsShape (objects pool.old table.old.entries) (shape_of entries.old.items) }
+    requires storable { AreStorable (shape_files (stored_files
+        (objects pool.old table.old.entries)) (shape_of entries.old.items)) }
+    ensures stores { let files = cut (name.now ∷ rest.now)
+        (shape_files (stored_files (objects pool.old table.old.entries))
+        (shape_of entries.old.items)) in
+        StoresTrees result N.digest_of pool.old table.old pool.new table.new
+        (nested_trees N.digest_of files) (tree_id N.digest_of files) }
+    ensures same { bare (shape_of entries.new.items) ≡ bare (shape_of entries.old.items) }
+    ensures sound { IsShape (objects pool.new table.new.entries) (shape_of entries.new.items) }
+    ensures counted { reads.old ≤ reads.new }
+    ensures bounded { reads.new ≤ reads.old + closed_along (shape_of entries.old.items)
+        (name.now ∷ rest.now) }
+{
+    match place_of(entries, name) {
+        Some(place) => store_path(alloc, pool, table, &mut entries[place].1, rest, reads),
+        None => store_none(alloc, pool, table),
+    }
+}
+
+impl Files {
+    /// Stores the trees of the files at or below a path, children first and in the order of their
+    /// entries, the tree at the path itself last, and answers its name: git-write-tree(1).
+    ///
+    /// Where no file is below the path, or one stands at it, that is the empty tree. A tree that
+    /// the table has is found and not added again, and directories that are stored trees as they
+    /// stand are not looked into. `Fault::Limit` (25) where a tree's contents are too long or the
+    /// table is full, else `Fault::NameCollision` (24) where the table has another object of a
+    /// tree's name, in the order of storing; `Fault::Memory` (90) where a growth was refused. Of the
+    /// trees, only some before the refused one then stand after the committed prefix, and nothing
+    /// else has changed. The files are unchanged in any case, what was opened stays opened, and the
+    /// root, where it was stored, is known by its name.
+    ///
+    /// The pool and the table are those that the value stands in, and nobody else holds a content
+    /// 2^64 - 2 times.
+    pub fn store<N: Naming>(
+        &mut self,
+        pool: &mut Pool<N>,
+        table: &mut Table,
+        at: &Path,
+    ) -> Result<Name, Fault>
+        requires stands { StandsIn N.digest_of pool.old table.old.entries }
+        requires room { HasRoomBeside pool.old table.old.entries }
+        requires branch { IsBranch (objects pool.old table.old.entries) self.old }
+        ensures stores { let files = files_at (files_in (objects pool.old table.old.entries)
+            self.old) at.now in
+            StoresTrees result N.digest_of pool.old table.old pool.new table.new
+            (nested_trees N.digest_of files) (tree_id N.digest_of files) }
+        ensures stands { StandsIn N.digest_of pool.new table.new.entries }
+        ensures room { HasRoomBeside pool.new table.new.entries }
+        ensures others { LeavesOthers pool.old table.old.entries pool.new table.new.entries }
+        ensures branch { IsBranch (objects pool.new table.new.entries) self.new }
+        ensures files { files_in (objects pool.new table.new.entries) self.new
+            ≡ files_in (objects pool.old table.old.entries) self.old }
+        ensures named { at.now ≡ [] → IfOk result (λ id. root_name self.new ≡ Some id) }
+        ensures reads { Reads self.old self.new (closed_from self.old.root at.now) }
+        ensures open { (q : Path) → closed_from self.new.root q ≤ closed_from self.old.root q }
+    {
+        store_path(
+            self.alloc,
+            pool,
+            table,
+            &mut self.root,
+            &at.components(),
+            &mut self.reads,
+        )
+    }
+}

@@ -1,0 +1,78 @@
+//! The summary of a tree from those of its directories.
+
+ghost use Rattle.std.specs.Prelude.{◌≡◌, ◌≤◌, ◌+◌};
+ghost use Rattle.git_objects.specs.Parts.{entry_of, entries_of};
+ghost use Rattle.tenant_tables.specs.Trees.{no_files, below, one_file, both, entry_summary, tree_summary};
+ghost use Rattle.tree_build.specs.Sums.{IsSmall};
+
+use git_objects::{FileMode, TreeEntry};
+use tenant_tables::{Summary, Table};
+
+/// The summary of the tree without entries.
+pub(crate) fn no_files() -> Summary
+    ensures { result ≡ no_files }
+{
+    Summary {
+        files: 0,
+        depth: 0,
+        longest: 0,
+    }
+}
+
+pub(crate) fn one_file(name: &[u8]) -> Summary
+    requires { IsSmall (one_file name.now) }
+    ensures { result ≡ one_file name.now }
+{
+    Summary {
+        files: 1,
+        depth: 1,
+        longest: name.len() as u32,
+    }
+}
+
+pub(crate) fn below(name: &[u8], tree: Summary) -> Summary
+    requires { IsSmall (below name.now tree) }
+    ensures { result ≡ below name.now tree }
+{
+    if tree.files == 0 {
+        return no_files();
+    }
+    Summary {
+        files: tree.files,
+        depth: 1 + tree.depth,
+        longest: name.len() as u32 + 1 + tree.longest,
+    }
+}
+
+pub(crate) fn both(first: Summary, second: Summary) -> Summary
+    requires { IsSmall (both first second) }
+    ensures { result ≡ both first second }
+{
+    Summary {
+        files: first.files + second.files,
+        depth: first.depth.max(second.depth),
+        longest: first.longest.max(second.longest),
+    }
+}
+
+fn row_summary(table: &Table, row: &TreeEntry<'_>) -> Summary
+    requires { IsSmall (entry_summary table.now.entries (entry_of row.now)) }
+    ensures { result ≡ entry_summary table.now.entries (entry_of row.now) }
+{
+    match row.mode {
+        FileMode::Directory => below(row.name, table.summary(&row.id).unwrap_or(no_files())),
+        _ => one_file(row.name),
+    }
+}
+
+/// The summary of the tree with these entries, whose directories stand in the table.
+pub(crate) fn summary_of(table: &Table, rows: &[TreeEntry<'_>]) -> Summary
+    requires { IsSmall (tree_summary table.now.entries (entries_of rows.now)) }
+    ensures { result ≡ tree_summary table.now.entries (entries_of rows.now) }
+{
+    let mut sum = no_files();
+    for row in rows {
+        sum = both(sum, row_summary(table, row));
+    }
+    sum
+}

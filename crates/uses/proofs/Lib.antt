@@ -1,0 +1,4 @@
+mod Apart
+mod Checked
+mod Counted
+mod Outlined
