@@ -14,7 +14,7 @@ STEP = re.compile(r"(open|feed|end|import|bytes|first|rest|ask|restart)(?: (\S+)
 
 
 def bytes_of(line):
-    """The bytes of a line behind its `<` or `>`: with the line end, but where a backslash stands last."""
+    """The bytes of a line after its `<` or `>`: with the line end, but where a backslash stands last."""
     text = line[2:]
     is_cut = re.search(r"(?<!\\)(\\\\)*\\$", text)
     text = text[:-1] if is_cut else text + "\n"
@@ -69,7 +69,7 @@ class Case:
         return range(len(streams[0]) + 1) if streams else [0]
 
     def rows(self, cut, own):
-        """Its rows, with the stream cut at this place and `own` behind the first part of each tenant's name."""
+        """Its rows, with the stream cut at this place and `own` after the first part of each tenant's name."""
         streams = [it.given for it in self.steps if it.word == "first"]
         found = []
         for step in self.steps:

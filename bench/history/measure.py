@@ -1,5 +1,5 @@
 """Imports histories by the program and by git fast-import, in one run, and prints the best of some rounds and the most
-memory of each: measure.py PROGRAM [ROUNDS [COMMITS]]. Behind each history stands a get-mark of every commit, and the two
+memory of each: measure.py PROGRAM [ROUNDS [COMMITS]]. After each history stands a get-mark of every commit, and the two
 have to print the same. COMMITS are those of the first histories in place of 5,000."""
 import os
 import re

@@ -16,19 +16,19 @@ def data_end(stream, at, said):
 
 
 def item_ends(stream):
-    """The place behind each item, up to the first `done`. A comment is no item, nor is a line end directly behind a data."""
-    ends, at, behind_data = [], 0, False
+    """The place after each item, up to the first `done`. A comment is no item, nor is a line end directly after a data."""
+    ends, at, after_data = [], 0, False
     while True:
         end = stream.find(b"\n", at)
         if end < 0:
             return ends
-        line, skipped = stream[at:end], behind_data
-        at, behind_data = end + 1, False
+        line, skipped = stream[at:end], after_data
+        at, after_data = end + 1, False
         if line.startswith(b"#") or (not line and skipped):
             continue
         said = DATA.match(line)
         if said:
-            at, behind_data = data_end(stream, at, said), True
+            at, after_data = data_end(stream, at, said), True
             if at is None:
                 return ends
         ends.append(at)

@@ -60,7 +60,7 @@ def parts(path):
     numbers = count.to_bytes(8, "big") + bytes(text.take(8 * count))
     refs = [(bytes(text.sized()), text.number()) for _ in range(text.number())]
     head = bytes(text.sized())
-    assert len(text.bytes) - text.place == 20, "more or less behind the tenant than a digest"
+    assert len(text.bytes) - text.place == 20, "more or less after the tenant than a digest"
     return objects, front, numbers, refs, head
 
 

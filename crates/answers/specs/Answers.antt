@@ -16,7 +16,7 @@ use Rattle.answers.specs.Faults.{and_then, resolved_or}
 use Rattle.answers.specs.Queries.{query_of}
 use Rattle.answers.specs.Printed.{line, name_line, shortest_prefix, object_text, tree_lines, log_lines, ref_lines}
 
--- What an expression names, and the tree that it is peeled to.
+-- The object that an expression names, and the tree that it is peeled to.
 abbrev pub object_asked : Repository → Expression → Result (List ℕ) Fault
 object_asked repository expression =
     resolved_or (named_by repository.objects repository.refs expression)

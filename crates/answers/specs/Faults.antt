@@ -27,7 +27,7 @@ abbrev pub or_fault : {A : Type 0} → Fault → Option A → Result A Fault
 or_fault e None = Err e
 or_fault e (Some value) = Ok value
 
--- What refuses an expression. A malformed one makes a malformed query.
+-- The refusal of an expression, as that of a query. A malformed expression makes a malformed query.
 abbrev pub resolving_fault : RevisionFault → Fault
 resolving_fault revision_fault.Malformed = fault.MalformedQuery
 resolving_fault revision_fault.WrongKind = fault.WrongKind
@@ -35,7 +35,7 @@ resolving_fault revision_fault.UnknownRevision = fault.UnknownRevision
 resolving_fault revision_fault.Ambiguous = fault.Ambiguous
 resolving_fault revision_fault.Memory = fault.Memory
 
--- What refuses an export.
+-- The refusal of an export, as that of a query.
 abbrev pub exporting_fault : ExportFault → Fault
 exporting_fault export_fault.Limit = fault.Limit
 exporting_fault export_fault.Memory = fault.Memory
@@ -49,8 +49,8 @@ abbrev pub Gives : {A : Type 0} → Result A Fault → Result A Fault → Type 0
 Gives (Ok value) defined = defined ≡ Ok value
 Gives (Err e) defined = e ≢ fault.Memory → defined ≡ Err e
 
--- The text that is defined was appended; or what refuses it was answered. Out of memory may stand
--- in place of either.
+-- The defined text was appended, or the defined refusal was answered. Out of memory may be answered
+-- instead of either.
 abbrev pub Prints : Result (List ℕ) Fault → List ℕ → List ℕ → Result Unit Fault → Type 0
 Prints (Ok text) old new (Ok u) = new ≡ old ++ text
 Prints (Ok text) old new (Err e) = e ≡ fault.Memory

@@ -29,8 +29,8 @@ name_line id = line (encode_lower id)
 abbrev pub begins_no_other : List Object → List ℕ → List ℕ → Bool
 begins_no_other os id prefix = list_all (λ o. bytes_eq o.id id || not (begins prefix o.id)) os
 
--- The shortest prefix of a name, of 4 to 40 digits, that begins no other: with all 40 it begins
--- none.
+-- The shortest prefix of a name, of 4 to 40 digits, that begins no other: all 40 digits begin no
+-- other.
 unfoldable pub shortest_prefix : List Object → List ℕ → List ℕ
 shortest_prefix os id = let digits = encode_lower id in
     let prefixes = map (λ n. take n digits) (range_with_len 4 37) in

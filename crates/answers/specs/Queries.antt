@@ -1,9 +1,10 @@
--- Queries: a word and perhaps, after a space, what it asks of; git-rev-parse(1), git-cat-file(1),
+-- Queries: a word and perhaps, after a space, its argument; git-rev-parse(1), git-cat-file(1),
 -- git-ls-tree(1), git-log(1), git-show-ref(1), git-fast-export(1).
 use Rattle.std.specs.Prelude.{ℕ, ◌+◌, ◌==◌, nat_lt, Bool, if◌then◌else◌, List, length, drop, position, Option, None, Some, Result, Err, codes}
 use Rattle.std.specs.Option.{option_map}
 use Rattle.std.specs.List.{before_first}
 use Rattle.std.specs.Str.{bytes_eq}
+use Rattle.git_model.specs.Limits.{query_limit}
 use Rattle.revisions.specs.declared.commit_range.Range.{Range}
 use Rattle.revisions.specs.Expressions.{Expression}
 use Rattle.revisions.specs.ExpressionReading.{expression_of, range_of}
@@ -15,11 +16,7 @@ use Rattle.answers.specs.declared.fault.Fault.{Fault}
 use Rattle.answers.specs.declared.fault.Fault.TheVariants as fault
 use Rattle.answers.specs.Faults.{and_then, or_fault}
 
--- A query has at most so many bytes.
-abbrev pub query_limit : ℕ
-query_limit = 8192
-
--- What a query asks of stands after its first space, where it has one.
+-- The argument of a query is what is after its first space, where it has one.
 abbrev pub is_space : ℕ → Bool
 is_space byte = byte == 32
 
@@ -39,7 +36,7 @@ word_of word =
     else if bytes_eq word (codes "export") then Some words.Export
     else None
 
--- A word that asks of a revision, one that asks of a range, and one that stands alone.
+-- A word that takes a revision, one that takes a range, and one that takes nothing.
 abbrev pub of_revision : (Expression → Query) → Option (List ℕ) → Option Query
 of_revision query None = None
 of_revision query (Some text) = option_map query (expression_of text)
@@ -52,7 +49,7 @@ abbrev pub alone : Query → Option (List ℕ) → Option Query
 alone query None = Some query
 alone query (Some text) = None
 
--- What each word makes of what stands after it.
+-- The query of each word with its argument.
 abbrev pub query_by : Word → Option (List ℕ) → Option Query
 query_by words.RevParse = of_revision RevParse
 query_by words.Abbrev = of_revision Abbrev

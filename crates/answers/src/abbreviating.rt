@@ -27,8 +27,8 @@ fn begins_no_other<N: Naming>(objects: &Objects<'_, N>, id: &Name, digits: usize
     }
 }
 
-/// How many digits the shortest prefix of a name has that begins no other name of these objects: 4
-/// to 40. Takes no memory.
+/// The number of digits, 4 to 40, of the shortest prefix of a name that begins no other name of
+/// these objects. Takes no memory.
 #[tactic(auto, unfolding(crate::specs::Printed::shortest_prefix))]
 pub fn shortest_prefix<N: Naming>(objects: &Objects<'_, N>, id: &Name) -> usize
     ensures prefix { AreObjects N.digest_of objects.now

@@ -223,7 +223,7 @@ fn tell_or_nothing<N: Naming>(
     told
 }
 
-// Answers a query that was read on the committed objects, apart from the function that owns it.
+// Answers a query on the committed objects. Separate from the function that owns the query.
 fn tell_committed<N: Naming>(
     alloc: Global,
     pool: &Pool<N>,
@@ -262,10 +262,10 @@ fn tell_committed<N: Naming>(
 ///
 /// `Fault::MalformedQuery` (41) above 8,192 bytes, else `Fault::UnknownQuery` (40), else
 /// `Fault::MalformedQuery` (41); then `Fault::WrongKind` (15), `Fault::UnknownRevision` (16) and
-/// `Fault::Ambiguous` (17) in the order in which expressions are decided; `Fault::Limit` (25) where
-/// there are too many refs to be exported (export_text). Takes memory for the answer, to read what
-/// it passes, and for the commits that `~<n>` meets; `Fault::Memory` (90) where there is none.
-/// After a refusal `out` is unchanged.
+/// `Fault::Ambiguous` (17) in the order in which the parts of an expression are decided;
+/// `Fault::Limit` (25) where there are too many refs to be exported (export_text). Takes memory for
+/// the answer, to read the objects on the way, and for the commits that `~<n>` passes;
+/// `Fault::Memory` (90) where there is none. After a refusal `out` is unchanged.
 ///
 /// The pool is the one that the table stands in. The answer is the defined one where the committed
 /// objects are good (AreObjects of git_model).
@@ -290,12 +290,12 @@ pub fn answer<N: Naming>(
     answered
 }
 
-/// `answer` for a caller that asks often: it keeps a chain of first parents, along which `~<n>` goes
-/// without reading the commits that the query before it met.
+/// `answer` for a caller that asks often: the caller keeps a chain of first parents, and `~<n>`
+/// goes along it without reading again the commits of the query before.
 ///
 /// The answer and the refusals are those of `answer` where the chain is one of the committed
-/// objects, be it empty. It stays one of theirs, and has the commits that this query met. Who
-/// changes the objects clears it.
+/// objects, as the empty chain is. The chain stays one of theirs, and then has the commits that
+/// this query passed. Clear it when the objects change.
 pub fn answer_along<N: Naming>(
     alloc: Global,
     pool: &Pool<N>,

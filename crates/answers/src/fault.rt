@@ -17,7 +17,7 @@ pub enum Fault {
     /// It names nothing that the repository has, 16.
     #[error("unknown revision")]
     UnknownRevision,
-    /// Several object names begin so, 17.
+    /// Several object names begin with the digits, 17.
     #[error("ambiguous abbreviation")]
     Ambiguous,
     /// There are too many refs to be exported, 25.
@@ -29,7 +29,7 @@ pub enum Fault {
     /// The query is too long, or what stands after its word is not what the word asks for, 41.
     #[error("malformed query")]
     MalformedQuery,
-    /// A growth was refused, 90.
+    /// An allocation failed, 90.
     #[error("out of memory")]
     Memory,
 }

@@ -44,8 +44,8 @@ fn append_content(id: Name, kind: Kind, contents: &[u8], out: &mut Vec<u8>) -> R
     append_sized(id, kind_word(kind), contents, out)
 }
 
-/// Appends an object: its name, kind and size on a line, and its contents with a line end. What is
-/// not there is printed as an empty blob.
+/// Appends an object: its name, kind and size on a line, and its contents with a line end. A name
+/// without an object is printed as an empty blob.
 pub fn append_object<N: Naming>(
     objects: &Objects<'_, N>,
     id: Name,

@@ -24,7 +24,7 @@ fn place_of_space(text: &[u8]) -> Option<usize>
     text.iter().position(|byte| *byte == b' ')
 }
 
-// What stands before the first space, and what stands after it, where there is one.
+// What is before the first space and, where there is one, what is after it.
 fn split_at_space(text: &[u8]) -> (&[u8], Option<&[u8]>)
     ensures before { result.0.now ≡ before_first is_space text.now }
     ensures after { option_map (λ rest. rest.now) result.1 ≡ after_space text.now }
@@ -50,8 +50,8 @@ fn read_log<'a>(alloc: Global, text: &'a [u8]) -> Result<Query<'a>, Fault>
     Ok(Query::Log(range))
 }
 
-// The word that a query begins with, where it asks of an object. The others are apart, since the
-// proof of so many comparisons grows faster than their number.
+// The word that a query begins with, where it asks for an object. The other words are in a function
+// of their own, since the proof of so many comparisons grows faster than their number.
 #[tactic(auto, unfolding(crate::specs::Queries::word_of))]
 fn word_of(word: &[u8]) -> Option<Word>
     ensures { result ≡ word_of word.now }
@@ -88,7 +88,7 @@ fn other_word_of(word: &[u8]) -> Option<Word>
     }
 }
 
-// The query that a word alone is.
+// The query of a word without an argument.
 fn alone<'a>(word: Word) -> Result<Query<'a>, Fault>
     ensures { Gives result (or_fault fault.MalformedQuery (query_by word None)) }
 {
@@ -104,7 +104,7 @@ fn alone<'a>(word: Word) -> Result<Query<'a>, Fault>
     }
 }
 
-// The query that a word and a text after its space are.
+// The query of a word and the text after its space.
 fn read_asking<'a>(alloc: Global, word: Word, text: &'a [u8]) -> Result<Query<'a>, Fault>
     ensures { Gives result (or_fault fault.MalformedQuery (query_by word (Some text.now))) }
 {
@@ -120,7 +120,7 @@ fn read_asking<'a>(alloc: Global, word: Word, text: &'a [u8]) -> Result<Query<'a
     }
 }
 
-// The query that a word and what stands after it are.
+// The query of a word and what is after it.
 fn read_after<'a>(alloc: Global, word: Word, rest: Option<&'a [u8]>) -> Result<Query<'a>, Fault>
     ensures { Gives result (or_fault fault.MalformedQuery
         (query_by word (option_copied rest.entry))) }
@@ -131,12 +131,12 @@ fn read_after<'a>(alloc: Global, word: Word, rest: Option<&'a [u8]>) -> Result<Q
     }
 }
 
-/// Reads a query: a word, and after its first space what it asks of.
+/// Reads a query: a word and, after the first space, its argument.
 ///
-/// `rev-parse`, `abbrev`, `cat` and `ls` ask of an expression, `log` of a range; `refs`, `head` and
-/// `export` stand alone. `Fault::MalformedQuery` (41) above 8,192 bytes, else `Fault::UnknownQuery`
-/// (40) where no query has this word, else `Fault::MalformedQuery` (41) where what stands after the
-/// word is not what it asks for. Takes memory for what an expression has after its base;
+/// `rev-parse`, `abbrev`, `cat` and `ls` take an expression, and `log` takes a range; `refs`,
+/// `head` and `export` take nothing. `Fault::MalformedQuery` (41) above 8,192 bytes, else
+/// `Fault::UnknownQuery` (40) where no query has this word, else `Fault::MalformedQuery` (41) where
+/// the argument is not what the word takes. Takes memory for the suffixes of an expression;
 /// `Fault::Memory` (90) where there is none. Nothing is looked up.
 #[tactic(auto, unfolding(crate::specs::Queries::query_of))]
 pub fn read_query<'a>(alloc: Global, text: &'a [u8]) -> Result<Query<'a>, Fault>

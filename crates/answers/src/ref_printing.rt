@@ -15,8 +15,8 @@ fn append_ref(ref_name: &[u8], target: Name, out: &mut Vec<u8>) -> Result<(), Me
     append_parts(&[&digits, b" ", ref_name, b"\n"], out)
 }
 
-/// Appends each ref on a line of its own, in the order of their bytes. After `Memory` (90) a piece
-/// of them may stand after what stood there.
+/// Appends each ref on a line of its own, in the order of their bytes. After `Memory` (90) a part
+/// of them may have been appended.
 pub fn append_refs(refs: &Refs, out: &mut Vec<u8>) -> Result<(), Memory>
     ensures written { OnOk result (out.new.items ≡ out.old.items ++ ref_lines refs.now) }
     ensures kept { take (length out.old.items) out.new.items ≡ out.old.items }

@@ -17,32 +17,32 @@ faults_of counted = counted.faults
 abbrev pub passed_of : {T : Type 0} → Counted T → ℕ
 passed_of counted = counted.passed
 
--- A count that goes up by n stays at its greatest, 2^64 - 1.
+-- A count that goes up by n stops at its greatest value, 2^64 - 1.
 abbrev pub counted_on : ℕ → ℕ → ℕ
 counted_on count n = min (count + n) (2 ^ 64 - 1)
 
--- A read failed where it answered an error.
+-- A read failed if it answered an error.
 abbrev pub faults_after_read : {E : Type 0} → ℕ → Result ℕ E → ℕ
 faults_after_read faults (Ok n) = faults
 faults_after_read faults (Err e) = counted_on faults 1
 
--- A write failed where it answered an error, and where it was given bytes and took none.
+-- A write failed if it answered an error, or if it was given bytes and took none.
 abbrev pub faults_after_write : {E : Type 0} → ℕ → List ℕ → Result ℕ E → ℕ
 faults_after_write faults [] (Ok n) = faults
 faults_after_write faults (byte ∷ bytes) (Ok zero) = counted_on faults 1
 faults_after_write faults (byte ∷ bytes) (Ok (suc n)) = faults
 faults_after_write faults bytes (Err e) = counted_on faults 1
 
--- The bytes that went through a read or a write are those that it says.
+-- A read or a write passes as many bytes as it answers.
 abbrev pub passed_after : {E : Type 0} → ℕ → Result ℕ E → ℕ
 passed_after passed (Ok n) = counted_on passed n
 passed_after passed (Err e) = passed
 
--- One call failed between two counts, and no other.
+-- Exactly one call failed between two counts.
 abbrev pub HasFault : ℕ → ℕ → Type 0
 HasFault old new = new ≡ counted_on old 1
 
--- Known bytes grew by a prefix of these.
+-- The known bytes grew by a prefix of the given ones.
 pub record AppendsFront (old new : Option (List ℕ)) (bytes : List ℕ) : Type 0 where
   pub front : List ℕ
   pub rest : List ℕ
@@ -69,7 +69,7 @@ seen known counted = record {
 abbrev pub IsWell : Device → Device → Type 0
 IsWell old new = new.faults ≡ old.faults
 
--- These bytes, the first ones that the reader had, were read.
+-- The given bytes were read. They were the next ones that the reader had.
 pub record HasRead (old new : Device) (bytes : List ℕ) : Type 0 where
   pub consumed : Consumes old.known new.known bytes
   pub passed : new.passed ≡ counted_on old.passed (length bytes)

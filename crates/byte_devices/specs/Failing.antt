@@ -1,5 +1,5 @@
--- Devices for tests that fail at a chosen call: what is inside, and the calls that go well before
--- that.
+-- Devices for tests that fail at a chosen call: the device inside, and how many calls succeed
+-- before that.
 use Rattle.std.specs.Prelude.{ℕ}
 use Rattle.byte_devices.specs.declared.failing_reader.FailingReader.{FailingReader}
 use Rattle.byte_devices.specs.declared.failing_writer.FailingWriter.{FailingWriter}

@@ -1,4 +1,4 @@
--- In reading order: what is counted, what reading says of it, and the devices for tests.
+-- In reading order: the counts, several reads in a row, and the devices for tests.
 pub mod Device
 pub mod Reading
 pub mod Failing

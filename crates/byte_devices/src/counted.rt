@@ -1,7 +1,7 @@
-//! A reader or a writer, with counts of its calls, of those that failed, and of the bytes.
+//! A reader or a writer with three counts: its calls, those that failed, and the bytes.
 //!
-//! A call that answers `Device` (68) takes one of these, so that the counts tell afterwards whether
-//! the device was to blame. The counts are the calls' own: nothing is assumed of the device inside.
+//! A call that can answer `Device` (68) takes one of these, so that the counts show afterwards
+//! whether the device failed. The counts assume nothing of the device inside.
 
 ghost use Rattle.std.specs.Prelude.{◌≡◌};
 ghost use Rattle.std.specs.Io.{ReadsAtMost, WritesAtMost};
@@ -11,7 +11,7 @@ ghost use Rattle.byte_devices.specs.Device.{device_of, calls_of, faults_of, pass
 use std::io;
 use std::io::{Read, Write};
 
-/// A reader or a writer around another one, `device`. Its counts begin at 0 and stay at 2^64 - 1.
+/// A reader or a writer around another one, `device`. Its counts begin at 0 and stop at 2^64 - 1.
 #[derive(Drop)]
 pub struct Counted<T> {
     device: T,
@@ -20,7 +20,7 @@ pub struct Counted<T> {
     passed: u64,
 }
 
-// A count goes up, and stays at its greatest.
+// Adds to a count, which stops at its greatest value.
 fn count_up(count: &mut u64, by: u64)
     ensures { count.new ≡ counted_on count.old by }
 {
@@ -28,7 +28,7 @@ fn count_up(count: &mut u64, by: u64)
 }
 
 impl<T> Counted<T> {
-    /// Takes a device of which nothing was counted yet.
+    /// Wraps a device, with all counts at 0. Takes no memory.
     pub fn new(device: T) -> Counted<T>
         ensures device { device_of result ≡ device }
         ensures calls { calls_of result ≡ 0 }
@@ -43,8 +43,7 @@ impl<T> Counted<T> {
         }
     }
 
-    /// How many calls of `read`, or of `write`, were made, those that failed among them. Takes no
-    /// memory.
+    /// How many calls of `read` or `write` were made, including those that failed. Takes no memory.
     pub fn calls(&self) -> u64
         ensures { result ≡ calls_of self.now }
     {
@@ -59,14 +58,14 @@ impl<T> Counted<T> {
         self.faults
     }
 
-    /// How many bytes went through, read or written. Takes no memory.
+    /// How many bytes were read or written. Takes no memory.
     pub fn passed(&self) -> u64
         ensures { result ≡ passed_of self.now }
     {
         self.passed
     }
 
-    /// The device inside.
+    /// The device inside. A call on it is not counted.
     pub fn device(&self) -> &T
         ensures { result.now ≡ device_of self.now }
     {
@@ -83,10 +82,11 @@ impl<T> Counted<T> {
 }
 
 impl<R: Read> Counted<R> {
-    /// One `read` of the device, with no second try. Its error counts as a fault, and the bytes
-    /// that it gave count as passed.
+    /// Calls `read` of the device once, and answers what it answers: the number of bytes that it
+    /// put at the front of `buf`, or its error. An error counts as a fault; the bytes count as
+    /// passed.
     pub fn read(&mut self, buf: &mut [u8]) -> io::Result<usize>
-        // What the device itself says of a read.
+        // What every reader ensures for a read.
         ensures bound { ReadsAtMost result buf.new }
         ensures bytes { ReadConsumes (R.remaining (device_of self.old))
             (R.remaining (device_of self.new)) result buf.new }
@@ -106,10 +106,11 @@ impl<R: Read> Counted<R> {
 }
 
 impl<W: Write> Counted<W> {
-    /// One `write` of the device, with no second try. Its error counts as a fault, and so does a
-    /// write that is given bytes and takes none. The bytes that it took count as passed.
+    /// Calls `write` of the device once, and answers what it answers: the number of bytes that it
+    /// took from the front of `buf`, or its error. An error counts as a fault, and so does a write
+    /// that is given bytes and takes none. The bytes that it took count as passed.
     pub fn write(&mut self, buf: &[u8]) -> io::Result<usize>
-        // What the device itself says of a write.
+        // What every writer ensures for a write.
         ensures bound { WritesAtMost result buf.now }
         ensures bytes { WriteAppends (W.contents (device_of self.old))
             (W.contents (device_of self.new)) result buf.now }

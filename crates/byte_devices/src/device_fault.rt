@@ -1,10 +1,11 @@
-//! The one refusal of calls that can fail by their device alone.
+//! The error of calls that fail only if their device fails.
 
 ghost use Rattle.std.specs.Prelude.{◌≡◌};
 
 use thiserror::Error;
 
-/// A reader or a writer answered an error, or took nothing of what it was given.
+/// A reader or a writer answered an error, or a writer took none of the bytes that it was given:
+/// 68.
 #[derive(Clone, Copy, Debug, PartialEq, Eq, Error)]
 #[error("a reader or a writer failed")]
 pub struct DeviceFault;
@@ -12,7 +13,7 @@ pub struct DeviceFault;
 const DEVICE: u16 = 68;
 
 impl DeviceFault {
-    /// The number of this refusal, 68.
+    /// The number of this fault, 68.
     pub fn code(self) -> u16
         ensures { result ≡ 68 }
     {

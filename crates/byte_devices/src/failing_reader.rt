@@ -1,5 +1,5 @@
-//! A reader for tests: it reads from another one until a call that fails, and each later call fails
-//! too.
+//! A reader for tests: it reads from another reader until a chosen call, which fails, as do all
+//! later calls.
 
 ghost use Rattle.std.specs.Prelude.{◌≡◌, ◌-◌, IsErr};
 ghost use Rattle.std.specs.Io.{ReadsAtMost};
@@ -9,7 +9,7 @@ ghost use Rattle.byte_devices.specs.Failing.{reader_of, reads_left};
 use std::io;
 use std::io::{ErrorKind, Read};
 
-/// A reader whose call `nth`, counted from 0, answers an error, and so does each later one.
+/// A reader that fails at its call `nth`, counted from 0, and at every later call.
 #[derive(Drop)]
 pub struct FailingReader<R> {
     reader: R,

@@ -1,5 +1,5 @@
-//! A writer for tests: it takes one byte a call until a call that fails, and each later call fails
-//! too.
+//! A writer for tests: it takes one byte a call until a chosen call, which fails, as do all later
+//! calls.
 
 ghost use Rattle.std.specs.Prelude.{◌≡◌, ◌-◌, ◌≤◌, IsErr, IfOk, take};
 ghost use Rattle.std.specs.Io.{WritesAtMost};
@@ -9,8 +9,8 @@ ghost use Rattle.byte_devices.specs.Failing.{writer_of, writes_left};
 use std::io;
 use std::io::{ErrorKind, Write};
 
-/// A writer that takes at most one byte a call. Its call `nth`, counted from 0, answers an error,
-/// and so does each later one.
+/// A writer that takes at most one byte a call. It fails at its call `nth`, counted from 0, and at
+/// every later call.
 #[derive(Drop)]
 pub struct FailingWriter<W> {
     writer: W,
@@ -18,7 +18,7 @@ pub struct FailingWriter<W> {
 }
 
 impl<W> FailingWriter<W> {
-    /// A writer that passes a byte of each of `nth` calls on to `writer` before it fails.
+    /// A writer that passes the first byte of each of `nth` calls on to `writer` before it fails.
     pub fn new(writer: W, nth: u64) -> FailingWriter<W>
         ensures writer { writer_of result ≡ writer }
         ensures left { writes_left result ≡ nth }
@@ -29,7 +29,7 @@ impl<W> FailingWriter<W> {
         }
     }
 
-    /// Gives back the writer with what it took.
+    /// Gives back the writer inside, with the bytes that it took.
     pub fn into_inner(self) -> W
         ensures { result ≡ writer_of self }
     {
@@ -61,7 +61,7 @@ impl<W: Write> Write for FailingWriter<W> {
     }
 }
 
-// The first byte, or nothing where there is none.
+// The first byte, or nothing if there is none.
 fn first_byte(buf: &[u8]) -> &[u8]
     ensures { result.now ≡ take 1 buf.now }
 {

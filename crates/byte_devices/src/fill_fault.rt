@@ -1,11 +1,26 @@
-//! Why a room was not filled.
+//! Why a buffer was not filled.
 
-/// Why a room was not filled. It has no number of its own: what the end of the input means is for
-/// the caller to say.
+ghost use Rattle.std.specs.Prelude.{◌≡◌};
+ghost use Rattle.byte_devices.specs.Reading.{fill_code};
+
+/// Why a buffer was not filled.
 #[derive(Clone, Copy, PartialEq, Eq)]
 pub enum FillFault {
-    /// The input ended before the room was full.
+    /// The input ended before the buffer was full: 51. A caller may decide that this is no fault,
+    /// or that it has another number: a pool file that is cut off is 62.
     Ended,
-    /// A call of the reader failed.
+    /// A call of the reader failed: 68.
     Failed,
+}
+
+impl FillFault {
+    /// The number of the fault: 51 input ended, 68 device.
+    pub fn code(self) -> u16
+        ensures { result ≡ fill_code self }
+    {
+        match self {
+            FillFault::Ended => 51,
+            FillFault::Failed => 68,
+        }
+    }
 }

@@ -1,4 +1,4 @@
-//! Reading as many bytes as are wanted.
+//! Fills a buffer from a counted reader.
 
 ghost use Rattle.std.specs.Prelude.{◌≡◌, length};
 ghost use Rattle.byte_devices.specs.Device.{device_of, seen};
@@ -8,12 +8,12 @@ use crate::counted::Counted;
 use crate::fill_fault::FillFault;
 use std::io::Read;
 
-/// Fills the room with the next bytes of the reader, in as many calls of `read` as it wants. Takes
-/// no memory.
+/// Fills the buffer `room` with the next bytes of the reader, in as many calls of `read` as the
+/// reader needs. Takes no memory.
 ///
-/// `FillFault::Ended` where the reader was at its end before that, `FillFault::Failed` where a call
-/// of it answered an error. What the room then has is left open; the reader's `passed` tells how
-/// many bytes were read.
+/// `FillFault::Ended` (51) if the input ended before the buffer was full, `FillFault::Failed` (68)
+/// if a call of `read` answered an error. The bytes in the buffer are then unspecified; the
+/// reader's `passed` shows how many were read.
 pub fn fill<R: Read>(reader: &mut Counted<R>, room: &mut [u8]) -> Result<(), FillFault>
     ensures fills { Fills (seen (R.remaining (device_of reader.old)) reader.old) result
         (seen (R.remaining (device_of reader.new)) reader.new) room.new }

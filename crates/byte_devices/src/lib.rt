@@ -1,8 +1,8 @@
-//! Readers and writers whose calls are counted, so that a call that fails can say whether the
-//! device was to blame.
+//! Counts the calls of readers and writers, so that the counts show whether the device caused an
+//! error.
 //!
-//! Bytes go out whole or as a prefix, and come in until a room is full, or with the cause why not.
-//! Nothing here knows what the bytes mean.
+//! `write_all` writes a whole text, or a prefix of it if a call fails. `fill` reads until a buffer
+//! is full, or answers why it could not. Nothing here knows what the bytes mean.
 #![tactic(auto)]
 
 mod counted;

@@ -1,4 +1,4 @@
-//! Writing whole texts to a counted writer.
+//! Writes whole texts to a counted writer.
 
 ghost use Rattle.std.specs.Prelude.{◌≡◌, OnOk, OnErr};
 ghost use Rattle.std.specs.Io.KnownBytes.{Appends};
@@ -8,11 +8,11 @@ use crate::counted::Counted;
 use crate::device_fault::DeviceFault;
 use std::io::Write;
 
-/// Writes all bytes, in as many calls of `write` as the writer wants. Takes no memory.
+/// Writes all bytes, in as many calls of `write` as the writer needs. Takes no memory.
 ///
-/// `DeviceFault` (68) where a call answered an error or took nothing; a prefix of the bytes then
-/// stands written, and one call failed: the writer's `faults` rose by one, or stand at their
-/// greatest.
+/// `DeviceFault` (68) if a call answered an error or took nothing. A prefix of the bytes is then
+/// written, and exactly one call failed: the writer's `faults` went up by one, unless they were at
+/// their greatest value.
 pub fn write_all<W: Write>(writer: &mut Counted<W>, bytes: &[u8]) -> Result<(), DeviceFault>
     ensures written { OnOk result (Appends (W.contents (device_of writer.old))
         (W.contents (device_of writer.new)) bytes.now) }

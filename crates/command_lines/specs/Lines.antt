@@ -51,7 +51,7 @@ said_with name rows pool =
 abbrev pub said_by : Text × List Row → Option Said
 said_by found = option_and_then (said_with found.0 found.1) (given found.1 (codes "pool"))
 
--- What the words say: what the subcommand does that `clap` finds in them.
+-- What the words say, by the subcommand that `clap` finds in them.
 abbrev pub said_in : List Text → Option Said
 said_in words = option_and_then said_by (subcommand_of gitpool words)
 
@@ -59,7 +59,7 @@ said_in words = option_and_then said_by (subcommand_of gitpool words)
 abbrev pub pool_word : Text → Text
 pool_word pool = codes "--pool=" ++ pool
 
--- Words that say it, whatever texts it has: nothing after `--` is an option (gitcli(7)).
+-- Words that say this, whatever its texts are: nothing after `--` is an option (gitcli(7)).
 abbrev pub words_of : Said → List Text
 words_of (serve pool) = codes "serve" ∷ pool_word pool ∷ []
 words_of (import tenant pool) =

@@ -55,7 +55,7 @@ abbrev pub Reads : Command → Shape → Type 0
 Reads command shape = (app_of command ≡ record { top = shape; subs = [] })
     × ((out-Command command).has_globals ≡ false)
 
--- What a command takes that takes one argument more.
+-- The shape of a command with one argument more.
 abbrev pub taking : Shape → Rule → Shape
 taking shape rule = record shape { rules = shape.rules ++ rule ∷ [] }
 

@@ -1,6 +1,7 @@
 //! A command line: a subcommand with its arguments and the pool file.
 //!
-//! Not a run without words, which imports one stream and has no pool file: that is the program's.
+//! A run without words is no line here: it imports one stream, has no pool file, and the program
+//! handles it.
 ghost use Rattle.std.specs.Prelude.{◌≡◌, IfErr, IfOk, MatchResult, Some, map};
 ghost use Rattle.std.specs.Prelude.{option_and_then, option_map, true};
 ghost use Rattle.clap.specs.Words.{FailsBy, fault_of, first_of, found_of, kind_of, rows_of};
@@ -17,7 +18,7 @@ use std::convert::AsStr;
 
 /// What the words after the program's name ask for.
 ///
-/// The texts are those of the words. `pool` is the path of the pool file.
+/// The texts are borrowed from the words. `pool` is the path of the pool file.
 #[derive(Clone, Copy, PartialEq, Eq)]
 pub enum Line<'a> {
     /// `serve --pool FILE`: answer frames of steps.
@@ -68,12 +69,12 @@ fn matched<'a, S: AsStr>(alloc: Global, words: &'a [S]) -> Result<ArgMatches<'a>
 impl<'a> Line<'a> {
     /// Reads the words after the program's name, by the rules of gitcli(7).
     ///
-    /// The line has the texts of the words, each of which may be empty: what a tenant's name or a
-    /// query may be is not judged here.
+    /// The line has the texts of the words. A text may be empty: whether it is a good tenant name
+    /// or query is not judged here.
     ///
-    /// `Err` where the words name no line, as no words at all do, or ask for help: the error's text
-    /// is the usage or the help, for standard error. Its kind is `OutOfMemory` (90) where memory
-    /// ran out; words that parse are refused for nothing else. Takes memory.
+    /// `Err` where the words name no line, or there are none, or they ask for help: the error's
+    /// text is the usage or the help, for standard error. Its kind is `OutOfMemory` (90) where
+    /// memory ran out; words that parse are refused for no other reason. Takes memory.
     pub fn read<S: AsStr>(alloc: Global, words: &'a [S]) -> Result<Line<'a>, Error>
         ensures found { IfOk result (λ line.
             said_in (map S.text words.entry.now) ≡ Some (said line)) }

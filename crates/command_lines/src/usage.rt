@@ -1,9 +1,10 @@
 //! The subcommands of `gitpool` as `clap` is told them, with their texts of usage and help.
 //!
-//! What each takes is `specs/Usage.antt`. The texts are for the user; no clause reads them.
+//! `specs/Usage.antt` says what each takes. The texts are for the user; no clause reads them.
 //!
-//! What adds to a command takes the `Result` of what made it, and alone has a way out: who puts a
-//! command together passes each on as it is.
+//! A function that adds to a command takes the `Result` of the call that made it, and only such
+//! functions return early: a function that builds a whole command passes each `Result` on
+//! unchanged.
 ghost use Rattle.std.specs.Prelude.{◌≡◌, IfOk, codes, false, []};
 ghost use Rattle.clap.specs.Words.{App, Shape, app_of, rule_of, with_subcommand};
 ghost use Rattle.command_lines.specs.Usage.{Reads, alone, argument, ask_usage, check_usage};
@@ -36,7 +37,7 @@ fn subcommand<'a>(alloc: Global, name: &'a str, about: &'a str) -> Command<'a>
     Command::new(alloc, name).about(about)
 }
 
-// The subcommand with one more word that it takes.
+// The subcommand with one more argument.
 fn with_word<'a>(
     alloc: Global,
     command: Result<Command<'a>, AllocError>,
@@ -60,7 +61,7 @@ fn with_tenant<'a>(
     with_word(alloc, command, "tenant", "TENANT", "The tenant's name")
 }
 
-// The subcommand with the option that each of them has last.
+// The subcommand with `--pool`, the last option of each subcommand.
 fn with_pool<'a>(
     alloc: Global,
     command: Result<Command<'a>, AllocError>,
@@ -118,7 +119,7 @@ fn copy<'a>(alloc: Global) -> Result<Command<'a>, AllocError>
     with_pool(alloc, command)
 }
 
-// The program as it is without subcommands.
+// The program without its subcommands.
 fn program<'a>(alloc: Global) -> Result<Command<'a>, AllocError>
     ensures { IfOk result (λ c. app_of c ≡ alone) }
 {

@@ -1,4 +1,4 @@
-//! Tests of command lines. Nothing else stands here.
+//! Tests of command lines. The crate has nothing else.
 #![tactic(auto)]
 
 #[cfg(test)]

@@ -3,8 +3,8 @@
 use crate::told::is_refused_with;
 use clap::error::ErrorKind;
 
-// Words, each with a bar before it, the kind of their refusal, and its text: what was wrong, and
-// mostly the usage.
+// Words, each with a bar before it, the kind of their refusal, and its text: what was wrong and,
+// mostly, the usage.
 const REFUSED: &[(&str, ErrorKind, &str)] = &[
     (
         "",

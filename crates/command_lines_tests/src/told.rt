@@ -1,4 +1,4 @@
-//! What a refused command line tells: its kind and its whole text.
+//! What a refused command line answers: the kind of the error and its whole text.
 
 use clap::Error;
 use clap::error::ErrorKind;
@@ -21,7 +21,7 @@ fn are_refused_with(alloc: Global, words: &[&str], kind: ErrorKind, told: &str) 
     }
 }
 
-/// Whether the words of this text are refused with an error of this kind that tells this.
+/// Whether the words of this text are refused with an error of this kind and this text.
 pub fn is_refused_with(alloc: Global, text: &str, kind: ErrorKind, told: &str) -> bool {
     match words_of(alloc, text) {
         Ok(words) => are_refused_with(alloc, &words, kind, told),

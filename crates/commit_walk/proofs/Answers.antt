@@ -60,7 +60,7 @@ module _ (os : List Object) (floor top : ℕ) (flags : List Bool) (above : floor
   pub Walk-begin : (from : ℕ) → top < floor + from
       → IsWalk os (object_at top os).id floor from (set flags (top - floor) true)
   unfolding first
-  Walk-begin from behind = record {
+  Walk-begin from is_after = record {
     start = rw distinct top_flag;
     only = λ p marked. rw (top_alone p marked) (Reaches-itself (parents_of os) (object_at top os).id);
     done = λ p marked ge. let same = top_alone p marked in absurd (omega arith);
@@ -153,8 +153,8 @@ module _ (digest : List ℕ → List ℕ) (os : List Object) (good : AreObjects 
       sym e ∙ (rw floor_is at told)
 
   -- what stands after the tip is not reached
-  pub not_behind : (tip old : List ℕ) → place_of tip os < place_of old os → reaches os tip old ≡ false
-  not_behind tip old behind = elim (cases_Bool (reaches os tip old)) [
+  pub not_after : (tip old : List ℕ) → place_of tip os < place_of old os → reaches os tip old ≡ false
+  not_after tip old is_after = elim (cases_Bool (reaches os tip old)) [
     | inl yea ↦
         let in_set = (reaches_parts tip old yea).in_each (λ id. nat_le (place_of id os) (place_of tip os))
         (grind (arith, nat_tests)) before in absurd (grind (arith, nat_tests, in_set))

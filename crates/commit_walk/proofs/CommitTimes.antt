@@ -120,21 +120,21 @@ module _ (front rest text : List ℕ) (none : HasNone front) (e : text ≡ front
 -- ---- the two emails
 
 -- a person's line after what stands before it
-line_parted : (front word name email date behind : List ℕ)
-    → front ++ (line word ((name ++ (codes "<" ++ (email ++ codes "> "))) ++ date) ++ behind)
-    ≡ (front ++ (word ++ (name ++ 60 ∷ email))) ++ 62 ∷ 32 ∷ (date ++ 10 ∷ behind)
-line_parted front word name email date behind = simp append_assoc
+line_parted : (front word name email date remaining : List ℕ)
+    → front ++ (line word ((name ++ (codes "<" ++ (email ++ codes "> "))) ++ date) ++ remaining)
+    ≡ (front ++ (word ++ (name ++ 60 ∷ email))) ++ 62 ∷ 32 ∷ (date ++ 10 ∷ remaining)
+line_parted front word name email date remaining = simp append_assoc
 
 regroup : (a b c d e : List ℕ) → a ++ (b ++ c ++ d ++ e) ≡ a ++ (b ++ (c ++ (d ++ e)))
 regroup a b c d e = simp append_assoc
 
-line_of : (front word behind text : List ℕ) (person : Person) (date : Date)
+line_of : (front word remaining text : List ℕ) (person : Person) (date : Date)
     → text ≡ person_text person ++ date_text date
-    → front ++ (line word text ++ behind)
-    ≡ (front ++ (word ++ to_email person)) ++ 62 ∷ 32 ∷ (date_text date ++ 10 ∷ behind)
-line_of front word behind text person date e =
-    ap (λ (t : List ℕ). front ++ (line word t ++ behind)) e
-    ∙ line_parted front word person.name person.email (date_text date) behind
+    → front ++ (line word text ++ remaining)
+    ≡ (front ++ (word ++ to_email person)) ++ 62 ∷ 32 ∷ (date_text date ++ 10 ∷ remaining)
+line_of front word remaining text person date e =
+    ap (λ (t : List ℕ). front ++ (line word t ++ remaining)) e
+    ∙ line_parted front word person.name person.email (date_text date) remaining
 
 front_none : (front word : List ℕ) (person : Person) → HasNone front → list_all is_other word ≡ true
     → IsPerson person → HasNone (front ++ (word ++ to_email person))
@@ -157,14 +157,14 @@ number-value date is =
     (in_64_bits-yes (digits_value 10 date.seconds) is.seconds_below_two_to_64)
 
 -- the seconds at the front of a date
-pub seconds_told : (date : Date) (behind : List ℕ) → IsDate date
-    → number_of (take (prefix_len is_ascii_digit (date_text date ++ behind)) (date_text date ++ behind))
+pub seconds_told : (date : Date) (remaining : List ℕ) → IsDate date
+    → number_of (take (prefix_len is_ascii_digit (date_text date ++ remaining)) (date_text date ++ remaining))
     ≡ Some (digits_value 10 date.seconds)
-seconds_told date behind is =
+seconds_told date remaining is =
     ap (λ (t : List ℕ). number_of (take (prefix_len is_ascii_digit t) t))
-    (append_assoc date.seconds (codes " " ++ date.offset) behind)
+    (append_assoc date.seconds (codes " " ++ date.offset) remaining)
     ∙ ap number_of
-    (take_front is_ascii_digit date.seconds 32 (date.offset ++ behind) is.seconds_are_digits refl)
+    (take_front is_ascii_digit date.seconds 32 (date.offset ++ remaining) is.seconds_are_digits refl)
     ∙ number-value date is
 
 -- What skipping an email answers.

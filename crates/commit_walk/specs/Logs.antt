@@ -1,4 +1,4 @@
--- Logs: git-log(1), a set of commits from new to old.
+-- Logs: a set of commits from new to old, git-log(1).
 use Rattle.std.specs.Prelude.{◌≡◌, ◌↔◌, ℕ, List, map, filter, Contains, AllPairs, Bool, IsTrue}
 use Rattle.std.specs.declared.cmp.Ordering.{Ordering}
 use Rattle.std.specs.declared.cmp.Ordering.TheVariants.{Less}
@@ -9,7 +9,7 @@ use Rattle.git_model.specs.CommitReading.{commit_read, commit_time}
 use Rattle.git_model.specs.Repository.{Object}
 use Rattle.git_model.specs.References.{content_named}
 
--- A commit's place in a log is decided by its committer's time, and then by its name.
+-- The committer's time of a commit decides its place in a log, and then its name.
 pub record LogKey : Type 0 where
   pub time : ℕ
   pub id : List ℕ
@@ -17,12 +17,12 @@ pub record LogKey : Type 0 where
 abbrev pub log_key : List Object → List ℕ → LogKey
 log_key os id = record { time = commit_time (commit_read (content_named id os).bytes); id = id }
 
--- Later times come first, and of one time the lower name.
+-- Later times come first, and commits of one time by rising name.
 abbrev pub log_cmp : LogKey → LogKey → Ordering
 log_cmp a b = ordering_then (nat_cmp b.time a.time) (slice_cmp nat_cmp a.id b.id)
 
--- A list is the log of a set of commits: it has the set's members, and each comes before all later
--- ones, so that none stands twice.
+-- A list is the log of a set of commits: it has the members of the set, and each comes before all
+-- later ones, so none is there twice.
 pub record IsLogOf (os : List Object) (set : List ℕ → Bool) (log : List (List ℕ)) : Type 0 where
   pub members : (id : List ℕ)
       → Contains log id ↔ (Contains (map (λ o. o.id) os) id × IsTrue (set id))
@@ -32,7 +32,7 @@ pub record IsLogOf (os : List Object) (set : List ℕ → Bool) (log : List (Lis
 abbrev pub in_log_order : List LogKey → List LogKey
 in_log_order ks = finmap.keys (finmap.from_entries {R = log_cmp} (map (λ k. (k, tt {0})) ks))
 
--- The log of a set, as a function: no other list is one.
+-- The log of a set, as a function. No other list is its log.
 unfoldable pub log_of : List Object → (List ℕ → Bool) → List (List ℕ)
 log_of os set =
     map (λ k. k.id) (in_log_order (map (λ o. log_key os o.id) (filter (λ o. set o.id) os)))

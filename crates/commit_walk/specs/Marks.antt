@@ -1,28 +1,28 @@
--- Marks of objects by their places, and when they are what a commit reaches.
+-- Marks of objects by their positions, and when they are what a commit reaches.
 use Rattle.std.specs.Prelude.{◌≡◌, ◌⊎◌, ℕ, ◌+◌, ◌-◌, ◌<◌, ◌≤◌, ◌&&◌, nat_le, Bool, false, IsTrue, List, length, All, slice_index_or}
 use Rattle.std.specs.List.{Contains}
 use Rattle.git_model.specs.Repository.{Object}
 use Rattle.git_model.specs.References.{place_of, object_at, parents_of}
 use Rattle.git_model.specs.Reach.{Reaches}
 
--- There is a flag for each place from a floor on.
+-- There is a flag for each position from `floor` on.
 abbrev pub is_marked : ℕ → List Bool → ℕ → Bool
 is_marked floor flags place = nat_le floor place && slice_index_or flags (place - floor) false
 
--- The object of this name, if there is one, is marked, if its place has a flag.
+-- The object of this name is marked, if there is one and its position has a flag.
 abbrev pub IsMarkedName : List Object → ℕ → List Bool → List ℕ → Type 0
 IsMarkedName os floor flags id = floor ≤ place_of id os → place_of id os < length os
     → place_of id os < floor + length flags
     → IsTrue (is_marked floor flags (place_of id os))
 
--- A place is that of one of some names.
+-- A position is that of one of these names.
 pub record IsPlaceOfOne (os : List Object) (ids : List (List ℕ)) (place : ℕ) : Type 0 where
   pub id : List ℕ
   pub among : Contains ids id
   pub place_is : place_of id os ≡ place
   pub within : place < length os
 
--- The objects of some names are marked beside those that were, and no others.
+-- The objects of these names are marked, and those that were marked before, and no others.
 pub record Marks (os : List Object) (floor : ℕ) (old new : List Bool)
     (ids : List (List ℕ)) : Type 0 where
   pub size : length new ≡ length old
@@ -31,7 +31,7 @@ pub record Marks (os : List Object) (floor : ℕ) (old new : List Bool)
       → IsTrue (is_marked floor old p) ⊎ IsPlaceOfOne os ids p
   pub all : All (IsMarkedName os floor new) ids
 
--- What is marked is what a commit reaches, as far as it stands at the floor or above.
+-- The marks are those of what a commit reaches, at the position `floor` and after it.
 pub record IsReached (os : List Object) (tip : List ℕ) (floor : ℕ)
     (flags : List Bool) : Type 0 where
   pub only : (p : ℕ) → IsTrue (is_marked floor flags p)

@@ -10,7 +10,7 @@ use git_objects::{Kind, Memory, Name, Naming};
 use std::alloc::Global;
 use tenant_tables::Objects;
 
-/// The position of a commit; `None` where the name is no commit's. Takes no memory.
+/// The position of a commit; `None` if the name is not that of a commit. Takes no memory.
 pub fn commit_place<N: Naming>(objects: &Objects<'_, N>, id: &Name) -> Option<usize>
     ensures { MatchOption result (is_of objects.now Kind.Commit id.now ≡ false)
         (λ place. (is_of objects.now Kind.Commit id.now ≡ true)
@@ -27,7 +27,8 @@ pub fn commit_place<N: Naming>(objects: &Objects<'_, N>, id: &Name) -> Option<us
     }
 }
 
-/// The names of the parents of the object at a position. Only a commit has any.
+/// The names of the parents of the object at a position. Only a commit has parents. `Memory` (90)
+/// if there is no room for them.
 pub fn parents_at<N: Naming>(
     alloc: Global,
     objects: &Objects<'_, N>,

@@ -1,8 +1,7 @@
 //! Which commits a commit reaches by its parents: "reachable" of gitglossary(7).
 //!
-//! What a commit refers to stands before it. So objects are walked from late ones to early ones by
-//! their positions: nothing waits on a list or on the machine's stack, and each commit is read
-//! once.
+//! What a commit refers to comes before it in the list of objects. So a walk goes once from late
+//! positions to early ones, without a queue or a stack, and reads each commit once.
 #![tactic(auto)]
 
 mod commits;

@@ -1,8 +1,8 @@
-//! What single lines of a commit's contents say: "commit object" in gitglossary(7).
+//! Single lines of the contents of a commit: "commit object" in gitglossary(7).
 //!
-//! `read_commit` of git_objects tells whether contents are a commit's, and reads them whole. Here
-//! they are known to be, as those of good objects are, and only the lines that are asked for are
-//! read. Other contents give any answer.
+//! `read_commit` of git_objects tells whether contents are those of a commit, and reads them whole.
+//! Here they are known to be, as in good objects, and only the lines that are needed are read. The
+//! answer for other contents is not specified.
 
 ghost use Rattle.std.specs.Prelude.{◌≡◌, ◌<◌, ◌++◌, ℕ, List, Some, None, IfSome, IsSomeAnd, codes, length, slice_get, IfOk};
 ghost use Rattle.git_model.specs.ObjectName.{IsObjectName};
@@ -12,12 +12,12 @@ ghost use Rattle.commit_walk.specs.HeaderLines.{after_parents, after_tree};
 use git_objects::{Memory, Name};
 use std::alloc::Global;
 
-// The bytes of the line of a tree, `tree `, forty digits and a line end, and of that of a parent.
+// The length of a tree line, which is `tree `, forty digits and a line end; and of a parent line.
 const TREE_LINE: usize = 46;
 
 const PARENT_LINE: usize = 48;
 
-// What follows the line of the tree. Less than that line is nothing.
+// What follows the tree line; nothing if the contents are shorter than that line.
 pub(crate) fn after_tree(contents: &[u8]) -> &[u8]
     ensures { (c : Commit) → CanWriteCommit c → contents.now ≡ commit_contents c
         → result.now ≡ after_tree c }
@@ -25,7 +25,7 @@ pub(crate) fn after_tree(contents: &[u8]) -> &[u8]
     contents.split_at(TREE_LINE.min(contents.len())).1
 }
 
-// Takes the line of a parent from the front of a text. An author's line has another first letter.
+// Takes a parent line from the beginning of a text. An author line begins with another letter.
 fn take_parent(text: &[u8]) -> Option<(Name, &[u8])>
     ensures there { (id rest : List ℕ) → IsObjectName id
         → text.now ≡ name_line (codes "parent ") id ++ rest
@@ -41,7 +41,8 @@ fn take_parent(text: &[u8]) -> Option<(Name, &[u8])>
     Some((id, rest))
 }
 
-/// The first parent of the commit with these contents, where it has one. Takes no memory.
+/// The first parent of the commit with these contents, if it has one. The answer is not specified
+/// if the contents are not those of a commit. Takes no memory.
 pub fn first_parent_in(contents: &[u8]) -> Option<Name>
     ensures { (c : Commit) → CanWriteCommit c → contents.now ≡ commit_contents c
         → result ≡ slice_get c.parents 0 }
@@ -52,7 +53,7 @@ pub fn first_parent_in(contents: &[u8]) -> Option<Name>
     }
 }
 
-/// The parents of the commit with these contents. `Memory` (90) where there is no room for them.
+/// The parents of the commit with these contents. `Memory` (90) if there is no room for them.
 pub(crate) fn parents_in(alloc: Global, contents: &[u8]) -> Result<Vec<Name>, Memory>
     ensures { (c : Commit) → CanWriteCommit c → contents.now ≡ commit_contents c
         → IfOk result (λ parents. parents.items ≡ c.parents) }

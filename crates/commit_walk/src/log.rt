@@ -16,11 +16,11 @@ use std::alloc::Global;
 use std::cmp::Reverse;
 use tenant_tables::Objects;
 
-/// The log of the commits that have a flag, of which there is one for each object, the oldest
-/// object first: their names by the committer's time from new to old, and of one time by rising
-/// name. That is promised where the objects are good and none but commits have a flag.
+/// The log of the flagged commits: their names by the committer's time from new to old, and commits
+/// of one time by rising name. `flags` has one flag for each object, the oldest object first.
 ///
-/// `Memory` (90) where there is no room for it.
+/// The answer is right if the objects are good (`AreObjects` of git_model) and only commits are
+/// flagged. `Memory` (90) if there is no room for the log.
 pub fn log_of<N: Naming>(
     alloc: Global,
     objects: &Objects<'_, N>,
@@ -45,7 +45,7 @@ fn ids_of(alloc: Global, keys: &[LogKey]) -> Result<Vec<Name>, Memory>
     Ok(ids)
 }
 
-// The keys of the commits that have a flag.
+// The keys of the flagged commits.
 fn keys_of<N: Naming>(
     alloc: Global,
     objects: &Objects<'_, N>,
@@ -97,8 +97,8 @@ fn key_in(id: Name, contents: &[u8]) -> LogKey
     }
 }
 
-/// The log of a set of commits is one list and no other: each list that has the set's members, each
-/// before all later ones, is the one that `log_of` answers.
+/// The log of a set of commits is a single list: a list that has the members of the set, in the
+/// order of a log and each once, is the one that `log_of` answers.
 pub fn a_log_is_one_list()
     ensures { (os : List Object) (set : List ℕ → Bool) (log : List (List ℕ))
         → IsLogOf os set log ↔ (log ≡ log_of os set) }

@@ -1,10 +1,10 @@
-//! What decides a commit's place in a log.
+//! The key that decides the place of a commit in a log.
 
 use git_objects::Name;
 use std::cmp::Reverse;
 use std::marker::Model;
 
-/// A commit's place in a log: later times come first, and of one time the lower name.
+/// The key of a commit in a log: later times come first, and commits of one time by rising name.
 #[derive(Clone, Copy, PartialEq, Eq, PartialOrd, Ord)]
 pub struct LogKey {
     pub newest: Reverse<u64>,

@@ -1,4 +1,4 @@
-//! Marks of objects, a flag for each position from a floor on.
+//! Marks of objects: one flag for each position from `floor` on.
 
 ghost use Rattle.std.specs.Prelude.{[], ◌∷◌};
 ghost use Rattle.commit_walk.specs.Marks.{Marks};
@@ -6,7 +6,7 @@ ghost use Rattle.commit_walk.specs.Marks.{Marks};
 use git_objects::{Name, Naming};
 use tenant_tables::Objects;
 
-/// Marks the objects of these names, where their positions have a flag. Takes no memory.
+/// Marks the objects of these names whose positions have a flag. Takes no memory.
 pub fn mark_all<N: Naming>(objects: &Objects<'_, N>, floor: usize, ids: &[Name], flags: &mut [bool])
     ensures { Marks objects.now floor flags.old flags.new ids.now }
 {

@@ -15,12 +15,13 @@ use git_objects::{Memory, Name, Naming};
 use std::alloc::Global;
 use tenant_tables::{Objects, Sight, Table};
 
-/// Whether the commit `old` is reached from the commit `tip`: whether it is that commit, one of its
-/// parents, one of theirs, and so on. `false` where one of the names is no commit of the table.
+/// Whether the commit `old` is reachable from the commit `tip` ("reachable" of gitglossary(7)):
+/// whether it is that commit, one of its parents, one of theirs, and so on. `false` if one of the
+/// names is not that of a commit in the table.
 ///
-/// The pool is the one that the table stands in. The answer is right where the table's objects are
-/// good (AreObjects of git_model): then nothing that stands before `old` need be looked at, and
-/// what is read are the commits after it. `Memory` (90) where there is no room for the walk.
+/// The pool must be the one that holds the contents of the table. The answer is right if the
+/// objects of the table are good (`AreObjects` of git_model). The walk reads only commits after
+/// `old`. `Memory` (90) if there is no room for the walk.
 pub fn reaches<N: Naming>(
     alloc: Global,
     pool: &Pool<N>,
@@ -66,7 +67,7 @@ fn is_floor_reached<N: Naming>(
     Ok(is_reached)
 }
 
-// Walks, and tells whether the commit at position `floor` was marked.
+// Walks, and answers whether the commit at position `floor` was marked.
 fn walk_to<N: Naming>(
     alloc: Global,
     objects: &Objects<'_, N>,
@@ -85,11 +86,11 @@ fn walk_to<N: Naming>(
     Ok(flags[0])
 }
 
-/// Which of the objects are commits that are reached from the commit `tip`: a flag for each, the
-/// oldest object first. All are `false` where the name is no commit's.
+/// Which objects are commits that are reachable from the commit `tip`: one flag for each object,
+/// the oldest object first. All are `false` if the name is not that of a commit.
 ///
-/// The answer is right where the objects are good (AreObjects of git_model). `Memory` (90) where
-/// there is no room for the walk.
+/// The answer is right if the objects are good (`AreObjects` of git_model). `Memory` (90) if there
+/// is no room for the walk.
 pub fn reached_from<N: Naming>(
     alloc: Global,
     objects: &Objects<'_, N>,
@@ -104,7 +105,7 @@ pub fn reached_from<N: Naming>(
     Ok(flags)
 }
 
-// Marks the commits that the commit `tip` reaches; none where the name is no commit's.
+// Marks the commits that are reachable from the commit `tip`; none if the name is not of a commit.
 fn mark_reached<N: Naming>(
     alloc: Global,
     objects: &Objects<'_, N>,

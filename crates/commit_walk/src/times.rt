@@ -10,19 +10,19 @@ ghost use Rattle.git_model.specs.CommitReading.{commit_time};
 use crate::lines::after_tree;
 use numerals::read_number;
 
-/// When the commit with these contents was made. The date stands after the second `>`: the emails
-/// of the author and of the committer end in one, and nothing before has any.
+/// The committer's time of the commit with these contents, in seconds. It comes after the second
+/// `>`: the emails of the author and of the committer end in one, and there is none before them.
 pub(crate) fn time_in(contents: &[u8]) -> u64
     ensures { (c : Commit) → CanWriteCommit c → contents.now ≡ commit_contents c
         → result ≡ commit_time c }
 {
-    let authored = behind_email(after_tree(contents));
-    let committed = behind_email(authored);
+    let authored = after_email(after_tree(contents));
+    let committed = after_email(authored);
     seconds_of(committed)
 }
 
 // What follows the first `>` of a text and the space after it.
-fn behind_email(text: &[u8]) -> &[u8]
+fn after_email(text: &[u8]) -> &[u8]
     ensures { (front rest : List ℕ) → All (λ byte. byte ≢ 62) front
         → text.now ≡ front ++ 62 ∷ 32 ∷ rest → result.now ≡ rest }
 {
@@ -38,7 +38,7 @@ fn end_of_email(text: &[u8]) -> Option<usize>
     text.iter().position(|byte| *byte == b'>')
 }
 
-// The seconds that a text begins with; 0 where it begins with none.
+// The seconds that a text begins with; 0 if it begins with no number.
 fn seconds_of(date: &[u8]) -> u64
     ensures { result
         ≡ unwrap_or (number_of (take (prefix_len is_ascii_digit date.now) date.now)) 0 }

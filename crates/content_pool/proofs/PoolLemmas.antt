@@ -34,9 +34,9 @@ pub Writes-updates : (old new : Slab Stored) (k : ℕ) (o : Option Stored) → U
 Writes-updates old new k o updates = record { here = updates.changed; others = updates.others }
 
 -- A slab's update after a change of its capacity alone, at a key that was told before.
-pub Writes-behind : (first old new : Slab Stored) (k key : ℕ) (o : Option Stored)
+pub Writes-after : (first old new : Slab Stored) (k key : ℕ) (o : Option Stored)
     → old.slots ≡ first.slots → k ≡ key → Updates old new k o → Writes first.slots new.slots key o
-Writes-behind first old new k key o same told updates =
+Writes-after first old new k key o same told updates =
     rw (← same, ← told) (Writes-updates old new k o updates)
 
 -- What a slot holds, from what is stored there.

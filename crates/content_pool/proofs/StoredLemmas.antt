@@ -123,7 +123,7 @@ listed_live (Some e ∷ rest) c in_list = by (ltb 0 e.holds) refl (listed_live r
     by true positive later in_list' =
         elim (Contains-cons_cases (content_of e) c (live_contents rest) in_list') [
           | inl here ↦ (zero, ltb-true 0 e.holds positive, here)
-          | inr behind ↦ let at = later behind in (suc at.0, at.1, at.2)
+          | inr after ↦ let at = later after in (suc at.0, at.1, at.2)
         ]
     by false none later in_list' = let at = later in_list' in (suc at.0, at.1, at.2)
 
@@ -137,8 +137,8 @@ live_listed (Some e ∷ rest) (suc s) is_live = by (ltb 0 e.holds) (live_listed 
   where
     by : (b : Bool) → Contains (live_contents rest) (content rest s)
         → Contains (map content_of (cond b (e ∷ held_of rest) (held_of rest))) (content rest s)
-    by true behind = Contains-cons (content_of e) (content rest s) (live_contents rest) behind
-    by false behind = behind
+    by true after = Contains-cons (content_of e) (content rest s) (live_contents rest) after
+    by false after = after
 
 -- The contents of the live slots are a list of them.
 pub ListsLive-live_contents : (p : Cells) → ListsLive p (live_contents p)
@@ -166,7 +166,7 @@ IsDistinct-live_contents (Some e ∷ rest) once =
   where
     by : (b : Bool) → ltb 0 e.holds ≡ b → IsDistinct same_content (live_contents rest)
         → IsDistinct same_content (map content_of (cond b (e ∷ held_of rest) (held_of rest)))
-    by true positive behind =
+    by true positive after =
         let new : is_member same_content (live_contents rest) (content_of e) ≡ false =
         elim (cases_Bool (is_member same_content (live_contents rest) (content_of e))) [
           | inl member ↦
@@ -177,8 +177,8 @@ IsDistinct-live_contents (Some e ∷ rest) once =
               (omega (arith, once zero (suc at.0) (ltb-true 0 e.holds positive) at.1 (sym at.2)))
           | inr absent ↦ absent
         ] in
-        (apart_from_absent same_content (content_of e) (live_contents rest) new, behind)
-    by false none behind = behind
+        (apart_from_absent same_content (content_of e) (live_contents rest) new, after)
+    by false none after = after
 
 -- What a sound pool stores: the number of its contents, and the sum of their sizes.
 pub stored_sizes-live_contents : (p : Cells)

@@ -1,4 +1,4 @@
--- How the pool finds a content: by its object name to a bucket of slots. No public clause cites
+-- How the pool finds a content: its object name leads to a bucket of slots. No public clause cites
 -- this module.
 use Rattle.std.specs.Prelude.{◌≡◌, ℕ, length, slice_index, IsSome, ◌+◌, ◌<◌, ◌==◌, ◌&&◌, Bool}
 use Rattle.std.specs.Prelude.{false, if◌then◌else◌, List, []}
@@ -14,11 +14,11 @@ use Rattle.content_pool.specs.declared.stored.Stored.{Stored}
 abbrev pub Buckets : Type 0
 Buckets = List (List ℕ × List ℕ)
 
--- The bucket of an object name, empty where there is none.
+-- The bucket of an object name, empty if there is none.
 abbrev pub bucket : Buckets → List ℕ → List ℕ
 bucket m n = unwrap_or (lookup (bytes_eq n) m) []
 
--- How often a slot stands in a bucket.
+-- How often a slot is in a bucket.
 abbrev pub times : List ℕ → ℕ → ℕ
 times slots s = count_by (λ t. t == s) slots
 
@@ -40,14 +40,14 @@ AllStored p keys = (k : ℕ) → k < length keys → IsSome (cell p (slice_index
 abbrev pub StoresNone : Cells → List ℕ → Content → Type 0
 StoresNone p keys c = (k : ℕ) → k < length keys → Stores p (slice_index keys k) c → ⊥
 
--- What is stored is held, is kept beside its own object name, and no two slots store one content.
+-- What is stored is held, is kept with its own object name, and no two slots store one content.
 pub record IsPool (digest : List ℕ → List ℕ) (p : Cells) : Type 0 where
   pub counted : (s : ℕ) (e : Stored) → cell p s ≡ Some e → 0 < e.holds
   pub named : (s : ℕ) (e : Stored) → cell p s ≡ Some e → e.id ≡ name_by digest (content_of e)
   pub distinct : (s t : ℕ) (e f : Stored) → cell p s ≡ Some e → cell p t ≡ Some f
       → content_of e ≡ content_of f → s ≡ t
 
--- Each slot stands once in the bucket of its object name, and in no other.
+-- Each slot is once in the bucket of its object name, and in no other bucket.
 abbrev pub IsIndexed : Cells → Buckets → Type 0
 IsIndexed p m = (n : List ℕ) (s : ℕ) → times (bucket m n) s ≡ (if is_named p s n then 1 else 0)
 
@@ -55,16 +55,16 @@ IsIndexed p m = (n : List ℕ) (s : ℕ) → times (bucket m n) s ≡ (if is_nam
 abbrev pub one_at : List ℕ → ℕ → List ℕ → ℕ → ℕ
 one_at id slot n s = if bytes_eq id n && (slot == s) then 1 else 0
 
--- The slot stands once more in the bucket of this object name.
+-- The slot is once more in the bucket of this object name.
 pub record Notes (old new : Buckets) (id : List ℕ) (slot : ℕ) : Type 0 where
   pub added : (n : List ℕ) (s : ℕ)
       → times (bucket new n) s ≡ times (bucket old n) s + one_at id slot n s
 
--- The slot, which stood once in the bucket of this object name, stands there no more.
+-- The slot, which was once in the bucket of this object name, is no longer there.
 pub record Forgets (old new : Buckets) (id : List ℕ) (slot : ℕ) : Type 0 where
   pub taken : (n : List ℕ) (s : ℕ)
       → times (bucket new n) s + one_at id slot n s ≡ times (bucket old n) s
 
--- Every bucket has what it had.
+-- Every bucket has the slots that it had.
 abbrev pub SameBuckets : Buckets → Buckets → Type 0
 SameBuckets old new = (n : List ℕ) → bucket new n ≡ bucket old n

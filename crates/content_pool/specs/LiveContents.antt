@@ -6,7 +6,7 @@ use Rattle.std.specs.Set.{unique_keys}
 use Rattle.git_model.specs.Content.{Content, same_content}
 use Rattle.content_pool.specs.Pool.{Cells, content_of, content, IsLive}
 
--- How many distinct contents a list has, and the sum of their sizes in bytes, 2^64 - 1 where it is
+-- How many distinct contents a list has, and the sum of their sizes in bytes, 2^64 - 1 if it is
 -- more.
 unfoldable pub stored_sizes : List Content → ℕ × ℕ
 stored_sizes cs = let distinct = unique_keys same_content cs in
@@ -16,8 +16,8 @@ stored_sizes cs = let distinct = unique_keys same_content cs in
 unfoldable pub live_contents : Cells → List Content
 live_contents p = map content_of (filter (λ e. nat_lt 0 e.holds) (filter_map (λ o. o) p))
 
--- A list has exactly the contents of the live slots as its members, however often and in whatever
--- order.
+-- The members of a list are exactly the contents of the live slots, in any order and any number of
+-- times.
 pub record ListsLive (p : Cells) (cs : List Content) : Type 0 where
   pub live : (c : Content) → Contains cs c → (s : ℕ) × IsLive p s × (content p s ≡ c)
   pub all : (s : ℕ) → IsLive p s → Contains cs (content p s)

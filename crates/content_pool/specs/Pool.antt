@@ -17,11 +17,11 @@ cell p s = slice_index_or p s None
 abbrev pub content_of : Stored → Content
 content_of e = content_from e.kind e.bytes
 
--- How often a slot is held; 0 where nothing is stored in it.
+-- How often a slot is held; 0 if nothing is stored in it.
 unfoldable pub holds : Cells → ℕ → ℕ
 holds p s = option_map_or (λ e. e.holds) (cell p s) 0
 
--- What a slot holds; no content where nothing is stored in it.
+-- What a slot holds; no content if nothing is stored in it.
 unfoldable pub content : Cells → ℕ → Content
 content p s = option_map_or content_of (cell p s) no_content
 
@@ -29,11 +29,11 @@ content p s = option_map_or content_of (cell p s) no_content
 abbrev pub IsLive : Cells → ℕ → Type 0
 IsLive p s = 0 < holds p s
 
--- One hold more of this slot can be counted.
+-- One more hold of this slot can be counted.
 abbrev pub CanHold : Cells → ℕ → Type 0
 CanHold p s = holds p s < 2 ^ 64 - 1
 
--- One hold more of any slot can be counted.
+-- One more hold of any slot can be counted.
 abbrev pub HasRoom : Cells → Type 0
 HasRoom p = (s : ℕ) → CanHold p s
 
@@ -41,7 +41,7 @@ HasRoom p = (s : ℕ) → CanHold p s
 abbrev pub IsVacant : Cells → Type 0
 IsVacant p = (s : ℕ) → holds p s ≡ 0
 
--- Each content is held once: two live slots never have the same.
+-- Each content is stored once: no two live slots have the same content.
 abbrev pub HoldsEachOnce : Cells → Type 0
 HoldsEachOnce p = (s t : ℕ) → IsLive p s → IsLive p t → content p s ≡ content p t → s ≡ t
 
@@ -49,8 +49,8 @@ HoldsEachOnce p = (s t : ℕ) → IsLive p s → IsLive p t → content p s ≡ 
 abbrev pub IsAbsent : Cells → Content → Type 0
 IsAbsent p c = (s : ℕ) → IsLive p s → content p s ≡ c → ⊥
 
--- The slot has this content and one hold more. A slot that was live had this content before; every
--- other slot keeps content and count.
+-- The slot has this content and one more hold. If the slot was live, it had this content before.
+-- Every other slot keeps its content and count.
 pub record Puts (old new : Cells) (slot : ℕ) (c : Content) : Type 0 where
   pub has : content new slot ≡ c
   pub had : IsLive old slot → content old slot ≡ c
@@ -59,7 +59,7 @@ pub record Puts (old new : Cells) (slot : ℕ) (c : Content) : Type 0 where
   pub other_contents : (s : ℕ) → s ≢ slot → content new s ≡ content old s
 
 -- The slot has one hold less. Every other slot keeps its count, and every slot that is still live
--- its content.
+-- keeps its content.
 pub record Releases (old new : Cells) (slot : ℕ) : Type 0 where
   pub held : holds new slot + 1 ≡ holds old slot
   pub others : (s : ℕ) → s ≢ slot → holds new s ≡ holds old s

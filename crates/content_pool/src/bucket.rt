@@ -1,7 +1,6 @@
-//! The slots that contents of one object name lie in.
+//! Buckets: the slots of the contents that have one object name.
 //!
-//! Almost every bucket has one slot, which lies in the bucket itself; more are there only where
-//! names collide.
+//! Almost every bucket has one slot, which is stored inline. There are more only if names collide.
 
 ghost use Rattle.std.specs.Prelude.{◌≡◌, ◌+◌, ◌<◌, ◌==◌, ◌∷◌, ◌++◌, ◌↔◌, if◌then◌else◌, ℕ, []};
 ghost use Rattle.std.specs.Prelude.{IsTrue, OnOk, OnErr, position};
@@ -49,7 +48,7 @@ impl Bucket {
         self.slots.as_slice()
     }
 
-    /// Adds a slot. After `Memory` (90) the bucket is unchanged.
+    /// Adds a slot. `Memory` (90) if there is no room for it; the bucket is then unchanged.
     pub fn add(&mut self, slot: usize) -> Result<(), Memory>
         ensures ok { OnOk result (self.new ≡ self.old ++ slot ∷ []) }
         ensures err { OnErr result (self.new ≡ self.old) }
@@ -58,7 +57,7 @@ impl Bucket {
         Ok(())
     }
 
-    /// Takes a slot out that stands in the bucket.
+    /// Removes a slot that is in the bucket.
     pub fn remove(&mut self, slot: usize)
         requires { 0 < times self.old slot }
         ensures { (s : ℕ) → times self.new s + (if slot == s then 1 else 0) ≡ times self.old s }

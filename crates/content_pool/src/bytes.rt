@@ -21,8 +21,8 @@ impl Model for Bytes {
 }
 
 impl Bytes {
-    /// A copy of these bytes, in an allocation of exactly their size. `Memory` (90) where there is
-    /// no room for it.
+    /// A copy of these bytes, in an allocation of exactly their size. `Memory` (90) if there is no
+    /// room for it.
     pub fn copied(alloc: Global, bytes: &[u8]) -> Result<Bytes, Memory>
         ensures { IfOk result (λ copy. copy ≡ bytes.now) }
     {
@@ -30,8 +30,8 @@ impl Bytes {
         Ok(Bytes { items })
     }
 
-    /// These bytes without a copy; what the vector has beyond its length is given back. Takes no
-    /// memory.
+    /// These bytes, without a copy. Capacity beyond the length of the vector is given back. Takes
+    /// no memory.
     pub fn taken(bytes: Vec<u8>) -> Bytes
         ensures { result ≡ bytes.items }
     {

@@ -1,5 +1,4 @@
-//! The index from object names to slots: a bucket of slots for each name that something is stored
-//! under.
+//! The index from object names to slots: one bucket of slots for each name of a stored content.
 
 ghost use Rattle.std.specs.Prelude.{◌≡◌, ◌<◌, [], IsTrue, OnOk, OnErr};
 ghost use Rattle.content_pool.specs.Index.{bucket, times, Notes, Forgets, SameBuckets};
@@ -9,8 +8,8 @@ use git_names::{Memory, Name};
 use std::alloc::Global;
 use std::collections::HashMap;
 
-/// Notes a slot in the bucket of this object name. After `Memory` (90) every bucket has what it
-/// had.
+/// Adds a slot to the bucket of this object name. `Memory` (90) if there is no room for it; all
+/// buckets then have the slots that they had.
 pub fn note(
     alloc: Global,
     buckets: &mut HashMap<Name, Bucket>,
@@ -28,8 +27,8 @@ pub fn note(
     Ok(())
 }
 
-/// Forgets a slot that stands in the bucket of this object name. A bucket without slots goes. Takes
-/// no memory.
+/// Removes a slot from the bucket of this object name. The slot is in the bucket, and a bucket
+/// without slots is removed too. Takes no memory.
 pub fn forget(buckets: &mut HashMap<Name, Bucket>, id: Name, slot: usize)
     requires { 0 < times (bucket buckets.old.entries id) slot }
     ensures { Forgets buckets.old.entries buckets.new.entries id slot }
@@ -39,7 +38,7 @@ pub fn forget(buckets: &mut HashMap<Name, Bucket>, id: Name, slot: usize)
     }
 }
 
-// Takes a slot out of its bucket, and answers whether that bucket is left without slots.
+// Removes a slot from its bucket, and answers whether the bucket is then empty.
 fn take_out(buckets: &mut HashMap<Name, Bucket>, id: Name, slot: usize) -> bool
     requires { 0 < times (bucket buckets.old.entries id) slot }
     ensures taken { Forgets buckets.old.entries buckets.new.entries id slot }

@@ -1,8 +1,8 @@
-//! The pool of contents that all tenants share: each distinct content is stored once, in a slot
-//! that is counted, given up and used again.
+//! The pool of contents that all tenants share. Each distinct content is stored once, in a slot
+//! with a count of holds. After the last hold is released the slot is used again.
 //!
-//! The pool knows no tenant and no object name's meaning: a caller keeps slots, and may keep names
-//! beside them. Two contents are the same where kind and bytes are, whatever their names.
+//! The pool knows no tenant and gives object names no meaning: a caller keeps slots, and may keep
+//! names with them. Two contents are the same if their kinds and bytes are, whatever their names.
 #![tactic(auto)]
 
 mod bucket;

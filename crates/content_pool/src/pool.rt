@@ -1,12 +1,11 @@
-//! The pool of contents that all tenants share, with a count of holds for each.
+//! The pool of contents that all tenants share, with a count of holds for each content.
 //!
-//! A content lies in a slot from the first `put` of it on until the last hold is released, and
-//! nowhere twice. The digest names a bucket of slots, and kind and bytes decide inside it, so
-//! nothing is assumed of collisions. The pool does not know who holds a slot, nor whether the
-//! caller kept it.
+//! A content has one slot, from its first `put` until its last hold is released. The object name
+//! leads to a bucket of slots, and in the bucket kind and bytes decide, so nothing is assumed about
+//! collisions. The pool does not know who holds a slot, or whether the caller still has it.
 //!
-//! `put` of a blob `a` answers a slot; `put` of `a` again answers the same slot, then held twice.
-//! After two releases the slot is free, and the next new content goes there.
+//! `put` of a blob `a` answers a slot. `put` of `a` again answers the same slot, which is then held
+//! twice. After two releases the slot is free, and the next new content is stored there.
 
 ghost use Rattle.std.specs.Prelude.{◌≡◌, ℕ, ◌∷◌, ◌++◌, ◌-◌, ◌<◌, ◌^◌, [], List, length, min};
 ghost use Rattle.std.specs.Prelude.{sum_by, slice_index, IsSome, MatchOption, IfOk, OnErr};
@@ -31,11 +30,11 @@ use std::alloc::Global;
 use std::collections::HashMap;
 use std::marker::Model;
 
-// How often a slot is held before its last release.
+// The count of a slot before its last release.
 const LAST: u64 = 1;
 
-/// The contents that are held, each once. Contracts see, for each slot, what it holds and how
-/// often.
+/// The contents that are held, each stored once. Contracts see for each slot its content and how
+/// often it is held.
 #[derive(Drop)]
 pub struct Pool<N: Naming> {
     alloc: Global,
@@ -56,7 +55,7 @@ impl<N: Naming> Model for Pool<N> {
         × IsIndexed pool.cells.slots pool.buckets.entries };
 }
 
-// The first of these keys under which this content is stored. Something is stored under each.
+// The first of these keys under which this content is stored. Each key has something stored.
 fn key_of(cells: &Slab<Stored>, keys: &[usize], kind: Kind, bytes: &[u8]) -> Option<usize>
     requires { AllStored cells.now.slots keys.now }
     ensures { let c = content_from kind bytes.now in
@@ -71,7 +70,7 @@ fn key_of(cells: &Slab<Stored>, keys: &[usize], kind: Kind, bytes: &[u8]) -> Opt
     None
 }
 
-// The sum of the sizes of all that is stored, 2^64 - 1 where it is more.
+// The sum of the sizes of all stored contents, 2^64 - 1 if it is more.
 fn total_size(cells: &Slab<Stored>) -> u64
     ensures { result ≡ min (sum_by (λ e. length e.bytes) (values cells.now)) (2 ^ 64 - 1) }
 {
@@ -96,15 +95,15 @@ impl<N: Naming> Pool<N> {
         }
     }
 
-    /// The naming that the pool was made with. Takes no memory.
+    /// The naming that was given to `new`. Takes no memory.
     pub fn naming(&self) -> &N {
         &self.naming
     }
 
-    /// The object name that the pool's naming gives to the content of this kind with these bytes.
+    /// The object name that the naming of the pool gives to the content of this kind with these
+    /// bytes. The content need not be in the pool.
     ///
-    /// `Memory` (90) where the naming finds no room for its work. The content need not be in the
-    /// pool.
+    /// `Memory` (90) if the naming finds no room for its work.
     pub fn name_of(&self, kind: Kind, bytes: &[u8]) -> Result<Name, Memory>
         ensures { IfOk result (λ id. id ≡ object_name N.digest_of kind bytes.now) }
     {
@@ -114,8 +113,9 @@ impl<N: Naming> Pool<N> {
     /// Holds the content of this kind with these bytes once more, and answers its slot and its
     /// object name.
     ///
-    /// A content that is not stored yet is copied once, into an allocation of exactly its size. No
-    /// content may be held 2^64 - 1 times. Nothing has changed after `Memory` (90).
+    /// A content that is not stored yet is copied once, into an allocation of exactly its size. The
+    /// caller makes sure that no content is held 2^64 - 1 times already. `Memory` (90) if there is
+    /// no room; nothing has changed then.
     pub fn put(&mut self, kind: Kind, bytes: &[u8]) -> Result<(Slot, Name), Memory>
         requires { HasRoom self.old }
         ensures name { IfOk result (λ r. r.1 ≡ object_name N.digest_of kind bytes.now) }
@@ -128,8 +128,8 @@ impl<N: Naming> Pool<N> {
         Ok((slot, id))
     }
 
-    /// `put` for a caller that has the object name of the content already, so that its bytes are
-    /// digested once.
+    /// `put` for a caller that already has the object name of the content, so that the bytes are
+    /// hashed only once. `Memory` (90) if there is no room; nothing has changed then.
     pub fn put_named(&mut self, id: Name, kind: Kind, bytes: &[u8]) -> Result<Slot, Memory>
         requires named { id ≡ object_name N.digest_of kind bytes.now }
         requires room { HasRoom self.old }
@@ -146,10 +146,10 @@ impl<N: Naming> Pool<N> {
         self.store(id, kind, bytes)
     }
 
-    /// `put_named` of bytes that the caller has no more use for: they are stored without a copy.
+    /// `put_named` of bytes that the caller no longer needs: they are stored without a copy.
     ///
-    /// What the vector has beyond its length is given back. After `Memory` (90) nothing has
-    /// changed, and the vector is gone.
+    /// Capacity beyond the length of the vector is given back. `Memory` (90) if there is no room;
+    /// nothing has changed then, and the vector is freed.
     pub fn put_owned(&mut self, id: Name, kind: Kind, bytes: Vec<u8>) -> Result<Slot, Memory>
         requires named { id ≡ object_name N.digest_of kind bytes.items }
         requires room { HasRoom self.old }
@@ -165,7 +165,8 @@ impl<N: Naming> Pool<N> {
         self.store(id, kind, Bytes::taken(bytes))
     }
 
-    /// Holds a live slot once more. No content may be held 2^64 - 1 times. Takes no memory.
+    /// Holds a live slot once more. The caller makes sure that it is held fewer than 2^64 - 1
+    /// times. Takes no memory.
     #[tactic(auto, unfolding(crate::specs::Pool::holds, crate::specs::Pool::content))]
     pub fn hold(&mut self, slot: Slot)
         requires live { IsLive self.old slot }
@@ -175,8 +176,8 @@ impl<N: Naming> Pool<N> {
         self.cells[slot.key].holds += 1;
     }
 
-    /// Releases one hold of a live slot. With the last one the content is given up, and the slot
-    /// may be used again. Takes no memory.
+    /// Releases one hold of a live slot. The last release drops the content, and the slot may be
+    /// used again. Takes no memory.
     #[tactic(auto, unfolding(crate::specs::Pool::holds, crate::specs::Pool::content))]
     pub fn release(&mut self, slot: Slot)
         requires { IsLive self.old slot }
@@ -190,7 +191,7 @@ impl<N: Naming> Pool<N> {
         forget(&mut self.buckets, given_up.id, slot.key);
     }
 
-    /// The kind and the bytes that a live slot holds. Takes no memory.
+    /// The kind and the bytes of the content in a live slot. Takes no memory.
     #[tactic(auto, unfolding(crate::specs::Pool::holds, crate::specs::Pool::content))]
     pub fn get(&self, slot: Slot) -> (Kind, &[u8])
         requires { IsLive self.now slot }
@@ -200,7 +201,7 @@ impl<N: Naming> Pool<N> {
         (stored.kind, stored.bytes.as_slice())
     }
 
-    /// How many distinct contents are held, and the sum of their sizes in bytes, 2^64 - 1 where the
+    /// How many distinct contents are held, and the sum of their sizes in bytes, 2^64 - 1 if the
     /// sum is more. Walks over all slots. Takes no memory.
     pub fn stored(&self) -> (u64, u64)
         ensures live { result ≡ stored_sizes (live_contents self.now) }

@@ -2,8 +2,8 @@
 
 use std::marker::Model;
 
-/// Where a pool keeps a content. A slot means something to the pool that answered it alone, and
-/// only while it is held; after its last release the pool may answer it for another content.
+/// Where a pool keeps a content. A slot is valid only for the pool that answered it, and only while
+/// it is held. After its last release the pool may answer it for another content.
 #[derive(Clone, Copy, PartialEq, Eq)]
 pub struct Slot {
     pub(crate) key: usize,

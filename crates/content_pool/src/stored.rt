@@ -8,8 +8,8 @@ use crate::bytes::Bytes;
 use git_model::Kind;
 use git_names::Name;
 
-/// A content, the object name that it is found by, and how often it is held. The name is kept, for
-/// `release` takes no memory and a digest may.
+/// A content, the object name that leads to it, and how often it is held. The name is kept because
+/// `release` takes no memory, and hashing the content again might.
 #[derive(Drop)]
 pub struct Stored {
     pub id: Name,
@@ -19,7 +19,7 @@ pub struct Stored {
 }
 
 impl Stored {
-    /// Whether this is the content of this kind with these bytes. The name is not looked at.
+    /// Whether this is the content of this kind with these bytes. The name does not count.
     pub fn is(&self, kind: Kind, bytes: &[u8]) -> bool
         ensures { IsTrue result ↔ (content_of self.now ≡ content_from kind bytes.now) }
     {

@@ -7,7 +7,7 @@ use Rattle.git_model.specs.Reach.{is_referred_to}
 use Rattle.git_model.specs.Repository.{Object, Repository, with_object}
 use Rattle.tenant_tables.specs.Adding.{store_fault}
 use Rattle.stream_grammar.specs.Acts.{Wait, StoreBlob}
-use Rattle.import_session.specs.Marks.{room_for, with_mark}
+use Rattle.stream_state.specs.Marks.{room_for, with_mark}
 use Rattle.import_session.specs.Meaning.{after_act, placed_by, set_by, shown_by, stored_or_shown}
 use Rattle.import_session.specs.Workspace.{Workspace, quiet}
 use Rattle.export_text.specs.ExportActs.{number_of}

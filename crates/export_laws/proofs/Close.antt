@@ -10,14 +10,15 @@ use Rattle.git_model.specs.Repository.{Object, Repository}
 use Rattle.open_commits.specs.declared.fault.Fault.{Fault as CommitFault}
 use Rattle.open_commits.specs.Ends.{Closed, closed}
 use Rattle.open_commits.specs.OpenCommit.{OpenCommit}
-use Rattle.import_session.specs.declared.branches.Tip.{Tip}
-use Rattle.import_session.specs.declared.branches.Tip.TheVariants.{At}
-use Rattle.import_session.specs.declared.fault.Fault.{Fault}
-use Rattle.import_session.specs.Branches.{with_branch}
+use Rattle.stream_state.specs.declared.branches.Tip.{Tip}
+use Rattle.stream_state.specs.declared.branches.Tip.TheVariants.{At}
+use Rattle.stream_state.specs.declared.fault.Fault.{Fault}
+use Rattle.stream_state.specs.Branches.{with_branch, Branches}
 use Rattle.import_session.specs.Commits.{closed_at, closed_where}
-use Rattle.import_session.specs.Faults.{and_then, changed_or}
-use Rattle.import_session.specs.Marks.{room_for, with_mark}
-use Rattle.import_session.specs.Workspace.{Branches, Workspace}
+use Rattle.stream_state.specs.Faults.{and_then}
+use Rattle.import_session.specs.Faults.{changed_or}
+use Rattle.stream_state.specs.Marks.{room_for, with_mark}
+use Rattle.import_session.specs.Workspace.{Workspace}
 use Rattle.export_text.specs.ExportActs.{number_of}
 use Rattle.export_text.specs.ExportItems.{scratch}
 use Rattle.export_laws.specs.Commits.{commit_told, workspace_with}

@@ -1,5 +1,5 @@
 -- The export of a repository, imported into an empty one.
-use Rattle.std.proofs.Common.{◌≡◌, ℕ, ◌≤◌, true, false, length, List, [], Ok, sym, ap, ◌∙◌, subst, append_assoc}
+use Rattle.std.proofs.Common.{◌≡◌, ℕ, ◌≤◌, true, false, length, List, [], All, Ok, sym, ap, ◌∙◌, subst, append_assoc}
 use Rattle.std.specs.List.{flat_map}
 use Rattle.git_model.specs.Repository.{Object, Repository}
 use Rattle.git_names.specs.Naming.{AnswersNames}
@@ -7,7 +7,7 @@ use Rattle.stream_lex.specs.Items.{Reading}
 use Rattle.stream_grammar.specs.Commands.{Done, Parsing, commands, top}
 use Rattle.import_session.specs.Sound.{IsSoundRepository}
 use Rattle.import_session.specs.Stream.{Outcome, begun, carried, finished}
-use Rattle.import_session.specs.Tags.{tag_limit}
+use Rattle.stream_state.specs.Tags.{tag_limit}
 use Rattle.import_session.specs.Workspace.{opened}
 use Rattle.export_text.specs.Export.{export_items, export_text}
 use Rattle.export_text.specs.ExportActs.{AsksFor, all_ref_acts, export_acts, removal_acts}
@@ -15,21 +15,28 @@ use Rattle.export_text.specs.Limits.{CanExport}
 use Rattle.export_text.specs.Reached.{extra_tag_refs, is_exportable, reached_tags}
 use Rattle.export_text.proofs.ExportAsked.{asks-for}
 use Rattle.export_text.proofs.Writable.{read-back}
+use Rattle.export_laws.specs.Copies.{FitsStream}
 use Rattle.export_laws.specs.Ends.{AreRefsLeft, IsImported, imported}
 use Rattle.export_laws.specs.Leaving.{Leaves}
 use Rattle.export_laws.specs.Told.{AreOf}
 use Rattle.export_laws.specs.Whole.{AreSaved, HasReached, acts_to_saved, nothing_there}
 use Rattle.export_laws.proofs.Acts.{both}
 use Rattle.export_laws.proofs.EndCarried.{carried-out, standing}
+use Rattle.export_laws.proofs.EndFits.{can-export}
 use Rattle.export_laws.proofs.EndGoesOn.{export-goes}
 use Rattle.export_laws.proofs.EndLast.{finished-well}
 use Rattle.export_laws.proofs.RefsLeft.{refs-left}
 use Rattle.export_laws.proofs.WholeTold.{are-saved}
 
 module _ (digest : List ℕ → List ℕ) (names : AnswersNames digest) (repository : Repository)
-    (sound : IsSoundRepository digest repository) (can : CanExport repository)
+    (sound : IsSoundRepository digest repository)
+    (fits : All (λ o. FitsStream repository.objects o.content.kind o.content.bytes)
+    repository.objects)
     (few_tags : length (reached_tags repository) ≤ tag_limit)
     (exportable : is_exportable repository ≡ true) where
+  can : CanExport repository
+  can = can-export digest repository sound fits
+
   saved : AreSaved digest repository
   saved =
       are-saved digest names repository sound.objects sound.trees sound.refs few_tags exportable

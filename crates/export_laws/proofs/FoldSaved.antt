@@ -8,10 +8,13 @@ use Rattle.git_model.specs.GoodRepository.{refs_limit}
 use Rattle.git_model.specs.RefStore.{RefMap, RefStore, first_head, listed_refs, no_refs}
 use Rattle.git_model.specs.Repository.{Repository}
 use Rattle.stream_grammar.specs.Acts.{Checkpoint, Reset}
-use Rattle.import_session.specs.declared.branches.Tip.TheVariants.{Unborn}
-use Rattle.import_session.specs.Checkpoints.{by_head, checkpointed, fit, saved_refs}
+use Rattle.stream_state.specs.declared.branches.Tip.TheVariants.{Unborn}
+use Rattle.stream_state.specs.Checkpoints.{by_head, fit}
+use Rattle.import_session.specs.Checkpoints.{checkpointed, saved_refs}
 use Rattle.import_session.specs.Meaning.{after_act}
-use Rattle.import_session.specs.Workspace.{PendingTags, Workspace, quiet, said_of}
+use Rattle.stream_state.specs.Tags.{PendingTags}
+use Rattle.stream_state.specs.Said.{said_of}
+use Rattle.import_session.specs.Workspace.{Workspace, quiet}
 use Rattle.export_text.specs.ExportActs.{saving_acts}
 use Rattle.export_text.specs.ExportItems.{scratch}
 use Rattle.export_text.specs.Reached.{is_exportable, reached_objects}

@@ -20,11 +20,11 @@ use Rattle.commit_walk.proofs.Named.{there}
 
 -- ---- first ones, and one after them
 
-object-behind : (first rest : List Object) (o : Object)
+object-after : (first rest : List Object) (o : Object)
     → object_at (length first) (first ++ o ∷ rest) ≡ o
-object-behind [] rest o = first_object o rest
-object-behind (x ∷ first) rest o =
-    later_object (length first) x (first ++ o ∷ rest) ∙ object-behind first rest o
+object-after [] rest o = first_object o rest
+object-after (x ∷ first) rest o =
+    later_object (length first) x (first ++ o ∷ rest) ∙ object-after first rest o
 
 -- a name that stands among the first ones is found there
 front-named : (id : List ℕ) (xs ys : List Object) → place_of id (xs ++ ys) < length xs
@@ -91,7 +91,7 @@ known digest os first rest o good is = record {
     lt = let l = ap (λ (x : List Object). length x) is in let a = length-append first (o ∷ rest) in omega (arith, l, a)
 
     at : object_at (length first) os ≡ o
-    at = ap (object_at (length first)) is ∙ object-behind first rest o
+    at = ap (object_at (length first)) is ∙ object-after first rest o
 
     place : place_of o.id os ≡ length first
     place =

@@ -39,5 +39,7 @@ pub mod RefsLeft
 pub mod EndCarried
 pub mod EndGoesOn
 pub mod EndLast
+pub mod EndFits
 pub mod EndImported
 pub mod OneCommit
+pub mod SameRepositories

@@ -9,8 +9,7 @@ use Rattle.git_model.specs.Content.{Content}
 use Rattle.git_model.specs.References.{place_of, object_at}
 use Rattle.git_model.specs.Repository.{Object, object_named}
 use Rattle.git_model.proofs.Places.{stands_at}
-use Rattle.import_session.specs.Marks.{found_mark, has_room, mark_limit, marked_name, room_for, with_mark}
-use Rattle.import_session.specs.Workspace.{Marks}
+use Rattle.stream_state.specs.Marks.{found_mark, has_room, mark_limit, marked_name, room_for, with_mark, Marks}
 use Rattle.export_text.specs.ExportActs.{number_of}
 
 looked-up : (marks : Marks) (m : ℕ) (id : List ℕ)

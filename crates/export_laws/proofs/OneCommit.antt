@@ -23,7 +23,7 @@ use Rattle.git_model.specs.CommitReading.{commit_read}
 use Rattle.git_model.specs.Content.{Content, name_by}
 use Rattle.git_model.specs.GoodRepository.{AreObjects, AreRefs, MayAdd, StandsBefore}
 use Rattle.git_model.specs.Ident.{IsWrittenIdent}
-use Rattle.git_model.specs.IdentReading.{behind_email, behind_name, is_date, read_ident}
+use Rattle.git_model.specs.IdentReading.{after_email, after_name, is_date, read_ident}
 use Rattle.git_model.specs.ObjectName.{IsObjectName, header, object_name}
 use Rattle.git_model.specs.Reach.{is_referred_to}
 use Rattle.git_model.specs.RefStore.{ChangesRef, first_head, listed_refs, no_refs, target_of, with_ref}
@@ -38,7 +38,7 @@ use Rattle.git_model.proofs.IdentLaws.{read_ident-Ok, written_ident-IsWritten}
 use Rattle.git_model.proofs.Places.{first_named, first_place, later_named, later_place, nothing_named}
 use Rattle.git_model.proofs.TreeReadings.{tree_back}
 use Rattle.git_names.specs.Naming.{AnswersNames, tail_digest}
-use Rattle.tenant_tables.specs.Sums.{FitsBehind, HasFiles, IsTreeText}
+use Rattle.tenant_tables.specs.Sums.{FitsAfter, HasFiles, IsTreeText}
 use Rattle.file_maps.specs.declared.entry.Entry.{Entry}
 use Rattle.file_maps.specs.Edits.{with_files}
 use Rattle.file_maps.specs.FileMap.{Listed, Path, listed}
@@ -46,10 +46,9 @@ use Rattle.file_maps.specs.StoredFiles.{listed_by, listed_within, stored_files, 
 use Rattle.file_maps.specs.StoredTree.{HasTree, file_from}
 use Rattle.file_maps.proofs.ListedOrder.{listed-with}
 use Rattle.file_maps.proofs.StoredFiles.{entries-at}
-use Rattle.export_text.specs.Limits.{Fits, FitsCommit, FitsPath}
 use Rattle.export_text.specs.Reached.{each_once, is_tag, reached_tags, ref_of_tag, tag_refs}
 use Rattle.import_session.specs.Sound.{IsSoundRepository}
-use Rattle.export_laws.specs.Copies.{CanBeCopied}
+use Rattle.export_laws.specs.Copies.{CanBeCopied, CommitFits, FitsStream, HasPathOfBytes}
 use Rattle.export_laws.proofs.RefsHeld.{target-set}
 use Rattle.export_laws.specs.OneCommit.{AreNamedApart, author, blob, commit, entry, first_commit, one_commit, tree}
 
@@ -112,7 +111,7 @@ hello_is = record {
 }
 
 author_is : IsWrittenIdent author
-unfolding read_ident behind_name behind_email is_date
+unfolding read_ident after_name after_email is_date
 author_is = written_ident-IsWritten author ((read_ident-Ok author).0 refl)
 
 tree_length : (id : List ℕ) → length id ≡ 20
@@ -285,9 +284,9 @@ module _ (digest : List ℕ → List ℕ) (names : AnswersNames digest)
   -- ---- the tree
 
   tree_fits : IsTreeText t.content.bytes (tree_read t.content.bytes)
-      × FitsBehind [] (tree_read t.content.bytes)
+      × FitsAfter [] (tree_read t.content.bytes)
   tree_fits =
-      subst (λ (es : List TreeEntry). IsTreeText t.content.bytes es × FitsBehind [] es)
+      subst (λ (es : List TreeEntry). IsTreeText t.content.bytes es × FitsAfter [] es)
       (sym tree_says) (
         record { writable = can_tree; contents = refl },
         record {
@@ -314,25 +313,23 @@ module _ (digest : List ℕ → List ℕ) (names : AnswersNames digest)
       ap (λ (files : Listed). listed (with_files finmap.empty files)) files_stored
       ∙ listed-with (file ∷ []) (tt, tt)
 
-  path_fits : FitsPath file
-  path_fits = record {
-    bytes = All-cons (All (λ byte. byte < 256)) (codes "hello") []
-        (All-from_recursion (λ byte. byte < 256) (codes "hello") (
-          omega arith,
-          (omega arith, (omega arith, (omega arith, (omega arith, tt)))),
-        )) (All-nil (All (λ byte. byte < 256)));
-    limits = record { bytes = omega arith; components = omega arith };
-  }
+  path_bytes : HasPathOfBytes file
+  path_bytes =
+      All-cons (All (λ byte. byte < 256)) (codes "hello") []
+      (All-from_recursion (λ byte. byte < 256) (codes "hello") (
+        omega arith,
+        (omega arith, (omega arith, (omega arith, (omega arith, tt)))),
+      )) (All-nil (All (λ byte. byte < 256)))
 
-  commit_fits : FitsCommit os (commit_read c.content.bytes)
+  commit_fits : CommitFits os (commit_read c.content.bytes)
   commit_fits =
-      subst (FitsCommit os) (sym commit_says) (record {
+      subst (CommitFits os) (sym commit_says) (record {
         author = omega arith;
         committer = omega arith;
         encoding = tt;
         message = omega arith;
-        paths = subst (All FitsPath) (sym files_listed)
-            (All-cons FitsPath file [] path_fits (All-nil FitsPath));
+        paths = subst (All HasPathOfBytes) (sym files_listed)
+            (All-cons HasPathOfBytes file [] path_bytes (All-nil HasPathOfBytes));
       })
 
   -- ---- the refs
@@ -366,13 +363,9 @@ module _ (digest : List ℕ → List ℕ) (names : AnswersNames digest)
 
   pub can-be-copied : CanBeCopied (one_commit digest)
   can-be-copied = record {
-    fits = record {
-      head = good_refs.head;
-      names = good_refs.names;
-      objects = All-from_recursion
-          (λ (o : Object). Fits os o.content.kind o.content.bytes) os
-          (omega arith, (tt, (commit_fits, tt)));
-    };
+    fits = All-from_recursion
+        (λ (o : Object). FitsStream os o.content.kind o.content.bytes) os
+        (omega arith, (tt, (commit_fits, tt)));
     few_refs = le-leb _ 65535 (omega (arith, refs_listed, tag_refs_none));
     few_tags = let none = ap (λ (os : List Object). length os) tags in omega (arith, none);
   }

@@ -24,10 +24,11 @@ use Rattle.open_commits.specs.Faults.{and_then as commit_then, or_fault}
 use Rattle.open_commits.specs.OpenCommit.{OpenCommit}
 use Rattle.open_commits.specs.Parents.{changed_to}
 use Rattle.import_session.specs.Changes.{changed_by, moved_by}
-use Rattle.import_session.specs.Faults.{and_then, changed_or}
-use Rattle.import_session.specs.Marks.{found_mark, marked_name}
+use Rattle.stream_state.specs.Faults.{and_then}
+use Rattle.import_session.specs.Faults.{changed_or}
+use Rattle.stream_state.specs.Marks.{found_mark, marked_name, Marks}
 use Rattle.import_session.specs.Meaning.{after_act, placed_by, said_of_commit, said_of_tag, set_by, shown_by, stored_or_shown, within_commit}
-use Rattle.import_session.specs.Workspace.{Marks, Workspace, quiet}
+use Rattle.import_session.specs.Workspace.{Workspace, quiet}
 use Rattle.export_text.specs.ExportActs.{act_of_file, asks, dataref, number_of}
 use Rattle.export_laws.specs.Leaving.{Leaves, nothing}
 use Rattle.export_laws.specs.Putting.{Puts, nothing as none_put, first_file}

@@ -9,16 +9,18 @@ use Rattle.file_maps.specs.StoredFiles.{commit_map}
 use Rattle.stream_grammar.specs.Acts.{Author, BeginCommit, Committer, Encoding, OpenCommit, Reset, Wait}
 use Rattle.stream_grammar.specs.Names.{Expression}
 use Rattle.open_commits.specs.OpenCommit.{Header, OpenCommit as Open, begun}
-use Rattle.import_session.specs.declared.branches.Tip.{Tip}
-use Rattle.import_session.specs.declared.branches.Tip.TheVariants.{Unborn, Deleted, At}
-use Rattle.import_session.specs.declared.fault.Fault.{Fault}
-use Rattle.import_session.specs.declared.said.Said.{Said}
-use Rattle.import_session.specs.Branches.{branch_set, has_branch_room, ref_meant}
-use Rattle.import_session.specs.Commits.{begun_from, tip_commit, tip_for}
-use Rattle.import_session.specs.Faults.{and_then, changed_or}
+use Rattle.stream_state.specs.declared.branches.Tip.{Tip}
+use Rattle.stream_state.specs.declared.branches.Tip.TheVariants.{Unborn, Deleted, At}
+use Rattle.stream_state.specs.declared.fault.Fault.{Fault}
+use Rattle.stream_state.specs.declared.said.Said.{Said}
+use Rattle.stream_state.specs.Branches.{branch_set, has_branch_room, ref_meant, tip_commit, tip_for, Branches}
+use Rattle.import_session.specs.Commits.{begun_from}
+use Rattle.stream_state.specs.Faults.{and_then}
+use Rattle.import_session.specs.Faults.{changed_or}
 use Rattle.import_session.specs.Meaning.{after_act, placed_by, said_of_commit, said_of_tag, set_by, shown_by, stored_or_shown}
 use Rattle.import_session.specs.Sound.{IsBranch}
-use Rattle.import_session.specs.Workspace.{Branches, Workspace, quiet, said_of}
+use Rattle.stream_state.specs.Said.{said_of}
+use Rattle.import_session.specs.Workspace.{Workspace, quiet}
 use Rattle.export_text.specs.ExportActs.{asks, asks_if}
 use Rattle.export_text.specs.ExportItems.{scratch}
 use Rattle.export_laws.specs.Leaving.{Leaves, nothing}

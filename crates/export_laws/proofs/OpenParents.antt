@@ -18,11 +18,12 @@ use Rattle.stream_grammar.specs.Acts.{Merge, StartFrom}
 use Rattle.stream_grammar.specs.Names.{Marked}
 use Rattle.open_commits.specs.OpenCommit.{OpenCommit}
 use Rattle.open_commits.specs.Parents.{merged, started_from}
-use Rattle.import_session.specs.declared.fault.Fault.{Fault}
+use Rattle.stream_state.specs.declared.fault.Fault.{Fault}
 use Rattle.import_session.specs.Changes.{changed_by}
 use Rattle.import_session.specs.CommitIshes.{commit_in}
-use Rattle.import_session.specs.Faults.{and_then, changed_or, resolved_or}
-use Rattle.import_session.specs.Marks.{marked_name}
+use Rattle.stream_state.specs.Faults.{and_then, resolved_or}
+use Rattle.import_session.specs.Faults.{changed_or}
+use Rattle.stream_state.specs.Marks.{marked_name}
 use Rattle.import_session.specs.Meaning.{after_act, placed_by, said_of_commit, said_of_tag, set_by, shown_by, stored_or_shown, within_commit}
 use Rattle.import_session.specs.Workspace.{Workspace, quiet}
 use Rattle.export_text.specs.ExportActs.{merges, number_of, parent_acts}

@@ -20,11 +20,12 @@ use Rattle.file_maps.proofs.Apart.{all-weaker}
 use Rattle.stream_grammar.specs.Acts.{Author, BeginCommit, Committer, Encoding, OpenCommit, Wait}
 use Rattle.stream_grammar.specs.Commands.{Done}
 use Rattle.open_commits.specs.OpenCommit.{Header, OpenCommit as Open}
-use Rattle.import_session.specs.declared.branches.Tip.{Tip}
-use Rattle.import_session.specs.declared.branches.Tip.TheVariants.{Unborn}
-use Rattle.import_session.specs.Commits.{tip_commit, tip_for}
+use Rattle.stream_state.specs.declared.branches.Tip.{Tip}
+use Rattle.stream_state.specs.declared.branches.Tip.TheVariants.{Unborn}
+use Rattle.stream_state.specs.Branches.{tip_commit, tip_for}
 use Rattle.import_session.specs.Sound.{IsSound}
-use Rattle.import_session.specs.Workspace.{Workspace, said_of}
+use Rattle.stream_state.specs.Said.{said_of}
+use Rattle.import_session.specs.Workspace.{Workspace}
 use Rattle.export_text.specs.ExportActs.{asks, asks_if, file_acts, fresh_acts, head_acts_of, number_of, parent_acts}
 use Rattle.export_text.specs.ExportItems.{scratch}
 use Rattle.export_laws.specs.Commits.{commit_told, header_told, workspace_with}

@@ -27,7 +27,7 @@ use Rattle.file_maps.proofs.ListedOrder.{listed-with, tree-in-order}
 use Rattle.file_maps.proofs.Listing.{tree-sound}
 use Rattle.file_maps.proofs.Puts.{AreFiles-nil}
 use Rattle.file_maps.proofs.StoredPut.{stored-put}
-use Rattle.file_maps.proofs.SumsBehind.{within-from}
+use Rattle.file_maps.proofs.SumsAfter.{within-from}
 use Rattle.open_commits.specs.OpenCommit.{OpenCommit}
 use Rattle.open_commits.specs.Parents.{changed_to, started_from}
 use Rattle.open_commits.proofs.Starting.{root-put}

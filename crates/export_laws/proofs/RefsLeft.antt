@@ -8,11 +8,13 @@ use Rattle.git_model.specs.GoodRepository.{AreObjects, AreRefs, refs_limit}
 use Rattle.git_model.specs.RefStore.{RefStore, listed_refs, target_of}
 use Rattle.git_model.specs.Repository.{Object, Repository}
 use Rattle.file_maps.proofs.Puts.{length-filter-le}
-use Rattle.import_session.specs.declared.branches.Tip.{Tip}
-use Rattle.import_session.specs.declared.branches.Tip.TheVariants.{Unborn, Deleted, At}
-use Rattle.import_session.specs.Branches.{tip_of}
-use Rattle.import_session.specs.Checkpoints.{by_branches, by_head, by_tags, checkpoint, checkpointed, fit, kept_lines, saved_refs}
-use Rattle.import_session.specs.Workspace.{Branches, PendingTags, Workspace, quiet}
+use Rattle.stream_state.specs.declared.branches.Tip.{Tip}
+use Rattle.stream_state.specs.declared.branches.Tip.TheVariants.{Unborn, Deleted, At}
+use Rattle.stream_state.specs.Branches.{tip_of, Branches}
+use Rattle.stream_state.specs.Checkpoints.{by_head, by_tags, fit}
+use Rattle.import_session.specs.Checkpoints.{by_branches, checkpoint, checkpointed, kept_lines, saved_refs}
+use Rattle.stream_state.specs.Tags.{PendingTags}
+use Rattle.import_session.specs.Workspace.{Workspace, quiet}
 use Rattle.export_text.specs.ExportActs.{removal_acts}
 use Rattle.export_text.specs.ExportItems.{scratch}
 use Rattle.export_text.specs.Reached.{extra_tag_refs, is_exportable, is_missing, tag_refs}

@@ -5,10 +5,12 @@ use Rattle.std.specs.Str.{bytes_eq}
 use Rattle.std.proofs.lemmas.Bool.{cases_Bool, false≢true}
 use Rattle.git_model.specs.RefStore.{RefStore, target_of}
 use Rattle.stream_grammar.specs.Names.{Expression}
-use Rattle.import_session.specs.declared.branches.Tip.TheVariants.{Unborn, Deleted}
-use Rattle.import_session.specs.declared.said.Said.{Said}
-use Rattle.import_session.specs.Branches.{branch_limit, tip_of, with_branch}
-use Rattle.import_session.specs.Workspace.{Branches, PendingTags, Workspace, said_of}
+use Rattle.stream_state.specs.declared.branches.Tip.TheVariants.{Unborn, Deleted}
+use Rattle.stream_state.specs.declared.said.Said.{Said}
+use Rattle.stream_state.specs.Branches.{branch_limit, tip_of, with_branch, Branches}
+use Rattle.stream_state.specs.Tags.{PendingTags}
+use Rattle.stream_state.specs.Said.{said_of}
+use Rattle.import_session.specs.Workspace.{Workspace}
 use Rattle.export_text.specs.ExportActs.{removal_acts}
 use Rattle.export_laws.specs.Leaving.{Leaves, nothing}
 use Rattle.export_laws.proofs.Acts.{both}

@@ -6,15 +6,17 @@ use Rattle.git_model.specs.declared.kind.Kind.TheVariants as kind
 use Rattle.git_model.specs.Repository.{Object}
 use Rattle.stream_grammar.specs.Acts.{Reset, ResetTo, Wait}
 use Rattle.stream_grammar.specs.Names.{CommitIsh, Marked, Expression}
-use Rattle.import_session.specs.declared.branches.Tip.{Tip}
-use Rattle.import_session.specs.declared.branches.Tip.TheVariants.{Unborn, Deleted, At}
-use Rattle.import_session.specs.declared.said.Said.{Said}
-use Rattle.import_session.specs.Branches.{branch_limit, has_branch_room, ref_meant, tip_of, with_branch}
+use Rattle.stream_state.specs.declared.branches.Tip.{Tip}
+use Rattle.stream_state.specs.declared.branches.Tip.TheVariants.{Unborn, Deleted, At}
+use Rattle.stream_state.specs.declared.said.Said.{Said}
+use Rattle.stream_state.specs.Branches.{branch_limit, has_branch_room, ref_meant, tip_of, with_branch, Branches}
 use Rattle.import_session.specs.Meaning.{after_act, placed_by, set_by, shown_by, stored_or_shown}
 use Rattle.import_session.specs.Resets.{is_zeros, tip_from}
-use Rattle.import_session.specs.Workspace.{Branches, PendingTags, Workspace, quiet, said_of}
-use Rattle.import_session.specs.declared.fault.Fault.{Fault}
-use Rattle.import_session.specs.Faults.{and_then}
+use Rattle.stream_state.specs.Tags.{PendingTags}
+use Rattle.stream_state.specs.Said.{said_of}
+use Rattle.import_session.specs.Workspace.{Workspace, quiet}
+use Rattle.stream_state.specs.declared.fault.Fault.{Fault}
+use Rattle.stream_state.specs.Faults.{and_then}
 use Rattle.export_text.specs.ExportActs.{number_of, reset_acts}
 use Rattle.export_laws.specs.Leaving.{Leaves, nothing}
 use Rattle.export_laws.proofs.Acts.{asked}

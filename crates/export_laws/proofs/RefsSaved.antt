@@ -6,11 +6,13 @@ use Rattle.std.specs.Map.{keys_of}
 use Rattle.std.specs.Str.{bytes_eq}
 use Rattle.std.proofs.lemmas.Bool.{cases_Bool, false≢true}
 use Rattle.git_model.specs.RefStore.{RefStore, target_of, with_ref}
-use Rattle.import_session.specs.declared.branches.Tip.{Tip}
-use Rattle.import_session.specs.declared.branches.Tip.TheVariants.{Unborn, Deleted, At}
-use Rattle.import_session.specs.Branches.{tip_of}
-use Rattle.import_session.specs.Checkpoints.{by_branches, by_tags, kept_by, kept_lines, may_set, moves, saved_by}
-use Rattle.import_session.specs.Workspace.{Branches, PendingTags, Workspace}
+use Rattle.stream_state.specs.declared.branches.Tip.{Tip}
+use Rattle.stream_state.specs.declared.branches.Tip.TheVariants.{Unborn, Deleted, At}
+use Rattle.stream_state.specs.Branches.{tip_of, Branches}
+use Rattle.stream_state.specs.Checkpoints.{by_tags}
+use Rattle.import_session.specs.Checkpoints.{by_branches, kept_by, kept_lines, may_set, moves, saved_by}
+use Rattle.stream_state.specs.Tags.{PendingTags}
+use Rattle.import_session.specs.Workspace.{Workspace}
 use Rattle.export_laws.proofs.RefsBranches.{first-distinct, none-later}
 use Rattle.export_laws.proofs.RefsHeld.{bytes-are, target-removed, target-set}
 

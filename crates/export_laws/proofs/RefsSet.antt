@@ -17,12 +17,13 @@ use Rattle.git_model.specs.Tag.{Tag, tag_contents}
 use Rattle.git_model.specs.TagReading.{tag_read}
 use Rattle.tenant_tables.specs.Adding.{store_fault}
 use Rattle.stream_grammar.specs.Names.{Marked}
-use Rattle.import_session.specs.declared.branches.Tip.TheVariants.{Unborn, Deleted, At}
-use Rattle.import_session.specs.declared.said.Said.{Said}
-use Rattle.import_session.specs.Branches.{branch_limit, tip_of, with_branch}
-use Rattle.import_session.specs.Marks.{marked_name}
-use Rattle.import_session.specs.Tags.{tag_limit}
-use Rattle.import_session.specs.Workspace.{Branches, Marks, PendingTags, Workspace, said_of}
+use Rattle.stream_state.specs.declared.branches.Tip.TheVariants.{Unborn, Deleted, At}
+use Rattle.stream_state.specs.declared.said.Said.{Said}
+use Rattle.stream_state.specs.Branches.{branch_limit, tip_of, with_branch, Branches}
+use Rattle.stream_state.specs.Marks.{marked_name, Marks}
+use Rattle.stream_state.specs.Tags.{tag_limit, PendingTags}
+use Rattle.stream_state.specs.Said.{said_of}
+use Rattle.import_session.specs.Workspace.{Workspace}
 use Rattle.export_text.specs.ExportActs.{acts_of_ref, number_of, ref_acts, tag_acts}
 use Rattle.export_text.specs.Reached.{tag_ref}
 use Rattle.export_laws.specs.Leaving.{Leaves, nothing}

@@ -11,11 +11,12 @@ use Rattle.tenant_tables.specs.Adding.{store_fault}
 use Rattle.stream_grammar.specs.Acts.{BeginTag, StoreTag, TagTarget, Tagger}
 use Rattle.stream_grammar.specs.Commands.{Done}
 use Rattle.stream_grammar.specs.Names.{Marked}
-use Rattle.import_session.specs.declared.said.Said.{Said}
-use Rattle.import_session.specs.Marks.{marked_name, room_for, with_mark}
+use Rattle.stream_state.specs.declared.said.Said.{Said}
+use Rattle.stream_state.specs.Marks.{marked_name, room_for, with_mark}
 use Rattle.import_session.specs.Meaning.{after_act, placed_by, said_of_tag, set_by, shown_by, stored_or_shown}
-use Rattle.import_session.specs.Tags.{room_for_tag, tag_limit, tagged_kind}
-use Rattle.import_session.specs.Workspace.{Workspace, quiet, said_of}
+use Rattle.stream_state.specs.Tags.{room_for_tag, tag_limit, tagged_kind}
+use Rattle.stream_state.specs.Said.{said_of}
+use Rattle.import_session.specs.Workspace.{Workspace, quiet}
 use Rattle.export_text.specs.ExportActs.{asks, asks_if, wait_if}
 use Rattle.export_text.specs.Reached.{tag_ref}
 use Rattle.export_laws.specs.Leaving.{Leaves, nothing}

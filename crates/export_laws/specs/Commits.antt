@@ -9,8 +9,8 @@ use Rattle.export_text.specs.ExportItems.{scratch}
 use Rattle.import_session.specs.Workspace.{Workspace}
 use Rattle.export_laws.specs.Told.{Told, workspace_of}
 
--- What its lines before the message say: it is told on the scratch branch, with its mark, and its
--- author is always said.
+-- What the lines before its message say: the commit is told on the scratch branch, with its mark,
+-- and its author is always given.
 abbrev pub header_told : ℕ → Commit → Header
 header_told mark c = record {
   ref = scratch;
@@ -20,7 +20,7 @@ header_told mark c = record {
   encoding = c.encoding;
 }
 
--- What is open after its last file: its parents, and the files of its tree.
+-- The open commit after its last file: its parents, and the files of its tree.
 abbrev pub commit_told : List Object → List ℕ → Commit → OpenCommit
 commit_told os id c = record {
   header = header_told (number_of os id) c;
@@ -29,6 +29,6 @@ commit_told os id c = record {
   files = stored_map os c.tree;
 }
 
--- The workspace then.
+-- The workspace with this commit open.
 abbrev pub workspace_with : Option (List ℕ) → Told → OpenCommit → Workspace
 workspace_with head told commit = record (workspace_of head told) { commit = Some commit }

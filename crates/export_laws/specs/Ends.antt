@@ -15,14 +15,15 @@ use Rattle.export_laws.specs.Leaving.{Leaves}
 use Rattle.export_laws.specs.Told.{Told}
 use Rattle.export_laws.specs.Whole.{nothing_there}
 
--- What an export asks for once all its objects are saved: the refs are taken away that the tags
--- have left and the repository has not, and each of its refs is set.
+-- The acts of an export once all its objects are saved: they remove the refs that the tags have set
+-- and the repository does not have, and they set each ref of the repository.
 abbrev pub acts_of_refs : Repository → List Done
 acts_of_refs repository =
     flat_map removal_acts (extra_tag_refs repository) ++ all_ref_acts repository
 
--- These acts lead from there to a workspace at which the stream may end, and a checkpoint of it
--- prints nothing and leaves the refs and HEAD of the repository, with all that was told.
+-- These acts lead from the saved workspace to one at which the stream may end. A checkpoint of that
+-- one prints nothing, and leaves the refs and HEAD of the repository and all objects that were
+-- told.
 pub record AreRefsLeft (digest : List ℕ → List ℕ) (repository : Repository) (told : Told)
     (saved : Workspace) : Type 0 where
   pub last : Workspace
@@ -42,7 +43,7 @@ imported digest text =
     let read = reading false text in
     carried digest (begun (opened nothing_there)) read.items read.tail
 
--- The export of a repository is imported: nothing is refused and nothing printed, and what is left
+-- The export of a repository is imported: nothing is refused, nothing is printed, and what is left
 -- is a copy.
 pub record IsImported (digest : List ℕ → List ℕ) (repository : Repository) : Type 0 where
   pub left : Repository

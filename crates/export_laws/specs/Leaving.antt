@@ -1,12 +1,12 @@
--- Acts that are carried out in turn: git-fast-import(1), "Commands".
+-- Acts that are carried out one after another: git-fast-import(1), "Commands".
 use Rattle.std.specs.Prelude.{◌≡◌, ℕ, List, [], ◌∷◌, Ok}
 use Rattle.stream_grammar.specs.Commands.{Done}
 use Rattle.import_session.specs.Workspace.{Workspace, quiet}
 use Rattle.import_session.specs.Commits.{closed_where}
 use Rattle.import_session.specs.Meaning.{after_act}
 
--- Some acts, carried out one after another, lead from one workspace to another: each first ends the
--- open commit, where its item ends one; none is refused, and none prints anything.
+-- Acts, carried out one after another, lead from one workspace to another. Each first ends the open
+-- commit, if its item ends one. None is refused, and none prints anything.
 pub data Leaves (digest : List ℕ → List ℕ) : List Done → Workspace → Workspace → Type 0 where
   nothing : (workspace : Workspace) → Leaves digest [] workspace workspace
   first_act : (done : Done) (later : List Done) (before ready next left : Workspace)

@@ -1,6 +1,7 @@
--- In reading order: acts that are carried out in turn, and what they leave of exported objects; a
--- commit while it is told; what stands once all is saved, and that all is; copies of repositories;
--- where an import ends; files that are put one by one; and a repository as an example.
+-- In reading order: acts that are carried out one after another, and what they leave of exported
+-- objects; a commit while it is told; the workspace once all is saved, and how it is reached;
+-- copies of repositories; where an import ends; files that are put one by one; and a repository as
+-- an example.
 pub mod Leaving
 pub mod Told
 pub mod Commits

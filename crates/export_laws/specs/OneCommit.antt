@@ -16,7 +16,7 @@ object_of digest content = record { id = name_by digest content; content = conte
 abbrev pub blob : (List ℕ → List ℕ) → Object
 blob digest = object_of digest (content_from kind.Blob (codes "hello\n"))
 
--- The tree that has this file alone.
+-- The tree that has only this file.
 abbrev pub entry : (List ℕ → List ℕ) → TreeEntry
 entry digest = record { mode = mode.Regular; name = codes "hello"; id = (blob digest).id }
 
@@ -41,7 +41,7 @@ abbrev pub commit : (List ℕ → List ℕ) → Object
 commit digest =
     object_of digest (content_from kind.Commit (commit_contents (first_commit digest)))
 
--- The repository: these three objects, and the branch `main` at the commit, which HEAD names.
+-- The repository: these three objects, and the branch `main`, which HEAD names, at the commit.
 abbrev pub one_commit : (List ℕ → List ℕ) → Repository
 one_commit digest = record {
   objects = blob digest ∷ tree digest ∷ commit digest ∷ [];

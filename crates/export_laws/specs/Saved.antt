@@ -1,16 +1,16 @@
--- What stands once all objects of an export were told and saved: git-fast-import(1), "checkpoint".
+-- The workspace once all objects of an export are told and saved: git-fast-import(1), "checkpoint".
 use Rattle.std.specs.Prelude.{◌≡◌, ℕ, true, false, List, [], ◌∷◌, length, None, Some}
 use Rattle.std.specs.List.{Contains}
 use Rattle.git_model.specs.RefStore.{target_of}
 use Rattle.git_model.specs.Repository.{Repository}
 use Rattle.export_text.specs.ExportItems.{scratch}
 use Rattle.export_text.specs.Reached.{tag_refs}
-use Rattle.import_session.specs.declared.branches.Tip.TheVariants.{Unborn}
+use Rattle.stream_state.specs.declared.branches.Tip.TheVariants.{Unborn}
 use Rattle.import_session.specs.Workspace.{Workspace}
 use Rattle.export_laws.specs.Told.{Told}
 
--- All that was told is committed; the refs are those that the tags leave, and HEAD is that of the
--- repository; the scratch branch is unborn, and nothing waits for the next checkpoint.
+-- All that was told is committed. The refs are those that the tags leave, and HEAD is that of the
+-- repository. The scratch branch is unborn, and nothing waits for the next checkpoint.
 pub record IsSaved (repository : Repository) (told : Told) (saved : Workspace) : Type 0 where
   pub objects : saved.objects ≡ told.objects
   pub committed : saved.committed ≡ length told.objects

@@ -10,14 +10,16 @@ use Rattle.git_model.specs.Repository.{Object, Repository, object_named}
 use Rattle.export_text.specs.ExportActs.{acts_of_object, number_of}
 use Rattle.export_text.specs.ExportItems.{scratch}
 use Rattle.export_text.specs.Reached.{is_tag, ref_of_tag}
-use Rattle.import_session.specs.declared.branches.Tip.{Tip}
-use Rattle.import_session.specs.declared.said.Said.{Said}
-use Rattle.import_session.specs.Marks.{marked_name}
-use Rattle.import_session.specs.Workspace.{Branches, Marks, PendingTags, Workspace}
+use Rattle.stream_state.specs.declared.branches.Tip.{Tip}
+use Rattle.stream_state.specs.declared.said.Said.{Said}
+use Rattle.stream_state.specs.Marks.{marked_name, Marks}
+use Rattle.stream_state.specs.Branches.{Branches}
+use Rattle.stream_state.specs.Tags.{PendingTags}
+use Rattle.import_session.specs.Workspace.{Workspace}
 use Rattle.export_laws.specs.Leaving.{Leaves}
 
--- What changes while objects are told, between two of them: the objects, marks, branches and
--- pending tags, and what was last said, which the next command forgets.
+-- What changes of a workspace while objects are told, as it is between two objects: the objects,
+-- marks, branches and pending tags, and what was last said, which the next command forgets.
 pub record Told : Type 0 where
   pub objects : List Object
   pub marks : Marks
@@ -25,8 +27,8 @@ pub record Told : Type 0 where
   pub tags : PendingTags
   pub said : Option Said
 
--- The workspace then, of a stream that began in an empty repository: nothing is saved yet, no
--- commit is open, and refs are updated by force.
+-- The workspace with these parts, in a stream that began with an empty repository: nothing is saved
+-- yet, no commit is open, and refs are updated by force.
 abbrev pub workspace_of : Option (List ℕ) → Told → Workspace
 workspace_of head told = record {
   objects = told.objects;
@@ -47,8 +49,8 @@ workspace_of head told = record {
 abbrev pub nothing_told : Told
 nothing_told = record { objects = []; marks = []; branches = []; tags = []; said = None }
 
--- Each object that is there is one of the repository, which has it under the same name, and some
--- ref of the repository reaches it. No two have one name.
+-- Each object among these is one of the repository, under the same name, and some ref of the
+-- repository reaches it. No two have the same name.
 pub record AreOf (repository : Repository) (objects : List Object) : Type 0 where
   pub same : (id : List ℕ) (content : Content) → object_named id objects ≡ Some content
       → object_named id repository.objects ≡ Some content
@@ -61,11 +63,11 @@ pub record IsThere (os : List Object) (told : Told) (id : List ℕ) (content : C
   pub object : object_named id told.objects ≡ Some content
   pub mark : marked_name told.marks (number_of os id) ≡ Ok id
 
--- No branch is there but the one on which commits are told.
+-- There is no branch except the one on which commits are told.
 abbrev pub IsScratchAlone : Branches → Type 0
 IsScratchAlone branches = (branches ≡ []) ⊎ ((tip : Tip) × (branches ≡ (scratch, tip) ∷ []))
 
--- Those of some objects that the refs reach.
+-- The objects among some that the refs reach.
 abbrev pub reached_among : Repository → List Object → List Object
 reached_among repository os = filter (λ o. is_referred_to repository o.id) os
 
@@ -73,8 +75,8 @@ reached_among repository os = filter (λ o. is_referred_to repository o.id) os
 abbrev pub tags_of : List Object → PendingTags
 tags_of os = map (λ o. (ref_of_tag o, o.id)) (filter is_tag os)
 
--- The first objects of a repository were told: those that a ref reaches are there with their marks,
--- trees left out; nothing is there that the repository has not, or that no ref reaches; and the
+-- The first objects of a repository were told. Those that a ref reaches are there with their marks,
+-- except trees. Nothing is there that the repository does not have, or that no ref reaches. The
 -- tags wait for the next checkpoint.
 pub record AreTold (repository : Repository) (first : List Object) (told : Told) : Type 0 where
   pub objects : AreOf repository told.objects
@@ -85,7 +87,7 @@ pub record AreTold (repository : Repository) (first : List Object) (told : Told)
   pub branches : IsScratchAlone told.branches
   pub tags : told.tags ≡ tags_of (reached_among repository first)
 
--- The acts of one more object lead to where it is told too, whatever HEAD is to name.
+-- The acts of one more object lead to a workspace in which it is told too, whatever HEAD will name.
 pub record IsToldNext (digest : List ℕ → List ℕ) (repository : Repository) (first : List Object)
     (o : Object) (told : Told) : Type 0 where
   pub next : Told

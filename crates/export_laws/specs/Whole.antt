@@ -1,4 +1,4 @@
--- What an export leaves of an empty repository once its objects were told and saved.
+-- What an export leaves in an empty repository once its objects are told and saved.
 use Rattle.std.specs.Prelude.{◌≡◌, ℕ, true, if◌then◌else◌, List, [], ◌++◌, Option, None, Some}
 use Rattle.std.specs.Str.{bytes_eq}
 use Rattle.git_model.specs.Content.{Content}
@@ -17,7 +17,7 @@ use Rattle.export_laws.specs.Told.{AreTold, Told}
 abbrev pub nothing_there : Repository
 nothing_there = record { objects = []; refs = no_refs }
 
--- What HEAD is to name: an export says nothing of the HEAD that a repository has at first.
+-- The HEAD that an export sets. It sets none if HEAD names the ref that it names at first.
 unfoldable pub head_told : List ℕ → Option (List ℕ)
 head_told head = if bytes_eq head first_head then None else Some head
 
@@ -33,8 +33,8 @@ abbrev pub acts_to_saved : Repository → List Done
 acts_to_saved repository =
     opening_acts repository.refs ++ object_acts repository ++ saving_acts
 
--- They lead from an empty repository to where all is told and saved, and whatever the refs reach is
--- there.
+-- These acts lead from an empty repository to a workspace in which all is told and saved, and which
+-- has everything that the refs reach.
 pub record AreSaved (digest : List ℕ → List ℕ) (repository : Repository) : Type 0 where
   pub told : Told
   pub saved : Workspace

@@ -9,8 +9,9 @@ ghost use Rattle.export_laws.specs.Ends.{IsImported};
 ghost use Rattle.export_laws.specs.OneCommit.{AreNamedApart, one_commit};
 
 /// A repository of one commit with one file, on the branch `main`, meets the premises of
-/// `exports_are_imported`: it is sound, and it can be copied. So its export is imported. The digest
-/// is any that names its three objects apart, as that of `TailNaming` does.
+/// `exports_are_imported`: it is sound, and it can be copied. So its export is imported. This holds
+/// for every digest that answers names and names the three objects apart, such as the digest of
+/// `TailNaming`.
 pub fn one_commit_is_imported()
     ensures sound { (digest : List ℕ → List ℕ) → AnswersNames digest → AreNamedApart digest
         → IsSoundRepository digest (one_commit digest) }

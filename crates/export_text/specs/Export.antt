@@ -15,7 +15,8 @@ use Rattle.export_text.specs.ItemText.{items_text}
 use Rattle.export_text.specs.Reached.{reached_objects, extra_tag_refs, is_exportable}
 use Rattle.export_text.specs.ExportItems.{marked, scratch, tag_items, items_of_object}
 
--- First refs may be moved, and HEAD is set where it is not what a repository has at first.
+-- First the stream may move refs to any commit, and HEAD is set where it is not that of a new
+-- repository.
 unfoldable pub head_items : List ℕ → List Item
 head_items head =
     if bytes_eq head first_head then []
@@ -24,16 +25,16 @@ head_items head =
 abbrev pub opening_items : RefStore → List Item
 opening_items store = Line (codes "feature force") ∷ head_items store.head
 
--- Then each object, in the order of the repository, so that what it refers to stands before it.
+-- Then comes each object, in the order of the repository, so it comes after all that it refers to.
 abbrev pub object_items : Repository → List Item
 object_items repository =
     flat_map (items_of_object repository.objects) (reached_objects repository)
 
--- Then the scratch branch is given up, and what was exported is saved.
+-- Then the scratch branch is reset, and a checkpoint saves the objects.
 abbrev pub saving_items : List Item
 saving_items = Line (codes "reset " ++ scratch) ∷ Line (codes "checkpoint") ∷ []
 
--- Then the refs are taken away that the tags have left, and the repository has not.
+-- Then the refs that importing the tags has set, and the repository does not have, are removed.
 abbrev pub removal_items : List ℕ → List Item
 removal_items ref =
     Line (codes "reset " ++ ref) ∷ Line (codes "from " ++ replicate 40 48) ∷ Blank ∷ []
@@ -64,8 +65,8 @@ export_items repository = opening_items repository.refs
 unfoldable pub export_text : Repository → List ℕ
 export_text repository = items_text (export_items repository)
 
--- It was appended, where there are not too many refs, or that was the refusal. Out of memory may
--- stand in place of either.
+-- The text was appended or, where there are too many refs, that was the refusal. Out of memory may
+-- be answered instead of either.
 abbrev pub Exports : Repository → List ℕ → List ℕ → Result Unit Fault → Type 0
 Exports repository old new (Ok u) =
     (is_exportable repository ≡ true) × (new ≡ old ++ export_text repository)

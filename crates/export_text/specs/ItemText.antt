@@ -14,8 +14,8 @@ item_text Blank = codes "\n"
 abbrev pub items_text : List Item → List ℕ
 items_text items = flat_map item_text items
 
--- The items that can be written so: what a line says is none of a comment, a data header or an
--- empty line, and a data is not too large.
+-- The items that can be written so: a line is not a comment, a data header or an empty line, and a
+-- data is not too large.
 abbrev pub CanWriteItem : Item → Type 0
 CanWriteItem (Line text) = IsLine text × (kind_of text ≡ Other)
 CanWriteItem (Data raw) = length raw ≤ largest_data

@@ -1,5 +1,5 @@
--- The lines of a directory's files, from its tree and the bytes before their names in their paths,
--- for private contracts.
+-- The lines of a directory's files, by its tree and the prefix of its entries' paths, for private
+-- contracts.
 use Rattle.std.specs.Prelude.{◌≡◌, ℕ, zero, suc, ◌≤◌, List, [], ◌∷◌, ◌++◌, length, slice_range, All, codes}
 use Rattle.std.specs.List.{flat_map}
 use Rattle.git_model.specs.declared.file_mode.FileMode.{FileMode}
@@ -23,7 +23,8 @@ abbrev pub file_line : List Object → List ℕ → TreeEntry → List ℕ
 file_line os prefix e = items_text (Line (codes "M " ++ six_digits e.mode ++ codes " "
     ++ dataref_text os e.mode e.id ++ codes " " ++ quoted (prefix ++ e.name)) ∷ [])
 
--- The lines of an entry: of a directory those below it, and of every other entry its own.
+-- The lines of an entry: for a directory those of what is below it, and for every other entry its
+-- own.
 abbrev pub lines_by : List Object → FileMode → List ℕ → TreeEntry → List ℕ → List ℕ
 lines_by os mode.Directory prefix e below = below
 lines_by os mode.Regular prefix e below = file_line os prefix e

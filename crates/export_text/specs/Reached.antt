@@ -3,6 +3,7 @@ use Rattle.std.specs.Prelude.{ℕ, ◌+◌, not, nat_le, is_some, Bool, List, �
 use Rattle.std.specs.Ordering.{nat_cmp}
 use Rattle.std.specs.Cmp.Lexicographic.{slice_cmp}
 use Rattle.std.specs.FinMap as finmap
+use Rattle.git_model.specs.Limits.{export_refs_limit}
 use Rattle.git_model.specs.TagReading.{tag_read}
 use Rattle.git_model.specs.RefStore.{RefStore, listed_refs, target_of}
 use Rattle.git_model.specs.Repository.{Object, Repository}
@@ -35,7 +36,7 @@ each_once names =
 abbrev pub tag_refs : Repository → List (List ℕ)
 tag_refs repository = each_once (map ref_of_tag (reached_tags repository))
 
--- Those that the repository has not: importing the tags leaves them.
+-- Those that the repository does not have: importing the tags sets them.
 abbrev pub is_missing : RefStore → List ℕ → Bool
 is_missing store ref = not (is_some (target_of store ref))
 
@@ -45,4 +46,4 @@ extra_tag_refs repository = filter (is_missing repository.refs) (tag_refs reposi
 -- The refs and those of the tags together are few enough to be imported beside one scratch branch.
 abbrev pub is_exportable : Repository → Bool
 is_exportable repository =
-    nat_le (length (listed_refs repository.refs) + length (tag_refs repository)) 65535
+    nat_le (length (listed_refs repository.refs) + length (tag_refs repository)) export_refs_limit

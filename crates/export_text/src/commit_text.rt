@@ -110,8 +110,8 @@ fn append_parts_of_commit<N: Naming>(
     append_blank(out)
 }
 
-/// Appends the commit with these contents, with the mark of this object; as `append_parts` after
-/// `Memory` (90).
+/// Appends the commit with these contents, with the mark of this object. After `Memory` (90) a part
+/// of it may have been appended.
 pub fn append_commit<N: Naming>(
     alloc: Global,
     objects: &Objects<'_, N>,

@@ -1,6 +1,7 @@
 //! A repository as a stream: git-fast-export(1).
 
 ghost use Rattle.std.specs.Prelude.{◌≡◌, ◌++◌, ◌+◌, nat_le, length, take, OnOk, OnErr};
+ghost use Rattle.git_model.specs.Limits.{export_refs_limit};
 ghost use Rattle.git_model.specs.GoodRepository.{AreObjects};
 ghost use Rattle.git_model.specs.RefStore.{listed_refs};
 ghost use Rattle.git_model.specs.Repository.{Repository};
@@ -27,7 +28,7 @@ const IMPORTED_REFS_LIMIT: usize = 65_535;
 
 const FIRST_HEAD: &[u8] = b"refs/heads/main";
 
-// HEAD, where it is not what a repository has at first.
+// HEAD, where it is not that of a new repository.
 fn append_head(head: &[u8], out: &mut Vec<u8>) -> Result<(), Memory>
     ensures written { OnOk result (out.new.items
         ≡ out.old.items ++ items_text (head_items head.now)) }
@@ -81,13 +82,14 @@ fn append_text<N: Naming>(
 
 // Whether an import may set these refs, and those of tags.
 fn are_few(refs: &Refs, ref_names: &[RefName]) -> bool
-    ensures { result ≡ nat_le (length (listed_refs refs.now) + length ref_names.now) 65535 }
+    ensures { result
+        ≡ nat_le (length (listed_refs refs.now) + length ref_names.now) export_refs_limit }
 {
     let tags = ref_names.len();
     tags <= IMPORTED_REFS_LIMIT && refs.len() <= IMPORTED_REFS_LIMIT - tags
 }
 
-// Appends the export where an import may set its refs.
+// Appends the export, where an import may set so many refs.
 fn append_if_few<N: Naming>(
     alloc: Global,
     objects: &Objects<'_, N>,
@@ -108,8 +110,8 @@ fn append_if_few<N: Naming>(
     Ok(())
 }
 
-// Appends the export, given a flag for each object that is reached. What is owned is made apart
-// from the steps that may fail: each way out of an owner makes its proof longer.
+// Appends the export, given a flag for each object that is reached. Owned values are made apart
+// from the steps that may fail, since each exit of an owner makes its proof longer.
 fn append_reached<N: Naming>(
     alloc: Global,
     objects: &Objects<'_, N>,
@@ -142,12 +144,13 @@ fn append_pieces<N: Naming>(
     append_reached(alloc, objects, refs, &reached, out)
 }
 
-/// Appends what the refs reach, and the refs with HEAD, as a stream of git-fast-import(1).
+/// Appends the export of a repository, a stream of git-fast-import(1): what the refs reach, the
+/// refs, and HEAD.
 ///
-/// `Fault::Limit` (25) where the refs and those of the reached tags are more than 65,535 together.
-/// Takes memory for a flag of each object and to read what is reached; `Fault::Memory` (90) where
-/// there is none. After a refusal `out` is unchanged. The text is the defined one where the objects
-/// are good (AreObjects of git_model).
+/// `Fault::Limit` (25) where the refs, with those that importing the reached tags sets, are more
+/// than 65,535. Takes memory for a flag of each object and to read what is reached; `Fault::Memory`
+/// (90) where there is none. After a refusal `out` is unchanged. The text is the defined one where
+/// the objects are good (AreObjects of git_model).
 pub fn append_export<N: Naming>(
     alloc: Global,
     objects: &Objects<'_, N>,

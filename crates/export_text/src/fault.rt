@@ -10,10 +10,10 @@ use thiserror::Error;
 /// Why a repository is not exported.
 #[derive(Clone, Copy, Debug, PartialEq, Eq, Error)]
 pub enum Fault {
-    /// There are more than 65,535 refs and refs of tags, 25.
+    /// The refs, with those that importing the reached tags sets, are more than 65,535: 25.
     #[error("too many refs")]
     Limit,
-    /// A growth was refused, 90.
+    /// An allocation failed, 90.
     #[error("out of memory")]
     Memory,
 }
@@ -27,7 +27,7 @@ impl From<Memory> for Fault {
 }
 
 impl Fault {
-    /// The number of this fault.
+    /// The number of the fault: 25 limit, 90 out of memory.
     pub fn code(self) -> u16
         ensures { result ≡ code_of self }
     {

@@ -41,7 +41,7 @@ fn append_dataref<N: Naming>(
     }
 }
 
-// Appends a path, in quotes where it needs them. The name stands after the prefix meanwhile.
+// Appends a path, in quotes where it needs them. The name is appended to the prefix meanwhile.
 fn append_path(prefix: &mut Vec<u8>, name: &[u8], out: &mut Vec<u8>) -> Result<(), Memory>
     ensures written { OnOk result (out.new.items
         ≡ out.old.items ++ quoted (prefix.old.items ++ name.now)) }
@@ -113,15 +113,16 @@ fn entries_of<'a, N: Naming>(
     }
 }
 
-// Puts a directory's name after the prefix of its entry.
+// Appends a directory's name and a slash to the prefix.
 fn enter(prefix: &mut Vec<u8>, name: &[u8]) -> Result<(), Memory>
     ensures { OnOk result (prefix.new.items ≡ prefix_below prefix.old.items name.now) }
 {
     append_parts(&[name, b"/"], prefix)
 }
 
-// Appends the files of a tree, each below a prefix: again, where they were written before. A
-// directory's tree stands before its own, so there are fewer levels than objects.
+// Appends the files of a tree, each below a prefix. Lines that were written before are copied. The
+// tree of a directory comes before the tree that has the directory, so there are fewer levels than
+// objects.
 fn append_files<N: Naming>(
     alloc: Global,
     objects: &Objects<'_, N>,
@@ -164,9 +165,9 @@ fn append_files<N: Naming>(
     told.keep(alloc, levels, prefix, tree, Lines { start, end })
 }
 
-/// Appends all files of a tree, in the order of the paths' bytes, in place of what was there; as
-/// `append_parts` after `Memory` (90). The lines of directories that were told are copied, and
-/// those of the others are told then.
+/// Appends `deleteall`, and then all files of a tree in the order of the paths' bytes. Lines of
+/// directories that `told` remembers are copied, and it remembers the others then. After `Memory`
+/// (90) a part of them may have been appended.
 pub fn append_all_files<N: Naming>(
     alloc: Global,
     objects: &Objects<'_, N>,

@@ -9,7 +9,7 @@ ghost use Rattle.export_text.specs.ExportItems.{line_if};
 use git_objects::{Memory, append_parts};
 use itoa::Buffer;
 
-/// Appends a line that begins with a word; as `append_parts` after `Memory` (90).
+/// Appends a line that begins with a word. After `Memory` (90) a part of it may have been appended.
 pub fn append_line(word: &[u8], text: &[u8], out: &mut Vec<u8>) -> Result<(), Memory>
     ensures written { OnOk result (out.new.items
         ≡ out.old.items ++ items_text (Line (word.now ++ text.now) ∷ [])) }
@@ -18,7 +18,8 @@ pub fn append_line(word: &[u8], text: &[u8], out: &mut Vec<u8>) -> Result<(), Me
     append_parts(&[word, text, b"\n"], out)
 }
 
-/// Appends a line that may be missing; as `append_line` after `Memory` (90).
+/// Appends a line, or nothing where there is no text. After `Memory` (90) a part of it may have
+/// been appended.
 pub fn append_line_if(word: &[u8], text: Option<&[u8]>, out: &mut Vec<u8>) -> Result<(), Memory>
     ensures written { OnOk result (out.new.items
         ≡ out.old.items ++ items_text (line_if word.now (option_copied text.entry))) }
@@ -30,7 +31,8 @@ pub fn append_line_if(word: &[u8], text: Option<&[u8]>, out: &mut Vec<u8>) -> Re
     }
 }
 
-/// Appends bytes as a data by their count; as `append_line` after `Memory` (90).
+/// Appends bytes as a `data` command with their count. After `Memory` (90) a part of it may have
+/// been appended.
 pub fn append_data(raw: &[u8], out: &mut Vec<u8>) -> Result<(), Memory>
     ensures written { OnOk result (out.new.items ≡ out.old.items
         ++ items_text (Data raw.now ∷ [])) }
@@ -41,7 +43,7 @@ pub fn append_data(raw: &[u8], out: &mut Vec<u8>) -> Result<(), Memory>
     append_parts(&[b"data ", count, b"\n", raw, b"\n"], out)
 }
 
-/// Appends a blank line; as `append_line` after `Memory` (90).
+/// Appends a blank line. After `Memory` (90) a part of it may have been appended.
 pub fn append_blank(out: &mut Vec<u8>) -> Result<(), Memory>
     ensures written { OnOk result (out.new.items ≡ out.old.items ++ items_text (Blank ∷ [])) }
     ensures kept { take (length out.old.items) out.new.items ≡ out.old.items }

@@ -10,13 +10,13 @@ ghost use Rattle.export_text.specs.ExportActs.{AsksFor};
 ghost use Rattle.export_text.specs.ItemText.{CanWriteItem, items_text};
 ghost use Rattle.export_text.specs.Limits.{CanExport};
 
-/// The text of items that can be written, read again, gives these items and leaves nothing.
+/// Reading the text of items that can be written gives these items, with nothing left over.
 pub fn items_are_read_back()
     ensures { (items : List Item) → All CanWriteItem items
         → reading false (items_text items) ≡ record { items = items; tail = Rest false [] } }
 {}
 
-/// The text of an export, read again, gives its items and leaves nothing, where the objects are
+/// Reading the text of an export gives its items, with nothing left over, where the objects are
 /// good and fit into a stream, and the refs have good names.
 pub fn exports_are_read_back()
     ensures { (digest : List ℕ → List ℕ) (repository : Repository)

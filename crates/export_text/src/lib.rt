@@ -1,7 +1,7 @@
 //! A repository as one stream of git-fast-import(1): git-fast-export(1).
 //!
-//! What the refs reach is written in the order of the repository, so that what an object refers to
-//! stands before it; then the refs. An object's mark is its place, counted from 1.
+//! First come the objects that the refs reach, in the order of the repository, so an object comes
+//! after all that it refers to. Then come the refs. An object's mark is its place, counted from 1.
 #![tactic(auto)]
 
 mod commit_text;

@@ -9,7 +9,7 @@ use git_objects::{Memory, Name, Naming, append_parts};
 use itoa::Buffer;
 use tenant_tables::Objects;
 
-// The mark of an object: its place, counted from 1. It may be one more than a place can be.
+// The mark of an object: its place, counted from 1. It can be one more than the largest place.
 fn mark_of<N: Naming>(objects: &Objects<'_, N>, id: &Name) -> u128
     ensures { result ≡ place_of id.now objects.now + 1 }
 {
@@ -19,7 +19,7 @@ fn mark_of<N: Naming>(objects: &Objects<'_, N>, id: &Name) -> u128
     }
 }
 
-/// Appends the mark of an object; as `append_parts` after `Memory` (90).
+/// Appends the mark of an object. After `Memory` (90) a part of it may have been appended.
 pub fn append_mark<N: Naming>(
     objects: &Objects<'_, N>,
     id: &Name,
@@ -34,7 +34,8 @@ pub fn append_mark<N: Naming>(
     append_parts(&[b":", digits], out)
 }
 
-/// Appends a line of a word and the mark of an object; as `append_parts` after `Memory` (90).
+/// Appends a line of a word and the mark of an object. After `Memory` (90) a part of it may have
+/// been appended.
 pub fn append_marked<N: Naming>(
     objects: &Objects<'_, N>,
     word: &[u8],
@@ -51,8 +52,8 @@ pub fn append_marked<N: Naming>(
     Ok(())
 }
 
-/// Appends the line that gives an object its mark, where there is one to give it; as `append_parts`
-/// after `Memory` (90).
+/// Appends the line that gives an object its mark, or nothing where there is no object. After
+/// `Memory` (90) a part of it may have been appended.
 pub fn append_mark_if<N: Naming>(
     objects: &Objects<'_, N>,
     id: Option<Name>,

@@ -35,7 +35,7 @@ fn append_blob<N: Naming>(
     append_data(contents, out)
 }
 
-// Appends the object of this kind with these contents. Trees are told by their commits.
+// Appends the object of this kind with these contents. Trees are written by their commits.
 fn append_content<N: Naming>(
     alloc: Global,
     objects: &Objects<'_, N>,
@@ -88,8 +88,8 @@ fn append_object<N: Naming>(
     append_content(alloc, objects, found.0, found.1, found.2, told, out)
 }
 
-/// Appends the objects that have a flag, in their order; as `append_parts` after `Memory` (90).
-/// There is a flag for each object, the oldest object first.
+/// Appends the objects that have a flag, in their order. There is a flag for each object, the
+/// oldest object first. After `Memory` (90) a part of them may have been appended.
 pub fn append_objects<N: Naming>(
     alloc: Global,
     objects: &Objects<'_, N>,

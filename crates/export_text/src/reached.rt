@@ -1,7 +1,7 @@
 //! What the refs reach: "reachable" of gitglossary(7).
 //!
-//! What an object refers to stands before it. So objects are walked from late ones to early ones,
-//! and each that is reached is read once.
+//! An object comes after all that it refers to. So the walk goes from the last object to the first,
+//! and reads each reached object once.
 
 ghost use Rattle.std.specs.Prelude.{◌≡◌, length, map, replicate, false, IfOk, OnOk};
 ghost use Rattle.git_model.specs.GoodRepository.{AreObjects};

@@ -33,8 +33,8 @@ fn append_removal(ref_name: &[u8], out: &mut Vec<u8>) -> Result<(), Memory>
     append_blank(out)
 }
 
-/// Appends the removal of each of these refs that is not there; as `append_parts` after `Memory`
-/// (90).
+/// Appends the removal of each of these refs that the repository does not have. After `Memory` (90)
+/// a part of them may have been appended.
 pub fn append_removals(refs: &Refs, ref_names: &[RefName], out: &mut Vec<u8>) -> Result<(), Memory>
     ensures written { OnOk result (out.new.items ≡ out.old.items
         ++ items_text (flat_map removal_items (filter (is_missing refs.now) ref_names.now))) }
@@ -65,7 +65,7 @@ fn append_reset<N: Naming>(
     append_blank(out)
 }
 
-// Sets a ref to an object of this kind with these contents: a tag is told once more, without a
+// Sets a ref to an object of this kind with these contents: a tag is written once more, without a
 // mark.
 fn append_ref_to<N: Naming>(
     alloc: Global,
@@ -106,7 +106,8 @@ fn append_ref<N: Naming>(
     }
 }
 
-/// Appends each ref in the order of their bytes; as `append_parts` after `Memory` (90).
+/// Appends each ref, in the order of their bytes. After `Memory` (90) a part of them may have been
+/// appended.
 pub fn append_refs<N: Naming>(
     alloc: Global,
     objects: &Objects<'_, N>,

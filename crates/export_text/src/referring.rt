@@ -18,7 +18,7 @@ use git_objects::{FileMode, Kind, Memory, Naming, TreeEntry, read_commit, read_t
 use std::alloc::Global;
 use tenant_tables::Objects;
 
-// A gitlink refers to nothing here.
+// A gitlink refers to no object of this repository.
 fn is_reference(mode: FileMode) -> bool
     ensures { result ≡ is_reference mode }
 {

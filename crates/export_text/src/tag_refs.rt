@@ -1,6 +1,7 @@
-//! The refs that importing reached tags sets: git-fast-import(1), `tag`.
+//! The refs that the import of the reached tags sets: git-fast-import(1), `tag`.
 
 ghost use Rattle.std.specs.Prelude.{◌≡◌, ◌++◌, ◌≤◌, ◌<◌, [], ◌∷◌, ℕ, List, length, map, filter, take, codes, IfOk, OnOk};
+ghost use Rattle.git_model.specs.Limits.{ref_name_limit};
 ghost use Rattle.git_model.specs.GoodRepository.{AreObjects, IsTag, IsValid};
 ghost use Rattle.git_model.specs.References.{object_at};
 ghost use Rattle.git_model.specs.Content.{content_from};
@@ -19,7 +20,7 @@ use tenant_tables::Objects;
 
 // Appends the ref of the tag of this name.
 fn push_ref(alloc: Global, name: &[u8], names: &mut Vec<RefName>) -> Result<(), Memory>
-    ensures { NamesRef (tag_ref name.now) → length (tag_ref name.now) ≤ 1024
+    ensures { NamesRef (tag_ref name.now) → length (tag_ref name.now) ≤ ref_name_limit
         → OnOk result (names.new.items ≡ names.old.items ++ tag_ref name.now ∷ []) }
 {
     let mut text = Vec::from_slice(alloc, b"refs/tags/")?;

@@ -30,8 +30,8 @@ fn append_parts_of_tag<N: Naming>(
     append_data(parts.message, out)
 }
 
-/// Appends the tag with these contents, with the mark of this object, if there is one; as
-/// `append_parts` after `Memory` (90).
+/// Appends the tag with these contents, with the mark of this object, if there is one. After
+/// `Memory` (90) a part of it may have been appended.
 pub fn append_tag<N: Naming>(
     alloc: Global,
     objects: &Objects<'_, N>,

@@ -1,7 +1,7 @@
 //! Directories whose files were written before.
 //!
-//! Most directories of a commit are, at the same path, those of the commit before it. The lines of
-//! their files are written already, and are copied from there.
+//! Most directories of a commit are the same as in the commit before it, at the same path. The
+//! lines of their files were written then, and are copied.
 
 ghost use Rattle.std.specs.Prelude.{◌≡◌, ◌↔◌, ◌++◌, ◌≤◌, ◌<◌, ℕ, List, IsTrue, IfOk, IfSome, OnOk, length, slice_range, take, false, true};
 ghost use Rattle.git_model.specs.Repository.{Object};
@@ -10,21 +10,21 @@ ghost use Rattle.export_text.specs.Lines.{AreTold, IsTold, lines_within};
 use git_objects::{Memory, Name};
 use std::alloc::Global;
 
-/// The most directories that are kept in mind.
+/// The most directories that are remembered.
 const DIRECTORIES_LIMIT: usize = 4_096;
 
 /// The longest prefix of one.
 const PREFIX_LIMIT: usize = 1_024;
 
-/// Where lines stand in what was written.
+/// Where lines are in the text so far: from the byte at `start` to before the byte at `end`.
 #[derive(Clone, Copy)]
 pub struct Lines {
     pub start: usize,
     pub end: usize,
 }
 
-/// A directory of a commit, by its tree, the bytes before the names of its entries in their paths,
-/// and how many levels deep it was read, with the lines of its files.
+/// A directory of a commit: its tree, the prefix of its entries' paths, how many levels deep it was
+/// read, and where the lines of its files are.
 #[derive(Drop)]
 pub struct Directory {
     pub levels: usize,
@@ -54,15 +54,16 @@ impl Directory {
     }
 }
 
-/// Directories whose files were written, at most one of some names of trees.
+/// Directories whose files were written. Each slot has at most one, and a later directory replaces
+/// an earlier one.
 #[derive(Drop)]
 pub struct Directories {
     pub directories: Vec<Directory>,
 }
 
 impl Directories {
-    /// None yet, of trees among so many objects. Takes memory for as many directories, at most
-    /// 4,096; `Memory` (90) where there is none.
+    /// No directories yet, in a repository with so many objects. Takes memory for a directory for
+    /// each object, at most 4,096; `Memory` (90) where there is none.
     pub fn among(alloc: Global, objects: usize) -> Result<Directories, Memory>
         ensures { (os : List Object) (out : List ℕ) → IfOk result (AreTold os out) }
     {
@@ -73,7 +74,7 @@ impl Directories {
         Ok(Directories { directories })
     }
 
-    // The place of a tree: names of objects are spread evenly.
+    // The slot of a tree: object names are spread evenly.
     fn slot(&self, tree: &Name) -> usize {
         let id = tree.as_bytes();
         let number = id[0] as usize * 256 + id[1] as usize;
@@ -83,7 +84,7 @@ impl Directories {
         }
     }
 
-    // The lines of a directory among so many bytes that were written.
+    // The lines of a directory, where it is remembered, in a text of `size` bytes.
     fn find(&self, levels: usize, prefix: &[u8], tree: &Name, size: usize) -> Option<Lines>
         ensures within { IfSome result (λ l. (l.start ≤ l.end) × (l.end ≤ size)) }
         ensures lines { (os : List Object) (out : List ℕ) → AreTold os out self.now
@@ -99,8 +100,9 @@ impl Directories {
         }
     }
 
-    /// Appends the lines of a directory again, if they are known, and tells whether they are. Takes
-    /// memory for another copy of them meanwhile; as `append_parts` after `Memory` (90).
+    /// Appends the lines of a directory again, if they are known, and answers whether they are.
+    /// Takes memory for another copy of them. After `Memory` (90) a part of them may have been
+    /// appended.
     pub fn append_again(
         &self,
         alloc: Global,
@@ -136,8 +138,8 @@ impl Directories {
         }
     }
 
-    /// Keeps in mind where the lines of a directory stand, unless its prefix is very long. Takes
-    /// memory for the prefix; `Memory` (90) where there is none.
+    /// Remembers where the lines of a directory are, unless its prefix has more than 1,024 bytes.
+    /// Takes memory for the prefix; `Memory` (90) where there is none.
     pub fn keep(
         &mut self,
         alloc: Global,

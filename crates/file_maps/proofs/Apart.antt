@@ -6,9 +6,9 @@ use Rattle.std.proofs.lemmas.List.{append-nil}
 use Rattle.std.specs.List.{AllByRecursion}
 use Rattle.std.specs.Str.{bytes_eq}
 use Rattle.std.proofs.lemmas.Slice.Eq.{bytes_eq-Decides}
-use Rattle.git_paths.specs.Paths.{behind}
+use Rattle.git_paths.specs.Paths.{strip_prefix}
 use Rattle.git_paths.proofs.Cases.{by_cases}
-use Rattle.git_paths.proofs.Below.{behind-append, behind_some}
+use Rattle.git_paths.proofs.Below.{strip_prefix-append, after_some}
 use Rattle.file_maps.specs.declared.entry.Entry.{Entry}
 use Rattle.file_maps.specs.FileMap.{Path, Listed, is_apart, ArePairwiseApart}
 use Rattle.file_maps.specs.Edits.{cut, cut_one, moved}
@@ -28,28 +28,28 @@ swapped false true = refl
 swapped false false = refl
 
 pub is_apart-symmetric : (p q : Path) → is_apart p q ≡ is_apart q p
-is_apart-symmetric p q = swapped (not (is_some (behind p q))) (not (is_some (behind q p)))
+is_apart-symmetric p q = swapped (not (is_some (strip_prefix p q))) (not (is_some (strip_prefix q p)))
 
 -- a path stands not apart from itself
 pub not_apart_itself : (p : Path) → is_apart p p ≡ true → ⊥
 not_apart_itself p h =
-    let here : behind p p ≡ Some [] = ap (behind p) (sym (append-nil p)) ∙ behind-append p [] in
+    let here : strip_prefix p p ≡ Some [] = ap (strip_prefix p) (sym (append-nil p)) ∙ strip_prefix-append p [] in
     let no : false ≡ true = ap (λ (o : Option Path). not (is_some o) && not (is_some o)) (sym here)
     ∙ h in
     false≢true no
 
-behind-both : (c : List ℕ) (p q : Path) → behind (c ∷ p) (c ∷ q) ≡ behind p q
-behind-both c p q = rw ((bytes_eq-Decides c c).1 refl) refl
+strip_prefix-both : (c : List ℕ) (p q : Path) → strip_prefix (c ∷ p) (c ∷ q) ≡ strip_prefix p q
+strip_prefix-both c p q = rw ((bytes_eq-Decides c c).1 refl) refl
 
 -- the same path before both changes nothing
 pub is_apart-below : (p a b : Path) → is_apart (p ++ a) (p ++ b) ≡ is_apart a b
 is_apart-below [] a b = refl
 is_apart-below (c ∷ p) a b =
     ap
-    (λ (o : Option Path). not (is_some o) && not (is_some (behind (c ∷ (p ++ b)) (c ∷ (p ++ a)))))
-    (behind-both c (p ++ a) (p ++ b))
-    ∙ ap (λ (o : Option Path). not (is_some (behind (p ++ a) (p ++ b))) && not (is_some o))
-    (behind-both c (p ++ b) (p ++ a))
+    (λ (o : Option Path). not (is_some o) && not (is_some (strip_prefix (c ∷ (p ++ b)) (c ∷ (p ++ a)))))
+    (strip_prefix-both c (p ++ a) (p ++ b))
+    ∙ ap (λ (o : Option Path). not (is_some (strip_prefix (p ++ a) (p ++ b))) && not (is_some o))
+    (strip_prefix-both c (p ++ b) (p ++ a))
     ∙ is_apart-below p a b
 
 -- what stands apart from a path stands apart from all below it
@@ -73,18 +73,18 @@ apart_below (c ∷ p) a (d ∷ q) h =
 
 -- what holds of all files holds of those that are cut out, with the path before them
 cut_one-all : (P : Path × Entry → Type 0) (top q : Path) (e : Entry) (o : Option Path)
-    → behind top q ≡ o → (fs : Listed) → P (q, e)
+    → strip_prefix top q ≡ o → (fs : Listed) → P (q, e)
     → AllByRecursion (λ g. P (top ++ g.0, g.1)) fs
     → AllByRecursion (λ g. P (top ++ g.0, g.1)) (cut_one o e fs)
 cut_one-all P top q e (Some r) is fs h rest =
-    (subst (λ (x : Path). P (x, e)) (behind_some top q r is) h, rest)
+    (subst (λ (x : Path). P (x, e)) (after_some top q r is) h, rest)
 cut_one-all P top q e None is fs h rest = rest
 
 pub cut-all : (P : Path × Entry → Type 0) (top : Path) (fs : Listed) → AllByRecursion P fs
     → AllByRecursion (λ g. P (top ++ g.0, g.1)) (cut top fs)
 cut-all P top [] h = tt
 cut-all P top (f ∷ fs) h =
-    cut_one-all P top f.0 f.1 (behind top f.0) refl (cut top fs) h.0 (cut-all P top fs h.1)
+    cut_one-all P top f.0 f.1 (strip_prefix top f.0) refl (cut top fs) h.0 (cut-all P top fs h.1)
 
 pub all-map : {A B : Type 0} (g : A → B) (P : B → Type 0) (xs : List A)
     → AllByRecursion (λ x. P (g x)) xs → AllByRecursion P (map g xs)
@@ -123,14 +123,14 @@ apart-filter t (f ∷ fs) h =
     (λ nay. rw nay (apart-filter t fs h.1))
 
 -- what is cut out of files that stand pairwise apart stands so, and after any path too
-cut_one-apart : (top to q : Path) (e : Entry) (o : Option Path) → behind top q ≡ o → (fs : Listed)
+cut_one-apart : (top to q : Path) (e : Entry) (o : Option Path) → strip_prefix top q ≡ o → (fs : Listed)
     → AllByRecursion (λ g. is_apart q (top ++ g.0) ≡ true) fs → ArePairwiseApart (moved to fs)
     → ArePairwiseApart (moved to (cut_one o e fs))
 cut_one-apart top to q e (Some r) is fs h rest = (
   all-map (λ (g : Path × Entry). (to ++ g.0, g.1))
       (λ (g : Path × Entry). is_apart (to ++ r) g.0 ≡ true) fs
       (all-weaker (λ (g : Path × Entry). is_apart q (top ++ g.0) ≡ true) (λ (g : Path × Entry). is_apart (to ++ r) (to ++ g.0) ≡ true)
-      (λ g a. is_apart-below to r g.0 ∙ sym (is_apart-below top r g.0) ∙ subst (λ (x : Path). is_apart x (top ++ g.0) ≡ true) (behind_some top q r is) a) fs h),
+      (λ g a. is_apart-below to r g.0 ∙ sym (is_apart-below top r g.0) ∙ subst (λ (x : Path). is_apart x (top ++ g.0) ≡ true) (after_some top q r is) a) fs h),
   rest,
 )
 cut_one-apart top to q e None is fs h rest = rest
@@ -139,5 +139,5 @@ pub moved-apart : (top to : Path) (fs : Listed) → ArePairwiseApart fs
     → ArePairwiseApart (moved to (cut top fs))
 moved-apart top to [] h = tt
 moved-apart top to (f ∷ fs) h =
-    cut_one-apart top to f.0 f.1 (behind top f.0) refl (cut top fs)
+    cut_one-apart top to f.0 f.1 (strip_prefix top f.0) refl (cut top fs)
     (cut-all (λ (g : Path × Entry). is_apart f.0 g.0 ≡ true) top fs h.0) (moved-apart top to fs h.1)

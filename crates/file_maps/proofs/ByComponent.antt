@@ -10,7 +10,7 @@ use Rattle.std.proofs.lemmas.List.Elements.{All-contains, All-from_recursion, Al
 use Rattle.std.proofs.lemmas.List.Elements.{Contains-append_right}
 use Rattle.std.proofs.lemmas.List.Kept.{AllPairs-cons}
 use Rattle.std.proofs.lemmas.Slice.Eq.{bytes_eq-Decides}
-use Rattle.git_paths.specs.Paths.{IsComponent, IsPath, behind}
+use Rattle.git_paths.specs.Paths.{IsComponent, IsPath, strip_prefix}
 use Rattle.git_paths.proofs.Cases.{by_cases}
 use Rattle.file_maps.specs.declared.entry.Entry.{Entry}
 use Rattle.file_maps.specs.FileMap.{Path, Listed, FileMap, listed, IsFile, AreFiles}
@@ -24,18 +24,18 @@ use Rattle.file_maps.proofs.Cutting.{turns-cut}
 
 -- ---- a path in two steps
 
-behind_more : (top rest q : Path) (e : Entry) (fs : Listed)
-    → cut rest (cut_one (behind top q) e fs) ≡ cut_one (behind (top ++ rest) q) e (cut rest fs)
-behind_more [] rest q e fs = refl
-behind_more (c ∷ top) rest [] e fs = refl
-behind_more (c ∷ top) rest (d ∷ q) e fs =
-    by_cases (bytes_eq c d) (λ yea. rw yea (behind_more top rest q e fs)) (λ nay. rw nay refl)
+after_more : (top rest q : Path) (e : Entry) (fs : Listed)
+    → cut rest (cut_one (strip_prefix top q) e fs) ≡ cut_one (strip_prefix (top ++ rest) q) e (cut rest fs)
+after_more [] rest q e fs = refl
+after_more (c ∷ top) rest [] e fs = refl
+after_more (c ∷ top) rest (d ∷ q) e fs =
+    by_cases (bytes_eq c d) (λ yea. rw yea (after_more top rest q e fs)) (λ nay. rw nay refl)
 
 pub cut-cut : (top rest : Path) (fs : Listed) → cut rest (cut top fs) ≡ cut (top ++ rest) fs
 cut-cut top rest [] = refl
 cut-cut top rest (f ∷ fs) =
-    behind_more top rest f.0 f.1 (cut top fs)
-    ∙ ap (cut_one (behind (top ++ rest) f.0) f.1) (cut-cut top rest fs)
+    after_more top rest f.0 f.1 (cut top fs)
+    ∙ ap (cut_one (strip_prefix (top ++ rest) f.0) f.1) (cut-cut top rest fs)
 
 -- ---- all groups of one component
 
@@ -46,27 +46,27 @@ gathered c (g ∷ groups) = if bytes_eq c g.0 then g.1 ++ gathered c groups else
 
 joins : (c d : List ℕ) (q : Path) (e : Entry) (fs rest : Listed)
     → (if bytes_eq c d then ((q, e) ∷ fs) ++ rest else rest)
-    ≡ cut_one (behind (c ∷ []) (d ∷ q)) e (if bytes_eq c d then fs ++ rest else rest)
+    ≡ cut_one (strip_prefix (c ∷ []) (d ∷ q)) e (if bytes_eq c d then fs ++ rest else rest)
 joins c d q e fs rest = by_cases (bytes_eq c d) (λ yea. rw yea refl) (λ nay. rw nay refl)
 
 begins : (c d : List ℕ) (q : Path) (e : Entry) (rest : Listed)
-    → (if bytes_eq c d then ((q, e) ∷ []) ++ rest else rest) ≡ cut_one (behind (c ∷ []) (d ∷ q)) e rest
+    → (if bytes_eq c d then ((q, e) ∷ []) ++ rest else rest) ≡ cut_one (strip_prefix (c ∷ []) (d ∷ q)) e rest
 begins c d q e rest = by_cases (bytes_eq c d) (λ yea. rw yea refl) (λ nay. rw nay refl)
 
 gathered_file : (c d : List ℕ) (q : Path) (e : Entry) (groups : Groups)
-    → gathered c (add_file d (q, e) groups) ≡ cut_one (behind (c ∷ []) (d ∷ q)) e (gathered c groups)
+    → gathered c (add_file d (q, e) groups) ≡ cut_one (strip_prefix (c ∷ []) (d ∷ q)) e (gathered c groups)
 gathered_file c d q e [] = begins c d q e []
 gathered_file c d q e (g ∷ groups) =
     by_cases (bytes_eq d g.0)
     (λ yea. rw yea
     (joins c d q e g.1 (gathered c groups)
     ∙ ap
-    (λ (x : List ℕ). cut_one (behind (c ∷ []) (d ∷ q)) e (if bytes_eq c x then g.1 ++ gathered c groups else gathered c groups))
+    (λ (x : List ℕ). cut_one (strip_prefix (c ∷ []) (d ∷ q)) e (if bytes_eq c x then g.1 ++ gathered c groups else gathered c groups))
     ((bytes_eq-Decides d g.0).0 yea)))
     (λ nay. rw nay (begins c d q e (gathered c (g ∷ groups))))
 
 gathered_path : (c : List ℕ) (p : Path) (e : Entry) (groups : Groups)
-    → gathered c (add_path p e groups) ≡ cut_one (behind (c ∷ []) p) e (gathered c groups)
+    → gathered c (add_path p e groups) ≡ cut_one (strip_prefix (c ∷ []) p) e (gathered c groups)
 gathered_path c [] e groups = refl
 gathered_path c (d ∷ q) e groups = gathered_file c d q e groups
 
@@ -74,7 +74,7 @@ gathered-grouped : (c : List ℕ) (fs : Listed) → gathered c (grouped fs) ≡ 
 gathered-grouped c [] = refl
 gathered-grouped c (f ∷ fs) =
     gathered_path c f.0 f.1 (grouped fs)
-    ∙ ap (cut_one (behind (c ∷ []) f.0) f.1) (gathered-grouped c fs)
+    ∙ ap (cut_one (strip_prefix (c ∷ []) f.0) f.1) (gathered-grouped c fs)
 
 -- ---- where no component has two groups
 

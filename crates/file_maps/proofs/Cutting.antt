@@ -9,9 +9,9 @@ use Rattle.std.specs.FinMap.Entries.{below_all}
 use Rattle.std.specs.declared.cmp.Ordering.{Ordering}
 use Rattle.std.specs.declared.cmp.Ordering.TheVariants.{Less, Equal, Greater}
 use Rattle.git_paths.specs.Order.{path_cmp}
-use Rattle.git_paths.specs.Paths.{IsPath, joined, components_of, behind}
+use Rattle.git_paths.specs.Paths.{IsPath, joined, components_of, strip_prefix}
 use Rattle.git_paths.proofs.Joined.{components_of-joined}
-use Rattle.git_paths.proofs.Below.{behind_some}
+use Rattle.git_paths.proofs.Below.{after_some}
 use Rattle.file_maps.specs.declared.entry.Entry.{Entry}
 use Rattle.file_maps.specs.FileMap.{Path, Listed, is_apart, ArePairwiseApart, IsFile, AreFiles}
 use Rattle.file_maps.specs.Edits.{cut, cut_one}
@@ -21,7 +21,7 @@ use Rattle.file_maps.proofs.Apart.{both_true, cut-all, all-weaker, is_apart-belo
 use Rattle.file_maps.proofs.Apart.{not_apart_itself}
 use Rattle.file_maps.proofs.Rising.{below}
 use Rattle.file_maps.proofs.Fits.{File, Pairs, pairs-weaker, InTurn, tails_below, tail_file}
-use Rattle.file_maps.proofs.Fits.{goes_on, order-of, apart-of, none_behind}
+use Rattle.file_maps.proofs.Fits.{goes_on, order-of, apart-of, none_after}
 
 less : (o : Ordering) → is_lt o ≡ true → o ≡ Less
 less Less h = refl
@@ -60,34 +60,34 @@ in_turn (f ∷ fs) h s a =
 -- ---- after a path
 
 cut_one-pairs : (R : File → File → Type 0) (top q : Path) (e : Entry) (o : Option Path)
-    → behind top q ≡ o → (fs : Listed) → AllByRecursion (λ g. R (q, e) (top ++ g.0, g.1)) fs
+    → strip_prefix top q ≡ o → (fs : Listed) → AllByRecursion (λ g. R (q, e) (top ++ g.0, g.1)) fs
     → Pairs (λ a b. R (top ++ a.0, a.1) (top ++ b.0, b.1)) fs
     → Pairs (λ a b. R (top ++ a.0, a.1) (top ++ b.0, b.1)) (cut_one o e fs)
 cut_one-pairs R top q e (Some r) is fs h rest =
-    (all-weaker (λ (g : File). R (q, e) (top ++ g.0, g.1)) (λ (g : File). R (top ++ r, e) (top ++ g.0, g.1)) (λ g x. subst (λ (p : Path). R (p, e) (top ++ g.0, g.1)) (behind_some top q r is) x) fs h, rest)
+    (all-weaker (λ (g : File). R (q, e) (top ++ g.0, g.1)) (λ (g : File). R (top ++ r, e) (top ++ g.0, g.1)) (λ g x. subst (λ (p : Path). R (p, e) (top ++ g.0, g.1)) (after_some top q r is) x) fs h, rest)
 cut_one-pairs R top q e None is fs h rest = rest
 
 cut-pairs : (R : File → File → Type 0) (top : Path) (fs : Listed) → Pairs R fs
     → Pairs (λ a b. R (top ++ a.0, a.1) (top ++ b.0, b.1)) (cut top fs)
 cut-pairs R top [] h = tt
 cut-pairs R top (f ∷ fs) h =
-    cut_one-pairs R top f.0 f.1 (behind top f.0) refl (cut top fs) (cut-all (R f) top fs h.0)
+    cut_one-pairs R top f.0 f.1 (strip_prefix top f.0) refl (cut top fs) (cut-all (R f) top fs h.0)
     (cut-pairs R top fs h.1)
 
-behind_top : (top q r : Path) → is_apart q r ≡ true → below (joined (top ++ q)) (joined (top ++ r))
+after_top : (top q r : Path) → is_apart q r ≡ true → below (joined (top ++ q)) (joined (top ++ r))
     → below (joined q) (joined r)
-behind_top [] q r a h = h
-behind_top (c ∷ top) q r a h =
-    behind_top top q r a (tails_below c (top ++ q) (top ++ r) (is_apart-below top q r ∙ a) h)
+after_top [] q r a h = h
+after_top (c ∷ top) q r a h =
+    after_top top q r a (tails_below c (top ++ q) (top ++ r) (is_apart-below top q r ∙ a) h)
 
-turn_behind : (top : Path) (f g : File) → InTurn (top ++ f.0, f.1) (top ++ g.0, g.1) → InTurn f g
-turn_behind top f g h =
-    let a = sym (is_apart-below top f.0 g.0) ∙ h.1 in (behind_top top f.0 g.0 a h.0, a)
+turn_after : (top : Path) (f g : File) → InTurn (top ++ f.0, f.1) (top ++ g.0, g.1) → InTurn f g
+turn_after top f g h =
+    let a = sym (is_apart-below top f.0 g.0) ∙ h.1 in (after_top top f.0 g.0 a h.0, a)
 
 -- files of a map below a path are in order, and stand apart
 pub turns-cut : (top : Path) (fs : Listed) → AreFiles fs → Pairs InTurn (cut top fs)
 turns-cut top fs h =
-    pairs-weaker (λ a b. InTurn (top ++ a.0, a.1) (top ++ b.0, b.1)) InTurn (turn_behind top)
+    pairs-weaker (λ a b. InTurn (top ++ a.0, a.1) (top ++ b.0, b.1)) InTurn (turn_after top)
     (cut top fs)
     (cut-pairs InTurn top fs (in_turn fs h.each h.in_order h.apart))
 
@@ -95,15 +95,15 @@ not_root : (top q : Path) → q ≢ [] → top ++ q ≢ []
 not_root [] q ne is = ne is
 not_root (c ∷ top) q ne is = cc is
 
-file_behind : (top q : Path) (e : Entry) → IsFile (top ++ q, e) → q ≢ [] → IsFile (q, e)
-file_behind [] q e h ne = h
-file_behind (c ∷ top) q e h ne =
-    file_behind top q e (tail_file c (top ++ q) e h (not_root top q ne)) ne
+file_after : (top q : Path) (e : Entry) → IsFile (top ++ q, e) → q ≢ [] → IsFile (q, e)
+file_after [] q e h ne = h
+file_after (c ∷ top) q e h ne =
+    file_after top q e (tail_file c (top ++ q) e h (not_root top q ne)) ne
 
-files_behind : (top : Path) (fs : Listed) → AllByRecursion (λ f. f.0 ≢ []) fs
+files_after : (top : Path) (fs : Listed) → AllByRecursion (λ f. f.0 ≢ []) fs
     → AllByRecursion (λ f. IsFile (top ++ f.0, f.1)) fs → AllByRecursion IsFile fs
-files_behind top [] ne h = tt
-files_behind top (f ∷ fs) ne h = (file_behind top f.0 f.1 h.0 ne.0, files_behind top fs ne.1 h.1)
+files_after top [] ne h = tt
+files_after top (f ∷ fs) ne h = (file_after top f.0 f.1 h.0 ne.0, files_after top fs ne.1 h.1)
 
 no_roots : (fs : Listed) → Pairs InTurn fs → file_of fs ≡ None → AllByRecursion (λ f. f.0 ≢ []) fs
 no_roots [] h none = tt
@@ -119,7 +119,7 @@ cut_one-length None e fs = omega arith
 cut-length : (top : Path) (fs : Listed) → length (cut top fs) ≤ length fs
 cut-length top [] = omega arith
 cut-length top (f ∷ fs) =
-    let one = cut_one-length (behind top f.0) f.1 (cut top fs) in let rest = cut-length top fs in omega arith
+    let one = cut_one-length (strip_prefix top f.0) f.1 (cut top fs) in let rest = cut-length top fs in omega arith
 
 pub storable-cut : (top : Path) (fs : Listed) → AreFiles fs → file_of (cut top fs) ≡ None
     → AreStorable (cut top fs)
@@ -127,7 +127,7 @@ storable-cut top fs h none =
     let pairs = turns-cut top fs h in record {
       in_order = order-of (cut top fs) pairs;
       each =
-          files_behind top (cut top fs) (no_roots (cut top fs) pairs none)
+          files_after top (cut top fs) (no_roots (cut top fs) pairs none)
           (cut-all IsFile top fs h.each);
       apart = apart-of (cut top fs) pairs;
       few = let n = cut-length top fs in let m = h.few in omega arith;
@@ -137,7 +137,7 @@ storable-cut top fs h none =
 
 alone : (fs : Listed) (e : Entry) → Pairs InTurn fs → file_of fs ≡ Some e → depth_of fs ≡ 0
 alone [] e h is = refl
-alone (([], f) ∷ fs) e h is = ap (λ (l : Listed). depth_of (([], f) ∷ l)) (none_behind f fs h.0)
+alone (([], f) ∷ fs) e h is = ap (λ (l : Listed). depth_of (([], f) ∷ l)) (none_after f fs h.0)
 alone (((d ∷ q), f) ∷ fs) e h is = cc is
 
 pub depth-file : (top : Path) (fs : Listed) (e : Entry) → AreFiles fs

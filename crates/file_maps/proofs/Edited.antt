@@ -1,11 +1,10 @@
 -- What an edit makes of a map: its refusal, what it leaves, and that this is a file map.
 use Rattle.std.proofs.Common.{◌≡◌, ◌≢◌, ℕ, suc, ◌+◌, ◌≤◌, Bool, true, false, ◌&&◌, cond, leb, []}
 use Rattle.std.proofs.Common.{◌∷◌, ◌++◌, length, filter, Option, Some, None, refl, sym, ap, ◌∙◌}
-use Rattle.std.proofs.Common.{subst, arith}
+use Rattle.std.proofs.Common.{subst}
 use Rattle.std.specs.List.{AllByRecursion, list_any, list_all}
-use Rattle.std.specs.Prelude.{Result}
 use Rattle.std.proofs.lemmas.List.Elements.{All-append}
-use Rattle.git_paths.proofs.Below.{behind-append, IsPath-behind}
+use Rattle.git_paths.proofs.Below.{strip_prefix-append, IsPath-strip_prefix}
 use Rattle.std.specs.Map.{keys_of}
 use Rattle.std.specs.FinMap as finmap
 use Rattle.std.specs.FinMap.{from_sorted}
@@ -18,19 +17,15 @@ use Rattle.git_paths.proofs.Cases.{by_cases}
 use Rattle.git_paths.proofs.Decided.{IsWithinLimits-from_test}
 use Rattle.file_maps.specs.declared.check.TheConstants.{FILES_LIMIT}
 use Rattle.file_maps.specs.declared.entry.Entry.{Entry}
-use Rattle.file_maps.specs.declared.fault.Fault.{Fault}
 use Rattle.file_maps.specs.declared.fault.Fault.TheVariants as fault
 use Rattle.file_maps.specs.FileMap.{Path, Listed, FileMap, is_apart, ArePairwiseApart, IsFile}
 use Rattle.file_maps.specs.FileMap.{AreFiles}
-use Rattle.file_maps.specs.Edits.{cut, moved, put_at, files_at, without, is_root}
-use Rattle.file_maps.specs.Edits.{is_empty, is_outside, with_files, put_fault, move_fault}
-use Rattle.file_maps.specs.Calls.{Edits}
-use Rattle.file_maps.specs.Kept.{stays, replaced, put_all, IsBelow, refusal_beside}
-use Rattle.file_maps.proofs.Apart.{both_true, apart_below, cut-all, all-map, all-weaker}
-use Rattle.file_maps.proofs.Apart.{filter-all}
+use Rattle.file_maps.specs.Edits.{cut, moved, is_root, is_outside, with_files, put_fault}
+use Rattle.file_maps.specs.Kept.{stays, put_all, IsBelow, refusal_beside}
+use Rattle.file_maps.proofs.Apart.{both_true, apart_below, cut-all, all-map, all-weaker, filter-all}
 use Rattle.file_maps.proofs.Puts.{true-T, MayPut, AreFiles-filter, AreFiles-put_all}
-use Rattle.file_maps.proofs.Puts.{length-put_all, length-filter-le, sorted-put_all}
-use Rattle.file_maps.proofs.Maps.{listed-of, retain_keys-of, with_files-of, len-of, retain-twice}
+use Rattle.file_maps.proofs.Puts.{length-put_all, sorted-put_all}
+use Rattle.file_maps.proofs.Maps.{retain_keys-of, with_files-of, len-of}
 
 -- the files that stay
 abbrev pub kept : Option Path → Path → Listed → Listed
@@ -139,58 +134,7 @@ AreFiles-edited from to fs files n h below apart is none =
     (may_put from to fs files below apart)
     (are_files to files below (not_roots files parts.0) (all_short files more.0)) (subst (λ (k : ℕ). k + length files ≤ FILES_LIMIT) same few)
 
-pub few_stay : (from : Option Path) (to : Path) (fs : Listed) (n : ℕ) → AreFiles fs
-    → n ≡ length (filter (stays from to) (keys_of fs)) → n ≤ FILES_LIMIT
-few_stay from to fs n h is =
-    let a = length-kept (stays from to) fs in
-    let b = length-filter-le (λ (f : Path × Entry). stays from to f.0) fs in
-    let m = h.few in omega arith
-
--- ---- the public edits
-
-files-as : (from to : Path) (fs : Listed) (old : FileMap) → AreFiles fs → from_sorted fs ≡ old
-    → moved to (cut from fs) ≡ moved to (files_at old from)
-files-as from to fs old h view =
-    ap (λ (l : Listed). moved to (cut from l)) (sym (listed-of fs h))
-    ∙ ap (λ (m : FileMap). moved to (files_at m from)) view
-
-module _ {A : Type 0} where
-  -- an edit with its files spelled otherwise
-  edits-as : (result : Result A Fault) (old new m : FileMap) (files others : Listed)
-      → files ≡ others → is_empty files ≡ false
-      → Edits result old new (put_fault files (with_files m files)) (with_files m files)
-      → Edits result old new (move_fault others (with_files m others)) (with_files m others)
-  unfolding move_fault
-  edits-as result old new m files others same some h =
-      subst
-      (λ (l : Listed). Edits result old new (move_fault l (with_files m l)) (with_files m l)) same
-      (subst (λ (b : Bool). Edits result old new (cond b (Some fault.SourceMissing) (put_fault files (with_files m files))) (with_files m files)) (sym some) h)
-
-  pub edits-moved : (result : Result A Fault) (old new : FileMap) (gone : Option Path)
-      (from to : Path) (fs files : Listed)
-      → AreFiles fs → from_sorted fs ≡ old → files ≡ moved to (cut from fs) → is_empty files ≡ false
-      → Edits result old new (put_fault files (replaced gone to files old)) (replaced gone to files old)
-      → Edits result old new (move_fault (moved to (files_at old from)) (replaced gone to (moved to (files_at old from)) old)) (replaced gone to (moved to (files_at old from)) old)
-  edits-moved result old new gone from to fs files h view is some e =
-      edits-as result old new (finmap.retain_keys old (stays gone to)) files
-      (moved to (files_at old from)) (is ∙ files-as from to fs old h view) some e
-
-  pub edits-renamed : (result : Result A Fault) (old new : FileMap) (from to : Path) (files : Listed)
-      → Edits result old new (move_fault files (replaced (Some from) to files old)) (replaced (Some from) to files old)
-      → Edits result old new (move_fault files (with_files (finmap.retain_keys (without old from) (is_apart to)) files)) (with_files (finmap.retain_keys (without old from) (is_apart to)) files)
-  edits-renamed result old new from to files e =
-      subst
-      (λ (m : FileMap). Edits result old new (move_fault files (with_files m files)) (with_files m files))
-      (sym (retain-twice (is_outside from) (is_apart to) old)) e
-
--- the source has no file
-pub no_source : (from to : Path) (fs files : Listed) (old after : FileMap) → AreFiles fs
-    → from_sorted fs ≡ old → files ≡ moved to (cut from fs) → is_empty files ≡ true
-    → move_fault (moved to (files_at old from)) after ≡ Some fault.SourceMissing
-unfolding move_fault
-no_source from to fs files old after h view is none =
-    ap (λ (l : Listed). move_fault l after) (sym (is ∙ files-as from to fs old h view))
-    ∙ ap (λ (b : Bool). cond b (Some fault.SourceMissing) (put_fault files after)) none
+-- ---- what is put
 
 -- one file, at the path itself
 pub one-below : (to : Path) (e : Entry) (files : Listed) → files ≡ (to, e) ∷ [] → IsPath to
@@ -202,15 +146,6 @@ one-below to e files is path m id =
 pub one-apart : (to : Path) (e : Entry) (files : Listed) → files ≡ (to, e) ∷ []
     → ArePairwiseApart files
 one-apart to e files is = subst ArePairwiseApart (sym is) (tt, tt)
-
-pub edits-put : {A : Type 0} (result : Result A Fault) (old new : FileMap) (to : Path) (e : Entry) (files : Listed)
-    → files ≡ (to, e) ∷ []
-    → Edits result old new (put_fault files (with_files (finmap.retain_keys old (stays None to)) files)) (with_files (finmap.retain_keys old (stays None to)) files)
-    → Edits result old new (put_fault (moved to (([], e) ∷ [])) (put_at old to e)) (put_at old to e)
-edits-put result old new to e files is h =
-    subst
-    (λ (l : Listed). Edits result old new (put_fault l (with_files (finmap.retain_keys old (is_apart to)) l)) (with_files (finmap.retain_keys old (is_apart to)) l))
-    (is ∙ ap (λ (p : Path). (p, e) ∷ []) (sym (append-nil to))) h
 
 -- what is moved is fit to be put
 pub moved-below : (from to : Path) (fs : Listed) → IsPath to → AllByRecursion IsFile fs
@@ -225,7 +160,7 @@ moved-below from to fs path h =
       below = refl;
       path =
           All-append IsComponent to g.0 path
-          (IsPath-behind from (from ++ g.0) g.0 f.path (sym (behind-append from g.0)));
+          (IsPath-strip_prefix from (from ++ g.0) g.0 f.path (sym (strip_prefix-append from g.0)));
       mode = f.mode;
       name = f.name;
     }

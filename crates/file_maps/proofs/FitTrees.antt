@@ -42,7 +42,7 @@ use Rattle.file_maps.proofs.Nested.{direct_of}
 use Rattle.file_maps.proofs.Rising.{groups-rise}
 use Rattle.file_maps.proofs.Stored.{no_fault, depth-bound, longest-bound}
 use Rattle.file_maps.proofs.Sums.{none-both, fold-sums, groups-sum, group_sum, by_file}
-use Rattle.file_maps.proofs.SumsBehind.{AreSums, AreWithin, sums_after, fits-append, found-in, good-sums, fit-from, within-from, lists-sum}
+use Rattle.file_maps.proofs.SumsAfter.{AreSums, AreWithin, sums_after, fits-append, found-in, good-sums, fit-from, within-from, lists-sum}
 use Rattle.file_maps.proofs.TreesAdded.{name_of, nested_added}
 use Rattle.file_maps.proofs.Written.{can_write_tree}
 

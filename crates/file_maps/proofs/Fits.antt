@@ -214,9 +214,9 @@ IsGroup deep (c, []) = ⊥
 IsGroup deep (c, (([], e) ∷ fs)) = IsFileGroup c e fs
 IsGroup deep (c, (((d ∷ q), e) ∷ fs)) = IsDirectoryGroup deep c (((d ∷ q), e) ∷ fs)
 
-pub none_behind : (e : Entry) (fs : Listed) → AllByRecursion (InTurn ([], e)) fs → fs ≡ []
-none_behind e [] h = refl
-none_behind e (f ∷ fs) h = absurd (false≢true h.0.1)
+pub none_after : (e : Entry) (fs : Listed) → AllByRecursion (InTurn ([], e)) fs → fs ≡ []
+none_after e [] h = refl
+none_after e (f ∷ fs) h = absurd (false≢true h.0.1)
 
 first_component : (c : Bytes) (q : Path) → IsPath (c ∷ q) → IsComponent c
 first_component c q h = All-head IsComponent c q h
@@ -227,7 +227,7 @@ a_group : (deep n : ℕ) (c : Bytes) (fs : Listed) → n ≤ FILES_LIMIT → 0 <
 a_group deep n c [] few some files turns depth size = absurd (omega arith)
 a_group deep n c (([], e) ∷ fs) few some files turns depth size =
     let pairs = pairs-weaker (λ a b. InTurn (c ∷ a.0, a.1) (c ∷ b.0, b.1)) InTurn (tails_turn c) (([], e) ∷ fs) turns in record {
-      alone = none_behind e fs pairs.0;
+      alone = none_after e fs pairs.0;
       component = first_component c [] files.0.path;
       mode = files.0.mode;
       name = files.0.name;

@@ -21,9 +21,9 @@ use Rattle.tenant_tables.specs.View.{View, Entries, entry_named, summary_of}
 use Rattle.tenant_tables.specs.Objects.{objects}
 use Rattle.tenant_tables.specs.StandsIn.{StandsIn}
 use Rattle.tenant_tables.specs.Adding.{store_fault, Adds}
-use Rattle.tenant_tables.specs.Trees.{FitsTree, SummedBehind, IsSummed}
+use Rattle.tenant_tables.specs.Trees.{FitsTree, SummedAfter, IsSummed}
 use Rattle.tenant_tables.proofs.HoldLemmas.{object_named-objects}
-use Rattle.tenant_tables.proofs.SummaryLemmas.{SummedBehind-same}
+use Rattle.tenant_tables.proofs.SummaryLemmas.{SummedAfter-same}
 use Rattle.file_maps.proofs.Apart.{both_true}
 
 -- where the entry of a name stands
@@ -67,8 +67,8 @@ module _ (digest : List ℕ → List ℕ) (p q : Cells) (old new : View) (c : Co
   unfolding IsSummed
   same_tree i key e t stands tree fits at has same =
       let bytes : c.bytes ≡ (content p e.slot).bytes = (bytes_eq-Decides c.bytes (content p e.slot).bytes).0 (both_true (bytes_eq (kind_word c.kind) (kind_word (content p e.slot).kind)) (bytes_eq c.bytes (content p e.slot).bytes) same).1 in
-      let there : SummedBehind (take i old.entries) (content p e.slot) (Some t) = subst (λ (o : Option Summary). SummedBehind (take i old.entries) (content p e.slot) o) has (stands.summed i key e at) in
-      SummedBehind-same i old.entries (content p e.slot) (Some t) (Some s) there
+      let there : SummedAfter (take i old.entries) (content p e.slot) (Some t) = subst (λ (o : Option Summary). SummedAfter (take i old.entries) (content p e.slot) o) has (stands.summed i key e at) in
+      SummedAfter-same i old.entries (content p e.slot) (Some t) (Some s) there
       (there.0, subst (λ (b : List ℕ). FitsTree old.entries b s) bytes fits)
 
   pub summaries-kept : StandsIn digest p old.entries → c.kind ≡ kind.Tree

@@ -2,7 +2,6 @@ pub mod Lists
 pub mod Apart
 pub mod Puts
 pub mod Maps
-pub mod Empty
 pub mod Edited
 pub mod Groups
 pub mod Nested
@@ -16,9 +15,9 @@ pub mod Turns
 pub mod Cutting
 pub mod ByComponent
 pub mod TreeOf
+mod ByDirectory
 pub mod Listing
 pub mod Standing
-pub mod Gathering
 pub mod Grafting
 pub mod Regrouped
 pub mod StoredAgain
@@ -35,5 +34,5 @@ pub mod EditedMaps
 pub mod HeldTrees
 pub mod StoredPut
 pub mod TreesAdded
-pub mod SumsBehind
+pub mod SumsAfter
 pub mod FitTrees

@@ -147,10 +147,10 @@ rises_over c q e (d, (f ∷ fs)) path nay a =
     (key_rises c d q f.0 (component c q path) (component d f.0 a.path) ne a.before, ne)
 
 -- and before those after them
-rises_behind : (c : Bytes) (q : Path) (e : Entry) (g h : Bytes × Listed) → Rises (c, (q, e) ∷ []) g
+rises_after : (c : Bytes) (q : Path) (e : Entry) (g h : Bytes × Listed) → Rises (c, (q, e) ∷ []) g
     → Rises g h → OfFirst (Ahead c q) h → Rises (c, (q, e) ∷ []) h
-rises_behind c q e g (d, []) r s a = absurd a
-rises_behind c q e g (d, (f ∷ fs)) r s a =
+rises_after c q e g (d, []) r s a = absurd a
+rises_after c q e g (d, (f ∷ fs)) r s a =
     let up : below (key c q) (key d f.0) = nat_list_cmp_total.trans (key c q) (group_key g) (key d f.0) r.0 s.0 in (
       up,
       λ same.
@@ -159,12 +159,12 @@ rises_behind c q e g (d, (f ∷ fs)) r s a =
           (subst (λ (k : Bytes). below (key c q) k) (sym (one ∙ ap (λ (x : Bytes). key x f.0) same)) up),
     )
 
-all_behind : (c : Bytes) (q : Path) (e : Entry) (g : Bytes × Listed) (groups : Groups)
+all_after : (c : Bytes) (q : Path) (e : Entry) (g : Bytes × Listed) (groups : Groups)
     → Rises (c, (q, e) ∷ []) g → AllByRecursion (Rises g) groups
     → AllByRecursion (OfFirst (Ahead c q)) groups → AllByRecursion (Rises (c, (q, e) ∷ [])) groups
-all_behind c q e g [] r s a = tt
-all_behind c q e g (h ∷ groups) r s a =
-    (rises_behind c q e g h r s.0 a.0, all_behind c q e g groups r s.1 a.1)
+all_after c q e g [] r s a = tt
+all_after c q e g (h ∷ groups) r s a =
+    (rises_after c q e g h r s.0 a.0, all_after c q e g groups r s.1 a.1)
 
 joins : (c : Bytes) (q : Path) (e : Entry) (g : Bytes × Listed) (groups : Groups) → c ≡ g.0
     → OfFirst (Ahead c q) g → AllByRecursion (Rises g) groups
@@ -183,7 +183,7 @@ rise_file c q e [] path a r = (tt, tt)
 rise_file c q e (g ∷ groups) path a r =
     by_cases (bytes_eq c g.0)
     (λ yea. rw yea (joins c q e g groups ((bytes_eq-Decides c g.0).0 yea) a.0 r.0, r.1))
-    (λ nay. rw nay (let here = rises_over c q e g path nay a.0 in ((here, all_behind c q e g groups here r.0 a.1), r)))
+    (λ nay. rw nay (let here = rises_over c q e g path nay a.0 in ((here, all_after c q e g groups here r.0 a.1), r)))
 
 rise_path : (p : Path) (e : Entry) (fs : Listed) → IsPath p
     → AllByRecursion (λ g. below (joined p) (joined g.0)) fs

@@ -23,7 +23,7 @@ use Rattle.tenant_tables.specs.View.{Entries, entry_named, slot_of, summary_of}
 use Rattle.tenant_tables.specs.Objects.{objects}
 use Rattle.tenant_tables.specs.StandsIn.{StandsIn}
 use Rattle.tenant_tables.specs.Trees as table
-use Rattle.tenant_tables.specs.Trees.{IsSummed, SummedBehind, IsTreeOf, DirectoryStands}
+use Rattle.tenant_tables.specs.Trees.{IsSummed, SummedAfter, IsTreeOf, DirectoryStands}
 use Rattle.tenant_tables.proofs.AddLemmas.{found_some}
 use Rattle.tenant_tables.proofs.TreeTexts.{tree_contents-injective}
 use Rattle.tenant_tables.proofs.EntryLemmas.{lookup-take}
@@ -159,7 +159,7 @@ pub record IsPlaced (pool : Cells) (entries : Entries) (id : List ℕ) (es : Lis
 module _ (digest : List ℕ → List ℕ) (pool : Cells) (entries : Entries) (stands : StandsIn digest pool entries) where
   -- the content of an entry and its summary
   summed_at : (id : List ℕ) (e : Entry) → lookup (bytes_eq id) entries ≡ Some e
-      → SummedBehind (take (position_of id entries) entries) (content pool e.slot) e.summary
+      → SummedAfter (take (position_of id entries) entries) (content pool e.slot) e.summary
   unfolding IsSummed
   summed_at id e h =
       let at = first_place id entries e h in stands.summed (position_of id entries) at.0 e at.1
@@ -175,9 +175,9 @@ module _ (digest : List ℕ → List ℕ) (pool : Cells) (entries : Entries) (st
   unfolding entry_named
   placed id s h =
       let found = entry_with (lookup (bytes_eq id) entries) s h in
-      let there : SummedBehind (take (position_of id entries) entries) (content pool found.0.slot) (Some s) =
+      let there : SummedAfter (take (position_of id entries) entries) (content pool found.0.slot) (Some s) =
       subst
-      (λ (o : Option Summary). SummedBehind (take (position_of id entries) entries) (content pool found.0.slot) o) found.2
+      (λ (o : Option Summary). SummedAfter (take (position_of id entries) entries) (content pool found.0.slot) o) found.2
       (summed_at id found.0 found.1) in
       let same : content pool found.0.slot ≡ tree_content there.1.0 = λ i. record { kind = there.0 i; bytes = there.1.1.contents i } in (
         there.1.0,
@@ -201,9 +201,9 @@ module _ (digest : List ℕ → List ℕ) (pool : Cells) (entries : Entries) (st
       of_entry : (e : Entry) → lookup (bytes_eq id) entries ≡ Some e → content pool e.slot ≡ c
           → (t : Option Summary) → e.summary ≡ t → (s : Summary) × (t ≡ Some s)
       of_entry e found same None is =
-          let there : SummedBehind (take (position_of id entries) entries) (content pool e.slot) None =
+          let there : SummedAfter (take (position_of id entries) entries) (content pool e.slot) None =
           subst
-          (λ (o : Option Summary). SummedBehind (take (position_of id entries) entries) (content pool e.slot) o) is
+          (λ (o : Option Summary). SummedAfter (take (position_of id entries) entries) (content pool e.slot) o) is
           (summed_at id e found) in
           absurd (there (ap (λ (x : Content). x.kind) same ∙ tree))
       of_entry e found same (Some s) is = (s, refl)
@@ -316,9 +316,9 @@ module _ (digest : List ℕ → List ℕ) (pool : Cells) (entries : Entries) (st
           → tree_fault (objects pool entries) id ≡ Some fault.WrongKind
       by None is k l = cc k
       by (Some e) is k l =
-          let there : SummedBehind (take (position_of id entries) entries) (content pool e.slot) None =
+          let there : SummedAfter (take (position_of id entries) entries) (content pool e.slot) None =
           subst
-          (λ (o : Option Summary). SummedBehind (take (position_of id entries) entries) (content pool e.slot) o)
+          (λ (o : Option Summary). SummedAfter (take (position_of id entries) entries) (content pool e.slot) o)
           (sym l) (summed_at id e is) in
           ap content_fault (object_of id e is) ∙ other_kind (content pool e.slot).kind there
 

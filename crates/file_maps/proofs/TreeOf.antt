@@ -114,7 +114,7 @@ not_root (d ∷ top) c = refl
 same_entry : (s t : TreeEntry) → s.name ≡ t.name → what s ≡ what t → s ≡ t
 same_entry s t n e i = record { mode = (e i).mode; name = n i; id = (e i).name }
 
-contains_map : {A B : Type 0} (f : A → B) (xs : List A) (x : A) → Contains xs x
+pub contains_map : {A B : Type 0} (f : A → B) (xs : List A) (x : A) → Contains xs x
     → Contains (map f xs) (f x)
 contains_map f [] x (k, lt, is) = absurd (omega arith)
 contains_map f (y ∷ xs) x (zero, lt, is) = (0, omega arith, ap f is)

@@ -34,7 +34,7 @@ use Rattle.file_maps.specs.Storable.{AreStorable}
 use Rattle.file_maps.specs.Storing.{or_later, trees_fault, with_trees}
 use Rattle.file_maps.proofs.Apart.{all-weaker, cut-all}
 use Rattle.file_maps.proofs.Cutting.{storable-cut, turns-cut}
-use Rattle.file_maps.proofs.Fits.{IsGroup, InTurn, Pairs, groups-are, grouped-all, none_behind}
+use Rattle.file_maps.proofs.Fits.{IsGroup, InTurn, Pairs, groups-are, grouped-all, none_after}
 use Rattle.file_maps.proofs.Nested.{direct_of}
 use Rattle.file_maps.proofs.Rising.{Bytes, groups-rise}
 use Rattle.file_maps.proofs.Stored.{no_fault, with_trees-append}
@@ -323,7 +323,7 @@ trees_added digest names (suc n) files storable le os good held none =
 root_alone : (files : Listed) → Pairs InTurn files → (e : Entry) → file_of files ≡ Some e
     → depth_of files ≡ 0
 root_alone [] turns e is = refl
-root_alone (([], f) ∷ files) turns e is = rw (none_behind f files turns.0) refl
+root_alone (([], f) ∷ files) turns e is = rw (none_after f files turns.0) refl
 root_alone ((c ∷ q, f) ∷ files) turns e is = cc
 
 no_files : (digest : List ℕ → List ℕ) → AnswersNames digest → (os : List Object)

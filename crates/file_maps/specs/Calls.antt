@@ -5,7 +5,7 @@ use Rattle.file_maps.specs.declared.fault.Fault.TheVariants as fault
 use Rattle.file_maps.specs.FileMap.{FileMap}
 
 -- An edit that is not refused leaves this map; one that is refused answers why, and changes
--- nothing. `Memory` may stand in place of either, and what the map is then is not said.
+-- nothing. `Memory` may be answered instead of either; what the map is then is not specified.
 abbrev pub Edits : {A : Type 0} → Result A Fault → FileMap → FileMap → Option Fault → FileMap
     → Type 0
 Edits (Ok _) old new refusal after = (refusal ≡ None) × (new ≡ after)

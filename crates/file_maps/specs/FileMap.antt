@@ -7,11 +7,11 @@ use Rattle.std.specs.FinMap.{is_sorted}
 use Rattle.std.specs.List.{AllByRecursion}
 use Rattle.git_model.specs.declared.file_mode.FileMode.{FileMode}
 use Rattle.git_model.specs.declared.file_mode.FileMode.TheVariants as mode
+use Rattle.git_model.specs.Limits.{files_limit}
 use Rattle.git_model.specs.ObjectName.{IsObjectName}
 use Rattle.git_paths.specs.Order.{path_cmp}
-use Rattle.git_paths.specs.Paths.{IsPath, IsWithinLimits, behind}
+use Rattle.git_paths.specs.Paths.{IsPath, IsWithinLimits, strip_prefix}
 use Rattle.file_maps.specs.declared.entry.Entry.{Entry}
-use Rattle.file_maps.specs.declared.check.TheConstants.{FILES_LIMIT}
 
 -- A path is its components; the root has none.
 abbrev pub Path : Type 0
@@ -29,13 +29,13 @@ FileMap = map.FinMap path_cmp Entry
 abbrev pub listed : FileMap → Listed
 listed m = map.entries m
 
--- Two paths stand apart where neither is the other or a prefix of it.
+-- Two paths are apart where neither is the other or a prefix of it.
 abbrev pub is_apart : Path → Path → Bool
-is_apart p q = not (is_some (behind p q)) && not (is_some (behind q p))
+is_apart p q = not (is_some (strip_prefix p q)) && not (is_some (strip_prefix q p))
 
 -- ---- what is true of the files of every value of `Files`
 
--- A file stands below the root, at a path within the limits; it is no directory.
+-- A file is below the root, at a path within the limits; it is not a directory.
 pub record IsFile (f : Path × Entry) : Type 0 where
   pub below_the_root : f.0 ≢ []
   pub path : IsPath f.0
@@ -43,7 +43,7 @@ pub record IsFile (f : Path × Entry) : Type 0 where
   pub mode : f.1.mode ≢ mode.Directory
   pub name : IsObjectName f.1.name
 
--- Each two of these files stand apart.
+-- Any two of these files are apart.
 abbrev pub ArePairwiseApart : Listed → Type 0
 ArePairwiseApart [] = Unit {0}
 ArePairwiseApart (f ∷ files) =
@@ -53,7 +53,7 @@ pub record AreFiles (files : Listed) : Type 0 where
   pub in_order : IsTrue (is_sorted path_cmp files)
   pub each : AllByRecursion IsFile files
   pub apart : ArePairwiseApart files
-  pub few : length files ≤ FILES_LIMIT
+  pub few : length files ≤ files_limit
 
 -- ---- the code of a map
 

@@ -21,7 +21,8 @@ pub record IsRepository (digest : List ℕ → List ℕ) (repository : Repositor
   pub trees : (tree : List ℕ) → kind_named tree repository.objects ≡ Some kind.Tree
       → IsTreeOfFiles repository.objects tree
 
--- More objects came after some, all of these are good, and the tree of this name is among them.
+-- Objects were added after others, all of them together are good, and the tree of this name is
+-- among them.
 pub record StayGood (digest : List ℕ → List ℕ) (os new : List Object) (id : List ℕ) : Type 0 where
   pub good : AreObjects digest new
   pub more : List Object

@@ -11,6 +11,9 @@ use Rattle.file_maps.specs.FileMap.{Path, Listed, FileMap}
 use Rattle.file_maps.specs.Edits.{moved, put_tree_at, put_fault}
 use Rattle.file_maps.specs.Calls.{Edits}
 use Rattle.file_maps.specs.StoredTree.{AreFilesOf}
+use Rattle.std.specs.Prelude.{Bool, ◌&&◌, nat_le}
+use Rattle.git_model.specs.Limits.{files_limit, path_bytes_limit, path_components_limit}
+use Rattle.tenant_tables.specs.declared.summary.Summary.{Summary}
 
 -- A kind other than a tree's is refused.
 abbrev pub kind_fault : Kind → Option Fault
@@ -31,12 +34,13 @@ abbrev pub or_else : Option Fault → Option Fault → Option Fault
 or_else (Some e) later = Some e
 or_else None later = later
 
--- Why a stored tree cannot be put: it is none; else its files cannot be put, which would leave a
--- map with them.
+-- Why a stored tree cannot be put: it is none, or else its files cannot be put. `after` is the map
+-- with its files put.
 abbrev pub graft_fault : List Object → List ℕ → Listed → FileMap → Option Fault
 graft_fault os id files after = or_else (tree_fault os id) (put_fault files after)
 
--- A call put the tree of a name at a path. Where the name is a tree's, these are its files.
+-- What putting the tree of a name at a path answers and leaves. Where the name is a tree's, `files`
+-- are its files.
 pub record Grafts {A : Type 0} (result : Result A Fault) (os : List Object) (id : List ℕ)
     (path : Path) (old new : FileMap) : Type 0 where
   pub files : Listed
@@ -44,3 +48,9 @@ pub record Grafts {A : Type 0} (result : Result A Fault) (os : List Object) (id 
   pub edits : Edits result old new
       (graft_fault os id (moved path files) (put_tree_at old path files))
       (put_tree_at old path files)
+
+-- A tree is small where its files could stand at the root of a branch.
+abbrev pub is_small : Summary → Bool
+is_small s =
+    nat_le s.files files_limit && nat_le s.depth path_components_limit
+    && nat_le s.longest path_bytes_limit

@@ -12,7 +12,6 @@ pub mod Grafts
 pub mod Below
 pub mod Storing
 pub mod Storable
-pub mod Gathers
 pub mod StoredFiles
 pub mod StoredAgain
 pub mod GoodTrees

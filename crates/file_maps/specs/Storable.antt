@@ -1,15 +1,14 @@
 -- Files of which trees can be stored.
-use Rattle.std.specs.Prelude.{◌≡◌, ℕ, ◌≤◌, max, List, [], ◌∷◌, length, Some, None}
+use Rattle.std.specs.Prelude.{◌≡◌, ℕ, ◌≤◌, max, [], ◌∷◌, length}
 use Rattle.std.specs.List.{AllByRecursion}
 use Rattle.std.specs.Ordering.{nat_cmp}
 use Rattle.std.specs.Cmp.Lexicographic.{slice_cmp}
 use Rattle.std.specs.declared.cmp.Ordering.TheVariants.{Less}
+use Rattle.git_model.specs.Limits.{files_limit}
 use Rattle.git_paths.specs.Paths.{joined}
 use Rattle.tenant_tables.specs.declared.summary.Summary.{Summary}
-use Rattle.file_maps.specs.declared.check.TheConstants.{FILES_LIMIT}
 use Rattle.file_maps.specs.FileMap.{Listed, ArePairwiseApart, IsFile}
-use Rattle.tenant_tables.specs.View.{Entries, summary_of}
-use Rattle.file_maps.specs.Trees.{depth_of, file_of, tree_name, entries_within}
+use Rattle.file_maps.specs.Trees.{depth_of}
 
 -- Each file comes before all later ones, in the order of the paths' bytes.
 abbrev pub AreInOrder : Listed → Type 0
@@ -22,7 +21,7 @@ pub record AreStorable (files : Listed) : Type 0 where
   pub in_order : AreInOrder files
   pub each : AllByRecursion IsFile files
   pub apart : ArePairwiseApart files
-  pub few : length files ≤ FILES_LIMIT
+  pub few : length files ≤ files_limit
 
 -- The most bytes of a path.
 abbrev pub longest_of : Listed → ℕ
@@ -33,15 +32,3 @@ longest_of (f ∷ files) = max (length (joined f.0)) (longest_of files)
 abbrev pub files_summary : Listed → Summary
 files_summary files =
     record { files = length files; depth = depth_of files; longest = longest_of files }
-
--- A group is storable where it is a file, or a directory of storable files with at most so many
--- components.
-abbrev pub IsStorableGroup : ℕ → List ℕ × Listed → Type 0
-IsStorableGroup deep g = file_of g.1 ≡ None → AreStorable g.1 × (depth_of g.1 ≤ deep)
-
--- The tree of a group that is a directory stands in a table, with the summary of its files.
-abbrev pub IsKnownGroup : (List ℕ → List ℕ) → ℕ → Entries → List ℕ × Listed → Type 0
-IsKnownGroup digest deep table g =
-    file_of g.1 ≡ None
-    → summary_of (tree_name digest (entries_within digest deep g.1)) table
-    ≡ Some (files_summary g.1)

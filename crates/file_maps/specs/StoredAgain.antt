@@ -2,9 +2,9 @@
 -- git-write-tree(1).
 use Rattle.std.specs.Prelude.{◌≡◌, ◌≢◌, ℕ, ◌≤◌, List, [], length, All, None}
 use Rattle.git_model.specs.declared.file_mode.FileMode.TheVariants as mode
+use Rattle.git_model.specs.Limits.{contents_limit}
 use Rattle.git_model.specs.Repository.{Object}
 use Rattle.git_model.specs.Tree.{TreeEntry, tree_contents}
-use Rattle.tenant_tables.specs.declared.table.TheConstants.{CONTENTS_LIMIT}
 use Rattle.file_maps.specs.FileMap.{Listed}
 use Rattle.file_maps.specs.Trees.{tree_name, tree_id, tree_entries, nested_trees}
 use Rattle.file_maps.specs.StoredTree.{HasTree}
@@ -24,7 +24,7 @@ IsFilled os e = e.mode ≡ mode.Directory → HasEntries os e.id
 pub record AreTreesGood (digest : List ℕ → List ℕ) (os : List Object) : Type 0 where
   pub named : (id : List ℕ) (es : List TreeEntry) → HasTree os id es → id ≡ tree_name digest es
   pub short : (id : List ℕ) (es : List TreeEntry) → HasTree os id es
-      → length (tree_contents es) ≤ CONTENTS_LIMIT
+      → length (tree_contents es) ≤ contents_limit
   pub filled : (id : List ℕ) (es : List TreeEntry) → HasTree os id es → All (IsFilled os) es
 
 -- The files of the tree of a name make that tree and its name again. All trees that they make are

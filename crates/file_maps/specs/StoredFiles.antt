@@ -13,7 +13,8 @@ use Rattle.file_maps.specs.FileMap.{Listed, FileMap}
 use Rattle.file_maps.specs.Edits.{moved, with_files}
 use Rattle.file_maps.specs.StoredTree.{file_from}
 
--- What an entry lists: a directory what its tree lists, below its name; every other entry its file.
+-- What an entry lists: for a directory what its tree lists, below the directory's name; for every
+-- other entry its file.
 abbrev pub listed_by : FileMode → TreeEntry → Listed → Listed
 listed_by mode.Directory e below = moved (e.name ∷ []) below
 listed_by mode.Regular e below = file_from e ∷ []

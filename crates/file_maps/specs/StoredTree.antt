@@ -8,18 +8,18 @@ use Rattle.file_maps.specs.FileMap.{Path, Listed}
 use Rattle.file_maps.specs.Edits.{moved}
 use Rattle.file_maps.specs.Trees.{tree_content}
 
--- Among these objects the one of this name is the tree with these direct entries. What the name is
--- the digest of does not matter: the tree is what the objects have under it.
+-- Among these objects the one of this name is the tree with these direct entries. Whether the name
+-- is the digest of the tree does not matter here.
 pub record HasTree (os : List Object) (id : List ℕ) (es : List TreeEntry) : Type 0 where
   pub content : object_named id os ≡ Some (tree_content es)
   pub entries : CanWriteTree es
 
--- The file of an entry stands under its name.
+-- The file of an entry, at the path of its name.
 abbrev pub file_from : TreeEntry → Path × Entry
 file_from e = (e.name ∷ [], record { mode = e.mode; name = e.id })
 
--- What direct entries list, in their order: each that is no directory its file, and a directory
--- what its tree lists, below its name.
+-- What direct entries list, in their order: an entry that is not a directory lists its file, and a
+-- directory lists what its tree lists, below the directory's name.
 pub data Lists (os : List Object) : List TreeEntry → Listed → Type 0 where
   nothing : Lists os [] []
   first_file : (e : TreeEntry) (es : List TreeEntry) (files : Listed) → e.mode ≢ mode.Directory

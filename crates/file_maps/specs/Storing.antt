@@ -51,8 +51,8 @@ pub record AddsTrees (digest : List ℕ → List ℕ) (before : Cells) (old : Vi
   pub kept : (id : List ℕ) (s : Summary) → summary_of id old.entries ≡ Some s
       → summary_of id new.entries ≡ Some s
 
--- The first of some trees were added, none of which is refused; one of those after them is, or
--- there was no memory.
+-- The first of some trees were added, and none of these is refused. One of the trees after them is,
+-- or there was no memory.
 pub record AddsSome (digest : List ℕ → List ℕ) (before : Cells) (old : View) (after : Cells)
     (new : View) (trees : List (List TreeEntry)) (e : Fault) : Type 0 where
   pub done : List (List TreeEntry)

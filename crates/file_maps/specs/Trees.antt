@@ -27,16 +27,15 @@ abbrev pub add_path : Path → Entry → Groups → Groups
 add_path [] e groups = groups
 add_path (c ∷ rest) e groups = add_file c (rest, e) groups
 
--- Neighbours with the same first component stand together. In the order of whole paths these are
--- all files with it.
+-- Neighbours with the same first component make a group. In the order of whole paths these are all
+-- files with that component.
 abbrev pub grouped : Listed → Groups
 grouped [] = []
 grouped (f ∷ files) = add_path f.0 f.1 (grouped files)
 
 -- ---- trees
 
--- The file that a group is, where nothing is left of its first path. Every other group is a
--- directory.
+-- A group is a file where nothing is left of its first path. Every other group is a directory.
 abbrev pub file_at : Path → Entry → Option Entry
 file_at [] e = Some e
 file_at (c ∷ rest) e = None
@@ -56,8 +55,8 @@ tree_content es = content_from kind.Tree (tree_contents es)
 abbrev pub tree_name : (List ℕ → List ℕ) → List TreeEntry → List ℕ
 tree_name digest es = name_by digest (tree_content es)
 
--- The direct entries of files with at most so many components: for each first component its own
--- file, or else a directory with the name of the tree of the files below it.
+-- The direct entries of files with at most so many components: for each first component its file,
+-- or a directory with the name of the tree of the files below it.
 unfoldable pub entries_within : (List ℕ → List ℕ) → ℕ → Listed → List TreeEntry
 entries_within digest zero files = []
 entries_within digest (suc deep) files =

@@ -7,8 +7,8 @@ use git_objects::Name;
 /// of a gitlink.
 #[derive(Clone, Copy, Debug, PartialEq, Eq)]
 pub struct Entry {
-    /// What stands there.
+    /// Whether it is a file, an executable, a symbolic link, a gitlink or a directory.
     pub mode: FileMode,
-    /// The name of its object.
+    /// The name of its object, 20 bytes.
     pub name: Name,
 }

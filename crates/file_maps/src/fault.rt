@@ -7,7 +7,7 @@ use git_objects::Memory;
 use std::alloc::{AllocError, AllocFailed};
 use thiserror::Error;
 
-/// What the calls of `Files` refuse.
+/// Why a call of `Files` was refused.
 #[derive(Clone, Copy, Debug, PartialEq, Eq, Error)]
 pub enum Fault {
     /// The table has no object of this name: 14.
@@ -28,13 +28,14 @@ pub enum Fault {
     /// A path would be too long, or there would be too many files or objects: 25.
     #[error("limit exceeded")]
     Limit,
-    /// A growth was refused: 90.
+    /// An allocation failed: 90.
     #[error("out of memory")]
     Memory,
 }
 
 impl Fault {
-    /// The number of the fault.
+    /// The number of the fault: 14 object unknown, 15 wrong kind, 18 source missing, 20 root, 24
+    /// name collision, 25 limit, 90 out of memory.
     pub fn code(self) -> u16
         ensures { result ≡ fault_code self }
     {

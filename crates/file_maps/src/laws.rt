@@ -19,7 +19,7 @@ ghost use Rattle.file_maps.specs.FileMap.{FileMap, Path, Listed, AreFiles, liste
 ghost use Rattle.file_maps.specs.HeldFiles.{IsHeld};
 ghost use Rattle.file_maps.specs.Edits.{files_at, with_files};
 ghost use Rattle.file_maps.specs.Trees.{grouped, nested_trees, tree_entries, tree_id};
-ghost use Rattle.file_maps.specs.ByComponent.{IsByFirstComponent, IsTreeOf};
+ghost use Rattle.file_maps.specs.ByComponent.{AreByDirectory, IsByFirstComponent, IsTreeOf};
 ghost use Rattle.file_maps.specs.StoredTree.{HasTree, ListsTree, AreFilesOf};
 ghost use Rattle.file_maps.specs.Storable.{files_summary};
 ghost use Rattle.file_maps.specs.Storing.{trees_fault, with_trees};
@@ -27,22 +27,30 @@ ghost use Rattle.file_maps.specs.StoredFiles.{stored_files};
 ghost use Rattle.file_maps.specs.GoodTrees.{IsTreeOfFiles, IsRepository, StayGood};
 ghost use Rattle.file_maps.specs.StoredAgain.{AreTreesGood, IsStoredAlready};
 
-/// The files below any path, taken by neighbours with one first component, are the files at or
-/// below each component that comes next: in the order of whole paths all files of one directory
-/// stand side by side.
+/// Below any path, the neighbouring files with the same first component are all files at or below
+/// that component: in the order of whole paths, the files of one directory are side by side.
 pub fn files_by_component()
     ensures { (m : FileMap) (top : Path) → AreFiles (listed m)
         → IsByFirstComponent m top (grouped (files_at m top)) }
 {}
 
-/// The tree of what is below any path has an entry for each component where something stands one
-/// component further, with its mode and its object name, and no other.
+/// The tree of what is below any path has an entry, with mode and object name, for each component
+/// at which something is one component further, and no other entry.
 pub fn trees_by_component()
     ensures { (digest : List ℕ → List ℕ) (m : FileMap) (top : Path) → AreFiles (listed m)
         → IsTreeOf digest m top (tree_entries digest (files_at m top)) }
 {}
 
-/// A stored tree is made again by its files: they have its name, and to store them adds nothing.
+/// The trees of the files at or below any path are that of the path and those of all directories
+/// below it, of each directory once. Children come first: each tree comes after the trees of its
+/// own directories, which come in its order. So the tree of the path is the last one.
+pub fn trees_by_directory()
+    ensures { (digest : List ℕ → List ℕ) (m : FileMap) (top : Path) → AreFiles (listed m)
+        → AreByDirectory digest m top (nested_trees digest (files_at m top)) }
+{}
+
+/// The files of a stored tree make the same tree again: it has the same name, and storing them adds
+/// nothing.
 pub fn stored_trees_stay()
     ensures { (digest : List ℕ → List ℕ) (os : List Object) → AreTreesGood digest os
         → (id : List ℕ) (files : Listed) → ListsTree os id files
@@ -55,7 +63,7 @@ pub fn table_trees_are_good()
         → StandsIn digest pool entries → AreTreesGood digest (objects pool entries) }
 {}
 
-/// So each of them is made again by its files, as the function reads them, and stays as it is.
+/// So the files of each of them, as `stored_files` reads them, make the same tree again.
 pub fn table_trees_stay()
     ensures { (digest : List ℕ → List ℕ) (pool : Cells) (entries : Entries)
         → StandsIn digest pool entries
@@ -64,8 +72,8 @@ pub fn table_trees_stay()
         (stored_files (objects pool entries) id) }
 {}
 
-/// The summary that a table keeps beside a tree is that of the tree's files: how many they are, the
-/// most components of a path, and the most bytes of one.
+/// The summary that a table keeps beside a tree is that of the tree's files: how many there are,
+/// the most components of a path, and the most bytes of a path.
 pub fn table_summaries_are_of_files()
     ensures { (digest : List ℕ → List ℕ) (pool : Cells) (entries : Entries)
         → StandsIn digest pool entries
@@ -73,20 +81,20 @@ pub fn table_summaries_are_of_files()
         → summary_of id entries ≡ Some (files_summary files) }
 {}
 
-/// In a good repository each tree has files, those that the function gives, and no others.
+/// In a good repository each tree has the files that `stored_files` gives, and no others.
 pub fn good_trees_have_files()
     ensures { (digest : List ℕ → List ℕ) (os : List Object) → AreObjects digest os
         → (id : List ℕ) → kind_named id os ≡ Some kind.Tree
         → AreFilesOf os id (stored_files os id) }
 {}
 
-/// So whatever files a tree has, the function gives them.
+/// So if some files are all the files of a tree, `stored_files` gives them.
 pub fn files_are_the_stored_files()
     ensures { (digest : List ℕ → List ℕ) (os : List Object) → AreObjects digest os
         → (id : List ℕ) (files : Listed) → AreFilesOf os id files → files ≡ stored_files os id }
 {}
 
-/// The trees of good objects are those of file maps, so that `stored_trees_stay` speaks of them.
+/// The trees of good objects are those of file maps, so `stored_trees_stay` holds for them.
 pub fn good_objects_have_good_trees()
     ensures { (digest : List ℕ → List ℕ) (os : List Object) → AreObjects digest os
         → AreTreesGood digest os }
@@ -106,15 +114,15 @@ pub fn stored_files_are_in_order()
         → files_at (with_files finmap.empty files) [] ≡ files }
 {}
 
-/// What a tree lists stays while trees are added.
+/// A tree lists the same files after other trees are added.
 pub fn stored_files_stay()
     ensures { (digest : List ℕ → List ℕ) (trees : List (List TreeEntry)) (os : List Object)
         (id : List ℕ) (files : Listed) → ListsTree os id files
         → ListsTree (with_trees digest trees os) id files }
 {}
 
-/// A good repository stays good where an object is added that may be, and, if it is a tree, has the
-/// files of a file map within the limits.
+/// A good repository stays good when an object is added that may be added and, if it is a tree, has
+/// the files of a file map within the limits.
 pub fn one_more_object_keeps_a_repository()
     ensures { (digest : List ℕ → List ℕ) (r : Repository) (o : Object)
         → IsRepository digest r → MayAdd digest r.objects o
@@ -128,9 +136,9 @@ pub fn an_empty_repository_is_good()
         → IsRepository digest (record { objects = []; refs = no_refs }) }
 {}
 
-/// The trees of the files below a path, children first, may be added to good objects where each
-/// file's object is there and the table refuses none: the objects stay good, and the tree of the
-/// path is there.
+/// The trees of the files below a path, children first, may be added to good objects if each file's
+/// object is there and the table refuses no tree: the objects stay good, and the tree of the path
+/// is among them.
 pub fn trees_keep_objects_good()
     ensures { (digest : List ℕ → List ℕ) → AnswersNames digest
         → (os : List Object) → AreObjects digest os
@@ -140,8 +148,8 @@ pub fn trees_keep_objects_good()
         (tree_id digest (files_at m path)) }
 {}
 
-/// Where trees fit before, they fit with those too: the trees of files within the limits are within
-/// them.
+/// If the trees fitted before, they fit with the added ones too: trees of files within the limits
+/// are within the limits.
 pub fn trees_keep_fitting()
     ensures { (digest : List ℕ → List ℕ) → AnswersNames digest
         → (os : List Object) → AreObjects digest os → TreesFit [] os
@@ -150,7 +158,7 @@ pub fn trees_keep_fitting()
         → TreesFit [] (with_trees digest (nested_trees digest (files_at m path)) os) }
 {}
 
-/// An object that is no tree leaves them so.
+/// Adding an object that is not a tree keeps the trees fitting.
 pub fn other_objects_keep_trees_fitting()
     ensures { (os : List Object) → TreesFit [] os → (id : List ℕ) (content : Content)
         → content.kind ≢ kind.Tree → TreesFit [] (with_object id content os) }

@@ -1,23 +1,19 @@
-//! Storing the trees that files make, children first.
+//! Adding one tree to a table.
 
-ghost use Rattle.std.specs.Prelude.{◌≡◌, ◌≤◌, [], ◌∷◌, None, Some, OnOk, OnErr};
+ghost use Rattle.std.specs.Prelude.{◌≡◌, [], ◌∷◌, Some, OnOk, OnErr};
 ghost use Rattle.git_objects.specs.Parts.{entries_of};
 ghost use Rattle.git_model.specs.ObjectName.{IsObjectName};
 ghost use Rattle.git_model.specs.Tree.{tree_contents};
 ghost use Rattle.tenant_tables.specs.StandsIn.{StandsIn};
 ghost use Rattle.tenant_tables.specs.Trees.{FitsTree};
 ghost use Rattle.tenant_tables.specs.View.{summary_of};
-ghost use Rattle.file_maps.specs.declared.entry.Entry.{Entry};
-ghost use Rattle.file_maps.specs.Trees.{entries_within, trees_within, nested_trees, tree_id, tree_name, depth_of, file_of, grouped};
-ghost use Rattle.file_maps.specs.Below.{files_below, group_of, groups_of, id_of, group_trees};
+ghost use Rattle.file_maps.specs.Trees.{tree_name};
 ghost use Rattle.file_maps.specs.Storing.{StoresTrees, HasRoomBeside, as_fault};
-ghost use Rattle.file_maps.specs.Storable.{files_summary, longest_of, AreStorable, IsStorableGroup, IsKnownGroup};
 
-use crate::below::{Below, Group, depth_of, file_of, grouped};
 use crate::fault::Fault;
-use crate::naming::{contents_of, entry_by};
+use crate::naming::contents_of;
 use content_pool::Pool;
-use git_objects::{Name, Naming, TreeEntry, has_twenty_bytes};
+use git_objects::{Name, Naming, TreeEntry};
 use std::alloc::Global;
 use tenant_tables::{Fault as TableFault, Summary, Table};
 
@@ -31,39 +27,13 @@ fn as_fault(refusal: TableFault) -> Fault
     }
 }
 
-// The most components of a path, and the most bytes.
-fn extent_of(files: &[Below<'_>]) -> (usize, usize)
-    ensures depth { result.0 ≡ depth_of (files_below files.now) }
-    ensures longest { result.1 ≡ longest_of (files_below files.now) }
-{
-    let mut depth = 0;
-    let mut longest = 0;
-    for file in files {
-        depth = depth.max(file.path.len());
-        longest = longest.max(file.path.as_bytes().len());
-    }
-    (depth, longest)
-}
-
-/// The summary of the tree of these files.
-fn summary_of(files: &[Below<'_>]) -> Summary
-    requires { AreStorable (files_below files.now) }
-    ensures { result ≡ files_summary (files_below files.now) }
-{
-    let (depth, longest) = extent_of(files);
-    Summary {
-        files: files.len() as u32,
-        depth: depth as u32,
-        longest: longest as u32,
-    }
-}
-
 /// Adds the tree with these entries to a table, and answers its name: git-mktree(1).
 ///
 /// The entries make a tree whose directories stand in the table, and the summary is that of its
-/// files. A tree that is there is found. `Fault::Limit` (25) where the contents are too long or the
-/// table is full, else `Fault::NameCollision` (24) where the table has another object of its name;
-/// `Fault::Memory` (90) where a growth was refused. Nothing has changed after these.
+/// files. A tree that the table has already is not added again. `Fault::Limit` (25) where the
+/// contents are too long or the table is full, else `Fault::NameCollision` (24) where the table has
+/// another object of its name; `Fault::Memory` (90) where an allocation failed. Nothing has changed
+/// after a refusal.
 ///
 /// The pool is the one that the table stands in.
 pub fn add_entries<N: Naming>(
@@ -86,116 +56,5 @@ pub fn add_entries<N: Naming>(
     match table.add_tree(pool, &contents, summary) {
         Ok(id) => Ok(id),
         Err(refusal) => Err(as_fault(refusal)),
-    }
-}
-
-/// Stores the trees of files whose paths have at most `deep` components, and answers the name of
-/// the last one, which is the tree of all.
-#[cycle(storing)]
-pub(crate) fn store_trees<N: Naming>(
-    alloc: Global,
-    pool: &mut Pool<N>,
-    table: &mut Table,
-    deep: usize,
-    files: &[Below<'_>],
-) -> Result<Name, Fault>
-    requires deep { depth_of (files_below files.now) ≤ deep }
-    requires files { AreStorable (files_below files.now) }
-    requires stands { StandsIn N.digest_of pool.old table.old.entries }
-    requires room { HasRoomBeside pool.old table.old.entries }
-    ensures stores { StoresTrees result N.digest_of pool.old table.old pool.new table.new
-        (trees_within N.digest_of deep (files_below files.now))
-        (tree_name N.digest_of (entries_within N.digest_of deep (files_below files.now))) }
-    ensures known { OnOk result (summary_of
-        (tree_name N.digest_of (entries_within N.digest_of deep (files_below files.now)))
-        table.new.entries ≡ Some (files_summary (files_below files.now))) }
-{
-    let groups = match grouped(alloc, files) {
-        Ok(groups) => groups,
-        Err(_) => return Err(Fault::Memory),
-    };
-    store_groups(alloc, pool, table, deep, files, &groups)
-}
-
-// Stores the trees of these files, which make these groups.
-#[cycle(storing)]
-fn store_groups<N: Naming>(
-    alloc: Global,
-    pool: &mut Pool<N>,
-    table: &mut Table,
-    deep: usize,
-    files: &[Below<'_>],
-    groups: &[Group<'_>],
-) -> Result<Name, Fault>
-    requires deep { depth_of (files_below files.now) ≤ deep }
-    requires files { AreStorable (files_below files.now) }
-    requires groups { groups_of groups.now ≡ grouped (files_below files.now) }
-    requires stands { StandsIn N.digest_of pool.old table.old.entries }
-    requires room { HasRoomBeside pool.old table.old.entries }
-    ensures stores { StoresTrees result N.digest_of pool.old table.old pool.new table.new
-        (trees_within N.digest_of deep (files_below files.now))
-        (tree_name N.digest_of (entries_within N.digest_of deep (files_below files.now))) }
-    ensures known { OnOk result (summary_of
-        (tree_name N.digest_of (entries_within N.digest_of deep (files_below files.now)))
-        table.new.entries ≡ Some (files_summary (files_below files.now))) }
-{
-    let mut entries = Vec::new(alloc);
-    for group in groups {
-        let id = match store_group(alloc, pool, table, deep - 1, group) {
-            Ok(id) => id,
-            Err(refusal) => return Err(refusal),
-        };
-        has_twenty_bytes(&id);
-        if entries.push(entry_by(group, id)).is_err() {
-            return Err(Fault::Memory);
-        }
-    }
-    add_entries(alloc, pool, table, &entries, summary_of(files))
-}
-
-// Stores the trees of a group, and answers the name of its object.
-#[cycle(storing)]
-fn store_group<N: Naming>(
-    alloc: Global,
-    pool: &mut Pool<N>,
-    table: &mut Table,
-    deep: usize,
-    group: &Group<'_>,
-) -> Result<Name, Fault>
-    requires group { IsStorableGroup deep (group_of group.now) }
-    requires stands { StandsIn N.digest_of pool.old table.old.entries }
-    requires room { HasRoomBeside pool.old table.old.entries }
-    ensures stores { StoresTrees result N.digest_of pool.old table.old pool.new table.new
-        (group_trees N.digest_of deep (group_of group.now))
-        (id_of N.digest_of deep (group_of group.now)) }
-    ensures known { OnOk result (IsKnownGroup N.digest_of deep table.new.entries
-        (group_of group.now)) }
-{
-    match file_of(&group.below) {
-        Some(file) => Ok(file.name),
-        None => store_trees(alloc, pool, table, deep, &group.below),
-    }
-}
-
-/// Stores the trees of files below a directory, and answers the name of the last one. Where the one
-/// file is no directory, that is the empty tree.
-pub(crate) fn store_files<N: Naming>(
-    alloc: Global,
-    pool: &mut Pool<N>,
-    table: &mut Table,
-    files: &[Below<'_>],
-) -> Result<Name, Fault>
-    requires files { file_of (files_below files.now) ≡ None → AreStorable (files_below files.now) }
-    requires file { (e : Entry) → file_of (files_below files.now) ≡ Some e
-        → depth_of (files_below files.now) ≡ 0 }
-    requires stands { StandsIn N.digest_of pool.old table.old.entries }
-    requires room { HasRoomBeside pool.old table.old.entries }
-    ensures { StoresTrees result N.digest_of pool.old table.old pool.new table.new
-        (nested_trees N.digest_of (files_below files.now))
-        (tree_id N.digest_of (files_below files.now)) }
-{
-    match file_of(files) {
-        Some(_) => store_trees(alloc, pool, table, 0, &[]),
-        None => store_trees(alloc, pool, table, depth_of(files), files),
     }
 }

@@ -8,7 +8,7 @@ use Rattle.git_model.specs.Bytes.{BeginsWith}
 use Rattle.git_model.specs.Ident.{Person, person_text, is_person_byte, IsPerson, Date, date_text, IsDate, NamesPerson, IsIdent, written_ident, IsWrittenIdent}
 use Rattle.git_model.specs.IdentReading.{BadIdentity, BadDate, seconds_at, read_ident, ident_time}
 use Rattle.git_model.proofs.Fronts.{take_front}
-use Rattle.git_model.proofs.Idents.{behind_person_only, Whole, Unnamed, Undated, is_read, named_by}
+use Rattle.git_model.proofs.Idents.{after_person_only, Whole, Unnamed, Undated, is_read, named_by}
 
 pub read_ident-Ok : (text : List ℕ) → (read_ident text ≡ Ok (written_ident text)) ↔ IsIdent text
 read_ident-Ok text = elim (is_read text) [
@@ -47,7 +47,7 @@ pub ident_time-of : (person : Person) (date : Date) → IsPerson person → IsDa
     → ident_time (person_text person ++ date_text date) ≡ digits_value 10 date.seconds
 unfolding ident_time
 ident_time-of person date p d =
-    ap seconds_at (behind_person_only person (date_text date) p)
+    ap seconds_at (after_person_only person (date_text date) p)
     ∙ ap (digits_value 10)
     (take_front is_ascii_digit date.seconds 32 date.offset d.seconds_are_digits refl)
 

@@ -1,13 +1,13 @@
 -- Commit objects: "commit object" in gitglossary(7), and the header lines that git-cat-file(1)
--- shows of one.
+-- prints.
 use Rattle.std.specs.Prelude.{◌≢◌, ℕ, List, [], ◌∷◌, ◌++◌, All, Option, None, Some, IfSome, codes}
 use Rattle.std.specs.List.{flat_map}
 use Rattle.hex.specs.Hex.{encode_lower}
 use Rattle.git_model.specs.ObjectName.{IsObjectName}
 use Rattle.git_model.specs.Ident.{IsWrittenIdent}
 
--- A commit: the names of its tree and of its parents, who wrote it and who committed it, perhaps
--- the encoding of its message, and its message.
+-- A commit: the names of its tree and of its parents, its author and committer, perhaps the
+-- encoding of its message, and its message.
 pub record Commit : Type 0 where
   pub tree : List ℕ
   pub parents : List (List ℕ)
@@ -20,7 +20,7 @@ pub record Commit : Type 0 where
 abbrev pub line : List ℕ → List ℕ → List ℕ
 line word text = word ++ text ++ 10 ∷ []
 
--- An object name stands in a header in 40 hexadecimal digits of lower case.
+-- A header line writes an object name as 40 lowercase hexadecimal digits.
 abbrev pub name_line : List ℕ → List ℕ → List ℕ
 name_line word id = line word (encode_lower id)
 
@@ -39,7 +39,7 @@ commit_contents c =
     ++ optional_line (codes "encoding ") c.encoding
     ++ 10 ∷ c.message
 
--- An encoding is any text on one line that is not empty.
+-- An encoding is any text that is not empty and has no line end.
 pub record IsEncoding (text : List ℕ) : Type 0 where
   pub not_empty : text ≢ []
   pub one_line : All (λ byte. byte ≢ 10) text

@@ -1,4 +1,4 @@
--- Contents: gitglossary(7), "object", without its name.
+-- The content of an object, without its name: "object" of gitglossary(7).
 use Rattle.std.specs.Prelude.{ℕ, ◌&&◌, Bool, List, []}
 use Rattle.std.specs.Str.{bytes_eq}
 use Rattle.git_model.specs.declared.kind.Kind.{Kind}
@@ -6,7 +6,7 @@ use Rattle.git_model.specs.declared.kind.Kind.TheVariants.{Blob}
 use Rattle.git_model.specs.Kind.{kind_word}
 use Rattle.git_model.specs.ObjectName.{object_name}
 
--- What is stored of an object: its kind and its bytes.
+-- The content of an object is its kind and its bytes.
 pub record Content : Type 0 where
   pub kind : Kind
   pub bytes : List ℕ
@@ -15,7 +15,7 @@ pub record Content : Type 0 where
 abbrev pub content_from : Kind → List ℕ → Content
 content_from kind bytes = record { kind = kind; bytes = bytes }
 
--- The content that stands for nothing, where a definition has to answer some content.
+-- A placeholder, for definitions that must answer a content even if there is none.
 abbrev pub no_content : Content
 no_content = content_from Blob []
 
@@ -23,6 +23,6 @@ no_content = content_from Blob []
 abbrev pub name_by : (List ℕ → List ℕ) → Content → List ℕ
 name_by digest c = object_name digest c.kind c.bytes
 
--- Two contents are the same where kind and bytes are.
+-- Two contents are the same if their kinds and their bytes are.
 abbrev pub same_content : Content → Content → Bool
 same_content c d = bytes_eq (kind_word c.kind) (kind_word d.kind) && bytes_eq c.bytes d.bytes

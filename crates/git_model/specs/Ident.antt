@@ -5,7 +5,7 @@ use Rattle.std.specs.Char.{is_ascii_digit}
 use Rattle.std.specs.Str.Parse.{digits_value}
 use Rattle.git_model.specs.Bytes.{BeginsWith, EndsWith}
 
--- A person is a name, with the space that ends it, and an email. There may be no name.
+-- A person is a name, which includes the space after it, and an email. The name may be empty.
 pub record Person : Type 0 where
   pub name : List ℕ
   pub email : List ℕ
@@ -45,7 +45,7 @@ pub record IsDate (date : Date) : Type 0 where
   pub seconds_below_two_to_64 : digits_value 10 date.seconds < 2 ^ 64
   pub offset : is_offset date.offset ≡ true
 
--- A text names a person where a person's text stands at its front.
+-- A text names a person if it begins with a person's text.
 abbrev pub NamesPerson : List ℕ → Type 0
 NamesPerson text =
     (person : Person) × (rest : List ℕ) × IsPerson person × (text ≡ person_text person ++ rest)
@@ -55,11 +55,12 @@ abbrev pub IsIdent : List ℕ → Type 0
 IsIdent text = (person : Person) × (date : Date) × IsPerson person × IsDate date
     × (text ≡ person_text person ++ date_text date)
 
--- An ident that begins with `<` gets one space put before it; every other one stays as it is.
+-- An ident that begins with `<` is written with one space before it; every other ident stays as it
+-- is.
 abbrev pub written_ident : List ℕ → List ℕ
 written_ident [] = []
 written_ident (byte ∷ rest) = if byte == 60 then 32 ∷ byte ∷ rest else byte ∷ rest
 
--- The idents that stand in objects are those that do not begin with `<`.
+-- Objects have only idents that do not begin with `<`.
 abbrev pub IsWrittenIdent : List ℕ → Type 0
 IsWrittenIdent text = IsIdent text × ¬ BeginsWith text (codes "<")

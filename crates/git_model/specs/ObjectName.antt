@@ -9,7 +9,7 @@ abbrev pub header : Kind → List ℕ → List ℕ
 header kind contents = kind_word kind ++ codes " " ++ decimal (length contents) ++ 0 ∷ []
 
 -- An object's name is the digest of its header and its contents. The digest is any fixed function
--- of bytes, and nothing is assumed of it: two contents may have one name.
+-- of bytes, and nothing is assumed of it: two contents may have the same name.
 unfoldable pub object_name : (List ℕ → List ℕ) → Kind → List ℕ → List ℕ
 object_name digest kind contents = digest (header kind contents ++ contents)
 

@@ -6,7 +6,7 @@ use Rattle.std.specs.Coded.{Coded, code_by, coded×, coded_list, coded_ℕ}
 use Rattle.std.specs.Prelude.{refl}
 use Rattle.std.specs.FinMap as map
 
--- Which object name each ref holds, in the order of the refs' bytes.
+-- The object name that each ref holds, in the order of the bytes of the refs.
 abbrev pub RefMap : Type 0
 RefMap = map.FinMap (slice_cmp nat_cmp) (List ℕ)
 
@@ -35,7 +35,7 @@ no_refs = record { refs = map.empty; head = first_head }
 abbrev pub target_of : RefStore → List ℕ → Option (List ℕ)
 target_of store ref = map.get store.refs ref
 
--- All refs with what they hold, in order of their bytes.
+-- All refs with the object names that they hold, in the order of their bytes.
 abbrev pub listed_refs : RefStore → List (List ℕ × List ℕ)
 listed_refs store = map.entries store.refs
 
@@ -51,7 +51,7 @@ without_ref store ref = record store { refs = map.remove store.refs ref }
 abbrev pub with_head : RefStore → List ℕ → RefStore
 with_head store ref = record store { head = ref }
 
--- One ref changes to what is given, and every other ref and HEAD stay.
+-- One ref changes to the given target, and every other ref and HEAD stay as they are.
 pub record ChangesRef (old new : RefStore) (ref : List ℕ) (target : Option (List ℕ)) : Type 0 where
   pub this_ref : target_of new ref ≡ target
   pub other_refs : (other : List ℕ) → other ≢ ref → target_of new other ≡ target_of old other

@@ -5,26 +5,26 @@ use Rattle.std.specs.Str.{bytes_eq}
 use Rattle.git_model.specs.Content.{Content, same_content}
 use Rattle.git_model.specs.RefStore.{RefStore}
 
--- An object is its name and its content, which is a kind with bytes.
+-- An object is a name and a content, which is a kind and bytes.
 pub record Object : Type 0 where
   pub id : List ℕ
   pub content : Content
 
--- A repository is its objects, oldest first and no two under one name, and its refs with HEAD.
+-- A repository has objects, oldest first and no two with the same name, and refs with HEAD.
 pub record Repository : Type 0 where
   pub objects : List Object
   pub refs : RefStore
 
--- The content of the object of this name, where there is one.
+-- The content of the object with this name, if there is one.
 unfoldable pub object_named : List ℕ → List Object → Option Content
 object_named id [] = None
 object_named id (o ∷ os) = if bytes_eq id o.id then Some o.content else object_named id os
 
--- Whether the object of this name is there with this content.
+-- Whether there is an object with this name and this content.
 abbrev pub has_object : List ℕ → Content → List Object → Bool
 has_object id c os = option_map_or (same_content c) (object_named id os) false
 
--- The objects with one more after them, unless the name is there.
+-- The objects with one more at the end, unless there is one with this name.
 abbrev pub with_object : List ℕ → Content → List Object → List Object
 with_object id c os =
     if is_some (object_named id os) then os else os ++ record { id = id; content = c } ∷ []

@@ -8,7 +8,7 @@ use Rattle.git_model.specs.RefName.{IsRefName}
 use Rattle.git_model.specs.Ident.{IsWrittenIdent}
 use Rattle.git_model.specs.Commit.{line, name_line, optional_line}
 
--- A tag: the name and the kind of its target, its own name, perhaps who made it, and its message.
+-- A tag: the name and the kind of its target, its own name, perhaps its tagger, and its message.
 pub record Tag : Type 0 where
   pub target : List ℕ
   pub kind : Kind
@@ -25,8 +25,8 @@ tag_contents t =
     ++ optional_line (codes "tagger ") t.tagger
     ++ 10 ∷ t.message
 
--- The tags that can be written: of a commit, a blob or a tag, and with a name under which there may
--- be a ref.
+-- The tags that can be written: the target is a commit, a blob or a tag, and `refs/tags/` followed
+-- by the tag's name is a ref name.
 pub record CanWriteTag (t : Tag) : Type 0 where
   pub target : IsObjectName t.target
   pub kind : t.kind ≢ kind.Tree

@@ -26,11 +26,11 @@ mode_digits mode.Directory = codes "40000"
 abbrev pub entry_text : TreeEntry → List ℕ
 entry_text e = mode_digits e.mode ++ codes " " ++ e.name ++ 0 ∷ e.id
 
--- The contents of a tree are its entries in a row.
+-- The contents of a tree are the texts of its entries, one after another.
 abbrev pub tree_contents : List TreeEntry → List ℕ
 tree_contents es = flat_map entry_text es
 
--- A slash ends the name of a directory, where Git compares it.
+-- Git compares the name of a directory as if it ended in a slash.
 abbrev pub slash_of : FileMode → List ℕ
 slash_of mode.Regular = []
 slash_of mode.Executable = []
@@ -59,8 +59,8 @@ pub record CanWriteEntry (e : TreeEntry) : Type 0 where
   pub name : IsEntryName e.name
   pub id : IsObjectName e.id
 
--- Entries make a tree where each can be written, their names are distinct, whatever their kinds
--- (duplicateEntries), and they stand in Git's order (treeNotSorted).
+-- Entries make a tree if each can be written, their names are distinct whatever their kinds
+-- (duplicateEntries), and they are in Git's order (treeNotSorted).
 pub record CanWriteTree (es : List TreeEntry) : Type 0 where
   pub entries : All CanWriteEntry es
   pub names_are_distinct : AllPairs (λ a b. a.name ≢ b.name) es

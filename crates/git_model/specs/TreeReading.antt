@@ -1,4 +1,4 @@
--- What the contents of a tree say: git-ls-tree(1).
+-- How the contents of a tree are read: git-ls-tree(1).
 use Rattle.std.specs.Prelude.{ℕ, zero, suc, ◌+◌, ◌==◌, Bool, List, [], ◌∷◌, take, if◌then◌else◌}
 use Rattle.std.specs.List.{before_first, after_first, position_or_len}
 use Rattle.std.specs.Str.{bytes_eq}
@@ -18,11 +18,11 @@ mode_named_by digits =
 abbrev pub is_nul : ℕ → Bool
 is_nul byte = byte == 0
 
--- What stands before the NUL: a mode, a space and a name.
+-- What comes before the NUL: a mode, a space and a name.
 abbrev pub mode_and_name : List ℕ → List ℕ
 mode_and_name contents = before_first is_nul contents
 
--- The entry at the front of contents: its mode, its name, and the 20 bytes after the NUL.
+-- The entry that contents begin with: its mode, its name, and the 20 bytes after the NUL.
 unfoldable pub first_entry : List ℕ → TreeEntry
 first_entry contents = record {
   mode = mode_named_by (before_first (λ byte. byte == 32) (mode_and_name contents));
@@ -30,17 +30,17 @@ first_entry contents = record {
   id = take 20 (after_first is_nul contents);
 }
 
--- How many bytes it has after its first one.
+-- How many bytes this entry has after its first byte.
 abbrev pub more_of_entry : List ℕ → ℕ
 more_of_entry contents = position_or_len is_nul contents + 20
 
--- The entries of contents of which the first so many bytes are passed over.
+-- The entries that contents have after their first n bytes.
 unfoldable pub entries_after : ℕ → List ℕ → List TreeEntry
 entries_after n [] = []
 entries_after (suc n) (byte ∷ bytes) = entries_after n bytes
 entries_after zero (byte ∷ bytes) =
     first_entry (byte ∷ bytes) ∷ entries_after (more_of_entry (byte ∷ bytes)) bytes
 
--- The direct entries that contents write.
+-- The direct entries that are read from contents.
 abbrev pub tree_read : List ℕ → List TreeEntry
 tree_read contents = entries_after 0 contents

@@ -1,11 +1,11 @@
 //! The modes of tree entries that git-fast-import(1) lists under "filemodify".
 
-/// What a tree entry is. Each mode's octal digits stand beside it.
+/// The mode of a tree entry, which says what the entry is. Each variant gives its octal digits.
 #[derive(Clone, Copy, Debug, PartialEq, Eq)]
 pub enum FileMode {
     /// A file, 100644.
     Regular,
-    /// A file that may be run, 100755.
+    /// An executable file, 100755.
     Executable,
     /// A symbolic link, 120000; its blob is the link's target.
     Symlink,

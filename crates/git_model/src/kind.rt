@@ -1,9 +1,10 @@
-//! The four kinds of object of gitglossary(7), "object type".
+//! The four kinds of object: "object type" of gitglossary(7).
 
-/// What an object is. The order is that of the pool file's kind bytes: commits, trees, blobs, tags.
+/// The kind of an object. Kinds are ordered as the kind bytes of a pool file: commits, trees,
+/// blobs, tags.
 #[derive(Clone, Copy, Debug, PartialEq, Eq, PartialOrd, Ord, Hash)]
 pub enum Kind {
-    /// A tree with its parents, author, committer and message.
+    /// A tree with parents, an author, a committer and a message.
     Commit,
     /// The direct entries of one directory.
     Tree,

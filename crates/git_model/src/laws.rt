@@ -1,5 +1,6 @@
-//! Laws of what contents say, of good objects, of reach and of peeling: functions over the
-//! definitions alone, which run nothing.
+//! Laws of the definitions: of reading contents, of good objects and refs, of reach and of peeling.
+//!
+//! A law is a function with an empty body: its clause states the law, and a call does nothing.
 
 ghost use Rattle.std.specs.Prelude.{◌≡◌, ◌↔◌, ℕ, List, [], ◌∷◌, ◌++◌, ◌≤◌, take, Option, Some, IsTrue};
 ghost use Rattle.std.specs.FinMap as map;
@@ -18,27 +19,27 @@ ghost use Rattle.git_model.specs.RefStore.{RefStore, no_refs, with_head, Changes
 ghost use Rattle.git_model.specs.Peeling.{ComesFirstTo, is_of, is_there_untagged, next_to, peeled_to, without_tags};
 ghost use Rattle.git_model.specs.Reach.{Reaches, is_reachable};
 
-/// The contents of a tree say its entries.
+/// Reading the contents of a tree gives back its entries.
 pub fn trees_are_read_back()
     ensures { (es : List TreeEntry) → CanWriteTree es → tree_read (tree_contents es) ≡ es }
 {}
 
-/// The contents of a commit say that commit.
+/// Reading the contents of a commit gives back the commit.
 pub fn commits_are_read_back()
     ensures { (c : Commit) → CanWriteCommit c → commit_read (commit_contents c) ≡ c }
 {}
 
-/// The contents of a tag say that tag.
+/// Reading the contents of a tag gives back the tag.
 pub fn tags_are_read_back()
     ensures { (t : Tag) → CanWriteTag t → tag_read (tag_contents t) ≡ t }
 {}
 
-/// No objects are good.
+/// The empty list of objects is good.
 pub fn no_objects_are_good()
     ensures { (digest : List ℕ → List ℕ) → AreObjects digest [] }
 {}
 
-/// Good objects stay good where one is added that may be.
+/// Good objects stay good if an object is added that may be added.
 pub fn one_more_object_is_good()
     ensures { (digest : List ℕ → List ℕ) (os : List Object) (o : Object)
         → AreObjects digest os → MayAdd digest os o → AreObjects digest (os ++ o ∷ []) }
@@ -50,18 +51,19 @@ pub fn each_prefix_is_good()
         → AreObjects digest os → AreObjects digest (take n os) }
 {}
 
-/// No refs, with the first HEAD, are good refs.
+/// The empty set of refs, with the initial HEAD, is good.
 pub fn no_refs_are_good()
     ensures { (os : List Object) → AreRefs os no_refs }
 {}
 
-/// Good refs stay good while objects are added.
+/// Good refs stay good if objects are added.
 pub fn refs_stay_good_beside_more_objects()
     ensures { (os more : List Object) (store : RefStore) → AreRefs os store
         → AreRefs (os ++ more) store }
 {}
 
-/// Good refs stay good where one ref changes to a target that it may hold, or to none.
+/// Good refs stay good if one ref is set to a target that it may hold, or is removed, and there are
+/// not too many refs afterwards.
 pub fn refs_stay_good_where_one_changes()
     ensures { (os : List Object) (old new : RefStore) (ref : List ℕ) (target : Option (List ℕ))
         → AreRefs os old → ChangesRef old new ref target
@@ -70,35 +72,35 @@ pub fn refs_stay_good_where_one_changes()
         → AreRefs os new }
 {}
 
-/// Good refs stay good where HEAD names another ref.
+/// Good refs stay good if HEAD is set to another ref name.
 pub fn refs_stay_good_under_another_head()
     ensures { (os : List Object) (store : RefStore) (ref : List ℕ) → AreRefs os store
         → IsShortRefName ref → AreRefs os (with_head store ref) }
 {}
 
-/// Among good objects the test by ways of bounded length gives the least closed set: what is
-/// reachable by parents.
+/// Among good objects, the test finds exactly what is reachable by parents, the least closed set.
+/// It walks at most as many steps as there are objects.
 pub fn parents_reach_the_least_set()
     ensures { (digest : List ℕ → List ℕ) (os : List Object) → AreObjects digest os
         → (from to : List ℕ)
         → IsTrue (is_reachable os (parents_of os) from to) ↔ Reaches (parents_of os) from to }
 {}
 
-/// The same by all that objects refer to.
+/// The same for all references of objects, not only for parents.
 pub fn references_reach_the_least_set()
     ensures { (digest : List ℕ → List ℕ) (os : List Object) → AreObjects digest os
         → (from to : List ℕ)
         → IsTrue (is_reachable os (referred_by os) from to) ↔ Reaches (referred_by os) from to }
 {}
 
-/// The test of a kind says what the object of a name is.
+/// The test of a kind is true exactly if the object with the name exists and has that kind.
 pub fn kinds_are_tested()
     ensures { (os : List Object) (wanted : Kinds) (id : List ℕ)
         → IsTrue (is_of os wanted id) ↔ (kind_named id os ≡ Some wanted) }
 {}
 
-/// Among good objects peeling ends at the first object of the wanted kind on the way, wherever that
-/// stands, and answers none where no such object is on it.
+/// Among good objects, peeling ends at the first object of the wanted kind on the way, however far
+/// that is, and answers none if there is no such object on the way.
 pub fn peeling_ends_at_the_first()
     ensures { (digest : List ℕ → List ℕ) (os : List Object) → AreObjects digest os
         → (wanted : Kinds) (id found : List ℕ)
@@ -106,7 +108,7 @@ pub fn peeling_ends_at_the_first()
         ↔ ComesFirstTo (is_of os wanted) (next_to os wanted) id found }
 {}
 
-/// The same of tags that are followed to what is none.
+/// The same for tags that are followed to the first object that is not a tag.
 pub fn tags_lead_to_the_first_that_is_none()
     ensures { (digest : List ℕ → List ℕ) (os : List Object) → AreObjects digest os
         → (id found : List ℕ)

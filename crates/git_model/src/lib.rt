@@ -1,6 +1,7 @@
-//! What Git's objects are, as definitions and their laws. The definitions stand in `specs/`; the
-//! only Rust here is the plain enums that they speak of, so that code and definitions share one
-//! word for one thing, and the functions of `laws`, which run nothing.
+//! Defines Git's objects, and states laws of these definitions.
+//!
+//! The definitions are in `specs/`. The only Rust here is two enums, which code and definitions
+//! share, and the functions of `laws`, which do nothing when they run.
 #![tactic(auto)]
 
 mod file_mode;

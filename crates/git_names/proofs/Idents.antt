@@ -5,7 +5,7 @@ use Rattle.std.specs.List.{prefix_len}
 use Rattle.std.specs.Option.{is_some, unwrap_or}
 use Rattle.std.proofs.lemmas.Bool.{not-true, not-false}
 use Rattle.git_model.specs.Ident.{NamesPerson, IsIdent, written_ident}
-use Rattle.git_model.specs.IdentReading.{behind_person, is_date, with_date, seconds_at, read_ident, ident_time}
+use Rattle.git_model.specs.IdentReading.{after_person, is_date, with_date, seconds_at, read_ident, ident_time}
 use Rattle.git_model.proofs.IdentLaws.{read_ident-Ok, read_ident-BadIdentity, read_ident-BadDate}
 use Rattle.numerals.specs.Numbers.{number_of}
 use Rattle.git_names.proofs.Seconds.{seconds-read, with_date-Ok}
@@ -37,14 +37,14 @@ faultless text (Some Memory) b bad e = absurd bad
 
 -- the seconds of an ident are a number
 pub time_is : (text rest : List ℕ) (o : Option ℕ) (n : ℕ) → IsIdent text
-    → Some rest ≡ behind_person text
+    → Some rest ≡ after_person text
     → o ≡ number_of (take (prefix_len is_ascii_digit rest) rest) → n ≡ unwrap_or o 0
     → n ≡ ident_time text
 unfolding ident_time read_ident
-time_is text rest o n ident behind read e =
-    let date : is_date rest ≡ true = dated (sym behind) ((read_ident-Ok text).1 ident) in
-    e ∙ ap (λ (s : Option ℕ). unwrap_or s 0) (read ∙ seconds-read rest date) ∙ ap seconds_at behind
+time_is text rest o n ident remaining read e =
+    let date : is_date rest ≡ true = dated (sym remaining) ((read_ident-Ok text).1 ident) in
+    e ∙ ap (λ (s : Option ℕ). unwrap_or s 0) (read ∙ seconds-read rest date) ∙ ap seconds_at remaining
   where
-    dated : behind_person text ≡ Some rest → read_ident text ≡ Ok (written_ident text)
+    dated : after_person text ≡ Some rest → read_ident text ≡ Ok (written_ident text)
         → is_date rest ≡ true
     dated found well = with_date-Ok text rest (ap (with_date text) (sym found) ∙ well)

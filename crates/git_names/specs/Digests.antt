@@ -1,4 +1,4 @@
--- Both digests answer object names.
+-- Both digests give object names.
 use Rattle.std.proofs.Common.{◌≡◌, ◌<◌, ℕ, zero, suc, List, [], ◌∷◌, length, refl, arith, ◌%◌, All, replicate, sum}
 use Rattle.std.specs.Int.{byte_at, bytes_high_first, to_be_bytes, w32}
 use Rattle.std.proofs.Math.Nat.{mod-lt}

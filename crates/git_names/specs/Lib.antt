@@ -1,4 +1,4 @@
--- In reading order. What the definitions below speak of is passed on first.
+-- In reading order. The first lines re-export what the definitions below use.
 pub use Rattle.git_model.specs.Bytes
 pub use Rattle.git_model.specs.Kind
 pub use Rattle.git_model.specs.ObjectName

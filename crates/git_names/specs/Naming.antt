@@ -1,8 +1,8 @@
--- What a digest answers; and one under which collisions are easy to find.
+-- What a digest must answer, and a digest under which collisions are easy to find.
 use Rattle.std.specs.Prelude.{ℕ, List, [], ◌∷◌, ◌++◌, ◌%◌, sum, replicate}
 use Rattle.git_model.specs.ObjectName.{IsObjectName}
 
--- Whatever the message is, the digest of it is an object name.
+-- The digest of every message is an object name.
 abbrev pub AnswersNames : (List ℕ → List ℕ) → Type 0
 AnswersNames digest = (message : List ℕ) → IsObjectName (digest message)
 

@@ -4,7 +4,7 @@ use Rattle.std.specs.Cmp.Lexicographic.{pointwise}
 use Rattle.std.specs.Prelude.{nat_eq}
 use Rattle.git_model.specs.RefName.{IsRefName, is_ref_name}
 
--- A text names a ref where it is a ref name, or is `HEAD`.
+-- A text names a ref if it is a ref name or `HEAD`.
 abbrev pub NamesRef : List ℕ → Type 0
 NamesRef text = IsRefName text ⊎ (text ≡ codes "HEAD")
 

@@ -1,7 +1,7 @@
-//! Idents, who made something and when: git-fast-import(1), under "committer".
+//! Idents say who made something and when: git-fast-import(1), under "committer".
 //!
-//! An `Ident` is the text as it stands in a commit or a tag, such as `A <a@b> 1700000000 +0100`. It
-//! never begins with `<`: where a stream gives no name, a space takes its place.
+//! An `Ident` is the text as a commit or a tag has it, such as `A <a@b> 1700000000 +0100`. It never
+//! begins with `<`: if a stream gives no name, a space takes its place.
 
 ghost use Rattle.std.specs.Prelude.{◌≡◌, ◌↔◌, IsTrue, IsSome, Ok, Err, None, IfOk, IfSome};
 ghost use Rattle.git_model.specs.Ident.{NamesPerson, IsIdent, IsWrittenIdent, written_ident};
@@ -9,12 +9,12 @@ ghost use Rattle.git_model.specs.IdentReading.{read_ident, ident_time};
 ghost use Rattle.git_names.specs.Ident.{Answers, IsFaultOf};
 
 use crate::ident_fault::IdentFault;
-use crate::ident_text::{behind_person, is_date, seconds_of};
+use crate::ident_text::{after_person, is_date, seconds_of};
 use crate::memory::Memory;
 use std::alloc::Global;
 use std::marker::Model;
 
-/// Who made something and when, in the text that commits and tags have.
+/// Who made something and when, as commits and tags write it.
 #[derive(Debug, Drop)]
 pub struct Ident {
     text: Vec<u8>,
@@ -32,18 +32,19 @@ impl Model for Ident {
 }
 
 impl Ident {
-    /// Reads an ident as a stream has it, and puts one space before it where it begins with `<`.
+    /// Reads an ident as a stream writes it: git-fast-import(1), under "committer". An ident that
+    /// begins with `<` gets one space before it.
     ///
-    /// `IdentFault::BadIdentity` (21) where no name, email and space stand at its front, else
-    /// `IdentFault::BadDate` (22) where what follows is no date: 1 to 20 digits with a value below
-    /// 2^64, a space, a sign and four digits. Takes memory for the copy, and answers
-    /// `IdentFault::Memory` (90) only for an ident that it cannot keep.
+    /// `IdentFault::BadIdentity` (21) if the text does not begin with a name, an email and a space.
+    /// Else `IdentFault::BadDate` (22) if the rest is not a date: 1 to 20 digits with a value below
+    /// 2^64, a space, a sign and four digits. Else `IdentFault::Memory` (90) if there is no memory
+    /// for the copy.
     pub fn read(alloc: Global, text: &[u8]) -> Result<Ident, IdentFault>
         ensures found { IfOk result (λ ident. IsIdent text.now × (ident ≡ written_ident text.now)) }
         ensures identity { (result ≡ Err IdentFault.BadIdentity) ↔ (¬ NamesPerson text.now) }
         ensures date { (result ≡ Err IdentFault.BadDate)
             ↔ (NamesPerson text.now × ¬ IsIdent text.now) }
-        // The same in one: what reading from left to right gives.
+        // The same in one clause: what reading from left to right gives.
         ensures exact { Answers result (read_ident text.now) }
     {
         if let Some(fault) = fault_of(text) {
@@ -53,10 +54,10 @@ impl Ident {
         Ok(Ident { text })
     }
 
-    /// Takes an ident that stands in an object; `None` for every other text, one that begins with
-    /// `<` too.
+    /// Copies an ident from an object. `None` for every text that an object cannot have as an
+    /// ident, such as one that begins with `<`.
     ///
-    /// `Memory` (90) where the copy of an ident finds no room.
+    /// `Memory` (90) if there is no memory for the copy.
     pub fn from_written(alloc: Global, text: &[u8]) -> Result<Option<Ident>, Memory>
         ensures found { IfOk result (λ found. IfSome found
             (λ ident. IsWrittenIdent text.now × (ident ≡ text.now))) }
@@ -78,16 +79,23 @@ impl Ident {
         self.text.as_slice()
     }
 
-    /// The seconds since 1970 that the ident's date says. Takes no memory.
+    /// The date of the ident, in seconds since 1970. Takes no memory.
     pub fn time(&self) -> u64
         ensures { result ≡ ident_time self.now }
     {
         time_of(self.as_bytes())
     }
+
+    /// A copy of the ident. `Memory` (90) if it cannot be allocated.
+    pub fn try_clone(&self, alloc: Global) -> Result<Ident, Memory>
+        ensures { IfOk result (λ copy. copy ≡ self.now) }
+    {
+        let text = Vec::from_slice(alloc, self.text.as_slice())?;
+        Ok(Ident { text })
+    }
 }
 
-/// Whether a text is an ident as objects have it: one that does not begin with `<`. Takes no
-/// memory.
+/// Whether a text is an ident as objects have it, which does not begin with `<`. Takes no memory.
 pub fn is_written_ident(text: &[u8]) -> bool
     ensures { IsTrue result ↔ IsWrittenIdent text.now }
 {
@@ -101,12 +109,12 @@ fn is_ident(text: &[u8]) -> bool
     fault_of(text).is_none()
 }
 
-// What is wrong with a text that is no ident: its identity is looked at before its date.
+// What is wrong with a text that is not an ident. The identity is checked before the date.
 #[tactic(auto, unfolding(git_model::specs::IdentReading::read_ident))]
 fn fault_of(text: &[u8]) -> Option<IdentFault>
     ensures { IsFaultOf text.now result }
 {
-    match behind_person(text) {
+    match after_person(text) {
         Some(date) if is_date(date) => None,
         Some(_) => Some(IdentFault::BadDate),
         None => Some(IdentFault::BadIdentity),
@@ -118,13 +126,13 @@ fn time_of(text: &[u8]) -> u64
     requires { IsIdent text.now }
     ensures { result ≡ ident_time text.now }
 {
-    match behind_person(text) {
+    match after_person(text) {
         Some(date) => seconds_of(date).unwrap_or(0),
         None => 0,
     }
 }
 
-// A copy of an ident, with a space before it where it begins with `<`.
+// A copy of an ident, with a space before it if it begins with `<`.
 fn written(alloc: Global, text: &[u8]) -> Result<Vec<u8>, Memory>
     ensures { IfOk result (λ copy. copy.items ≡ written_ident text.now) }
 {

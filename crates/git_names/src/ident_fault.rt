@@ -1,4 +1,4 @@
-//! Why a text is no ident, or could not be kept.
+//! Why an ident could not be read.
 
 ghost use Rattle.std.specs.Prelude.{◌≡◌};
 ghost use Rattle.git_names.specs.declared.ident_fault.IdentFault.TheVariants.{Memory as OutOfMemory};
@@ -7,16 +7,16 @@ use crate::memory;
 use std::alloc::AllocError;
 use thiserror::Error;
 
-/// What is wrong with a text that is no ident, or that memory ran out.
+/// Why an ident could not be read.
 #[derive(Clone, Copy, Debug, PartialEq, Eq, Error)]
 pub enum IdentFault {
-    /// The name, the email or the space after it.
+    /// The name, the email or the space after it is wrong: 21.
     #[error("bad identity")]
     BadIdentity,
-    /// The seconds, or the offset after them.
+    /// The seconds, or the offset after them, are wrong: 22.
     #[error("bad date")]
     BadDate,
-    /// A growth was refused.
+    /// An allocation failed: 90.
     #[error("out of memory")]
     Memory,
 }
@@ -24,7 +24,7 @@ pub enum IdentFault {
 impl IdentFault {
     ghost use Rattle.git_names.specs.Ident.{code_of};
 
-    /// The number of the fault: 21 for a bad identity, 22 for a bad date, 90 for memory.
+    /// The number of the fault: 21 bad identity, 22 bad date, 90 out of memory.
     pub fn code(self) -> u16
         ensures { result ≡ code_of self }
     {

@@ -10,36 +10,36 @@ ghost use Rattle.numerals.specs.Numbers.{number_of};
 
 use numerals::read_number;
 
-// What stands after the person at a text's front, where there is one: a date, in an ident.
-pub(crate) fn behind_person(text: &[u8]) -> Option<&[u8]>
-    ensures { option_copied result ≡ reading.behind_person text.now }
+// What comes after the person that a text begins with, if there is one. In an ident it is the date.
+pub(crate) fn after_person(text: &[u8]) -> Option<&[u8]>
+    ensures { option_copied result ≡ reading.after_person text.now }
 {
-    behind_email(behind_name(text)?)
+    after_email(after_name(text)?)
 }
 
-// What stands after a name and its `<`.
-#[tactic(auto, unfolding(git_model::specs::IdentReading::behind_name))]
-fn behind_name(text: &[u8]) -> Option<&[u8]>
-    ensures { option_copied result ≡ reading.behind_name text.now }
+// What comes after a name and its `<`.
+#[tactic(auto, unfolding(git_model::specs::IdentReading::after_name))]
+fn after_name(text: &[u8]) -> Option<&[u8]>
+    ensures { option_copied result ≡ reading.after_name text.now }
 {
     let (name, rest) = text.split_at(person_len(text));
     if is_name(name) {
-        behind_byte(b'<', rest)
+        after_byte(b'<', rest)
     } else {
         None
     }
 }
 
-// What stands after an email, its `>` and the space.
-#[tactic(auto, unfolding(git_model::specs::IdentReading::behind_email))]
-fn behind_email(text: &[u8]) -> Option<&[u8]>
-    ensures { option_copied result ≡ reading.behind_email text.now }
+// What comes after an email, its `>` and the space.
+#[tactic(auto, unfolding(git_model::specs::IdentReading::after_email))]
+fn after_email(text: &[u8]) -> Option<&[u8]>
+    ensures { option_copied result ≡ reading.after_email text.now }
 {
     let (_, rest) = text.split_at(person_len(text));
-    behind_byte(b' ', behind_byte(b'>', rest)?)
+    after_byte(b' ', after_byte(b'>', rest)?)
 }
 
-// How many bytes a text begins with that a name or an email may hold.
+// How many bytes at the front of a text may be part of a name or an email.
 fn person_len(text: &[u8]) -> usize
     ensures len { result ≡ prefix_len person_byte text.now }
     ensures within { result ≤ length text.now }
@@ -55,15 +55,15 @@ fn is_person_byte(byte: u8) -> bool
     !matches!(byte, b'<' | b'>' | b'\n')
 }
 
-// Whether a name ends in a space, or is none.
+// Whether a name is empty or ends in a space.
 fn is_name(name: &[u8]) -> bool
     ensures { result ≡ reading.is_name name.now }
 {
     name.is_empty() || name.ends_with(b" ")
 }
 
-fn behind_byte(expected: u8, text: &[u8]) -> Option<&[u8]>
-    ensures { option_copied result ≡ reading.behind_byte expected text.now }
+fn after_byte(expected: u8, text: &[u8]) -> Option<&[u8]>
+    ensures { option_copied result ≡ reading.after_byte expected text.now }
 {
     match text {
         [byte, rest @ ..] if *byte == expected => Some(rest),
@@ -79,7 +79,7 @@ pub(crate) fn is_date(text: &[u8]) -> bool
     seconds_of(text).is_some() && is_spaced_offset(rest)
 }
 
-// The seconds that a date begins with, where they are 1 to 20 digits and below 2^64.
+// The seconds that a date begins with, if they are 1 to 20 digits and below 2^64.
 pub(crate) fn seconds_of(date: &[u8]) -> Option<u64>
     ensures { result ≡ number_of (take (prefix_len is_ascii_digit date.now) date.now) }
 {

@@ -1,8 +1,8 @@
-//! The names that Git gives: of objects, under any digest; of refs; and of who made something and
-//! when.
+//! Git's names: object names under any digest, ref names, and idents, which say who made something
+//! and when.
 //!
-//! Nothing here knows what an object holds or which refs there are, and nothing is assumed of the
-//! digest but that it is one function of the bytes.
+//! The crate does not know what an object holds or which refs exist. It assumes of the digest only
+//! that it is a function of the bytes.
 #![tactic(auto)]
 
 mod ident;

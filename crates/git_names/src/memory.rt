@@ -1,4 +1,4 @@
-//! The one refusal of calls that can fail by memory alone.
+//! The error of calls that fail only if memory runs out.
 
 ghost use Rattle.std.specs.Prelude.{◌≡◌};
 
@@ -7,13 +7,13 @@ use thiserror::Error;
 
 const OUT_OF_MEMORY: u16 = 90;
 
-/// A growth was refused. It is answered only where that really happened.
+/// An allocation failed: 90. A call answers this only if one really failed.
 #[derive(Clone, Copy, Debug, PartialEq, Eq, Error)]
 #[error("out of memory")]
 pub struct Memory;
 
 impl Memory {
-    /// The number of this refusal, 90.
+    /// The number of this fault, 90.
     pub fn code(self) -> u16
         ensures { result ≡ 90 }
     {

@@ -10,7 +10,7 @@ use hex::FromHex;
 use std::hash::{Hash, Hasher};
 use std::marker::Model;
 
-/// The name of an object: the 20 bytes of its digest, in order of bytes.
+/// The name of an object: the 20 bytes of a digest. Names compare as their bytes do.
 #[derive(Clone, Copy, Debug, PartialEq, Eq, PartialOrd, Ord)]
 pub struct Name {
     bytes: [u8; 20],
@@ -31,7 +31,7 @@ impl Hash for Name {
 
     ghost respects_eq = { Prim.search (hashing, rules) };
 
-    // The bytes of a digest are spread evenly already: eight of them decide a bucket.
+    // The bytes of a digest are evenly distributed already: eight of them choose a bucket well.
     fn hash<H: Hasher>(&self, state: &mut H) {
         let (first, _) = self.bytes.split_at(8);
         state.write(first);
@@ -53,7 +53,7 @@ impl Name {
         &self.bytes
     }
 
-    /// The name in 40 hexadecimal digits of lower case. Takes no memory.
+    /// The name as 40 lowercase hexadecimal digits. Takes no memory.
     pub fn to_hex(&self) -> [u8; 40]
         ensures { result ≡ encode_lower self.now }
     {
@@ -75,7 +75,7 @@ impl Name {
     }
 }
 
-/// A name has twenty bytes: a fact for proofs. A call does nothing.
+/// States for proofs that a name has 20 bytes. A call does nothing.
 pub fn has_twenty_bytes(id: &Name)
     ensures { IsObjectName id.now }
 {

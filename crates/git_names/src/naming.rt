@@ -1,4 +1,4 @@
-//! What gives objects their names: any fixed digest of 20 bytes.
+//! Digests that give objects their names: any fixed function from bytes to 20 bytes.
 
 ghost use Rattle.std.specs.Prelude.{◌≡◌, ℕ, List, ◌++◌, IfOk};
 ghost use Rattle.git_names.specs.Naming.{AnswersNames};
@@ -6,9 +6,10 @@ ghost use Rattle.git_names.specs.Naming.{AnswersNames};
 use crate::memory::Memory;
 use std::alloc::Global;
 
-/// A digest that object names are made by: one function of the bytes, the same at every call.
+/// A digest that gives objects their names: a function of the bytes, the same at every call.
 ///
-/// Nothing else is assumed. Two messages may have one digest, so contents are never compared by it.
+/// Nothing else is assumed. Two messages may have the same digest, so contents are never compared
+/// by their digests.
 pub trait Naming: Drop {
     // The digest of a message. It belongs to the type, so each value of the type answers the same.
     ghost digest_of: { List ℕ → List ℕ };
@@ -17,10 +18,10 @@ pub trait Naming: Drop {
     fn digest(&self, bytes: &[u8]) -> [u8; 20]
         ensures { result ≡ digest_of bytes.now };
 
-    /// The digest of a message that lies apart in two pieces, a header and the contents after it.
+    /// The digest of a message in two pieces, a header and the contents after it.
     ///
-    /// This body copies both together, and answers `Memory` (90) where there is no room for that. A
-    /// naming that digests piece by piece has a body of its own that takes no memory.
+    /// This default body copies both pieces into one vector, and answers `Memory` (90) if there is
+    /// no memory for it. A naming that can digest piece by piece has a body that takes no memory.
     fn digest_parts(
         &self,
         alloc: Global,

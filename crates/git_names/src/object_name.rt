@@ -1,4 +1,4 @@
-//! The name that an object has by its contents: git-hash-object(1).
+//! The name of an object, from its kind and contents: git-hash-object(1).
 
 ghost use Rattle.std.specs.Prelude.{◌≡◌, ◌++◌, ◌∷◌, [], codes, decimal, IfOk};
 ghost use Rattle.git_model.specs.Kind.{kind_word};
@@ -36,10 +36,11 @@ fn header_of(alloc: Global, kind: Kind, size: usize) -> Result<Vec<u8>, Memory>
     Ok(header)
 }
 
-/// The name of the object of this kind with these contents, under this naming: the digest of its
-/// header and its contents. The contents are not copied under a naming that digests in pieces.
+/// The name of the object of this kind with these contents, under this naming: git-hash-object(1).
+/// It is the digest of the object's header and contents. A naming that digests piece by piece does
+/// not copy the contents.
 ///
-/// `Memory` (90) where the header, or a copy that the naming makes, finds no room.
+/// `Memory` (90) if there is no memory for the header, or for a copy that the naming makes.
 #[tactic(auto, unfolding(git_model::specs::ObjectName::object_name))]
 pub fn name_of<N: Naming>(
     alloc: Global,

@@ -9,13 +9,13 @@ use thiserror::Error;
 /// Why a ref name could not be read.
 #[derive(Clone, Copy, Debug, PartialEq, Eq, Error)]
 pub enum RefNameFault {
-    /// The text is no ref name, and is not `HEAD`.
+    /// The text is neither a ref name nor `HEAD`: 11.
     #[error("bad ref name")]
     BadRefName,
-    /// The text has more than 1,024 bytes.
+    /// The text has more than 1,024 bytes: 25.
     #[error("ref name too long")]
     Limit,
-    /// A growth was refused.
+    /// An allocation failed: 90.
     #[error("out of memory")]
     Memory,
 }

@@ -1,15 +1,15 @@
-//! Which texts are ref names: git-check-ref-format(1), and two rules of this service's own.
+//! Which texts are ref names: git-check-ref-format(1), and two rules of this service.
 //!
-//! A name is judged by its bytes alone, without a limit on its length and without looking whether
-//! there is such a ref. `refs/heads/main` is one, `refs/heads/a..b` and `HEAD` are not.
+//! Only the bytes of the text count. Its length has no limit, and the ref need not exist.
+//! `refs/heads/main` is a ref name; `refs/heads/a..b` and `HEAD` are not.
 
 ghost use Rattle.std.specs.Prelude.{◌≡◌, ◌↔◌, IsTrue, not};
 ghost use Rattle.std.specs.List.{slice_split, list_all};
 ghost use Rattle.git_model.specs.Bytes.{holds};
 ghost use Rattle.git_model.specs.RefName.{IsRefName, components, is_forbidden as forbidden, is_in_refs as in_refs, is_ref_text as ref_text, is_ref_component as ref_component, is_ref_name as ref_name};
 
-/// Whether a text is a ref name by the rules of git-check-ref-format(1) that begins with `refs/`
-/// and not with `refs/namespaces/`. Takes no memory.
+/// Whether a text is a ref name by the rules of git-check-ref-format(1), and begins with `refs/`
+/// but not with `refs/namespaces/`. Its length has no limit. Takes no memory.
 #[tactic(auto, unfolding(git_model::specs::RefName::is_ref_name))]
 pub fn is_ref_name(text: &[u8]) -> bool
     ensures value { result ≡ ref_name text.now }
@@ -25,7 +25,7 @@ fn is_in_refs(text: &[u8]) -> bool
     text.starts_with(b"refs/") && !text.starts_with(b"refs/namespaces/")
 }
 
-// Whether a text holds nothing that is refused wherever it stands.
+// Whether a text has no `..`, no `@{`, no dot at its end and no forbidden byte.
 fn is_ref_text(text: &[u8]) -> bool
     ensures { result ≡ ref_text text.now }
 {
@@ -35,21 +35,21 @@ fn is_ref_text(text: &[u8]) -> bool
         && are_ref_bytes(text)
 }
 
-// Whether each byte of a text may stand in a ref name.
+// Whether each byte of a text is allowed in a ref name.
 fn are_ref_bytes(text: &[u8]) -> bool
     ensures { result ≡ list_all (λ byte. not (forbidden byte)) text.now }
 {
     text.iter().all(|byte| !is_forbidden(*byte))
 }
 
-// Whether each part between slashes may stand there in a ref name.
+// Whether each component of a text is allowed in a ref name.
 fn are_ref_components(text: &[u8]) -> bool
     ensures { result ≡ list_all ref_component (components text.now) }
 {
     text.split(|byte| *byte == b'/').all(is_ref_component)
 }
 
-// Whether a part stands somewhere in a text.
+// Whether a part occurs somewhere in a text.
 fn holds_part(text: &[u8], part: &[u8]) -> bool
     ensures { result ≡ holds text.now part.now }
 {
@@ -63,7 +63,7 @@ fn holds_part(text: &[u8], part: &[u8]) -> bool
     rest.starts_with(part)
 }
 
-// Whether a byte may not stand in a ref name.
+// Whether a byte is forbidden in a ref name.
 fn is_forbidden(byte: u8) -> bool
     ensures { result ≡ forbidden byte }
 {
@@ -73,7 +73,7 @@ fn is_forbidden(byte: u8) -> bool
     )
 }
 
-// Whether what stands between two slashes may stand there in a ref name.
+// Whether a component is allowed in a ref name.
 fn is_ref_component(component: &[u8]) -> bool
     ensures { result ≡ ref_component component.now }
 {

@@ -1,4 +1,4 @@
-//! Git's own names: SHA-1 of FIPS 180-4.
+//! Git's own digest: SHA-1 of FIPS 180-4.
 
 ghost use Rattle.std.specs.Prelude.{◌++◌};
 ghost use Rattle.sha1.specs.Sha1.{sha1};

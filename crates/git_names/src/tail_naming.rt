@@ -1,4 +1,4 @@
-//! A naming under which collisions are easy to find, for tests.
+//! A naming for tests, under which collisions are easy to find.
 
 ghost use Rattle.std.specs.Prelude.{◌≡◌, ◌%◌, sum};
 ghost use Rattle.git_names.specs.Digests.{tail_answers_names};
@@ -7,7 +7,7 @@ ghost use Rattle.git_names.specs.Naming.{tail_digest};
 use crate::naming::Naming;
 
 /// Names an object by nineteen bytes 0xab and then the sum of all bytes of the message modulo 256,
-/// so that `ab` and `ba` have one name.
+/// so that `ab` and `ba` have the same name.
 #[derive(Clone, Copy, Debug, Drop)]
 pub struct TailNaming;
 

@@ -1,4 +1,4 @@
-//! Bytes on the heap, compared and hashed as the bytes that they are: what names of refs lie in.
+//! Bytes on the heap that compare and hash as bytes do. A ref name is kept in them.
 
 ghost use Rattle.std.specs.Prelude.{◌≡◌, IfOk};
 ghost use Rattle.std.specs.Cmp.Rules.{comparing, hashing};
@@ -10,7 +10,7 @@ use std::fmt;
 use std::hash::{Hash, Hasher};
 use std::marker::Model;
 
-/// Some bytes. Their order is that of the bytes.
+/// Some bytes. Texts compare as their bytes do.
 #[derive(Drop)]
 pub struct Text {
     bytes: Vec<u8>,

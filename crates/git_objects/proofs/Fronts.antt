@@ -32,12 +32,12 @@ module _ {X Y : Type 0} (A : X → Type 0) (B : Y → Type 0) (a : X → List �
       (f.only p.0 (b p.1 ++ rest) is.0 (e ∙ append_assoc (a p.0) (b p.1) rest)) in
       none-some _ (g.only p.1 rest is.1 same.1))
 
-  pub both_there : (bytes : List ℕ) (x : X) (between : List ℕ) (y : Y) (behind : List ℕ)
-      → IsFront A a bytes (Some (x, between)) → IsFront B b between (Some (y, behind))
-      → IsFront Both both bytes (Some ((x, y), behind))
-  both_there bytes x between y behind f g = record {
+  pub both_there : (bytes : List ℕ) (x : X) (between : List ℕ) (y : Y) (remaining : List ℕ)
+      → IsFront A a bytes (Some (x, between)) → IsFront B b between (Some (y, remaining))
+      → IsFront Both both bytes (Some ((x, y), remaining))
+  both_there bytes x between y remaining f g = record {
     found =
-        ((f.found.0, g.found.0), f.found.1 ∙ ap (λ rest. a x ++ rest) g.found.1 ∙ sym (append_assoc (a x) (b y) behind));
+        ((f.found.0, g.found.0), f.found.1 ∙ ap (λ rest. a x ++ rest) g.found.1 ∙ sym (append_assoc (a x) (b y) remaining));
     only = λ p rest is e.
         let same =
         some_pair_parts _ _ _ _
@@ -67,17 +67,17 @@ module _ {X Y : Type 0} {A : X → Type 0} {B : Y → Type 0} {a : X → List �
   }
 
 -- the same after a front that each text has
-pub prefixed : {X : Type 0} {Is : X → Type 0} {a b : X → List ℕ} (front bytes behind : List ℕ) (read : Option (X × List ℕ))
-    → ((x : X) → b x ≡ front ++ a x) → bytes ≡ front ++ behind → IsFront Is a behind read
+pub prefixed : {X : Type 0} {Is : X → Type 0} {a b : X → List ℕ} (front bytes remaining : List ℕ) (read : Option (X × List ℕ))
+    → ((x : X) → b x ≡ front ++ a x) → bytes ≡ front ++ remaining → IsFront Is a remaining read
     → IsFront Is b bytes read
-prefixed {X} {Is} {a} {b} front bytes behind read text e h = by_cases read h
+prefixed {X} {Is} {a} {b} front bytes remaining read text e h = by_cases read h
   where
-    cut : (x : X) (rest : List ℕ) → bytes ≡ b x ++ rest → behind ≡ a x ++ rest
+    cut : (x : X) (rest : List ℕ) → bytes ≡ b x ++ rest → remaining ≡ a x ++ rest
     cut x rest e' =
-        append_cancel_left front behind (a x ++ rest)
+        append_cancel_left front remaining (a x ++ rest)
         (sym e ∙ e' ∙ ap (λ t. t ++ rest) (text x) ∙ append_assoc front (a x) rest)
 
-    by_cases : (read : Option (X × List ℕ)) → IsFront Is a behind read → IsFront Is b bytes read
+    by_cases : (read : Option (X × List ℕ)) → IsFront Is a remaining read → IsFront Is b bytes read
     by_cases None h =
         no_front bytes (λ x rest is e'. none-some _ (h.only x rest is (cut x rest e')))
     by_cases (Some r) h = record {

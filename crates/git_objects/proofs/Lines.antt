@@ -12,11 +12,11 @@ use Rattle.git_objects.specs.Fronts.{IsFront}
 use Rattle.git_objects.proofs.Fronts.{no_front, prefixed}
 
 -- a line whose word stands at the front
-pub line_front : (word bytes behind : List ℕ) (read : Option (List ℕ × List ℕ))
-    → bytes ≡ word ++ behind → IsFront IsOneLine (λ part. part ++ 10 ∷ []) behind read
+pub line_front : (word bytes remaining : List ℕ) (read : Option (List ℕ × List ℕ))
+    → bytes ≡ word ++ remaining → IsFront IsOneLine (λ part. part ++ 10 ∷ []) remaining read
     → IsFront IsOneLine (line word) bytes read
-line_front word bytes behind read e h =
-    prefixed word bytes behind read (λ text. append_assoc word text (10 ∷ [])) e h
+line_front word bytes remaining read e h =
+    prefixed word bytes remaining read (λ text. append_assoc word text (10 ∷ [])) e h
 
 pub no_line : (word bytes : List ℕ) → ((rest : List ℕ) → bytes ≡ word ++ rest → ⊥)
     → IsFront IsOneLine (line word) bytes None

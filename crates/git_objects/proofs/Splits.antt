@@ -29,21 +29,21 @@ none_before end xs i h =
     let here : (get_or xs k 0 == end) ≡ true = eq-eqb (get_or xs k 0) end (sym (get_or-take i xs k 0 below) ∙ e) in
     cc)
 
-place_behind : (end : ℕ) (part rest : List ℕ) → All (λ byte. byte ≢ end) part
+place_after : (end : ℕ) (part rest : List ℕ) → All (λ byte. byte ≢ end) part
     → position_or_len (λ byte. byte == end) ((part ++ end ∷ []) ++ rest) ≡ length part
-place_behind end [] rest h = rw (eq-eqb end end refl) refl
-place_behind end (b ∷ bs) rest h =
+place_after end [] rest h = rw (eq-eqb end end refl) refl
+place_after end (b ∷ bs) rest h =
     let ne : (b == end) ≡ false = ne_eqb b end (All-head (λ byte. byte ≢ end) b bs h) in
-    let more = place_behind end bs rest (All-tail (λ byte. byte ≢ end) b bs h) in
+    let more = place_after end bs rest (All-tail (λ byte. byte ≢ end) b bs h) in
     rw (ne, more) (omega arith)
 
-position_behind : (end : ℕ) (part rest : List ℕ) → All (λ byte. byte ≢ end) part
+position_after : (end : ℕ) (part rest : List ℕ) → All (λ byte. byte ≢ end) part
     → position (λ byte. byte == end) ((part ++ end ∷ []) ++ rest) ≡ Some (length part)
-position_behind end part rest h =
+position_after end part rest h =
     let within =
     lt-ltb (length part) (length ((part ++ end ∷ []) ++ rest))
     (omega (arith, length-append (part ++ end ∷ []) rest, length-append part (end ∷ []))) in
-    rw (place_behind end part rest h, within) refl
+    rw (place_after end part rest h, within) refl
 
 -- a text parted there
 abbrev pub parted_at : List ℕ → ℕ → List ℕ × List ℕ
@@ -52,18 +52,18 @@ parted_at bytes i = (take i bytes, drop (i + 1) bytes)
 pub split_front : (end : ℕ) (bytes : List ℕ) (at : Option ℕ)
     → at ≡ position (λ byte. byte == end) bytes
     → IsFront (All (λ byte. byte ≢ end)) (λ part. part ++ end ∷ []) bytes (option_map (parted_at bytes) at)
-split_front end bytes None h = record { found = tt; only = λ part rest none e. absurd (let here = position_behind end part rest none in let there : position (λ byte. byte == end) ((part ++ end ∷ []) ++ rest) ≡ None = rw (← e) (sym h) in cc) }
+split_front end bytes None h = record { found = tt; only = λ part rest none e. absurd (let here = position_after end part rest none in let there : position (λ byte. byte == end) ((part ++ end ∷ []) ++ rest) ≡ None = rw (← e) (sym h) in cc) }
 split_front end bytes (Some i) h = record {
   found = (none_before end bytes i (sym h), parts_at end bytes i (sym h));
   only = λ part rest none e.
       let there : ◌≡◌ {A = Option ℕ} (Some i) (Some (length part)) =
-      h ∙ ap (position (λ byte. byte == end)) e ∙ position_behind end part rest none in
+      h ∙ ap (position (λ byte. byte == end)) e ∙ position_after end part rest none in
       let same : i ≡ length part = cc in
       let before : take i bytes ≡ part =
       ap (take i) (e ∙ append_assoc part (end ∷ []) rest)
       ∙ take_at part ((end ∷ []) ++ rest) i (sym same) in
       let long : length (part ++ end ∷ []) ≡ i + 1 = omega (arith, length_push part end) in
-      let behind : drop (i + 1) bytes ≡ rest =
+      let remaining : drop (i + 1) bytes ≡ rest =
       ap (drop (i + 1)) e ∙ drop_at (part ++ end ∷ []) rest (i + 1) long in
-      rw (before, behind) refl;
+      rw (before, remaining) refl;
 }

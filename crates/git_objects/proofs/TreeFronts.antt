@@ -37,9 +37,9 @@ id_missing bytes short =
     (λ id rest is e. let long = ap length e ∙ length-append id rest in omega (arith, is.size))
 
 -- bytes after others are bytes
-pub behind_fits : (xs ys zs : List ℕ) → xs ≡ ys ++ zs → ((i : ℕ) → Fits w8 (get_or xs i 0))
+pub after_fits : (xs ys zs : List ℕ) → xs ≡ ys ++ zs → ((i : ℕ) → Fits w8 (get_or xs i 0))
     → (i : ℕ) → Fits w8 (get_or zs i 0)
-behind_fits xs ys zs e fits i =
+after_fits xs ys zs e fits i =
     subst (λ b. Fits w8 b) (ap (λ l. get_or l (length ys + i) 0) e ∙ get_or-append-add ys zs i 0)
     (fits (length ys + i))
 

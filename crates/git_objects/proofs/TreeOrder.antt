@@ -30,8 +30,8 @@ slash_cases mode.Symlink = inr ((λ e. cc), refl)
 slash_cases mode.Gitlink = inr ((λ e. cc), refl)
 slash_cases mode.Directory = inl (refl, refl)
 
-no_slash_behind : (name front : List ℕ) → All (λ byte. byte ≢ 47) name → name ≡ front ++ 47 ∷ [] → ⊥
-no_slash_behind name front none e =
+no_slash_after : (name front : List ℕ) → All (λ byte. byte ≢ 47) name → name ≡ front ++ 47 ∷ [] → ⊥
+no_slash_after name front none e =
     let within : length front < length name = omega (arith, ap length e, length_push front 47) in
     none (length front) 0 within
     (ap (λ l. get_or l (length front) 0) e ∙ get_or_push front 47 0 (length front) refl)
@@ -46,12 +46,12 @@ same_names a b p q e = elim (slash_cases a.mode) [
         (ap (λ l. a.name ++ l) (sym s.1) ∙ e ∙ ap (λ l. b.name ++ l) t.1)
     | inr t ↦
         absurd
-        (no_slash_behind b.name a.name q.no_slash (sym (ap (λ l. a.name ++ l) (sym s.1) ∙ e ∙ ap (λ l. b.name ++ l) t.1 ∙ append-nil b.name)))
+        (no_slash_after b.name a.name q.no_slash (sym (ap (λ l. a.name ++ l) (sym s.1) ∙ e ∙ ap (λ l. b.name ++ l) t.1 ∙ append-nil b.name)))
   ]
   | inr s ↦ elim (slash_cases b.mode) [
     | inl t ↦
         absurd
-        (no_slash_behind a.name b.name p.no_slash (sym (append-nil a.name) ∙ ap (λ l. a.name ++ l) (sym s.1) ∙ e ∙ ap (λ l. b.name ++ l) t.1))
+        (no_slash_after a.name b.name p.no_slash (sym (append-nil a.name) ∙ ap (λ l. a.name ++ l) (sym s.1) ∙ e ∙ ap (λ l. b.name ++ l) t.1))
     | inr t ↦
         sym (append-nil a.name) ∙ ap (λ l. a.name ++ l) (sym s.1) ∙ e ∙ ap (λ l. b.name ++ l) t.1
         ∙ append-nil b.name
@@ -147,7 +147,7 @@ no_twin_at es t k j d within other dir same =
     let b = get_or es j d in
     elim (slash_cases b.mode) [
       | inl s ↦
-          no_slash_behind a.name b.name (component_at es t.entries k d within).no_slash
+          no_slash_after a.name b.name (component_at es t.entries k d within).no_slash
           (sym same ∙ ap (λ l. b.name ++ l) s.1)
       | inr s ↦
           let named : b.name ≡ a.name =

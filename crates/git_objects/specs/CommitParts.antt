@@ -5,7 +5,7 @@ use Rattle.git_model.specs.ObjectName.{IsObjectName}
 use Rattle.git_model.specs.Ident.{IsWrittenIdent}
 use Rattle.git_model.specs.Commit.{line, name_line, IsEncoding}
 
--- All the parents' lines at the front of a text: what follows them is no such line.
+-- All the parents' lines at the front of a text: no such line follows them.
 pub record AreParents (bytes : List ℕ) (parents : List (List ℕ)) (rest : List ℕ) : Type 0 where
   pub names : All IsObjectName parents
   pub lines : bytes ≡ flat_map (name_line (codes "parent ")) parents ++ rest

@@ -2,6 +2,6 @@
 use Rattle.std.specs.Prelude.{ℕ, List, [], ◌∷◌, ◌++◌, Option}
 use Rattle.git_model.specs.Commit.{optional_line}
 
--- A line that may be missing, and the empty line.
+-- An optional line, and the empty line.
 abbrev pub end_lines : List ℕ → Option (List ℕ) → List ℕ
 end_lines word text = optional_line word text ++ 10 ∷ []

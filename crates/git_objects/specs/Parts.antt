@@ -1,4 +1,4 @@
--- What the parts of an object are, without where their texts lie in memory.
+-- The parts of an object as values, whatever place their texts have in memory.
 use Rattle.std.specs.Prelude.{List, map}
 use Rattle.std.specs.Option.{option_copied}
 use Rattle.git_objects.specs.declared.tree_entry.TreeEntry as entry

@@ -16,7 +16,8 @@ use crate::header::{
 use git_names::{Memory, Name};
 use std::alloc::Global;
 
-/// What a commit says. Its texts are borrowed, as from the commit's contents.
+/// The parts of a commit: "commit object" in gitglossary(7). Its texts are borrowed, for example
+/// from the contents that were read.
 #[derive(Drop)]
 pub struct CommitParts<'a> {
     /// The name of the commit's tree.
@@ -27,9 +28,9 @@ pub struct CommitParts<'a> {
     pub author: &'a [u8],
     /// Who made the commit and when: an ident, without the line end.
     pub committer: &'a [u8],
-    /// The encoding of the message, where it is not that of UTF-8.
+    /// The encoding of the message, if it is not UTF-8.
     pub encoding: Option<&'a [u8]>,
-    /// The message, with the line end that mostly stands at its end.
+    /// The message, usually with a line end at its end.
     pub message: &'a [u8],
 }
 
@@ -56,11 +57,11 @@ fn append_commit(parts: &CommitParts<'_>, contents: &mut Vec<u8>) -> Result<(), 
     append_end(b"encoding ", parts.encoding, parts.message, contents)
 }
 
-/// Appends the contents of a commit.
+/// Appends the contents of a commit: "commit object" in gitglossary(7).
 ///
-/// `Memory` (90) where there is no room for all of it; `contents` is then unchanged. Any parts have
-/// a text; it is a commit's, which `read_commit` reads, where author and committer are idents that
-/// do not begin with `<` and the encoding, if there is one, is a line of text that is not empty.
+/// Any parts can be written. `read_commit` reads the contents back if author and committer are
+/// idents that do not begin with `<`, and the encoding, if there is one, is a text on one line that
+/// is not empty. `Memory` (90) if there is no memory for all of it; `contents` is then unchanged.
 pub fn write_commit(parts: &CommitParts<'_>, contents: &mut Vec<u8>) -> Result<(), Memory>
     ensures written { OnOk result (contents.new.items
         ≡ contents.old.items ++ commit_contents (commit_of parts.now)) }
@@ -105,12 +106,13 @@ fn take_encoding(bytes: &[u8]) -> Option<(Option<&[u8]>, &[u8])>
     }
 }
 
-/// Reads the contents of a commit; its texts are borrowed from the contents.
+/// Reads the contents of a commit: "commit object" in gitglossary(7). The texts of the parts are
+/// borrowed from the contents.
 ///
-/// `None` where the contents are no commit's that `write_commit` makes of parts that are right: a
-/// header line that is missing, repeated or out of its place, a name that is not 40 hexadecimal
-/// digits of lower case, an author or committer that is no ident or begins with `<`, an encoding
-/// that is empty. `Memory` (90) where there is no room for the names of the parents.
+/// `None` if no commit that can be written has these contents: a header line is missing, repeated
+/// or out of place; a name is not 40 lowercase hexadecimal digits; the author or the committer is
+/// not an ident or begins with `<`; or the encoding is empty. `Memory` (90) if there is no memory
+/// for the names of the parents.
 pub fn read_commit(alloc: Global, contents: &[u8]) -> Result<Option<CommitParts<'_>>, Memory>
     ensures found { IfOk result (λ r. IfSome r
         (λ parts. CanWriteCommit (commit_of parts)

@@ -1,5 +1,4 @@
-//! Parts that stand at the front of a text, for the readers of object contents. Nothing here takes
-//! memory.
+//! Splits the first part off a text, for the readers of object contents. Nothing here takes memory.
 
 ghost use Rattle.std.specs.Prelude.{◌≡◌, ◌≢◌, ◌==◌, [], ◌∷◌, ◌++◌, All, position};
 ghost use Rattle.std.specs.Option.{option_map};
@@ -11,7 +10,8 @@ fn index_of(bytes: &[u8], sought: u8) -> Option<usize>
     bytes.iter().position(|byte| *byte == sought)
 }
 
-/// Parts a text at the first byte that is `end`: what stands before it and what stands after it.
+/// Splits a text at the first byte that is `end`: what comes before it and what comes after it, or
+/// `None` if there is no such byte.
 pub fn split_at_byte(bytes: &[u8], end: u8) -> Option<(&[u8], &[u8])>
     ensures { IsFront (All (λ byte. byte ≢ end)) (λ part. part ++ end ∷ []) bytes.now
         (option_map (λ x. (x.0.now, x.1.now)) result) }

@@ -12,7 +12,8 @@ ghost use Rattle.git_objects.specs.HeaderParts.{end_lines};
 use crate::front::split_at_byte;
 use git_names::{Memory, Name, is_written_ident};
 
-/// Appends a line. After `Memory` (90) a piece of it may stand after what stood there.
+/// Appends a line. After `Memory` (90) a part of it may have been appended; what was there before
+/// is unchanged.
 pub fn append_line(word: &[u8], text: &[u8], contents: &mut Vec<u8>) -> Result<(), Memory>
     ensures written { OnOk result (contents.new.items ≡ contents.old.items
         ++ line word.now text.now) }
@@ -24,8 +25,8 @@ pub fn append_line(word: &[u8], text: &[u8], contents: &mut Vec<u8>) -> Result<(
     Ok(())
 }
 
-/// Appends the line of an object name, in 40 hexadecimal digits; as `append_line` after `Memory`
-/// (90).
+/// Appends a line with an object name in 40 hexadecimal digits. `Memory` (90) leaves what it leaves
+/// after `append_line`.
 pub fn append_name_line(word: &[u8], id: &Name, contents: &mut Vec<u8>) -> Result<(), Memory>
     ensures written { OnOk result (contents.new.items ≡ contents.old.items
         ++ name_line word.now id.now) }
@@ -34,8 +35,8 @@ pub fn append_name_line(word: &[u8], id: &Name, contents: &mut Vec<u8>) -> Resul
     append_line(word, &id.to_hex(), contents)
 }
 
-/// Appends a line that may be missing, the empty line and a message; as `append_line` after
-/// `Memory` (90).
+/// Appends an optional line, the empty line and a message. `Memory` (90) leaves what it leaves
+/// after `append_line`.
 pub fn append_end(
     word: &[u8],
     text: Option<&[u8]>,
@@ -55,17 +56,17 @@ pub fn append_end(
     Ok(())
 }
 
-/// Takes a line with this word from the front of a text: what stands after the word, and what
-/// follows the line.
+/// Takes a line with this word from the front of a text. Answers the rest of the line after the
+/// word, and the text after the line.
 pub fn take_line<'a>(word: &[u8], bytes: &'a [u8]) -> Option<(&'a [u8], &'a [u8])>
     ensures { IsFront (All (λ byte. byte ≢ 10)) (line word.now) bytes.now
         (option_map (λ x. (x.0.now, x.1.now)) result) }
 {
-    let behind = bytes.strip_prefix(word)?;
-    split_at_byte(behind, b'\n')
+    let remaining = bytes.strip_prefix(word)?;
+    split_at_byte(remaining, b'\n')
 }
 
-// Reads a name from the digits that `Name::to_hex` writes, which are of lower case.
+// Reads a name from lowercase digits, as `Name::to_hex` writes them.
 fn read_name(digits: &[u8]) -> Option<Name>
     ensures { MatchOption result ((id : List ℕ) → IsObjectName id → digits.now ≢ encode_lower id)
         (λ id. IsObjectName id × (digits.now ≡ encode_lower id)) }
@@ -78,7 +79,7 @@ fn read_name(digits: &[u8]) -> Option<Name>
     }
 }
 
-/// Takes the line of an object name from the front of a text.
+/// Takes a line with an object name from the front of a text.
 pub fn take_name_line<'a>(word: &[u8], bytes: &'a [u8]) -> Option<(Name, &'a [u8])>
     ensures { IsFront IsObjectName (name_line word.now) bytes.now
         (option_map (λ x. (x.0, x.1.now)) result) }
@@ -90,7 +91,7 @@ pub fn take_name_line<'a>(word: &[u8], bytes: &'a [u8]) -> Option<(Name, &'a [u8
     }
 }
 
-/// Takes the line of an ident from the front of a text.
+/// Takes a line with an ident from the front of a text.
 pub fn take_ident_line<'a>(word: &[u8], bytes: &'a [u8]) -> Option<(&'a [u8], &'a [u8])>
     ensures { IsFront IsWrittenIdent (line word.now) bytes.now
         (option_map (λ x. (x.0.now, x.1.now)) result) }
@@ -103,8 +104,8 @@ pub fn take_ident_line<'a>(word: &[u8], bytes: &'a [u8]) -> Option<(&'a [u8], &'
     }
 }
 
-/// Takes a line that may be missing and the empty line from the front of a text: what stands after
-/// the word, if the line is there, and what follows the empty line.
+/// Takes an optional line and the empty line from the front of a text. Answers the rest of the
+/// optional line after the word, if the line is there, and the text after the empty line.
 pub fn take_end<'a>(word: &[u8], bytes: &'a [u8]) -> Option<(Option<&'a [u8]>, &'a [u8])>
     requires { (text rest : List ℕ) → word.now ++ text ≢ 10 ∷ rest }
     ensures { IsFront (λ text. IfSome text (All (λ byte. byte ≢ 10))) (end_lines word.now) bytes.now

@@ -1,7 +1,7 @@
-//! Git's objects as bytes: the writers and readers of the contents of trees, commits and tags.
+//! Reads and writes the contents of trees, commits and tags, byte for byte as Git does.
 //!
-//! Nothing here knows a repository, a pool or a tenant. What the contents are named by, and the
-//! devices that they go through, are passed on.
+//! Nothing here knows a repository, a pool or a tenant. The crate re-exports the names of git_names
+//! and the devices of byte_devices that a user of contents needs.
 #![tactic(auto)]
 
 mod commit;

@@ -10,7 +10,7 @@ use git_model::{FileMode, Kind};
 use git_names::{Memory, Name, kind_word};
 use git_paths::quote_into;
 
-/// The octal digits of a mode as a listing has them, six of them. Takes no memory.
+/// The six octal digits of a mode in a listing: git-ls-tree(1). Takes no memory.
 pub fn six_digits(mode: FileMode) -> &'static [u8]
     ensures { result.now ≡ six_digits mode }
 {
@@ -32,9 +32,10 @@ pub fn kind_of_mode(mode: FileMode) -> Kind
 }
 
 /// Appends an entry as git-ls-tree(1) lists it, without a line end: its mode, its kind, the name of
-/// its object in 40 digits, a tab, and the bytes of its path, quoted where they must be.
+/// its object in 40 digits, a tab, and its path, in quotes if a byte needs them.
 ///
-/// After `Memory` (90) a piece of it may stand after what stood there.
+/// `Memory` (90) if `out` cannot grow. A part of the entry may then have been appended; what was
+/// there before is unchanged.
 pub fn append_listing(
     mode: FileMode,
     id: Name,

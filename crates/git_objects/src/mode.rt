@@ -1,4 +1,4 @@
-//! Modes in octal digits, as they stand in trees: git-ls-tree(1).
+//! Modes in octal digits, as trees have them: git-ls-tree(1).
 
 ghost use Rattle.std.specs.Prelude.{◌≡◌, ◌≢◌, MatchOption};
 ghost use Rattle.git_model.specs.declared.file_mode.FileMode.{FileMode};
@@ -19,8 +19,8 @@ pub fn mode_digits(mode: FileMode) -> &'static [u8]
     }
 }
 
-/// Reads a mode from its octal digits; `None` for every other text, one with a leading zero
-/// included. Takes no memory.
+/// Reads a mode from its octal digits. `None` for every other text, such as one with a leading
+/// zero. Takes no memory.
 pub fn read_mode(digits: &[u8]) -> Option<FileMode>
     ensures { MatchOption result ((mode : FileMode) → digits.now ≢ mode_digits mode)
         (λ mode. digits.now ≡ mode_digits mode) }

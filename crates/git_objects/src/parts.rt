@@ -1,11 +1,12 @@
-//! How a text is appended part by part.
+//! Appends a text part by part.
 
 ghost use Rattle.std.specs.Prelude.{◌≡◌, ◌++◌, length, take, OnOk};
 ghost use Rattle.std.specs.List.{flat_map};
 
 use git_names::Memory;
 
-/// Appends the parts in turn. After `Memory` (90) a piece of them may stand after what stood there.
+/// Appends the parts in turn. After `Memory` (90) some of their bytes may have been appended; what
+/// was there before is unchanged.
 pub fn append_parts(parts: &[&[u8]], out: &mut Vec<u8>) -> Result<(), Memory>
     ensures written { OnOk result (out.new.items
         ≡ out.old.items ++ flat_map (λ part. part.now) parts.now) }

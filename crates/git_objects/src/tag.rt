@@ -20,7 +20,8 @@ use git_model::Kind;
 use git_names::{Memory, Name, is_ref_name, is_written_ident, kind_word};
 use std::alloc::Global;
 
-/// What a tag says. Its texts are borrowed, as from the tag's contents.
+/// The parts of a tag: git-mktag(1). Its texts are borrowed, for example from the contents that
+/// were read.
 #[derive(Clone, Copy)]
 pub struct TagParts<'a> {
     /// The name of the object that is tagged.
@@ -29,9 +30,9 @@ pub struct TagParts<'a> {
     pub kind: Kind,
     /// The tag's own name, without `refs/tags/`.
     pub name: &'a [u8],
-    /// Who made the tag and when, if it says so: an ident, without the line end.
+    /// Who made the tag and when, if the tag says so: an ident, without the line end.
     pub tagger: Option<&'a [u8]>,
-    /// The message, with the line end that mostly stands at its end.
+    /// The message, usually with a line end at its end.
     pub message: &'a [u8],
 }
 
@@ -46,12 +47,12 @@ fn append_tag(parts: &TagParts<'_>, contents: &mut Vec<u8>) -> Result<(), Memory
     append_end(b"tagger ", parts.tagger, parts.message, contents)
 }
 
-/// Appends the contents of a tag.
+/// Appends the contents of a tag: git-mktag(1).
 ///
-/// `Memory` (90) where there is no room for all of it; `contents` is then unchanged. Any parts have
-/// a text; it is a tag's, which `read_tag` reads, where the kind is not that of a tree,
-/// `refs/tags/` and the name are a ref name, and the tagger, if there is one, is an ident that does
-/// not begin with `<`.
+/// Any parts can be written. `read_tag` reads the contents back if the kind is not tree,
+/// `refs/tags/` followed by the name is a ref name, and the tagger, if there is one, is an ident
+/// that does not begin with `<`. `Memory` (90) if there is no memory for all of it; `contents` is
+/// then unchanged.
 pub fn write_tag(parts: &TagParts<'_>, contents: &mut Vec<u8>) -> Result<(), Memory>
     ensures written { OnOk result (contents.new.items ≡ contents.old.items
         ++ tag_contents (tag_of parts.now)) }
@@ -78,7 +79,7 @@ fn read_kind(word: &[u8]) -> Option<Kind>
     }
 }
 
-// The kinds that can be tagged are those of all objects but trees.
+// Objects of every kind but tree can be tagged.
 fn take_kind(bytes: &[u8]) -> Option<(Kind, &[u8])>
     ensures { IsFront IsTagged kind_line bytes.now (option_map (λ x. (x.0, x.1.now)) result) }
 {
@@ -89,7 +90,7 @@ fn take_kind(bytes: &[u8]) -> Option<(Kind, &[u8])>
     }
 }
 
-// Whether there may be a ref of this name for tags.
+// Whether `refs/tags/` followed by this name is a ref name.
 fn is_tag_name(alloc: Global, name: &[u8]) -> Result<bool, Memory>
     ensures { IfOk result (λ b. IsTrue b ↔ IsRefName (codes "refs/tags/" ++ name.now)) }
 {
@@ -119,12 +120,13 @@ fn take_tagger(bytes: &[u8]) -> Option<(Option<&[u8]>, &[u8])>
     }
 }
 
-/// Reads the contents of a tag; its texts are borrowed from the contents.
+/// Reads the contents of a tag: git-mktag(1). The texts of the parts are borrowed from the
+/// contents.
 ///
-/// `None` where the contents are no tag's that `write_tag` makes of parts that are right: a header
-/// line that is missing, repeated or out of its place, a name that is not 40 hexadecimal digits of
-/// lower case, `type tree`, a tag's name that makes no ref name after `refs/tags/`, a tagger that
-/// is no ident or begins with `<`. `Memory` (90) where there is no room to judge that ref name.
+/// `None` if no tag that can be written has these contents: a header line is missing, repeated or
+/// out of place; the object name is not 40 lowercase hexadecimal digits; the type is `tree`;
+/// `refs/tags/` followed by the tag's name is not a ref name; or the tagger is not an ident or
+/// begins with `<`. `Memory` (90) if there is no memory to check that ref name.
 pub fn read_tag(alloc: Global, contents: &[u8]) -> Result<Option<TagParts<'_>>, Memory>
     ensures found { IfOk result (λ r. IfSome r
         (λ parts. CanWriteTag (tag_of parts) × (contents.now ≡ tag_contents (tag_of parts)))) }

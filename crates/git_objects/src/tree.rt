@@ -39,11 +39,12 @@ fn append_entries(entries: &[TreeEntry<'_>], contents: &mut Vec<u8>) -> Result<(
     Ok(())
 }
 
-/// Appends the contents of the tree with these entries, in this order.
+/// Appends the contents of the tree with these entries, in this order: "tree object" in
+/// gitglossary(7).
 ///
-/// `Memory` (90) where there is no room for all of it; `contents` is then unchanged. Any entries
-/// have a text; it is a tree's, which `read_tree` reads, where each name is a component, no two are
-/// the same, and the entries stand in the order of `TreeEntry::order`.
+/// Any entries can be written. `read_tree` reads the contents back if `is_entry_name` accepts each
+/// name, no two names are the same, and the entries are in the order of `TreeEntry::order`.
+/// `Memory` (90) if there is no memory for all of it; `contents` is then unchanged.
 pub fn write_tree(entries: &[TreeEntry<'_>], contents: &mut Vec<u8>) -> Result<(), Memory>
     ensures written { OnOk result (contents.new.items
         ≡ contents.old.items ++ tree_contents (entries_of entries.now)) }
@@ -94,8 +95,8 @@ fn take_entry(contents: &[u8]) -> Option<(TreeEntry<'_>, &[u8])>
     Some((TreeEntry { mode, name, id }, rest))
 }
 
-// A file of the directory's name stands elsewhere among the entries, since only a directory's name
-// is compared with a slash after it. The entries are in order, so one search finds it.
+// A file with the directory's name need not be next to the directory, since only a directory's name
+// is compared with a slash after it. The entries are in order, so a binary search finds the file.
 fn has_twin(entries: &[TreeEntry<'_>], entry: &TreeEntry<'_>) -> bool
     ensures { AreInOrder (entries_of entries.now)
         → (IsTrue result ↔ HasTwin (entries_of entries.now) (entry_of entry.now)) }
@@ -154,12 +155,13 @@ fn take_entries(alloc: Global, contents: &[u8]) -> Result<Option<Vec<TreeEntry<'
     Ok(Some(entries))
 }
 
-/// Reads the contents of a tree: its entries in order, with their names borrowed from the contents.
+/// Reads the contents of a tree: "tree object" in gitglossary(7). The entries are in order, and
+/// their names are borrowed from the contents.
 ///
-/// `None` where the contents are no tree's that `write_tree` makes: a mode that is none of the five
-/// or has a leading zero, a name that is no component, two entries of one name, whatever their
-/// kinds, or entries that are not in the order of `TreeEntry::order`. `Memory` (90) where there is
-/// no room for the entries.
+/// `None` if no tree that can be written has these contents: a mode is not one of the five or has a
+/// leading zero; `is_entry_name` refuses a name; two entries have the same name, whatever their
+/// kinds; or the entries are not in the order of `TreeEntry::order`. `Memory` (90) if there is no
+/// memory for the entries.
 pub fn read_tree(alloc: Global, contents: &[u8]) -> Result<Option<Vec<TreeEntry<'_>>>, Memory>
     ensures found { IfOk result (λ r. IfSome r
         (λ es. CanWriteTree (entries_of es.items)

@@ -9,10 +9,10 @@ use git_names::Name;
 use git_paths::is_component;
 use std::cmp::Ordering;
 
-/// A direct entry of a tree. Its name is borrowed, as from the tree's contents.
+/// A direct entry of a tree. Its name is borrowed, for example from the contents that were read.
 #[derive(Clone, Copy)]
 pub struct TreeEntry<'a> {
-    /// What the entry is.
+    /// The mode, which says what the entry is.
     pub mode: FileMode,
     /// The entry's name: one component of a path, without a slash.
     pub name: &'a [u8],
@@ -20,8 +20,8 @@ pub struct TreeEntry<'a> {
     pub id: Name,
 }
 
-/// Whether a tree entry may have this name: it is not empty, `.` or `..`, and holds no NUL and no
-/// slash. Takes no memory.
+/// Whether a tree entry may have this name: it is not empty, `.` or `..`, and contains no NUL and
+/// no slash. Takes no memory.
 pub fn is_entry_name(name: &[u8]) -> bool
     ensures { IsTrue result ↔ IsEntryName name.now }
 {

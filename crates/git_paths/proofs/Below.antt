@@ -7,32 +7,32 @@ use Rattle.std.proofs.lemmas.List.{append-nil, append_cancel_left, take_at, take
 use Rattle.std.proofs.lemmas.List.Elements.{All-head, All-tail, All-weaker, All-append}
 use Rattle.std.proofs.lemmas.List.Splits.{slice_split_at}
 use Rattle.std.proofs.lemmas.Slice.Eq.{bytes_eq-Decides}
-use Rattle.git_paths.specs.Paths.{IsComponent, IsPath, joined, is_slash, components_of, behind, is_path, joined_both}
+use Rattle.git_paths.specs.Paths.{IsComponent, IsPath, joined, is_slash, components_of, strip_prefix, is_path, joined_both}
 use Rattle.git_paths.proofs.Cases.{by_cases, some_is}
 use Rattle.git_paths.proofs.Decided.{test-from_IsPath}
 use Rattle.git_paths.proofs.Joined.{joined-components_of, components_of-joined}
 
 -- ---- by components
 
-pub behind-append : (p r : List (List ℕ)) → behind p (p ++ r) ≡ Some r
-behind-append [] r = refl
-behind-append (c ∷ p) r = rw ((bytes_eq-Decides c c).1 refl) (behind-append p r)
+pub strip_prefix-append : (p r : List (List ℕ)) → strip_prefix p (p ++ r) ≡ Some r
+strip_prefix-append [] r = refl
+strip_prefix-append (c ∷ p) r = rw ((bytes_eq-Decides c c).1 refl) (strip_prefix-append p r)
 
-pub behind_some : (p q r : List (List ℕ)) → behind p q ≡ Some r → q ≡ p ++ r
-behind_some [] q r h = some_is q r h
-behind_some (c ∷ p) [] r h = absurd cc
-behind_some (c ∷ p) (d ∷ q) r h =
+pub after_some : (p q r : List (List ℕ)) → strip_prefix p q ≡ Some r → q ≡ p ++ r
+after_some [] q r h = some_is q r h
+after_some (c ∷ p) [] r h = absurd cc
+after_some (c ∷ p) (d ∷ q) r h =
     by_cases (bytes_eq c d)
-    (λ yea. let same = (bytes_eq-Decides c d).0 yea in ap (λ (x : List ℕ). x ∷ q) (sym same) ∙ ap (λ (t : List (List ℕ)). c ∷ t) (behind_some p q r (rw yea at h)))
+    (λ yea. let same = (bytes_eq-Decides c d).0 yea in ap (λ (x : List ℕ). x ∷ q) (sym same) ∙ ap (λ (t : List (List ℕ)). c ∷ t) (after_some p q r (rw yea at h)))
     (λ nay. absurd (let none : ◌≡◌ {A = Option (List (List ℕ))} None (Some r) = rw nay at h in cc))
 
-behind_is : (p q : List (List ℕ)) → ((r : List (List ℕ)) → q ≡ p ++ r → ⊥)
-    → (o : Option (List (List ℕ))) → behind p q ≡ o → o ≡ None
-behind_is p q apart None is = refl
-behind_is p q apart (Some r) is = absurd (apart r (behind_some p q r is))
+after_is : (p q : List (List ℕ)) → ((r : List (List ℕ)) → q ≡ p ++ r → ⊥)
+    → (o : Option (List (List ℕ))) → strip_prefix p q ≡ o → o ≡ None
+after_is p q apart None is = refl
+after_is p q apart (Some r) is = absurd (apart r (after_some p q r is))
 
-pub behind_none : (p q : List (List ℕ)) → ((r : List (List ℕ)) → q ≡ p ++ r → ⊥) → behind p q ≡ None
-behind_none p q apart = behind_is p q apart (behind p q) refl
+pub after_none : (p q : List (List ℕ)) → ((r : List (List ℕ)) → q ≡ p ++ r → ⊥) → strip_prefix p q ≡ None
+after_none p q apart = after_is p q apart (strip_prefix p q) refl
 
 -- ---- by bytes
 
@@ -72,9 +72,9 @@ begins (c ∷ p) q r some is = ap joined is ∙ joined-append c p r
 
 -- bytes that do not begin so are not below
 pub apart_bytes : (p q : List (List ℕ)) → joined p ≢ []
-    → bytes_eq (take (length (joined p)) (joined q)) (joined p) ≡ false → behind p q ≡ None
+    → bytes_eq (take (length (joined p)) (joined q)) (joined p) ≡ false → strip_prefix p q ≡ None
 apart_bytes p q some test =
-    behind_none p q (λ r is.
+    after_none p q (λ r is.
     let same : take (length (joined p)) (joined q) ≡ joined p =
     ap (take (length (joined p))) (begins p q r some is)
     ∙ take_at (joined p) (tail r) (length (joined p)) refl in
@@ -82,16 +82,16 @@ apart_bytes p q some test =
 
 -- the same bytes are the same path
 pub same_bytes : (p q : List (List ℕ)) → IsPath p → IsPath q → joined q ≡ joined p
-    → behind p q ≡ Some []
+    → strip_prefix p q ≡ Some []
 same_bytes p q is_p is_q e =
     let same : q ≡ p =
     sym (components_of-joined q is_q) ∙ ap components_of e ∙ components_of-joined p is_p in
-    ap (behind p) (same ∙ sym (append-nil p)) ∙ behind-append p []
+    ap (strip_prefix p) (same ∙ sym (append-nil p)) ∙ strip_prefix-append p []
 
-split_behind : (p : List (List ℕ)) (t : List ℕ) → IsPath p → joined p ≢ []
+split_after : (p : List (List ℕ)) (t : List ℕ) → IsPath p → joined p ≢ []
     → slice_split is_slash (joined p ++ 47 ∷ t) ≡ p ++ slice_split is_slash t
-split_behind [] t is some = absurd (some refl)
-split_behind (c ∷ p) t is some = split-append c p t is
+split_after [] t is some = absurd (some refl)
+split_after (c ∷ p) t is some = split-append c p t is
 
 cut_middle : (a : List ℕ) (t : List ℕ)
     → components_of (a ++ 47 ∷ t) ≡ slice_split is_slash (a ++ 47 ∷ t)
@@ -107,14 +107,14 @@ last_parts (c ∷ p) t is = last_parts p t (All-tail IsComponent c (p ++ slice_s
 
 -- a slash after the bytes of a path, and the bytes of what it has below
 pub below_bytes : (p q : List (List ℕ)) (t : List ℕ) → IsPath p → IsPath q → joined p ≢ []
-    → joined q ≡ joined p ++ 47 ∷ t → behind p q ≡ Some (components_of t)
+    → joined q ≡ joined p ++ 47 ∷ t → strip_prefix p q ≡ Some (components_of t)
 below_bytes p q t is_p is_q some e =
     let parts : q ≡ p ++ slice_split is_slash t =
     sym (components_of-joined q is_q) ∙ ap components_of e ∙ cut_middle (joined p) t
-    ∙ split_behind p t is_p some in
+    ∙ split_after p t is_p some in
     let last = last_parts p t (subst IsPath parts is_q) in
-    ap (behind p) (parts ∙ ap (λ (r : List (List ℕ)). p ++ r) last)
-    ∙ behind-append p (components_of t)
+    ap (strip_prefix p) (parts ∙ ap (λ (r : List (List ℕ)). p ++ r) last)
+    ∙ strip_prefix-append p (components_of t)
 
 tail_first : (r : List (List ℕ)) (b : ℕ) (t : List ℕ) → tail r ≡ b ∷ t → b ≡ 47
 tail_first [] b t e = absurd cc
@@ -122,9 +122,9 @@ tail_first (c ∷ r) b t e = cc
 
 -- another byte after the bytes of a path
 pub longer_bytes : (p q : List (List ℕ)) (b : ℕ) (t : List ℕ) → joined p ≢ [] → b ≢ 47
-    → joined q ≡ joined p ++ b ∷ t → behind p q ≡ None
+    → joined q ≡ joined p ++ b ∷ t → strip_prefix p q ≡ None
 longer_bytes p q b t some other e =
-    behind_none p q
+    after_none p q
     (λ r is. other (tail_first r b t (append_cancel_left (joined p) (tail r) (b ∷ t) (sym (begins p q r some is) ∙ e))))
 
 -- ---- the same of the bytes that are at hand
@@ -144,7 +144,7 @@ whole top bytes rest test is =
 
 pub apart_from : (top bytes : List ℕ) → eqb (length top) 0 ≡ false
     → bytes_eq (take (length top) bytes) top ≡ false
-    → behind (components_of top) (components_of bytes) ≡ None
+    → strip_prefix (components_of top) (components_of bytes) ≡ None
 apart_from top bytes some test =
     apart_bytes (components_of top) (components_of bytes) (some_joined top some)
     (rw (joined-components_of top, joined-components_of bytes) test)
@@ -152,7 +152,7 @@ apart_from top bytes some test =
 pub same_as : (top bytes rest : List ℕ) → IsPath (components_of top) → IsPath (components_of bytes)
     → bytes_eq (take (length top) bytes) top ≡ true → rest ≡ drop (length top) bytes
     → length rest < 1
-    → behind (components_of top) (components_of bytes) ≡ Some (components_of rest)
+    → strip_prefix (components_of top) (components_of bytes) ≡ Some (components_of rest)
 same_as top bytes [] is_top is_bytes test is none =
     same_bytes (components_of top) (components_of bytes) is_top is_bytes
     (whole top bytes [] test is ∙ append-nil (joined (components_of top)))
@@ -162,7 +162,7 @@ pub below : (top bytes rest : List ℕ) → eqb (length top) 0 ≡ false → IsP
     → IsPath (components_of bytes) → bytes_eq (take (length top) bytes) top ≡ true
     → rest ≡ drop (length top) bytes
     → 1 ≤ length rest → get_or rest 0 0 ≡ 47
-    → behind (components_of top) (components_of bytes) ≡ Some (components_of (drop 1 rest))
+    → strip_prefix (components_of top) (components_of bytes) ≡ Some (components_of (drop 1 rest))
 below top bytes [] some is_top is_bytes test is long slash = absurd (omega arith)
 below top bytes (b ∷ rest) some is_top is_bytes test is long slash =
     below_bytes (components_of top) (components_of bytes) rest is_top is_bytes
@@ -172,7 +172,7 @@ below top bytes (b ∷ rest) some is_top is_bytes test is long slash =
 pub beside : (top bytes rest : List ℕ) → eqb (length top) 0 ≡ false
     → bytes_eq (take (length top) bytes) top ≡ true → rest ≡ drop (length top) bytes
     → 1 ≤ length rest → get_or rest 0 0 ≢ 47
-    → behind (components_of top) (components_of bytes) ≡ None
+    → strip_prefix (components_of top) (components_of bytes) ≡ None
 beside top bytes [] some test is long other = absurd (omega arith)
 beside top bytes (b ∷ rest) some test is long other =
     longer_bytes (components_of top) (components_of bytes) b rest (some_joined top some) other
@@ -184,8 +184,8 @@ path_end : (p r : List (List ℕ)) → IsPath (p ++ r) → IsPath r
 path_end [] r is = is
 path_end (c ∷ p) r is = path_end p r (All-tail IsComponent c (p ++ r) is)
 
-pub IsPath-behind : (p q r : List (List ℕ)) → IsPath q → Some r ≡ behind p q → IsPath r
-IsPath-behind p q r is h = path_end p r (subst IsPath (behind_some p q r (sym h)) is)
+pub IsPath-strip_prefix : (p q r : List (List ℕ)) → IsPath q → Some r ≡ strip_prefix p q → IsPath r
+IsPath-strip_prefix p q r is h = path_end p r (subst IsPath (after_some p q r (sym h)) is)
 
 joined_more : (a : List ℕ) (c : List ℕ) (r : List (List ℕ)) → a ≢ [] → joined (c ∷ r) ≢ []
     → joined_both a (joined (c ∷ r)) ≡ a ++ 47 ∷ joined (c ∷ r)

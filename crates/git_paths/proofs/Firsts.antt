@@ -22,19 +22,19 @@ one_component (b ∷ bytes) some none =
     slice_split_none is_slash (b ∷ bytes) (no_test (b ∷ bytes) none)
 
 -- what stands after a slash of a path has its components by cutting
-behind_slash : (name rest : List ℕ) → IsPath (name ∷ slice_split is_slash rest)
+after_slash : (name rest : List ℕ) → IsPath (name ∷ slice_split is_slash rest)
     → slice_split is_slash rest ≡ components_of rest
-behind_slash name [] h =
+after_slash name [] h =
     absurd
     ((All-head IsComponent [] [] (All-tail IsComponent name ([] ∷ []) h)).not_empty refl)
-behind_slash name (b ∷ rest) h = refl
+after_slash name (b ∷ rest) h = refl
 
 cut_bytes : (name rest : List ℕ) → All (λ b. b ≢ 47) name
     → IsPath (slice_split is_slash (name ++ 47 ∷ rest))
     → slice_split is_slash (name ++ 47 ∷ rest) ≡ name ∷ components_of rest
 cut_bytes name rest none h =
     let at = slice_split_at is_slash name 47 rest (no_test name none) refl in
-    at ∙ ap (λ (others : List (List ℕ)). name ∷ others) (behind_slash name rest (subst IsPath at h))
+    at ∙ ap (λ (others : List (List ℕ)). name ∷ others) (after_slash name rest (subst IsPath at h))
 
 -- all bytes that are no root are cut
 cut_some : (bytes : List ℕ) → 0 < length bytes → components_of bytes ≡ slice_split is_slash bytes

@@ -82,42 +82,42 @@ Source-from_cut text bytes rest first (Some at) is h =
     subst (λ (t : List ℕ). Writes Source t bytes rest) (sym whole)
     (unquoted_source bytes rest (subst IsUnquoted whole first) (subst (All (λ b. b ≢ 32)) both.0 none))
 
-after_source : (behind rest : List ℕ) → after_quote Source behind ≡ Some rest → behind ≡ 32 ∷ rest
+after_source : (remaining rest : List ℕ) → after_quote Source remaining ≡ Some rest → remaining ≡ 32 ∷ rest
 after_source [] rest h = absurd cc
-after_source (b ∷ behind) rest h =
+after_source (b ∷ remaining) rest h =
     by_cases (eqb b 32)
-    (λ yea. let same = some_is behind rest (rw yea at h) in rw (eqb-true b 32 yea, same) refl)
+    (λ yea. let same = some_is remaining rest (rw yea at h) in rw (eqb-true b 32 yea, same) refl)
     (λ nay. absurd (let none : None ≡ Some rest = rw nay at h in cc))
 
-after_last : (behind rest : List ℕ) → after_quote Last behind ≡ Some rest
-    → (behind ≡ []) × (rest ≡ [])
+after_last : (remaining rest : List ℕ) → after_quote Last remaining ≡ Some rest
+    → (remaining ≡ []) × (rest ≡ [])
 after_last [] rest h = (refl, sym (some_is [] rest h))
-after_last (b ∷ behind) rest h = absurd cc
+after_last (b ∷ remaining) rest h = absurd cc
 
-ended_parts : (place : Place) (read behind bytes rest : List ℕ) (end : Option (List ℕ))
-    → after_quote place behind ≡ end → with_rest read end ≡ parts bytes rest
-    → (left : List ℕ) × (parts read behind ≡ parts bytes left) × (after_quote place left ≡ Some rest)
-ended_parts place read behind bytes rest None is h = absurd cc
-ended_parts place read behind bytes rest (Some r) is h =
+ended_parts : (place : Place) (read remaining bytes rest : List ℕ) (end : Option (List ℕ))
+    → after_quote place remaining ≡ end → with_rest read end ≡ parts bytes rest
+    → (left : List ℕ) × (parts read remaining ≡ parts bytes left) × (after_quote place left ≡ Some rest)
+ended_parts place read remaining bytes rest None is h = absurd cc
+ended_parts place read remaining bytes rest (Some r) is h =
     let both = parts_are read r bytes rest h in
-    (behind, ap (λ (bs : List ℕ). parts bs behind) both.0, is ∙ ap (λ (r : List ℕ). Some r) both.1)
+    (remaining, ap (λ (bs : List ℕ). parts bs remaining) both.0, is ∙ ap (λ (r : List ℕ). Some r) both.1)
 
 -- a quoted path, from what stands after its first quote
 quoted_parts : (place : Place) (o : Option (List ℕ × List ℕ)) (bytes rest : List ℕ)
     → quoted_end place o ≡ Some (bytes, rest)
-    → (behind : List ℕ) × (o ≡ Some (bytes, behind)) × (after_quote place behind ≡ Some rest)
+    → (remaining : List ℕ) × (o ≡ Some (bytes, remaining)) × (after_quote place remaining ≡ Some rest)
 quoted_parts place None bytes rest h = absurd cc
-quoted_parts place (Some (read, behind)) bytes rest h =
-    ended_parts place read behind bytes rest (after_quote place behind) refl h
+quoted_parts place (Some (read, remaining)) bytes rest h =
+    ended_parts place read remaining bytes rest (after_quote place remaining) refl h
 
-written_source : (text inside behind bytes rest : List ℕ) → text ≡ inside ++ 34 ∷ behind
-    → Quotes inside bytes → behind ≡ 32 ∷ rest → Writes Source (34 ∷ text) bytes rest
-written_source text inside behind bytes rest is q end =
+written_source : (text inside remaining bytes rest : List ℕ) → text ≡ inside ++ 34 ∷ remaining
+    → Quotes inside bytes → remaining ≡ 32 ∷ rest → Writes Source (34 ∷ text) bytes rest
+written_source text inside remaining bytes rest is q end =
     rw (is, end) (quoted_source inside bytes rest q)
 
-written_last : (text inside behind bytes rest : List ℕ) → text ≡ inside ++ 34 ∷ behind
-    → Quotes inside bytes → (behind ≡ []) × (rest ≡ []) → Writes Last (34 ∷ text) bytes rest
-written_last text inside behind bytes rest is q end =
+written_last : (text inside remaining bytes rest : List ℕ) → text ≡ inside ++ 34 ∷ remaining
+    → Quotes inside bytes → (remaining ≡ []) × (rest ≡ []) → Writes Last (34 ∷ text) bytes rest
+written_last text inside remaining bytes rest is q end =
     rw (is, end.0, end.1) (quoted_last inside bytes q)
 
 from_quoted : (place : Place) (text bytes rest : List ℕ)

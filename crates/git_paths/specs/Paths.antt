@@ -3,18 +3,19 @@
 use Rattle.std.specs.Prelude.{ℕ, ◌<◌, ◌≤◌, Bool, ◌&&◌, not, ◌==◌, nat_le, if◌then◌else◌, List, [], ◌∷◌, ◌++◌, length, All, Option, Some, None, codes}
 use Rattle.std.specs.List.{join_with_byte, slice_split, list_any, list_all}
 use Rattle.std.specs.Str.{bytes_eq}
+use Rattle.git_model.specs.Limits.{path_bytes_limit, path_components_limit}
 use Rattle.git_model.specs.Tree.{IsEntryName}
 
--- A tree entry may have a component as its name: it has no NUL and no `/`, and is not empty, `.` or
--- `..`.
+-- A component is what a tree entry may have as its name: it has no NUL and no `/`, and is not
+-- empty, `.` or `..`.
 abbrev pub IsComponent : List ℕ → Type 0
 IsComponent name = IsEntryName name
 
--- Each component of a path is one.
+-- A list is a path if each of its elements is a component.
 abbrev pub IsPath : List (List ℕ) → Type 0
 IsPath path = All IsComponent path
 
--- Each component of a path is made of bytes.
+-- Each component of a path consists of bytes.
 abbrev pub AreOfBytes : List (List ℕ) → Type 0
 AreOfBytes path = All (All (λ b. b < 256)) path
 
@@ -26,23 +27,23 @@ joined path = join_with_byte 47 path
 abbrev pub is_slash : ℕ → Bool
 is_slash b = b == 47
 
--- the components that `/` parts in bytes; no bytes are the root
+-- the components between the slashes of some bytes; the empty text is the root
 abbrev pub components_of : List ℕ → List (List ℕ)
 components_of [] = []
 components_of (b ∷ bytes) = slice_split is_slash (b ∷ bytes)
 
--- A path of at most 16,383 bytes and 256 components is within the limits.
+-- A path is within the limits if it has at most 16,383 bytes and 256 components.
 pub record IsWithinLimits (path : List (List ℕ)) : Type 0 where
-  pub bytes : length (joined path) ≤ 16383
-  pub components : length path ≤ 256
+  pub bytes : length (joined path) ≤ path_bytes_limit
+  pub components : length path ≤ path_components_limit
 
 -- what the path q has after its prefix p, if p is a prefix of it
-abbrev pub behind : List (List ℕ) → List (List ℕ) → Option (List (List ℕ))
-behind [] q = Some q
-behind (c ∷ p) [] = None
-behind (c ∷ p) (d ∷ q) = if bytes_eq c d then behind p q else None
+abbrev pub strip_prefix : List (List ℕ) → List (List ℕ) → Option (List (List ℕ))
+strip_prefix [] q = Some q
+strip_prefix (c ∷ p) [] = None
+strip_prefix (c ∷ p) (d ∷ q) = if bytes_eq c d then strip_prefix p q else None
 
--- the bytes of a path and, after it, those of another
+-- the bytes of one path followed by another
 abbrev pub joined_both : List ℕ → List ℕ → List ℕ
 joined_both [] rest = rest
 joined_both (b ∷ top) [] = b ∷ top
@@ -62,4 +63,5 @@ is_path path = list_all is_component path
 
 -- whether a path is within the limits
 abbrev pub is_within_limits : List (List ℕ) → Bool
-is_within_limits path = nat_le (length (joined path)) 16383 && nat_le (length path) 256
+is_within_limits path =
+    nat_le (length (joined path)) path_bytes_limit && nat_le (length path) path_components_limit

@@ -13,7 +13,7 @@ letters =
 unfoldable pub byte_of_letter : ℕ → Option ℕ
 byte_of_letter letter = option_map (λ e. e.1) (find (λ e. e.0 == letter) letters)
 
--- the letter that a byte has
+-- the letter of a byte, if it has one
 unfoldable pub letter_of_byte : ℕ → Option ℕ
 letter_of_byte byte = option_map (λ e. e.0) (find (λ e. e.1 == byte) letters)
 
@@ -36,7 +36,7 @@ escape b = escape_by b (letter_of_byte b)
 abbrev pub in_quotes : List ℕ → List ℕ
 in_quotes bytes = 34 ∷ flat_map escape bytes ++ 34 ∷ []
 
--- the printed bytes: in quotes exactly where one of them is special
+-- the printed bytes: in quotes exactly if one of them is special
 unfoldable pub quoted : List ℕ → List ℕ
 quoted bytes = if list_any is_special bytes then in_quotes bytes else bytes
 
@@ -50,8 +50,8 @@ pub record IsOctal (digit : ℕ) : Type 0 where
 abbrev pub octal_value : ℕ → ℕ → ℕ → ℕ
 octal_value x y z = 64 * (x - 48) + 8 * (y - 48) + (z - 48)
 
--- What stands between the quotes, and the bytes that it means: each byte as itself, by its letter,
--- or by three octal digits.
+-- The text between the quotes, and the bytes that it means: each byte is written as itself, by its
+-- letter, or by three octal digits.
 pub data Quotes : List ℕ → List ℕ → Type 0 where
   nothing : Quotes [] []
   itself : (b : ℕ) (inside bytes : List ℕ) → b ≢ 34 → b ≢ 92 → Quotes inside bytes

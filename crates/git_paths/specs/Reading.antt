@@ -1,4 +1,4 @@
--- How a path is read from a line, from left to right, with the first fault that is met.
+-- How a path is read from a line, from left to right, with the first fault that is found.
 use Rattle.std.specs.Prelude.{◌≡◌, ℕ, ◌+◌, Bool, ◌&&◌, ◌==◌, nat_lt, nat_le, if◌then◌else◌, List, [], ◌∷◌, take, drop}
 use Rattle.std.specs.Prelude.{position, Option, Some, None, Result, Ok, Err}
 use Rattle.std.specs.Borrow.{Bor}
@@ -21,7 +21,7 @@ abbrev pub before : ℕ → Parts → Parts
 before b None = None
 before b (Some (bytes, rest)) = Some (b ∷ bytes, rest)
 
--- a letter's byte before what follows it, or else what octal digits give
+-- the byte of a letter and then what follows, or what the octal digits give if it is no letter
 abbrev pub by_letter : Option ℕ → Parts → Parts → Parts
 by_letter (Some b) after digits = before b after
 by_letter None after digits = digits
@@ -33,7 +33,7 @@ is_octal digit = nat_le 48 digit && nat_lt digit 56
 abbrev pub are_octal : ℕ → ℕ → ℕ → Bool
 are_octal x y z = is_octal x && is_octal y && is_octal z && nat_lt (octal_value x y z) 256
 
--- the bytes up to the closing quote, and what stands after it
+-- the bytes up to the closing quote, and the text after it
 unfoldable mutual
   pub unquoted : List ℕ → Parts
   unquoted [] = None
@@ -53,14 +53,15 @@ unfoldable mutual
   octals x (y ∷ z ∷ text) = if are_octal x y z then before (octal_value x y z) (unquoted text)
       else None
 
--- A byte and a rest that were taken from a text: the byte stands before what is read of the rest.
+-- A byte was taken from a text and left a rest: reading the text gives the byte, and then what
+-- reading the rest gives.
 abbrev pub TakesByte : Option (ℕ × Bor (List ℕ)) → Parts → Type 0
 TakesByte None read = read ≡ None
 TakesByte (Some (b, rest)) read = read ≡ before b (unquoted rest.now)
 
 -- ---- at a place
 
--- what stands after a quoted path
+-- the rest of a text after a quoted path
 abbrev pub after_quote : Place → List ℕ → Option (List ℕ)
 after_quote Source [] = None
 after_quote Source (b ∷ rest) = if b == 32 then Some rest else None
@@ -73,7 +74,7 @@ with_rest bytes rest = option_map (λ r. (bytes, r)) rest
 -- the bytes of a quoted path, from what was read up to its closing quote
 abbrev pub quoted_end : Place → Parts → Parts
 quoted_end place None = None
-quoted_end place (Some (bytes, behind)) = with_rest bytes (after_quote place behind)
+quoted_end place (Some (bytes, remaining)) = with_rest bytes (after_quote place remaining)
 
 -- the bytes of an unquoted path
 abbrev pub unquoted_at : Place → List ℕ → Parts
@@ -89,7 +90,7 @@ bytes_at place (b ∷ text) =
 
 -- ---- as a path
 
--- the path of some bytes, or the first rule that they break
+-- the path with some bytes, or the first rule that they break
 unfoldable pub path_of : List ℕ → Result (List (List ℕ)) Fault
 path_of bytes =
     if is_path (components_of bytes)
@@ -105,10 +106,10 @@ abbrev pub judged : Parts → Result (List (List ℕ) × List ℕ) Fault
 judged None = Err BadPath
 judged (Some (bytes, rest)) = path_and_rest (path_of bytes) rest
 
--- the path that a text begins with and what stands after it, or the fault
+-- the path that a text begins with and the rest after it, or the fault
 abbrev pub path_at : Place → List ℕ → Result (List (List ℕ) × List ℕ) Fault
 path_at place text = judged (bytes_at place text)
 
--- the path that bytes are as they stand, never quoted: gitrevisions(7), `<rev>:<path>`
+-- the path with some bytes, which are never quoted: gitrevisions(7), `<rev>:<path>`
 unfoldable pub canonical_path : List ℕ → Option (List (List ℕ))
 canonical_path bytes = if is_path (components_of bytes) then Some (components_of bytes) else None

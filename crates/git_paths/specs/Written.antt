@@ -7,13 +7,13 @@ use Rattle.git_paths.specs.declared.place.Place.TheVariants.{Source, Last}
 use Rattle.git_paths.specs.Paths.{IsPath, IsWithinLimits, joined, components_of}
 use Rattle.git_paths.specs.Quoting.{Quotes}
 
--- no quote stands first
+-- a text does not begin with a quote
 abbrev pub IsUnquoted : List ℕ → Type 0
 IsUnquoted [] = Unit {0}
 IsUnquoted (b ∷ text) = b ≢ 34
 
--- The bytes of a path, in a text that begins with them at this place, and the rest after the path.
--- A source has a space after it; a last path has nothing after it.
+-- A text begins with the bytes of a path, written as this place requires, and has the rest after
+-- the path. After a source comes a space; after a last path comes nothing.
 pub data Writes : Place → List ℕ → List ℕ → List ℕ → Type 0 where
   unquoted_source : (bytes rest : List ℕ) → IsUnquoted (bytes ++ 32 ∷ rest)
       → All (λ b. b ≢ 32) bytes
@@ -32,10 +32,10 @@ pub record BeginsWith (place : Place) (text : List ℕ) (path : List (List ℕ))
   pub limits : IsWithinLimits path
   pub written : Writes place text (joined path) rest
 
--- what a call gave: the path, and the bytes of the rest
+-- what a call answered: the path, and the bytes of the rest
 abbrev pub shown : List (List ℕ) × Bor (List ℕ) → List (List ℕ) × List ℕ
 shown r = (r.0, r.1.now)
 
--- the same of a call that gave the bytes of the path
+-- the same for a call that answered the bytes of the path
 abbrev pub bytes_shown : Vec ℕ × Bor (List ℕ) → List (List ℕ) × List ℕ
 bytes_shown r = (components_of r.0.items, r.1.now)

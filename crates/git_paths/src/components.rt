@@ -1,4 +1,4 @@
-//! The components of a path that are still to come, lent from the path.
+//! Components of a path, borrowed from the path.
 
 ghost use Rattle.std.specs.Prelude.{◌≡◌, ◌≢◌, ◌<◌, [], ◌∷◌, ℕ, length, All, slice_index, IfSome, IfNone, MatchOption};
 ghost use Rattle.std.specs.Iterator.{YieldsFirstRef, item_count};
@@ -7,7 +7,8 @@ ghost use Rattle.git_paths.specs.Paths.{IsPath, joined, components_of, is_slash}
 use crate::judging::count_components;
 use std::marker::Model;
 
-/// The components of a path that are still to come, from the root's side.
+/// Components of a path, from the root down. As an iterator it yields each one as its bytes, and
+/// holds those that are still to come.
 #[derive(Debug, Drop)]
 pub struct Components<'a> {
     bytes: &'a [u8],
@@ -24,7 +25,7 @@ impl<'a> Model for Components<'a> {
     ghost invariant = { λ c. IsPath (components_of c.bytes.now) };
 }
 
-/// Where the first slash is.
+/// The index of the first slash.
 fn slash_in(bytes: &[u8]) -> Option<usize>
     ensures none { IfNone result (All (λ b. b ≢ 47) bytes.now) }
     ensures some { IfSome result (λ at. at < length bytes.now) }
@@ -55,14 +56,14 @@ impl<'a> Components<'a> {
         self.bytes
     }
 
-    /// How many components these are.
+    /// The number of components.
     pub fn len(&self) -> usize
         ensures { result ≡ length self.now }
     {
         count_components(self.bytes)
     }
 
-    /// The first of these components and what is left after it; `None` where none is left.
+    /// The first component and the components after it, or `None` if there are no components.
     pub fn split_first(&self) -> Option<(&'a [u8], Components<'a>)>
         ensures { MatchOption result (self.now ≡ []) (λ r. self.now ≡ r.0.now ∷ r.1) }
     {

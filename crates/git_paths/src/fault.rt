@@ -9,13 +9,13 @@ use thiserror::Error;
 /// Why a path could not be read.
 #[derive(Clone, Copy, Debug, PartialEq, Eq, Error)]
 pub enum Fault {
-    /// The text is no path, or is not ended as its place asks.
+    /// The text is not a path, or the path does not end as its place requires: 10.
     #[error("bad path")]
     BadPath,
-    /// The path has more than 16,383 bytes or 256 components.
+    /// The path has more than 16,383 bytes or 256 components: 25.
     #[error("path too long")]
     Limit,
-    /// A growth was refused.
+    /// An allocation failed: 90.
     #[error("out of memory")]
     Memory,
 }

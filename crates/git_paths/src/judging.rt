@@ -12,6 +12,7 @@ const MOST_BYTES: usize = 16383;
 /// The most components of a path.
 const MOST_COMPONENTS: usize = 256;
 
+// Whether a name can be a component of a path.
 #[tactic(auto, unfolding(crate::specs::Paths::is_component))]
 pub(crate) fn is_name(name: &[u8]) -> bool
     ensures { result ≡ is_component name.now }
@@ -23,6 +24,7 @@ pub(crate) fn is_name(name: &[u8]) -> bool
         && !name.contains(&b'/')
 }
 
+// Whether bytes are those of a path.
 pub(crate) fn are_names(bytes: &[u8]) -> bool
     ensures { result ≡ is_path (components_of bytes.now) }
 {
@@ -38,12 +40,14 @@ pub(crate) fn count_components(bytes: &[u8]) -> usize
     bytes.iter().filter(|b| **b == b'/').count() + 1
 }
 
+// Whether the path with these bytes is within the limits.
 pub(crate) fn are_few(bytes: &[u8]) -> bool
     ensures { result ≡ is_within_limits (components_of bytes.now) }
 {
     bytes.len() <= MOST_BYTES && count_components(bytes) <= MOST_COMPONENTS
 }
 
+// The first rule of paths that bytes break, if any: bad path comes before limit.
 #[tactic(auto, unfolding(crate::specs::Reading::path_of))]
 pub(crate) fn judge(bytes: &[u8]) -> Result<(), Fault>
     ensures ok { OnOk result (path_of bytes.now ≡ Ok (components_of bytes.now)) }
@@ -58,7 +62,8 @@ pub(crate) fn judge(bytes: &[u8]) -> Result<(), Fault>
     Ok(())
 }
 
-/// Whether a name is a component of a path: not empty, `.` or `..`, with no NUL and no `/`.
+/// Whether a name can be a component of a path: it is not empty, `.` or `..`, and has no NUL and no
+/// `/`. Takes no memory.
 pub fn is_component(name: &[u8]) -> bool
     ensures { IsTrue result ↔ IsComponent name.now }
 {

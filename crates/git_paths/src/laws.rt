@@ -1,4 +1,6 @@
-//! Laws of paths: functions over the definitions alone, which run nothing.
+//! A law of the definitions of paths.
+//!
+//! A law is a function with an empty body: its clause states the law, and a call does nothing.
 
 ghost use Rattle.std.specs.Prelude.{◌≡◌, List, ℕ, [], Ok};
 ghost use Rattle.git_paths.specs.declared.place.Place.TheVariants.{Last};
@@ -6,7 +8,7 @@ ghost use Rattle.git_paths.specs.Paths.{AreOfBytes, IsPath, IsWithinLimits, join
 ghost use Rattle.git_paths.specs.Quoting.{quoted};
 ghost use Rattle.git_paths.specs.Reading.{path_at};
 
-/// What is printed of a path is read, as the last of its line, as the same path.
+/// A printed path within the limits, as the last part of its line, is read back as the same path.
 pub fn printed_is_read()
     ensures { (path : List (List ℕ)) → IsPath path → AreOfBytes path
         → IsWithinLimits path

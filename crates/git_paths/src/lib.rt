@@ -1,4 +1,5 @@
-//! Paths of a tree: how they are read from a stream, kept and printed.
+//! Paths of a tree: reads them from a line of git-fast-import(1), prints them as Git does, and
+//! compares, splits and joins them.
 #![tactic(auto)]
 
 mod components;

@@ -1,12 +1,12 @@
 //! A path: the components that lead from the root of a tree down to an entry.
 //!
-//! It says nothing of what stands there, and knows no limits: `read` alone keeps them. No component
-//! is empty, `.` or `..`, and none holds NUL or `/`. The value holds the bytes, with `/` between
+//! A path does not say what is there, and it has no limits: only `read` checks them. No component
+//! is empty, `.` or `..`, and none contains NUL or `/`. The value holds the bytes, with `/` between
 //! components. `a/b` has the components `a` and `b`; the root has none, and no bytes.
 
 ghost use Rattle.std.specs.Prelude.{◌≡◌, ◌↔◌, List, ℕ, [], ◌∷◌, ◌++◌, length, IsTrue, IfOk, IfSome, OnOk, OnErr, Ok, Some, is_some, true};
 ghost use Rattle.git_paths.specs.Faults.{Gives};
-ghost use Rattle.git_paths.specs.Paths.{IsComponent, IsPath, IsWithinLimits, joined, components_of, behind, is_path};
+ghost use Rattle.git_paths.specs.Paths.{IsComponent, IsPath, IsWithinLimits, joined, components_of, strip_prefix, is_path};
 ghost use Rattle.git_paths.specs.Quoting.{quoted};
 ghost use Rattle.git_paths.specs.Written.{BeginsWith, shown};
 ghost use Rattle.git_paths.specs.Reading.{path_at, canonical_path};
@@ -15,13 +15,13 @@ use crate::components::Components;
 use crate::fault::Fault;
 use crate::judging::{are_few, are_names, count_components};
 use crate::place::Place;
-use crate::prefixes::{bytes_behind, join_bytes};
+use crate::prefixes::{bytes_after, join_bytes};
 use crate::printing::quote_into;
 use crate::reading::read_bytes;
 use std::alloc::{AllocError, Global};
 use std::marker::Model;
 
-/// A path of a tree, as `a/b` or the root.
+/// A path of a tree, such as `a/b`, or the root.
 #[derive(Debug, Drop)]
 pub struct Path {
     bytes: Vec<u8>,
@@ -56,20 +56,22 @@ impl Path {
         }
     }
 
-    /// Reads the path that a text begins with, and what stands after it: git-fast-import(1), `M`,
-    /// `D`, `C` and `R`.
+    /// Reads the path that a text begins with, and answers it with the rest of the text:
+    /// git-fast-import(1), `M`, `D`, `C` and `R`.
     ///
-    /// A path that begins with a quote is quoted and ends at the next quote without a backslash.
-    /// Any other ends at the first space, if it is a source, and else with the text. After a
-    /// source stands a space, which is not part of the rest; after a last path stands nothing.
-    /// `Fault::BadPath` (10) where that is broken, an escape is unknown or above 255, or a
-    /// component is empty, `.` or `..` or holds NUL; else `Fault::Limit` (25) above 16,383 bytes or
-    /// 256 components. Takes memory for the bytes; `Fault::Memory` (90) may stand in place of any
-    /// other answer.
+    /// A path that begins with a quote is quoted, and ends at the next quote without a backslash.
+    /// An unquoted path ends at the first space if it is a source, and else at the end of the text.
+    /// After a source there must be a space, which is not part of the rest; after a last path there
+    /// must be nothing.
+    ///
+    /// `Fault::BadPath` (10) if this rule is broken, if an escape is unknown or above 255, or if a
+    /// component is empty, `.` or `..` or contains NUL. Else `Fault::Limit` (25) above 16,383 bytes
+    /// or 256 components. Takes memory for the bytes: `Fault::Memory` (90) may replace any other
+    /// answer.
     pub fn read(alloc: Global, text: &[u8], place: Place) -> Result<(Path, &[u8]), Fault>
-        // What is read is written there.
+        // A path that is answered is written there.
         ensures found { IfOk result (λ r. BeginsWith place text.now r.0 r.1.now) }
-        // What is written there is read, unless memory runs out.
+        // A path that is written there is answered, unless memory runs out.
         ensures only { (path : List (List ℕ)) (rest : List ℕ) → BeginsWith place text.now path rest
             → Gives shown result (Ok (path, rest)) }
         // Which fault it is.
@@ -115,11 +117,11 @@ impl Path {
         are_few(&self.bytes)
     }
 
-    /// Prints the path after what `out` holds, quoted where it must be: git-config(1),
-    /// core.quotePath.
+    /// Appends the path to `out`, in quotes if a byte needs them: git-config(1), core.quotePath.
+    /// The root appends nothing.
     ///
-    /// The root prints nothing. Takes memory for the growth of `out`; after `AllocError` (90) its
-    /// bytes are unchanged.
+    /// `AllocError` (90) if `out` cannot grow; its bytes are then unchanged. `Fault::from` turns
+    /// the error into `Fault::Memory`, whose `code` is 90.
     pub fn quote_into(&self, out: &mut Vec<u8>) -> Result<(), AllocError>
         ensures ok { OnOk result (out.new.items ≡ out.old.items ++ quoted (joined self.now)) }
         ensures err { OnErr result (out.new.items ≡ out.old.items) }
@@ -127,19 +129,19 @@ impl Path {
         quote_into(self.as_bytes(), out)
     }
 
-    /// The path that bytes are as they stand, never quoted, or `None` where a component is empty,
-    /// `.` or `..` or holds NUL: gitrevisions(7), `<rev>:<path>`. No bytes are the root. It knows
-    /// no limits.
+    /// Reads a path that is never quoted: gitrevisions(7), `<rev>:<path>`. The empty text is the
+    /// root. There are no limits on the path.
     ///
-    /// Takes memory for the bytes.
+    /// `None` if a component is empty, `.` or `..` or contains NUL. `AllocError` (90) if there is
+    /// no memory for the bytes.
     pub fn from_canonical(alloc: Global, bytes: &[u8]) -> Result<Option<Path>, AllocError>
-        // What is given has these bytes.
+        // A path that is answered has these bytes.
         ensures found { IfOk result (λ o. IfSome o (λ path. IsPath path
             × (joined path ≡ bytes.now))) }
-        // A path with these bytes is given, unless memory runs out.
+        // A path with these bytes is answered, unless memory runs out.
         ensures only { (path : List (List ℕ)) → IsPath path → joined path ≡ bytes.now
             → IfOk result (λ o. o ≡ Some path) }
-        // Which it is.
+        // Which answer it is.
         ensures exact { IfOk result (λ o. o ≡ canonical_path bytes.now) }
     {
         Path::canonical_of(alloc, bytes)
@@ -163,31 +165,34 @@ impl Path {
         Components::of(&self.bytes)
     }
 
-    /// What the path has after its prefix `top`, or `None` where `top` is no prefix of it; nothing
-    /// is left after the path itself.
-    pub fn behind(&self, top: &Path) -> Option<Components<'_>>
-        ensures { result ≡ behind top.now self.now }
+    /// The components of the path after its prefix `top`, or `None` if `top` is not a prefix of it.
+    /// If `top` is the path itself, no components are left.
+    pub fn strip_prefix(&self, top: &Path) -> Option<Components<'_>>
+        ensures { result ≡ strip_prefix top.now self.now }
     {
-        let rest = bytes_behind(&top.bytes, &self.bytes)?;
+        let rest = bytes_after(&top.bytes, &self.bytes)?;
         Some(Components::of(rest))
     }
 
-    /// Whether the path is `top` or lies below it.
+    /// Whether the path is `top` or is below it.
     pub fn is_at_or_below(&self, top: &Path) -> bool
-        ensures { result ≡ is_some (behind top.now self.now) }
+        ensures { result ≡ is_some (strip_prefix top.now self.now) }
     {
-        bytes_behind(&top.bytes, &self.bytes).is_some()
+        bytes_after(&top.bytes, &self.bytes).is_some()
     }
 
-    /// This path and, after it, the components of another. It knows no limits. Takes memory for
-    /// the bytes.
+    /// This path followed by more components. There are no limits on the path.
+    ///
+    /// `AllocError` (90) if there is no memory for the bytes.
     pub fn join(&self, alloc: Global, rest: &Components<'_>) -> Result<Path, AllocError>
         ensures { IfOk result (λ path. path ≡ self.now ++ rest.now) }
     {
         Ok(Path::of(join_bytes(alloc, self.as_bytes(), rest.as_bytes())?))
     }
 
-    /// This path and, after it, one component. It knows no limits. Takes memory for the bytes.
+    /// This path followed by one more component. There are no limits on the path.
+    ///
+    /// `AllocError` (90) if there is no memory for the bytes.
     pub fn child(&self, alloc: Global, name: &[u8]) -> Result<Path, AllocError>
         requires { IsComponent name.now }
         ensures { IfOk result (λ path. path ≡ self.now ++ name.now ∷ []) }
@@ -195,7 +200,7 @@ impl Path {
         self.join(alloc, &Components::of(name))
     }
 
-    /// A copy of the path. Takes memory for its bytes.
+    /// A copy of the path. `AllocError` (90) if there is no memory for its bytes.
     pub fn copied(&self, alloc: Global) -> Result<Path, AllocError>
         ensures { IfOk result (λ path. path ≡ self.now) }
     {

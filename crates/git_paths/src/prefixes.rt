@@ -2,16 +2,16 @@
 
 ghost use Rattle.std.specs.Prelude.{◌≡◌, ◌++◌, IfOk, is_some};
 ghost use Rattle.std.specs.Option.{option_map};
-ghost use Rattle.git_paths.specs.Paths.{IsPath, components_of, behind, joined_both};
+ghost use Rattle.git_paths.specs.Paths.{IsPath, components_of, strip_prefix, joined_both};
 
 use std::alloc::{AllocError, Global};
 
-/// The bytes of what a path has after its prefix.
-pub(crate) fn bytes_behind<'a>(top: &[u8], bytes: &'a [u8]) -> Option<&'a [u8]>
+/// The bytes of a path after its prefix `top` and the slash between them.
+pub(crate) fn bytes_after<'a>(top: &[u8], bytes: &'a [u8]) -> Option<&'a [u8]>
     requires top { IsPath (components_of top.now) }
     requires path { IsPath (components_of bytes.now) }
     ensures { option_map (λ r. components_of r.now) result
-        ≡ behind (components_of top.now) (components_of bytes.now) }
+        ≡ strip_prefix (components_of top.now) (components_of bytes.now) }
 {
     if top.is_empty() {
         return Some(bytes);
@@ -23,7 +23,7 @@ pub(crate) fn bytes_behind<'a>(top: &[u8], bytes: &'a [u8]) -> Option<&'a [u8]>
     }
 }
 
-/// The bytes of one path after another.
+/// The bytes of one path followed by another.
 pub(crate) fn join_bytes(alloc: Global, top: &[u8], rest: &[u8]) -> Result<Vec<u8>, AllocError>
     ensures { IfOk result (λ v. v.items ≡ joined_both top.now rest.now) }
 {

@@ -1,6 +1,6 @@
 //! How the bytes of a path are printed: git-config(1), core.quotePath.
 //!
-//! Nothing here knows what a path is: these are the bytes of one, or of one entry's name.
+//! The bytes may be those of a path or of one entry's name.
 
 ghost use Rattle.std.specs.Prelude.{◌≡◌, [], ◌∷◌, ◌++◌, take, vec_len, OnOk, OnErr};
 ghost use Rattle.std.specs.List.{flat_map};
@@ -59,12 +59,14 @@ fn write_quoted(bytes: &[u8], out: &mut Vec<u8>) -> Result<(), AllocError>
     Ok(())
 }
 
-/// Prints bytes of a path, or of an entry's name, after what `out` holds: git-config(1),
-/// core.quotePath.
+/// Appends the bytes of a path, or of an entry's name, to `out`: git-config(1), core.quotePath.
 ///
-/// They stand in quotes exactly where they hold a quote, a backslash, a byte below 0x20 or one from
-/// 0x7f on; each of these is then a backslash and its letter or three octal digits. Takes memory
-/// for the growth of `out`; after `AllocError` (90) its bytes are unchanged.
+/// The bytes are put in quotes exactly if they contain a quote, a backslash, a byte below 0x20 or
+/// one from 0x7f on. Each of these is then written as a backslash and its letter or three octal
+/// digits.
+///
+/// `AllocError` (90) if `out` cannot grow; its bytes are then unchanged. `Fault::from` turns the
+/// error into `Fault::Memory`, whose `code` is 90.
 #[tactic(auto, unfolding(crate::specs::Quoting::quoted))]
 pub fn quote_into(bytes: &[u8], out: &mut Vec<u8>) -> Result<(), AllocError>
     ensures ok { OnOk result (out.new.items ≡ out.old.items ++ quoted bytes.now) }

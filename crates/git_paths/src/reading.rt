@@ -13,7 +13,7 @@ use crate::place::Place;
 use crate::unquoting::unquote;
 use std::alloc::Global;
 
-fn behind_quote(place: Place, text: &[u8]) -> Option<&[u8]>
+fn past_quote(place: Place, text: &[u8]) -> Option<&[u8]>
     ensures { option_copied result ≡ after_quote place text.now }
 {
     match place {
@@ -47,8 +47,8 @@ fn cut(place: Place, text: &[u8]) -> Option<(&[u8], &[u8])>
 fn read_quoted(alloc: Global, inside: &[u8], place: Place) -> Result<(Vec<u8>, &[u8]), Fault>
     ensures { Gives bytes_shown result (judged (quoted_end place (unquoted inside.now))) }
 {
-    let (bytes, behind) = unquote(alloc, inside)?;
-    let rest = behind_quote(place, behind).ok_or(Fault::BadPath)?;
+    let (bytes, remaining) = unquote(alloc, inside)?;
+    let rest = past_quote(place, remaining).ok_or(Fault::BadPath)?;
     judge(&bytes)?;
     Ok((bytes, rest))
 }
@@ -61,7 +61,7 @@ fn read_unquoted(alloc: Global, text: &[u8], place: Place) -> Result<(Vec<u8>, &
     Ok((Vec::from_slice(alloc, bytes)?, rest))
 }
 
-/// The bytes of the path that a text begins with, and what stands after it.
+/// The bytes of the path that a text begins with, and the rest of the text after it.
 pub(crate) fn read_bytes(
     alloc: Global,
     text: &[u8],

@@ -1,4 +1,4 @@
-//! What stands between the quotes of a quoted path: git-fast-import(1), on C-style quoting.
+//! The text between the quotes of a quoted path: git-fast-import(1), on C-style quoting.
 
 ghost use Rattle.std.specs.Prelude.{◌≡◌, ◌≢◌, ◌<◌, ◌≤◌, ◌∷◌, length, IfSome, IfNone, true, false};
 ghost use Rattle.std.specs.Option.{ok_or};
@@ -66,29 +66,29 @@ fn escape_at(text: &[u8]) -> Option<(u8, &[u8])>
     }
 }
 
-fn byte_at(first: u8, behind: &[u8]) -> Option<(u8, &[u8])>
+fn byte_at(first: u8, remaining: &[u8]) -> Option<(u8, &[u8])>
     requires { first ≢ 34 }
-    ensures read { TakesByte result (unquoted (first ∷ behind.now)) }
-    ensures shorter { IfSome result (λ r. length r.1.now ≤ length behind.now) }
+    ensures read { TakesByte result (unquoted (first ∷ remaining.now)) }
+    ensures shorter { IfSome result (λ r. length r.1.now ≤ length remaining.now) }
 {
     if first == b'\\' {
-        escape_at(behind)
+        escape_at(remaining)
     } else {
-        Some((first, behind))
+        Some((first, remaining))
     }
 }
 
-/// The bytes up to the closing quote, and what stands after it.
+/// The bytes up to the closing quote, and the text after it.
 pub(crate) fn unquote(alloc: Global, text: &[u8]) -> Result<(Vec<u8>, &[u8]), Fault>
     ensures { Gives (λ r. (r.0.items, r.1.now)) result (ok_or (unquoted text.now) BadPath) }
 {
     let mut bytes = Vec::new(alloc);
     let mut rest = text;
-    'bytes: while let [first, behind @ ..] = rest {
+    'bytes: while let [first, remaining @ ..] = rest {
         if *first == b'"' {
-            return Ok((bytes, behind));
+            return Ok((bytes, remaining));
         }
-        let (byte, after) = byte_at(*first, behind).ok_or(Fault::BadPath)?;
+        let (byte, after) = byte_at(*first, remaining).ok_or(Fault::BadPath)?;
         bytes.push(byte)?;
         rest = after;
     }

@@ -1,11 +1,11 @@
-//! What is counted of readers and writers that fail at a chosen call.
+//! The counts of readers and writers that fail at a chosen call, and buffers that are filled.
 
 use byte_devices::{Counted, FailingReader, FailingWriter, FillFault, fill};
 use std::alloc::Global;
 use std::io;
 use std::io::{Read, Write};
 
-// What is written in turn, and how many bytes of it are taken, none where the call fails.
+// Texts that are written in turn, and how many bytes of each are taken: `None` if the call fails.
 type Writes<'a> = &'a [(&'a [u8], Option<usize>)];
 
 const TO_A_FAILING_WRITER: Writes<'static> = &[
@@ -29,7 +29,7 @@ fn counts_of<T>(device: &Counted<T>) -> (u64, u64, u64) {
     (device.calls(), device.faults(), device.passed())
 }
 
-// Whether reads of three bytes each give so many.
+// Whether reads into a buffer of three bytes give these counts.
 fn gives<R: Read>(reader: &mut Counted<R>, counts: &[Option<usize>]) -> bool {
     for count in counts {
         let mut buf = [0; 3];
@@ -67,7 +67,7 @@ fn is_counted_in_writes() -> bool {
     takes(&mut writer, TO_TWO_BYTES) && counts_of(&writer) == (3, 1, 2)
 }
 
-// Whether a room of three bytes is filled from five, and then no more.
+// Whether a buffer of three bytes is filled from five bytes, and not a second time.
 fn is_filled_once(reader: &mut Counted<&[u8]>, room: &mut [u8; 3]) -> bool {
     let is_filled = fill(reader, room) == Ok(()) && &*room == b"hel";
     is_filled && fill(reader, room) == Err(FillFault::Ended) && &*room == b"lol"
@@ -98,4 +98,9 @@ fn counts_writes_and_those_that_fail_or_take_nothing_and_their_bytes(rt: HostRun
 #[test]
 fn fills_a_room_from_reads_of_any_size(rt: HostRuntime) {
     assert!(rt; fills_a_room() && fails_as_its_device());
+}
+
+#[test]
+fn numbers_its_faults(rt: HostRuntime) {
+    assert!(rt; (FillFault::Ended.code(), FillFault::Failed.code()) == (51, 68));
 }

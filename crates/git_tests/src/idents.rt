@@ -1,4 +1,4 @@
-//! Idents beside what git fast-import writes, and the numbers of their faults.
+//! Idents compared with what git fast-import writes, and the numbers of their faults.
 
 use git_names::{Ident, IdentFault, is_written_ident};
 use std::alloc::Global;
@@ -40,7 +40,7 @@ fn is_taken(alloc: Global, text: &[u8]) -> bool {
     matches!(Ident::from_written(alloc, text), Ok(Some(_)))
 }
 
-// The first text that is read otherwise, by its place.
+// The index of the first text that is read differently.
 fn first_misread(alloc: Global) -> Option<usize> {
     for (place, (text, code, written, seconds)) in READ.iter().enumerate() {
         if !is_read_as(alloc, text, *code, written, *seconds) {

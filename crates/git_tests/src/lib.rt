@@ -1,4 +1,4 @@
-//! Tests of the crates of devices, names, paths and objects. Nothing else stands here.
+//! Tests of byte_devices, git_names, git_paths and git_objects. There is no other code here.
 #![tactic(auto)]
 
 #[cfg(test)]

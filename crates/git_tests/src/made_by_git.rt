@@ -9,8 +9,8 @@ use git_objects::{
 };
 use std::alloc::Global;
 
-// Objects of each kind are one text, with `;` between two of them: the 40 digits of the name of each,
-// and its contents.
+// The objects of each kind are in one text, with `;` between two of them. Each is written as the 40
+// digits of its name and then its contents.
 const COMMITS: &[u8] = b"ff412f8fe7dc86624567e8ebe1abe8cee4058709\
     tree 2e81171448eb9f2ee3821e3d447aa6b2fe3ddba1\n\
     author A U Thor <author@example.com> 1112911993 -0700\n\
@@ -222,7 +222,7 @@ fn goes(alloc: Global, kind: Kind, made: &[u8]) -> bool {
     }
 }
 
-// The first object of a text, by its place, that goes otherwise.
+// The index of the first object of a text for which this does not hold.
 fn first_otherwise(alloc: Global, kind: Kind, all: &[u8]) -> Option<usize> {
     for (place, made) in all.split(|byte| *byte == b';').enumerate() {
         if !goes(alloc, kind, made) {

@@ -1,4 +1,4 @@
-//! Object names, beside `git hash-object` and the examples of FIPS 180-4.
+//! Object names compared with those of `git hash-object`, and digests with examples of FIPS 180-4.
 
 use git_names::{Kind, Name, Naming, Sha1Naming, TailNaming, name_of};
 use std::alloc::Global;
@@ -28,7 +28,7 @@ const NAMED: &[(Kind, &[u8], &[u8; 40])] = &[
     ),
 ];
 
-// FIPS 180-4's examples of one block and of two.
+// Examples of FIPS 180-4 with one block and with two.
 const DIGESTED: &[(&[u8], &[u8; 40])] = &[
     (b"abc", b"a9993e364706816aba3e25717850c26c9cd0d89d"),
     (
@@ -37,7 +37,7 @@ const DIGESTED: &[(&[u8], &[u8; 40])] = &[
     ),
 ];
 
-// Whether contents have the name of these digits.
+// Whether contents have the name with these digits.
 fn is_named<N: Naming>(
     alloc: Global,
     naming: &N,
@@ -51,7 +51,7 @@ fn is_named<N: Naming>(
     }
 }
 
-// The first contents that are named otherwise, by their place.
+// The index of the first contents that get another name.
 fn first_named_otherwise(alloc: Global) -> Option<usize> {
     for (place, (kind, contents, digits)) in NAMED.iter().enumerate() {
         if !is_named(alloc, &Sha1Naming, *kind, contents, digits) {
@@ -61,7 +61,7 @@ fn first_named_otherwise(alloc: Global) -> Option<usize> {
     None
 }
 
-// The first message that is digested otherwise, by its place.
+// The index of the first message that gets another digest.
 fn first_digested_otherwise() -> Option<usize> {
     for (place, (message, digits)) in DIGESTED.iter().enumerate() {
         if Name::from_bytes(Sha1Naming.digest(message)).to_hex() != **digits {

@@ -1,4 +1,4 @@
-//! Trees and tags that are refused, beside those that are read.
+//! Trees and tags that are refused, and similar ones that are read.
 
 use git_objects::{
     FileMode, TreeEntry, is_entry_name, mode_digits, read_mode, read_tag, read_tree,
@@ -10,7 +10,7 @@ use std::cmp::Ordering;
 const THREE: &[u8; 90] =
     b"100644 a\0oooooooooooooooooooo100644 a.txt\0oooooooooooooooooooo40000 a\0oooooooooooooooooooo";
 
-// The last two of them: `.` is below the slash that a directory's name is compared with.
+// The last two of them: `.` is less than the slash with which a directory's name is compared.
 const FILE_FIRST: &[u8] = b"100644 a.txt\0oooooooooooooooooooo40000 a\0oooooooooooooooooooo";
 
 // Which texts are trees.
@@ -40,7 +40,7 @@ const TAGS: &[(&[u8], bool)] = &[
     ),
 ];
 
-// Whether contents are those of a tree; none where memory ran out.
+// Whether contents are those of a tree; `None` if memory ran out.
 fn is_tree(alloc: Global, contents: &[u8]) -> Option<bool> {
     match read_tree(alloc, contents) {
         Ok(entries) => Some(entries.is_some()),
@@ -66,7 +66,7 @@ fn are_in_order(entries: &[TreeEntry<'_>]) -> bool {
     }
 }
 
-// Whether a file comes before a directory whose name it begins with.
+// Whether a file comes before a directory whose name is a prefix of the file's name.
 fn has_the_file_first(alloc: Global) -> bool {
     match read_tree(alloc, FILE_FIRST) {
         Ok(Some(entries)) => are_in_order(&entries),
@@ -74,7 +74,7 @@ fn has_the_file_first(alloc: Global) -> bool {
     }
 }
 
-// The first text that is a tree or none against the table, by its place.
+// The index of the first text for which the table is wrong.
 fn first_tree_otherwise(alloc: Global) -> Option<usize> {
     for (place, (contents, is_well)) in TREES.iter().enumerate() {
         if is_tree(alloc, contents) != Some(*is_well) {
@@ -84,7 +84,7 @@ fn first_tree_otherwise(alloc: Global) -> Option<usize> {
     None
 }
 
-// The same of tags.
+// The same for tags.
 fn first_tag_otherwise(alloc: Global) -> Option<usize> {
     for (place, (contents, is_well)) in TAGS.iter().enumerate() {
         if is_tag(alloc, contents) != Some(*is_well) {

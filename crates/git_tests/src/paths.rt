@@ -1,9 +1,9 @@
-//! Paths: read, printed, taken apart and put together, each beside bytes derived by hand.
+//! Paths are read, printed, split and joined, and compared with bytes that were derived by hand.
 
 use git_paths::{Path, Place, is_component, quote_into};
 use std::alloc::{AllocError, Global};
 
-// A quoted path and its bytes, which are printed so.
+// Quoted paths and their bytes, which are printed in that form.
 const QUOTED: &[(&[u8], &[u8])] = &[
     (b"\"a\\303\\251\"", b"a\xc3\xa9"),
     (
@@ -12,7 +12,7 @@ const QUOTED: &[(&[u8], &[u8])] = &[
     ),
 ];
 
-// A source, the bytes of its path, and what stands after its space.
+// Sources, the bytes of their paths, and what comes after the space.
 const SOURCES: &[(&[u8], &[u8], &[u8])] = &[
     (b"a/b c d", b"a/b", b"c d"),
     (b"\"a b\" c", b"a b", b"c"),
@@ -38,10 +38,10 @@ const BAD_PATHS: &[&[u8]] = &[
 
 const BAD_SOURCES: &[&[u8]] = &[b"a", b"\"a\"", b"\"a\"b c"];
 
-// What stands around a path of so many bytes, and the number of the answer.
+// The quote around a path, the number of its bytes, and the number of the answer.
 const LONG: &[(&[u8], usize, u16)] = &[(b"", 16383, 0), (b"", 16384, 25), (b"\"", 16383, 0)];
 
-// So many components, the number of the answer, and whether such a path is within the limits.
+// The number of components, the number of the answer, and whether such a path is within the limits.
 const DEEP: &[(usize, u16, bool)] = &[(256, 0, true), (257, 25, false)];
 
 const COMPONENTS: &[&[u8]] = &[b"a", b"bc", b"d"];
@@ -53,7 +53,7 @@ fn read_last(alloc: Global, text: &[u8]) -> Option<Path> {
     }
 }
 
-// The number of the answer to this text, 0 where it is read.
+// The number of the answer to this text, 0 if it is read.
 fn code_of(alloc: Global, text: &[u8], place: Place) -> u16 {
     match Path::read(alloc, text, place) {
         Ok(_) => 0,
@@ -61,7 +61,7 @@ fn code_of(alloc: Global, text: &[u8], place: Place) -> u16 {
     }
 }
 
-// Whether a path has these bytes and is printed so, after what stands there.
+// Whether a path has these bytes and is printed in this form, after what was there before.
 fn is_printed(alloc: Global, path: &Path, bytes: &[u8], printed: &[u8]) -> bool {
     let mut out = Vec::new(alloc);
     out.extend_from_slice(b"-").is_ok()
@@ -79,12 +79,12 @@ fn is_read_and_printed(alloc: Global, text: &[u8], bytes: &[u8]) -> bool {
 
 fn ends_at(alloc: Global, text: &[u8], bytes: &[u8], rest: &[u8]) -> bool {
     match Path::read(alloc, text, Place::Source) {
-        Ok((path, behind)) => path.as_bytes() == bytes && behind == rest,
+        Ok((path, left)) => path.as_bytes() == bytes && left == rest,
         Err(_) => false,
     }
 }
 
-// The first quoted path that is read or printed otherwise, by its place.
+// The index of the first quoted path that is read or printed differently.
 fn first_misprinted(alloc: Global) -> Option<usize> {
     for (place, (text, bytes)) in QUOTED.iter().enumerate() {
         if !is_read_and_printed(alloc, text, bytes) {
@@ -94,7 +94,7 @@ fn first_misprinted(alloc: Global) -> Option<usize> {
     None
 }
 
-// The first source that is read otherwise, by its place.
+// The index of the first source that is read differently.
 fn first_source_misread(alloc: Global) -> Option<usize> {
     for (place, (text, bytes, rest)) in SOURCES.iter().enumerate() {
         if !ends_at(alloc, text, bytes, rest) {
@@ -104,7 +104,7 @@ fn first_source_misread(alloc: Global) -> Option<usize> {
     None
 }
 
-// The first of these texts that is not refused as a bad path, by its place.
+// The index of the first of these texts that is not refused as a bad path.
 fn first_not_refused(alloc: Global, texts: &[&[u8]], place: Place) -> Option<usize> {
     for (number, text) in texts.iter().enumerate() {
         if code_of(alloc, text, place) != 10 {
@@ -137,7 +137,7 @@ fn refuses_bad_sources_as_ten(rt: HostRuntime) {
     );
 }
 
-// Whether there was room for a path of so many components `a`.
+// Appends a path of this many components `a`; false if memory ran out.
 fn is_deep_path(text: &mut Vec<u8>, components: usize) -> bool {
     for i in 0..components {
         let letters = if i > 0 {
@@ -161,7 +161,8 @@ fn is_known_as(alloc: Global, bytes: &[u8], components: usize, within: bool) -> 
     }
 }
 
-// Whether a path of so many components is answered so, and one past the limits is known as such.
+// Whether reading a path of this many components gives this number, and the path knows whether it
+// is within the limits.
 fn is_deep(alloc: Global, components: usize, code: u16, within: bool) -> bool {
     let mut text = Vec::new(alloc);
     is_deep_path(&mut text, components)
@@ -177,7 +178,7 @@ fn is_long(alloc: Global, quote: &[u8], bytes: usize, code: u16) -> bool {
         && code_of(alloc, &text, Place::Last) == code
 }
 
-// Whether paths of as many components as may be are read, and no larger ones.
+// Whether paths are read up to the limit on components, and not past it.
 fn are_as_deep(alloc: Global) -> bool {
     for (components, code, within) in DEEP {
         if !is_deep(alloc, *components, *code, *within) {
@@ -187,7 +188,7 @@ fn are_as_deep(alloc: Global) -> bool {
     true
 }
 
-// The same of bytes.
+// The same for the limit on bytes.
 fn are_as_long(alloc: Global) -> bool {
     for (quote, bytes, code) in LONG {
         if !is_long(alloc, quote, *bytes, *code) {
@@ -211,7 +212,7 @@ fn has_three_components(alloc: Global, path: &Path) -> bool {
     }
 }
 
-// Whether they are counted, and the first stands apart.
+// Whether the components are counted, and the first is split off.
 fn is_split(path: &Path) -> bool {
     let components = path.components();
     match components.split_first() {
@@ -232,9 +233,9 @@ fn has_bytes(path: Result<Path, AllocError>, bytes: &[u8]) -> bool {
     }
 }
 
-// Whether what stands below the path `a` is `bc/d`, and is put below this one.
+// Whether the components after the prefix `a` are `bc/d`, and can be joined to another path.
 fn is_joined(alloc: Global, path: &Path, top: &Path, other: &Path) -> bool {
-    match path.behind(top) {
+    match path.strip_prefix(top) {
         Some(rest) => {
             rest.as_bytes() == b"bc/d".as_slice()
                 && has_bytes(other.join(alloc, &rest), b"x y/bc/d")
@@ -254,7 +255,7 @@ fn is_as_its_copy(alloc: Global, path: &Path) -> bool {
     }
 }
 
-// Whether the path `a/bc/d` comes apart, and together below this one.
+// Whether the path `a/bc/d` can be split, and its components joined to another path.
 fn comes_apart(alloc: Global, path: &Path, top: &Path, other: &Path) -> bool {
     has_three_components(alloc, path)
         && is_split(path)
@@ -283,7 +284,7 @@ fn a_path_comes_apart_and_together(rt: HostRuntime) {
     assert!(rt; are_read_and_come_apart(rt.alloc()) && is_root_alone(rt.alloc()));
 }
 
-// Paths of bytes: `.` is below the slash, so `a.txt` comes before `a/x` and is not below `a`.
+// Paths compare as bytes: `.` is less than `/`, so `a.txt` comes before `a/x`. It is not below `a`.
 fn are_ordered(file: &Path, below: &Path, top: &Path) -> bool {
     file < below && file != below && below.is_at_or_below(top) && !file.is_at_or_below(top)
 }
@@ -303,7 +304,7 @@ fn paths_are_ordered_by_their_bytes(rt: HostRuntime) {
     assert!(rt; are_read_and_ordered(rt.alloc()));
 }
 
-// Whether bytes are those of a canonical path; none where memory ran out.
+// Whether bytes are those of a canonical path; `None` if memory ran out.
 fn is_canonical(alloc: Global, bytes: &[u8]) -> Option<bool> {
     match Path::from_canonical(alloc, bytes) {
         Ok(Some(path)) => Some(path.as_bytes() == bytes),

@@ -1,4 +1,4 @@
-//! Ref names: `git check-ref-format` says the same of each text that begins with `refs/`.
+//! Ref names: `git check-ref-format` gives the same answer for each text that begins with `refs/`.
 
 use git_names::{RefName, RefNameFault, is_ref_name};
 use std::alloc::Global;
@@ -32,7 +32,7 @@ const JUDGED: &[(&[u8], bool)] = &[
     (b"refs/namespaces/x/refs/heads/y", false),
 ];
 
-// The beginning of a name, how often `x` stands after it, its end, and the number of the answer.
+// The beginning of a name, how many `x` follow it, its end, and the number of the answer.
 const READ: &[(&[u8], usize, &[u8], u16)] = &[
     (b"refs/heads/main", 0, b"", 0),
     (b"HEAD", 0, b"", 0),
@@ -44,7 +44,7 @@ const READ: &[(&[u8], usize, &[u8], u16)] = &[
     (b"main", 0, b"", 11),
 ];
 
-// The number of the answer to this text, 0 where it is read.
+// The number of the answer to this text, 0 if it is read.
 fn code_of(alloc: Global, text: &[u8]) -> u16 {
     match RefName::read(alloc, text) {
         Ok(_) => 0,
@@ -67,7 +67,7 @@ fn is_as_its_copy(alloc: Global, name: &RefName) -> bool {
     }
 }
 
-// Whether a name is read that has its bytes, is as its copy, and is HEAD or no HEAD.
+// Whether a text is read as a name that has its bytes, equals its copy, and is or is not HEAD.
 fn reads(alloc: Global, text: &[u8], is_head: bool) -> bool {
     match RefName::read(alloc, text) {
         Ok(name) => {
@@ -92,7 +92,7 @@ fn is_before(alloc: Global, text: &[u8], second: &[u8]) -> bool {
     }
 }
 
-// The first text that is judged otherwise, by its place.
+// The index of the first text that is judged differently.
 fn first_misjudged() -> Option<usize> {
     for (place, (text, is_well)) in JUDGED.iter().enumerate() {
         if is_ref_name(text) != *is_well {
@@ -102,7 +102,7 @@ fn first_misjudged() -> Option<usize> {
     None
 }
 
-// The first text that is answered otherwise, by its place.
+// The index of the first text that gets another answer.
 fn first_misread(alloc: Global) -> Option<usize> {
     for (place, (begin, count, end, code)) in READ.iter().enumerate() {
         if !is_answered(alloc, begin, *count, end, *code) {

@@ -1,5 +1,5 @@
 -- What a repository exports, imported from a reader that has it whole.
-use Rattle.std.proofs.Common.{◌≡◌, ℕ, inl, inr, Bool, true, false, cond, List, [], ◌∷◌, ◌++◌, Option, None, Some, Result, Ok, Err, refl, sym, ap, subst, ◌∙◌, append-nil, append_assoc}
+use Rattle.std.proofs.Common.{◌≡◌, ℕ, inl, inr, Bool, true, false, List, [], ◌∷◌, ◌++◌, Option, None, Some, Result, Ok, Err, refl, sym, ap, subst, ◌∙◌, append-nil}
 use Rattle.std.specs.Prelude.{◌⊎◌}
 use Rattle.std.specs.Io.KnownBytes.{Appends, Consumes, Keeps, IsAtEnd}
 use Rattle.git_model.specs.Repository.{Repository}
@@ -15,7 +15,7 @@ use Rattle.tenant_service.specs.Holding.{empty_repository}
 use Rattle.tenant_service.proofs.ExportLemmas.{EndsWell, export-ends}
 use Rattle.gitpool.specs.declared.import_fault.ImportFault.{ImportFault}
 use Rattle.gitpool.specs.declared.import_fault.ImportFault.TheVariants as fault
-use Rattle.gitpool.specs.Import.{IsImported, IsGivenUp, IsStopped, IsSettled, Imports, Unkept, end_of, outcome_of, printed_by, printed_so_far}
+use Rattle.gitpool.specs.Import.{IsImported, IsGivenUp, IsStopped, IsSettled, Imports, AnyEffect, end_of, outcome_of, printed_by, printed_so_far}
 use Rattle.gitpool.specs.Exports.{HasExport, TakesExport}
 use Rattle.gitpool.proofs.StreamLemmas.{stream-first}
 
@@ -91,7 +91,7 @@ module _ (digest : List ℕ → List ℕ) (names : AnswersNames digest) (reposit
   at-end text bytes known p (inr settled) = inr settled
 
   import-well : (reader reader' writer writer' : Device) (end : Option ℕ) → HasExport reader.known repository
-      → IsImported digest empty_repository Unkept reader reader' writer writer' end → (end ≡ None) × Keeps writer.known writer'.known
+      → IsImported digest empty_repository AnyEffect reader reader' writer writer' end → (end ≡ None) × Keeps writer.known writer'.known
   import-well reader reader' writer writer' end has i =
       let p = part text reader.known reader'.known i.bytes has i.read.consumed in
       let same = whole i.bytes p.rest p.parts (at-end text i.bytes reader'.known p i.last) in (
@@ -100,7 +100,7 @@ module _ (digest : List ℕ → List ℕ) (names : AnswersNames digest) (reposit
       )
 
   given-up : (reader reader' writer writer' : Device) → HasExport reader.known repository
-      → IsGivenUp digest empty_repository Unkept reader reader' writer writer' → Keeps writer.known writer'.known
+      → IsGivenUp digest empty_repository AnyEffect reader reader' writer writer' → Keeps writer.known writer'.known
   given-up reader reader' writer writer' has g = by g.at_end refl
     where
       p : IsPart text reader'.known g.bytes
@@ -116,7 +116,7 @@ module _ (digest : List ℕ → List ℕ) (names : AnswersNames digest) (reposit
           (ap (printed_so_far digest empty_repository g.bytes) is ∙ none b is) g.written
 
   stopped : (reader reader' writer writer' : Device) → HasExport reader.known repository
-      → IsStopped digest empty_repository Unkept reader reader' writer writer' → Keeps writer.known writer'.known
+      → IsStopped digest empty_repository AnyEffect reader reader' writer writer' → Keeps writer.known writer'.known
   stopped reader reader' writer writer' has s =
       let p = part text reader.known reader'.known s.bytes has s.read.consumed in
       front-none writer.known writer'.known (outcome_of digest s.bytes).replies (none-printed s.bytes p.rest p.parts) s.written

@@ -1,9 +1,9 @@
 -- What an import has done so far.
-use Rattle.std.proofs.Common.{◌≡◌, ◌≢◌, ℕ, ◌+◌, ◌-◌, ◌^◌, ◌<◌, ◌≤◌, inl, inr, Bool, true, false, List, [], ◌∷◌, ◌++◌, length, take, codes, Option, None, Some, Result, Ok, Err, refl, sym, ap, subst, ◌∙◌, append_assoc, append-nil, arith}
+use Rattle.std.proofs.Common.{◌≡◌, ◌≢◌, ℕ, ◌+◌, ◌-◌, ◌^◌, ◌<◌, ◌≤◌, inl, inr, Bool, true, false, List, [], ◌∷◌, ◌++◌, length, take, codes, Option, None, Some, Result, Ok, Err, refl, sym, ap, subst, ◌∙◌, append-nil, arith}
 use Rattle.std.proofs.lemmas.List.{length-append}
 use Rattle.std.specs.Io.KnownBytes.{Appends, Consumes, Keeps, IsAtEnd}
 use Rattle.git_model.specs.Repository.{Repository}
-use Rattle.import_session.specs.Stream.{Refused, Standing, End as StreamEnd, finished}
+use Rattle.import_session.specs.Stream.{Standing, End as StreamEnd, finished}
 use Rattle.git_objects.specs.Device.{Device, HasRead, counted_on, HasFault, IsWell, AppendsFront}
 use Rattle.git_objects.proofs.KnownBytes.{Appends-nil, Appends-trans, Consumes-nil, HasRead-trans, HasRead-kept}
 use Rattle.service_steps.specs.declared.answer.Answer.{Answer}
@@ -13,15 +13,15 @@ use Rattle.service_steps.proofs.ReadLemmas.{one_well}
 use Rattle.service_steps.proofs.WriteLemmas.{front_of_later}
 use Rattle.tenant_service.specs.Alone.{Open, Feed, End, stream_of}
 use Rattle.tenant_refs.specs.TenantName.{is_tenant_name}
-use Rattle.tenant_service.specs.Holding.{Holding, Holdings, empty_repository, held_of}
+use Rattle.tenant_service.specs.Holding.{Holdings, empty_repository, held_of}
 use Rattle.tenant_service.specs.HeldObjects.{has_read_done}
 use Rattle.gitpool.specs.declared.import_fault.ImportFault.{ImportFault}
 use Rattle.gitpool.specs.declared.import_fault.ImportFault.TheVariants as fault
 use Rattle.gitpool.specs.ImportFaults.{as_import}
 use Rattle.gitpool.specs.Devices.{AreWell}
-use Rattle.gitpool.specs.Import.{Deeds, HasAsked, IsImported, IsGivenUp, IsStopped, IsDevice, IsSettled, AsksForMore, ImportsInto, printed_by, end_in}
+use Rattle.gitpool.specs.Import.{ServiceEffect, HasAsked, IsImported, IsGivenUp, IsStopped, IsDevice, AsksForMore, ImportsInto, end_in}
 use Rattle.gitpool.specs.Importing.{CanOpen, HasImported, HasTakenCalls, HasFed, Fed, IsStreaming, Passes, IsRefusedWith, IsWrittenFront, PassesOn, IsReadThrough, IsEndWritten, EndsImport, ReadsAll, GivesUp, replies_to}
-use Rattle.gitpool.proofs.StreamLemmas.{IsFront, front_of_front, whole_front, stands-so, new-replies, new-running, asks-for-more, replies-whole, settled-done, settled-refused}
+use Rattle.gitpool.proofs.StreamLemmas.{front_of_front, whole_front, stands-so, new-replies, new-running, asks-for-more, replies-whole, settled-done, settled-refused}
 use Rattle.gitpool.proofs.StepLemmas.{imported-none, fed-none, fed-more, fed-ended, FedAs, fed-front, EndedAs, ended-front}
 
 -- what an import has done so far, by so many reads
@@ -92,9 +92,9 @@ module _ (digest : List ℕ → List ℕ) (tenant : List ℕ) (repository : Repo
       (sym (replies-whole digest repository s.bytes piece (held_of tenant now) (stands-so digest repository s.bytes (held_of tenant now) s.streaming.1)))
       (Appends-trans w0.known w.known w'.known _ (replies_to digest repository s.bytes piece) s.written written)
 
-  front_behind : (w' : Device) (piece : List ℕ) → IsWrittenFront digest repository s.bytes piece w w'
+  front_after : (w' : Device) (piece : List ℕ) → IsWrittenFront digest repository s.bytes piece w w'
       → AppendsFront w0.known w'.known (stream_of digest repository (s.bytes ++ piece)).replies
-  front_behind w' piece front =
+  front_after w' piece front =
       subst (λ (l : List ℕ). AppendsFront w0.known w'.known l)
       (sym (replies-whole digest repository s.bytes piece (held_of tenant now) (stands-so digest repository s.bytes (held_of tenant now) s.streaming.1)))
       (front_of_later w0.known w.known w'.known _ (replies_to digest repository s.bytes piece) s.written front)
@@ -155,7 +155,7 @@ module _ (digest : List ℕ → List ℕ) (tenant : List ℕ) (repository : Repo
       let same = ap (λ (x : Standing). finished digest x) p.refused in
       record {
         bytes = s.bytes ++ piece;
-        did = fed-more digest tenant before now after s.bytes piece s.fed taken;
+        effect = fed-more digest tenant before now after s.bytes piece s.fed taken;
         read = HasRead-trans r0 r r' s.bytes piece s.read gives.well.read;
         asked = asked_more r' piece few gives.called;
         written = subst (λ (l : List ℕ). Appends w0.known w'.known l)
@@ -177,9 +177,9 @@ module _ (digest : List ℕ → List ℕ) (tenant : List ℕ) (repository : Repo
           read = HasRead-trans r0 r r' s.bytes piece s.read gives.well.read;
           asked = asked_more r' piece few gives.called;
           at_end = false;
-          did = fed-more digest tenant before now after s.bytes piece s.fed taken;
+          effect = fed-more digest tenant before now after s.bytes piece s.fed taken;
           end = λ (none : false ≡ true). cc none;
-          written = front_behind w' piece f.0;
+          written = front_after w' piece f.0;
           whole = inl failed;
           blamed = inl (gives.well.well ∙ s.well.0, failed);
         },
@@ -194,10 +194,10 @@ module _ (digest : List ℕ → List ℕ) (tenant : List ℕ) (repository : Repo
     bytes = s.bytes ++ piece;
     ended = true;
     unopened = λ (none : true ≡ false). cc none;
-    did = fed-more digest tenant before now after s.bytes piece s.fed taken;
+    effect = fed-more digest tenant before now after s.bytes piece s.fed taken;
     read = HasRead-trans r0 r r' s.bytes piece s.read gives.well.read;
     asked = asked_more r' piece few gives.called;
-    written = front_behind w' piece f.0;
+    written = front_after w' piece f.0;
     well = (gives.well.well ∙ s.well.0, f.1 ∙ s.well.1);
   }
 
@@ -219,7 +219,7 @@ module _ (digest : List ℕ → List ℕ) (tenant : List ℕ) (repository : Repo
           read = had;
           asked = asked;
           at_end = false;
-          did = s.fed;
+          effect = s.fed;
           end = λ (none : false ≡ true). cc none;
           written = record { front = replies; rest = []; parts = sym (append-nil replies); appends = s.written };
           whole = inr s.written;
@@ -298,14 +298,14 @@ end_fails digest repository bytes w w' a out e front failed =
 
 module _ (digest : List ℕ → List ℕ) (tenant : List ℕ) (repository : Repository) (before between after : Holdings) (r0 r w0 w w' : Device)
     (s : IsReadThrough digest tenant repository before r0 r w0 between w) (taken : HasTakenCalls digest tenant between after (End ∷ [])) where
-  did_all : HasFed digest tenant before after true s.bytes
-  did_all = fed-ended digest tenant before between after s.bytes s.fed taken
+  fed_and_ended : HasFed digest tenant before after true s.bytes
+  fed_and_ended = fed-ended digest tenant before between after s.bytes s.fed taken
 
   ends_as : (end : Option ℕ) → IsEndWritten digest repository s.bytes end w w'
       → IsImported digest repository (HasFed digest tenant before after) r0 r w0 w' end
   ends_as end e = record {
     bytes = s.bytes;
-    did = did_all;
+    effect = fed_and_ended;
     read = s.read;
     asked = s.asked;
     written = Appends-trans w0.known w.known w'.known _ (end_in digest repository s.bytes).reply s.written e.written;
@@ -323,7 +323,7 @@ module _ (digest : List ℕ → List ℕ) (tenant : List ℕ) (repository : Repo
         read = s.read;
         asked = s.asked;
         at_end = true;
-        did = did_all;
+        effect = fed_and_ended;
         end = λ (_ : true ≡ true). (s.well.0, s.last);
         written = front_of_later w0.known w.known w'.known _ (end_in digest repository s.bytes).reply s.written front;
         whole = inl blamed;
@@ -339,7 +339,7 @@ module _ (digest : List ℕ → List ℕ) (tenant : List ℕ) (repository : Repo
     bytes = s.bytes;
     ended = true;
     unopened = λ (none : true ≡ false). cc none;
-    did = did_all;
+    effect = fed_and_ended;
     read = s.read;
     asked = s.asked;
     written = record {
@@ -360,20 +360,20 @@ given_up digest tenant repository before after r r' w w' g = record {
   read = g.0.read;
   asked = g.0.asked;
   at_end = g.0.at_end;
-  did = subst (λ (b : Bool). HasFed digest tenant before after b g.0.bytes) (sym g.1) g.0.did;
+  effect = subst (λ (b : Bool). HasFed digest tenant before after b g.0.bytes) (sym g.1) g.0.effect;
   end = g.0.end;
   written = g.0.written;
   whole = g.0.whole;
   blamed = g.0.blamed;
 }
 
--- an import with other deeds
-imported-did : (digest : List ℕ → List ℕ) (repository : Repository) (D E : Deeds) (r r' w w' : Device) (end : Option ℕ)
+-- an import with another effect on the service
+imported-effect : (digest : List ℕ → List ℕ) (repository : Repository) (D E : ServiceEffect) (r r' w w' : Device) (end : Option ℕ)
     → ((bytes : List ℕ) → D true bytes → E true bytes)
     → IsImported digest repository D r r' w w' end → IsImported digest repository E r r' w w' end
-imported-did digest repository D E r r' w w' end so i = record {
+imported-effect digest repository D E r r' w w' end so i = record {
   bytes = i.bytes;
-  did = so i.bytes i.did;
+  effect = so i.bytes i.effect;
   read = i.read;
   asked = i.asked;
   written = i.written;
@@ -382,38 +382,38 @@ imported-did digest repository D E r r' w w' end so i = record {
   well = i.well;
 }
 
-stopped-did : (digest : List ℕ → List ℕ) (repository : Repository) (D E : Deeds) (r r' w w' : Device)
+stopped-effect : (digest : List ℕ → List ℕ) (repository : Repository) (D E : ServiceEffect) (r r' w w' : Device)
     → ((ended : Bool) (bytes : List ℕ) → D ended bytes → E ended bytes)
     → IsStopped digest repository D r r' w w' → IsStopped digest repository E r r' w w'
-stopped-did digest repository D E r r' w w' so i = record {
+stopped-effect digest repository D E r r' w w' so i = record {
   bytes = i.bytes;
   ended = i.ended;
   unopened = i.unopened;
-  did = so i.ended i.bytes i.did;
+  effect = so i.ended i.bytes i.effect;
   read = i.read;
   asked = i.asked;
   written = i.written;
   well = i.well;
 }
 
-pub imports-did : (digest : List ℕ → List ℕ) (repository : Repository) (D E : Deeds) (r r' w w' : Device) (result : Result Unit ImportFault)
+pub imports-effect : (digest : List ℕ → List ℕ) (repository : Repository) (D E : ServiceEffect) (r r' w w' : Device) (result : Result Unit ImportFault)
     → ((ended : Bool) (bytes : List ℕ) → D ended bytes → E ended bytes)
     → ImportsInto digest repository D r r' w w' result → ImportsInto digest repository E r r' w w' result
-imports-did digest repository D E r r' w w' (Ok u) so i = imported-did digest repository D E r r' w w' None (so true) i
-imports-did digest repository D E r r' w w' (Err (fault.Stream code)) so i =
-    imported-did digest repository D E r r' w w' (Some code) (so true) i
-imports-did digest repository D E r r' w w' (Err fault.Device) so i = record {
+imports-effect digest repository D E r r' w w' (Ok u) so i = imported-effect digest repository D E r r' w w' None (so true) i
+imports-effect digest repository D E r r' w w' (Err (fault.Stream code)) so i =
+    imported-effect digest repository D E r r' w w' (Some code) (so true) i
+imports-effect digest repository D E r r' w w' (Err fault.Device) so i = record {
   bytes = i.bytes;
   read = i.read;
   asked = i.asked;
   at_end = i.at_end;
-  did = so i.at_end i.bytes i.did;
+  effect = so i.at_end i.bytes i.effect;
   end = i.end;
   written = i.written;
   whole = i.whole;
   blamed = i.blamed;
 }
-imports-did digest repository D E r r' w w' (Err fault.Memory) so i = stopped-did digest repository D E r r' w w' so i
+imports-effect digest repository D E r r' w w' (Err fault.Memory) so i = stopped-effect digest repository D E r r' w w' so i
 
 -- what is done after a fault
 pub gives_up : (digest : List ℕ → List ℕ) (tenant : List ℕ) (before after : Holdings) (e : ImportFault) → (e ≡ fault.Device → ⊥)
@@ -426,7 +426,7 @@ pub given_up_by : (digest : List ℕ → List ℕ) (tenant : List ℕ) (reposito
     (e : ImportFault) → ReadsAll digest tenant repository before r r' w (Err e) between w' → GivesUp digest tenant between after e
     → ImportsInto digest repository (HasFed digest tenant before after) r r' w w' (Err e)
 given_up_by digest tenant repository before between after r r' w w' (fault.Stream code) i taken =
-    imported-did digest repository (Fed digest tenant before between) (HasFed digest tenant before after) r r' w w' (Some code)
+    imported-effect digest repository (Fed digest tenant before between) (HasFed digest tenant before after) r r' w w' (Some code)
     (λ bytes fed. fed-ended digest tenant before between after bytes fed taken) i
 given_up_by digest tenant repository before between after r r' w w' fault.Device i same =
     subst (λ (h : Holdings). ImportsInto digest repository (HasFed digest tenant before h) r r' w w' (Err fault.Device)) (sym same)
@@ -435,7 +435,7 @@ given_up_by digest tenant repository before between after r r' w w' fault.Memory
   bytes = i.bytes;
   ended = true;
   unopened = λ (none : true ≡ false). cc none;
-  did = fed-ended digest tenant before between after i.bytes i.did taken;
+  effect = fed-ended digest tenant before between after i.bytes i.effect taken;
   read = i.read;
   asked = i.asked;
   written = i.written;
@@ -443,13 +443,13 @@ given_up_by digest tenant repository before between after r r' w w' fault.Memory
 }
 
 -- nothing was read
-pub nothing_read : (digest : List ℕ → List ℕ) (repository : Repository) (Did : Deeds) (r w : Device) → r.passed ≤ 2 ^ 64 - 1 → Did false []
-    → IsStopped digest repository Did r r w w
-nothing_read digest repository Did r w fits did = record {
+pub nothing_read : (digest : List ℕ → List ℕ) (repository : Repository) (Effect : ServiceEffect) (r w : Device) → r.passed ≤ 2 ^ 64 - 1 → Effect false []
+    → IsStopped digest repository Effect r r w w
+nothing_read digest repository Effect r w fits effect = record {
   bytes = [];
   ended = false;
   unopened = λ _. refl;
-  did = did;
+  effect = effect;
   read = record { consumed = Consumes-nil r.known; passed = omega (arith, fits) };
   asked = record { giving = omega arith; bounded = omega arith };
   written = record { front = []; rest = (stream_of digest repository []).replies; parts = refl; appends = Appends-nil w.known };

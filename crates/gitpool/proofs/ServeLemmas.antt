@@ -48,10 +48,10 @@ pub within : (run : Run) (count : ℕ) → length run ≡ count → count < 2 ^ 
 within run count as_many few = omega (arith, as_many, few)
 
 -- What was read after the frames.
-abbrev pub served_behind : (digest : List ℕ → List ℕ) (before after : Holdings) (r0 r w0 w : Device) (count : ℕ)
+abbrev pub served_after : (digest : List ℕ → List ℕ) (before after : Holdings) (r0 r w0 w : Device) (count : ℕ)
     → SoFar digest before after r0 r w0 w count → count < 2 ^ 32 → (r' : Device) (rest : List ℕ) → HasRead r r' rest
     → Served digest before after r0 r'
-served_behind digest before after r0 r w0 w count s few r' rest read = record {
+served_after digest before after r0 r w0 w count s few r' rest read = record {
   run = s.run;
   rest = rest;
   own = s.own;
@@ -73,7 +73,7 @@ answered digest before after r0 r w0 w count r' s well = (s.written, (well ∙ s
 pub ends_at : (digest : List ℕ → List ℕ) (before after : Holdings) (r0 r w0 w : Device) (count : ℕ) (r' : Device)
     → SoFar digest before after r0 r w0 w count → count < 2 ^ 32 → ReadsStep r (Ok None) r' → Serves digest before after r0 r' w0 w (Ok tt)
 ends_at digest before after r0 r w0 w count r' s few read = (
-  served_behind digest before after r0 r w0 w count s few r' [] read.read.read,
+  served_after digest before after r0 r w0 w count s few r' [] read.read.read,
   refl,
   read.end,
   answered digest before after r0 r w0 w count r' s read.read.well,
@@ -82,24 +82,24 @@ ends_at digest before after r0 r w0 w count r' s few read = (
 pub fails_at : (digest : List ℕ → List ℕ) (before after : Holdings) (r0 r w0 w : Device) (count : ℕ) (r' : Device) (e : FrameFault)
     → SoFar digest before after r0 r w0 w count → count < 2 ^ 32 → ReadsStep r (Err e) r' → Serves digest before after r0 r' w0 w (Err e)
 fails_at digest before after r0 r w0 w count r' fault.BadFrame s few read = (
-  served_behind digest before after r0 r w0 w count s few r' read.0 read.2.read,
+  served_after digest before after r0 r w0 w count s few r' read.0 read.2.read,
   read.1,
   answered digest before after r0 r w0 w count r' s read.2.well,
 )
 fails_at digest before after r0 r w0 w count r' fault.CutOff s few read = (
-  served_behind digest before after r0 r w0 w count s few r' read.0 read.2.read.read,
+  served_after digest before after r0 r w0 w count s few r' read.0 read.2.read.read,
   read.1,
   read.2.end,
   answered digest before after r0 r w0 w count r' s read.2.read.well,
 )
 fails_at digest before after r0 r w0 w count r' fault.Device s few read = (
-  served_behind digest before after r0 r w0 w count s few r' read.0 read.2.read,
+  served_after digest before after r0 r w0 w count s few r' read.0 read.2.read,
   read.1,
   record { front = whole_front w0.known w.known (answers_text s.run) s.written; whole = inr s.written },
   inl (subst (λ (n : ℕ). HasFault n r'.faults) s.read.well read.2.fault, s.well),
 )
 fails_at digest before after r0 r w0 w count r' fault.Memory s few read = (
-  served_behind digest before after r0 r w0 w count s few r' read.0 read.2.read,
+  served_after digest before after r0 r w0 w count s few r' read.0 read.2.read,
   read.1,
   answered digest before after r0 r w0 w count r' s read.2.well,
 )

@@ -1,9 +1,9 @@
 -- Steps of one tenant: which calls a run is of, what each is told, and what it leaves.
-use Rattle.std.proofs.Common.{◌≡◌, ℕ, zero, suc, Bool, true, false, ◌&&◌, not, cond, List, [], ◌∷◌, ◌++◌, map, Option, None, Some, Result, Ok, Err, refl, sym, ap, subst, ◌∙◌, append-nil}
+use Rattle.std.proofs.Common.{◌≡◌, ℕ, zero, suc, Bool, true, false, ◌&&◌, not, cond, List, [], ◌∷◌, ◌++◌, map, Option, None, Some, Ok, refl, sym, ap, subst, ◌∙◌, append-nil}
 use Rattle.std.proofs.lemmas.List.{map-append}
 use Rattle.std.proofs.lemmas.Grind.{flat_map-append}
 use Rattle.std.proofs.lemmas.Slice.Eq.{bytes_eq-Decides}
-use Rattle.std.specs.List.{AllByRecursion, flat_map}
+use Rattle.std.specs.List.{flat_map}
 use Rattle.std.specs.Str.{bytes_eq}
 use Rattle.git_model.specs.Repository.{Repository}
 use Rattle.stream_lex.specs.Items.{Tail}
@@ -13,15 +13,14 @@ use Rattle.service_steps.specs.declared.answer.Answer.TheVariants as answer
 use Rattle.service_steps.specs.declared.step.Step.{Step}
 use Rattle.service_steps.specs.declared.step.Step.TheVariants as step
 use Rattle.tenant_refs.specs.TenantName.{is_tenant_name}
-use Rattle.tenant_service.specs.Alone.{Call, Open, Feed, End, State, Closed, Streaming, Dead, Turn, Stopped, run_alone, open_alone, fed, fed_by, fed_until, fed_well, feed_stop, stream_of, added, ended, ended_well, end_answer, unless_out_of_memory, closed}
-use Rattle.tenant_service.specs.Copying.{HasTaken}
-use Rattle.tenant_service.specs.Headline.{Told, told_in, Run, IsItsOwn, IsRefused, has_bad_name, concerns, names, call_of, stop_told, part_of, steps_of, told_to, told_by, told_alone, left_alone}
+use Rattle.tenant_service.specs.Alone.{Call, Open, Feed, End, State, Closed, Streaming, Dead, Turn, Stopped, run_alone, open_alone, fed_by, fed_until, fed_well, feed_stop, stream_of, added, ended, ended_well, end_answer, unless_out_of_memory}
+use Rattle.tenant_service.specs.Headline.{Told, told_in, IsItsOwn, IsRefused, has_bad_name, concerns, call_of, stop_told, part_of, steps_of, told_by, told_alone, left_alone}
 use Rattle.tenant_service.specs.StepName.{name_of}
 use Rattle.tenant_service.specs.Holding.{Holding, Idle, Busy, Holdings, LeadsTo, held_of}
 use Rattle.tenant_service.proofs.AccountLemmas.{all_whole}
 use Rattle.tenant_service.proofs.RunLemmas.{own-more, own-none}
 use Rattle.gitpool.specs.Import.{end_in}
-use Rattle.gitpool.specs.Importing.{CanOpen, IsRunOf, IsStreaming, HasTakenCalls, HasFed, HasImported, stream_calls, replies_to, open_refusal, stream_refusal}
+use Rattle.gitpool.specs.Importing.{CanOpen, IsStreaming, HasTakenCalls, HasFed, HasImported, stream_calls, replies_to, open_refusal, stream_refusal}
 use Rattle.gitpool.proofs.StreamLemmas.{IsFront, Stands, stands-so, front-whole, stop-front}
 
 -- ---- which calls

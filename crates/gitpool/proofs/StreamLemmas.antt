@@ -10,12 +10,12 @@ use Rattle.stream_lex.specs.Items.{Item, Tail, Rest, Failed, Reading}
 use Rattle.stream_lex.specs.Reading.{reading, walk}
 use Rattle.stream_lex.specs.Running.{more_of}
 use Rattle.stream_lex.proofs.Walks.{reading-append}
-use Rattle.import_session.specs.declared.fault.Fault.{Fault}
+use Rattle.stream_state.specs.declared.fault.Fault.{Fault}
 use Rattle.import_session.specs.Workspace.{opened}
 use Rattle.import_session.specs.Stream.{Running, Step, Standing, Runs, Refused, Outcome, begun, after_reply, carried, going_on, step, at_tail, tail_outcome, last_checkpoint}
-use Rattle.tenant_stream.specs.Carrying.{outcome_behind}
+use Rattle.tenant_stream.specs.Carrying.{outcome_after}
 use Rattle.tenant_stream.proofs.StreamLemmas.{carried-done}
-use Rattle.tenant_service.specs.Alone.{Stopped, Streaming, stop_at, stop_behind, stream_of, feed_stop, added}
+use Rattle.tenant_service.specs.Alone.{Stopped, Streaming, stop_at, stop_after, stream_of, feed_stop, added}
 use Rattle.tenant_service.specs.Holding.{Holding, Idle, Busy, LeadsTo}
 use Rattle.tenant_service.specs.HeldObjects.{has_read_done}
 use Rattle.tenant_service.proofs.OwnLemmas.{stream-more, feed_stop-more}
@@ -133,7 +133,7 @@ module _ (digest : List ℕ → List ℕ) (repository : Repository) (bytes piece
   before = (stream_of digest repository bytes).replies
 
   abbrev later : Outcome
-  later = outcome_behind digest s.now s.kept piece
+  later = outcome_after digest s.now s.kept piece
 
   goes-on : stream_of digest repository (bytes ++ piece) ≡ after_reply before later
   goes-on = stream-more digest repository bytes piece s.now s.kept s.stands
@@ -147,8 +147,8 @@ module _ (digest : List ℕ → List ℕ) (repository : Repository) (bytes piece
 
 -- the replies up to a stop are a front
 stopped-first : (digest : List ℕ → List ℕ) (now : Running) (items : List Item) (tail : Tail) (count : ℕ) (stopped : Stopped)
-    → stop_behind digest now items count ≡ Some stopped → IsFront (carried digest now items tail).replies stopped.replies
-unfolding stop_behind
+    → stop_after digest now items count ≡ Some stopped → IsFront (carried digest now items tail).replies stopped.replies
+unfolding stop_after
 stopped-first digest now items tail count stopped is = by (leb count (length items)) is
   where
     first : Outcome
@@ -178,13 +178,13 @@ pub stop-front : (digest : List ℕ → List ℕ) (repository : Repository) (byt
     → Stands digest repository bytes held → feed_stop digest repository bytes piece count ≡ Some stopped
     → IsFront (replies_to digest repository bytes piece) (added (stream_of digest repository bytes).replies stopped.replies)
 stop-front digest repository bytes piece held count stopped s is =
-    by (stop_behind digest s.now (more_of s.kept piece).items count) refl
+    by (stop_after digest s.now (more_of s.kept piece).items count) refl
     (sym (feed_stop-more digest repository bytes piece count s.now s.kept s.stands) ∙ is)
   where
     before : List ℕ
     before = (stream_of digest repository bytes).replies
 
-    by : (o : Option Stopped) → stop_behind digest s.now (more_of s.kept piece).items count ≡ o
+    by : (o : Option Stopped) → stop_after digest s.now (more_of s.kept piece).items count ≡ o
         → option_map (λ (x : Stopped). record { replies = before ++ x.replies; repository = x.repository }) o ≡ Some stopped
         → IsFront (replies_to digest repository bytes piece) (added before stopped.replies)
     by None stops e = cc e

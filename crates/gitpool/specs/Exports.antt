@@ -14,15 +14,15 @@ use Rattle.gitpool.specs.declared.import_fault.ImportFault.TheVariants as fault
 abbrev pub HasExport : Option (List ℕ) → Repository → Type 0
 HasExport known repository = known ≡ Some (export_text repository)
 
--- The stream was not refused: a device or want of memory alone keeps it from its end.
+-- The stream was not refused: only a device that fails or a lack of memory can stop it.
 abbrev pub IsNotRefused : Result Unit ImportFault → Type 0
 IsNotRefused (Ok u) = Unit {0}
 IsNotRefused (Err (fault.Stream code)) = ⊥
 IsNotRefused (Err fault.Device) = Unit {0}
 IsNotRefused (Err fault.Memory) = Unit {0}
 
--- What a repository exports was imported: it was not refused, and nothing was written, however it
--- was answered. What it leaves where it comes to its end is a copy.
+-- The export of a repository was imported. Whatever the answer is, the stream was not refused and
+-- nothing was written. At its end the stream leaves a copy.
 pub record TakesExport (digest : List ℕ → List ℕ) (repository : Repository)
     (writer writer' : Device) (answer : Result Unit ImportFault) : Type 0 where
   pub accepted : IsNotRefused answer

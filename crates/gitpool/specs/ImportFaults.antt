@@ -11,7 +11,7 @@ code_of (fault.Stream code) = code
 code_of fault.Device = 68
 code_of fault.Memory = 90
 
--- What the answer of a step is to the import.
+-- The answer of a step as a result of the import.
 abbrev pub as_import : Answer → Result Unit ImportFault
 as_import answer.Ok = Ok tt
 as_import (answer.Fault code) = Err (fault.Stream code)

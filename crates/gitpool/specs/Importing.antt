@@ -1,10 +1,11 @@
--- An import of a tenant between two pieces of its stream, what one more does, and how it ends.
+-- An import of a tenant: its state between two pieces of the stream, what one more piece does, and
+-- how the import ends.
 use Rattle.std.specs.Prelude.{◌≡◌, ℕ, Bool, true, false, if◌then◌else◌, List, [], ◌∷◌, ◌++◌, map, Option, None, Some, Result, Ok, Err, ◌⊎◌}
 use Rattle.std.specs.List.{AllByRecursion, flat_map}
 use Rattle.std.specs.Io.KnownBytes.{Appends, IsAtEnd}
 use Rattle.git_model.specs.Repository.{Repository}
 use Rattle.git_objects.specs.Device.{Device, HasRead, HasFault, IsWell, AppendsFront}
-use Rattle.import_session.specs.Stream.{Standing, Runs, Refused}
+use Rattle.import_session.specs.Stream.{Refused}
 use Rattle.tenant_refs.specs.TenantName.{is_tenant_name}
 use Rattle.tenant_service.specs.Alone.{Call, Open, Feed, End, Streaming, stream_of, added}
 use Rattle.tenant_service.specs.Copying.{HasTaken}
@@ -14,34 +15,35 @@ use Rattle.tenant_service.specs.StepName.{name_of}
 use Rattle.gitpool.specs.declared.import_fault.ImportFault.{ImportFault}
 use Rattle.gitpool.specs.declared.import_fault.ImportFault.TheVariants as fault
 use Rattle.gitpool.specs.Devices.{AreWell}
-use Rattle.gitpool.specs.Import.{Deeds, HasAsked, IsSettled, ImportsInto, IsGivenUp, end_in}
+use Rattle.gitpool.specs.Import.{ServiceEffect, HasAsked, IsSettled, ImportsInto, IsGivenUp, end_in}
 
 -- ---- the steps
 
--- A run is of this tenant alone: these calls, in turn.
+-- A run consists of these calls of this tenant, in this order.
 pub record IsRunOf (tenant : List ℕ) (calls : List Call) (run : Run) : Type 0 where
   pub named : AllByRecursion (λ taken. name_of taken.0 ≡ tenant) run
   pub are : map (λ taken. call_of taken.0) run ≡ calls
 
--- A service took these calls of a tenant, and no other step: to every tenant they were told what
--- they are told in a repository of its own.
+-- A service took these calls of a tenant, and no other step. Every tenant was told what it is told
+-- in a repository of its own.
 abbrev pub HasTakenCalls : (List ℕ → List ℕ) → List ℕ → Holdings → Holdings → List Call → Type 0
 HasTakenCalls digest tenant before after calls =
     HasTaken digest before after (λ run. IsRunOf tenant calls run)
 
--- A stream is fed in pieces, and then ended, or not.
+-- A stream is fed in pieces, and then ended if `ended` is true.
 abbrev pub stream_calls : List (List ℕ) → Bool → List Call
 stream_calls pieces ended = map Feed pieces ++ (if ended then End ∷ [] else [])
 
--- A service took the calls of these bytes of a stream, which was open.
+-- A service took the calls that feed these bytes to an open stream, and that end it if `ended` is
+-- true.
 pub record HasFed (digest : List ℕ → List ℕ) (tenant : List ℕ) (before after : Holdings)
     (ended : Bool) (bytes : List ℕ) : Type 0 where
   pub pieces : List (List ℕ)
   pub parts : flat_map (λ piece. piece) pieces ≡ bytes
   pub taken : HasTakenCalls digest tenant before after (stream_calls pieces ended)
 
--- A service took the calls of an import of these bytes: a stream was opened, fed, and ended, or
--- not.
+-- A service took the calls of an import of these bytes: it opened a stream, fed it, and ended it if
+-- `ended` is true.
 pub record HasImported (digest : List ℕ → List ℕ) (tenant : List ℕ) (before after : Holdings)
     (ended : Bool) (bytes : List ℕ) : Type 0 where
   pub pieces : List (List ℕ)
@@ -50,12 +52,12 @@ pub record HasImported (digest : List ℕ → List ℕ) (tenant : List ℕ) (bef
 
 -- ---- Open
 
--- A tenant has this repository and no stream, so that a stream of it can be opened.
+-- A tenant with a good name has this repository and no stream, so a stream can be opened.
 abbrev pub CanOpen : List ℕ → Holdings → Repository → Type 0
 CanOpen tenant all repository =
     (is_tenant_name tenant ≡ true) × (held_of tenant all ≡ Idle repository)
 
--- Why none can be: a bad name, or a stream that is there, be it dead.
+-- Why no stream can be opened: the name is bad, or there is a stream already, running or dead.
 abbrev pub stream_refusal : Holding → Option ℕ
 stream_refusal (Idle repository) = None
 stream_refusal (Busy standing) = Some 31
@@ -75,7 +77,7 @@ pub record IsUnopened (digest : List ℕ → List ℕ) (tenant : List ℕ) (befo
 
 -- ---- a piece
 
--- A tenant has a stream of these bytes over this repository, which runs.
+-- A tenant has a running stream, which was opened over this repository and fed these bytes.
 abbrev pub IsStreaming : (List ℕ → List ℕ) → List ℕ → Repository → List ℕ → Holdings → Type 0
 IsStreaming digest tenant repository bytes all = (is_tenant_name tenant ≡ true)
     × LeadsTo digest (Streaming repository bytes) (held_of tenant all)
@@ -92,7 +94,7 @@ pub record Passes (digest : List ℕ → List ℕ) (tenant : List ℕ) (reposito
   pub written : Appends writer.known writer'.known (replies_to digest repository bytes piece)
   pub well : IsWell writer writer'
 
--- It refused the stream, and the replies before that were written.
+-- The stream was refused in this piece, and the replies before that were written.
 pub record IsRefusedWith (digest : List ℕ → List ℕ) (repository : Repository)
     (bytes piece : List ℕ) (code : ℕ) (writer writer' : Device) : Type 0 where
   pub left : Repository
@@ -121,14 +123,14 @@ PassesOn digest tenant repository bytes piece writer (Err fault.Memory) after wr
 
 -- ---- the end
 
--- It ended so, and the reply of its end was written.
+-- The stream ended with this fault, or with none, and the reply of its end was written.
 pub record IsEndWritten (digest : List ℕ → List ℕ) (repository : Repository) (bytes : List ℕ)
     (fault : Option ℕ) (writer writer' : Device) : Type 0 where
   pub ended : (end_in digest repository bytes).fault ≡ fault
   pub written : Appends writer.known writer'.known (end_in digest repository bytes).reply
   pub well : IsWell writer writer'
 
--- What came of the end, by the answer. Where memory ran out nothing was written for it.
+-- What came of the end, by the answer. If memory ran out, nothing was written for the end.
 abbrev pub EndsImport : (List ℕ → List ℕ) → Repository → List ℕ → Device
     → Result Unit ImportFault → Device → Type 0
 EndsImport digest repository bytes writer (Ok u) writer' =
@@ -141,8 +143,8 @@ EndsImport digest repository bytes writer (Err fault.Device) writer' =
 EndsImport digest repository bytes writer (Err fault.Memory) writer' =
     Appends writer.known writer'.known [] × IsWell writer writer'
 
--- A stream that was refused, or ran out of memory, is ended. Where a device failed it is left as it
--- stands.
+-- A stream that was refused, or ran out of memory, is ended. If a device failed, it is left as it
+-- is.
 abbrev pub GivesUp : (List ℕ → List ℕ) → List ℕ → Holdings → Holdings → ImportFault → Type 0
 GivesUp digest tenant before after (fault.Stream code) =
     HasTakenCalls digest tenant before after (End ∷ [])
@@ -166,7 +168,7 @@ pub record IsReadThrough (digest : List ℕ → List ℕ) (tenant : List ℕ) (r
   pub well : AreWell reader reader' writer writer'
 
 -- The stream was fed, and not ended.
-abbrev pub Fed : (List ℕ → List ℕ) → List ℕ → Holdings → Holdings → Deeds
+abbrev pub Fed : (List ℕ → List ℕ) → List ℕ → Holdings → Holdings → ServiceEffect
 Fed digest tenant before after ended bytes = HasFed digest tenant before after false bytes
 
 -- What came of reading, by the answer.

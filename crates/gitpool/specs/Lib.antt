@@ -1,6 +1,6 @@
--- In reading order: one stream from a reader to a writer, and frames of steps. What a service is
--- told and holds stands in tenant_service; it and what else the clauses of public calls cite is
--- passed on first.
+-- In reading order: the faults of an import, devices, one stream from a reader to a writer, and
+-- frames of steps. tenant_service defines what a service is told and holds. The first lines
+-- re-export that, and whatever else the clauses of public calls cite.
 pub use Rattle.git_model.specs.Content
 pub use Rattle.git_model.specs.Repository
 pub use Rattle.git_names.specs.Naming

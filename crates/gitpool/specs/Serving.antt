@@ -1,7 +1,8 @@
 -- Steps of any tenants that come as frames from a reader, and their answers to a writer.
-use Rattle.std.specs.Prelude.{◌≡◌, ◌≤◌, ℕ, ◌^◌, List, [], ◌++◌, length, Result, Ok, Err, ◌⊎◌}
+use Rattle.std.specs.Prelude.{◌≡◌, ◌≤◌, ℕ, List, [], ◌++◌, length, Result, Ok, Err, ◌⊎◌}
 use Rattle.std.specs.List.{AllByRecursion, flat_map}
 use Rattle.std.specs.Io.KnownBytes.{Appends, IsAtEnd}
+use Rattle.git_model.specs.Limits.{frames_limit}
 use Rattle.git_objects.specs.Device.{Device, HasRead, HasFault, AppendsFront}
 use Rattle.service_steps.specs.declared.frame_fault.FrameFault.{FrameFault}
 use Rattle.service_steps.specs.declared.frame_fault.FrameFault.TheVariants as fault
@@ -10,15 +11,15 @@ use Rattle.tenant_service.specs.Headline.{Run, IsItsOwn, IsRefused}
 use Rattle.tenant_service.specs.Holding.{Holdings, held_of}
 use Rattle.gitpool.specs.Devices.{AreWell, HasReadFailed, HasWriteFailed}
 
--- The frames of the steps of a run, and those of what they were told.
+-- The frames of the steps of a run, and the frames of their answers.
 abbrev pub steps_text : Run → List ℕ
 steps_text run = flat_map (λ taken. step_text taken.0) run
 
 abbrev pub answers_text : Run → List ℕ
 answers_text run = flat_map (λ taken. answer_text taken.1.answer taken.1.reply) run
 
--- Good frames were read, and some bytes after them, and the steps were taken in turn: to every
--- tenant they were told what they are told in a repository of its own. At most 2^32 were taken.
+-- Good frames were read, and some bytes after them, and their steps were taken in turn. Every
+-- tenant was told what it is told in a repository of its own. At most 2^32 steps were taken.
 pub record Served (digest : List ℕ → List ℕ) (before after : Holdings) (reader reader' : Device)
     : Type 0 where
   pub run : Run
@@ -28,20 +29,20 @@ pub record Served (digest : List ℕ → List ℕ) (before after : Holdings) (re
   pub bad_names : AllByRecursion IsRefused run
   pub good : AllByRecursion (λ taken. IsGood (frame_of taken.0)) run
   pub read : HasRead reader reader' (steps_text run ++ rest)
-  pub bounded : length run ≤ 2 ^ 32
+  pub bounded : length run ≤ frames_limit
 
--- One call failed, and no other; or none did, and so many frames came as one serving takes.
+-- Exactly one call failed; or none did, and as many frames came as one call of `serve` takes.
 abbrev pub IsToBlame : Device → Device → Device → Device → Run → Type 0
 IsToBlame reader reader' writer writer' run =
     HasReadFailed reader reader' writer writer' ⊎ (HasWriteFailed reader reader' writer writer'
-    ⊎ (AreWell reader reader' writer writer' × (length run ≡ 2 ^ 32)))
+    ⊎ (AreWell reader reader' writer writer' × (length run ≡ frames_limit)))
 
 -- All answers were written, and no call failed.
 abbrev pub AreAnswered : Device → Device → Device → Device → Run → Type 0
 AreAnswered reader reader' writer writer' run =
     Appends writer.known writer'.known (answers_text run) × AreWell reader reader' writer writer'
 
--- A prefix of the answers was written, and all of them where no write failed.
+-- A prefix of the answers was written, and all of them if no write failed.
 pub record AppendsAsFar (writer writer' : Device) (bytes : List ℕ) : Type 0 where
   pub front : AppendsFront writer.known writer'.known bytes
   pub whole : HasFault writer.faults writer'.faults ⊎ Appends writer.known writer'.known bytes

@@ -1,4 +1,4 @@
-//! Why an import ended before its time.
+//! The faults of an import.
 
 ghost use Rattle.std.specs.Prelude.{◌≡◌};
 ghost use Rattle.gitpool.specs.ImportFaults.{code_of};
@@ -12,10 +12,10 @@ pub enum ImportFault {
     /// The stream was refused, under this number.
     #[error("fault {0}")]
     Stream(u16),
-    /// A call of the reader or the writer failed, or the reader never ends, 68.
+    /// A call of the reader or the writer failed, or the reader never ends (68).
     #[error("fault 68")]
     Device,
-    /// Memory ran out, 90.
+    /// Memory ran out (90).
     #[error("fault 90")]
     Memory,
 }

@@ -1,6 +1,6 @@
 //! One stream of git-fast-import(1) of a tenant, from a reader to a writer.
 //!
-//! Each reply is written before more is read, for whoever feeds the reader may wait for it.
+//! Each reply is written before more is read, since whoever feeds the reader may wait for it.
 
 ghost use Rattle.std.specs.Prelude.{◌≡◌, ◌∷◌, ℕ, List, [], OnOk, OnErr, Some};
 ghost use Rattle.std.specs.Io.KnownBytes.{Appends};
@@ -18,13 +18,13 @@ use std::alloc::Global;
 use std::io::{Read, Write};
 use tenant_service::Service;
 
-// Bytes that one call of `read` may give.
+// The most bytes that one call of `read` may give.
 const BLOCK: usize = 65_536;
 
 // How often a reader is called before it counts as one that never ends.
 const READS_LIMIT: u64 = 1 << 32;
 
-// What the answer of a step is to the import.
+// The answer of a step as a result of the import.
 fn as_import(answer: Answer) -> Result<(), ImportFault>
     ensures { result ≡ as_import answer }
 {
@@ -35,7 +35,7 @@ fn as_import(answer: Answer) -> Result<(), ImportFault>
     }
 }
 
-// Writes the replies, which are then told.
+// Writes the replies in `out`, and empties it.
 fn write_replies<W: Write>(writer: &mut Counted<W>, out: &mut Vec<u8>) -> Result<(), DeviceFault>
     ensures written { OnOk result (Appends (W.contents (device_of writer.old))
         (W.contents (device_of writer.new)) out.old.items) }
@@ -130,8 +130,8 @@ fn end<N: Naming, W: Write>(
     as_import(ended)
 }
 
-// Ends a stream that was refused, or ran out of memory. Such an end prints nothing. Where a device
-// failed the stream is left as it stands.
+// Ends a stream that was refused, or ran out of memory. Such an end prints nothing. If a device
+// failed, the stream is left as it is.
 fn give_up<N: Naming>(
     service: &mut Service<N>,
     tenant: &[u8],
@@ -175,24 +175,25 @@ fn carry_out<N: Naming, R: Read, W: Write>(
     }
 }
 
-/// Carries out one stream of a tenant: opens it, feeds it what `reader` has, and ends it. The
-/// replies go to `writer`, those to what was read before more is read. The stream ends with the
-/// input, or before that with `done` or a fault, and then nothing more is read. A call of the two
-/// devices that fails is the last one. The service takes these steps of the tenant and no others.
+/// Carries out one stream of git-fast-import(1) for a tenant: opens it, feeds it the bytes that
+/// `reader` has, and ends it. The replies go to `writer`, and the replies to what was read are
+/// written before more is read. The stream ends with the input, or earlier at `done` or a fault;
+/// then nothing more is read. After a call of a device fails, no further call is made. The service
+/// takes these steps of the tenant and no others.
 ///
-/// `ImportFault::Stream` with 32 where the tenant's name is a bad one, and with 31 where it has a
-/// stream, also a dead one: nothing was read then, and nothing has changed. With another number
-/// where the stream was refused, or its end; exactly the replies before that stand written, and the
-/// tenant has what stood at its last checkpoint, and no stream.
+/// `ImportFault::Stream`: 32 if the tenant's name is bad, and 31 if the tenant has a stream, even a
+/// dead one. Then nothing was read, and nothing has changed. Any other number is the fault of the
+/// stream or of its end. Then exactly the replies before it are written, and the tenant is at its
+/// last checkpoint and has no stream.
 ///
-/// `ImportFault::Device` (68) where a call of the reader or the writer failed, or where 2^32 reads
-/// have not come to the end. A prefix of the replies to what was read, that of the end among them
-/// where the end was read, stands written, and all of them where no write failed. The stream is
-/// left as it stands: an End saves what it read, and a Restart gives it up. Where it was the reply
-/// of the end that was not written, the stream has ended.
+/// `ImportFault::Device` (68): a call of the reader or the writer failed, or 2^32 reads have not
+/// come to the end. A prefix of the replies to what was read is written, and all of them if no
+/// write failed. They include the reply of the end if the stream came to its end. The stream is
+/// left as it is: an End saves what it read, and a Restart gives it up. If the write of the reply
+/// of the end failed, the stream has ended.
 ///
-/// `ImportFault::Memory` (90) after a prefix of the replies, where no call failed. The tenant has
-/// what stood at its last checkpoint, and no stream.
+/// `ImportFault::Memory` (90): memory ran out after a prefix of the replies was written, and no
+/// call failed. The tenant is at its last checkpoint and has no stream.
 pub fn import<N: Naming, R: Read, W: Write>(
     alloc: Global,
     service: &mut Service<N>,

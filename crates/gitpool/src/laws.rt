@@ -1,13 +1,14 @@
-//! The laws of exports: what a repository exports is the repository.
+//! The laws of exports: the import of an export leaves a copy of the repository.
 //!
-//! Functions over the definitions alone, which run nothing. The commands of an export's text are
-//! its acts (`exports_ask_for_their_acts`). The acts up to the last object leave each object that
-//! the refs reach, under its name and its mark (`objects_are_told`, by `blobs_are_told`,
-//! `tags_are_told`, `commits_are_told` and `files_are_put`). The others leave the refs and HEAD
+//! These functions are over the definitions alone and run nothing. The commands of an export's text
+//! are its acts (`exports_ask_for_their_acts`). The acts up to the last object leave each object
+//! that the refs reach, under its name and its mark (`objects_are_told`, by `blobs_are_told`,
+//! `tags_are_told`, `commits_are_told` and `files_are_put`). The other acts leave the refs and HEAD
 //! (`refs_are_left`). So the import of the text into an empty repository leaves a copy
 //! (`exports_are_imported`), and so do Open, one Feed and End of a tenant that has nothing
-//! (`exports_are_taken`). `import_one` and `Service::copy_tenant` say it of themselves. A repository
-//! of one commit meets the premises of all this (`one_commit_is_imported`).
+//! (`exports_are_taken`). The contracts of `import_one` and `Service::copy_tenant` say the same of
+//! those calls. A repository of one commit meets the premises of all these laws
+//! (`one_commit_is_imported`).
 
 pub use export_laws::examples::one_commit_is_imported;
 pub use export_laws::laws::{

@@ -3,11 +3,11 @@
 //! A tenant is told what it would be told if nobody else were there: `Service::run` says so, for
 //! every list of steps of any tenants, however interleaved. `Service::save` writes all repositories
 //! to a pool file, and `Service::load` reads them. `import` carries one stream of a tenant from a
-//! reader to a writer, and `import_one` one over an empty repository; `Line` is a command line of
-//! the program. `laws` has what is true of exports.
+//! reader to a writer, and `import_one` does so over an empty repository. `Line` is a command line
+//! of the program. `laws` has what is true of exports.
 //!
-//! A program that uses these calls needs no other crate of this repository: whatever their
-//! signatures name is passed on.
+//! A program that uses these calls needs no other crate of this repository: this one re-exports
+//! every type that their signatures name.
 #![tactic(auto)]
 
 mod import_fault;

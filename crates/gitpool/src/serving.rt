@@ -1,6 +1,7 @@
 //! Frames of steps of any tenants, from a reader to a writer.
 //!
-//! Each answer is written before the next frame is read, for whoever sends frames may wait for it.
+//! Each answer is written before the next frame is read, since whoever sends frames may wait for
+//! it.
 
 ghost use Rattle.std.specs.Prelude.{◌≡◌, []};
 ghost use Rattle.git_objects.specs.Device.{device_of, seen};
@@ -15,7 +16,7 @@ use tenant_service::Service;
 // How many frames are taken before their sender counts as one that never ends.
 const FRAMES_LIMIT: u64 = 1 << 32;
 
-// Takes the steps that come as frames, and writes each answer. Nothing is in `out` in between.
+// Takes the steps that come as frames, and writes each answer. `out` is empty between two frames.
 fn answer_frames<N: Naming, R: Read, W: Write>(
     service: &mut Service<N>,
     reader: &mut Counted<R>,
@@ -45,15 +46,15 @@ fn answer_frames<N: Naming, R: Read, W: Write>(
 }
 
 /// Takes the steps that `reader` gives as frames, and writes each answer to `writer` before it
-/// reads on. It ends well where the input ends between frames. A call of the two that fails is the
-/// last one.
+/// reads on. It ends well if the input ends between frames. After a call of a device fails, no
+/// further call is made.
 ///
-/// `BadFrame` (50) as soon as a part of a frame is there that is wrong, `CutOff` (51) where the
-/// input ends inside a frame; the answers to all frames before it then stand written. `Device` (68)
-/// where a call of the reader or the writer failed, or 2^32 frames were taken; the answers then
-/// stand written up to the failure, and all of them where no write failed. `Memory` (90) where
-/// there was no room for a frame, after the answers to all before it. In each case the service has
-/// taken the steps of all whole frames that were read.
+/// `BadFrame` (50): a frame is wrong, which is answered as soon as the wrong part is read. `CutOff`
+/// (51): the input ends inside a frame. `Memory` (90): there was no room for a frame. After these
+/// three the answers to all frames before it are written. `Device` (68): a call of the reader or
+/// the writer failed, or 2^32 frames were taken. Then a prefix of the answers is written, and all
+/// of them if no write failed. In each case the service has taken the steps of all whole frames
+/// that were read.
 pub fn serve<N: Naming, R: Read, W: Write>(
     alloc: Global,
     service: &mut Service<N>,

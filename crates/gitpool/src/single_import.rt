@@ -1,4 +1,4 @@
-//! One stream of git-fast-import(1) over an empty repository, of which nothing is kept.
+//! One stream of git-fast-import(1) over an empty repository that is not kept.
 
 ghost use Rattle.git_objects.specs.Device.{device_of, seen};
 ghost use Rattle.git_model.specs.Repository.{Repository};
@@ -14,23 +14,26 @@ use std::alloc::Global;
 use std::io::{Read, Write};
 use tenant_service::Service;
 
-// The one tenant of the service that is given up afterwards.
+// The only tenant of the service, which is dropped afterwards.
 const TENANT: &[u8] = b"one";
 
-/// Carries out one stream over an empty repository: reads it from `reader`, and writes its replies
-/// to `writer`, those to what was read before more is read. It ends with the input, or before that
-/// with `done` or a fault, and then reads no further. A call of the two that fails is the last one.
-/// It is `import` of a tenant of a new service.
+/// Carries out one stream of git-fast-import(1) over an empty repository: reads it from `reader`,
+/// and writes its replies to `writer`, with object names by `naming`. The replies to what was read
+/// are written before more is read. The stream ends with the input, or earlier at `done` or a
+/// fault; then nothing more is read. After a call of a device fails, no further call is made. It is
+/// `import` for a tenant of a new service, and nothing of it is kept.
 ///
-/// `ImportFault::Stream` where the stream is refused, or its end; exactly the replies before that
-/// stand written. `ImportFault::Device` (68) where a call of the reader or the writer failed, or
-/// where 2^32 reads have not come to the end; then a prefix of the replies to what was read, that
-/// of the end among them where the end was read, stands written, and all of them where no write
-/// failed. `ImportFault::Memory` (90) after a prefix of them, where no call failed.
+/// `ImportFault::Stream`: the stream or its end is refused under this number; exactly the replies
+/// before that are written. `ImportFault::Device` (68): a call of the reader or the writer failed,
+/// or 2^32 reads have not come to the end. Then a prefix of the replies to what was read is
+/// written, and all of them if no write failed. They include the reply of the end if the stream
+/// came to its end. `ImportFault::Memory` (90): memory ran out after a prefix of the replies was
+/// written, and no call failed.
 ///
-/// What a good repository exports, from a reader that has that text and nothing after it, is never
-/// refused, and nothing is written, where each of its lines and data fits into a stream and its
-/// refs reach at most 65,536 tags; what it leaves at its end is a copy (`exports`).
+/// Give it the export of a good repository, from a reader that has that text and nothing after it.
+/// If each line and each data of the text fits into a stream, and the refs are few enough for an
+/// export and reach at most 65,536 tags, the stream is never refused and nothing is written; at its
+/// end it leaves a copy (`exports`).
 pub fn import_one<N: Naming, R: Read, W: Write>(
     alloc: Global,
     naming: N,

@@ -5,14 +5,14 @@ use std::fs;
 use std::io::ErrorKind;
 use std::path::{Path, PathBuf};
 
-// How many links may lead on from one another, as many as Linux follows.
+// The most links that are followed in a chain: as many as Linux follows.
 const LINKS_LIMIT: u8 = 40;
 
-/// The path of the file to which a path leads: the path itself, unless a symbolic link stands
-/// there. Links are followed to their end, whether or not a file is there yet.
+/// The path of the file to which `path` leads: `path` itself, unless it names a symbolic link.
+/// Links are followed to their end, even if there is no file yet.
 ///
-/// `Device` (68) where a link cannot be read, and where more than 40 lead on from one another, as
-/// in a circle. `Memory` (90).
+/// `Device` (68) if a link cannot be read, or if there are more than 40 in a chain, as in a circle.
+/// `Memory` (90) if memory ran out.
 pub fn followed(rt: &HostRuntime, path: &str) -> Result<String, RunFault> {
     let mut path = Path::new(path).to_path_buf(rt.alloc())?;
     for _ in 0..LINKS_LIMIT {
@@ -35,7 +35,7 @@ fn is_link(rt: &HostRuntime, path: Path<'_>) -> Result<bool, RunFault> {
     }
 }
 
-// What a link says is a path from the folder of the link on, unless it begins at the root.
+// The target of a link is relative to the folder of the link, unless it begins at the root.
 fn target(rt: &HostRuntime, link: Path<'_>) -> Result<PathBuf, RunFault> {
     let said = link.read_link(rt)?;
     match link.parent() {

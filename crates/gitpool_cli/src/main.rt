@@ -1,6 +1,6 @@
-//! The program `gitpool`: without words, one stream of git-fast-import(1) from standard input over
-//! an empty repository, and its replies to standard output; with words, the repositories of a pool
-//! file.
+//! The program `gitpool`. Without arguments it carries out one stream of git-fast-import(1) from
+//! standard input over an empty repository, and writes its replies to standard output. With
+//! arguments it works on the repositories of a pool file.
 #![tactic(auto)]
 
 mod links;
@@ -17,10 +17,10 @@ use std::env;
 use std::io::ErrorKind;
 use std::process::ExitCode;
 
-// The exit status where the words name no line.
+// The exit status if the arguments are not a command line.
 const USAGE: u8 = 2;
 
-// The words after the program's name; none where one of them is no text.
+// The arguments after the name of the program; `None` if one of them is not text.
 fn words(rt: &HostRuntime) -> Result<Option<Vec<String>>, RunFault> {
     match env::args(rt) {
         Ok(words) => Ok(Some(words.skip(1).collect(rt.alloc())?)),
@@ -35,7 +35,7 @@ fn import(rt: &HostRuntime) -> Result<(), RunFault> {
     Ok(import_one(rt.alloc(), Sha1Naming, &mut reader, &mut writer)?)
 }
 
-// The status of a run, once a fault was told.
+// Reports the fault of a run, if there is one, and gives the exit status.
 fn ended(rt: &HostRuntime, outcome: Result<(), RunFault>) -> ExitCode {
     match outcome {
         Ok(()) => ExitCode::SUCCESS,

@@ -1,8 +1,8 @@
-//! The new file beside a pool file, which takes its name when a run saves. A run has it locked from
-//! before it loads the pool file, so that of the runs that save one is at work at a time.
+//! The new file beside a pool file, which takes its name when a run saves. A run locks it before it
+//! loads the pool file, so of the runs that save, only one at a time works on a pool file.
 //!
-//! A pool file that is named by a symbolic link is the file to which the link leads: the new file
-//! stands beside that one, and the link stays.
+//! If a symbolic link names the pool file, the pool file is the file to which the link leads: the
+//! new file is beside that one, and the link stays.
 
 use crate::links::followed;
 use crate::run_fault::RunFault;
@@ -12,34 +12,37 @@ use std::os::unix::fs::{MetadataExt, OpenOptionsExt, PermissionsExt, fchown};
 use std::os::unix::io::AsFd;
 use std::{fs, io};
 
-// What the new file has after the name of the pool file.
+// What the name of the new file has after the name of the pool file.
 const NEW: &str = ".new";
 
 // The mode of a new file until it has that of the pool file.
 const PRIVATE: u32 = 0o600;
 
-// The mode of a new file where there is no pool file, less what umask(2) takes away.
+// The mode of a new file if there is no pool file, less the bits that umask(2) takes away.
 const SHARED: u32 = 0o666;
 
-// The bits of a mode that are kept; where another group comes in, those for a group are not.
+// The bits of the pool file's mode that the new file gets. If the new file has another group, it
+// gets none of the group's bits.
 const KEPT: u32 = 0o777;
 
 const KEPT_OF_OTHERS: u32 = 0o707;
 
-/// The new file that one run has, and no other while this one lasts. A run that is killed leaves it
-/// behind, unlocked, and the next run removes it.
+/// The new file of one run. No other run has it while this value lasts. If the run is killed, the
+/// file stays, unlocked, and the next run removes it.
 #[derive(Drop)]
 pub struct NewFile {
     pool: String,
     name: String,
-    // Why there is none, where the folder takes none: a save is then refused.
+    // An error if no file could be made; a save is then refused with it.
     file: Result<File, RunFault>,
 }
 
 impl NewFile {
-    /// Makes the new file of a pool file. It is refused where another run has it, where a link
-    /// leads nowhere that can be told, and where memory runs out; where it cannot be made for
-    /// another cause, the save will be.
+    /// Makes the new file of a pool file, and locks it.
+    ///
+    /// `Device` (68) if another run has the file, or if the links of `pool` cannot be followed.
+    /// `Memory` (90) if memory ran out. If the file cannot be made for another reason, the run goes
+    /// on and only its save is refused (68).
     pub fn take(rt: &HostRuntime, pool: &str) -> Result<NewFile, RunFault> {
         let pool = followed(rt, pool)?;
         let name = format!(in rt.alloc(); "{pool}{NEW}")?;
@@ -51,12 +54,12 @@ impl NewFile {
         Ok(NewFile { pool, name, file })
     }
 
-    /// The path of the pool file, where no link stands.
+    /// The path of the pool file, with symbolic links followed.
     pub fn pool(&self) -> &str {
         &self.pool
     }
 
-    /// The file itself, empty until it is written; or why there is none.
+    /// The file, which is empty until it is written; or the fault for which it was not made.
     pub fn file(&self) -> Result<&File, RunFault> {
         match &self.file {
             Ok(file) => Ok(file),
@@ -64,8 +67,11 @@ impl NewFile {
         }
     }
 
-    /// Gives it the name of the pool file, once it is on the disk. The pool file's mode is kept,
-    /// and its owner and group where the system allows it.
+    /// Gives the file the name of the pool file, once it is on the disk. It keeps the pool file's
+    /// mode, and its owner and group if the system allows it.
+    ///
+    /// `Device` (68) if a call fails, or if another file has the name of the new one. The pool file
+    /// is then as it was.
     pub fn replace(&self, rt: &HostRuntime) -> Result<(), RunFault> {
         let file = self.file()?;
         file.sync_all()?;
@@ -77,7 +83,8 @@ impl NewFile {
         Ok(())
     }
 
-    /// Removes it.
+    /// Removes the file, unless its name belongs to another one. A failure is ignored: the next run
+    /// removes the file.
     pub fn remove(&self, rt: &HostRuntime) {
         if let Ok(file) = &self.file {
             if matches!(has_name(rt, &self.name, file), Ok(true)) {
@@ -87,7 +94,7 @@ impl NewFile {
     }
 }
 
-// Whether the run ends where no new file could be made: another run has it, or memory ran out.
+// Whether the run ends because no new file could be made: another run has it, or memory ran out.
 fn ends_run(kind: ErrorKind) -> bool {
     matches!(
         kind,
@@ -95,9 +102,10 @@ fn ends_run(kind: ErrorKind) -> bool {
     )
 }
 
-// The file is always a new one, so that nobody has it open already, nor has chosen what it leads
-// to. It is used by a duplicate, whose number is none of the standard streams': where one of these
-// is closed, what is written to it would go into the file.
+// The file is always created anew, so nobody has it open already or has chosen where it leads. It
+// is used through a duplicate, whose descriptor is not that of a standard stream: if a standard
+// stream is closed, the file gets its descriptor, and what is written to the stream would go into
+// the file.
 fn make(rt: &HostRuntime, pool: &str, name: &str) -> io::Result<File> {
     remove_left(rt, name)?;
     let mode = if fs::exists(rt, pool)? {
@@ -136,8 +144,8 @@ fn remove_left(rt: &HostRuntime, name: &str) -> io::Result<()> {
     }
 }
 
-// Locks a file of this name. Who has the lock alone takes the name away: so the file has it still
-// when it is locked, or another run was quicker.
+// Locks a file of this name. Only the holder of the lock takes the name away. So if the file still
+// has its name when it is locked, this run has it; otherwise another run was quicker.
 fn lock(rt: &HostRuntime, name: &str, file: &File) -> io::Result<()> {
     file.try_lock()?;
     if has_name(rt, name, file)? {
@@ -158,8 +166,8 @@ fn has_name(rt: &HostRuntime, name: &str, file: &File) -> io::Result<bool> {
     }
 }
 
-// Gives a new file the owner, the group and the mode of the pool file, as far as the system allows
-// it. Whatever it refuses leaves the file to fewer.
+// Gives the new file the owner, the group and the mode of the pool file, as far as the system
+// allows it. What the system refuses only leaves the file to fewer users.
 fn keep_mode(rt: &HostRuntime, pool: &str, file: &File) {
     let Ok(old) = fs::metadata(rt, pool) else {
         return;

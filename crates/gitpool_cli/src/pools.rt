@@ -6,16 +6,18 @@ use gitpool::{Counted, Service, Sha1Naming};
 use std::fs::File;
 use std::io::{BufReader, ErrorKind, Read};
 
-/// What is begun with where there is no pool file.
+/// What a run begins with if there is no pool file.
 #[derive(Clone, Copy)]
 pub enum Missing {
     /// A service that has seen no tenant.
     Empty,
-    /// Nothing: it is refused.
+    /// Nothing: the run is refused (68).
     Refused,
 }
 
-/// The service that a pool file has, or what is begun with where there is none.
+/// Loads the service in a pool file. If there is no file, `missing` says what the run begins with.
+///
+/// 60 to 67 and 69 if the file is refused; 68 if it cannot be opened or read; 90 if memory ran out.
 pub fn load(
     rt: &HostRuntime,
     pool: &str,
@@ -43,8 +45,10 @@ fn load_of<R: Read>(
 }
 
 /// Saves what every tenant has at its last checkpoint: the new file takes the place of the pool
-/// file when it is whole and on the disk. After a fault the pool file stays, and the new one is
-/// removed.
+/// file when it is whole and on the disk.
+///
+/// 68 if the new file cannot be made, written or renamed; 90 if memory ran out. The pool file is
+/// then as it was, and the new file is removed.
 pub fn save(
     rt: &HostRuntime,
     service: &Service<Sha1Naming>,

@@ -1,11 +1,11 @@
-//! What a run ends badly by, with its number and its exit status.
+//! Why a run failed, with the number of the fault and the exit status.
 
 use gitpool::{DeviceFault, FrameFault, ImportFault, PoolFault};
 use std::alloc::AllocError;
 use std::io::ErrorKind;
 use std::{fmt, io};
 
-// Exit statuses beside 0.
+// Exit statuses other than 0.
 const REFUSED: u8 = 1;
 
 const NO_POOL: u8 = 3;
@@ -25,9 +25,10 @@ pub enum RunFault {
     Frames(FrameFault),
     /// The pool file was refused, or not written.
     Pool(PoolFault),
-    /// Standard input or output failed, or the pool file was not there or took no other: 68.
+    /// Standard input or output failed, or the pool file was not there or could not be replaced
+    /// (68).
     Device,
-    /// Memory ran out: 90.
+    /// Memory ran out (90).
     Memory,
 }
 
@@ -44,8 +45,9 @@ impl RunFault {
         }
     }
 
-    /// The exit status of a run that ended by it: 1 for a tenant's fault and for bad frames, 3 for
-    /// a file that is no pool file, 4 for a device, 5 for want of memory.
+    /// The exit status of a run that failed with this fault: 1 if a step, a stream, a copy or a
+    /// frame was refused, 3 if the pool file was refused, 4 if a device failed, 5 if memory ran
+    /// out.
     pub fn status(self) -> u8 {
         match self.code() {
             68 => DEVICE,

@@ -1,6 +1,6 @@
-//! What each subcommand does: a service is loaded, asked, and saved where it may have changed.
+//! What each subcommand does: it loads a service, uses it, and saves it if it may have changed.
 //!
-//! A run has its service in one function, and lends it to what the subcommand asks of it.
+//! One function owns the service of a run, and lends it to the functions of the subcommand.
 
 use crate::new_file::NewFile;
 use crate::pools::{Missing, load, save};
@@ -9,7 +9,8 @@ use crate::steps;
 use gitpool::{Counted, Line, Service, Sha1Naming, Step, write_all};
 use std::alloc::{AllocError, Global};
 
-/// Carries out a command line. Where several calls are refused, the first fault is answered.
+/// Carries out a command line. If several calls are refused, the first fault is answered;
+/// `RunFault` has the numbers.
 pub fn run(rt: &HostRuntime, line: Line<'_>) -> Result<(), RunFault> {
     match line {
         Line::Serve { pool } => run_to_save(rt, line, pool, Missing::Empty),
@@ -26,8 +27,7 @@ fn run_to_read(rt: &HostRuntime, line: Line<'_>, pool: &str) -> Result<(), RunFa
     carry_out(rt, &mut service, line)
 }
 
-// A run that saves. No other one is at work on the pool file meanwhile; where one is, this one is
-// refused.
+// A run that saves. If another one works on the pool file, this one is refused (68).
 fn run_to_save(
     rt: &HostRuntime,
     line: Line<'_>,
@@ -38,7 +38,7 @@ fn run_to_save(
     load_and_save(rt, line, &new, missing)
 }
 
-// Where the pool file is refused nothing is left beside it.
+// If the pool file is refused, the new file is removed.
 fn load_and_save(
     rt: &HostRuntime,
     line: Line<'_>,
@@ -54,7 +54,7 @@ fn load_and_save(
     }
 }
 
-// The service is saved also after frames, a stream or a copy that were refused.
+// The service is saved even after frames, a stream or a copy were refused.
 fn carry_out_and_save(
     rt: &HostRuntime,
     mut service: Service<Sha1Naming>,
@@ -82,14 +82,14 @@ fn carry_out(
     }
 }
 
-// Frames of steps are answered up to the end of the input.
+// Answers frames of steps, up to the end of the input.
 fn serve(rt: &HostRuntime, service: &mut Service<Sha1Naming>) -> Result<(), RunFault> {
     let mut reader = Counted::new(rt.stdin());
     let mut writer = Counted::new(rt.stdout());
     Ok(gitpool::serve(rt.alloc(), service, &mut reader, &mut writer)?)
 }
 
-// One stream is imported.
+// Imports one stream.
 fn import(
     rt: &HostRuntime,
     service: &mut Service<Sha1Naming>,

@@ -1,10 +1,11 @@
-//! Single steps of a service, their replies to standard output.
+//! Single steps of a service, with their replies on standard output.
 
 use crate::run_fault::RunFault;
 use gitpool::{Answer, Counted, Service, Sha1Naming, Step, write_all};
 use std::io::Write;
 
-/// What an answer is to the run.
+/// The answer of a step as the outcome of the run: `Step` with the number of its fault, or `Memory`
+/// (90).
 pub fn outcome(answer: Answer) -> Result<(), RunFault> {
     match answer {
         Answer::Ok => Ok(()),
@@ -13,7 +14,8 @@ pub fn outcome(answer: Answer) -> Result<(), RunFault> {
     }
 }
 
-/// Takes a step, writes its reply, and answers its fault, or else that of the writer.
+/// Takes a step, and writes its reply to `writer`. `out` is empty afterwards. The fault of the step
+/// is answered first; else 68 if the write failed.
 pub fn take<W: Write>(
     service: &mut Service<Sha1Naming>,
     step: Step<'_>,

@@ -1,6 +1,6 @@
-//! The program `gitpool_frames`, for tests and measurements: frames of steps from standard input
-//! over an empty service, and their answers to standard output. Its one word chooses how objects
-//! are named: `sha1`, or `tail` for tests.
+//! The program `gitpool_frames`, for tests and measurements: it reads frames of steps from standard
+//! input, over an empty service, and writes their answers to standard output. Its one argument
+//! chooses how objects are named: `sha1`, or `tail` for tests.
 #![tactic(auto)]
 
 use gitpool::{Counted, FrameFault, Naming, Service, Sha1Naming, TailNaming, serve};
@@ -8,7 +8,7 @@ use std::env;
 use std::io::ErrorKind;
 use std::process::ExitCode;
 
-// Exit statuses beside 0: what refused the frames, or words that nothing takes.
+// Exit statuses other than 0: the frames were refused, or the arguments are wrong.
 const REFUSED: u8 = 1;
 
 const USAGE: u8 = 2;
@@ -40,7 +40,7 @@ fn named(word: &str) -> Option<Names> {
     }
 }
 
-// The one word after the program's name; none where the words are others.
+// The one argument after the name of the program; `None` if the arguments are wrong.
 fn chosen(rt: &HostRuntime) -> Result<Option<Names>, FrameFault> {
     let mut words = match env::args(rt) {
         Ok(words) => words,
@@ -63,7 +63,7 @@ fn frames<N: Naming>(rt: &HostRuntime, naming: N) -> Result<(), FrameFault> {
     serve(rt.alloc(), &mut service, &mut reader, &mut writer)
 }
 
-// The status of a run, once a fault was told.
+// Reports the fault of a run, if there is one, and gives the exit status.
 fn ended(rt: &HostRuntime, outcome: Result<(), FrameFault>) -> ExitCode {
     match outcome {
         Ok(()) => ExitCode::SUCCESS,

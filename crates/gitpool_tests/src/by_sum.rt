@@ -1,5 +1,5 @@
-//! Two contents of one name, and digits with which two names begin, under a naming where all names
-//! begin alike: nineteen bytes 0xab, and the sum of all bytes of the content.
+//! Two contents with the same name, and digits with which two names begin. In the naming of these
+//! tests all names begin alike: nineteen bytes 0xab, and the sum of all bytes of the content.
 
 use crate::rows::{Do, Row, first_otherwise};
 use gitpool::TailNaming;
@@ -25,9 +25,9 @@ const SHOW_B: &[u8] = b"cat ababababababababababababababababababab52";
 
 const B_SHOWN: &[u8] = b"ababababababababababababababababababab52 blob 1\nb\n";
 
-// Two tenants have a content each under one name, and a second of that name is refused. Then `c`
-// has two blobs, and `d` the first of them: the whole name is printed where no fewer digits are its
-// own.
+// Two tenants have one content each, with the same name; a second content with that name is
+// refused. Then `c` has two blobs, and `d` has the first of them. The whole name is printed if
+// fewer digits do not suffice.
 const ROWS: &[Row] = &[
     ((Do::Open, b"a", b""), (0, b""), (0, 0, 0)),
     ((Do::Open, b"b", b""), (0, b""), (0, 0, 0)),

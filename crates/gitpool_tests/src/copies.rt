@@ -1,11 +1,11 @@
-//! Copies of tenants to empty ones: what one leaves, beside what git makes of the same stream, and
-//! what refuses one.
+//! Copies of tenants to empty ones: what a copy leaves, compared with what git makes of the same
+//! stream, and what refuses a copy.
 
 use crate::rows::{Do, Row, first_otherwise};
 use gitpool::Sha1Naming;
 use std::alloc::Global;
 
-// A blob, and a commit of it on `refs/heads/m`: with the tree three objects of 6, 29 and 98 bytes.
+// A blob, and a commit of it on `refs/heads/m`: with the tree, three objects of 6, 29 and 98 bytes.
 const STREAM: &[u8] = b"blob\n\
     mark :1\n\
     data 6\n\
@@ -21,15 +21,17 @@ const REFS: &[u8] = b"28139c25c808723300683a56bda158d153221c0e refs/heads/m\n";
 
 const HEAD: &[u8] = b"option gitpool head refs/heads/m\n";
 
-// A tenant that was never seen is copied, to itself too, and is as if never seen.
+// A copy of a tenant that was never seen, even to itself, leaves a tenant that looks as if never
+// seen.
 const OF_NOBODY: &[Row] = &[
     ((Do::Copy, b"x", b"x"), (0, b""), (0, 0, 0)),
     ((Do::Copy, b"x", b"x"), (0, b""), (0, 0, 0)),
     ((Do::Copy, b"x", b"y"), (0, b""), (0, 0, 0)),
 ];
 
-// A copy has the same refs and stores nothing more. A bad name is refused (32) before an open stream
-// (31), and that before what is there (33); a dead stream is open, and HEAD alone is something.
+// A copy has the same refs and stores nothing more. A bad name (32) is refused before an open
+// stream (31), and an open stream before a tenant that is not empty (33). A dead stream counts as
+// open, and a HEAD of its own makes a tenant not empty.
 const OF_TENANTS: &[Row] = &[
     ((Do::Open, b"a", b""), (0, b""), (0, 0, 0)),
     ((Do::Feed, b"a", STREAM), (0, b""), (1, 6, 0)),

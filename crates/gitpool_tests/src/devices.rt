@@ -10,7 +10,7 @@ pub const STREAM: &[u8] = b"blob\nmark :1\ndata 6\nhello\nget-mark :1\nprogress 
 
 const REPLIES: &[u8] = b"ce013625030ba8dba906f756967f9e9ca394464a\nprogress x\n";
 
-// How many bytes the replies to the first bytes of the stream have.
+// The number of bytes of the replies to the first `given` bytes of the stream.
 pub fn replied(given: usize) -> usize {
     match given {
         0..=37 => 0,
@@ -19,7 +19,7 @@ pub fn replied(given: usize) -> usize {
     }
 }
 
-// What an import answered, and what it wrote.
+// What an import answers, and how many calls of its device failed. `out` gets what it wrote.
 fn with_failing_reader(
     alloc: Global,
     nth: u64,
@@ -45,7 +45,8 @@ fn with_failing_writer(
     (ended, faults)
 }
 
-// Whether an import is told of its reader's nth call, once the replies to all before are written.
+// Whether an import reports the failure of its reader's nth call, after the replies to all bytes
+// before it are written.
 fn tells_read(alloc: Global, nth: u64) -> bool {
     let mut out = Vec::new(alloc);
     let ended = with_failing_reader(alloc, nth, &mut out);
@@ -68,7 +69,8 @@ fn tells_each_read_that_fails(rt: HostRuntime) {
     assert!(rt; reads_all(rt.alloc(), 50));
 }
 
-// Whether an import is told of its writer's nth call, once the bytes before stand written.
+// Whether an import reports the failure of its writer's nth call, after the bytes before it are
+// written.
 fn tells_write(alloc: Global, nth: u64) -> bool {
     let mut out = Vec::new(alloc);
     let ended = with_failing_writer(alloc, nth, &mut out);
@@ -82,7 +84,7 @@ fn writes_all(alloc: Global, nth: u64) -> bool {
     ended == (Ok(()), 0) && out.as_slice() == REPLIES
 }
 
-// The replies have 52 bytes, each of which is a call.
+// The replies have 52 bytes, and each byte is one call.
 #[test]
 fn tells_each_write_that_fails(rt: HostRuntime) {
     for nth in 0..52_u64 {
@@ -91,7 +93,7 @@ fn tells_each_write_that_fails(rt: HostRuntime) {
     assert!(rt; writes_all(rt.alloc(), 52));
 }
 
-// A stream that ends before its bytes do, its answer, and how many bytes that takes.
+// A stream that ends before its bytes do, the answer to it, and the number of bytes that are read.
 const ENDED_EARLY: &[(&[u8], Result<(), ImportFault>, u64)] = &[
     (b"progress x\ndone\nprogress y\n", Ok(()), 16),
     (
@@ -101,8 +103,8 @@ const ENDED_EARLY: &[(&[u8], Result<(), ImportFault>, u64)] = &[
     ),
 ];
 
-// What an import answers that is given one byte a call, how many bytes it took, and by how many
-// calls.
+// The answer of an import that gets one byte a call, the number of bytes that it read, and the
+// number of its calls.
 fn read_early(alloc: Global, bytes: &[u8]) -> (Result<(), ImportFault>, u64, u64) {
     let mut reader = Counted::new(OneByte::new(bytes));
     let mut writer = Counted::new(Vec::new(alloc));

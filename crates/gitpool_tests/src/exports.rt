@@ -1,12 +1,12 @@
-//! What a tenant exports, imported by another, and what a copy leaves in its place: refs beside
-//! those that git makes of the same stream, and each object that they reach.
+//! What a tenant exports, imported by another tenant, and what a copy leaves instead. The refs are
+//! compared with those that git makes of the same stream, and so is each object that they reach.
 
 use crate::told::{asks, takes};
 use gitpool::{Answer, Service, Sha1Naming, Step};
 use std::alloc::Global;
 
-// An encoding, a quoted path, a gitlink, a merge with one parent twice, a tag, a tag of it, and a
-// ref `refs/tags/v` that names a commit.
+// A stream with an encoding, a quoted path, a gitlink, a merge with one parent twice, a tag, a tag
+// of that tag, and a ref `refs/tags/v` that names a commit.
 const STREAM: &[u8] = b"blob\n\
     mark :1\n\
     data 6\n\
@@ -59,7 +59,7 @@ const REFS: &[u8] = b"2ce4fb54e829ef408745cc2487db62f8279d41e3 refs/heads/m\n\
     2cf6119f08a399d8f12cf4266d33696154dcb723 refs/tags/w\n\
     cb4d0c64365cac602ea039e82f97cc2a5c0ad373 refs/tags/x\n";
 
-// Questions for its objects: the blob, the trees, the commits and the tags.
+// Queries for its objects: the blob, the trees, the commits and the tags.
 const CATS: &[&[u8]] = &[
     b"cat ce013625030ba8dba906f756967f9e9ca394464a",
     b"cat 2ce4fb54e829ef408745cc2487db62f8279d41e3",
@@ -73,7 +73,7 @@ const CATS: &[&[u8]] = &[
     b"cat 613be488e0339e88419adf4c97f790a9c7fe6fad",
 ];
 
-// What a tenant is told of a query; of a refused one nothing.
+// The answer to a tenant's query; empty if the query is refused.
 fn answer_of(
     alloc: Global,
     service: &mut Service<Sha1Naming>,
@@ -85,7 +85,7 @@ fn answer_of(
     out
 }
 
-// Whether a tenant is told of a query what another is told, which is something.
+// Whether a tenant gets the same answer to a query as another tenant, and the answer is not empty.
 fn is_told_the_same(
     alloc: Global,
     service: &mut Service<Sha1Naming>,
@@ -97,7 +97,7 @@ fn is_told_the_same(
     !told.is_empty() && asks(alloc, service, tenant, query, &told)
 }
 
-// Whether a tenant is told of each object what `a` is told.
+// Whether a tenant gets the same answer as `a` for each object.
 fn has_objects(alloc: Global, service: &mut Service<Sha1Naming>, tenant: &[u8]) -> bool {
     for query in CATS {
         if !is_told_the_same(alloc, service, tenant, b"a", query) {
@@ -107,7 +107,7 @@ fn has_objects(alloc: Global, service: &mut Service<Sha1Naming>, tenant: &[u8]) 
     true
 }
 
-// Whether a tenant takes what another exports.
+// Whether a tenant imports what another exports, and nothing is refused.
 fn takes_export(
     alloc: Global,
     service: &mut Service<Sha1Naming>,

@@ -1,4 +1,4 @@
-//! Frames of steps over a whole service, beside bytes derived by hand.
+//! Frames of steps over a whole service, compared with bytes derived by hand.
 
 use crate::one_byte::OneByte;
 use byte_devices::{FailingReader, FailingWriter};
@@ -6,15 +6,16 @@ use gitpool::{Counted, FrameFault, Naming, Service, Sha1Naming, TailNaming, serv
 use std::alloc::Global;
 use std::io::{Read, Write};
 
-/// Open of `t`, a Feed of `progress x` and its line end, an Ask and the End: 8, 19, 12 and 8 bytes.
+/// The frames of an Open of `t`, a Feed of `progress x` and its line end, an Ask and the End: 8,
+/// 19, 12 and 8 bytes.
 pub const FRAMES: &[u8] =
     b"\x01\0\x01t\0\0\0\0\x02\0\x01t\0\0\0\x0bprogress x\n\x04\0\x01t\0\0\0\x04refs\x03\0\x01t\0\0\0\0";
 
-/// The answers to these: three of 17 bytes, and one of 17 and 11.
+/// The answers to these frames: three of 17 bytes, and one, the second, of 17 and 11.
 pub const ANSWERS: &[u8] =
     b"\0\0\0\0\0\0\0\0\0\0\0\0\0\0\0\0\0\0\0\0\0\0\0\0\0\0\0\0\0\0\0\0\0\x0bprogress x\n\0\0\0\0\0\0\0\0\0\0\0\0\0\0\0\0\0\0\0\0\0\0\0\0\0\0\0\0\0\0\0\0\0\0";
 
-/// How many bytes the answers to the first bytes of the frames have.
+/// The number of bytes of the answers to the first `given` bytes of the frames.
 pub fn answered(given: usize) -> usize {
     match given {
         0..=7 => 0,
@@ -25,7 +26,7 @@ pub fn answered(given: usize) -> usize {
     }
 }
 
-/// Serves frames over an empty service: how it ended.
+/// Serves frames over an empty service. The result is how serving ended.
 pub fn serve_empty<N: Naming, R: Read, W: Write>(
     alloc: Global,
     naming: N,
@@ -38,7 +39,7 @@ pub fn serve_empty<N: Naming, R: Read, W: Write>(
     ended
 }
 
-// The same of these bytes, and what was written.
+// Serves these bytes over an empty service. `out` gets what was written.
 fn served<N: Naming>(
     alloc: Global,
     naming: N,
@@ -51,7 +52,7 @@ fn served<N: Naming>(
     ended
 }
 
-// Whether these bytes end so, and are answered so.
+// Whether serving these bytes ends like this, with these answers.
 fn go<N: Naming>(
     alloc: Global,
     naming: N,
@@ -69,7 +70,7 @@ fn answers_each_frame(rt: HostRuntime) {
     assert!(rt; go(rt.alloc(), TailNaming, b"", Ok(()), b""));
 }
 
-// Texts that are no frame, or are cut off in one.
+// Bytes that are not a frame, or are cut off inside one.
 const ENDS: &[(&[u8], FrameFault)] = &[
     (b"\x06", FrameFault::BadFrame),
     (b"\x01\0\x01t\0\0\0\x01", FrameFault::BadFrame),
@@ -77,7 +78,7 @@ const ENDS: &[(&[u8], FrameFault)] = &[
     (b"\x02\0\x01t\0\0\0\x02x", FrameFault::CutOff),
 ];
 
-// Whether these bytes end with this fault after whole frames.
+// Whether serving these bytes after whole frames ends with this fault.
 fn end_after_frames(alloc: Global, bytes: &[u8], fault: FrameFault) -> bool {
     let mut both = Vec::new(alloc);
     both.extend_from_slice(FRAMES).is_ok()
@@ -85,12 +86,12 @@ fn end_after_frames(alloc: Global, bytes: &[u8], fault: FrameFault) -> bool {
         && go(alloc, Sha1Naming, &both, Err(fault), ANSWERS)
 }
 
-// Whether these bytes end with this fault, and after whole frames too.
+// Whether serving these bytes ends with this fault, alone and after whole frames.
 fn end_with(alloc: Global, bytes: &[u8], fault: FrameFault) -> bool {
     go(alloc, Sha1Naming, bytes, Err(fault), b"") && end_after_frames(alloc, bytes, fault)
 }
 
-// The first of the texts, by its place, that ends otherwise.
+// The place of the first text that ends differently.
 fn first_otherwise(alloc: Global) -> Option<usize> {
     for (place, (bytes, fault)) in ENDS.iter().enumerate() {
         if !end_with(alloc, bytes, *fault) {
@@ -105,7 +106,7 @@ fn ends_at_a_bad_frame_after_the_answers(rt: HostRuntime) {
     assert_eq!(rt; first_otherwise(rt.alloc()), None);
 }
 
-// Whether a front of the frames is answered up to the last whole one.
+// Whether a prefix of the frames is answered up to its last whole frame.
 fn answers_front(alloc: Global, front: &[u8]) -> bool {
     let size = front.len();
     let mut out = Vec::new(alloc);
@@ -125,8 +126,8 @@ fn tells_frames_that_are_cut_off(rt: HostRuntime) {
     }
 }
 
-// Serves the frames from a reader whose nth call fails: how it ended, how many calls failed, and
-// what was written.
+// Serves the frames from a reader whose nth call fails. The result is how serving ended and how
+// many calls failed; `out` gets what was written.
 fn with_failing_reader(
     alloc: Global,
     nth: u64,
@@ -172,7 +173,7 @@ fn tells_write(alloc: Global, nth: u64) -> bool {
     ended == wanted && Some(out.as_slice()) == ANSWERS.get(..nth as usize)
 }
 
-// The answers have 79 bytes, each of which is a call.
+// The answers have 79 bytes, and each byte is one call.
 #[test]
 fn tells_each_write_that_fails(rt: HostRuntime) {
     for nth in 0..=79_u64 {

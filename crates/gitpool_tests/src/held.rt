@@ -1,5 +1,5 @@
-//! What is held after each step, of how many tenants, and of whom something is lent: contents are
-//! held once, and those of a stream go with it.
+//! What is held after each step, of how many tenants, and for which tenant `view` lends something.
+//! Contents are held once, and those of a stream go away with it.
 
 use crate::rows::{Do, Row, first_otherwise, goes};
 use crate::told::{asks, code_of, feeds, takes, tells};
@@ -12,12 +12,12 @@ const HELLO_SHOWN: &[u8] = b"ce013625030ba8dba906f756967f9e9ca394464a blob 6\nhe
 
 const HELLO_AND_MARK: &[u8] = b"blob\nmark :1\ndata 6\nhello\nget-mark :1\n";
 
-// A commit without files, of 98 bytes, and another; the tree of both has none.
+// A commit without files, of 98 bytes, and another one; both have the empty tree.
 const COMMIT: &[u8] = b"commit refs/heads/m\ncommitter A <a@b> 0 +0000\ndata 2\nx\n";
 
 const OTHER_COMMIT: &[u8] = b"commit refs/heads/m\ncommitter A <a@b> 0 +0000\ndata 2\ny\n";
 
-// A commit with a directory, which is open, and the directory.
+// An open commit with a directory, and that directory.
 const COMMIT_OF_FILE: &[u8] = b"commit refs/heads/m\ncommitter A <a@b> 0 +0000\ndata 2\nx\n\
     M 644 ce013625030ba8dba906f756967f9e9ca394464a a/x\n";
 
@@ -38,12 +38,13 @@ const SHARED: &[Row] = &[
     ((Do::Restart, b"", b""), (0, b""), (0, 0, 0)),
 ];
 
-// How many objects `a` and `b` list after each of these.
+// The numbers of objects that `a` and `b` list after each of these steps.
 const LISTED: &[(usize, usize)] = &[(0, 0), (1, 0), (1, 0), (1, 1), (0, 1), (0, 1), (0, 0)];
 
-// In turn: two tenants share a content; a fault, an end in a data and one in a command give up what
-// was not saved; what stands before `done` is saved; a fault behind a checkpoint leaves the tree of
-// no bytes and the commit that it saved; a directory that is shown is stored until a fault.
+// In this order: two tenants share a content. A fault, an end inside a data and an end inside a
+// command give up what was not saved. What comes before `done` is saved. A fault after a checkpoint
+// leaves the empty tree and the commit that the checkpoint saved. A directory that is shown is
+// stored until a fault.
 const ROWS: &[Row] = &[
     ((Do::Open, b"a", b""), (0, b""), (0, 0, 0)),
     ((Do::Feed, b"a", HELLO), (0, b""), (1, 6, 0)),
@@ -111,13 +112,13 @@ fn slot_of(service: &Service<Sha1Naming>, tenant: &[u8]) -> Option<Slot> {
     }
 }
 
-// Whether `a` and `b` list so many objects; where both have one, it lies in one slot.
+// Whether `a` and `b` list so many objects. If both have one, it must be in one slot.
 fn are_listed(service: &Service<Sha1Naming>, listed: (usize, usize)) -> bool {
     let are_so_many = (listed_of(service, b"a"), listed_of(service, b"b")) == listed;
     are_so_many && (listed != (1, 1) || slot_of(service, b"a") == slot_of(service, b"b"))
 }
 
-// The first of the rows that share, by its place, that goes otherwise or lists others.
+// The place of the first row of `SHARED` that goes differently or lists other objects.
 fn first_listed_otherwise(alloc: Global, service: &mut Service<Sha1Naming>) -> Option<usize> {
     for (place, (row, listed)) in SHARED.iter().zip(LISTED.iter()).enumerate() {
         if !goes(alloc, service, row) || !are_listed(service, *listed) {
@@ -139,8 +140,8 @@ fn holds_a_content_of_two_tenants_in_one_slot_until_both_give_it_up(rt: HostRunt
     assert_eq!(rt; first_wrong_in_its_slots(rt.alloc()), None);
 }
 
-// Whether the steps of a tenant are told so, and something is lent of it before it opens a stream,
-// though it was named, and after.
+// Whether the steps of a tenant are answered as expected, and whether `view` lends something of it
+// before it opens a stream, although it was named, and afterwards.
 fn are_lent(alloc: Global, service: &mut Service<Sha1Naming>) -> (bool, bool, bool) {
     let tenant = b"a".as_slice();
     let named = tells(alloc, service, Step::End { tenant }, 30, b"")
@@ -163,13 +164,13 @@ fn lends_a_tenant_that_has_opened_a_stream(rt: HostRuntime) {
     assert_eq!(rt; are_lent_when_new(rt.alloc()), (true, false, true));
 }
 
-// Whether a step is answered well; what it prints is appended.
+// Whether a step is answered Ok. What it prints is appended to `out`.
 fn is_well(service: &mut Service<Sha1Naming>, step: Step<'_>, out: &mut Vec<u8>) -> bool {
     code_of(service.step(step, out)) == 0
 }
 
-// Whether a stream is taken that is fed in two pieces, with a query between them, and what it
-// leaves.
+// Whether a stream is accepted that is fed in two pieces with a query between them, and what is
+// stored after it.
 fn held_after(
     service: &mut Service<Sha1Naming>,
     bytes: &[u8],
@@ -221,7 +222,7 @@ fn stores_hello(alloc: Global, service: &mut Service<Sha1Naming>, number: usize)
     }
 }
 
-// Whether a thousand tenants and one store the blob.
+// Whether 1,001 tenants store the blob, and it is stored once.
 fn all_store(alloc: Global, service: &mut Service<Sha1Naming>) -> bool {
     for number in 0..1001 {
         if !stores_hello(alloc, service, number) {

@@ -1,4 +1,4 @@
-//! Tests of whole services and whole streams, over the crates together. Nothing else stands here.
+//! Tests of whole services and whole streams, across crates. The crate has nothing else.
 #![tactic(auto)]
 
 #[cfg(test)]

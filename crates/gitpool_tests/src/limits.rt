@@ -1,16 +1,16 @@
-//! Lines at their limit and one byte beyond, through a service of two tenants. The limit is our own,
-//! that of docs/FORMATS.md. A data at its limit is asked of frames (streams/tenants), and data of as
-//! many bytes are fed by streams/run_tenants.
+//! Lines at their limit and one byte longer, through a service of two tenants. The limit is our
+//! own: docs/FORMATS.md has it. Frames test a data at its limit (streams/tenants), and
+//! streams/run_tenants feeds data of as many bytes.
 
 use crate::told::{feeds, tells};
 use gitpool::{Memory, Service, Step, TailNaming};
 use std::alloc::Global;
 use std::test::Fail;
 
-// The most bytes of a line, without its line end.
+// The most bytes that a line may have, without its line end.
 const LINE: usize = 1_048_575;
 
-// A line that is filled up to the limit, and what stands before it.
+// A line that can be filled up to the limit, and what the stream has before it.
 struct Line {
     before: &'static [u8],
     head: &'static [u8],
@@ -50,7 +50,8 @@ const LINES: &[Line] = &[
     },
 ];
 
-// Whether a tenant's new stream takes all bytes of a line, but its line end, and prints nothing.
+// Whether a tenant's new stream accepts all bytes of a line except its line end, and prints
+// nothing.
 fn begins(
     alloc: Global,
     service: &mut Service<TailNaming>,
@@ -65,13 +66,13 @@ fn begins(
         && feeds(alloc, service, tenant, line.tail, 0, b"")
 }
 
-// What fills a line up to the limit, of as many bytes as a line may have.
+// The bytes that fill a line up to the limit: as many as a line may have.
 fn filler_of<'a>(line: &Line, most: &'a [u8]) -> &'a [u8] {
     let told = line.head.len().saturating_add(line.tail.len());
     most.get(told..).unwrap_or(b"".as_slice())
 }
 
-// Whether a line of the limit is taken, and refused (1) as soon as it has one byte more.
+// Whether a line at the limit is accepted, and refused (1) as soon as it has one more byte.
 fn keeps_the_limit(
     alloc: Global,
     service: &mut Service<TailNaming>,
@@ -87,7 +88,7 @@ fn keeps_the_limit(
         && tells(alloc, service, Step::Restart, 0, b"")
 }
 
-// The first line, by its place, that is not taken up to the limit and no further.
+// The place of the first line that is not accepted exactly up to the limit.
 fn first_otherwise(alloc: Global, service: &mut Service<TailNaming>, most: &[u8]) -> Option<usize> {
     for (place, line) in LINES.iter().enumerate() {
         if !keeps_the_limit(alloc, service, line, most) {

@@ -5,7 +5,7 @@ ghost use Rattle.std.specs.Prelude.{None};
 use std::io;
 use std::io::Read;
 
-/// Gives the bytes one a call.
+/// Gives its bytes one by one, one in each call.
 #[derive(Debug, Drop)]
 pub struct OneByte<'a> {
     left: &'a [u8],

@@ -1,10 +1,10 @@
-//! A run of steps, and what each is told.
+//! A run of steps, and the reply to each.
 
 use crate::told::code_of;
 use gitpool::{Reply, Service, Sha1Naming, Step};
 use std::alloc::Global;
 
-// Steps of two tenants and one of nobody.
+// Steps of two tenants, and one with a bad name.
 const STEPS: &[Step<'static>] = &[
     Step::Open { tenant: b"a" },
     Step::Open { tenant: b"-" },
@@ -25,8 +25,7 @@ const STEPS: &[Step<'static>] = &[
     Step::End { tenant: b"a" },
 ];
 
-// What these steps are told: the number that refuses each, 0 where nothing does, and what is
-// printed.
+// The replies to these steps: the number of the fault, or 0, and what is printed.
 const TOLD: &[(u16, &[u8])] = &[
     (0, b""),
     (32, b""),
@@ -42,7 +41,7 @@ fn is_told(reply: &Reply, code: u16, bytes: &[u8]) -> bool {
     code_of(reply.answer) == code && reply.bytes.as_slice() == bytes
 }
 
-// Whether these are the replies that were told.
+// Whether the replies are the expected ones.
 fn are_told(replies: &[Reply]) -> bool {
     for (reply, (code, bytes)) in replies.iter().zip(TOLD.iter()) {
         if !is_told(reply, *code, bytes) {

@@ -1,10 +1,10 @@
-//! Steps and copies of tenants in turn, each with what it is told and what is held after it.
+//! Steps and copies of tenants in turn, each with its answer and what is held after it.
 
 use crate::told::code_of;
 use gitpool::{Answer, Naming, Service, Step};
 use std::alloc::Global;
 
-/// What is done.
+/// What a row does.
 #[derive(Clone, Copy)]
 pub enum Do {
     Open,
@@ -15,9 +15,10 @@ pub enum Do {
     Copy,
 }
 
-/// What is done, for a tenant, with bytes: a piece, a query, or the tenant that a copy goes to. The
-/// number that refuses it, 0 where nothing does, and what is printed. How many contents of how many
-/// bytes are held after it, and how many tenants have an object at their last checkpoint.
+/// What a row does, its tenant, and bytes: a piece, a query, or the tenant that receives a copy.
+/// The number of the fault, or 0, and what is printed. The number of contents held afterwards, the
+/// sum of their sizes in bytes, and the number of tenants that have an object at their last
+/// checkpoint.
 pub type Row = (
     (Do, &'static [u8], &'static [u8]),
     (u16, &'static [u8]),
@@ -51,14 +52,14 @@ fn held_by<N: Naming>(service: &Service<N>) -> (u64, u64, u64) {
     (number, size, service.tenants())
 }
 
-/// Whether a step or copy is told so, and so much is held after it.
+/// Whether the row gets its answer, and what it says is held afterwards.
 pub fn goes<N: Naming>(alloc: Global, service: &mut Service<N>, row: &Row) -> bool {
     let mut out = Vec::new(alloc);
     let answer = answer_of(service, row, &mut out);
     (code_of(answer), out.as_slice()) == row.1 && held_by(service) == row.2
 }
 
-// The first of these rows, by its place, that goes otherwise.
+// The place of the first row that goes differently.
 fn first_of<N: Naming>(alloc: Global, service: &mut Service<N>, rows: &[Row]) -> Option<usize> {
     for (place, row) in rows.iter().enumerate() {
         if !goes(alloc, service, row) {
@@ -68,7 +69,7 @@ fn first_of<N: Naming>(alloc: Global, service: &mut Service<N>, rows: &[Row]) ->
     None
 }
 
-/// The first of these rows, by its place, that goes otherwise over a service that has seen nobody.
+/// The place of the first row that goes differently, over a new service.
 pub fn first_otherwise<N: Naming>(alloc: Global, naming: N, rows: &[Row]) -> Option<usize> {
     let mut service = Service::new(alloc, naming);
     let place = first_of(alloc, &mut service, rows);

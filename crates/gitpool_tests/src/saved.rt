@@ -16,8 +16,9 @@ const VERSION_2: &[u8] = b"gitpool\n\0\0\0\x02\0\0\0\0\0\0\0\x01\x03\0\0\0\0\0\0
     \0\x0frefs/heads/main\
     \xab\xab\xab\xab\xab\xab\xab\xab\xab\xab\xab\xab\xab\xab\xab\xab\xab\xab\xab\x11";
 
-// Version 1 with one thing changed, and the number that refuses it. Under a digest made right: an
-// object of no kind, the number of no object, and a ref to the blob.
+// Version 1 with one thing changed, and the number that refuses it. First, with a digest that fits
+// the changed file: an object of an unknown kind, the number of an object that is not there, and a
+// ref to the blob.
 const REFUSED: &[(&[u8], u16)] = &[
     (
         b"gitpool\n\0\0\0\x01\0\0\0\0\0\0\0\x01\x05\0\0\0\0\0\0\0\x02ab\
@@ -38,8 +39,8 @@ const REFUSED: &[(&[u8], u16)] = &[
             \xab\xab\xab\xab\xab\xab\xab\xab\xab\xab\xab\xab\xab\xab\xab\xab\xab\xab\xab\xb9",
         67,
     ),
-    // The number of version 2, but no HEAD; the count of no objects; another byte of the blob; a byte
-    // more.
+    // With the old digest: the number of version 2, but no HEAD; a count of 0 objects; another byte
+    // in the blob; one more byte at the end.
     (
         b"gitpool\n\0\0\0\x02\0\0\0\0\0\0\0\x01\x03\0\0\0\0\0\0\0\x02ab\
             \0\0\0\0\0\0\0\x01\0\x01t\0\0\0\0\0\0\0\x01\0\0\0\0\0\0\0\0\0\0\0\0\0\0\0\0\
@@ -66,7 +67,7 @@ const REFUSED: &[(&[u8], u16)] = &[
     ),
 ];
 
-/// Whether a service is saved as this file.
+/// Whether saving the service writes this file.
 pub fn is_saved_as<N: Naming + Starting>(alloc: Global, service: &Service<N>, file: &[u8]) -> bool {
     let mut writer = Counted::new(Vec::new(alloc));
     let is_saved = service.save(&mut writer).is_ok();
@@ -74,7 +75,7 @@ pub fn is_saved_as<N: Naming + Starting>(alloc: Global, service: &Service<N>, fi
     is_saved && written.as_slice() == file
 }
 
-/// Why no service is loaded from a reader, none where one is; and how many calls were made.
+/// The fault of loading a service from a reader, `None` if it is loaded; and the number of calls.
 pub fn refusal_of<N: Naming + Starting, R: Read + Drop>(
     alloc: Global,
     naming: N,
@@ -102,7 +103,7 @@ fn load(alloc: Global, file: &[u8]) -> Result<Service<TailNaming>, PoolFault> {
     Service::load(alloc, TailNaming, &mut reader)
 }
 
-// Whether a file is loaded as such a service.
+// Whether a file gives such a service.
 fn comes_back(alloc: Global, file: &[u8]) -> bool {
     match load(alloc, file) {
         Ok(service) => is_that_of(alloc, service),
@@ -110,7 +111,7 @@ fn comes_back(alloc: Global, file: &[u8]) -> bool {
     }
 }
 
-// The number that refuses a file, 0 where it is loaded.
+// The number that refuses a file, or 0 if it is loaded.
 fn number_of(alloc: Global, file: &[u8]) -> u16 {
     match refusal_of(alloc, TailNaming, file).0 {
         Some(fault) => fault.code(),
@@ -118,7 +119,7 @@ fn number_of(alloc: Global, file: &[u8]) -> u16 {
     }
 }
 
-// The first of the changed files, by its place, that is refused otherwise.
+// The place of the first changed file that is refused under another number.
 fn first_otherwise(alloc: Global) -> Option<usize> {
     for (place, (file, number)) in REFUSED.iter().enumerate() {
         if number_of(alloc, file) != *number {
@@ -128,7 +129,7 @@ fn first_otherwise(alloc: Global) -> Option<usize> {
     None
 }
 
-// The first front of a file, by its size, that is not refused as cut off (62).
+// The size of the first prefix of a file that is not refused as cut off (62).
 fn first_front_otherwise(alloc: Global, file: &[u8]) -> Option<usize> {
     for size in 0..file.len() {
         if number_of(alloc, file.split_at(size).0) != 62 {
@@ -138,7 +139,7 @@ fn first_front_otherwise(alloc: Global, file: &[u8]) -> Option<usize> {
     None
 }
 
-// Whether this number may refuse a file whose byte at this place is another.
+// Whether this number may refuse a file with another byte at this place.
 fn may_refuse(place: usize, number: u16) -> bool {
     match place {
         0..=7 => number == 60,
@@ -147,8 +148,8 @@ fn may_refuse(place: usize, number: u16) -> bool {
     }
 }
 
-// Whether a file is refused so where the byte at this place is greater by two: neither version's
-// number becomes the other's.
+// Whether a file is refused like this when the byte at this place is greater by two. Adding two
+// never turns the number of one version into that of the other.
 fn is_refused_with_change(alloc: Global, bytes: &mut [u8], place: usize) -> bool {
     if place < bytes.len() {
         bytes[place] = bytes[place].wrapping_add(2);
@@ -161,7 +162,7 @@ fn is_change_refused(alloc: Global, file: &[u8], place: usize) -> bool {
     bytes.extend_from_slice(file).is_ok() && is_refused_with_change(alloc, &mut bytes, place)
 }
 
-// The first place of a file whose byte can be another.
+// The first place of a file where another byte is accepted, or refused under a wrong number.
 fn first_change_otherwise(alloc: Global, file: &[u8]) -> Option<usize> {
     for place in 0..file.len() {
         if !is_change_refused(alloc, file, place) {
@@ -171,7 +172,7 @@ fn first_change_otherwise(alloc: Global, file: &[u8]) -> Option<usize> {
     None
 }
 
-// How many calls one loading of version 1 makes over a slice.
+// The number of calls that loading version 1 from a slice makes.
 const READS: u64 = 21;
 
 fn fails_at_each(alloc: Global) -> bool {

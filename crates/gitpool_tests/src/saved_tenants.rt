@@ -16,9 +16,9 @@ author A <a@b> 0 +0000\ncommitter A <a@b> 0 +0000\n\nx\n\
 \x03\0\0\0\0\0\0\0\x06hello\n\
 \x04\0\0\0\0\0\0\0\x43object 7b8051db3dcc0fcfd006919cfa7376ddbd7bdc1a\ntype commit\ntag v\n\n";
 
-// What stands before the three places of a tenant's name of four bytes: its length; the numbers of
-// all objects, two refs and the front of the first; the end of that one and the front of the
-// second.
+// The bytes before each of the three places that have a tenant's name of four bytes: its length;
+// the numbers of all objects, two refs and the beginning of the first; the end of that ref and the
+// beginning of the second.
 const BEFORE_NAME: [&[u8]; 3] = [
     b"\0\x04",
     b"\0\0\0\0\0\0\0\x05\0\0\0\0\0\0\0\x01\0\0\0\0\0\0\0\0\0\0\0\0\0\0\0\x03\0\0\0\0\0\0\0\x02\
@@ -26,8 +26,8 @@ const BEFORE_NAME: [&[u8]; 3] = [
     b"/refs/heads/m\0\0\0\0\0\0\0\x01\0\x20refs/namespaces/",
 ];
 
-// What stands after the last of them: the end of the second ref, and HEAD.
-const BEHIND_NAMES: &[u8] = b"/refs/tags/v\0\0\0\0\0\0\0\x04\0\x0frefs/heads/main";
+// The bytes after the last of these places: the end of the second ref, and HEAD.
+const AFTER_NAMES: &[u8] = b"/refs/tags/v\0\0\0\0\0\0\0\x04\0\x0frefs/heads/main";
 
 fn digit(number: u64) -> u8 {
     b'0' + (number % 10) as u8
@@ -39,30 +39,30 @@ fn append_tenant(file: &mut Vec<u8>, number: u64) -> Result<(), AllocError> {
         file.extend_from_slice(piece)?;
         file.extend_from_slice(&name)?;
     }
-    file.extend_from_slice(BEHIND_NAMES)
+    file.extend_from_slice(AFTER_NAMES)
 }
 
-// Appends the tenants of a file, at most a thousand, further ones that stand after them, and the
-// digest of all. Each of the former has all objects.
+// Appends at most a thousand tenants, each with all objects, then `further` tenants that are given
+// as bytes, and the digest of the file.
 fn append_tenants(
     file: &mut Vec<u8>,
     tenants: u64,
     further: u64,
-    behind: &[u8],
+    remaining: &[u8],
 ) -> Result<(), AllocError> {
     file.extend_from_slice(&tenants.saturating_add(further).to_be_bytes())?;
     for number in 0..tenants {
         append_tenant(file, number)?;
     }
-    file.extend_from_slice(behind)?;
+    file.extend_from_slice(remaining)?;
     let digest = Sha1Naming.digest(file);
     file.extend_from_slice(&digest)
 }
 
-// Whether there was room for a file with these tenants, and it was appended.
-fn is_written(file: &mut Vec<u8>, tenants: u64, further: u64, behind: &[u8]) -> bool {
+// Whether there was room for a file with these tenants. The file is appended.
+fn is_written(file: &mut Vec<u8>, tenants: u64, further: u64, remaining: &[u8]) -> bool {
     file.extend_from_slice(OBJECTS).is_ok()
-        && append_tenants(file, tenants, further, behind).is_ok()
+        && append_tenants(file, tenants, further, remaining).is_ok()
 }
 
 fn load(alloc: Global, file: &[u8]) -> Result<Service<Sha1Naming>, PoolFault> {
@@ -70,7 +70,7 @@ fn load(alloc: Global, file: &[u8]) -> Result<Service<Sha1Naming>, PoolFault> {
     Service::load(alloc, Sha1Naming, &mut counted)
 }
 
-// Whether a service has each content once, and is saved as this file of so many tenants.
+// Whether a service has each content once and so many tenants, and is saved as this file.
 fn is_that(alloc: Global, service: &Service<Sha1Naming>, file: &[u8], tenants: u64) -> bool {
     let counts = service.stored() == (5, 200) && service.tenants() == tenants;
     counts && is_saved_as(alloc, service, file)
@@ -89,7 +89,7 @@ fn is_unchanged(alloc: Global, file: &[u8], tenants: u64) -> bool {
     }
 }
 
-// Whether the file of so many tenants comes back byte for byte.
+// Whether the file of so many tenants is loaded and saved without a change.
 fn goes_unchanged(alloc: Global, tenants: u64) -> bool {
     let mut file = Vec::new(alloc);
     is_written(&mut file, tenants, 0, b"") && is_unchanged(alloc, &file, tenants)
@@ -105,14 +105,14 @@ fn a_thousand_tenants_go_unchanged(rt: HostRuntime) {
     assert!(rt; goes_unchanged(rt.alloc(), 1000));
 }
 
-// The tenant that a copy of any of them leaves: the objects that its refs reach, in the order of an
-// export, which has no part for the tree of one file and its blob.
+// The bytes of the tenant that a copy of any of them leaves: the objects that its refs reach, in
+// the order of an export. The tree of one file and its blob are not among them.
 const COPY: &[u8] = b"\0\x04tzzz\0\0\0\0\0\0\0\x03\
 \0\0\0\0\0\0\0\x01\0\0\0\0\0\0\0\0\0\0\0\0\0\0\0\x04\0\0\0\0\0\0\0\x02\
 \0\x21refs/namespaces/tzzz/refs/heads/m\0\0\0\0\0\0\0\x01\
 \0\x20refs/namespaces/tzzz/refs/tags/v\0\0\0\0\0\0\0\x02\0\x0frefs/heads/main";
 
-// Whether a copy of the last of a thousand tenants is taken, and saved after them as this file.
+// Whether the last of a thousand tenants is copied, and the service is then saved as this file.
 fn copies_last(alloc: Global, service: &mut Service<Sha1Naming>, file: &[u8]) -> bool {
     let is_copied = service.copy_tenant(b"t999", b"tzzz") == Answer::Ok;
     is_copied && is_that(alloc, service, file, 1001)
@@ -144,7 +144,7 @@ fn one_of_a_thousand_tenants_is_copied(rt: HostRuntime) {
     assert!(rt; is_copied(rt.alloc()));
 }
 
-// A reader that fails at any of these calls is blamed, and one that fails later is not.
+// Whether a reader that fails at any of these calls is blamed, and one that fails later is not.
 fn are_readers_blamed_of(alloc: Global, file: &[u8], calls: u64) -> bool {
     for nth in 0..calls {
         let reader = FailingReader::new(file, nth);
@@ -157,7 +157,7 @@ fn are_readers_blamed_of(alloc: Global, file: &[u8], calls: u64) -> bool {
         .is_none()
 }
 
-// The same of the calls that one loading makes.
+// The same for all calls that loading the file makes.
 fn are_all_blamed_of(alloc: Global, file: &[u8]) -> bool {
     let (refusal, calls) = refusal_of(alloc, Sha1Naming, file);
     refusal.is_none() && are_readers_blamed_of(alloc, file, calls)
@@ -173,7 +173,8 @@ fn readers_are_blamed_at_each_call(rt: HostRuntime) {
     assert!(rt; are_readers_blamed(rt.alloc()));
 }
 
-// What stands written where a writer of one byte a call fails at its nth.
+// Whether a prefix of the file is written if a writer that takes one byte a call fails at its nth
+// call.
 fn is_front_saved(alloc: Global, service: &Service<Sha1Naming>, file: &[u8], nth: usize) -> bool {
     let mut writer = Counted::new(FailingWriter::new(Vec::new(alloc), nth as u64));
     let answer = service.save(&mut writer);

@@ -1,4 +1,4 @@
-//! Frames read and answers written, beside bytes derived by hand.
+//! Frames that are read and answers that are written, compared with bytes derived by hand.
 
 use byte_devices::{FailingReader, FailingWriter};
 use gitpool::{Answer, Counted, FrameFault, Step};
@@ -6,14 +6,14 @@ use service_steps::{Frames, write_answer};
 use std::alloc::Global;
 use std::io::Read;
 
-// Each kind of frame, one after the other.
+// One frame of each kind.
 const FRAMES: &[u8] = b"\x01\0\x01t\0\0\0\0\
     \x02\0\x03a/b\0\0\0\x02x\n\
     \x03\0\0\0\0\0\0\
     \x04\0\x01t\0\0\0\x04refs\
     \x05\0\0\0\0\0\0";
 
-// What these frames say.
+// The steps of these frames.
 const STEPS: &[Step<'static>] = &[
     Step::Open { tenant: b"t" },
     Step::Feed {
@@ -28,10 +28,10 @@ const STEPS: &[Step<'static>] = &[
     Step::Restart,
 ];
 
-// Where one of these frames ends, or the first begins.
+// The places where the first frame begins and where each frame ends.
 const ENDS: &[usize] = &[0, 8, 20, 27, 39, 46];
 
-// A wrong part, and how many bytes are read until it shows.
+// A frame with a wrong part, and the number of bytes that are read until it shows.
 const BAD: &[(&[u8], u64)] = &[
     (b"\x06\0\x01t\0\0\0\0", 1),
     (b"\0\0\0\0\0\0\0", 1),
@@ -62,7 +62,7 @@ fn is_next<R: Read>(frames: &mut Frames, reader: &mut Counted<R>, step: Step<'_>
     frames.next(reader) == Ok(Some(step))
 }
 
-// Whether a reader is read as these steps and no more.
+// Whether these steps are read from a reader, and no more.
 fn are_read<R: Read>(frames: &mut Frames, reader: &mut Counted<R>, steps: &[Step<'_>]) -> bool {
     for step in steps {
         if !is_next(frames, reader, *step) {
@@ -72,7 +72,7 @@ fn are_read<R: Read>(frames: &mut Frames, reader: &mut Counted<R>, steps: &[Step
     frames.next(reader) == Ok(None)
 }
 
-// The same of these bytes, and how many bytes that takes.
+// The same for these bytes, and the number of bytes that are read.
 fn reads_steps(alloc: Global, bytes: &[u8], steps: &[Step<'_>]) -> (bool, u64) {
     let mut reader = Counted::new(bytes);
     let mut frames = Frames::new(alloc);
@@ -81,7 +81,7 @@ fn reads_steps(alloc: Global, bytes: &[u8], steps: &[Step<'_>]) -> (bool, u64) {
     (are_read, reader.passed())
 }
 
-// How many frames a reader has, six at most, and the fault that ends them.
+// The number of frames that a reader has, at most six, and the fault that ends them.
 fn count_frames<R: Read>(
     frames: &mut Frames,
     reader: &mut Counted<R>,
@@ -103,7 +103,7 @@ fn read_frames<R: Read>(alloc: Global, reader: &mut Counted<R>) -> (usize, Optio
     read
 }
 
-// What ends a front of this size: nothing where a frame ends there or the first begins.
+// The fault that ends a prefix of this size: `None` at the beginning and where a frame ends.
 fn fault_at(size: usize) -> Option<FrameFault> {
     if ENDS.contains(&size) {
         None
@@ -112,8 +112,8 @@ fn fault_at(size: usize) -> Option<FrameFault> {
     }
 }
 
-// Whether a front of the frames has the frames that end in it, and is cut off after the last of
-// them or has no more bytes.
+// Whether the frames that end in this prefix are read from it, and then it is cut off or has no
+// more bytes.
 fn is_read_to_its_end(alloc: Global, front: &[u8]) -> bool {
     let size = front.len();
     let mut reader = Counted::new(front);
@@ -122,7 +122,7 @@ fn is_read_to_its_end(alloc: Global, front: &[u8]) -> bool {
     ends.checked_sub(1) == Some(count) && fault == fault_at(size)
 }
 
-// How many bytes the body of the first frame has; none where it is no Feed.
+// The size of the first frame's body in bytes; `None` if the frame is not a Feed.
 fn size_of_body<R: Read>(frames: &mut Frames, reader: &mut Counted<R>) -> Option<usize> {
     match frames.next(reader) {
         Ok(Some(Step::Feed { bytes, .. })) => Some(bytes.len()),
@@ -138,7 +138,7 @@ fn size_of_body_of(alloc: Global, bytes: &[u8]) -> Option<usize> {
     size
 }
 
-// Whether a frame whose body has the most bytes is read.
+// Whether a frame with the largest body is read.
 fn is_longest_read(alloc: Global) -> bool {
     let mut bytes = Vec::new(alloc);
     bytes.extend_from_slice(b"\x02\0\x01t\x01\0\0\0").is_ok()
@@ -146,7 +146,7 @@ fn is_longest_read(alloc: Global) -> bool {
         && size_of_body_of(alloc, &bytes) == Some(16_777_216)
 }
 
-// What is told of a reader that fails in the second frame, and how often it failed.
+// What is read from a reader that fails in the second frame, and how often it failed.
 fn read_to_a_failure(alloc: Global) -> (usize, Option<FrameFault>, u64) {
     let mut reader = Counted::new(FailingReader::new(FRAMES, 4));
     let (count, fault) = read_frames(alloc, &mut reader);
@@ -163,14 +163,14 @@ fn reads_a_body_of_the_most_bytes(rt: HostRuntime) {
     assert!(rt; is_longest_read(rt.alloc()));
 }
 
-// Whether these bytes are refused, once so many of them are read.
+// Whether these bytes are refused after so many of them are read.
 fn is_refused_at(alloc: Global, bytes: &[u8], passed: u64) -> bool {
     let mut reader = Counted::new(bytes);
     let seen = read_frames(alloc, &mut reader);
     seen == (0, Some(FrameFault::BadFrame)) && reader.passed() == passed
 }
 
-// The first of the wrong parts, by its place, that is told otherwise.
+// The place of the first wrong part that is answered differently.
 fn first_otherwise(alloc: Global) -> Option<usize> {
     for (place, (bytes, passed)) in BAD.iter().enumerate() {
         if !is_refused_at(alloc, bytes, *passed) {
@@ -180,7 +180,7 @@ fn first_otherwise(alloc: Global) -> Option<usize> {
     None
 }
 
-// The first of the fronts, by its size, that is read otherwise.
+// The size of the first prefix that is read differently.
 fn first_front_otherwise(alloc: Global) -> Option<usize> {
     for size in 0..FRAMES.len() + 1 {
         if !is_read_to_its_end(alloc, FRAMES.split_at(size).0) {
@@ -206,7 +206,7 @@ fn tells_a_reader_that_fails(rt: HostRuntime) {
     assert_eq!(rt; failed, (1, Some(FrameFault::Device), 1));
 }
 
-// Whether an answer is told as these bytes.
+// Whether an answer is written as these bytes.
 fn is_told(alloc: Global, answer: Answer, text: &[u8]) -> bool {
     let mut writer = Counted::new(Vec::new(alloc));
     let is_written = write_answer(&mut writer, answer, b"x\n").is_ok();
@@ -227,8 +227,8 @@ fn writes_each_answer(rt: HostRuntime) {
     assert_eq!(rt; first_answer_otherwise(rt.alloc()), None);
 }
 
-// Whether an answer is told by a writer whose call `nth` fails, how often that failed, and how many
-// bytes it took. Every call takes one byte: the answer has 19.
+// Whether an answer is written by a writer whose nth call fails, how often the writer failed, and
+// how many bytes it took. Each call takes one byte; the answer has 19.
 fn told_to_a_failure(alloc: Global, nth: u64) -> (bool, u64, u64) {
     let mut writer = Counted::new(FailingWriter::new(Vec::new(alloc), nth));
     let is_told = write_answer(&mut writer, Answer::Fault(13), b"x\n").is_ok();

@@ -1,14 +1,14 @@
-//! Feeds that run out of memory: with the Nth growth refused (`--fail-alloc N`), for each N, the
-//! answers are those of a repository of its own given the same stop.
+//! Feeds that run out of memory. For each N, with the Nth allocation refused (`--fail-alloc N`),
+//! the answers are those of a repository of its own that gets the same stop.
 
 use crate::told::{feeds, tells};
 use gitpool::{Answer, Service, Sha1Naming, Step};
 use std::alloc::Global;
 
-// The name of the commit that is made here: a tree of no files, `x` as its message.
+// The name of the commit that these streams make: the empty tree, with the message `x`.
 const FIRST_NAME: &[u8] = b"7b8051db3dcc0fcfd006919cfa7376ddbd7bdc1a\n";
 
-// Prints what the ref holds, and is refused where it is not there (16).
+// Prints what the ref holds; refused (16) if it is not there.
 const SHOW_M: &[u8] = b"alias\nmark :1\nto refs/heads/m^0\nget-mark :1\n";
 
 fn feed(bytes: &[u8]) -> Step<'_> {
@@ -18,8 +18,8 @@ fn feed(bytes: &[u8]) -> Step<'_> {
     }
 }
 
-// A Feed of five items, what is printed for the first so many of them, and how many leave the ref
-// `refs/heads/m`.
+// A Feed of five items, what the first n of them print for each n, and the number of items after
+// which the ref `refs/heads/m` is left.
 struct Stop {
     bytes: &'static [u8],
     printed: [&'static [u8]; 6],
@@ -52,13 +52,13 @@ fn printed_by(stop: &Stop, items: u64) -> &'static [u8] {
     }
 }
 
-// Whether a stream that stopped after so many items is as dead as it says.
+// Whether a stream that stopped answers as dead under this number, to a Feed and to its End.
 fn ends_dead(alloc: Global, service: &mut Service<Sha1Naming>, code: u16) -> bool {
     feeds(alloc, service, b"t", b"\n", code, b"")
         && tells(alloc, service, Step::End { tenant: b"t" }, code, b"")
 }
 
-// Whether the ref is there in a later stream, and holds the first commit.
+// Whether a later stream finds the ref with the first commit, or does not find it.
 fn shows_m(alloc: Global, service: &mut Service<Sha1Naming>, is_there: bool) -> bool {
     let (code, printed) = if is_there {
         (0, FIRST_NAME)
@@ -69,7 +69,8 @@ fn shows_m(alloc: Global, service: &mut Service<Sha1Naming>, is_there: bool) -> 
         && feeds(alloc, service, b"t", SHOW_M, code, printed)
 }
 
-// How many items a Feed takes, and what its stream is answered then; none where it is refused.
+// The number of items that a Feed takes, and the number that its stream then answers; `None` if it
+// is refused.
 fn taken_of(
     service: &mut Service<Sha1Naming>,
     stop: &Stop,
@@ -82,7 +83,7 @@ fn taken_of(
     }
 }
 
-// The same; none too where it prints others than those before its stop.
+// The same, and also `None` if it prints anything but the replies to those items.
 fn taken_and_printed(
     alloc: Global,
     service: &mut Service<Sha1Naming>,
@@ -93,7 +94,8 @@ fn taken_and_printed(
     taken.filter(|(items, _)| out.as_slice() == printed_by(stop, *items))
 }
 
-// Whether a Feed of five items prints those before its stop, and leaves what they saved.
+// Whether a Feed of five items prints the replies to the items before its stop, and leaves what
+// they saved.
 fn stops_well(alloc: Global, service: &mut Service<Sha1Naming>, stop: &Stop) -> bool {
     match taken_and_printed(alloc, service, stop) {
         Some((items, code)) => {
@@ -108,7 +110,7 @@ fn opened(alloc: Global, service: &mut Service<Sha1Naming>) -> Answer {
     service.step(Step::Open { tenant: b"t" }, &mut out)
 }
 
-// The same after an Open, which may stop too and then leaves no tenant.
+// The same after an Open. The Open may run out of memory too, and then leaves no tenant.
 fn opens_and_stops_well(alloc: Global, service: &mut Service<Sha1Naming>, stop: &Stop) -> bool {
     match opened(alloc, service) {
         Answer::Ok => stops_well(alloc, service, stop),

@@ -1,5 +1,5 @@
-//! Imports of streams, and what else ends an import. What each worked stream prints is asked of
-//! frames (crate gitpool_frames).
+//! Imports of streams, and the other ways in which an import ends. The frames of crate
+//! gitpool_frames test what each worked stream prints.
 
 use gitpool::{Counted, ImportFault, Naming, Sha1Naming, TailNaming, import_one};
 use std::alloc::Global;
@@ -73,7 +73,7 @@ fn prints_what_git_prints_and_refuses_by_number(rt: HostRuntime) {
     assert_eq!(rt; first_wrong(rt.alloc()), None);
 }
 
-// Under the naming by a sum `ab` and `ba` have one name.
+// In the naming by a sum, `ab` and `ba` have the same name.
 const SECOND_CONTENT: &Import = &Import {
     name: "second content",
     stream: b"blob\nmark :1\ndata 2\nabblob\ndata 2\nabcat-blob :1\nblob\ndata 2\nba",

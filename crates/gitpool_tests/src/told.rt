@@ -1,9 +1,9 @@
-//! What a step is told, for tests. Want of memory is never what is asked for: it has the number 90.
+//! What a step is told, for tests. A lack of memory gets the number 90, which no test expects.
 
 use gitpool::{Answer, Naming, Service, Step};
 use std::alloc::Global;
 
-/// The number that refuses a step, 0 where nothing does.
+/// The number that refuses a step, or 0 if none does.
 pub fn code_of(answer: Answer) -> u16 {
     match answer {
         Answer::Ok => 0,
@@ -12,7 +12,7 @@ pub fn code_of(answer: Answer) -> u16 {
     }
 }
 
-/// Whether a step is answered under this number, and its reply has these bytes.
+/// Whether a step is answered under this number, with these bytes as its reply.
 pub fn tells<N: Naming>(
     alloc: Global,
     service: &mut Service<N>,
@@ -25,7 +25,7 @@ pub fn tells<N: Naming>(
     code_of(answer) == code && out.as_slice() == printed
 }
 
-/// Whether a Feed of this tenant is told so.
+/// The same for a Feed of this tenant.
 pub fn feeds<N: Naming>(
     alloc: Global,
     service: &mut Service<N>,
@@ -37,7 +37,7 @@ pub fn feeds<N: Naming>(
     tells(alloc, service, Step::Feed { tenant, bytes }, code, printed)
 }
 
-/// Whether a query of this tenant is told so, and is not refused.
+/// The same for a query of this tenant that is not refused.
 pub fn asks<N: Naming>(
     alloc: Global,
     service: &mut Service<N>,
@@ -48,7 +48,7 @@ pub fn asks<N: Naming>(
     tells(alloc, service, Step::Ask { tenant, query }, 0, printed)
 }
 
-/// Whether a whole stream of a tenant is taken, and prints nothing.
+/// Whether a whole stream of a tenant is accepted, and prints nothing.
 pub fn takes<N: Naming>(
     alloc: Global,
     service: &mut Service<N>,

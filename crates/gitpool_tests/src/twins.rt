@@ -1,14 +1,14 @@
-//! Steps of two tenants, one by one, under a naming that gives two contents one name: each is told
-//! what a service of its own tells it.
+//! Steps of two tenants, one by one, under a naming that gives two contents the same name. Each
+//! tenant is told what a service of its own tells it.
 //!
-//! The two feed the same streams but for the bytes of their blobs, which have one length and one
-//! sum, so that their objects have the same names.
+//! The two tenants feed the same streams except for the bytes of their blobs. These have the same
+//! length and the same sum, so the objects have the same names.
 
 use crate::told::code_of;
 use gitpool::{Service, Step, TailNaming};
 use std::alloc::Global;
 
-// What the two tenants feed: streams of one length.
+// What the two tenants feed: streams of the same length.
 struct Twins {
     does: &'static str,
     first: &'static [u8],
@@ -76,10 +76,11 @@ const QUERIES: &[&[u8]] = &[
     b"export",
 ];
 
-// How many bytes each Feed has.
+// The number of bytes of each Feed; the last one may have fewer.
 const PIECE: usize = 19;
 
-// Whether two services answer a step the same, with the same bytes. Want of memory is no answer.
+// Whether two services give a step the same answer and the same bytes. A lack of memory is no
+// answer.
 fn answer_the_same(
     alloc: Global,
     service: &mut Service<TailNaming>,
@@ -93,7 +94,7 @@ fn answer_the_same(
     same && code != 90 && out.as_slice() == wanted.as_slice()
 }
 
-// The service that both tenants share, and that which each has alone.
+// The service that both tenants share, and a service for each tenant alone.
 #[derive(Drop)]
 struct Services<'a> {
     shared: &'a mut Service<TailNaming>,
@@ -102,13 +103,14 @@ struct Services<'a> {
 }
 
 impl<'a> Services<'a> {
-    // Whether a step of the first tenant, and then one of the second, are answered as alone.
+    // Whether a step of the first tenant, and then one of the second, are answered as they are
+    // alone.
     fn answer_as_alone(&mut self, alloc: Global, step: Step<'_>, twin: Step<'_>) -> bool {
         answer_the_same(alloc, self.shared, self.first, step)
             && answer_the_same(alloc, self.shared, self.second, twin)
     }
 
-    // The same of a query of both.
+    // The same for a query of both tenants.
     fn tell_as_alone(&mut self, alloc: Global, query: &[u8]) -> bool {
         let step = Step::Ask {
             tenant: b"a",
@@ -121,7 +123,7 @@ impl<'a> Services<'a> {
         self.answer_as_alone(alloc, step, twin)
     }
 
-    // The same of a piece of each stream, and of a query after them.
+    // The same for one piece of each stream, and a query after them.
     fn take_as_alone(&mut self, alloc: Global, bytes: &[u8], others: &[u8]) -> bool {
         let step = Step::Feed {
             tenant: b"a",
@@ -134,7 +136,7 @@ impl<'a> Services<'a> {
         self.answer_as_alone(alloc, step, twin) && self.tell_as_alone(alloc, b"rev-parse abab")
     }
 
-    // The same of all pieces.
+    // The same for all pieces.
     fn feed_as_alone(&mut self, alloc: Global, twins: &Twins) -> bool {
         for (bytes, others) in twins.first.chunks(PIECE).zip(twins.second.chunks(PIECE)) {
             if !self.take_as_alone(alloc, bytes, others) {
@@ -144,7 +146,7 @@ impl<'a> Services<'a> {
         twins.first.len() == twins.second.len()
     }
 
-    // The same of each query.
+    // The same for each query.
     fn ask_as_alone(&mut self, alloc: Global) -> bool {
         for query in QUERIES {
             if !self.tell_as_alone(alloc, query) {
@@ -154,7 +156,7 @@ impl<'a> Services<'a> {
         true
     }
 
-    // The same of both streams, and of each query after them.
+    // The same for both streams, and each query after them.
     fn go_as_alone(&mut self, alloc: Global, twins: &Twins) -> bool {
         self.answer_as_alone(
             alloc,
@@ -170,7 +172,7 @@ impl<'a> Services<'a> {
     }
 }
 
-// The same over these services.
+// The same with these services.
 fn go_over(
     alloc: Global,
     shared: &mut Service<TailNaming>,
@@ -197,7 +199,7 @@ fn twins_go_as_alone(alloc: Global, twins: &Twins) -> bool {
     go
 }
 
-// What the first twins do that are told otherwise.
+// What the first pair of streams does for which a tenant is told something else.
 fn first_otherwise(alloc: Global) -> Option<&'static str> {
     for twins in TWINS {
         if !twins_go_as_alone(alloc, twins) {

@@ -1,5 +1,5 @@
-//! A reader and a writer for tests that share a count, to see that replies go out before more is
-//! read.
+//! A reader and a writer for tests that share a count. They check that replies are written before
+//! more is read.
 
 ghost use Rattle.std.specs.Prelude.{None};
 
@@ -12,7 +12,7 @@ use std::cell::Cell;
 use std::io;
 use std::io::{Read, Write};
 
-// What is to be written.
+// What has to be written.
 #[derive(Clone, Copy)]
 enum Due {
     Replies,
@@ -20,7 +20,7 @@ enum Due {
 }
 
 impl Due {
-    // How many bytes of it, for the first bytes that were read.
+    // The number of bytes that are due after the first `given` bytes were read.
     fn size(self, given: usize) -> usize {
         match self {
             Due::Replies => replied(given),
@@ -29,8 +29,8 @@ impl Due {
     }
 }
 
-// Gives one byte a call, and notes where other bytes were written than are due for the bytes given
-// before.
+// Gives one byte a call, and counts the calls before which more or fewer bytes were written than
+// are due for the bytes given so far.
 #[derive(Drop)]
 struct WatchingReader<'a> {
     reader: OneByte<'a>,
@@ -52,7 +52,7 @@ impl<'a> Read for WatchingReader<'a> {
     }
 }
 
-// Takes everything, and counts it.
+// Accepts all bytes, and counts them.
 #[derive(Drop)]
 struct WatchedWriter<'a> {
     written: &'a Cell<u64>,
@@ -72,8 +72,8 @@ impl<'a> Write for WatchedWriter<'a> {
     }
 }
 
-// How an import of the stream ends: how many bytes were read and written, and how often a call of
-// the reader found others written than are due.
+// How an import of the stream ends, how many bytes were read and written, and how many calls of the
+// reader found that more or fewer bytes were written than are due.
 fn import_watched(alloc: Global) -> (Result<(), ImportFault>, (u64, u64, u64)) {
     let written = Cell::new(0);
     let late = Cell::new(0);
@@ -94,7 +94,7 @@ fn writes_each_reply_before_it_reads_on(rt: HostRuntime) {
     assert_eq!(rt; import_watched(rt.alloc()), (Ok(()), (49, 52, 0)));
 }
 
-// The same of frames over an empty service.
+// The same for frames over an empty service.
 fn serve_watched(alloc: Global) -> (Result<(), FrameFault>, (u64, u64, u64)) {
     let written = Cell::new(0);
     let late = Cell::new(0);

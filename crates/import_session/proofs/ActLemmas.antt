@@ -3,8 +3,8 @@
 use Rattle.std.proofs.Common.{◌≡◌, ◌≢◌, ◌⊎◌, inl, inr, ℕ, List, [], Result, Ok, Err, refl, sym, ap, subst, ◌∙◌, append_assoc, codes, Bool, false, append-nil, true, Option, rules}
 use Rattle.std.specs.Prelude.{OnOk}
 use Rattle.std.proofs.lemmas.Bool.{cond-true}
-use Rattle.import_session.specs.declared.fault.Fault.{Fault}
-use Rattle.import_session.specs.declared.fault.Fault.TheVariants as fault
+use Rattle.stream_state.specs.declared.fault.Fault.{Fault}
+use Rattle.stream_state.specs.declared.fault.Fault.TheVariants as fault
 use Rattle.git_model.specs.Content.{Content}
 use Rattle.git_model.specs.RefStore.{RefStore}
 use Rattle.content_pool.specs.Pool.{Cells}
@@ -18,16 +18,17 @@ use Rattle.stream_grammar.specs.declared.act.Done.{Done as LentDone}
 use Rattle.stream_grammar.specs.declared.fault.Fault.TheVariants as text_fault
 use Rattle.stream_grammar.specs.Shown.{Answers, act_shown, done_shown}
 use Rattle.stream_grammar.specs.Commands.{Done, Parsing}
-use Rattle.import_session.specs.Faults.{text_first, and_then}
-use Rattle.import_session.specs.Workspace.{Workspace, Effect, Marks}
-use Rattle.import_session.specs.Marks.{room_for, with_mark}
-use Rattle.import_session.specs.Stored.{IsStored}
+use Rattle.stream_state.specs.Faults.{text_first, and_then}
+use Rattle.stream_state.specs.Marks.{Marks, room_for, with_mark}
+use Rattle.import_session.specs.Workspace.{Workspace, Effect}
+use Rattle.stream_state.specs.Stored.{IsStored}
 use Rattle.import_session.specs.Held.{FilesStand}
 use Rattle.import_session.specs.Checkpoints.{checkpoint}
 use Rattle.import_session.specs.Commits.{closed_where}
 use Rattle.import_session.specs.Stream.{Running, Step, step, taken, is_finish}
 use Rattle.import_session.specs.Meaning.{after_act, blob_stored}
-use Rattle.import_session.specs.Printing.{Shows, prints}
+use Rattle.stream_state.specs.Printing.{Shows}
+use Rattle.import_session.specs.Printing.{prints}
 use Rattle.import_session.specs.Session.{Own, workspace_in, CarriesOut, Reads, Takes}
 use Rattle.import_session.proofs.CommitLemmas.{carries_refused, memory_or}
 use Rattle.import_session.proofs.HeldLemmas.{commit_same}

@@ -1,21 +1,22 @@
 -- What checkpoints leave of refs, and what they print.
-use Rattle.std.proofs.Common.{◌≡◌, ℕ, ◌+◌, ◌≤◌, ◌<◌, get_or, ◌++◌, ◌∷◌, Bool, true, cond, List, [], length, take, Option, None, Some, Ok, Err, refl, sym, ap, subst, ◌∙◌}
+use Rattle.std.proofs.Common.{◌≡◌, ℕ, ◌+◌, ◌≤◌, ◌++◌, ◌∷◌, Bool, true, cond, List, [], length, take, Option, None, Some, Ok, Err, refl, sym, ap, subst, ◌∙◌}
 use Rattle.std.proofs.lemmas.Bool.{le-leb}
 use Rattle.std.proofs.lemmas.List.{take_more, flat_map_more}
-use Rattle.std.proofs.lemmas.List.Sums.{fold-append, fold_more}
+use Rattle.std.proofs.lemmas.List.Sums.{fold_more}
 use Rattle.std.proofs.lemmas.Option.{slice_get_within, get_or_from_slice_get}
 use Rattle.std.specs.List.{slice_get}
-use Rattle.git_model.specs.RefStore.{RefStore, listed_refs, with_ref}
-use Rattle.tenant_refs.specs.declared.changes.RefChange.{RefChange}
-use Rattle.tenant_refs.specs.Changes.{with_changes, with_target}
+use Rattle.git_model.specs.RefStore.{RefStore, listed_refs}
 use Rattle.git_model.specs.GoodRepository.{refs_limit}
 use Rattle.content_pool.specs.Pool.{Cells}
 use Rattle.tenant_tables.specs.View.{View}
 use Rattle.tenant_tables.proofs.TableLemmas.{length-objects}
-use Rattle.import_session.specs.declared.fault.Fault.TheVariants as fault
-use Rattle.import_session.specs.declared.branches.Tip.{Tip}
-use Rattle.import_session.specs.Workspace.{Branches, PendingTags, Workspace}
-use Rattle.import_session.specs.Checkpoints.{saved_by, by_branches, by_head, by_tags, kept_by, kept_lines, saved_refs, checkpointed, checkpoint}
+use Rattle.stream_state.specs.declared.fault.Fault.TheVariants as fault
+use Rattle.stream_state.specs.declared.branches.Tip.{Tip}
+use Rattle.stream_state.specs.Branches.{Branches}
+use Rattle.stream_state.specs.Tags.{PendingTags}
+use Rattle.import_session.specs.Workspace.{Workspace}
+use Rattle.stream_state.specs.Checkpoints.{by_head, by_tags}
+use Rattle.import_session.specs.Checkpoints.{saved_by, by_branches, kept_by, kept_lines, saved_refs, checkpointed, checkpoint}
 use Rattle.import_session.specs.Session.{Own, workspace_in, CarriesOut}
 
 -- the branch at a place is saved after those before it
@@ -43,22 +44,6 @@ kept_next w out branches place ref tip at =
     (ap (λ (branch : List ℕ × Tip). take place branches ++ branch ∷ [])
     (sym (get_or_from_slice_get branches place (ref, tip) (ref, tip) at))
     ∙ sym (take_more branches place (ref, tip) (slice_get_within branches place (ref, tip) at)))
-
--- a tag is saved after those before it
-pub tag_next : (store : RefStore) (before old new : List RefChange) (tags : PendingTags)
-    (place : ℕ) (tag : List ℕ × List ℕ)
-    → new ≡ old ++ record { ref_name = tag.0; target = Some tag.1 } ∷ []
-    → place < length tags → tag ≡ get_or tags place tag
-    → with_changes store old ≡ by_tags (with_changes store before) (take place tags)
-    → with_changes store new ≡ by_tags (with_changes store before) (take (place + 1) tags)
-tag_next store before old new tags place tag added within is so =
-    let saved = with_changes store before in
-    ap (with_changes store) added
-    ∙ fold-append (λ changed change. with_target changed change.ref_name change.target) store old
-    (record { ref_name = tag.0; target = Some tag.1 } ∷ [])
-    ∙ ap (λ (s : RefStore). with_ref s tag.0 tag.1) so
-    ∙ ap (λ (t : List ℕ × List ℕ). with_ref (by_tags saved (take place tags)) t.0 t.1) is
-    ∙ sym (fold_more (λ saved tag. with_ref saved tag.0 tag.1) saved tags place tag within)
 
 -- HEAD is no ref
 pub headed_refs : (store : RefStore) (head : Option (List ℕ))

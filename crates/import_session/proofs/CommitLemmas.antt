@@ -16,14 +16,15 @@ use Rattle.open_commits.specs.declared.open_commit.OpenCommit.{OpenCommit as Len
 use Rattle.open_commits.specs.Calls.{Changes}
 use Rattle.open_commits.specs.Parents.{changed_to, started_from}
 use Rattle.open_commits.specs.OpenCommit.{Header, HeldCommit, OpenCommit, begun, begun_on, shown_in}
-use Rattle.import_session.specs.declared.fault.Fault.{Fault}
-use Rattle.import_session.specs.declared.fault.Fault.TheVariants as fault
-use Rattle.import_session.specs.declared.said.Said.{Said}
-use Rattle.import_session.specs.Faults.{and_then, changed_or}
-use Rattle.import_session.specs.Workspace.{Branches, Effect, Workspace, quiet}
-use Rattle.import_session.specs.Branches.{branch_set}
+use Rattle.stream_state.specs.declared.fault.Fault.{Fault}
+use Rattle.stream_state.specs.declared.fault.Fault.TheVariants as fault
+use Rattle.stream_state.specs.declared.said.Said.{Said}
+use Rattle.stream_state.specs.Faults.{and_then}
+use Rattle.import_session.specs.Faults.{changed_or}
+use Rattle.stream_state.specs.Branches.{Branches, branch_set, tip_for}
+use Rattle.import_session.specs.Workspace.{Effect, Workspace, quiet}
 use Rattle.import_session.specs.Changes.{changed_by, commit_changed}
-use Rattle.import_session.specs.Commits.{begun_from, commit_opened, header_said, opened_at, opened_with, started_or_cleared, tip_for}
+use Rattle.import_session.specs.Commits.{begun_from, commit_opened, header_said, opened_at, opened_with, started_or_cleared}
 use Rattle.import_session.specs.Session.{Own, workspace_in, CarriesOut, Leaves}
 use Rattle.import_session.specs.Sound.{IsSound}
 

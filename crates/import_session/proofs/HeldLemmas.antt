@@ -10,8 +10,8 @@ use Rattle.file_maps.specs.FileMap.{FileMap}
 use Rattle.tree_build.specs.Branch.{Branch, IsBranch, files_in}
 use Rattle.tree_build.proofs.Growing.{branch_stays}
 use Rattle.open_commits.specs.OpenCommit.{HeldCommit, Stands, commit_in}
-use Rattle.import_session.specs.declared.fault.Fault.{Fault}
-use Rattle.import_session.specs.Storing.{stored_or, with_content}
+use Rattle.stream_state.specs.declared.fault.Fault.{Fault}
+use Rattle.stream_state.specs.Storing.{stored_or, with_content}
 use Rattle.import_session.specs.Session.{Own}
 use Rattle.import_session.specs.Held.{HoldsFiles, KeepsFiles}
 

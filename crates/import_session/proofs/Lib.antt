@@ -1,5 +1,4 @@
 mod ActLemmas
-mod BranchLemmas
 mod CheckpointLemmas
 mod CommittedLemmas
 mod LastLemmas

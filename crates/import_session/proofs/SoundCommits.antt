@@ -16,13 +16,13 @@ use Rattle.revisions.specs.declared.fault.Fault.TheVariants as revision_fault
 use Rattle.revisions.specs.Faults.{or_fault}
 use Rattle.revisions.specs.Resolution.{peeled}
 use Rattle.stream_grammar.specs.Names.{CommitIsh}
-use Rattle.import_session.specs.declared.branches.Tip.{Tip}
-use Rattle.import_session.specs.declared.branches.Tip.TheVariants.{Unborn, Deleted, At}
-use Rattle.import_session.specs.Faults.{resolved_or}
+use Rattle.stream_state.specs.declared.branches.Tip.{Tip}
+use Rattle.stream_state.specs.declared.branches.Tip.TheVariants.{Unborn, Deleted, At}
+use Rattle.stream_state.specs.Faults.{resolved_or}
 use Rattle.import_session.specs.Workspace.{Workspace}
-use Rattle.import_session.specs.Branches.{commit_at, tip_of}
+use Rattle.stream_state.specs.Branches.{commit_at, tip_of, tip_commit}
 use Rattle.import_session.specs.CommitIshes.{commit_in, is_branch, named_in, start_in}
-use Rattle.import_session.specs.Commits.{tip_commit, IsTipCommit}
+use Rattle.import_session.specs.Commits.{IsTipCommit}
 use Rattle.import_session.specs.Sound.{IsBranch, IsSound, IsTip}
 use Rattle.import_session.proofs.SoundObjects.{by_test, then_any}
 

@@ -34,20 +34,25 @@ use Rattle.stream_grammar.specs.Commands.{Done, done_by, end_of}
 use Rattle.stream_grammar.specs.Names.{CommitIsh}
 use Rattle.stream_grammar.specs.WellFormed.{NamesShortRef, IsWellFormed}
 use Rattle.stream_grammar.proofs.WellFormedActs.{well_formed}
-use Rattle.import_session.specs.declared.branches.Tip.{Tip}
-use Rattle.import_session.specs.declared.branches.Tip.TheVariants.{Unborn, Deleted, At}
-use Rattle.import_session.specs.declared.fault.Fault.{Fault}
-use Rattle.import_session.specs.declared.said.Said.{Said}
-use Rattle.import_session.specs.Faults.{and_then, changed_or, text_first}
-use Rattle.import_session.specs.Workspace.{Branches, Marks, Workspace, Effect, opened, quiet, said_of}
-use Rattle.import_session.specs.Marks.{marked_name, referred_name, room_for, with_mark}
-use Rattle.import_session.specs.Branches.{branch_set, has_branch_room, head_in, ref_meant, with_branch}
-use Rattle.import_session.specs.CommitIshes.{commit_in, named_in, start_in}
+use Rattle.stream_state.specs.declared.branches.Tip.{Tip}
+use Rattle.stream_state.specs.declared.branches.Tip.TheVariants.{Unborn, Deleted, At}
+use Rattle.stream_state.specs.declared.fault.Fault.{Fault}
+use Rattle.stream_state.specs.declared.said.Said.{Said}
+use Rattle.stream_state.specs.Faults.{and_then, text_first}
+use Rattle.import_session.specs.Faults.{changed_or}
+use Rattle.stream_state.specs.Branches.{Branches, branch_set, has_branch_room, head_in, ref_meant, with_branch, tip_commit, tip_for}
+use Rattle.stream_state.specs.Marks.{Marks, marked_name, referred_name, room_for, with_mark}
+use Rattle.stream_state.specs.Said.{said_of}
+use Rattle.import_session.specs.Workspace.{Workspace, Effect, opened, quiet}
+use Rattle.import_session.specs.CommitIshes.{commit_in, named_in, start_in, ref_in}
 use Rattle.import_session.specs.Resets.{alias_set, branch_placed, branch_reset, is_zeros, tip_from}
-use Rattle.import_session.specs.Storing.{with_content}
-use Rattle.import_session.specs.Tags.{is_tag_ref, room_for_tag, said_more, tag_content, tag_made, tag_stored, tagged, tagged_kind, tagger_said, target_said}
-use Rattle.import_session.specs.Checkpoints.{checkpoint, fit, saved_refs}
-use Rattle.import_session.specs.Meaning.{after_act, blob_stored, feature_set, head_set, placed_by, said_of_commit, said_of_tag, set_by, shown_by, shown_object, stored_or_shown, within_commit}
+use Rattle.stream_state.specs.Storing.{with_content}
+use Rattle.stream_state.specs.Tags.{is_tag_ref, room_for_tag, tag_content, tagged_kind}
+use Rattle.import_session.specs.Tags.{said_more, tag_made, tag_stored, tagged, tagger_said, target_said}
+use Rattle.stream_state.specs.Checkpoints.{fit}
+use Rattle.import_session.specs.Checkpoints.{checkpoint, saved_refs}
+use Rattle.stream_state.specs.Printing.{shown_object}
+use Rattle.import_session.specs.Meaning.{after_act, blob_stored, feature_set, head_set, placed_by, said_of_commit, said_of_tag, set_by, shown_by, stored_or_shown, within_commit}
 use Rattle.git_paths.specs.Paths.{IsPath}
 use Rattle.file_maps.specs.FileMap.{Path}
 use Rattle.open_commits.specs.declared.fault.Fault.{Fault as CommitFault}
@@ -58,14 +63,13 @@ use Rattle.open_commits.specs.OpenCommit.{Header, OpenCommit as Opened, begun}
 use Rattle.open_commits.specs.Showing.{Shown, entry_shown}
 use Rattle.open_commits.proofs.FitCommits.{end_fits, entry_fits}
 use Rattle.open_commits.proofs.GoodCommits.{end_keeps as commit_end, entry_keeps}
-use Rattle.import_session.specs.declared.said.Inline.{Inline}
+use Rattle.stream_state.specs.declared.said.Inline.{Inline}
 use Rattle.import_session.specs.Changes.{branch_entry_shown, changed_by, commit_changed, contents_stored, entry_line}
-use Rattle.import_session.specs.CommitIshes.{ref_in}
-use Rattle.import_session.specs.Commits.{begun_from, closed_at, closed_where, commit_opened, header_said, open_closed, opened_with, tip_commit, tip_for}
+use Rattle.import_session.specs.Commits.{begun_from, closed_at, closed_where, commit_opened, header_said, open_closed, opened_with}
 use Rattle.import_session.specs.Printing.{prints}
 use Rattle.import_session.proofs.SoundChanges.{IsReady, LeavesOpen, begun_open, changed_open, contents_open, open_grown}
 use Rattle.import_session.specs.Sound.{IsBranch, IsOpen, IsPending, IsSound, IsSoundRepository, IsTip, IsWellSaid}
-use Rattle.import_session.specs.Showing.{entry_shown as stored_entry_shown}
+use Rattle.stream_state.specs.Showing.{entry_shown as stored_entry_shown}
 use Rattle.import_session.specs.Stream.{Running, Step, commands_end, last_checkpoint, session_end, step, taken, unless_done_missing}
 use Rattle.import_session.proofs.SoundCommits.{IsCommitOf, commit_good, start_good, tip_commit_is}
 use Rattle.import_session.proofs.SoundRefs.{refs_grown, refs_whole, saved_are, tags_grown}

@@ -10,9 +10,9 @@ use Rattle.git_names.specs.Naming.{AnswersNames}
 use Rattle.tenant_tables.specs.declared.fault.Fault.{Fault as TableFault}
 use Rattle.tenant_tables.specs.Adding.{store_fault}
 use Rattle.tenant_tables.proofs.StoredGood.{Holds, MayStore, stored_good}
-use Rattle.import_session.specs.declared.fault.Fault.{Fault}
-use Rattle.import_session.specs.Faults.{and_then}
-use Rattle.import_session.specs.Storing.{stored_or, with_content}
+use Rattle.stream_state.specs.declared.fault.Fault.{Fault}
+use Rattle.stream_state.specs.Faults.{and_then}
+use Rattle.stream_state.specs.Storing.{stored_or, with_content}
 
 -- ---- what is carried out, and then what comes after it
 

@@ -17,10 +17,13 @@ use Rattle.git_model.specs.TagReading.{tag_read}
 use Rattle.git_model.proofs.GoodRefs.{kind_longer, refs_longer, there as stays}
 use Rattle.tenant_tables.proofs.StoredGood.{Grows}
 use Rattle.tenant_refs.proofs.Stores.{ChangesRef-with_ref, ChangesRef-without_ref}
-use Rattle.import_session.specs.declared.branches.Tip.{Tip}
-use Rattle.import_session.specs.declared.branches.Tip.TheVariants.{Unborn, Deleted, At}
-use Rattle.import_session.specs.Workspace.{Branches, PendingTags, Workspace}
-use Rattle.import_session.specs.Checkpoints.{by_branches, by_head, by_tags, fit, moves, saved_by, saved_refs}
+use Rattle.stream_state.specs.declared.branches.Tip.{Tip}
+use Rattle.stream_state.specs.declared.branches.Tip.TheVariants.{Unborn, Deleted, At}
+use Rattle.stream_state.specs.Branches.{Branches}
+use Rattle.stream_state.specs.Tags.{PendingTags}
+use Rattle.import_session.specs.Workspace.{Workspace}
+use Rattle.stream_state.specs.Checkpoints.{by_head, by_tags, fit}
+use Rattle.import_session.specs.Checkpoints.{by_branches, moves, saved_by, saved_refs}
 use Rattle.import_session.specs.Sound.{IsBranch, IsPending, IsSound, IsTip}
 
 -- ---- more objects

@@ -7,7 +7,7 @@ use Rattle.git_model.specs.Content.{Content, name_by}
 use Rattle.git_model.specs.Repository.{Object}
 use Rattle.tenant_tables.specs.declared.fault.Fault.{Fault as TableFault}
 use Rattle.tenant_tables.specs.Adding.{store_fault}
-use Rattle.tenant_tables.specs.Sums.{Sums, sums_behind, TreesFit}
+use Rattle.tenant_tables.specs.Sums.{Sums, sums_with, TreesFit}
 use Rattle.file_maps.specs.FileMap.{Path}
 use Rattle.file_maps.proofs.FitTrees.{other-fits}
 use Rattle.open_commits.specs.declared.fault.Fault.{Fault as CommitFault}
@@ -15,7 +15,7 @@ use Rattle.open_commits.specs.Changes.{Left, contents_put}
 use Rattle.open_commits.specs.OpenCommit.{OpenCommit}
 use Rattle.open_commits.proofs.FitCommits.{contents_fit}
 use Rattle.import_session.specs.Faults.{changed_or}
-use Rattle.import_session.specs.Storing.{stored_or, with_content}
+use Rattle.stream_state.specs.Storing.{stored_or, with_content}
 
 pub both_ok : {A E : Type 0} (P Q : A → Type 0) (r : Result A E) → IfOk r P → IfOk r Q
     → IfOk r (λ value. P value × Q value)
@@ -28,7 +28,7 @@ pub fits_taken : (n : ℕ) (so_far : Sums) (os : List Object) → TreesFit so_fa
 fits_taken zero so_far os fits = tt
 fits_taken (suc n) so_far [] fits = tt
 fits_taken (suc n) so_far (o ∷ os) fits =
-    (fits.0, fits_taken n (sums_behind o.content.kind o.id o.content.bytes so_far) os fits.1)
+    (fits.0, fits_taken n (sums_with o.content.kind o.id o.content.bytes so_far) os fits.1)
 
 -- a content that is no tree's
 pub content_fits : (digest : List ℕ → List ℕ) (os : List Object) → TreesFit [] os

@@ -9,13 +9,14 @@ use Rattle.content_pool.specs.Pool.{Cells}
 use Rattle.tenant_tables.specs.Objects.{objects}
 use Rattle.tenant_tables.specs.View.{View}
 use Rattle.open_commits.specs.OpenCommit.{commit_in}
-use Rattle.import_session.specs.declared.fault.Fault.{Fault}
-use Rattle.import_session.specs.declared.fault.Fault.TheVariants as fault
-use Rattle.import_session.specs.declared.said.Said.{Said}
-use Rattle.import_session.specs.Workspace.{Marks, PendingTags, Workspace, quiet}
-use Rattle.import_session.specs.Marks.{with_mark}
-use Rattle.import_session.specs.Storing.{with_content}
-use Rattle.import_session.specs.Tags.{tag_content, tag_made, tag_of, tagged}
+use Rattle.stream_state.specs.declared.fault.Fault.{Fault}
+use Rattle.stream_state.specs.declared.fault.Fault.TheVariants as fault
+use Rattle.stream_state.specs.declared.said.Said.{Said}
+use Rattle.stream_state.specs.Marks.{Marks, with_mark}
+use Rattle.stream_state.specs.Tags.{PendingTags, tag_content}
+use Rattle.import_session.specs.Workspace.{Workspace, quiet}
+use Rattle.stream_state.specs.Storing.{with_content}
+use Rattle.import_session.specs.Tags.{tag_made, tag_of, tagged}
 use Rattle.import_session.specs.Session.{CarriesOut, Own, workspace_in}
 use Rattle.import_session.proofs.ActLemmas.{first_refused, first_then}
 

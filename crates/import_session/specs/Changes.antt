@@ -11,17 +11,18 @@ use Rattle.open_commits.specs.OpenCommit.{OpenCommit}
 use Rattle.open_commits.specs.Parents.{started_from, merged}
 use Rattle.open_commits.specs.Changes.{modified, deleted, copied_to, renamed_to, all_deleted, contents_put}
 use Rattle.open_commits.specs.Showing.{entry_shown}
-use Rattle.import_session.specs.declared.fault.Fault.{Fault}
-use Rattle.import_session.specs.declared.fault.Fault.TheVariants as fault
-use Rattle.import_session.specs.declared.said.Inline.{Inline}
-use Rattle.import_session.specs.Faults.{and_then, changed_or}
+use Rattle.stream_state.specs.declared.fault.Fault.{Fault}
+use Rattle.stream_state.specs.declared.fault.Fault.TheVariants as fault
+use Rattle.stream_state.specs.declared.said.Inline.{Inline}
+use Rattle.stream_state.specs.Faults.{and_then}
+use Rattle.import_session.specs.Faults.{changed_or}
 use Rattle.import_session.specs.Workspace.{Workspace, Effect, quiet}
 use Rattle.import_session.specs.CommitIshes.{commit_in, start_in}
 use Rattle.import_session.specs.Printing.{prints}
 
 -- ---- parents and files
 
--- What an act does to the files alone. No other act comes where one of the open commit is awaited.
+-- What an act does that changes only files. No other act reaches this definition.
 unfoldable pub moved_by : Act → OpenCommit → Result OpenCommit Fault
 moved_by (Delete path) commit = Ok (deleted path commit)
 moved_by (Copy source path) commit = changed_or (copied_to source path commit)
@@ -29,7 +30,7 @@ moved_by (Rename source path) commit = changed_or (renamed_to source path commit
 moved_by DeleteAll commit = Ok (all_deleted commit)
 moved_by _ commit = Err (fault.Text text_fault.UnknownCommand)
 
--- What an act does that looks for a commit or an object.
+-- What an act does that looks up a commit or an object.
 unfoldable pub changed_by : Workspace → Act → OpenCommit → Result OpenCommit Fault
 changed_by workspace (StartFrom from) commit =
     and_then (start_in workspace commit.header.ref from) (λ id.
@@ -40,7 +41,7 @@ changed_by workspace (Modify mode object path) commit =
     changed_or (modified workspace.objects workspace.marks mode object path commit)
 changed_by workspace act commit = moved_by act commit
 
--- Either comes only where a commit is open.
+-- Such an act comes only while a commit is open.
 abbrev pub commit_changed : Act → Option OpenCommit → Workspace → Result Effect Fault
 commit_changed act None workspace = Err (fault.Text text_fault.UnknownCommand)
 commit_changed act (Some commit) workspace =
@@ -59,7 +60,7 @@ file_stored digest bytes workspace file commit =
       inline = None;
     }))
 
--- The data comes only where a file of the open commit awaits it.
+-- The data comes only while a file of the open commit waits for it.
 abbrev pub contents_stored : (List ℕ → List ℕ) → List ℕ → Option Inline → Option OpenCommit
     → Workspace → Result Effect Fault
 contents_stored digest bytes None commit workspace = Err (fault.Text text_fault.UnknownCommand)
@@ -70,7 +71,7 @@ contents_stored digest bytes (Some file) (Some commit) workspace =
 
 -- ---- 'ls' with a path alone
 
--- What is missing at a path is printed so: 'missing' SP <path> LF
+-- If nothing is at a path, this is printed: 'missing' SP <path> LF
 abbrev pub entry_line : Path → Option Entry → List ℕ
 entry_line path None = codes "missing " ++ quoted (joined path)
 entry_line path (Some e) = listing e.mode e.name (joined path)

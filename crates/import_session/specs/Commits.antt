@@ -1,6 +1,5 @@
 -- Commits from their first line to their end: git-fast-import(1), "commit".
 use Rattle.std.specs.Prelude.{◌≡◌, ℕ, Bool, true, false, List, Option, None, Some, IfSome, Result, Ok, Err}
-use Rattle.std.specs.Option.{option_and_then}
 use Rattle.git_model.specs.declared.file_mode.FileMode.{FileMode}
 use Rattle.git_model.specs.declared.kind.Kind.TheVariants as kind
 use Rattle.git_model.specs.References.{kind_named}
@@ -11,21 +10,22 @@ use Rattle.open_commits.specs.OpenCommit.{Header, OpenCommit, begun}
 use Rattle.open_commits.specs.Changes.{all_deleted}
 use Rattle.open_commits.specs.Parents.{started_from}
 use Rattle.open_commits.specs.Ends.{Closed, closed}
-use Rattle.import_session.specs.declared.branches.Tip.{Tip}
-use Rattle.import_session.specs.declared.branches.Tip.TheVariants.{Unborn, At}
-use Rattle.import_session.specs.declared.fault.Fault.{Fault}
-use Rattle.import_session.specs.declared.fault.Fault.TheVariants as fault
-use Rattle.import_session.specs.declared.said.Said.{Said}
-use Rattle.import_session.specs.Faults.{and_then, changed_or}
-use Rattle.import_session.specs.Workspace.{Branches, Workspace, Effect, quiet, said_of}
-use Rattle.import_session.specs.Marks.{room_for, with_mark}
-use Rattle.import_session.specs.Branches.{branch_set, commit_at, tip_of, with_branch}
+use Rattle.stream_state.specs.declared.branches.Tip.TheVariants.{At}
+use Rattle.stream_state.specs.declared.fault.Fault.{Fault}
+use Rattle.stream_state.specs.declared.fault.Fault.TheVariants as fault
+use Rattle.stream_state.specs.declared.said.Said.{Said}
+use Rattle.stream_state.specs.Faults.{and_then}
+use Rattle.import_session.specs.Faults.{changed_or}
+use Rattle.stream_state.specs.Said.{said_of}
+use Rattle.import_session.specs.Workspace.{Workspace, Effect, quiet}
+use Rattle.stream_state.specs.Marks.{room_for, with_mark}
+use Rattle.stream_state.specs.Branches.{branch_set, with_branch, tip_commit, tip_for}
 use Rattle.import_session.specs.CommitIshes.{ref_in}
 use Rattle.import_session.specs.Tags.{said_more}
 
 -- ---- its lines before the message
 
--- 'commit': its branch is named.
+-- 'commit': names its branch.
 abbrev pub commit_begun : List ℕ → Workspace → Result Effect Fault
 commit_begun ref workspace =
     quiet (record workspace { said = Some (said_of (ref_in workspace ref)) })
@@ -45,7 +45,7 @@ encoding_said encoding workspace =
 
 -- ---- its message
 
--- What these lines said, one of which names a committer.
+-- The header that these lines give. One of them must name a committer.
 abbrev pub header_of : Option ℕ → Said → List ℕ → Header
 header_of mark said committer = record {
   ref = said.ref_name;
@@ -59,31 +59,22 @@ abbrev pub header_said : Option ℕ → Said → Option (List ℕ) → Result He
 header_said mark said None = Err (fault.Text text_fault.UnknownCommand)
 header_said mark said (Some committer) = Ok (header_of mark said committer)
 
--- The commit that a branch of the stream stands at; a stored ref of its name is none.
-abbrev pub tip_commit : Branches → List ℕ → Option (List ℕ)
-tip_commit branches ref = option_and_then commit_at (tip_of branches ref)
-
--- Where a branch stood at no commit, it is unborn when a commit of it opens.
-abbrev pub tip_for : Option (List ℕ) → Tip
-tip_for None = Unborn
-tip_for (Some commit) = At commit
-
 -- That commit is the first parent.
 abbrev pub begun_from : List Object → Option (List ℕ) → OpenCommit → Result OpenCommit Fault
 begun_from objects None commit = Ok commit
 begun_from objects (Some id) commit = changed_or (started_from objects id commit)
 
--- Where there is none, the files that were left of another commit go.
+-- If there is none, the files that another commit left are dropped.
 abbrev pub started_or_cleared : List Object → Option (List ℕ) → OpenCommit
     → Result OpenCommit Fault
 started_or_cleared objects None commit = Ok (all_deleted commit)
 started_or_cleared objects (Some id) commit = changed_or (started_from objects id commit)
 
--- It is one of the objects.
+-- The first parent is a commit among the objects.
 abbrev pub IsTipCommit : List Object → Option (List ℕ) → Type 0
 IsTipCommit objects first = IfSome first (λ id. kind_named id objects ≡ Some kind.Commit)
 
--- The branch is one of the stream's from now on.
+-- A commit opens, and its branch is one of the stream's from then on.
 abbrev pub opened_at : Workspace → Option (List ℕ) → OpenCommit → Result Effect Fault
 opened_at workspace first commit =
     and_then (branch_set workspace.branches commit.header.ref (tip_for first)) (λ branches.
@@ -94,20 +85,20 @@ abbrev pub opened_with : Workspace → List ℕ → Header → Result Effect Fau
 opened_with workspace message header =
     opened_at workspace (tip_commit workspace.branches header.ref) (begun header message)
 
--- It comes only where a commit has begun.
+-- The message comes only after the commit has begun.
 abbrev pub commit_opened : Option ℕ → List ℕ → Option Said → Workspace → Result Effect Fault
 commit_opened mark message None workspace = Err (fault.Text text_fault.UnknownCommand)
 commit_opened mark message (Some said) workspace =
     and_then (header_said mark said said.committer) (opened_with workspace message)
 
--- 'M' with 'inline': the next data is to stand there.
+-- 'M' with 'inline': the next data is the contents of this file.
 abbrev pub contents_awaited : FileMode → Path → Workspace → Result Effect Fault
 contents_awaited mode path workspace =
     quiet (record workspace { inline = Some (record { mode = mode; path = path }) })
 
 -- ---- its end
 
--- Its mark is set to it, its branch moves to it, and no commit is open.
+-- The mark of the commit is set to it, its branch moves to it, and no commit is open.
 abbrev pub closed_at : Workspace → Header → Closed → Workspace
 closed_at workspace header end = record workspace {
   objects = end.objects;
@@ -116,15 +107,15 @@ closed_at workspace header end = record workspace {
   commit = None;
 }
 
--- At its end its trees are stored, children first, and then itself. The limit on marks is judged
--- first.
+-- The end of a commit stores its trees, children first, and then the commit. The limit on marks is
+-- judged first.
 abbrev pub commit_closed : (List ℕ → List ℕ) → Workspace → OpenCommit → Result Workspace Fault
 commit_closed digest workspace commit =
     and_then (room_for workspace.marks commit.header.mark) (λ _.
     and_then (changed_or (closed digest workspace.objects commit)) (λ end.
     Ok (closed_at workspace commit.header end)))
 
--- The open commit ends, where there is one and an item ends it.
+-- The open commit ends, if there is one and the item ends it.
 abbrev pub open_closed : (List ℕ → List ℕ) → Workspace → Option OpenCommit
     → Result Workspace Fault
 open_closed digest workspace None = Ok workspace

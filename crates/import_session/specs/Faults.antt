@@ -1,60 +1,11 @@
--- Faults: the number of each refusal, for replies and exit statuses; how those of the layers below
--- are passed on; and what a refusal stops.
-use Rattle.std.specs.Prelude.{◌≡◌, ◌≢◌, ℕ, Option, None, Some, Result, Ok, Err}
-use Rattle.stream_grammar.specs.declared.fault.Fault.{Fault as TextFault}
-use Rattle.stream_grammar.specs.Faults.{code_of as text_code}
+-- The faults of the open commit, as faults of the stream.
+use Rattle.std.specs.Prelude.{Result, Ok, Err}
 use Rattle.open_commits.specs.declared.fault.Fault.{Fault as CommitFault}
 use Rattle.open_commits.specs.declared.fault.Fault.TheVariants as commit_fault
-use Rattle.revisions.specs.declared.fault.Fault.{Fault as RevisionFault}
-use Rattle.revisions.specs.declared.fault.Fault.TheVariants as revision_fault
-use Rattle.import_session.specs.declared.fault.Fault.{Fault}
-use Rattle.import_session.specs.declared.fault.Fault.TheVariants as fault
+use Rattle.stream_state.specs.declared.fault.Fault.{Fault}
+use Rattle.stream_state.specs.declared.fault.Fault.TheVariants as fault
 
--- The number of a fault.
-abbrev pub code_of : Fault → ℕ
-code_of (fault.Text text) = text_code text
-code_of fault.Malformed = 3
-code_of fault.DoneMissing = 7
-code_of fault.MarkUnknown = 13
-code_of fault.ObjectUnknown = 14
-code_of fault.WrongKind = 15
-code_of fault.UnknownRevision = 16
-code_of fault.Ambiguous = 17
-code_of fault.SourceMissing = 18
-code_of fault.BranchFromItself = 19
-code_of fault.RootNotDirectory = 20
-code_of fault.NameCollision = 24
-code_of fault.Limit = 25
-code_of fault.Memory = 90
-
--- What the text of an item gives, or its fault.
-abbrev pub text_first : {A : Type 0} → Result A TextFault → Result A Fault
-text_first (Ok value) = Ok value
-text_first (Err e) = Err (fault.Text e)
-
--- What comes after a step that may be refused.
-abbrev pub and_then : {A B : Type 0} → Result A Fault → (A → Result B Fault) → Result B Fault
-and_then (Ok value) next = next value
-and_then (Err e) next = Err e
-
--- What must be there, or else this fault.
-abbrev pub or_fault : {A : Type 0} → Fault → Option A → Result A Fault
-or_fault e None = Err e
-or_fault e (Some value) = Ok value
-
--- What refuses an expression.
-abbrev pub resolving_fault : RevisionFault → Fault
-resolving_fault revision_fault.Malformed = fault.Malformed
-resolving_fault revision_fault.WrongKind = fault.WrongKind
-resolving_fault revision_fault.UnknownRevision = fault.UnknownRevision
-resolving_fault revision_fault.Ambiguous = fault.Ambiguous
-resolving_fault revision_fault.Memory = fault.Memory
-
-abbrev pub resolved_or : {A : Type 0} → Result A RevisionFault → Result A Fault
-resolved_or (Ok value) = Ok value
-resolved_or (Err e) = Err (resolving_fault e)
-
--- What refuses a change of the open commit, or its end.
+-- The fault of a change of the open commit, or of its end, as one of the stream.
 abbrev pub changing_fault : CommitFault → Fault
 changing_fault commit_fault.MarkUnknown = fault.MarkUnknown
 changing_fault commit_fault.ObjectUnknown = fault.ObjectUnknown
@@ -68,8 +19,3 @@ changing_fault commit_fault.Memory = fault.Memory
 abbrev pub changed_or : {A : Type 0} → Result A CommitFault → Result A Fault
 changed_or (Ok value) = Ok value
 changed_or (Err e) = Err (changing_fault e)
-
--- What a call answers is what is defined; out of memory may stand in its place.
-abbrev pub Gives : {A : Type 0} → Result A Fault → Result A Fault → Type 0
-Gives (Ok value) defined = defined ≡ Ok value
-Gives (Err e) defined = e ≢ fault.Memory → defined ≡ Err e

@@ -8,7 +8,7 @@ use Rattle.tree_build.specs.Branch.{IsBranch}
 use Rattle.open_commits.specs.OpenCommit.{Stands}
 use Rattle.import_session.specs.Session.{Own}
 
--- Both stand among the objects: each tree that they name is one of them.
+-- Both are branches among the objects: each tree that they name is one of them.
 pub record HoldsFiles (os : List Object) (own : Own) : Type 0 where
   pub commit : IfSome own.commit (Stands os)
   pub left : IfSome own.left (IsBranch os)
@@ -17,7 +17,7 @@ pub record HoldsFiles (os : List Object) (own : Own) : Type 0 where
 abbrev pub FilesStand : Own → Cells → View → Type 0
 FilesStand own pool table = HoldsFiles (objects pool table.entries) own
 
--- What a call leaves of them that changes neither.
+-- A call changes neither of them.
 pub record KeepsFiles (old new : Own) : Type 0 where
   pub commit : new.commit ≡ old.commit
   pub left : new.left ≡ old.left

@@ -1,2 +1,2 @@
--- What a call is lent: the pool that all share, and one tenant's table over it.
+-- What a call borrows: the pool that all share, and one tenant's table over it.
 pub use Rattle.tenant_tables.specs.Lent.{Keeps, IsUnchanged}

@@ -1,8 +1,7 @@
 -- What each command does: git-fast-import(1), "Commands".
-use Rattle.std.specs.Prelude.{ℕ, true, if◌then◌else◌, List, ◌++◌, length, Option, None, Some, Result, Ok, Err, codes, decimal}
+use Rattle.std.specs.Prelude.{ℕ, true, if◌then◌else◌, List, Option, Some, Result, Err, codes}
 use Rattle.std.specs.Str.{bytes_eq}
 use Rattle.hex.specs.Hex.{encode_lower}
-use Rattle.git_model.specs.declared.kind.Kind.{Kind}
 use Rattle.git_model.specs.declared.kind.Kind.TheVariants as kind
 use Rattle.git_model.specs.Content.{Content, content_from, name_by}
 use Rattle.git_model.specs.Repository.{object_named}
@@ -12,19 +11,20 @@ use Rattle.stream_grammar.specs.declared.feature.Feature.TheVariants as feature
 use Rattle.stream_grammar.specs.Acts.{Act, Wait, StoreBlob, BeginTag, TagTarget, Tagger, StoreTag, Reset, ResetTo, SetMark}
 use Rattle.stream_grammar.specs.Acts.{BeginCommit, Author, Committer, Encoding, OpenCommit, ModifyInline, PutContents, ShowBranchEntry}
 use Rattle.stream_grammar.specs.Acts.{Checkpoint, Progress, ShowMark, ShowObject, ShowEntry, Finish, Require, SetHead}
-use Rattle.import_session.specs.declared.fault.Fault.{Fault}
-use Rattle.import_session.specs.declared.fault.Fault.TheVariants as fault
-use Rattle.import_session.specs.Faults.{and_then}
+use Rattle.stream_state.specs.declared.fault.Fault.{Fault}
+use Rattle.stream_state.specs.declared.fault.Fault.TheVariants as fault
+use Rattle.stream_state.specs.Faults.{and_then}
 use Rattle.import_session.specs.Workspace.{Workspace, Effect, quiet}
-use Rattle.import_session.specs.Marks.{marked_name, referred_name, room_for, with_mark}
+use Rattle.stream_state.specs.Marks.{marked_name, referred_name, room_for, with_mark}
 use Rattle.import_session.specs.Resets.{branch_reset, branch_reset_to, alias_set}
-use Rattle.import_session.specs.Showing.{entry_shown}
-use Rattle.import_session.specs.Storing.{with_content}
+use Rattle.stream_state.specs.Showing.{entry_shown}
+use Rattle.stream_state.specs.Storing.{with_content}
 use Rattle.import_session.specs.Tags.{tag_begun, target_said, tagger_said, tag_stored}
 use Rattle.import_session.specs.Checkpoints.{checkpoint}
 use Rattle.import_session.specs.Printing.{prints}
 use Rattle.import_session.specs.Commits.{author_said, commit_begun, commit_opened, committer_said, contents_awaited, encoding_said}
 use Rattle.import_session.specs.Changes.{branch_entry_shown, commit_changed, contents_stored}
+use Rattle.stream_state.specs.Printing.{shown_object}
 
 -- 'blob': its contents are stored, and then its mark is set. The limit on marks is judged first.
 abbrev pub blob_stored : (List ℕ → List ℕ) → Option ℕ → Content → Workspace → Result Effect Fault
@@ -36,20 +36,6 @@ blob_stored digest mark content workspace =
       marks = with_mark workspace.marks mark (name_by digest content);
     })))
 
--- 'cat-blob': the name, the kind and the size of a blob, and after them its bytes. What the
--- repository has not is missing, and what is no blob is refused.
-abbrev pub blob_text : List ℕ → List ℕ → List ℕ
-blob_text id bytes =
-    encode_lower id ++ codes " blob " ++ decimal (length bytes) ++ codes "\n" ++ bytes
-
-abbrev pub shown_content : List ℕ → Kind → List ℕ → Result (List ℕ) Fault
-shown_content id kind.Blob bytes = Ok (blob_text id bytes)
-shown_content id _ bytes = Err fault.WrongKind
-
-abbrev pub shown_object : List ℕ → Option Content → Result (List ℕ) Fault
-shown_object id None = Ok (encode_lower id ++ codes " missing")
-shown_object id (Some content) = shown_content id content.kind content.bytes
-
 abbrev pub blob_shown : Workspace → List ℕ → Result Effect Fault
 blob_shown workspace id =
     and_then (shown_object id (object_named id workspace.objects)) (λ line. prints workspace line)
@@ -60,14 +46,14 @@ feature_set feature.Done workspace = record workspace { needs_done = true }
 feature_set feature.Force workspace = record workspace { forces = true }
 feature_set _ workspace = workspace
 
--- 'option gitpool head': what HEAD is to name from the next checkpoint on, and for this stream at
--- once. It does not name itself.
+-- 'option gitpool head': the ref that HEAD names, for this stream at once and for the repository
+-- from the next checkpoint. It cannot be `HEAD` itself.
 abbrev pub head_set : List ℕ → Workspace → Result Effect Fault
 head_set ref workspace =
     if bytes_eq ref (codes "HEAD") then Err (fault.Text text_fault.BadRefName)
     else quiet (record workspace { head = Some ref })
 
--- What an act of the open commit changes there.
+-- What an act changes in the open commit.
 unfoldable pub within_commit : Act → Workspace → Result Effect Fault
 within_commit (ModifyInline mode path) workspace = contents_awaited mode path workspace
 within_commit act workspace = commit_changed act workspace.commit workspace
@@ -102,7 +88,7 @@ placed_by (SetMark mark commit) workspace = alias_set mark commit workspace
 placed_by (OpenCommit mark message) workspace = commit_opened mark message workspace.said workspace
 placed_by act workspace = set_by act workspace
 
--- What an act prints, which leaves the workspace.
+-- What an act prints that leaves the workspace as it is.
 unfoldable pub shown_by : Act → Workspace → Result Effect Fault
 shown_by (ShowMark mark) workspace =
     and_then (marked_name workspace.marks mark) (λ id. prints workspace (encode_lower id))
@@ -114,7 +100,7 @@ shown_by (ShowEntry root path) workspace =
 shown_by (Progress line) workspace = prints workspace line
 shown_by act workspace = placed_by act workspace
 
--- What stores a blob, and what stores nothing.
+-- An act that stores a blob, or one that stores nothing.
 unfoldable pub stored_or_shown : (List ℕ → List ℕ) → Act → Workspace → Result Effect Fault
 stored_or_shown digest (StoreBlob mark bytes) workspace =
     blob_stored digest mark (content_from kind.Blob bytes) workspace

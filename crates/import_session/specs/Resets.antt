@@ -3,15 +3,16 @@ use Rattle.std.specs.Prelude.{ℕ, Bool, false, if◌then◌else◌, List, repli
 use Rattle.std.specs.Str.{bytes_eq}
 use Rattle.stream_grammar.specs.declared.fault.Fault.TheVariants as text_fault
 use Rattle.stream_grammar.specs.Names.{CommitIsh, Marked, Expression}
-use Rattle.import_session.specs.declared.branches.Tip.{Tip}
-use Rattle.import_session.specs.declared.branches.Tip.TheVariants.{Unborn, Deleted, At}
-use Rattle.import_session.specs.declared.fault.Fault.{Fault}
-use Rattle.import_session.specs.declared.fault.Fault.TheVariants as fault
-use Rattle.import_session.specs.declared.said.Said.{Said}
-use Rattle.import_session.specs.Faults.{and_then}
-use Rattle.import_session.specs.Workspace.{Workspace, Effect, quiet, said_of}
-use Rattle.import_session.specs.Marks.{room_for, with_mark}
-use Rattle.import_session.specs.Branches.{branch_set, with_branch}
+use Rattle.stream_state.specs.declared.branches.Tip.{Tip}
+use Rattle.stream_state.specs.declared.branches.Tip.TheVariants.{Unborn, Deleted, At}
+use Rattle.stream_state.specs.declared.fault.Fault.{Fault}
+use Rattle.stream_state.specs.declared.fault.Fault.TheVariants as fault
+use Rattle.stream_state.specs.declared.said.Said.{Said}
+use Rattle.stream_state.specs.Faults.{and_then}
+use Rattle.stream_state.specs.Said.{said_of}
+use Rattle.import_session.specs.Workspace.{Workspace, Effect, quiet}
+use Rattle.stream_state.specs.Marks.{room_for, with_mark}
+use Rattle.stream_state.specs.Branches.{branch_set, with_branch}
 use Rattle.import_session.specs.CommitIshes.{ref_in, commit_in, start_in}
 
 -- 'reset': the branch is unborn, whatever it was.
@@ -28,13 +29,13 @@ unfoldable pub is_zeros : CommitIsh → Bool
 is_zeros (Marked mark) = false
 is_zeros (Expression words) = bytes_eq words (replicate 40 48)
 
--- 'from' in a reset: the branch is marked as deleted, or stands at the commit.
+-- 'from' in a reset: the branch is marked as deleted, or is at the commit.
 abbrev pub tip_from : Workspace → List ℕ → CommitIsh → Result Tip Fault
 tip_from workspace ref from =
     if is_zeros from then Ok Deleted
     else and_then (start_in workspace ref from) (λ id. Ok (At id))
 
--- It comes only where a reset is open.
+-- It comes only while a reset is open.
 abbrev pub branch_placed : CommitIsh → Option Said → Workspace → Result Effect Fault
 branch_placed from None workspace = Err (fault.Text text_fault.UnknownCommand)
 branch_placed from (Some said) workspace =

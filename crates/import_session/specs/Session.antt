@@ -1,4 +1,4 @@
--- A session: the part of a running stream that lies neither in a table, nor in a pool, nor among
+-- A session: the part of a running stream that is neither in a table, nor in a pool, nor among
 -- refs.
 use Rattle.std.specs.Prelude.{◌≡◌, ◌≢◌, ℕ, List, [], ◌++◌, take, Option, None, Result, Ok, Err, Bool, false}
 use Rattle.std.specs.Option.{option_map}
@@ -11,18 +11,21 @@ use Rattle.stream_grammar.specs.declared.fault.Fault.{Fault as TextFault}
 use Rattle.stream_grammar.specs.declared.act.Done.{Done as LentDone}
 use Rattle.stream_grammar.specs.Commands.{Done, Parsing, top}
 use Rattle.stream_grammar.specs.Shown.{done_shown}
-use Rattle.import_session.specs.declared.fault.Fault.{Fault}
-use Rattle.import_session.specs.declared.fault.Fault.TheVariants as fault
+use Rattle.stream_state.specs.declared.fault.Fault.{Fault}
+use Rattle.stream_state.specs.declared.fault.Fault.TheVariants as fault
 use Rattle.import_session.specs.declared.own.Own.{Own as LentOwn}
-use Rattle.import_session.specs.declared.said.Said.{Said}
-use Rattle.import_session.specs.declared.said.Inline.{Inline}
+use Rattle.stream_state.specs.declared.said.Said.{Said}
+use Rattle.stream_state.specs.declared.said.Inline.{Inline}
 use Rattle.tree_build.specs.Branch.{Branch}
 use Rattle.open_commits.specs.OpenCommit.{HeldCommit, commit_held, commit_in}
-use Rattle.import_session.specs.Faults.{text_first}
-use Rattle.import_session.specs.Workspace.{Workspace, Marks, Branches, PendingTags, Effect}
+use Rattle.stream_state.specs.Faults.{text_first}
+use Rattle.stream_state.specs.Marks.{Marks}
+use Rattle.stream_state.specs.Branches.{Branches}
+use Rattle.stream_state.specs.Tags.{PendingTags}
+use Rattle.import_session.specs.Workspace.{Workspace, Effect}
 use Rattle.import_session.specs.Stream.{Running, Step}
 
--- What a stream has of its own, beside its objects. The open commit is held with its files as a
+-- What a stream has of its own apart from its objects. The files of the open commit are held as a
 -- branch, and so are the files that the last commit left for the next one.
 pub record Own : Type 0 where
   pub marks : Marks
@@ -36,7 +39,7 @@ pub record Own : Type 0 where
   pub forces : Bool
   pub needs_done : Bool
 
--- The same without where it lies.
+-- The same, apart from where it is in memory.
 abbrev pub own_shown : LentOwn → Own
 own_shown own = record {
   marks = own.marks.entries;
@@ -51,7 +54,7 @@ own_shown own = record {
   needs_done = own.needs_done;
 }
 
--- Nothing yet.
+-- The state before the first item.
 abbrev pub nothing_own : Own
 nothing_own = record {
   marks = [];
@@ -72,8 +75,8 @@ pub record Kept : Type 0 where
   pub own : Own
   pub is_done : Bool
 
--- The workspace of a stream whose objects stand in a table over a pool. The open commit has the
--- files that its branch means among them.
+-- The workspace of a stream whose objects are in a table over a pool. The files of the open commit
+-- are those that its branch means among these objects.
 abbrev pub workspace_in : Own → Cells → View → RefStore → Workspace
 workspace_in own pool table refs = record {
   objects = objects pool table.entries;
@@ -98,8 +101,8 @@ running_in session pool table refs = record {
   is_done = session.is_done;
 }
 
--- An act was carried out, or the end of the stream: it left this workspace, and its reply was
--- printed; or what refuses it was answered. `Memory` may stand in place of either.
+-- An act, or the end of the stream, was carried out: it left this workspace and printed its reply;
+-- or its refusal was answered. `Memory` may take the place of either.
 abbrev pub CarriesOut : Result Effect Fault → Workspace → List ℕ → List ℕ → Result Unit Fault
     → Type 0
 CarriesOut (Ok effect) new out out' (Ok u) = (effect.workspace ≡ new) × (out' ≡ out ++ effect.reply)
@@ -107,33 +110,33 @@ CarriesOut (Ok effect) new out out' (Err e) = e ≡ fault.Memory
 CarriesOut (Err refusal) new out out' (Ok u) = ⊥
 CarriesOut (Err refusal) new out out' (Err e) = e ≢ fault.Memory → e ≡ refusal
 
--- What the grammar gave for an item, or its fault. `Memory` may stand in place of either.
+-- What the grammar gave for an item, or its fault. `Memory` may take the place of either.
 abbrev pub Reads : Result LentDone Fault → Result Done TextFault → Type 0
 Reads (Ok done) given = given ≡ Ok (done_shown done)
 Reads (Err e) given = e ≢ fault.Memory → text_first given ≡ Err e
 
--- What a call was to leave it left, or what refuses that was answered. `Memory` may stand in place
+-- A call left what is wanted, or answered the refusal that is wanted. `Memory` may take the place
 -- of either.
 abbrev pub Leaves : {A : Type 0} → Result A Fault → A → Result Unit Fault → Type 0
 Leaves wanted new (Ok u) = wanted ≡ Ok new
 Leaves wanted new (Err e) = e ≢ fault.Memory → wanted ≡ Err e
 
--- The same of an item, which leaves a running stream.
+-- The same for an item, which leaves a running stream.
 abbrev pub Takes : Result Step Fault → Running → List ℕ → List ℕ → Result Unit Fault → Type 0
 Takes (Ok step) new out out' (Ok u) = (step.running ≡ new) × (out' ≡ out ++ step.reply)
 Takes (Ok step) new out out' (Err e) = e ≡ fault.Memory
 Takes (Err refusal) new out out' (Ok u) = ⊥
 Takes (Err refusal) new out out' (Err e) = e ≢ fault.Memory → e ≡ refusal
 
--- Before a session's first item.
+-- A session before its first item.
 abbrev pub new_session : Kept
 new_session = record { parsing = Ok top; own = nothing_own; is_done = false }
 
--- The repository whose objects stand in a table over a pool, all of them.
+-- The repository of all objects in a table over a pool, with these refs.
 abbrev pub repository_in : Cells → View → RefStore → Repository
 repository_in pool table refs = record { objects = objects pool table.entries; refs = refs }
 
--- What a call leaves of the objects at the last checkpoint: all of them.
+-- A call keeps all objects of the last checkpoint.
 abbrev pub KeepsCommitted : Cells → View → Cells → View → Type 0
 KeepsCommitted before old after new = take new.committed (objects after new.entries)
     ≡ take old.committed (objects before old.entries)

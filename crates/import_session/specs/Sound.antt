@@ -13,25 +13,25 @@ use Rattle.tenant_tables.specs.Sums.{TreesFit}
 use Rattle.open_commits.specs.GoodCommits.{IsGoodCommit}
 use Rattle.open_commits.specs.OpenCommit.{OpenCommit}
 use Rattle.open_commits.specs.OpenFiles.{HasFiles}
-use Rattle.import_session.specs.declared.branches.Tip.{Tip}
-use Rattle.import_session.specs.declared.branches.Tip.TheVariants.{Unborn, Deleted, At}
-use Rattle.import_session.specs.declared.said.Said.{Said}
+use Rattle.stream_state.specs.declared.branches.Tip.{Tip}
+use Rattle.stream_state.specs.declared.branches.Tip.TheVariants.{Unborn, Deleted, At}
+use Rattle.stream_state.specs.declared.said.Said.{Said}
 use Rattle.import_session.specs.Workspace.{Workspace}
 
--- A repository that a stream may open on, and that it leaves: its objects are good, with all trees
--- within the limits, and its refs.
+-- A repository that a stream may open on, and that it leaves: its objects are good, all trees are
+-- within the limits, and its refs are good.
 pub record IsSoundRepository (digest : List ℕ → List ℕ) (repository : Repository) : Type 0 where
   pub objects : AreObjects digest repository.objects
   pub trees : TreesFit [] repository.objects
   pub refs : AreRefs repository.objects repository.refs
 
--- A branch stands at no commit, or at one of the objects.
+-- A branch is at no commit, or at one of the objects.
 abbrev pub IsTip : List Object → Tip → Type 0
 IsTip objects Unborn = Unit {0}
 IsTip objects Deleted = Unit {0}
 IsTip objects (At id) = kind_named id objects ≡ Some kind.Commit
 
--- Its name is good for a ref, which a checkpoint may set.
+-- The name of a branch is one that a checkpoint may set as a ref.
 pub record IsBranch (objects : List Object) (branch : List ℕ × Tip) : Type 0 where
   pub name : IsShortRefName branch.0
   pub tip : IsTip objects branch.1
@@ -49,18 +49,18 @@ pub record IsWellSaid (said : Said) : Type 0 where
   pub encoding : IfSome said.encoding IsEncoding
   pub tagger : IfSome said.tagger IsWrittenIdent
 
--- An open commit is good among the objects, the name of its branch is good for a ref, and its files
--- are those of a branch.
+-- An open commit is good among the objects, the name of its branch may be set as a ref, and its
+-- files are those of a branch.
 pub record IsOpen (objects : List Object) (commit : OpenCommit) : Type 0 where
   pub ref : IsShortRefName commit.header.ref
   pub good : IsGoodCommit objects commit
   pub files : HasFiles commit
 
--- A workspace is sound where its objects are good, with all trees within the limits, and the refs
--- as last saved are good among those that stood then; where HEAD is to name a ref, marks stand for
--- object names, branches stand at no other commits than those of its objects, and pending tags are
--- tags of theirs; where what the open command has said can be written, where the open commit is
--- good, and where the file that awaits its data has a path.
+-- A workspace is sound if all of these hold. Its objects are good, and all trees are within the
+-- limits. The refs as last saved are good among the objects of that time. The ref that HEAD is to
+-- name may be set, marks stand for object names, branches are at commits of its objects or at none,
+-- and pending tags are tags among its objects. What the open command has said can be written, the
+-- open commit is good, and the file that waits for its data has a path.
 pub record IsSound (digest : List ℕ → List ℕ) (workspace : Workspace) : Type 0 where
   pub objects : AreObjects digest workspace.objects
   pub trees : TreesFit [] workspace.objects

@@ -5,22 +5,21 @@ use Rattle.stream_lex.specs.Items.{Item, Tail, Rest, Failed}
 use Rattle.stream_lex.specs.Faults.{code_of as item_code}
 use Rattle.stream_grammar.specs.Acts.{Act, Finish}
 use Rattle.stream_grammar.specs.Commands.{Parsing, top, done_by, after, end_of}
-use Rattle.import_session.specs.declared.fault.Fault.{Fault}
-use Rattle.import_session.specs.declared.fault.Fault.TheVariants as fault
-use Rattle.import_session.specs.Faults.{code_of, text_first, and_then}
+use Rattle.stream_state.specs.declared.fault.Fault.{Fault}
+use Rattle.stream_state.specs.declared.fault.Fault.TheVariants as fault
+use Rattle.stream_state.specs.Faults.{code_of, text_first, and_then}
 use Rattle.import_session.specs.Workspace.{Workspace, Effect, quiet}
 use Rattle.import_session.specs.Checkpoints.{checkpoint}
 use Rattle.import_session.specs.Commits.{closed_where}
 use Rattle.import_session.specs.Meaning.{after_act}
 
--- A running stream has its workspace, the command that is not whole yet, and whether `done` was
--- read.
+-- A running stream: its workspace, the command that is not complete, and whether `done` was read.
 pub record Running : Type 0 where
   pub workspace : Workspace
   pub parsing : Parsing
   pub is_done : Bool
 
--- Before its first item.
+-- A stream before its first item.
 abbrev pub begun : Workspace → Running
 begun workspace = record { workspace = workspace; parsing = Ok top; is_done = false }
 
@@ -33,7 +32,7 @@ abbrev pub is_finish : Act → Bool
 is_finish Finish = true
 is_finish _ = false
 
--- What the act of an item leaves of the stream.
+-- What the act of an item leaves of a running stream.
 abbrev pub after_item : Running → Item → Act → Effect → Step
 after_item now item act effect = record {
   running = record {
@@ -44,8 +43,8 @@ after_item now item act effect = record {
   reply = effect.reply;
 }
 
--- The text of an item is judged first; then the open commit ends, where the item ends it; then
--- comes the meaning of its act.
+-- The text of an item is judged first. Then the open commit ends, if the item ends it. Then its act
+-- is carried out.
 abbrev pub taken : (List ℕ → List ℕ) → Running → Item → Result Step Fault
 taken digest now item =
     and_then (text_first (done_by now.parsing item)) (λ done.
@@ -53,25 +52,25 @@ taken digest now item =
     and_then (after_act digest done.act workspace) (λ effect.
     Ok (after_item now item done.act effect))))
 
--- After `done` an item is passed over.
+-- After `done` an item is ignored.
 unfoldable pub step : (List ℕ → List ℕ) → Running → Item → Result Step Fault
 step digest now item =
     if now.is_done then Ok (record { running = now; reply = [] }) else taken digest now item
 
--- What stood at the last checkpoint.
+-- The repository at the last checkpoint.
 abbrev pub last_checkpoint : Workspace → Repository
 last_checkpoint workspace = record {
   objects = take workspace.committed workspace.objects;
   refs = workspace.refs;
 }
 
--- How a stream stands: it runs, and after its items stands a tail; or it was refused under a
--- number, and then the repository at the last checkpoint is all that is left.
+-- The status of a stream. Either it runs, and a tail of bytes follows its items; or it was refused
+-- under a number, and only the repository at the last checkpoint is left.
 pub data Standing : Type 0 where
   Runs : Running → Tail → Standing
   Refused : ℕ → Repository → Standing
 
--- What a stream printed so far, and how it stands.
+-- What a stream printed so far, and its status.
 pub record Outcome : Type 0 where
   pub replies : List ℕ
   pub standing : Standing
@@ -89,7 +88,7 @@ tail_outcome now (Rest skips bytes) =
     record { replies = []; standing = Runs now (Rest skips bytes) }
 tail_outcome now (Failed fault) = refused (item_code fault) now.workspace
 
--- After `done` no bytes are looked at, and none are kept.
+-- After `done` bytes are ignored, and none are kept.
 unfoldable pub at_tail : Running → Tail → Outcome
 at_tail now tail =
     if now.is_done then record { replies = []; standing = Runs now (Rest false []) }
@@ -106,7 +105,7 @@ carried digest now (item ∷ items) tail =
     going_on now (step digest now item) (λ next. carried digest next items tail)
 
 -- How a stream ended: well, or refused under a number; what its end printed; and the repository
--- then.
+-- that is left.
 pub record End : Type 0 where
   pub fault : Option ℕ
   pub reply : List ℕ
@@ -120,8 +119,8 @@ ended_well reply workspace =
 abbrev pub ended_by : ℕ → Repository → End
 ended_by code repository = record { fault = Some code; reply = []; repository = repository }
 
--- The end of the commands: a part may be missing, and then `done`; else the open commit ends, where
--- there is one, and the end is a checkpoint.
+-- The end of the commands. It is refused if a part of a command is missing, and then if `done` is.
+-- Otherwise the open commit ends, if there is one, and the end is a checkpoint.
 abbrev pub unless_done_missing : Workspace → Result Unit Fault
 unless_done_missing workspace =
     if workspace.needs_done then Err fault.DoneMissing else Ok tt
@@ -132,7 +131,7 @@ commands_end digest now =
     and_then (unless_done_missing now.workspace) (λ _.
     and_then (closed_where digest ends_commit now.workspace) checkpoint))
 
--- After `done` nothing is asked for, and nothing is printed.
+-- After `done` nothing is required, and nothing is printed.
 unfoldable pub session_end : (List ℕ → List ℕ) → Running → Result Effect Fault
 session_end digest now =
     if now.is_done then quiet now.workspace else commands_end digest now
@@ -141,7 +140,7 @@ abbrev pub end_left : Workspace → Result Effect Fault → End
 end_left workspace (Ok effect) = ended_well effect.reply effect.workspace
 end_left workspace (Err fault) = ended_by (code_of fault) (last_checkpoint workspace)
 
--- The end of the bytes: none may be left over.
+-- The end of the bytes. None may be left over.
 abbrev pub bytes_end : (List ℕ → List ℕ) → Running → List ℕ → End
 bytes_end digest now [] = end_left now.workspace (session_end digest now)
 bytes_end digest now (byte ∷ bytes) = ended_by 6 (last_checkpoint now.workspace)

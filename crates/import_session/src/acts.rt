@@ -1,39 +1,32 @@
 //! What the acts of a stream do: git-fast-import(1), "Commands".
 
-ghost use Rattle.std.specs.Prelude.{◌≡◌, OnErr, OnOk, Ok, List, ℕ};
-ghost use Rattle.hex.specs.Hex.{encode_lower};
+ghost use Rattle.std.specs.Prelude.{◌≡◌, OnErr, OnOk, List, ℕ};
 ghost use Rattle.git_model.specs.RefStore.{RefStore};
-ghost use Rattle.git_model.specs.GoodRepository.{AreObjects};
-ghost use Rattle.git_model.specs.Repository.{object_named};
 ghost use Rattle.content_pool.specs.Pool.{HasRoom};
-ghost use Rattle.tenant_tables.specs.Objects.{objects};
 ghost use Rattle.tenant_tables.specs.Room.{HasRoomBeside};
 ghost use Rattle.tenant_tables.specs.StandsIn.{StandsIn};
 ghost use Rattle.stream_grammar.specs.Acts.{StoreBlob};
 ghost use Rattle.stream_grammar.specs.Shown.{act_shown};
-ghost use Rattle.import_session.specs.Faults.{and_then};
-ghost use Rattle.import_session.specs.Marks.{marked_name, referred_name};
-ghost use Rattle.import_session.specs.Meaning.{after_act, shown_by, shown_object, stored_or_shown};
+ghost use Rattle.import_session.specs.Meaning.{after_act, shown_by, stored_or_shown};
 ghost use Rattle.import_session.specs.Lent.{IsUnchanged, Keeps};
 ghost use Rattle.import_session.specs.Held.{FilesStand};
-ghost use Rattle.import_session.specs.Printing.{Shows};
 ghost use Rattle.import_session.specs.Sound.{IsSound};
 ghost use Rattle.import_session.specs.Session.{own_shown, workspace_in, CarriesOut, KeepsCommitted, Own as OwnShown};
 
 use crate::changes::{put_contents, show_entry};
 use crate::checkpoint::save;
-use crate::entries::print_stored;
-use crate::fault::Fault;
-use crate::marks;
-use crate::objects::{print_object, store};
 use crate::own::Own;
-use crate::print::{print_line, print_name};
 use crate::resets::place;
 use crate::tags::store_tag;
 use content_pool::Pool;
 use git_objects::{Kind, Name, Naming};
 use indexmap::IndexMap;
-use stream_grammar::{Act, DataRef, Mark};
+use stream_grammar::{Act, Mark};
+use stream_state::entries::print_stored;
+use stream_state::fault::Fault;
+use stream_state::marks;
+use stream_state::objects::{print_marked, print_referred, store};
+use stream_state::print::print_line;
 use tenant_refs::Refs;
 use tenant_tables::Table;
 
@@ -61,31 +54,6 @@ fn store_marked<N: Naming>(
     marks::make_room(marks, &mark)?;
     let id = store(pool, table, Kind::Blob, contents)?;
     marks::set(marks, mark, id);
-    Ok(())
-}
-
-fn print_referred<N: Naming>(
-    pool: &Pool<N>,
-    table: &Table,
-    marks: &IndexMap<Mark, Name>,
-    object: DataRef,
-    out: &mut Vec<u8>,
-) -> Result<(), Fault>
-    requires { StandsIn N.digest_of pool.now table.now.entries }
-    ensures { Shows (and_then (referred_name marks.now.entries object)
-        (λ id. shown_object id (object_named id (objects pool.now table.now.entries))))
-        out.old.items out.new.items result }
-{
-    let id = marks::referred(marks, object)?;
-    print_object(pool, table, id, out)
-}
-
-fn print_marked(marks: &IndexMap<Mark, Name>, mark: Mark, out: &mut Vec<u8>) -> Result<(), Fault>
-    ensures { Shows (and_then (marked_name marks.now.entries mark) (λ id. Ok (encode_lower id)))
-        out.old.items out.new.items result }
-{
-    let id = marks::find(marks, mark)?;
-    print_name(id, out)?;
     Ok(())
 }
 
@@ -121,7 +89,7 @@ fn show_or_store<N: Naming>(
     }
 }
 
-// Carries out an act that prints, or one that stores, prints and saves nothing.
+// Carries out an act that prints, or one that neither stores, prints nor saves.
 #[tactic(auto, unfolding(crate::specs::Meaning::shown_by))]
 fn show<N: Naming>(
     pool: &Pool<N>,
@@ -145,14 +113,16 @@ fn show<N: Naming>(
     match act {
         Act::ShowMark(mark) => print_marked(&own.marks, *mark, out),
         Act::ShowObject(object) => print_referred(pool, table, &own.marks, *object, out),
-        Act::ShowEntry { root, path } => print_stored(pool, table, own, *root, path, out),
+        Act::ShowEntry { root, path } => {
+            print_stored(own.alloc, pool, table, &own.marks, *root, path, out)
+        }
         Act::Progress(line) => Ok(print_line(line, out)?),
         _ => place(pool, table, refs, own, act),
     }
 }
 
-// Carries an act out, and appends what it prints to `out`. The objects up to the last checkpoint
-// stay where it is refused.
+// Carries out an act, and appends what it prints to `out`. If the act is refused, the objects up to
+// the last checkpoint stay.
 #[tactic(auto, unfolding(crate::specs::Meaning::after_act))]
 pub fn carry_out<N: Naming>(
     pool: &mut Pool<N>,

@@ -21,26 +21,27 @@ ghost use Rattle.import_session.specs.Held.{FilesStand, KeepsFiles};
 ghost use Rattle.import_session.specs.Sound.{IsSound};
 
 use crate::commit_ishes::{commit_named, start_of};
-use crate::fault::Fault;
+use crate::fault::fault_of;
 use crate::own::{Own, keep_open};
 use crate::print::print_entry;
-use crate::said::Inline;
 use content_pool::Pool;
 use git_model::FileMode;
 use git_objects::Naming;
 use git_paths::Path;
 use open_commits::OpenCommit;
 use stream_grammar::{Act, CommitIsh};
+use stream_state::fault::Fault;
+use stream_state::said::Inline;
 use tenant_refs::Refs;
 use tenant_tables::Table;
 
-// What a change of the open commit answers, with what refuses it as a fault of the stream.
+// The answer of a change of the open commit, with its fault as one of the stream.
 pub fn passed_on(given: Result<(), open_commits::Fault>) -> Result<(), Fault>
     ensures { result ≡ changed_or given }
 {
     match given {
         Ok(()) => Ok(()),
-        Err(refusal) => Err(Fault::from(refusal)),
+        Err(refusal) => Err(fault_of(refusal)),
     }
 }
 
@@ -88,7 +89,7 @@ fn merge<N: Naming>(
     passed_on(commit.merge(id))
 }
 
-// Carries out an act that changes files alone.
+// Carries out an act that changes only files.
 #[tactic(auto, unfolding(crate::specs::Changes::moved_by))]
 fn move_files<N: Naming>(
     pool: &Pool<N>,
@@ -111,7 +112,7 @@ fn move_files<N: Naming>(
             commit.delete_all();
             Ok(())
         }
-        // No other act comes.
+        // No other act reaches this function.
         _ => Err(Fault::Text(stream_grammar::Fault::UnknownCommand)),
     }
 }
@@ -144,7 +145,7 @@ fn change_commit<N: Naming>(
     }
 }
 
-// An act in the open commit.
+// Carries out an act in the open commit.
 fn change_open<N: Naming>(
     pool: &Pool<N>,
     table: &Table,
@@ -169,7 +170,7 @@ fn change_open<N: Naming>(
     changed
 }
 
-// 'M' with 'inline': the next data is to stand there.
+// 'M' with 'inline': the next data is the contents of this file.
 fn await_contents(own: &mut Own, refs: &Refs, mode: FileMode, path: &Path) -> Result<(), Fault>
     ensures done { (pool : Cells) (table : View) (out : List ℕ) → CarriesOut
         (contents_awaited mode path.now (workspace_in (own_shown own.old) pool table refs.now))
@@ -205,7 +206,7 @@ pub fn change<N: Naming>(
     }
 }
 
-// The contents of the file that the line before named.
+// Puts the contents of the file that the line before named.
 pub fn put_contents<N: Naming>(
     pool: &mut Pool<N>,
     table: &mut Table,
@@ -226,16 +227,19 @@ pub fn put_contents<N: Naming>(
     let Some(inline) = own.inline.take() else {
         return Err(Fault::Text(stream_grammar::Fault::UnknownCommand));
     };
-    // What the last commit left was taken when this one opened.
+    // The files that the last commit left were taken when this one opened.
     own.left = None;
     let Some(commit) = &mut own.commit else {
         return Err(Fault::Text(stream_grammar::Fault::UnknownCommand));
     };
     let _within = table.committed_len();
-    Ok(commit.put_contents(pool, table, inline.mode, &inline.path, bytes)?)
+    match commit.put_contents(pool, table, inline.mode, &inline.path, bytes) {
+        Ok(()) => Ok(()),
+        Err(refusal) => Err(fault_of(refusal)),
+    }
 }
 
-// 'ls' with a path alone: prints what stands there in the open commit.
+// 'ls' with a path alone: prints what is at the path in the open commit.
 pub fn show_entry<N: Naming>(
     pool: &mut Pool<N>,
     table: &mut Table,
@@ -256,13 +260,16 @@ pub fn show_entry<N: Naming>(
     ensures printed { OnErr result (out.new.items ≡ out.old.items) }
     ensures held { OnOk result (FilesStand (own_shown own.new) pool.new table.new) }
 {
-    // What the last commit left was taken when this one opened.
+    // The files that the last commit left were taken when this one opened.
     own.left = None;
     let Some(commit) = &mut own.commit else {
         return Err(Fault::Text(stream_grammar::Fault::UnknownCommand));
     };
     let _within = table.committed_len();
-    let entry = commit.show_entry(pool, table, path)?;
+    let entry = match commit.show_entry(pool, table, path) {
+        Ok(entry) => entry,
+        Err(refusal) => return Err(fault_of(refusal)),
+    };
     print_entry(path, entry, out)?;
     Ok(())
 }

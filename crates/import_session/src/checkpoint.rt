@@ -1,58 +1,26 @@
 //! Checkpoints: git-fast-import(1), "checkpoint"; and "fast-forward" of gitglossary(7).
 
-ghost use Rattle.std.specs.Prelude.{◌≡◌, ◌≢◌, ◌++◌, ◌∷◌, [], ◌≤◌, ◌<◌, length, IfOk, IfErr, OnOk, OnErr, MatchResult};
+ghost use Rattle.std.specs.Prelude.{◌≡◌, ◌++◌, IfOk, IfErr, OnOk, OnErr};
 ghost use Rattle.git_model.specs.GoodRepository.{AreObjects};
-ghost use Rattle.git_model.specs.RefStore.{listed_refs, RefStore};
 ghost use Rattle.tenant_refs.specs.Changes.{with_changes};
 ghost use Rattle.tenant_tables.specs.Objects.{objects};
 ghost use Rattle.tenant_tables.specs.StandsIn.{StandsIn};
-ghost use Rattle.import_session.specs.Checkpoints.{by_branches, by_head, by_tags, checkpoint, is_fast_forward, kept_by, kept_lines, moves, saved_by};
+ghost use Rattle.stream_state.specs.Checkpoints.{by_tags};
+ghost use Rattle.import_session.specs.Checkpoints.{by_branches, checkpoint, kept_by, kept_lines, moves, saved_by};
 ghost use Rattle.import_session.specs.Held.{KeepsFiles};
 ghost use Rattle.import_session.specs.Session.{own_shown, workspace_in, CarriesOut};
 
-use crate::branches::Tip;
-use crate::fault::Fault;
-use crate::head::Head;
 use crate::own::Own;
-use crate::print::print_kept;
-use commit_walk::reaches;
 use content_pool::Pool;
-use git_objects::{Kind, Name, Naming};
-use revisions::peel;
-use std::alloc::Global;
-use tenant_refs::{ChangesFault, RefChange, RefName, Refs};
-use tenant_tables::{Objects, Sight, Table};
-
-/// How many refs a repository may have.
-pub const REFS_LIMIT: usize = 65_536;
-
-// What a checkpoint is to do: what changes of the refs, in order, and the lines of those kept.
-#[derive(Drop)]
-struct Saving {
-    changes: Vec<RefChange>,
-    kept: Vec<u8>,
-}
-
-// Whether the old value of a ref, peeled, is a commit that is reached from the new tip.
-fn is_fast_forward<N: Naming>(
-    alloc: Global,
-    pool: &Pool<N>,
-    table: &Table,
-    old: Name,
-    tip: &Name,
-) -> Result<bool, Fault>
-    requires { StandsIn N.digest_of pool.now table.now.entries }
-    ensures judged { let os = objects pool.now table.now.entries in AreObjects N.digest_of os
-        → IfOk result (λ yes. yes ≡ is_fast_forward os old tip.now) }
-    ensures refused { IfErr result (λ fault. fault ≡ Fault.Memory) }
-{
-    let objects = Objects::of(pool, table, Sight::All);
-    match peel(alloc, &objects, Kind::Commit, old) {
-        Ok(commit) => Ok(reaches(alloc, pool, table, tip, &commit)?),
-        Err(revisions::Fault::Memory) => Err(Fault::Memory),
-        Err(_) => Ok(false),
-    }
-}
+use git_objects::{Name, Naming};
+use stream_state::branches::Tip;
+use stream_state::checkpoint::{
+    Saving, add_change, add_tags, carry_out, is_fast_forward, save_head,
+};
+use stream_state::fault::Fault;
+use stream_state::print::print_kept;
+use tenant_refs::{RefName, Refs};
+use tenant_tables::Table;
 
 // Whether a branch may set its ref to a tip.
 fn moves<N: Naming>(
@@ -75,23 +43,7 @@ fn moves<N: Naming>(
     }
 }
 
-// Adds a change of one ref.
-fn add_change(
-    alloc: Global,
-    ref_name: &RefName,
-    target: Option<Name>,
-    changes: &mut Vec<RefChange>,
-) -> Result<(), Fault>
-    ensures added { OnOk result (changes.new.items
-        ≡ changes.old.items ++ record { ref_name = ref_name.now; target = target } ∷ []) }
-    ensures refused { IfErr result (λ fault. fault ≡ Fault.Memory) }
-{
-    let ref_name = ref_name.try_clone(alloc)?;
-    changes.push(RefChange { ref_name, target })?;
-    Ok(())
-}
-
-// Adds what one branch changes, or that its ref is kept.
+// Adds the change that one branch makes, or the line that its ref is kept.
 fn add_branch<N: Naming>(
     pool: &Pool<N>,
     table: &Table,
@@ -122,7 +74,7 @@ fn add_branch<N: Naming>(
     }
 }
 
-// Adds what each branch changes, and which refs are kept.
+// Adds the change or the line of each branch.
 fn add_branches<N: Naming>(
     pool: &Pool<N>,
     table: &Table,
@@ -146,23 +98,7 @@ fn add_branches<N: Naming>(
     Ok(())
 }
 
-// Adds what each tag changes.
-fn add_tags(
-    alloc: Global,
-    tags: &[(RefName, Name)],
-    changes: &mut Vec<RefChange>,
-) -> Result<(), Fault>
-    ensures saved { (store : RefStore) → OnOk result (with_changes store changes.new.items
-        ≡ by_tags (with_changes store changes.old.items) tags.now) }
-    ensures refused { IfErr result (λ fault. fault ≡ Fault.Memory) }
-{
-    for (ref_name, target) in tags {
-        add_change(alloc, ref_name, Some(*target), changes)?;
-    }
-    Ok(())
-}
-
-// What a checkpoint is to do: by the branches in order, and then by the tags.
+// What a checkpoint is to do: first for the branches in order, and then for the tags.
 fn saving_of<N: Naming>(
     pool: &Pool<N>,
     table: &Table,
@@ -187,35 +123,8 @@ fn saving_of<N: Naming>(
     Ok(saving)
 }
 
-// Carries a saving out, all of it or nothing.
-fn carry_out(saving: Saving, refs: &mut Refs, out: &mut Vec<u8>) -> Result<(), Fault>
-    ensures done { MatchResult result
-        (λ _. (refs.new ≡ with_changes refs.old saving.changes.items)
-        × (length (listed_refs refs.new) ≤ REFS_LIMIT)
-        × (out.new.items ≡ out.old.items ++ saving.kept.items))
-        (λ fault. fault ≢ Fault.Memory → (fault ≡ Fault.Limit)
-        × (REFS_LIMIT < length (listed_refs (with_changes refs.old saving.changes.items)))) }
-    ensures same { OnErr result ((refs.new ≡ refs.old) × (out.new.items ≡ out.old.items)) }
-{
-    let Saving { changes, kept } = saving;
-    out.reserve(kept.len())?;
-    match refs.change_all(changes, REFS_LIMIT) {
-        Ok(()) => Ok(out.extend_from_slice(&kept).unwrap()),
-        Err(ChangesFault::Limit) => Err(Fault::Limit),
-        Err(ChangesFault::Memory) => Err(Fault::Memory),
-    }
-}
-
-fn save_head(refs: &mut Refs, head: Option<Head>)
-    ensures { refs.new ≡ by_head refs.old head }
-{
-    if let Some(head) = head {
-        refs.set_head(head.into_ref());
-    }
-}
-
 // Saves the refs and HEAD, makes all objects so far committed, and prints which refs are kept.
-// Nothing is refused once anything has changed.
+// Nothing fails after the first change.
 pub fn save<N: Naming>(
     pool: &Pool<N>,
     table: &mut Table,

@@ -1,7 +1,6 @@
 //! Commits from their message to their end: git-fast-import(1), "commit".
 
 ghost use Rattle.std.specs.Prelude.{◌≡◌, ◌≢◌, List, ℕ, None, Some, Ok, Err, IfOk, OnOk, MatchResult};
-ghost use Rattle.std.specs.Option.{option_map};
 ghost use Rattle.git_model.specs.GoodRepository.{AreObjects};
 ghost use Rattle.git_model.specs.RefStore.{RefStore};
 ghost use Rattle.git_model.specs.Repository.{Object};
@@ -10,40 +9,32 @@ ghost use Rattle.tenant_tables.specs.Room.{HasRoomBeside};
 ghost use Rattle.tenant_tables.specs.StandsIn.{StandsIn};
 ghost use Rattle.tree_build.specs.Branch.{IsBranch};
 ghost use Rattle.open_commits.specs.OpenCommit.{begun, commit_held, header_shown, shown_in, IsHeld};
-ghost use Rattle.import_session.specs.Branches.{branch_set, commit_at};
+ghost use Rattle.stream_state.specs.Branches.{branch_set, tip_commit, tip_for};
 ghost use Rattle.import_session.specs.Workspace.{quiet};
 ghost use Rattle.import_session.specs.Lent.{Keeps};
-ghost use Rattle.import_session.specs.Commits.{begun_from, closed_where, commit_closed, commit_opened, header_said, open_closed, opened_with, started_or_cleared, tip_commit, tip_for, IsTipCommit};
+ghost use Rattle.import_session.specs.Commits.{begun_from, closed_where, commit_closed, commit_opened, header_said, open_closed, opened_with, started_or_cleared, IsTipCommit};
 ghost use Rattle.import_session.specs.Session.{own_shown, workspace_in, CarriesOut, KeepsCommitted, Leaves};
 ghost use Rattle.import_session.specs.Held.{FilesStand, HoldsFiles, KeepsFiles};
 ghost use Rattle.import_session.specs.Sound.{IsSound};
 
-use crate::branches::{Branches, Tip};
 use crate::changes::passed_on;
-use crate::encoding::Encoding;
-use crate::fault::Fault;
-use crate::marks;
+use crate::fault::fault_of;
 use crate::own::{Own, keep_open};
-use crate::said::Said;
 use content_pool::Pool;
 use git_objects::{Name, Naming};
 use open_commits::{Header, OpenCommit};
 use std::alloc::Global;
 use stream_grammar::Mark;
+use stream_state::branches::{Tip, tip_commit, tip_for};
+use stream_state::encoding::bytes_of;
+use stream_state::fault::Fault;
+use stream_state::marks;
+use stream_state::said::Said;
 use tenant_refs::{RefName, Refs};
 use tenant_tables::Table;
 use tree_build::Files;
 
-fn bytes_of(encoding: Option<Encoding>) -> Option<Vec<u8>>
-    ensures { option_map (λ text. text.items) result ≡ encoding }
-{
-    match encoding {
-        Some(encoding) => Some(encoding.into_bytes()),
-        None => None,
-    }
-}
-
-// What the lines before the message said, one of which names a committer.
+// The header that the lines before the message give. One of them must name a committer.
 fn header_said(mark: Option<Mark>, said: Said) -> Result<Header, Fault>
     ensures { MatchResult result
         (λ header. header_said mark said said.committer ≡ Ok (header_shown header))
@@ -69,35 +60,7 @@ fn header_said(mark: Option<Mark>, said: Said) -> Result<Header, Fault>
     })
 }
 
-fn commit_at(tip: Tip) -> Option<Name>
-    ensures { result ≡ commit_at tip }
-{
-    match tip {
-        Tip::At(id) => Some(id),
-        Tip::Unborn | Tip::Deleted => None,
-    }
-}
-
-// The commit that a branch of the stream stands at.
-fn tip_commit(branches: &Branches, ref_name: &RefName) -> Option<Name>
-    ensures { result ≡ tip_commit branches.now ref_name.now }
-{
-    match branches.tip(ref_name) {
-        Some(tip) => commit_at(tip),
-        None => None,
-    }
-}
-
-fn tip_for(first: &Option<Name>) -> Tip
-    ensures { result ≡ tip_for first.now }
-{
-    match first {
-        Some(id) => Tip::At(*id),
-        None => Tip::Unborn,
-    }
-}
-
-// The files that the last commit left, or none. They are left no longer.
+// Takes the files that the last commit left, or no files if it left none.
 fn take_files(own: &mut Own) -> Files
     ensures branch { (os : List Object) → HoldsFiles os (own_shown own.old) → IsBranch os result }
     ensures own { own_shown own.new ≡ record (own_shown own.old) { left = None } }
@@ -108,7 +71,7 @@ fn take_files(own: &mut Own) -> Files
     }
 }
 
-// A new commit starts from the commit that its branch stood at, or without any file.
+// Starts a new commit from the commit that its branch was at, or without files.
 fn start<N: Naming>(
     pool: &Pool<N>,
     table: &Table,
@@ -131,8 +94,8 @@ fn start<N: Naming>(
     }
 }
 
-// A commit begins, whose first parent is the commit that its branch stood at. What these files have
-// open of that commit's stays open.
+// Begins a commit whose first parent is the commit that its branch was at. Directories of that
+// commit that are open in these files stay open.
 fn begin<N: Naming>(
     pool: &Pool<N>,
     table: &Table,
@@ -155,7 +118,7 @@ fn begin<N: Naming>(
     Ok(commit)
 }
 
-// The branch is one of the stream's from now on. Answers the commit that it stood at.
+// Makes the branch one of the stream's, and returns the commit that it was at.
 fn place_tip(own: &mut Own, ref_name: &RefName) -> Result<Option<Name>, Fault>
     ensures placed { let old = own_shown own.old in
         let first = tip_commit old.branches ref_name.now in MatchResult result
@@ -170,7 +133,7 @@ fn place_tip(own: &mut Own, ref_name: &RefName) -> Result<Option<Name>, Fault>
     Ok(first)
 }
 
-// A commit opens on a branch, which is one of the stream's from then on.
+// Opens a commit on a branch, and makes the branch one of the stream's.
 fn open_with<N: Naming>(
     pool: &Pool<N>,
     table: &Table,
@@ -201,7 +164,7 @@ fn open_with<N: Naming>(
     begin(pool, table, alloc, header, message, first, files)
 }
 
-// The message of a commit: it is open from here on.
+// Opens a commit, at its message.
 pub fn open_commit<N: Naming>(
     pool: &Pool<N>,
     table: &Table,
@@ -228,7 +191,7 @@ pub fn open_commit<N: Naming>(
     Ok(())
 }
 
-// A commit ends, which is the open one no more.
+// Ends a commit, which is no longer the open one.
 fn close_commit<N: Naming>(
     pool: &mut Pool<N>,
     table: &mut Table,
@@ -253,12 +216,15 @@ fn close_commit<N: Naming>(
     let mark = commit.header.mark;
     let branch = commit.header.ref_name.try_clone(own.alloc)?;
     marks::make_room(&mut own.marks, &mark)?;
-    let id = commit.close(pool, table)?;
+    let id = match commit.close(pool, table) {
+        Ok(id) => id,
+        Err(refusal) => return Err(fault_of(refusal)),
+    };
     marks::set(&mut own.marks, mark, id);
     Ok(own.branches.place(branch, Tip::At(id))?)
 }
 
-// The open commit ends, where there is one. Its files are left for the next one.
+// Ends the open commit, if there is one, and leaves its files for the next one.
 fn close<N: Naming>(pool: &mut Pool<N>, table: &mut Table, own: &mut Own) -> Result<(), Fault>
     requires stands { StandsIn N.digest_of pool.old table.old.entries }
     requires room { HasRoomBeside pool.old table.old.entries }
@@ -282,12 +248,13 @@ fn close<N: Naming>(pool: &mut Pool<N>, table: &mut Table, own: &mut Own) -> Res
     }
 }
 
-/// The open commit ends where an item ends it: its trees are stored, children first, then itself,
-/// its mark is set to it, and its branch moves to it.
+/// Ends the open commit if the item ends it (`ends`): stores its trees, children first, and then
+/// the commit itself, sets its mark, and moves its branch to it: git-fast-import(1), "commit".
 ///
-/// `Fault::Limit` (25) where the marks are too many, which is judged first; `Fault::Limit` (25) and
-/// `Fault::NameCollision` (24) object by object; `Fault::Memory` (90). The objects up to the last
-/// checkpoint stay in any case.
+/// `Fault::Limit` (25) if there would be more than 4,194,304 marks, which is judged first. Then,
+/// object by object, `Fault::Limit` (25) if the contents are too long or the table is full, else
+/// `Fault::NameCollision` (24) if the table has another object of the name. `Fault::Memory` (90) if
+/// an allocation fails. The objects up to the last checkpoint stay in any case.
 pub fn close_where<N: Naming>(
     ends: bool,
     pool: &mut Pool<N>,

@@ -1,4 +1,4 @@
-//! Laws of what a running stream keeps true: functions over the definitions alone, which run
+//! Laws of what a running stream keeps true: theorems about the definitions alone. The functions do
 //! nothing.
 
 ghost use Rattle.std.specs.Prelude.{◌≡◌, List, [], ℕ, Ok};
@@ -30,7 +30,7 @@ pub fn each_item_keeps_it()
         → IsSound digest next.running.workspace }
 {}
 
-/// So does the end of a stream.
+/// The end of a stream keeps it sound.
 pub fn each_end_keeps_it()
     ensures { (digest : List ℕ → List ℕ) → AnswersNames digest
         → (now : Running) (effect : Effect)
@@ -38,7 +38,7 @@ pub fn each_end_keeps_it()
         → IsSound digest effect.workspace }
 {}
 
-/// What a sound stream leaves at a checkpoint is a sound repository.
+/// A checkpoint of a sound stream leaves a sound repository.
 pub fn each_checkpoint_is_sound()
     ensures { (digest : List ℕ → List ℕ) (workspace : Workspace)
         → IsSound digest workspace → IsSoundRepository digest (last_checkpoint workspace) }

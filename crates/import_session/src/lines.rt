@@ -1,7 +1,7 @@
 //! What the lines of a tag and of a commit say before their message: git-fast-import(1), "tag" and
 //! "commit".
 
-ghost use Rattle.std.specs.Prelude.{◌≡◌, List, ℕ, Some, IfOk, IfErr, OnOk};
+ghost use Rattle.std.specs.Prelude.{List, ℕ, OnOk};
 ghost use Rattle.content_pool.specs.Pool.{Cells};
 ghost use Rattle.tenant_tables.specs.View.{View};
 ghost use Rattle.tenant_tables.specs.StandsIn.{StandsIn};
@@ -13,16 +13,15 @@ ghost use Rattle.import_session.specs.Held.{FilesStand, KeepsFiles};
 ghost use Rattle.import_session.specs.Sound.{IsSound};
 ghost use Rattle.import_session.specs.Session.{own_shown, workspace_in, CarriesOut};
 
-use crate::branches::copy_meant;
 use crate::changes::change;
-use crate::encoding::Encoding;
-use crate::fault::Fault;
 use crate::own::{Own, begin};
-use crate::target::Target;
 use content_pool::Pool;
 use git_objects::Naming;
-use std::alloc::Global;
 use stream_grammar::{Act, CommitIsh, Ident};
+use stream_state::branches::copy_meant;
+use stream_state::encoding::Encoding;
+use stream_state::fault::Fault;
+use stream_state::said::{set_encoding, set_ident, set_target};
 use tenant_refs::{RefName, Refs};
 use tenant_tables::Table;
 
@@ -37,14 +36,6 @@ fn begin_tag(own: &mut Own, refs: &Refs, ref_name: &RefName) -> Result<(), Fault
     Ok(())
 }
 
-fn set_target(alloc: Global, said: &CommitIsh<'_>, target: &mut Target) -> Result<(), Fault>
-    ensures set { OnOk result (target.new ≡ commit_shown said.now) }
-    ensures refused { IfErr result (λ fault. fault ≡ Fault.Memory) }
-{
-    *target = Target::copy_of(alloc, said)?;
-    Ok(())
-}
-
 fn say_target(own: &mut Own, refs: &Refs, target: &CommitIsh<'_>) -> Result<(), Fault>
     ensures done { (pool : Cells) (table : View) (out : List ℕ) → CarriesOut
         (target_said (commit_shown target.now)
@@ -56,25 +47,6 @@ fn say_target(own: &mut Own, refs: &Refs, target: &CommitIsh<'_>) -> Result<(), 
         Some(said) => set_target(own.alloc, target, &mut said.target),
         None => Err(Fault::Text(stream_grammar::Fault::UnknownCommand)),
     }
-}
-
-// A copy of an ident; `Memory` where there is no room for it, and nothing else refuses it.
-fn copy_of(alloc: Global, ident: &Ident) -> Result<Ident, Fault>
-    ensures copied { IfOk result (λ copy. copy ≡ ident.now) }
-    ensures refused { IfErr result (λ fault. fault ≡ Fault.Memory) }
-{
-    match Ident::from_written(alloc, ident.as_bytes())? {
-        Some(copy) => Ok(copy),
-        None => Err(Fault::Memory),
-    }
-}
-
-fn set_ident(alloc: Global, said: &Ident, ident: &mut Option<Ident>) -> Result<(), Fault>
-    ensures set { OnOk result (ident.new ≡ Some said.now) }
-    ensures refused { IfErr result (λ fault. fault ≡ Fault.Memory) }
-{
-    *ident = Some(copy_of(alloc, said)?);
-    Ok(())
 }
 
 fn say_tagger(own: &mut Own, refs: &Refs, ident: &Ident) -> Result<(), Fault>
@@ -122,14 +94,6 @@ fn say_committer(own: &mut Own, refs: &Refs, ident: &Ident) -> Result<(), Fault>
         Some(said) => set_ident(own.alloc, ident, &mut said.committer),
         None => Err(Fault::Text(stream_grammar::Fault::UnknownCommand)),
     }
-}
-
-fn set_encoding(alloc: Global, said: &[u8], encoding: &mut Option<Encoding>) -> Result<(), Fault>
-    ensures set { OnOk result (encoding.new ≡ Some said.now) }
-    ensures refused { IfErr result (λ fault. fault ≡ Fault.Memory) }
-{
-    *encoding = Some(Encoding::copy_of(alloc, said)?);
-    Ok(())
 }
 
 fn say_encoding(own: &mut Own, refs: &Refs, encoding: &[u8]) -> Result<(), Fault>

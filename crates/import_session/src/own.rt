@@ -1,4 +1,4 @@
-//! What a stream has of its own, beside its objects: marks, branches, the open commit, HEAD and
+//! What a stream has of its own apart from its objects: marks, branches, the open commit, HEAD and
 //! switches.
 
 ghost use Rattle.std.specs.Prelude.{◌≡◌, List, ℕ, Some, OnOk};
@@ -8,28 +8,28 @@ ghost use Rattle.tenant_tables.specs.StandsIn.{StandsIn};
 ghost use Rattle.stream_grammar.specs.Shown.{act_shown};
 ghost use Rattle.open_commits.specs.OpenCommit.{commit_held};
 ghost use Rattle.import_session.specs.Resets.{branch_reset, branch_unborn};
-ghost use Rattle.import_session.specs.Workspace.{said_of};
+ghost use Rattle.stream_state.specs.Said.{said_of};
 ghost use Rattle.import_session.specs.Held.{FilesStand, KeepsFiles};
 ghost use Rattle.import_session.specs.Sound.{IsSound};
 ghost use Rattle.import_session.specs.Meaning.{feature_set, head_set, set_by};
 ghost use Rattle.import_session.specs.Session.{nothing_own, own_shown, workspace_in, CarriesOut};
 
-use crate::branches::{Branches, Tip, copy_meant};
-use crate::fault::Fault;
-use crate::head::Head;
 use crate::lines::say_of_tag;
-use crate::said::{Inline, Said, said_of};
 use content_pool::Pool;
 use git_objects::{Name, Naming};
 use indexmap::IndexMap;
 use open_commits::OpenCommit;
 use std::alloc::Global;
 use stream_grammar::{Act, Feature, Mark};
+use stream_state::branches::{Branches, Tip, copy_meant};
+use stream_state::fault::Fault;
+use stream_state::head::Head;
+use stream_state::said::{Inline, Said, said_of};
 use tenant_refs::{RefName, Refs};
 use tenant_tables::Table;
 use tree_build::Files;
 
-/// What a stream has of its own.
+/// What a stream has of its own apart from its objects.
 #[derive(Drop)]
 pub struct Own {
     pub alloc: Global,
@@ -39,16 +39,16 @@ pub struct Own {
     pub tags: Vec<(RefName, Name)>,
     pub said: Option<Said>,
     pub commit: Option<OpenCommit>,
-    // The files of the last commit that it ended, for one whose first parent that is.
+    // The files of the last commit that ended, for a commit that starts from it.
     pub left: Option<Files>,
-    // Where in the open commit the next data is to stand.
+    // The file of the open commit whose contents the next data is.
     pub inline: Option<Inline>,
     pub head: Option<Head>,
     pub forces: bool,
     pub needs_done: bool,
 }
 
-// Nothing yet. Takes no memory.
+// The state before the first item. Allocates nothing.
 pub fn new_own(alloc: Global) -> Own
     ensures { own_shown result ≡ nothing_own }
 {
@@ -67,7 +67,7 @@ pub fn new_own(alloc: Global) -> Own
     }
 }
 
-// The lines of a command begin, the first of which names a ref.
+// Begins the lines of a command. The first line names a ref.
 pub fn begin(own: &mut Own, ref_name: RefName)
     ensures begun { own_shown own.new
         ≡ record (own_shown own.old) { said = Some (said_of ref_name) } }
@@ -76,7 +76,7 @@ pub fn begin(own: &mut Own, ref_name: RefName)
     own.said = Some(said_of(own.alloc, ref_name));
 }
 
-// A commit is the open one.
+// Makes a commit the open one.
 pub fn keep_open(own: &mut Own, commit: OpenCommit)
     ensures { own_shown own.new
         ≡ record (own_shown own.old) { commit = Some (commit_held commit) } }
@@ -84,7 +84,7 @@ pub fn keep_open(own: &mut Own, commit: OpenCommit)
     own.commit = Some(commit);
 }
 
-// A branch is unborn, whatever it was, and its reset begins.
+// Makes a branch unborn, whatever it was, and begins its reset.
 fn set_unborn(own: &mut Own, refs: &Refs, branch: RefName) -> Result<(), Fault>
     ensures done { (pool : Cells) (table : View) (out : List ℕ) → CarriesOut
         (branch_unborn branch (workspace_in (own_shown own.old) pool table refs.now))
@@ -130,7 +130,7 @@ fn set_head(own: &mut Own, refs: &Refs, ref_name: &RefName) -> Result<(), Fault>
     Ok(())
 }
 
-// Carries out an act that sets something, or one that a line of a command says.
+// Carries out an act that sets something, or one of a command's lines.
 #[tactic(auto, unfolding(crate::specs::Meaning::set_by))]
 pub fn set<N: Naming>(
     pool: &Pool<N>,

@@ -5,22 +5,22 @@ ghost use Rattle.git_model.specs.GoodRepository.{AreObjects};
 ghost use Rattle.tenant_tables.specs.Objects.{objects};
 ghost use Rattle.tenant_tables.specs.StandsIn.{StandsIn};
 ghost use Rattle.stream_grammar.specs.Shown.{act_shown, commit_shown};
-ghost use Rattle.import_session.specs.Faults.{Gives};
+ghost use Rattle.stream_state.specs.Faults.{Gives};
 ghost use Rattle.import_session.specs.Resets.{alias_set, branch_reset_to, is_zeros, tip_from};
 ghost use Rattle.import_session.specs.Meaning.{placed_by};
 ghost use Rattle.import_session.specs.Held.{FilesStand, KeepsFiles};
 ghost use Rattle.import_session.specs.Sound.{IsSound};
 ghost use Rattle.import_session.specs.Session.{own_shown, workspace_in, CarriesOut};
 
-use crate::branches::Tip;
 use crate::commit_ishes::{commit_named, start_of};
 use crate::commits::open_commit;
-use crate::fault::Fault;
-use crate::marks;
 use crate::own::{self, Own};
 use content_pool::Pool;
 use git_objects::Naming;
 use stream_grammar::{Act, CommitIsh, Mark};
+use stream_state::branches::Tip;
+use stream_state::fault::Fault;
+use stream_state::marks;
 use tenant_refs::{RefName, Refs};
 use tenant_tables::Table;
 
@@ -35,7 +35,7 @@ fn is_zeros(commit: &CommitIsh<'_>) -> bool
     }
 }
 
-// How a branch stands that is reset to this: as deleted, or at the commit.
+// The tip of a branch that is reset to this: deleted, or at the commit.
 fn tip_from<N: Naming>(
     pool: &Pool<N>,
     table: &Table,

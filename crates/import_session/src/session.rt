@@ -1,7 +1,7 @@
 //! A session: what a stream keeps between its items.
 //!
-//! The table, the refs and the pool are lent at each call; the objects after the table's committed
-//! prefix are the stream's own, until a checkpoint.
+//! Each call borrows the pool, the table and the refs. Until a checkpoint, the objects after the
+//! table's committed prefix are the stream's own.
 
 ghost use Rattle.std.specs.Prelude.{◌≡◌, ◌≢◌, Err, OnErr, OnOk, Result};
 ghost use Rattle.tenant_tables.specs.Room.{HasRoomBeside};
@@ -10,7 +10,7 @@ ghost use Rattle.stream_grammar.specs.declared.fault.Fault.{Fault as TextFault};
 ghost use Rattle.stream_grammar.specs.Commands.{Done as DoneBy};
 ghost use Rattle.stream_grammar.specs.Shown.{act_shown, Answers};
 ghost use Rattle.stream_lex.specs.Looking.{item_of};
-ghost use Rattle.import_session.specs.Faults.{and_then};
+ghost use Rattle.stream_state.specs.Faults.{and_then};
 ghost use Rattle.import_session.specs.Lent.{Keeps};
 ghost use Rattle.import_session.specs.Checkpoints.{checkpoint};
 ghost use Rattle.import_session.specs.Commits.{closed_where};
@@ -23,7 +23,6 @@ ghost use Rattle.import_session.specs.Sound.{IsSound};
 use crate::acts::carry_out;
 use crate::checkpoint::save;
 use crate::commits::close_where;
-use crate::fault::Fault;
 use crate::own::{Own, new_own};
 use content_pool::Pool;
 use git_objects::Naming;
@@ -31,14 +30,15 @@ use std::alloc::Global;
 use std::marker::Model;
 use stream_grammar::{Act, Done, Parser};
 use stream_lex::Item;
+use stream_state::fault::Fault;
 use tenant_refs::Refs;
 use tenant_tables::Table;
 
-/// One stream of a tenant: the command that is not whole yet, what the stream has of its own, and
+/// One stream of a tenant: the command that is not complete, what the stream has of its own, and
 /// whether `done` was read.
 ///
-/// Each call is lent the pool, the tenant's table and its refs, the same ones from the first to the
-/// last.
+/// Each call borrows the pool, the tenant's table and its refs. They must be the same from the
+/// first call to the last.
 #[derive(Drop)]
 pub struct Session {
     parser: Parser,
@@ -72,7 +72,7 @@ fn is_finished(carried: &Result<(), Fault>, act: &Act<'_>) -> bool
     carried.is_ok() && is_finish(act)
 }
 
-// What the parser answers is passed on; its want of memory is any other.
+// Passes on the parser's answer. Its `Memory` is that of the session.
 fn judged<'a>(given: Result<Done<'a>, stream_grammar::Fault>) -> Result<Done<'a>, Fault>
     ensures { (by : Result DoneBy TextFault) → Answers given.entry by → Reads result by }
 {
@@ -83,7 +83,7 @@ fn judged<'a>(given: Result<Done<'a>, stream_grammar::Fault>) -> Result<Done<'a>
     }
 }
 
-// The open commit ends, where the item ends it, and then its act is carried out.
+// Ends the open commit if the item ends it, and then carries out its act.
 fn carry_out_done<N: Naming>(
     pool: &mut Pool<N>,
     table: &mut Table,
@@ -111,7 +111,7 @@ fn carry_out_done<N: Naming>(
     carry_out(pool, table, refs, own, &done.act, out)
 }
 
-// The open commit ends, where the end of the stream ends it, and then comes a checkpoint.
+// Ends the open commit if the end of the stream ends it, and then makes a checkpoint.
 fn save_at_end<N: Naming>(
     ends: bool,
     pool: &mut Pool<N>,
@@ -138,7 +138,7 @@ fn save_at_end<N: Naming>(
 }
 
 impl Session {
-    /// A stream before its first item. Takes no memory; what it keeps comes from `alloc`.
+    /// A stream before its first item. Allocates nothing; later calls allocate from `alloc`.
     pub fn new(alloc: Global) -> Session
         ensures { result ≡ new_session }
     {
@@ -149,7 +149,7 @@ impl Session {
         }
     }
 
-    /// Whether `done` was read, so that nothing after it is looked at. Takes no memory.
+    /// Whether `done` was read, so that what follows it is ignored. Allocates nothing.
     pub fn is_done(&self) -> bool
         ensures { result ≡ self.now.is_done }
     {
@@ -158,14 +158,24 @@ impl Session {
 
     /// Takes the next item, and appends what it prints to `out`: git-fast-import(1), "Commands".
     ///
-    /// The fault of the item's text (2, 3, 5, 8 to 12, 21, 22, 23, 25) comes first; then that of
-    /// the open commit, where the item ends it: `Limit` (25) and `NameCollision` (24); then that of
-    /// its meaning: `BranchFromItself` (19), `MarkUnknown` (13), `ObjectUnknown` (14), `WrongKind`
-    /// (15), `UnknownRevision` (16) or in its place `Malformed` (3), `Ambiguous` (17),
-    /// `SourceMissing` (18), `RootNotDirectory` (20), `Limit` (25) and `NameCollision` (24).
-    /// `Memory` (90) may stand in place of any answer. After a refusal `out` is unchanged, the
-    /// committed objects and the refs are those of the last checkpoint, and only `abandon` may
-    /// follow. After `done` an item is passed over.
+    /// The first fault that applies is answered, in this order:
+    ///
+    /// - of the item's text, or because the item may not come here: `Text` (2, 3, 5, 8 to 12, 21,
+    ///   22, 23, 25);
+    /// - of the open commit, if the item ends it: `Limit` (25) if there would be too many marks, an
+    ///   object is too long or the table is full, `NameCollision` (24) if the tenant has another
+    ///   content of an object's name;
+    /// - of the item's act: `BranchFromItself` (19) if a branch would start from itself,
+    ///   `MarkUnknown` (13) and `ObjectUnknown` (14) if the item names what is not there,
+    ///   `WrongKind` (15) if the object is of another kind, `Malformed` (3), `UnknownRevision` (16)
+    ///   and `Ambiguous` (17) if an expression is none, names nothing or names several objects,
+    ///   `SourceMissing` (18) and `RootNotDirectory` (20) by the change of a file, `Limit` (25) and
+    ///   `NameCollision` (24) as above.
+    ///
+    /// `Memory` (90) if an allocation fails; it may take the place of any other answer.
+    ///
+    /// After a refusal `out` is unchanged, the committed objects and the refs are those of the last
+    /// checkpoint, and only `abandon` may follow. After `done` an item is ignored.
     #[tactic(auto, unfolding(crate::specs::Stream::step))]
     pub fn take<N: Naming>(
         &mut self,
@@ -201,14 +211,15 @@ impl Session {
         carried
     }
 
-    /// The end of the stream, which is a checkpoint, unless `done` was read before. The refs that
-    /// it keeps are printed: appended to `out`, a line for each.
+    /// Ends the stream, which is a checkpoint, unless `done` was read before: git-fast-import(1),
+    /// "done" and "checkpoint". Appends a line to `out` for each ref that is kept.
     ///
-    /// `Fault::Text` (5) where a part of a command is missing, else `Fault::DoneMissing` (7) where
-    /// the stream asked for `done`, else `Limit` (25) and `NameCollision` (24) of the open commit,
-    /// which ends here, else `Limit` (25) where the refs would be too many; `Memory` (90) may stand
-    /// in place of any answer. After a refusal `out`, the committed objects and the refs are as
-    /// before, and only `abandon` may follow.
+    /// The first of these faults that applies is answered: `Fault::Text` (5) if a part of a command
+    /// is missing; `Fault::DoneMissing` (7) if the stream asked for `done`; `Limit` (25) and
+    /// `NameCollision` (24) of the open commit, which ends here; `Limit` (25) if there would be
+    /// more than 65,536 refs. `Memory` (90) if an allocation fails, which may take the place of any
+    /// answer. After a refusal `out`, the committed objects and the refs are as before, and only
+    /// `abandon` may follow.
     #[tactic(auto, unfolding(crate::specs::Stream::session_end))]
     pub fn finish<N: Naming>(
         &mut self,
@@ -243,7 +254,8 @@ impl Session {
         save_at_end(ends, pool, table, refs, &mut self.own, out)
     }
 
-    /// Gives the stream up: its table is rolled back to the last checkpoint. Takes no memory.
+    /// Gives up the stream: rolls its table back to the last checkpoint, and leaves the refs.
+    /// Allocates nothing.
     pub fn abandon<N: Naming>(self, pool: &mut Pool<N>, table: &mut Table, refs: &mut Refs)
         requires { StandsIn N.digest_of pool.old table.old.entries }
         ensures keeps { Keeps N.digest_of pool.old table.old pool.new table.new }

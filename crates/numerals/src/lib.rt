@@ -1,6 +1,7 @@
-//! Decimal numbers in texts: 1 to 20 digits, below 2^64. Zeros may lead; no sign, no space.
+//! Reads decimal numbers: 1 to 20 digits with a value below 2^64. Leading zeros are allowed; signs
+//! and spaces are not.
 //!
-//! So counts, marks and the seconds of a date stand in a git-fast-import(1) stream.
+//! A git-fast-import(1) stream writes counts, marks and the seconds of a date in this form.
 //!
 //! ```rust
 //! // read_number(b"007") is Some(7); read_number(b"+7") and read_number(b"") are None.

@@ -1,4 +1,4 @@
-//! The reading of a decimal number.
+//! Reads a decimal number.
 
 ghost use Rattle.std.specs.Prelude.{◌≡◌};
 ghost use Rattle.std.specs.Char.{is_ascii_digit};
@@ -7,8 +7,10 @@ ghost use Rattle.numerals.specs.Numbers as numbers;
 
 use std::str;
 
-/// The number that `text` writes, where it is 1 to 20 decimal digits and below 2^64: nothing else
-/// is read. Zeros may lead. Takes no memory.
+/// Reads a decimal number as git-fast-import(1) writes counts, marks and seconds: 1 to 20 digits
+/// with a value below 2^64. Leading zeros are allowed.
+///
+/// `None` for every other text. Takes no memory.
 #[tactic(auto, unfolding(crate::specs::Numbers::number_of))]
 pub fn read_number(text: &[u8]) -> Option<u64>
     ensures { result ≡ numbers.number_of text.now }

@@ -1,4 +1,5 @@
 pub mod Additions
+pub mod Leavings
 pub mod Closings
 pub mod FileChanges
 pub mod StoredCommits

@@ -8,19 +8,19 @@ use Rattle.open_commits.specs.declared.fault.Fault.{Fault}
 use Rattle.open_commits.specs.declared.fault.Fault.TheVariants as fault
 use Rattle.open_commits.specs.OpenCommit.{OpenCommit}
 
--- A change that is not refused leaves what it is to leave; one that is refused answers why, and
--- changes nothing. `Memory` may stand in place of either, and what the commit is then is not said.
+-- A change leaves the commit that is wanted, or answers the refusal that is wanted and changes
+-- nothing. `Memory` may take the place of either answer; the commit may then be anything.
 abbrev pub Changes : Result OpenCommit Fault → OpenCommit → OpenCommit → Result Unit Fault → Type 0
 Changes wanted old new (Ok u) = wanted ≡ Ok new
 Changes wanted old new (Err e) = e ≢ fault.Memory → (wanted ≡ Err e) × (new ≡ old)
 
--- What a call that stores answers and leaves is what it is to; one that is refused answers why.
--- `Memory` may stand in place of either.
+-- A call that stores objects answers and leaves what is wanted, or answers the refusal that is
+-- wanted. `Memory` may take the place of either answer.
 abbrev pub Gives : {A B : Type 0} → Result A Fault → (B → A) → Result B Fault → Type 0
 Gives wanted left (Ok answer) = wanted ≡ Ok (left answer)
 Gives wanted left (Err e) = e ≢ fault.Memory → wanted ≡ Err e
 
--- Objects were added at most, after those that were there, and none of them is committed.
+-- Objects may have been added after those that were there, and none of them is committed.
 pub record AddsOnly (before : Cells) (old : View) (after : Cells) (new : View) : Type 0 where
   pub more : List Object
   pub objects : objects after new.entries ≡ objects before old.entries ++ more

@@ -1,4 +1,4 @@
--- Changes of files in a commit: git-fast-import(1), "filemodify" to "filedeleteall".
+-- Changes to the files of a commit: git-fast-import(1), "filemodify" to "filedeleteall".
 use Rattle.std.specs.Prelude.{ℕ, nat_eq, if◌then◌else◌, List, [], ◌∷◌, Result, Ok, Err}
 use Rattle.std.specs.FinMap as finmap
 use Rattle.std.specs.Map.{lookup}
@@ -24,7 +24,7 @@ use Rattle.open_commits.specs.Parents.{changed_to}
 
 -- ---- what a change names
 
--- Marks: each number that stands for an object, with the object's name.
+-- Marks: the number of each, and the name of its object.
 abbrev pub Marks : Type 0
 Marks = List (ℕ × List ℕ)
 
@@ -37,7 +37,7 @@ abbrev pub referred_name : Marks → DataRef → Result (List ℕ) Fault
 referred_name marks (data_ref.Mark mark) = marked_name marks mark
 referred_name marks (data_ref.Name id) = Ok id
 
--- An object must be there, and of a kind.
+-- The object of a name, which must be there and be of a kind.
 abbrev pub held_as : List Object → Kind → List ℕ → Result (List ℕ) Fault
 held_as os wanted id =
     and_then (or_fault fault.ObjectUnknown (object_named id os)) (λ _.
@@ -64,19 +64,19 @@ blob_of os marks object = and_then (referred_name marks object) (held_as os kind
 abbrev pub entry_of : FileMode → List ℕ → Entry
 entry_of mode id = record { mode = mode; name = id }
 
--- A file at a path, in place of what stands there.
+-- Puts a file at a path, and replaces what is there.
 abbrev pub file_put : Path → Entry → OpenCommit → Result OpenCommit Fault
 file_put path e commit = let after = put_at commit.files path e in
     changed_to commit after (put_fault (moved path (([], e) ∷ [])) after)
 
--- The files of a stored tree at and below a path, in place of what stands there. Those of the empty
--- tree only take it away.
+-- Puts the files of a stored tree at and below a path, and replaces what is there. The empty tree
+-- has no files, so that it only removes what is there.
 abbrev pub tree_put : List Object → Path → List ℕ → OpenCommit → Result OpenCommit Fault
 tree_put os path tree commit = let files = stored_files os tree in
     let after = put_tree_at commit.files path files in
     changed_to commit after (put_fault (moved path files) after)
 
--- 'M', by the mode: a directory is the files of its tree, and every other mode is a file.
+-- 'M', by the mode: a directory stands for the files of its tree, any other mode for one file.
 abbrev pub modified : List Object → Marks → FileMode → DataRef → Path → OpenCommit
     → Result OpenCommit Fault
 modified os marks mode.Directory object path commit =
@@ -86,7 +86,7 @@ modified os marks mode.Gitlink object path commit =
 modified os marks file object path commit =
     and_then (blob_of os marks object) (λ id. file_put path (entry_of file id) commit)
 
--- What is left of a commit and of the objects where both may change.
+-- The commit and the objects after a call that may change both.
 pub record Left : Type 0 where
   pub commit : OpenCommit
   pub objects : List Object
@@ -101,7 +101,7 @@ blob_put digest os mode path blob commit =
     and_then (file_put path (entry_of mode (name_by digest blob)) commit) (λ next.
     and_then (stored digest blob os) (λ more. Ok (left_with more next)))
 
--- A gitlink and a directory have no contents; the grammar lets none come.
+-- A gitlink and a directory have no contents; the grammar never gives them any.
 abbrev pub contents_put : (List ℕ → List ℕ) → List Object → FileMode → Path → List ℕ → OpenCommit
     → Result Left Fault
 contents_put digest os mode.Directory path bytes commit = Err fault.WrongKind
@@ -111,16 +111,16 @@ contents_put digest os file path bytes commit =
 
 -- ---- the others
 
--- 'D': what stands at a path, or below it, goes. At the root that is all.
+-- 'D': removes what is at a path or below it. At the root that is everything.
 abbrev pub deleted : Path → OpenCommit → OpenCommit
 deleted path commit = record commit { files = without commit.files path }
 
--- 'C': the files at or below one path stand at another too, in place of what stands there.
+-- 'C': copies the files at or below one path to another, and replaces what is there.
 abbrev pub copied_to : Path → Path → OpenCommit → Result OpenCommit Fault
 copied_to source path commit = let after = copied commit.files source path in
     changed_to commit after (move_fault (moved path (files_at commit.files source)) after)
 
--- 'R': the same, and they go from the first.
+-- 'R': the same, and removes them from the first path.
 abbrev pub renamed_to : Path → Path → OpenCommit → Result OpenCommit Fault
 renamed_to source path commit = let after = renamed commit.files source path in
     changed_to commit after (move_fault (moved path (files_at commit.files source)) after)

@@ -12,7 +12,8 @@ use Rattle.open_commits.specs.Faults.{and_then}
 use Rattle.open_commits.specs.OpenCommit.{OpenCommit, HeldCommit, commit_in}
 use Rattle.open_commits.specs.Storing.{stored, trees_stored}
 
--- The commit of this tree that an open commit makes. Without an author its committer wrote it.
+-- The commit that an open commit makes of this tree. Without an author, the committer is the
+-- author.
 abbrev pub commit_of : List ℕ → OpenCommit → Commit
 commit_of tree commit = record {
   tree = tree;
@@ -28,20 +29,20 @@ commit_content digest commit =
     content_from kind.Commit (commit_contents
     (commit_of (tree_id digest (listed commit.files)) commit))
 
--- The commit's name, and the objects then.
+-- The commit's name, and the objects after its end.
 pub record Closed : Type 0 where
   pub id : List ℕ
   pub objects : List Object
 
--- At its end its trees are stored, children first, and then itself.
+-- The end of a commit stores its trees, children first, and then the commit.
 abbrev pub closed : (List ℕ → List ℕ) → List Object → OpenCommit → Result Closed Fault
 closed digest os commit = let content = commit_content digest commit in
     and_then (trees_stored digest (listed commit.files) os) (λ with_trees.
     and_then (stored digest content with_trees) (λ more.
     Ok (record { id = name_by digest content; objects = more })))
 
--- Its files are then what they were, and known to be the tree that was stored, so that the next
--- commit can start from this one with what was opened. No tree was read for it.
+-- The files are unchanged after the end, and known to be the tree that was stored. The next commit
+-- can start from this one and keep the directories that were opened. No tree is read for that.
 pub record KeepsFiles (digest : List ℕ → List ℕ) (os more : List Object) (old new : HeldCommit)
     : Type 0 where
   pub files : (commit_in more new).files ≡ (commit_in os old).files

@@ -1,4 +1,4 @@
--- Faults: the number of each refusal; and how those of the layers below are passed on.
+-- Faults: the number of each, and how the faults of the layers below are passed on.
 use Rattle.std.specs.Prelude.{ℕ, Option, None, Some, Result, Ok, Err}
 use Rattle.tenant_tables.specs.declared.fault.Fault.{Fault as TableFault}
 use Rattle.tenant_tables.specs.declared.fault.Fault.TheVariants as table_fault
@@ -18,13 +18,13 @@ code_of fault.NameCollision = 24
 code_of fault.Limit = 25
 code_of fault.Memory = 90
 
--- What refuses an object of a repository.
+-- The fault of a table that refuses an object, as one of an open commit.
 abbrev pub storing_fault : TableFault → Fault
 storing_fault table_fault.Limit = fault.Limit
 storing_fault table_fault.NameCollision = fault.NameCollision
 storing_fault table_fault.Memory = fault.Memory
 
--- What refuses an edit of files, or their trees.
+-- The fault of an edit of files, or of storing their trees, as one of an open commit.
 abbrev pub editing_fault : FilesFault → Fault
 editing_fault files_fault.ObjectUnknown = fault.ObjectUnknown
 editing_fault files_fault.WrongKind = fault.WrongKind
@@ -34,12 +34,12 @@ editing_fault files_fault.NameCollision = fault.NameCollision
 editing_fault files_fault.Limit = fault.Limit
 editing_fault files_fault.Memory = fault.Memory
 
--- What comes after a step that may be refused.
+-- The next step, unless the first one is refused.
 abbrev pub and_then : {A B : Type 0} → Result A Fault → (A → Result B Fault) → Result B Fault
 and_then (Ok value) next = next value
 and_then (Err e) next = Err e
 
--- What must be there, or else this fault.
+-- The value that must be there, or else this fault.
 abbrev pub or_fault : {A : Type 0} → Fault → Option A → Result A Fault
 or_fault e None = Err e
 or_fault e (Some value) = Ok value

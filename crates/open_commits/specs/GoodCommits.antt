@@ -1,4 +1,4 @@
--- Good open commits: git-fsck(1), the validity and the connectivity of the commit that one makes.
+-- Good open commits: git-fsck(1), the validity and the connectivity of the commits that they make.
 use Rattle.std.specs.Prelude.{◌≡◌, ℕ, ◌≤◌, List, ◌++◌, length, All, Some, IfSome}
 use Rattle.std.specs.List.{AllByRecursion}
 use Rattle.git_model.specs.declared.kind.Kind.TheVariants as kind
@@ -17,16 +17,16 @@ pub record IsGoodHeader (header : Header) : Type 0 where
   pub committer : IsWrittenIdent header.committer
   pub encoding : IfSome header.encoding IsEncoding
 
--- An open commit is good among objects where its header can be written, where its parents are
--- commits of the objects and not too many, and where the objects of its files are there. That its
--- files are those of a branch is said apart (OpenFiles).
+-- An open commit is good among objects if its header can be written, its parents are commits among
+-- the objects and not too many, and the objects of its files are there. HasFiles (in OpenFiles)
+-- says that its files are those of a branch.
 pub record IsGoodCommit (os : List Object) (commit : OpenCommit) : Type 0 where
   pub header : IsGoodHeader commit.header
   pub parents : All (λ id. kind_named id os ≡ Some kind.Commit) commit.parents
   pub few_parents : length commit.parents ≤ parents_limit
   pub held : AllByRecursion (IsHeld os) (listed commit.files)
 
--- Good objects with more after them.
+-- Objects with more added after them, which are good.
 pub record GrowGood (digest : List ℕ → List ℕ) (os new : List Object) : Type 0 where
   pub good : AreObjects digest new
   pub more : List Object

@@ -8,8 +8,8 @@ use Rattle.tree_build.specs.Branch.{Branch, IsBranch, files_in, root_name}
 use Rattle.open_commits.specs.declared.open_commit.Header.{Header as LentHeader}
 use Rattle.open_commits.specs.declared.open_commit.OpenCommit.{OpenCommit as LentCommit}
 
--- What the lines before the message say: the ref of the branch; the mark that the commit is to get;
--- who wrote it, who made it, and how its message is encoded.
+-- What the lines before the message say: the ref of the branch, the mark that the commit is to get,
+-- who wrote it, who made it, and the encoding of its message.
 pub record Header : Type 0 where
   pub ref : List ℕ
   pub mark : Option ℕ
@@ -24,8 +24,7 @@ pub record OpenCommit : Type 0 where
   pub parents : List (List ℕ)
   pub files : FileMap
 
--- A commit begins without parents, on files that may be left of another commit, and without files
--- where there is none that it starts from.
+-- A commit begins without parents, either on files that another commit left or without files.
 abbrev pub begun_on : Header → List ℕ → FileMap → OpenCommit
 begun_on header message files =
     record { header = header; message = message; parents = []; files = files }
@@ -35,7 +34,8 @@ begun header message = begun_on header message finmap.empty
 
 -- ---- what is held of it
 
--- The same, whose files are a branch: directories that nobody looked into are names of trees.
+-- The same with its files as a branch, in which a directory that was not opened is the name of a
+-- tree.
 pub record HeldCommit : Type 0 where
   pub header : Header
   pub message : List ℕ
@@ -51,7 +51,7 @@ commit_in os held = record {
   files = files_in os held.files;
 }
 
--- It stands among them where its files do.
+-- Its files are a branch among these objects.
 abbrev pub Stands : List Object → HeldCommit → Type 0
 Stands os held = IsBranch os held.files
 
@@ -74,13 +74,13 @@ commit_held commit = record {
   files = commit.files;
 }
 
--- What a lent commit means, and that it stands.
+-- What a borrowed commit means among objects, and that its files are a branch among them.
 abbrev pub shown_in : List Object → LentCommit → OpenCommit
 shown_in os commit = commit_in os (commit_held commit)
 
 abbrev pub IsHeld : List Object → LentCommit → Type 0
 IsHeld os commit = Stands os (commit_held commit)
 
--- The name of the stored tree that its files are, where that is known without reading.
+-- The name of the stored tree that the files are, if that is known without reading a tree.
 abbrev pub tree_known : LentCommit → Option (List ℕ)
 tree_known commit = root_name (commit_held commit).files

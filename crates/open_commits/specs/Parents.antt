@@ -11,20 +11,20 @@ use Rattle.open_commits.specs.declared.fault.Fault.TheVariants as fault
 use Rattle.open_commits.specs.Faults.{editing_fault}
 use Rattle.open_commits.specs.OpenCommit.{OpenCommit}
 
--- The commit has these files then, unless they are refused.
+-- The commit with these files, unless they are refused.
 abbrev pub changed_to : OpenCommit → FileMap → Option FilesFault → Result OpenCommit Fault
 changed_to commit files None = Ok (record commit { files = files })
 changed_to commit files (Some refusal) = Err (editing_fault refusal)
 
--- 'from': that commit is the first parent, and the files are those of its tree, which are within
--- the limits of a branch.
+-- 'from': the commit becomes the only parent, and the files become those of its tree, unless they
+-- exceed the limits of a branch.
 abbrev pub started_from : List Object → List ℕ → OpenCommit → Result OpenCommit Fault
 started_from os id commit =
     changed_to (record commit { parents = id ∷ [] }) (commit_map os id)
     (put_fault (stored_files os (tree_of_commit os id)) (commit_map os id))
 
--- 'merge': that commit is one more parent, twice where it is given twice. The first one counts for
--- the limit too.
+-- 'merge': adds a parent. A commit that is given twice is a parent twice. The first parent counts
+-- for the limit too.
 abbrev pub merged : List ℕ → OpenCommit → Result OpenCommit Fault
 merged id commit =
     if nat_lt (length commit.parents) parents_limit

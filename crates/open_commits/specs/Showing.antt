@@ -1,4 +1,4 @@
--- What stands at a path of an open commit: git-fast-import(1), "ls", with a path alone.
+-- What is at a path of an open commit: git-fast-import(1), "ls", with a path alone.
 use Rattle.std.specs.Prelude.{ℕ, List, Option, None, Some, Result, Ok}
 use Rattle.git_model.specs.declared.file_mode.FileMode.{FileMode}
 use Rattle.git_model.specs.declared.file_mode.FileMode.TheVariants as mode
@@ -11,12 +11,12 @@ use Rattle.open_commits.specs.declared.fault.Fault.{Fault}
 use Rattle.open_commits.specs.Faults.{and_then}
 use Rattle.open_commits.specs.Storing.{trees_stored}
 
--- What is shown, and the objects then.
+-- The entry that is shown, and the objects afterwards.
 pub record Shown : Type 0 where
   pub entry : Option Entry
   pub objects : List Object
 
--- The trees of a directory are stored, children first.
+-- For a directory, its trees are stored, children first.
 abbrev pub file_or_trees : (List ℕ → List ℕ) → List Object → FileMap → Path → FileMode
     → Result (List Object) Fault
 file_or_trees digest os files path mode.Directory = trees_stored digest (files_at files path) os

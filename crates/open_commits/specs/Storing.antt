@@ -1,5 +1,5 @@
 -- Storing objects: git-hash-object(1), -w, and git-write-tree(1).
-use Rattle.std.specs.Prelude.{ℕ, List, Option, None, Some, Result, Ok, Err}
+use Rattle.std.specs.Prelude.{◌≡◌, ℕ, List, ◌++◌, Option, None, Some, Result, Ok, Err}
 use Rattle.git_model.specs.Content.{Content, name_by}
 use Rattle.git_model.specs.Repository.{Object, with_object}
 use Rattle.git_model.specs.Tree.{TreeEntry}
@@ -12,7 +12,7 @@ use Rattle.file_maps.specs.Storing.{with_trees, trees_fault}
 use Rattle.open_commits.specs.declared.fault.Fault.{Fault}
 use Rattle.open_commits.specs.Faults.{storing_fault, editing_fault}
 
--- The objects where one is stored. What is there already is not stored again.
+-- The objects after one is stored. An object that is there already is not stored again.
 abbrev pub stored_or : List ℕ → Content → List Object → Option TableFault
     → Result (List Object) Fault
 stored_or id content os None = Ok (with_object id content os)
@@ -22,7 +22,7 @@ abbrev pub stored : (List ℕ → List ℕ) → Content → List Object → Resu
 stored digest content os =
     stored_or (name_by digest content) content os (store_fault (name_by digest content) content os)
 
--- The objects where the trees of files are stored, children first. The first one that is refused
+-- The objects after the trees of files are stored, children first. The first tree that is refused
 -- decides.
 abbrev pub trees_or : (List ℕ → List ℕ) → List (List TreeEntry) → List Object → Option FilesFault
     → Result (List Object) Fault
@@ -32,3 +32,13 @@ trees_or digest trees os (Some refusal) = Err (editing_fault refusal)
 abbrev pub trees_stored : (List ℕ → List ℕ) → Listed → List Object → Result (List Object) Fault
 trees_stored digest files os = let trees = nested_trees digest files in
     trees_or digest trees os (trees_fault digest trees os)
+
+-- Only trees of these files were added to the objects, and perhaps not all: the first ones in the
+-- order of storing, none of which is refused.
+pub record LeavesTrees (digest : List ℕ → List ℕ) (files : Listed) (os new : List Object) : Type 0
+  where
+    pub done : List (List TreeEntry)
+    pub rest : List (List TreeEntry)
+    pub parts : nested_trees digest files ≡ done ++ rest
+    pub objects : new ≡ with_trees digest done os
+    pub unrefused : trees_fault digest done os ≡ None

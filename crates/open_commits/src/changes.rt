@@ -1,4 +1,4 @@
-//! Changes of the files of an open commit: git-fast-import(1), "filemodify" to "filedeleteall".
+//! Changes to the files of an open commit: git-fast-import(1), "filemodify" to "filedeleteall".
 
 ghost use Rattle.std.specs.Prelude.{◌≡◌, ◌≢◌, List, [], None, Some, Ok, Err, OnOk};
 ghost use Rattle.git_model.specs.declared.file_mode.FileMode.TheVariants as mode;
@@ -32,17 +32,19 @@ fn gitlink_to(name: Name) -> Entry
 }
 
 impl OpenCommit {
-    /// `M`: puts a file, a gitlink or a stored tree at a path, in place of what stands there, below
-    /// it, or on a prefix of it: git-fast-import(1), "filemodify".
+    /// `M`: puts a file, a gitlink or a stored tree at a path, and replaces what is there, below it
+    /// or at a prefix of it: git-fast-import(1), "filemodify".
     ///
-    /// `Fault::MarkUnknown` (13), `Fault::ObjectUnknown` (14) or `Fault::WrongKind` (15) by what
-    /// the dataref names: a blob, for a gitlink a commit by its mark or any name, for a directory
-    /// a tree by its name. Then `Fault::RootNotDirectory` (20) for anything but a tree at the root,
-    /// and `Fault::Limit` (25) where a path would have more than 16,383 bytes or 256 components, or
-    /// there would be more than 1,048,576 files. Nothing has changed after these. After
-    /// `Fault::Memory` (90) the commit may only be dropped.
+    /// The mode says what the dataref must name: for a file a blob, for a gitlink a commit by its
+    /// mark or any name, for a directory a tree by its name. `Fault::MarkUnknown` (13) if its mark
+    /// is not set, `Fault::ObjectUnknown` (14) if the table has no such object, `Fault::WrongKind`
+    /// (15) if the object is of another kind. Then `Fault::RootNotDirectory` (20) if anything but a
+    /// tree would be at the root, and `Fault::Limit` (25) if a path would have more than 16,383
+    /// bytes or 256 components, or the commit more than 1,048,576 files. The commit is unchanged
+    /// after these. If an allocation fails, the answer is `Fault::Memory` (90); drop the commit
+    /// then.
     ///
-    /// The pool is the one that the table stands in.
+    /// `pool` holds the contents of `table`.
     pub fn modify<N: Naming>(
         &mut self,
         pool: &Pool<N>,
@@ -76,10 +78,11 @@ impl OpenCommit {
         }
     }
 
-    /// `D`: takes out what stands at a path, or below it; at the root, all. Where nothing stands
-    /// there, nothing changes: git-fast-import(1), "filedelete".
+    /// `D`: removes what is at a path or below it; at the root, all files. If nothing is there,
+    /// nothing changes: git-fast-import(1), "filedelete".
     ///
-    /// `Fault::Memory` (90) alone; the commit may then only be dropped.
+    /// The only refusal is `Fault::Memory` (90), if an allocation fails; drop the commit then.
+    /// `pool` holds the contents of `table`.
     pub fn delete<N: Naming>(
         &mut self,
         pool: &Pool<N>,
@@ -98,12 +101,13 @@ impl OpenCommit {
         Ok(())
     }
 
-    /// `C`: puts the files at or below one path at another too, in place of what stands there:
+    /// `C`: copies the files at or below `source` to `path`, and replaces what is there:
     /// git-fast-import(1), "filecopy".
     ///
-    /// `Fault::SourceMissing` (18) where the source has no file, `Fault::RootNotDirectory` (20)
-    /// where a file would stand at the root, `Fault::Limit` (25) as in `modify`. Nothing has
-    /// changed after these. After `Fault::Memory` (90) the commit may only be dropped.
+    /// `Fault::SourceMissing` (18) if no file is at or below the source, `Fault::RootNotDirectory`
+    /// (20) if a file would be at the root, `Fault::Limit` (25) as for `modify`. The commit is
+    /// unchanged after these. If an allocation fails, the answer is `Fault::Memory` (90); drop the
+    /// commit then. `pool` holds the contents of `table`.
     pub fn copy<N: Naming>(
         &mut self,
         pool: &Pool<N>,
@@ -123,8 +127,8 @@ impl OpenCommit {
         Ok(())
     }
 
-    /// `R`: as `copy`, and the files no longer stand at the source: git-fast-import(1),
-    /// "filerename".
+    /// `R`: moves the files at or below `source` to `path`, and replaces what is there:
+    /// git-fast-import(1), "filerename". The refusals, and what they leave, are those of `copy`.
     pub fn rename<N: Naming>(
         &mut self,
         pool: &Pool<N>,
@@ -144,7 +148,7 @@ impl OpenCommit {
         Ok(())
     }
 
-    /// `deleteall`: takes out all files. Takes no memory.
+    /// `deleteall`: removes all files: git-fast-import(1), "filedeleteall". Allocates nothing.
     pub fn delete_all(&mut self)
         ensures changes { (os : List Object)
             → shown_in os self.new ≡ all_deleted (shown_in os self.old) }
@@ -153,7 +157,7 @@ impl OpenCommit {
         self.files.clear();
     }
 
-    // Puts a file at a path, in place of what stands there.
+    // Puts a file at a path, and replaces what is there.
     pub(crate) fn put_file<N: Naming>(
         &mut self,
         pool: &Pool<N>,
@@ -174,7 +178,7 @@ impl OpenCommit {
         Ok(())
     }
 
-    // Puts the files of a stored tree at and below a path, in place of what stands there.
+    // Puts the files of a stored tree at and below a path, and replaces what is there.
     pub(crate) fn put_tree<N: Naming>(
         &mut self,
         pool: &Pool<N>,

@@ -1,14 +1,16 @@
 //! The end of a commit: git-fast-import(1), "commit", and git-commit-tree(1).
 
-ghost use Rattle.std.specs.Prelude.{◌≡◌, List, IfOk, OnOk, unwrap_or};
+ghost use Rattle.std.specs.Prelude.{◌≡◌, List, IfOk, OnErr, OnOk, unwrap_or};
 ghost use Rattle.git_model.specs.Commit.{commit_contents};
 ghost use Rattle.git_model.specs.Repository.{Object};
 ghost use Rattle.tenant_tables.specs.Lent.{Keeps};
 ghost use Rattle.tenant_tables.specs.Objects.{objects};
 ghost use Rattle.tenant_tables.specs.Room.{HasRoomBeside};
 ghost use Rattle.tenant_tables.specs.StandsIn.{StandsIn};
+ghost use Rattle.file_maps.specs.FileMap.{listed};
 ghost use Rattle.open_commits.specs.OpenCommit.{commit_held, shown_in, IsHeld};
 ghost use Rattle.open_commits.specs.Ends.{closed, commit_of, KeepsFiles};
+ghost use Rattle.open_commits.specs.Storing.{LeavesTrees};
 ghost use Rattle.open_commits.specs.Calls.{AddsOnly, Gives};
 
 use crate::fault::Fault;
@@ -21,18 +23,18 @@ use std::mem;
 use tenant_tables::Table;
 
 impl OpenCommit {
-    /// The end of the commit: stores its trees, children first, and then itself, and answers its
-    /// name. What is there already is not stored again. The commit may then only be dropped, or
-    /// give its files to the next one: they are what they were, and known to be the tree that was
-    /// stored.
+    /// Ends the commit: stores its trees, children first, and then the commit itself, and returns
+    /// its name. An object that the table has already is not stored again. Afterwards the commit
+    /// can only be dropped, or give its files to the next commit: they are unchanged, and known to
+    /// be the stored tree.
     ///
-    /// `Fault::Limit` (25) where an object's contents are too long or the table is full, else
-    /// `Fault::NameCollision` (24) where the table has another object of its name, object by object
-    /// in the order of storing; `Fault::Memory` (90). Objects may then stand after the committed
-    /// ones.
+    /// The objects are judged one by one in the order of storing: `Fault::Limit` (25) if the
+    /// contents are too long or the table is full, else `Fault::NameCollision` (24) if the table
+    /// has another object of the name. If an allocation fails, the answer is `Fault::Memory` (90).
+    /// After a refusal the table may have some of the trees after its committed objects, the first
+    /// ones in the order of storing; drop the commit then.
     ///
-    /// The pool is the one that the table stands in, and nobody else holds a content 2^64 - 2
-    /// times.
+    /// `pool` holds the contents of `table`. Others hold each content fewer than 2^64 - 2 times.
     pub fn close<N: Naming>(&mut self, pool: &mut Pool<N>, table: &mut Table) -> Result<Name, Fault>
         requires stands { StandsIn N.digest_of pool.old table.old.entries }
         requires room { HasRoomBeside pool.old table.old.entries }
@@ -40,6 +42,9 @@ impl OpenCommit {
         ensures keeps { Keeps N.digest_of pool.old table.old pool.new table.new }
         ensures room { HasRoomBeside pool.new table.new.entries }
         ensures adds { AddsOnly pool.old table.old pool.new table.new }
+        ensures trees { let os = objects pool.old table.old.entries in OnErr result
+            (LeavesTrees N.digest_of (listed (shown_in os self.old).files) os
+            (objects pool.new table.new.entries)) }
         ensures done { Gives (closed N.digest_of (objects pool.old table.old.entries)
             (shown_in (objects pool.old table.old.entries) self.old))
             (λ id. record { id = id; objects = objects pool.new table.new.entries }) result }
@@ -52,7 +57,7 @@ impl OpenCommit {
         store(pool, table, Kind::Commit, &contents)
     }
 
-    // Who wrote it: its author, or else its committer.
+    // The author, or the committer if no author was given.
     fn author(&self) -> &Ident
         ensures { result.now ≡ unwrap_or self.now.header.author self.now.header.committer }
     {
@@ -62,7 +67,7 @@ impl OpenCommit {
         }
     }
 
-    // The contents of the commit of this tree. Its parents go into them.
+    // The contents of the commit object with this tree. Its parents are moved into them.
     fn contents_with(&mut self, tree: Name) -> Result<Vec<u8>, Memory>
         ensures contents { (os : List Object) → IfOk result (λ contents. contents.items
             ≡ commit_contents (commit_of tree (shown_in os self.old))) }

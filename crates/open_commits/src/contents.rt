@@ -1,4 +1,4 @@
-//! Files whose contents come with them: git-fast-import(1), "filemodify", with `inline`.
+//! Files whose contents are inline: git-fast-import(1), "filemodify", with `inline`.
 
 ghost use Rattle.std.specs.Prelude.{◌≡◌, ◌≢◌, OnErr, OnOk};
 ghost use Rattle.git_model.specs.Content.{content_from};
@@ -20,19 +20,18 @@ use git_paths::Path;
 use tenant_tables::Table;
 
 impl OpenCommit {
-    /// `M` with `inline`, at its data: puts a file with these contents at a path, in place of what
-    /// stands there, below it, or on a prefix of it, and then stores its blob: git-fast-import(1),
+    /// `M` with `inline`, at its data: puts a file with these contents at a path, replaces what is
+    /// there, below it or at a prefix of it, and then stores the blob: git-fast-import(1),
     /// "filemodify".
     ///
     /// `Fault::WrongKind` (15) for the mode of a gitlink or a directory, which have no contents;
-    /// `Fault::RootNotDirectory` (20) and `Fault::Limit` (25) for the file, as in `modify`; then
-    /// `Fault::Limit` (25) where the contents are longer than 134,217,728 bytes or the table is
-    /// full, else `Fault::NameCollision` (24) where the table has another object of the blob's
-    /// name. The pool and the table are as before after these and after `Fault::Memory` (90), and
-    /// the commit may only be dropped.
+    /// `Fault::RootNotDirectory` (20) and `Fault::Limit` (25) for the file, as for `modify`; then
+    /// `Fault::Limit` (25) if the contents are longer than 134,217,728 bytes or the table is full,
+    /// else `Fault::NameCollision` (24) if the table has another object of the blob's name;
+    /// `Fault::Memory` (90) if an allocation fails. After any of these the pool and the table are
+    /// as before; drop the commit.
     ///
-    /// The pool is the one that the table stands in, and nobody else holds a content 2^64 - 2
-    /// times.
+    /// `pool` holds the contents of `table`. Others hold each content fewer than 2^64 - 2 times.
     pub fn put_contents<N: Naming>(
         &mut self,
         pool: &mut Pool<N>,

@@ -30,7 +30,7 @@ fn referred(marks: &IndexMap<Mark, Name>, object: DataRef) -> Result<Name, Fault
     }
 }
 
-// The object of this name must be there, and of this kind.
+// The table must have the object of this name, and it must be of this kind.
 pub fn held_as<N: Naming>(
     pool: &Pool<N>,
     table: &Table,

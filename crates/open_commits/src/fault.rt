@@ -7,7 +7,7 @@ use git_objects::Memory;
 use std::alloc::{AllocError, AllocFailed};
 use thiserror::Error;
 
-/// What the calls of an open commit refuse.
+/// Why a call of an open commit is refused.
 #[derive(Clone, Copy, Debug, PartialEq, Eq, Error)]
 pub enum Fault {
     /// No object has this mark: 13.
@@ -19,19 +19,19 @@ pub enum Fault {
     /// The object is of another kind than the command asks for: 15.
     #[error("the object is of another kind")]
     WrongKind,
-    /// No file stands at or below the source: 18.
+    /// No file is at or below the source: 18.
     #[error("source missing")]
     SourceMissing,
-    /// A file would stand at the root: 20.
+    /// A file would be at the root: 20.
     #[error("root must be a directory")]
     RootNotDirectory,
-    /// Another content of this repository has the name of the new one: 24.
+    /// The repository has another content of the same object name: 24.
     #[error("another content has this object name")]
     NameCollision,
-    /// A limit is passed: 25.
+    /// A limit is exceeded: 25.
     #[error("a limit is passed")]
     Limit,
-    /// A growth was refused: 90.
+    /// An allocation failed: 90.
     #[error("out of memory")]
     Memory,
 }

@@ -1,4 +1,5 @@
-//! Laws of the files of open commits: functions over the definitions alone, which run nothing.
+//! Laws of the files of open commits: theorems about the definitions alone. The functions do
+//! nothing.
 
 ghost use Rattle.std.specs.Prelude.{◌≡◌, ℕ, List, IfOk, Some};
 ghost use Rattle.git_model.specs.declared.file_mode.FileMode.{FileMode};
@@ -17,7 +18,7 @@ ghost use Rattle.open_commits.specs.OpenCommit.{OpenCommit};
 ghost use Rattle.open_commits.specs.Parents.{started_from};
 ghost use Rattle.open_commits.specs.OpenFiles.{HasFiles};
 
-/// The files of an open commit stay those of a branch, whatever is done in it.
+/// Whatever a command changes in an open commit, its files stay those of a branch.
 pub fn changes_keep_file_maps()
     ensures start { (digest : List ℕ → List ℕ) (os : List Object) → AreObjects digest os
         → (commit : OpenCommit) → HasFiles commit → (id : List ℕ)

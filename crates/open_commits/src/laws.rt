@@ -1,4 +1,4 @@
-//! Laws of open commits: functions over the definitions alone, which run nothing.
+//! Laws of open commits: theorems about the definitions alone. The functions do nothing.
 
 ghost use Rattle.std.specs.Prelude.{◌≡◌, ℕ, List, [], ◌++◌, Ok, Some};
 ghost use Rattle.git_model.specs.declared.file_mode.FileMode.{FileMode};
@@ -17,19 +17,19 @@ ghost use Rattle.open_commits.specs.Showing.{Shown, entry_shown};
 ghost use Rattle.open_commits.specs.Ends.{Closed, closed};
 ghost use Rattle.open_commits.specs.GoodCommits.{IsGoodHeader, IsGoodCommit, GrowGood, HoldsCommit};
 
-/// A commit whose header can be written begins good.
+/// A new commit is good if its header can be written.
 pub fn a_commit_begins_good()
     ensures { (os : List Object) (header : Header) (message : List ℕ) → IsGoodHeader header
         → IsGoodCommit os (begun header message) }
 {}
 
-/// It stays good while objects are added.
+/// A good commit stays good when objects are added.
 pub fn more_objects_keep_it()
     ensures { (os more : List Object) (commit : OpenCommit) → IsGoodCommit os commit
         → IsGoodCommit (os ++ more) commit }
 {}
 
-/// It stays good where it starts from a commit of the objects.
+/// A good commit stays good when it starts from a commit among the objects.
 pub fn a_start_keeps_it()
     ensures { (digest : List ℕ → List ℕ) (os : List Object) → AreObjects digest os
         → (commit next : OpenCommit) → IsGoodCommit os commit → AreFiles (listed commit.files)
@@ -37,14 +37,14 @@ pub fn a_start_keeps_it()
         → started_from os id commit ≡ Ok next → IsGoodCommit os next }
 {}
 
-/// It stays good where it merges one.
+/// A good commit stays good when it merges a commit among the objects.
 pub fn a_merge_keeps_it()
     ensures { (os : List Object) (commit next : OpenCommit) → IsGoodCommit os commit
         → (id : List ℕ) → kind_named id os ≡ Some kind.Commit
         → merged id commit ≡ Ok next → IsGoodCommit os next }
 {}
 
-/// It stays good where an object is put at a path.
+/// A good commit stays good when an object is put at a path.
 pub fn a_change_keeps_it()
     ensures { (digest : List ℕ → List ℕ) (os : List Object) → AreObjects digest os
         → (commit next : OpenCommit) → IsGoodCommit os commit → AreFiles (listed commit.files)
@@ -52,8 +52,8 @@ pub fn a_change_keeps_it()
         → modified os marks mode object path commit ≡ Ok next → IsGoodCommit os next }
 {}
 
-/// Where contents are put at a path, the objects stay good with their blob, and the commit among
-/// them.
+/// When contents are put at a path, the objects with the new blob are good, and so is the commit
+/// among them.
 pub fn contents_keep_it()
     ensures { (digest : List ℕ → List ℕ) → AnswersNames digest
         → (os : List Object) → AreObjects digest os
@@ -63,7 +63,7 @@ pub fn contents_keep_it()
         → GrowGood digest os left.objects × IsGoodCommit left.objects left.commit }
 {}
 
-/// It stays good where files go, are copied or are renamed.
+/// A good commit stays good when files are deleted, copied or renamed.
 pub fn moves_keep_it()
     ensures deleted { (os : List Object) (commit : OpenCommit) → IsGoodCommit os commit
         → AreFiles (listed commit.files) → (path : Path) → IsGoodCommit os (deleted path commit) }
@@ -77,7 +77,7 @@ pub fn moves_keep_it()
         → IsGoodCommit os (all_deleted commit) }
 {}
 
-/// The trees that `ls` stores keep good objects good.
+/// Good objects stay good with the trees that `ls` stores.
 pub fn shown_trees_keep_objects_good()
     ensures { (digest : List ℕ → List ℕ) → AnswersNames digest
         → (os : List Object) → AreObjects digest os
@@ -86,7 +86,8 @@ pub fn shown_trees_keep_objects_good()
         → GrowGood digest os shown.objects }
 {}
 
-/// At its end a good commit adds good objects, itself the last of them or found.
+/// Good objects stay good with those that the end of a good commit adds, and the commit is among
+/// them.
 pub fn an_end_keeps_objects_good()
     ensures { (digest : List ℕ → List ℕ) → AnswersNames digest
         → (os : List Object) → AreObjects digest os
@@ -95,14 +96,14 @@ pub fn an_end_keeps_objects_good()
         → HoldsCommit digest os end.objects end.id }
 {}
 
-/// Where contents are put at a path, all trees stay within the limits.
+/// When contents are put at a path, all trees stay within the limits.
 pub fn contents_keep_trees_fitting()
     ensures { (digest : List ℕ → List ℕ) (os : List Object) → TreesFit [] os
         → (commit : OpenCommit) (mode : FileMode) (path : Path) (bytes : List ℕ) (left : Left)
         → contents_put digest os mode path bytes commit ≡ Ok left → TreesFit [] left.objects }
 {}
 
-/// With the trees that `ls` stores, all trees are within the limits.
+/// All trees stay within the limits with those that `ls` stores.
 pub fn shown_trees_keep_trees_fitting()
     ensures { (digest : List ℕ → List ℕ) → AnswersNames digest
         → (os : List Object) → AreObjects digest os → TreesFit [] os
@@ -111,7 +112,7 @@ pub fn shown_trees_keep_trees_fitting()
         → TreesFit [] shown.objects }
 {}
 
-/// With the trees that a commit stores at its end, all trees are within the limits.
+/// All trees stay within the limits with those that a commit stores at its end.
 pub fn an_end_keeps_trees_fitting()
     ensures { (digest : List ℕ → List ℕ) → AnswersNames digest
         → (os : List Object) → AreObjects digest os → TreesFit [] os

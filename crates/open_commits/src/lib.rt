@@ -1,8 +1,8 @@
 //! A commit of git-fast-import(1) from its message to its end: its parents, the changes of its
 //! files, and the objects that it makes.
 //!
-//! Marks, the pool and the table are lent to each call. What a branch is, which commit a commit-ish
-//! means, and what is printed, is decided above.
+//! Each call borrows the marks, the pool and the table that it needs. The caller decides what a
+//! branch is, which commit a commit-ish names, and what is printed.
 #![tactic(auto)]
 
 mod changes;

@@ -1,7 +1,7 @@
-//! An open commit: what its header and its message said, its parents and its files so far.
+//! An open commit: its header and message, and its parents and files so far.
 //!
-//! It holds what outlives the items of its stream. Objects are named by object name and never by
-//! where they lie, so that no later object changes it.
+//! It owns what must outlive the items of its stream. It refers to objects by name and never by
+//! position, so that objects that are added later do not change it.
 
 ghost use Rattle.std.specs.Prelude.{◌≡◌, List, IfOk};
 ghost use Rattle.git_model.specs.Repository.{Object};
@@ -13,26 +13,26 @@ use std::alloc::Global;
 use stream_grammar::Mark;
 use tree_build::Files;
 
-/// What the lines of a commit before its message said.
+/// What the lines of a commit before its message say.
 #[derive(Drop)]
 pub struct Header {
     /// The ref of its branch.
     pub ref_name: RefName,
-    /// The mark that is set to it at its end.
+    /// The mark to set when the commit ends.
     pub mark: Option<Mark>,
-    /// Who wrote it; without one, its committer did.
+    /// Who wrote the commit; if absent, the committer did.
     pub author: Option<Ident>,
-    /// Who made it.
+    /// Who made the commit.
     pub committer: Ident,
-    /// The encoding of its message, where it is not that of UTF-8.
+    /// The encoding of the message, if it is not UTF-8.
     pub encoding: Option<Vec<u8>>,
 }
 
-/// A commit from its message on.
+/// A commit from its message to its end.
 #[derive(Drop)]
 pub struct OpenCommit {
     pub(crate) alloc: Global,
-    /// What the lines before its message said.
+    /// What the lines before its message say.
     pub header: Header,
     pub(crate) message: Vec<u8>,
     pub(crate) parents: Vec<Name>,
@@ -40,12 +40,12 @@ pub struct OpenCommit {
 }
 
 impl OpenCommit {
-    /// A commit without parents, on these files: git-fast-import(1), "commit". Where its branch
-    /// stands at a commit, `start_from` that one, which reads nothing again where the files are
-    /// known to be that commit's; else `delete_all` of them.
+    /// Begins a commit without parents, on the given files: git-fast-import(1), "commit". If its
+    /// branch is at a commit, call `start_from` with that commit; if the files are known to be
+    /// those of that commit, no tree is read again. Otherwise call `delete_all`.
     ///
-    /// `Memory` (90) where the copy of the message finds no room. What the commit holds later comes
-    /// from `alloc`.
+    /// `Memory` (90) if the copy of the message cannot be allocated. Later calls allocate from
+    /// `alloc` too.
     pub fn begin(
         alloc: Global,
         header: Header,
@@ -67,8 +67,8 @@ impl OpenCommit {
         })
     }
 
-    /// Its files, for the next commit: what was opened of them stays opened, and after `close` the
-    /// root is known to be the tree of the commit.
+    /// The files of the commit, for the next one. Directories that were opened stay opened, and
+    /// after `close` the root is known to be the tree of the commit.
     pub fn into_files(self) -> Files
         ensures { result ≡ (commit_held self).files }
     {

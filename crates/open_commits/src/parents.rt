@@ -26,7 +26,7 @@ use tenant_tables::{Objects, Sight, Table};
 /// How many parents a commit may have.
 pub const PARENTS_LIMIT: usize = 1024;
 
-// The name of the tree that a commit's contents give.
+// The name of the tree in a commit's contents.
 fn tree_in(alloc: Global, contents: &[u8]) -> Result<Name, Fault>
     ensures { (c : Commit) → CanWriteCommit c → contents.now ≡ commit_contents c
         → MatchResult result (λ tree. tree ≡ (commit_read contents.now).tree)
@@ -38,7 +38,7 @@ fn tree_in(alloc: Global, contents: &[u8]) -> Result<Name, Fault>
     }
 }
 
-// The name of the tree of a commit of the table.
+// The name of the tree of a commit in the table.
 fn tree_of_commit<N: Naming>(
     alloc: Global,
     pool: &Pool<N>,
@@ -59,15 +59,15 @@ fn tree_of_commit<N: Naming>(
 }
 
 impl OpenCommit {
-    /// `from`: that commit is the first parent, and the only one so far; the files are those of its
-    /// tree: git-fast-import(1), "from". Where they are known to be that tree, what was opened of
-    /// them stays opened; no tree is read in any case.
+    /// `from`: makes the commit the first and so far only parent, and replaces the files by those
+    /// of its tree: git-fast-import(1), "from". No tree is read. If the files are known to be that
+    /// tree, directories that were opened stay opened.
     ///
-    /// The name is that of a commit of the table. `Fault::Limit` (25) where its files are past the
-    /// limits of `modify`, which no commit's are that was made here; nothing has changed then.
-    /// After `Fault::Memory` (90) the commit may only be dropped.
+    /// `id` must name a commit of the table. `Fault::Limit` (25) if its files exceed the limits of
+    /// `modify`, which never happens to a commit that was made here; the commit is unchanged then.
+    /// If an allocation fails, the answer is `Fault::Memory` (90); drop the commit then.
     ///
-    /// The pool is the one that the table stands in.
+    /// `pool` holds the contents of `table`.
     pub fn start_from<N: Naming>(
         &mut self,
         pool: &Pool<N>,
@@ -94,11 +94,12 @@ impl OpenCommit {
         Ok(())
     }
 
-    /// `merge`: that commit is one more parent, twice where it is given twice: git-fast-import(1),
+    /// `merge`: adds a parent. A commit that is given twice is a parent twice: git-fast-import(1),
     /// "merge".
     ///
-    /// `Fault::Limit` (25) where there are 1,024 parents, the first one counted; nothing has
-    /// changed then. After `Fault::Memory` (90) the commit may only be dropped.
+    /// `Fault::Limit` (25) if there are 1,024 parents already, the first one included; the commit
+    /// is unchanged then. If an allocation fails, the answer is `Fault::Memory` (90); drop the
+    /// commit then.
     pub fn merge(&mut self, id: Name) -> Result<(), Fault>
         ensures changes { (os : List Object) → Changes (merged id (shown_in os self.old))
             (shown_in os self.old) (shown_in os self.new) result }

@@ -1,12 +1,14 @@
-//! What stands at a path of an open commit: git-fast-import(1), "ls".
+//! What is at a path of an open commit: git-fast-import(1), "ls".
 
 ghost use Rattle.std.specs.Prelude.{◌≡◌};
 ghost use Rattle.tenant_tables.specs.Lent.{Keeps};
 ghost use Rattle.tenant_tables.specs.Objects.{objects};
 ghost use Rattle.tenant_tables.specs.Room.{HasRoomBeside};
 ghost use Rattle.tenant_tables.specs.StandsIn.{StandsIn};
+ghost use Rattle.file_maps.specs.Edits.{files_at};
 ghost use Rattle.open_commits.specs.OpenCommit.{shown_in, IsHeld};
 ghost use Rattle.open_commits.specs.Showing.{entry_shown, file_or_trees};
+ghost use Rattle.open_commits.specs.Storing.{LeavesTrees};
 ghost use Rattle.open_commits.specs.Calls.{AddsOnly, Gives};
 
 use crate::fault::Fault;
@@ -18,16 +20,17 @@ use git_paths::Path;
 use tenant_tables::Table;
 
 impl OpenCommit {
-    /// `ls` with a path alone: what stands there, if anything; the root is always a directory. The
-    /// trees of a directory are stored, children first, and stay stored though the commit changes
-    /// later: git-fast-import(1), "ls".
+    /// `ls` with a path alone: returns the entry at the path, or `None` if nothing is there; the
+    /// root is always a directory. The trees of a directory are stored, children first, and stay
+    /// stored when the commit changes later: git-fast-import(1), "ls".
     ///
-    /// `Fault::Limit` (25), else `Fault::NameCollision` (24) by the first tree that is refused;
-    /// `Fault::Memory` (90). Objects may then stand after the committed ones. The commit is
-    /// unchanged in any case.
+    /// The first tree that is refused decides: `Fault::Limit` (25) if its contents are too long or
+    /// the table is full, else `Fault::NameCollision` (24) if the table has another object of its
+    /// name. If an allocation fails, the answer is `Fault::Memory` (90). After a refusal the table
+    /// may have some of the trees after its committed objects, the first ones in the order of
+    /// storing. The commit is unchanged in any case.
     ///
-    /// The pool is the one that the table stands in, and nobody else holds a content 2^64 - 2
-    /// times.
+    /// `pool` holds the contents of `table`. Others hold each content fewer than 2^64 - 2 times.
     pub fn show_entry<N: Naming>(
         &mut self,
         pool: &mut Pool<N>,
@@ -40,6 +43,9 @@ impl OpenCommit {
         ensures keeps { Keeps N.digest_of pool.old table.old pool.new table.new }
         ensures room { HasRoomBeside pool.new table.new.entries }
         ensures adds { AddsOnly pool.old table.old pool.new table.new }
+        ensures trees { let os = objects pool.old table.old.entries in
+            LeavesTrees N.digest_of (files_at (shown_in os self.old).files path.now) os
+            (objects pool.new table.new.entries) }
         ensures done { Gives (entry_shown N.digest_of (objects pool.old table.old.entries)
             (shown_in (objects pool.old table.old.entries) self.old).files path.now)
             (λ entry. record { entry = entry; objects = objects pool.new table.new.entries })
@@ -55,7 +61,7 @@ impl OpenCommit {
         Ok(entry)
     }
 
-    // Stores the trees at and below a path, where this mode says that a directory stands there.
+    // Stores the trees at and below a path, if this mode is that of a directory.
     fn store_directory<N: Naming>(
         &mut self,
         pool: &mut Pool<N>,
@@ -69,6 +75,9 @@ impl OpenCommit {
         ensures keeps { Keeps N.digest_of pool.old table.old pool.new table.new }
         ensures room { HasRoomBeside pool.new table.new.entries }
         ensures adds { AddsOnly pool.old table.old pool.new table.new }
+        ensures trees { let os = objects pool.old table.old.entries in
+            LeavesTrees N.digest_of (files_at (shown_in os self.old).files path.now) os
+            (objects pool.new table.new.entries) }
         ensures done { Gives (file_or_trees N.digest_of (objects pool.old table.old.entries)
             (shown_in (objects pool.old table.old.entries) self.old).files path.now mode)
             (λ _. objects pool.new table.new.entries) result }

@@ -14,7 +14,7 @@ use content_pool::Pool;
 use git_objects::{Kind, Name, Naming};
 use tenant_tables::Table;
 
-// Stores an object that is no tree after the table's objects, unless it is there, and answers its
+// Adds an object other than a tree after the table's objects, unless it is there, and returns its
 // name.
 pub fn store<N: Naming>(
     pool: &mut Pool<N>,

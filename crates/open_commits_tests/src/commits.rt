@@ -1,14 +1,15 @@
-//! What no clause says of commits: that calls succeed, and the names that Git gives them.
+//! What no contract says about commits: that calls succeed, and that the names are those that Git
+//! gives.
 //!
-//! `git fast-import` gave each name for the stream that the steps tell; every commit there begins
-//! with `reset`, so that it has no parent but those that it names. The blob `hello` has the name
-//! ce013625030ba8dba906f756967f9e9ca394464a, and the empty tree
+//! `git fast-import` gave each name, for a stream that does what the steps say. Each commit of that
+//! stream follows a `reset`, so that its only parents are those that it names. The blob `hello` has
+//! the name ce013625030ba8dba906f756967f9e9ca394464a, and the empty tree
 //! 4b825dc642cb6eb9a060e54bf8d69288fbee4904.
 
 use crate::repository::{Case, first_wrong};
 use std::alloc::Global;
 
-// The steps of each are one text, which takes the prover less than a table of them.
+// The steps of a case are one text, because the prover reads a text faster than a table.
 const CASES: &[Case] = &[
     Case {
         does: "one file",
@@ -258,7 +259,7 @@ const CASES: &[Case] = &[
     },
 ];
 
-// What the first case does that goes otherwise, and the step that does.
+// What the first case does that fails, and the position of the step that fails.
 fn first_otherwise(alloc: Global) -> Option<(&'static str, usize)> {
     for case in CASES {
         if let Some(position) = first_wrong(alloc, case.steps) {

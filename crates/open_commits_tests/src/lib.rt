@@ -1,5 +1,5 @@
-//! Tests of open_commits: commits from their message to their end, beside the names that Git gives.
-//! Nothing else stands here.
+//! Tests of open_commits: commits from their message to their end, compared with the names that Git
+//! gives. The crate has no code of its own.
 #![tactic(auto)]
 
 #[cfg(test)]

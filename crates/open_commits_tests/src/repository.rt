@@ -1,4 +1,4 @@
-//! A repository with marks and an open commit, for tests, which is taken through steps.
+//! A test repository with marks and an open commit, on which steps are carried out.
 
 use crate::taking::{answers, begin_on, code_of, files_left, put_back, taken};
 use crate::words::{header_with, is, long_path, mark_of, mode, number, object, path_of, word};
@@ -14,13 +14,13 @@ use stream_grammar::{DataRef, Mark};
 use tenant_tables::{Fault, Table};
 use tree_build::Files;
 
-/// What happens, in words and as steps over an empty repository.
+/// What a case does, in words and as steps over an empty repository.
 pub struct Case {
     pub does: &'static str,
     pub steps: &'static [u8],
 }
 
-/// The first of these steps, by its position, that is answered otherwise.
+/// The position of the first step that does not go as it says.
 pub fn first_wrong(alloc: Global, steps: &[u8]) -> Option<usize> {
     let mut repository = Repository::new(alloc, Sha1Naming);
     let wrong = repository.first_wrong(steps);
@@ -73,8 +73,8 @@ impl<N: Naming> Repository<N> {
         None
     }
 
-    // Whether a step goes as it says; none where its words say nothing, or memory ran out. Each
-    // function knows some of them, so that its proof is short.
+    // Whether a step goes as it says; `None` if its words are no step, or memory ran out. Each
+    // function knows a few of the steps, so that its proof is short.
     fn takes(&mut self, step: &[u8]) -> Option<bool> {
         if is(step, b"blob") {
             self.add_blob(step)
@@ -154,7 +154,7 @@ impl<N: Naming> Repository<N> {
         Some(self.marks.insert(mark, id).is_ok())
     }
 
-    // No commit goes on after it.
+    // Adds a blob, and drops the open commit.
     fn added(&mut self, bytes: &[u8]) -> Result<Name, Fault> {
         drop(self.commit.take());
         self.table.add(&mut self.pool, Kind::Blob, bytes)
@@ -177,8 +177,7 @@ impl<N: Naming> Repository<N> {
         Some(self.go_on_by(header, word(step, 2))? == reads)
     }
 
-    // Begins a commit on the files of the open one, and answers how many texts of trees were read
-    // for them.
+    // Begins a commit on the files of the open one, and returns how many trees were read for them.
     fn go_on_by(&mut self, header: Header, message: &[u8]) -> Option<u64> {
         let files = files_left(&mut self.commit)?;
         let reads = files.reads();
@@ -248,7 +247,7 @@ impl<N: Naming> Repository<N> {
         self.put_contents_at(mode, &path, word(step, 4), code)
     }
 
-    // After a refusal there is no commit any more.
+    // A refusal drops the open commit.
     fn put_contents_at(
         &mut self,
         mode: FileMode,

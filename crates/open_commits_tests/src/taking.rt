@@ -1,6 +1,6 @@
-//! The open commit, which a test takes out of its place for a call and puts back.
+//! A test takes the open commit out of its place for a call, and puts it back afterwards.
 //!
-//! Each function has one way out of its owner at most, so that its proof is short.
+//! In each function at most one path drops the commit, so that its proof is short.
 
 ghost use Rattle.std.specs.Prelude.{◌≡◌, ◌≢◌, List, None, Err, IsTrue, IfSome};
 ghost use Rattle.git_model.specs.Repository.{Object as StoredObject};
@@ -13,8 +13,8 @@ use std::alloc::Global;
 use std::mem;
 use tree_build::Files;
 
-/// The number of an answer, 0 where nothing is refused, and 90 for want of memory, which no step asks
-/// for.
+/// The number of an answer: 0 if nothing is refused, and 90 if memory ran out, which no step
+/// expects.
 pub fn code_of(answer: Result<(), Fault>) -> u64 {
     match answer {
         Ok(()) => 0,
@@ -22,7 +22,7 @@ pub fn code_of(answer: Result<(), Fault>) -> u64 {
     }
 }
 
-/// The open commit, which is let go where it is not put back.
+/// Takes the open commit out of its place. It is dropped unless it is put back.
 pub fn taken(place: &mut Option<OpenCommit>) -> Option<OpenCommit>
     ensures held { (os : List StoredObject) → IfSome place.old (IsHeld os)
         → IfSome result (IsHeld os) }
@@ -31,8 +31,8 @@ pub fn taken(place: &mut Option<OpenCommit>) -> Option<OpenCommit>
     place.take()
 }
 
-/// The commit is put back where it may go on, and let go elsewhere. Apart from what took it: each
-/// way out of its owner makes a proof longer.
+/// Puts the commit back if it may go on, and drops it otherwise. This is a function of its own,
+/// because each path that drops the commit makes a proof longer.
 pub fn put_back(place: &mut Option<OpenCommit>, commit: OpenCommit, goes_on: bool)
     ensures { (os : List StoredObject) → (IsTrue goes_on → IsHeld os commit)
         → IfSome place.new (IsHeld os) }
@@ -40,14 +40,14 @@ pub fn put_back(place: &mut Option<OpenCommit>, commit: OpenCommit, goes_on: boo
     drop(mem::replace(place, goes_on.then_some(commit)));
 }
 
-// Whether a commit may go on after this answer: after want of memory nobody says what it is.
+// Whether a commit may go on after this answer: after `Memory` nothing is known of it.
 fn goes_on_after(answer: &Result<(), Fault>) -> bool
     ensures { IsTrue result → answer.now ≢ Err fault.Memory }
 {
     *answer != Err(Fault::Memory)
 }
 
-/// Puts the commit back, and tells whether the answer is the refusal of this number.
+/// Puts the commit back, and returns whether the answer has this number.
 pub fn answers(
     place: &mut Option<OpenCommit>,
     commit: OpenCommit,
@@ -61,7 +61,7 @@ pub fn answers(
     code_of(answer) == code
 }
 
-/// Begins a commit on these files, and tells whether there was room for it.
+/// Begins a commit on these files, and returns whether there was memory for it.
 pub fn begin_on(
     place: &mut Option<OpenCommit>,
     header: Header,
@@ -77,7 +77,7 @@ pub fn begin_on(
     place.is_some()
 }
 
-/// The files of the open commit, which ends with it.
+/// The files of the open commit, which is taken out of its place and not put back.
 pub fn files_left(place: &mut Option<OpenCommit>) -> Option<Files>
     ensures branch { (os : List StoredObject) → IfSome place.old (IsHeld os)
         → IfSome result (IsBranch os) }

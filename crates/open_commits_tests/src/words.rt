@@ -1,8 +1,8 @@
 //! The words of a step.
 //!
-//! The steps of a case are one text, with `;` between two of them. A step is words with a space
-//! between two of them; one that is left out at its end is empty. What is done stands first, and
-//! before what it is done with the number of the refusal that answers it, 0 where none does:
+//! The steps of a case are one text, separated by `;`. The words of a step are separated by spaces,
+//! and a word that is left out at the end is empty. The first word says what to do. CODE is the
+//! number of the refusal that the step expects, 0 for none:
 //!
 //! ```text
 //! blob MARK CONTENTS             begin MESSAGE LINE   from MARK
@@ -13,9 +13,9 @@
 //! rename CODE SOURCE PATH        stored OBJECTS
 //! ```
 //!
-//! An object is a mark after `:`, or a name. A commit begins without files, with a line of its own
-//! where it says `author` or `encoding`, or goes on with the files that the last one left, for
-//! which so many texts of trees were read.
+//! An OBJECT is a mark after `:`, or a name. `begin` begins a commit without files, whose header
+//! has an author or an encoding if LINE is `author` or `encoding`. `go_on` begins a commit on the
+//! files that the last one left, for which READ trees were read.
 
 use git_names::{Ident, RefName};
 use git_objects::{FileMode, Name, read_mode};
@@ -29,7 +29,7 @@ const AUTHOR: &[u8] = b"B C <b@c> 7 +0130";
 
 const ENCODING: &[u8] = b"ISO-8859-1";
 
-/// The word of a step at this place.
+/// The word at this place of a step, counted from 0.
 pub fn word(step: &[u8], place: usize) -> &[u8] {
     step.split(|byte| *byte == b' ').nth(place).unwrap_or(b"")
 }
@@ -66,7 +66,7 @@ pub fn path_of(alloc: Global, text: &[u8]) -> Option<Path> {
     }
 }
 
-/// The path of so many components, if there was room for it.
+/// The path of this many components, if there is memory for it.
 pub fn long_path(alloc: Global, components: u64) -> Option<Path> {
     let mut path = Vec::new(alloc);
     if !takes_components(&mut path, components) {
@@ -85,7 +85,7 @@ fn takes_components(path: &mut Vec<u8>, components: u64) -> bool {
     true
 }
 
-/// The header of a commit with this line of its own, or none.
+/// The header of a commit, with an author or an encoding if the line is `author` or `encoding`.
 pub fn header_with(alloc: Global, line: &[u8]) -> Option<Header> {
     if line == b"author".as_slice() {
         header_of(alloc, Some(Ident::read(alloc, AUTHOR).ok()?), None)

@@ -70,11 +70,11 @@ entries_so tenant pool entries (r ∷ rs) =
     let one = id_is pool entries r.place in
     λ i. ((ref_at tenant (objects pool entries) r).0, one i) ∷ entries_so tenant pool entries rs i
 
--- ---- the name behind the namespaces
+-- ---- the name after the namespaces
 
-pub ref_behind : (front full ref : List ℕ) → full ≡ front ++ ref
+pub ref_after : (front full ref : List ℕ) → full ≡ front ++ ref
     → take (length full - length front) (drop (length front) full) ≡ ref
-ref_behind front full ref same =
+ref_after front full ref same =
     take_all (length full - length front) (drop (length front) full)
     (omega (arith, length-drop (length front) full))
     ∙ (ap (drop (length front)) same ∙ drop-append_seam front ref)
@@ -154,14 +154,14 @@ all_set os t pool entries p =
     let es = map (ref_at t.name (objects pool entries)) t.refs in
     let sorted : T (is_sorted key_cmp es) =
     sorted_refs os t.numbers t.name (objects pool entries) t.refs p.0 p.1.0 in
-    let behind : finite.entries (no_refs).refs ++ es ≡ es =
+    let same_entries : finite.entries (no_refs).refs ++ es ≡ es =
     ap (λ (l : List (List ℕ × List ℕ)). l ++ es) none_yet in
     ap (λ (l : List (List ℕ × List ℕ)). with_head (with_refs no_refs l) t.head)
     (entries_so t.name pool entries t.refs)
     ∙ ap (λ (s : RefStore). with_head s t.head)
     (with_refs_is no_refs es
-    (subst (λ (l : List (List ℕ × List ℕ)). T (is_sorted key_cmp l)) (sym behind) sorted))
-    ∙ λ i. record { refs = made (behind i); head = t.head }
+    (subst (λ (l : List (List ℕ × List ℕ)). T (is_sorted key_cmp l)) (sym same_entries) sorted))
+    ∙ λ i. record { refs = made (same_entries i); head = t.head }
 
 -- ---- the loop
 

@@ -23,7 +23,7 @@ use Rattle.tenant_tables.specs.Objects.{objects}
 use Rattle.tenant_tables.specs.Adding.{Adds}
 use Rattle.tenant_tables.specs.Room.{HasRoomBeside}
 use Rattle.tenant_tables.specs.StandsIn.{StandsIn, LeavesOthers}
-use Rattle.tenant_tables.specs.Trees.{SummedBehind}
+use Rattle.tenant_tables.specs.Trees.{SummedAfter}
 use Rattle.tenant_tables.proofs.HoldLemmas.{held-nil, object_named-objects}
 use Rattle.tenant_tables.proofs.RoomLemmas.{has_room, room-after}
 use Rattle.tenant_tables.proofs.TableLemmas.{StandsIn-nil, LeavesOthers-refl, LeavesOthers-then, length-objects}
@@ -31,8 +31,8 @@ use Rattle.pool_file_format.specs.Format.{RawObject}
 use Rattle.pool_file_checks.specs.Checks.{Passes}
 use Rattle.pool_file_checks.specs.Objects.{raw_object, object_checks, CanStore}
 use Rattle.pool_file_checks.specs.Own.{content_of, content_at, names_of, row, rows_of, objects_in, own_objects, AreDistinct}
-use Rattle.pool_file_checks.specs.Sums.{Sums, SameSums, Fits, TreesFit, sum_of_tree, sums_behind}
-use Rattle.pool_file_checks.proofs.SumLemmas.{same_trees, own_sum, summed_behind, none_noted}
+use Rattle.pool_file_checks.specs.Sums.{Sums, SameSums, Fits, TreesFit, sum_of_tree, sums_with}
+use Rattle.pool_file_checks.proofs.SumLemmas.{same_trees, own_sum, summed_after, none_noted}
 use Rattle.pool_file_checks.proofs.TenantLemmas.{left_at}
 use Rattle.pool_file_checks.proofs.Members.{has_at}
 use Rattle.pool_file_checks.proofs.Passing.{can_store}
@@ -124,7 +124,7 @@ new_name p (x ∷ xs) o rest d =
 
 -- where it is not among the sums, it is none
 sum_here : (k : Kind) (id bytes : List ℕ) (sums : Sums) → lookup (bytes_eq id) sums ≡ None
-    → lookup (bytes_eq id) (sums_behind k id bytes sums) ≡ own_sum k bytes sums
+    → lookup (bytes_eq id) (sums_with k id bytes sums) ≡ own_sum k bytes sums
 sum_here kind.Tree id bytes sums none =
     ap (λ (b : Bool). cond b (Some (sum_of_tree sums (tree_read bytes))) (lookup (bytes_eq id) sums)) ((bytes_eq-Decides id id).1 refl)
 sum_here kind.Blob id bytes sums none = none
@@ -136,14 +136,14 @@ no_summary id entries none = ap (option_and_then (λ (e : Entry). e.summary)) no
 
 -- what stands in the table beside the object
 pub sum_is : (k : Kind) (id bytes : List ℕ) (sums more : Sums) (entries : Entries) → AreNoted sums entries
-    → entry_named id entries ≡ None → SameSums more (sums_behind k id bytes sums)
+    → entry_named id entries ≡ None → SameSums more (sums_with k id bytes sums)
     → lookup (bytes_eq id) more ≡ own_sum k bytes sums
 sum_is k id bytes sums more entries noted new same =
     same id ∙ sum_here k id bytes sums (noted id ∙ no_summary id entries new)
 
 noted_by : (k : Kind) (id bytes : List ℕ) (sums : Sums) (other : List ℕ) (b : Bool) → bytes_eq other id ≡ b
     → (bytes_eq other id ≡ true → lookup (bytes_eq other) sums ≡ None)
-    → lookup (bytes_eq other) (sums_behind k id bytes sums) ≡ cond (bytes_eq other id) (own_sum k bytes sums) (lookup (bytes_eq other) sums)
+    → lookup (bytes_eq other) (sums_with k id bytes sums) ≡ cond (bytes_eq other id) (own_sum k bytes sums) (lookup (bytes_eq other) sums)
 noted_by kind.Tree id bytes sums other b is none = refl
 noted_by kind.Blob id bytes sums other true is none = none is ∙ sym (ap (λ (t : Bool). cond t None (lookup (bytes_eq other) sums)) is)
 noted_by kind.Blob id bytes sums other false is none = sym (ap (λ (t : Bool). cond t None (lookup (bytes_eq other) sums)) is)
@@ -161,11 +161,11 @@ module _ (digest : List ℕ → List ℕ) (p : Cells) (old : View) (sums : Sums)
   abbrev id : List ℕ
   id = name_by digest c
 
-  pub summed : (more : Sums) → SameSums more (sums_behind c.kind id c.bytes sums)
-      → SummedBehind old.entries c (lookup (bytes_eq id) more)
+  pub summed : (more : Sums) → SameSums more (sums_with c.kind id c.bytes sums)
+      → SummedAfter old.entries c (lookup (bytes_eq id) more)
   summed more same =
-      subst (SummedBehind old.entries c) (sym (sum_is c.kind id c.bytes sums more old.entries can.noted can.new same))
-      (summed_behind c.kind c.bytes sums old.entries can.noted can.fits)
+      subst (SummedAfter old.entries c) (sym (sum_is c.kind id c.bytes sums more old.entries can.noted can.new same))
+      (summed_after c.kind c.bytes sums old.entries can.noted can.fits)
 
   none_yet : (other : List ℕ) → bytes_eq other id ≡ true → lookup (bytes_eq other) sums ≡ None
   none_yet other same =
@@ -175,7 +175,7 @@ module _ (digest : List ℕ → List ℕ) (p : Cells) (old : View) (sums : Sums)
   absent = object_named-objects p id old.entries ∙ ap (option_map (λ (e : Entry). content p e.slot)) can.new
 
   pub loaded : (q : Cells) (new : View) (more : Sums) → StandsIn digest q new.entries → LeavesOthers p old.entries q new.entries
-      → SameSums more (sums_behind c.kind id c.bytes sums)
+      → SameSums more (sums_with c.kind id c.bytes sums)
       → Adds digest c (lookup (bytes_eq id) more) p old q new
       → Loads digest slot p old.entries sums q new.entries more
   loaded q new more stands others same adds = record {
@@ -195,20 +195,20 @@ module _ (digest : List ℕ → List ℕ) (p : Cells) (old : View) (sums : Sums)
 module _ (digest : List ℕ → List ℕ) (p : Cells) (old : View) (sums more : Sums) (slot : ℕ) (can : CanLoad digest p old.entries sums slot)
     (k : Kind) (bytes id : List ℕ) (s : Option Summary) (has : content_from k bytes ≡ content p slot)
     (named : id ≡ name_by digest (content_from k bytes)) (found : s ≡ lookup (bytes_eq id) more)
-    (same : SameSums more (sums_behind k id bytes sums)) where
+    (same : SameSums more (sums_with k id bytes sums)) where
   name_is : id ≡ name_by digest (content p slot)
   name_is = named ∙ ap (name_by digest) has
 
-  sums_are : SameSums more (sums_behind (content p slot).kind (name_by digest (content p slot)) (content p slot).bytes sums)
+  sums_are : SameSums more (sums_with (content p slot).kind (name_by digest (content p slot)) (content p slot).bytes sums)
   sums_are =
-      subst (λ (c : Content). SameSums more (sums_behind c.kind (name_by digest c) c.bytes sums)) has
-      (subst (λ (x : List ℕ). SameSums more (sums_behind k x bytes sums)) named same)
+      subst (λ (c : Content). SameSums more (sums_with c.kind (name_by digest c) c.bytes sums)) has
+      (subst (λ (x : List ℕ). SameSums more (sums_with k x bytes sums)) named same)
 
   sum_found : s ≡ lookup (bytes_eq (name_by digest (content p slot))) more
   sum_found = found ∙ ap (λ (x : List ℕ). lookup (bytes_eq x) more) name_is
 
-  pub summed_as : SummedBehind old.entries (content p slot) s
-  summed_as = subst (SummedBehind old.entries (content p slot)) (sym sum_found) (summed digest p old sums slot can more sums_are)
+  pub summed_as : SummedAfter old.entries (content p slot) s
+  summed_as = subst (SummedAfter old.entries (content p slot)) (sym sum_found) (summed digest p old sums slot can more sums_are)
 
   pub loaded_as : {A E : Type 0} (r : Result A E) (q : Cells) (new : View) → StandsIn digest q new.entries → LeavesOthers p old.entries q new.entries
       → OnOk r (Adds digest (content p slot) s p old q new)
@@ -318,8 +318,8 @@ module _ (digest : List ℕ → List ℕ) (p0 p : Cells) (slots numbers : List �
           (loads.objects ∙ ap (λ (c : Content). objects p entries ++ object_of digest c ∷ []) same)
           ∙ append_assoc (objects p entries) (o ∷ []) (drop (i + 1) own) ∙ first.objects;
       trees =
-          same_trees (drop (i + 1) own) (sums_behind o.content.kind o.id o.content.bytes sums) more
-          (λ x. sym (subst (λ (c : Content). SameSums more (sums_behind c.kind (name_by digest c) c.bytes sums)) same loads.trees x)) first.trees.1;
+          same_trees (drop (i + 1) own) (sums_with o.content.kind o.id o.content.bytes sums) more
+          (λ x. sym (subst (λ (c : Content). SameSums more (sums_with c.kind (name_by digest c) c.bytes sums)) same loads.trees x)) first.trees.1;
       noted = loads.noted;
     }
 

@@ -276,8 +276,8 @@ module _ {X : Type 0} (key : X → List ℕ) where
 module _ {X Y : Type 0} (key : X → List ℕ) (f : Y → X) where
   -- ---- elements that stand for others are listed as these are
 
-  abbrev key_behind : Y → List ℕ
-  key_behind y = key (f y)
+  abbrev key_after : Y → List ℕ
+  key_after y = key (f y)
 
   abbrev turned : List (List ℕ × Y) → List (List ℕ × X)
   turned es = map (λ e. (e.0, f e.1)) es
@@ -296,13 +296,13 @@ module _ {X Y : Type 0} (key : X → List ℕ) (f : Y → X) where
       by Greater later = ap (λ (l : List (List ℕ × X)). (e.0, f e.1) ∷ l) later
 
   entries_turned : (ys : List Y)
-      → entries (tree_of key (map f ys)) ≡ turned (entries (tree_of key_behind ys))
-  entries_turned [] = entries_none key ∙ sym (ap turned (entries_none key_behind))
+      → entries (tree_of key (map f ys)) ≡ turned (entries (tree_of key_after ys))
+  entries_turned [] = entries_none key ∙ sym (ap turned (entries_none key_after))
   entries_turned (y ∷ ys) =
       entries_more key (f y) (map f ys)
       ∙ ap (put key_cmp (key (f y)) (f y)) (entries_turned ys)
-      ∙ put_turned (key (f y)) y (entries (tree_of key_behind ys))
-      ∙ ap turned (sym (entries_more key_behind y ys))
+      ∙ put_turned (key (f y)) y (entries (tree_of key_after ys))
+      ∙ ap turned (sym (entries_more key_after y ys))
 
   values_turned : (es : List (List ℕ × Y))
       → map (λ e. e.1) (turned es) ≡ map f (map (λ e. e.1) es)
@@ -310,21 +310,21 @@ module _ {X Y : Type 0} (key : X → List ℕ) (f : Y → X) where
   values_turned (e ∷ es) = ap (λ (l : List X). f e.1 ∷ l) (values_turned es)
 
   pub listed_turned : (ys : List Y)
-      → listed_by key (map f ys) ≡ map f (listed_by key_behind ys)
+      → listed_by key (map f ys) ≡ map f (listed_by key_after ys)
   unfolding listed_by
   listed_turned ys =
       ap (λ (es : List (List ℕ × X)). map (λ e. e.1) es) (entries_turned ys)
-      ∙ values_turned (entries (tree_of key_behind ys))
+      ∙ values_turned (entries (tree_of key_after ys))
 
   pub insert_turned : (ys : List Y) (y : Y)
-      → map f (insert_key (order_by key_behind) ys y) ≡ insert_key (order_by key) (map f ys) (f y)
+      → map f (insert_key (order_by key_after) ys y) ≡ insert_key (order_by key) (map f ys) (f y)
   insert_turned [] y = refl
   insert_turned (z ∷ zs) y = by (key_cmp (key (f y)) (key (f z))) (insert_turned zs y)
     where
       by : (o : Ordering)
-          → map f (insert_key (order_by key_behind) zs y)
+          → map f (insert_key (order_by key_after) zs y)
           ≡ insert_key (order_by key) (map f zs) (f y)
-          → map f (match_ordering o (y ∷ z ∷ zs) (z ∷ zs) (z ∷ insert_key (order_by key_behind) zs y))
+          → map f (match_ordering o (y ∷ z ∷ zs) (z ∷ zs) (z ∷ insert_key (order_by key_after) zs y))
           ≡ match_ordering o (f y ∷ f z ∷ map f zs) (f z ∷ map f zs)
           (f z ∷ insert_key (order_by key) (map f zs) (f y))
       by Less later = refl

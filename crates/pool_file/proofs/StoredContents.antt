@@ -81,10 +81,10 @@ place_in pool slots o rest whole digest names h named =
     let b = length-map whole (λ x. name_by digest (content_of x)) in
     omega arith
 
-behind : (digest : List ℕ → List ℕ) (xs : List RawObject) (o : RawObject) (rest : List RawObject) (d : List ℕ)
+skipped : (digest : List ℕ → List ℕ) (xs : List RawObject) (o : RawObject) (rest : List RawObject) (d : List ℕ)
     → get_or (names_of digest (xs ++ o ∷ rest)) (length xs) d ≡ name_by digest (content_of o)
-behind digest [] o rest d = refl
-behind digest (x ∷ xs) o rest d = behind digest xs o rest d
+skipped digest [] o rest d = refl
+skipped digest (x ∷ xs) o rest d = skipped digest xs o rest d
 
 pub name_in : (pool : Cells) (slots : List ℕ) (o : RawObject) (rest whole : List RawObject) (digest : List ℕ → List ℕ)
     (names : List (List ℕ)) (k : ℕ) (id d : List ℕ) → AreStored pool slots (o ∷ rest) whole → names ≡ names_of digest whole
@@ -92,7 +92,7 @@ pub name_in : (pool : Cells) (slots : List ℕ) (o : RawObject) (rest whole : Li
 name_in pool slots o rest whole digest names k id d h named place is =
     is ∙ ap (λ (i : ℕ). get_or names i d) (place ∙ sym (objects_at-length pool slots))
     ∙ ap (λ (l : List (List ℕ)). get_or l (length (objects_at pool slots)) d) (named ∙ ap (names_of digest) (sym h.objects))
-    ∙ behind digest (objects_at pool slots) o rest d
+    ∙ skipped digest (objects_at pool slots) o rest d
 
 objects_at-push : (pool : Cells) (slots : List ℕ) (t : ℕ)
     → objects_at pool (slots ++ t ∷ []) ≡ objects_at pool slots ++ raw_object (content pool t) ∷ []

@@ -12,11 +12,11 @@ use Rattle.pool_file_checks.specs.Saved.{named_at}
 use Rattle.pool_file.specs.declared.tenant.Tenant.{Tenant}
 use Rattle.pool_file.specs.Loading.{named_in, said, all_held}
 
--- The objects of a file whose contents lie in these slots, in turn.
+-- The objects of a file whose contents lie in these slots, in the order of the slots.
 unfoldable pub objects_at : Cells → List ℕ → List RawObject
 objects_at pool slots = map (λ s. raw_object (content pool s)) slots
 
--- How often a slot is one of these.
+-- How often a slot occurs in a list.
 unfoldable pub times_in : List ℕ → ℕ → ℕ
 times_in slots s = count_by (λ t. t == s) slots
 
@@ -33,22 +33,22 @@ pub record IsBuilt (digest : List ℕ → List ℕ) (pool : Cells) (t : Tenant) 
   pub stands : StandsIn digest pool t.table.entries
   pub committed : t.table.committed ≡ length t.table.entries
 
--- The pool counts a hold for each of these slots, which are distinct, and for what each tenant
--- holds, and no others.
+-- The slots are distinct. The pool counts one hold for each of them and the holds of each tenant,
+-- and no others.
 pub record AreUnder (digest : List ℕ → List ℕ) (slots : List ℕ) (pool : Cells)
     (tenants : List Tenant) : Type 0 where
   pub once : (s : ℕ) → times_in slots s ≤ 1
   pub counts : (s : ℕ) → holds pool s ≡ times_in slots s + all_held tenants s
   pub each : AllByRecursion (IsBuilt digest pool) tenants
 
--- A tenant is built that is what the file says of it.
+-- A tenant was built, and it is what the file says of it.
 pub record Builds (digest : List ℕ → List ℕ) (os : List RawObject) (r : RawTenant) (before : Cells)
     (after : Cells) (t : Tenant) : Type 0 where
   pub built : IsBuilt digest after t
   pub says : named_in after t ≡ named_at digest os r
   pub others : LeavesOthers before [] after t.table.entries
 
--- Tenants are built after others, and are what the file says of them.
+-- More tenants were built, and they are what the file says of them.
 pub record Adds (digest : List ℕ → List ℕ) (slots : List ℕ) (before : Cells) (old : List Tenant)
     (rs : List RawTenant) (after : Cells) (new : List Tenant) : Type 0 where
   pub under : AreUnder digest slots after new

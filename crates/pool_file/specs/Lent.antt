@@ -29,6 +29,6 @@ IsListed cs os = objects_lent cs ≡ listed_by object_key os
 abbrev pub Lists : List LentContent → List Named → Type 0
 Lists cs all = objects_lent cs ≡ map raw_object (listed_contents all)
 
--- Some objects more came among the contents.
+-- The contents of some more objects were added.
 abbrev pub Collects : List LentContent → List LentContent → List RawObject → Type 0
 Collects old new os = (before : List RawObject) → IsListed old before → IsListed new (before ++ os)

@@ -6,7 +6,7 @@ use Rattle.std.specs.Str.{bytes_eq}
 use Rattle.std.specs.Cmp.Lexicographic.{slice_cmp}
 use Rattle.std.specs.FinMap as finite
 
--- A list by its rising keys; of several of one key the first.
+-- A list in rising order of its keys. Of several elements with one key, the first.
 unfoldable pub listed_by : {X : Type 0} → (X → List ℕ) → List X → List X
 listed_by key xs =
     finite.values (finite.from_entries {R = slice_cmp nat_cmp} (map (λ x. (key x, x)) xs))
@@ -15,6 +15,6 @@ listed_by key xs =
 abbrev pub IsInOrder : {X : Type 0} → (X → List ℕ) → List X → Type 0
 IsInOrder key xs = IsTrue (finite.is_sorted (slice_cmp nat_cmp) (map (λ x. (key x, x)) xs))
 
--- The number of a key in a list, from 0; 0 too where no element has it.
+-- The number of the element with this key in a list, from 0; also 0 if no element has it.
 abbrev pub number_by : {X : Type 0} → (X → List ℕ) → List X → List ℕ → ℕ
 number_by key xs k = unwrap_or (position (λ x. bytes_eq k (key x)) xs) 0

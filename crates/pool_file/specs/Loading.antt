@@ -1,4 +1,4 @@
--- What loading a pool file answers.
+-- What a load of a pool file answers.
 use Rattle.std.specs.Prelude.{◌≡◌, ℕ, true, List, [], map, length, sum_by, Option, None, Some, Result, Ok, Err}
 use Rattle.std.specs.List.{AllByRecursion}
 use Rattle.content_pool.specs.Pool.{Cells, holds}
@@ -16,7 +16,7 @@ use Rattle.pool_file_checks.specs.Saving.{IsGood, IsTextOf}
 use Rattle.pool_file_checks.specs.Judging.{IsJudged, IsRefused}
 use Rattle.pool_file.specs.declared.tenant.Tenant.{Tenant}
 
--- What is loaded of a tenant, whose objects stand in a table over a pool.
+-- The repository of a loaded tenant, whose objects stand in a table over a pool.
 abbrev pub named_in : Cells → Tenant → Named
 named_in pool t = record {
   tenant = t.name;
@@ -39,7 +39,8 @@ pub record IsTenant (digest : List ℕ → List ℕ) (pool : Cells) (t : Tenant)
   pub committed : t.table.committed ≡ length t.table.entries
   pub good : IsGood digest (named_in pool t).repository
 
--- Each tenant is one, their names rise, and a slot is held as often as tables hold it.
+-- Each tenant is good, their names rise, and the pool counts the holds of their tables and no
+-- others.
 pub record AreTenants (digest : List ℕ → List ℕ) (pool : Cells) (tenants : List Tenant)
     : Type 0 where
   pub each : AllByRecursion (IsTenant digest pool) tenants
@@ -53,8 +54,8 @@ pub record AreRead (digest : List ℕ → List ℕ) (bytes : List ℕ) (all : Li
   pub judged : IsJudged digest bytes file
   pub says : saved_in digest file ≡ all
 
--- What is answered where the reader has these bytes, and which it has after it. Device and memory
--- may fail in place of any answer.
+-- What is answered if the reader has these bytes, and which bytes it has left. `Device` and
+-- `Memory` may replace any answer.
 abbrev pub LoadsAs : (List ℕ → List ℕ) → Option (List ℕ) → Result (List Named) Fault
     → Option (List ℕ) → Type 0
 LoadsAs digest None r new = Unit {0}
@@ -63,20 +64,20 @@ LoadsAs digest (Some bytes) (Err (fault.Refused r)) new = IsRefused digest bytes
 LoadsAs digest (Some bytes) (Err fault.Device) new = Unit {0}
 LoadsAs digest (Some bytes) (Err fault.Memory) new = Unit {0}
 
--- Where repositories are answered, the bytes are a text of them.
+-- If repositories are answered, the bytes are a text of them.
 abbrev pub LoadsText : (List ℕ → List ℕ) → Option (List ℕ) → Result (List Named) Fault → Type 0
 LoadsText digest None r = Unit {0}
 LoadsText digest (Some bytes) (Ok all) = IsTextOf digest all bytes
 LoadsText digest (Some bytes) (Err e) = Unit {0}
 
--- The answer is these repositories, unless device or memory fails.
+-- The answer is these repositories, or `Device`, or `Memory`.
 abbrev pub IsAnswer : List Named → Result (List Named) Fault → Type 0
 IsAnswer all (Ok found) = found ≡ all
 IsAnswer all (Err (fault.Refused r)) = ⊥
 IsAnswer all (Err fault.Device) = Unit {0}
 IsAnswer all (Err fault.Memory) = Unit {0}
 
--- Each text of repositories is answered by them.
+-- Every text of repositories is answered with them.
 abbrev pub LoadsEach : (List ℕ → List ℕ) → Option (List ℕ) → Result (List Named) Fault → Type 0
 LoadsEach digest None r = Unit {0}
 LoadsEach digest (Some bytes) r =

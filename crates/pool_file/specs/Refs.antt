@@ -5,14 +5,14 @@ use Rattle.git_model.specs.GoodRepository.{IsShortRefName}
 use Rattle.git_model.specs.RefStore.{RefStore, with_ref}
 use Rattle.pool_file_format.specs.Format.{RawRef}
 
--- A ref has a good name after the namespaces, and the place of one of so many objects.
+-- A ref has a good name after the namespaces, and its place is below the count of objects.
 pub record IsRefIn (front : List ℕ) (count : ℕ) (r : RawRef) : Type 0 where
   pub ref : List ℕ
   pub full : r.name ≡ front ++ ref
   pub name : IsShortRefName ref
   pub within : r.place < count
 
--- Its name without them, and the object name at that place.
+-- The name of a ref without the namespaces, and the name of the object at its place.
 abbrev pub entry_in : List ℕ → List (List ℕ) → RawRef → List ℕ × List ℕ
 entry_in front ids r = (drop (length front) r.name, unwrap_or (slice_get ids r.place) [])
 

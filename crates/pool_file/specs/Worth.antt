@@ -1,4 +1,4 @@
--- Which repositories are saved of tenants, whether they are given or lent.
+-- What is saved of tenants, whether they are owned or lent.
 use Rattle.std.specs.Prelude.{ℕ, Bool, ◌||◌, not, List, nat_lt, length, map, filter, take}
 use Rattle.std.specs.List.{AllByRecursion}
 use Rattle.std.specs.Str.{bytes_eq}
@@ -52,13 +52,13 @@ abbrev pub AllStand : (List ℕ → List ℕ) → Cells → List TenantView → 
 AllStand digest pool tenants =
     AllByRecursion (λ saved. StandsIn digest pool saved.table.now.entries) tenants
 
--- There is something to save: an object, or another HEAD than the first.
+-- There is something to save: an object, or a HEAD other than `refs/heads/main`.
 abbrev pub is_worth_saving : Named → Bool
 is_worth_saving n = nat_lt 0 (length n.repository.objects)
     || not (bytes_eq n.repository.refs.head first_head)
 
--- Those of some repositories that are worth saving, by the rising names of their tenants; of
--- several under one name the first.
+-- The repositories that are worth saving, in rising order of the names of their tenants. Of several
+-- under one name, the first.
 abbrev pub worth_saving : List Named → List Named
 worth_saving all = listed_by (λ n. n.tenant) (filter is_worth_saving all)
 

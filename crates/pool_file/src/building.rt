@@ -1,4 +1,4 @@
-//! What a good file says, built: its contents in one pool, and the tenants over it.
+//! Building what a good file says: its contents in one pool, and the tenants over it.
 
 ghost use Rattle.std.specs.Prelude.{◌≡◌, [], ◌∷◌, true, All, IfOk, OnOk};
 ghost use Rattle.content_pool.specs.Pool.{IsLive, IsVacant};
@@ -28,10 +28,7 @@ fn read_tenant_name(text: &[u8]) -> TenantName
     ensures name { result ≡ text.now }
     ensures well_formed { is_tenant_name result ≡ true }
 {
-    match TenantName::read(text) {
-        Ok(name) => name,
-        Err(_) => unreachable!(),
-    }
+    TenantName::read(text).unwrap()
 }
 
 // Builds a tenant of a file whose contents lie in these slots.
@@ -56,7 +53,7 @@ fn build_tenant<N: Naming>(
     Ok(Tenant { name, table, refs })
 }
 
-// Each tenant holds a slot once at most, and there are fewer than 2^63 tenants: a fact for proofs.
+// A fact for proofs: a tenant holds a slot at most once, and there are fewer than 2^63 tenants.
 fn has_room<N: Naming>(pool: &Pool<N>, slots: &[Slot], tenants: &Vec<Tenant>)
     requires { AreUnder N.digest_of slots.now pool.now tenants.now.items }
     ensures { HasRoomBeside pool.now [] }
@@ -106,7 +103,7 @@ fn add_tenants<N: Naming>(
     Ok(())
 }
 
-// Puts the contents into the pool, builds the tenants over them, and gives up the file's own holds.
+// Puts the contents into the pool, builds the tenants over them, and releases the file's own holds.
 fn fill<N: Naming>(
     alloc: Global,
     pool: &mut Pool<N>,
@@ -133,11 +130,11 @@ fn fill<N: Naming>(
     Ok(())
 }
 
-/// Builds what a file says that passed its checks: the pool that holds each content once, and the
-/// tenants over it in the order of the file. Each content is moved into the pool, under the name
-/// that was made when the file was judged.
+/// Builds what a judged file says: the pool that has each content once, and the tenants over it in
+/// the order of the file. Each content is moved into the pool, under the name that was made when
+/// the file was judged.
 ///
-/// `Memory` (90) where there is no room for them.
+/// `Memory` (90) if there is no memory for them.
 pub fn build<N: Naming>(
     alloc: Global,
     naming: N,

@@ -1,4 +1,4 @@
-//! Contents that the pool lends, with the order in which the file has them.
+//! Contents that the pool lends, in the order that they have in a file.
 
 ghost use Rattle.std.specs.Prelude.{◌≡◌, IfOk};
 ghost use Rattle.pool_file_checks.specs.Objects.{kind_byte};
@@ -29,7 +29,7 @@ fn kind_byte(kind: Kind) -> u8
 
 /// The contents of all objects in sight, oldest first.
 ///
-/// `Memory` (90) where there is no room for them.
+/// `Memory` (90) if there is no memory for them.
 pub fn lent_contents<'a, N: Naming>(
     alloc: Global,
     objects: &Objects<'a, N>,

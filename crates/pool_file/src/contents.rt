@@ -15,7 +15,7 @@ use pool_file_checks::kind_of;
 use pool_file_format::RawObject;
 use std::alloc::Global;
 
-// Moves the content of an object of this name into the pool, which holds it once more.
+// Moves the content of the object with this name into the pool, which then holds it once more.
 fn store_content<N: Naming>(pool: &mut Pool<N>, id: Name, object: RawObject) -> Result<Slot, Memory>
     requires named { id ≡ name_by N.digest_of (content_of (object_of object)) }
     requires room { HasRoom pool.old }
@@ -28,8 +28,8 @@ fn store_content<N: Naming>(pool: &mut Pool<N>, id: Name, object: RawObject) -> 
 /// Moves the contents of a file's objects into a pool that holds nothing, and answers their slots
 /// in the order of the objects. The pool then holds each of them once, and nothing else.
 ///
-/// The objects are those of a file that passed its checks, and have these names. `Memory` (90)
-/// where there is no room for them; the pool may then hold some.
+/// The objects are those of a file that passed its checks, and have these names. `Memory` (90) if
+/// there is no memory for them; the pool may then hold some.
 pub fn store_contents<N: Naming>(
     alloc: Global,
     pool: &mut Pool<N>,
@@ -52,8 +52,7 @@ pub fn store_contents<N: Naming>(
     Ok(slots)
 }
 
-/// Releases one hold of each of these slots. What a table holds besides stays as it was. Takes no
-/// memory.
+/// Releases one hold of each of these slots. All other holds stay as they were. Takes no memory.
 pub fn release_contents<N: Naming>(pool: &mut Pool<N>, slots: &[Slot])
     requires { (s : ℕ) → times_in slots.now s ≤ holds pool.old s }
     ensures counts { (s : ℕ) → holds pool.new s + times_in slots.now s ≡ holds pool.old s }

@@ -1,8 +1,8 @@
 //! The pool file: all repositories of a service in one file, loaded and saved.
 //!
 //! A load makes one pool of all contents, and a table and refs for each tenant. A save copies no
-//! content: it first plans what is written, as the contents in the order of the file and each
-//! tenant's numbers in it, and then writes it.
+//! content. It first plans the file, that is the order of the contents and the numbers of each
+//! tenant, and then writes it.
 #![tactic(auto)]
 
 mod building;

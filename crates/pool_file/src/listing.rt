@@ -13,7 +13,7 @@ use git_names::{Memory, Naming};
 use std::alloc::Global;
 use std::collections::BTreeSet;
 
-// Contents go in where they are not yet there.
+// Adds those contents that are not in the set yet.
 fn add_contents<'a>(
     listed: &mut BTreeSet<LentContent<'a>>,
     contents: &[LentContent<'a>],
@@ -29,7 +29,7 @@ fn add_contents<'a>(
 
 /// The contents of the committed objects of all tenants, each once, in the order of the file.
 ///
-/// `Memory` (90) where there is no room for them.
+/// `Memory` (90) if there is no memory for them.
 pub fn listed_contents<'a, N: Naming>(
     alloc: Global,
     pool: &'a Pool<N>,
@@ -47,8 +47,8 @@ pub fn listed_contents<'a, N: Naming>(
     in_order(alloc, listed)
 }
 
-/// The number of a content among those in order, from 0; 0 too for one that is not there. Takes no
-/// memory.
+/// The number of a content in a list in order, from 0; also 0 for a content that is not in it.
+/// Takes no memory.
 pub fn number_of<'a>(all: &[LentContent<'a>], content: &LentContent<'a>) -> u64
     requires { IsInOrder lent_key all.now }
     ensures { result ≡ number_by lent_key all.now (lent_key content.now) }
@@ -59,9 +59,9 @@ pub fn number_of<'a>(all: &[LentContent<'a>], content: &LentContent<'a>) -> u64
     }
 }
 
-/// The numbers of contents among those in order.
+/// The number of each of these contents in a list in order.
 ///
-/// `Memory` (90) where there is no room for them.
+/// `Memory` (90) if there is no memory for them.
 pub fn numbers_of<'a>(
     alloc: Global,
     all: &[LentContent<'a>],

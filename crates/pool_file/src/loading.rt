@@ -1,7 +1,8 @@
-//! All repositories of a pool file, loaded.
+//! Loading all repositories of a pool file.
 
-ghost use Rattle.std.specs.Prelude.{◌^◌, IfOk};
+ghost use Rattle.std.specs.Prelude.{IfOk};
 ghost use Rattle.byte_devices.specs.Device.{device_of, calls_of, counted_on, seen};
+ghost use Rattle.git_model.specs.Limits.{reads_limit};
 ghost use Rattle.pool_file_format.specs.Taking.{shown};
 ghost use Rattle.pool_file_checks.specs.Judging.{IsBlamed};
 ghost use Rattle.pool_file.specs.Loading.{said, AreTenants, LoadsAs, LoadsText, LoadsEach};
@@ -15,36 +16,39 @@ use pool_file_format::{Fault, Starting};
 use std::alloc::Global;
 use std::io::Read;
 
-/// Reads a pool file up to the end of the input, in either version, and makes its repositories: the
+/// Reads a pool file of either version up to the end of the input, and makes its repositories: a
 /// pool that has each content once, and the tenants in the order of their names. The naming makes
-/// the digest and the names of objects.
+/// the digest of the file and the names of objects; it must be the one that saved the file.
 ///
-/// `Refused` with the first thing that is wrong: `NoPoolFile` (60), `UnknownVersion` (61), `CutOff`
-/// (62) and `TrailingBytes` (69) from left to right, then `WrongDigest` (63), then what the file
-/// says may be `NotCanonical` (64), `BadObject` (65), `MissingReference` (66) or `BadRef` (67).
-/// `Device` (68) where a call of `read` answered an error, or 2^32 calls were made. `Memory` (90)
-/// where there is no room for what is read, marked or made. What was read is gone from the reader;
-/// after an answer of repositories nothing is left in it.
+/// - `Refused` with the first fault. First come the faults of the bytes, from left to right:
+///   `NoPoolFile` (60), `UnknownVersion` (61), `CutOff` (62) and `TrailingBytes` (69). Then comes
+///   `WrongDigest` (63). Then come the faults of what the file says: `NotCanonical` (64),
+///   `BadObject` (65), `MissingReference` (66) and `BadRef` (67), in the order of
+///   `pool_file_checks::check_file`.
+/// - `Device` (68) if a call of `read` answered an error, or if 2^32 calls were made.
+/// - `Memory` (90) if there is no memory for what is read, marked or made.
+///
+/// What was read is gone from the reader; after repositories, nothing is left in it.
 pub fn load<N: Starting, R: Read>(
     alloc: Global,
     naming: N,
     reader: &mut Counted<R>,
 ) -> Result<(Pool<N>, Vec<Tenant>), Fault>
-    // The repositories, or the first refusal, where the reader tells its bytes.
+    // The repositories, or the first refusal, if the reader's bytes are known.
     ensures exact { LoadsAs N.digest_of (R.remaining (device_of reader.old))
         (shown (λ r. said r.0 r.1.items) result) (R.remaining (device_of reader.new)) }
     // What is answered is what the bytes say.
     ensures found { LoadsText N.digest_of (R.remaining (device_of reader.old))
         (shown (λ r. said r.0 r.1.items) result) }
-    // Each text is answered.
+    // Every text of repositories is answered.
     ensures only { LoadsEach N.digest_of (R.remaining (device_of reader.old))
         (shown (λ r. said r.0 r.1.items) result) }
     // Which calls are made, and when the device is blamed.
-    ensures cause { IsBlamed (counted_on (calls_of reader.old) (2 ^ 32))
+    ensures cause { IsBlamed (counted_on (calls_of reader.old) reads_limit)
         (seen (R.remaining (device_of reader.old)) reader.old)
         (shown (λ r. said r.0 r.1.items) result)
         (seen (R.remaining (device_of reader.new)) reader.new) }
-    // The tenants are good ones over this pool, whatever the reader tells.
+    // The tenants are good ones over this pool, even if the reader's bytes are not known.
     ensures tenants { IfOk result (λ r. AreTenants N.digest_of r.0 r.1.items) }
 {
     let judged = read_judged(alloc, &naming, reader)?;

@@ -15,7 +15,7 @@ use git_names::{Memory, Naming};
 use pool_file_format::{LentObject, RawTenant};
 use std::alloc::Global;
 
-/// The objects in the order of the file, and the tenants with their numbers in it.
+/// The objects in the order of the file, and the tenants with the numbers of their objects.
 #[derive(Drop)]
 pub struct Plan<'a> {
     pub objects: Vec<LentObject<'a>>,
@@ -42,7 +42,7 @@ fn lent_objects<'a>(
 
 /// The file of the tenants that are worth saving.
 ///
-/// `Memory` (90) where there is no room for it.
+/// `Memory` (90) if there is no memory for it.
 pub fn planned<'a, N: Naming>(
     alloc: Global,
     pool: &'a Pool<N>,

@@ -14,7 +14,7 @@ use std::alloc::Global;
 use tenant_refs::namespaces;
 use tenant_tables::Objects;
 
-// The place of a name among objects; their number, where it is not there.
+// The place of the object with this name; the number of all objects if there is none.
 fn place_of<N: Naming>(objects: &Objects<'_, N>, id: &Name) -> usize
     ensures { result ≡ place_of id.now objects.now }
 {
@@ -34,7 +34,7 @@ fn joined(alloc: Global, front: &[u8], rest: &[u8]) -> Result<Vec<u8>, Memory>
     Ok(whole)
 }
 
-// A ref of a tenant whose refs have this front, as the file has it.
+// A ref as the file has it. `front` are the namespaces of its tenant.
 fn raw_ref<N: Naming>(
     alloc: Global,
     front: &[u8],
@@ -50,9 +50,9 @@ fn raw_ref<N: Naming>(
     Ok(RawRef { name, place })
 }
 
-/// All refs of a tenant that has these objects, as the file has them.
+/// All refs of a tenant with these objects, as the file has them.
 ///
-/// `Memory` (90) where there is no room for them.
+/// `Memory` (90) if there is no memory for them.
 pub fn raw_refs<N: Naming>(
     alloc: Global,
     tenant: &TenantView<'_>,

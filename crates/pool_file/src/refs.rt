@@ -25,14 +25,12 @@ fn read_ref_name(alloc: Global, text: &[u8]) -> Result<RefName, Memory>
     ensures { IfOk result (λ ref_name. ref_name ≡ text.now) }
 {
     match RefName::read(alloc, text) {
-        Ok(ref_name) => Ok(ref_name),
-        Err(RefNameFault::BadRefName) => unreachable!(),
-        Err(RefNameFault::Limit) => unreachable!(),
         Err(RefNameFault::Memory) => Err(Memory),
+        answer => Ok(answer.unwrap()),
     }
 }
 
-// Sets a ref whose name stands after a prefix to the object at its place.
+// Sets a ref, without the prefix `front` of its name, to the object at its place.
 fn set_ref(
     alloc: Global,
     table: &Table,
@@ -46,10 +44,8 @@ fn set_ref(
 {
     let full = one.name.as_slice();
     let ref_name = read_ref_name(alloc, &full[front.len()..])?;
-    match table.at(one.place as usize) {
-        Some((target, _)) => refs.set(&ref_name, target),
-        None => unreachable!(),
-    }
+    let (target, _) = table.at(one.place as usize).unwrap();
+    refs.set(&ref_name, target)
 }
 
 fn set_refs(
@@ -89,10 +85,10 @@ fn fill_refs(
     Ok(())
 }
 
-/// The refs of a tenant whose objects stand in this table, in the order in which the file has them.
+/// The refs of a tenant of a file. The table has the tenant's objects, in the order of the file.
 /// Names lose the namespaces of the tenant, and places become the names of the objects there.
 ///
-/// The refs are those of a file that passed its checks. `Memory` (90) where there is no room for
+/// The refs are those of a file that passed its checks. `Memory` (90) if there is no memory for
 /// them.
 pub fn load_refs(alloc: Global, table: &Table, tenant: &RawTenant) -> Result<Refs, Memory>
     requires checked { (os : List RawObject) × Passes (ref_checks os (tenant_of tenant.now)) }

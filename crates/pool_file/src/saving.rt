@@ -1,4 +1,4 @@
-//! Repositories, written.
+//! Saving repositories to a pool file.
 
 ghost use Rattle.std.specs.Prelude.{◌≡◌, IfOk, map};
 ghost use Rattle.byte_devices.specs.Device.{device_of, seen};
@@ -15,16 +15,19 @@ use pool_file_format::{Fault, Starting, write_lent};
 use std::alloc::{AllocError, Global};
 use std::io::Write;
 
-/// Writes the pool file of all tenants that are worth saving: that have a committed object, or
-/// another HEAD than the first. It has their committed objects, each content once, and their refs,
-/// in version 2, and is the same whatever the order of the tenants, whose names are distinct.
+/// Writes the pool file of those tenants that have a committed object, or a HEAD other than
+/// `refs/heads/main`. The file has version 2, and contains their committed objects, each content
+/// once, and their refs. If the names of the tenants are distinct, it is the same for every order
+/// of the tenants; of several tenants with one name the first is saved. `pool` is the pool that the
+/// tables stand in.
 ///
-/// `Fault::Device` (68) where a call of `write` answered an error or took nothing; a prefix of the
-/// file then stands written. `Fault::Memory` (90) where there is no room for the order of the
-/// contents and for the tenants' numbers, names and refs. Nothing is refused, whatever the
-/// repositories are; what of them can be read again is said in crate pool_file_checks.
+/// - `Fault::Device` (68) if a call of `write` answered an error or took nothing. A prefix of the
+///   file has then been written.
+/// - `Fault::Memory` (90) if there is no memory for the order of the contents, or for the tenants'
+///   numbers, names and refs.
 ///
-/// The pool is the one that the tables stand in.
+/// Nothing is refused, whatever the repositories are. `CanSave` of pool_file_checks says which of
+/// them can be read again. The pool and the tenants are as they were.
 pub fn save_views<'a, N: Starting, W: Write>(
     alloc: Global,
     pool: &'a Pool<N>,
@@ -52,12 +55,14 @@ fn views_of<'a>(alloc: Global, tenants: &'a [Tenant]) -> Result<Vec<TenantView<'
     Ok(views)
 }
 
-/// Writes the pool file of these tenants, as `load` answers them: of those that have a committed
-/// object, or another HEAD than the first. `save_views` says what is written; this call takes
-/// memory for the list of the views too.
+/// Writes the pool file of these tenants, as `load` answers them. It has those with a committed
+/// object, or a HEAD other than `refs/heads/main`. The file is the one that `save_views` writes;
+/// this call also takes memory for a list of the views.
 ///
-/// `Fault::Device` (68) where a call of `write` answered an error or took nothing; a prefix of the
-/// file then stands written. `Fault::Memory` (90) where an allocation fails, after a prefix of it.
+/// - `Fault::Device` (68) if a call of `write` answered an error or took nothing. A prefix of the
+///   file has then been written.
+/// - `Fault::Memory` (90) if an allocation fails. A prefix of the file may have been written.
+///
 /// Nothing is refused. The pool and the tenants are as they were.
 pub fn save<N: Starting, W: Write>(
     alloc: Global,

@@ -10,7 +10,7 @@ ghost use Rattle.tenant_tables.specs.StandsIn.{StandsIn, LeavesOthers};
 ghost use Rattle.pool_file_checks.specs.Checks.{Passes};
 ghost use Rattle.pool_file_checks.specs.Objects.{object_checks};
 ghost use Rattle.pool_file_checks.specs.Own.{own_objects, names_of, rows_of, AreDistinct};
-ghost use Rattle.pool_file_checks.specs.Sums.{Fits, SameSums, TreesFit, sums_behind};
+ghost use Rattle.pool_file_checks.specs.Sums.{Fits, SameSums, TreesFit, sums_with};
 ghost use Rattle.pool_file.specs.Building.{objects_at};
 ghost use Rattle.pool_file.specs.Tables.{CanLoad, Loads};
 
@@ -33,17 +33,18 @@ fn note_sum(
 ) -> Result<(), Memory>
     requires { Fits kind bytes.now sums.old.entries }
     ensures { OnOk result
-        (SameSums sums.new.entries (sums_behind kind id bytes.now sums.old.entries)) }
+        (SameSums sums.new.entries (sums_with kind id bytes.now sums.old.entries)) }
 {
     match add_sum(alloc, sums, id, kind, bytes) {
-        Ok(()) => Ok(()),
-        Err(Fault::Refused(_)) => unreachable!(),
-        Err(Fault::Device) => unreachable!(),
         Err(Fault::Memory) => Err(Memory),
+        answer => {
+            answer.unwrap();
+            Ok(())
+        }
     }
 }
 
-// Adds the object of this name whose content lies in this slot.
+// Adds the object with this name, whose content lies in this slot.
 fn load_object<N: Naming>(
     alloc: Global,
     pool: &mut Pool<N>,
@@ -62,12 +63,12 @@ fn load_object<N: Naming>(
     table.add_held(pool, id, slot, sums.get(&id).copied())
 }
 
-/// A table of the objects of these numbers, in their order and all committed, from the slots of a
-/// file's contents, whose objects have these names. Each slot is held once more for each of its
-/// numbers, and no other.
+/// A table of the objects with these numbers, in their order and all committed. `slots` are those
+/// of the file's contents, and `names` are the names of its objects. The pool then holds the slot
+/// of each number once more, and no other slot.
 ///
-/// The numbers are those of a tenant of a file that passed its checks. `Memory` (90) where there is
-/// no room for the table; the pool may then hold some contents once more.
+/// The numbers are those of a tenant of a file that passed its checks. `Memory` (90) if there is no
+/// memory for the table; the pool may then hold some contents once more.
 pub fn load_table<N: Naming>(
     alloc: Global,
     pool: &mut Pool<N>,

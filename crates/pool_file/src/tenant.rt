@@ -1,4 +1,4 @@
-//! A tenant as it is loaded, and as it can be saved.
+//! A tenant as `load` answers it and as `save` takes it.
 
 ghost use Rattle.std.specs.Prelude.{◌≡◌};
 ghost use Rattle.pool_file.specs.Worth.{tenant_seen};
@@ -7,7 +7,8 @@ use crate::tenant_view::TenantView;
 use tenant_refs::{Refs, TenantName};
 use tenant_tables::Table;
 
-/// A tenant of a pool file: its name, its objects, all of them committed, and its refs.
+/// A tenant of a pool file: its name, the table of its objects, and its refs. After a load, all of
+/// its objects are committed.
 #[derive(Drop)]
 pub struct Tenant {
     pub name: TenantName,

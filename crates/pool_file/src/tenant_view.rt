@@ -10,7 +10,7 @@ use git_names::Naming;
 use tenant_refs::{FIRST_HEAD, Refs, TenantName};
 use tenant_tables::{Objects, Sight, Table};
 
-/// A tenant's name, and its table and refs. Of the table the committed prefix is saved.
+/// A tenant's name, table and refs, lent. Only the committed prefix of the table is saved.
 #[derive(Clone, Copy)]
 pub struct TenantView<'a> {
     pub name: &'a TenantName,

@@ -1,4 +1,4 @@
-//! Which tenants are saved, and each of them as the file has it.
+//! Which tenants are saved, and what the file has of each.
 
 ghost use Rattle.std.specs.Prelude.{◌≡◌, ℕ, List, IfOk, map};
 ghost use Rattle.content_pool.specs.Pool.{Cells};
@@ -29,7 +29,7 @@ struct ByName<'a> {
     tenant: TenantView<'a>,
 }
 
-// The tenants of a set, by their rising names.
+// The tenants of a set, in rising order of their names.
 fn all_tenants<'a>(
     alloc: Global,
     by_name: BTreeSet<ByName<'a>>,
@@ -39,9 +39,10 @@ fn all_tenants<'a>(
     Ok(by_name.into_iter().map(|one| one.tenant).collect(alloc)?)
 }
 
-/// Those tenants that are worth saving, by their rising names; of several of one name the first.
+/// The tenants that are worth saving, in rising order of their names. Of several with one name, the
+/// first.
 ///
-/// `Memory` (90) where there is no room for them.
+/// `Memory` (90) if there is no memory for them.
 pub fn tenants_to_save<'a>(
     alloc: Global,
     tenants: &[TenantView<'a>],
@@ -63,7 +64,7 @@ pub fn tenants_to_save<'a>(
     all_tenants(alloc, by_name)
 }
 
-// A tenant that has these objects as the file has it, whose contents are these.
+// A tenant with these objects, as a file with these contents has it.
 fn raw_tenant<'a, N: Naming>(
     alloc: Global,
     contents: &[LentContent<'a>],
@@ -83,9 +84,9 @@ fn raw_tenant<'a, N: Naming>(
     })
 }
 
-/// All tenants as the file has them, whose contents are these.
+/// All tenants, as a file with these contents has them.
 ///
-/// `Memory` (90) where there is no room for them.
+/// `Memory` (90) if there is no memory for them.
 pub fn raw_tenants<'a, N: Naming>(
     alloc: Global,
     pool: &'a Pool<N>,

@@ -19,7 +19,7 @@ use Rattle.git_model.proofs.Places.{first_named, later_named}
 use Rattle.git_model.proofs.TreeReadings.{entries_back, tree_back}
 use Rattle.tenant_tables.specs.declared.summary.Summary.{Summary}
 use Rattle.pool_file_checks.specs.Objects.{IsTreeText}
-use Rattle.pool_file_checks.specs.Sums.{Sums, sum_of_tree, HasFiles, FitsBehind, Fits, sums_behind, TreesFit}
+use Rattle.pool_file_checks.specs.Sums.{Sums, sum_of_tree, HasFiles, FitsAfter, Fits, sums_with, TreesFit}
 use Rattle.pool_file_checks.proofs.Members.{Has, has_map}
 use Rattle.pool_file_checks.proofs.OwnObjects.{ids, apart}
 
@@ -63,7 +63,7 @@ directory_has whole sums e have h is = by (lookup (bytes_eq e.id) sums) refl (h 
     by (Some s) n some = have e.id s n some
 
 tree_is : (whole : List Object) (sums : Sums) (bytes : List ℕ) (es : List TreeEntry)
-    → HaveBytes whole sums → IsTreeText bytes es → FitsBehind sums es → IsTree whole bytes es
+    → HaveBytes whole sums → IsTreeText bytes es → FitsAfter sums es → IsTree whole bytes es
 tree_is whole sums bytes es have text fits = record {
   writable = text.writable;
   contents = text.contents;
@@ -95,7 +95,7 @@ more_sums whole sums id bytes es have text is other s found files none =
 
 -- What is known of an object that fits, and after it.
 record IsFitting (whole : List Object) (k : Kind) (id bytes : List ℕ) (sums : Sums) : Type 0 where
-  have : HaveBytes whole (sums_behind k id bytes sums)
+  have : HaveBytes whole (sums_with k id bytes sums)
   tree : k ≡ kind.Tree → (es : List TreeEntry) × IsTree whole bytes es
 
 fitting : (whole : List Object) (k : Kind) (id bytes : List ℕ) (sums : Sums)
@@ -122,7 +122,7 @@ in_turn whole (x ∷ xs) sums have named t o h is =
       | inl e ↦ subst (λ (y : Object). (es : List TreeEntry) × IsTree whole y.content.bytes es) e
           (f.tree (ap (λ (y : Object). y.content.kind) e ∙ is))
       | inr later ↦
-          in_turn whole xs (sums_behind x.content.kind x.id x.content.bytes sums) f.have
+          in_turn whole xs (sums_with x.content.kind x.id x.content.bytes sums) f.have
           (λ y k. named y (inr k)) t.1 o later is
     ]
 

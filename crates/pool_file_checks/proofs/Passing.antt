@@ -5,7 +5,7 @@ use Rattle.git_model.specs.GoodRepository.{objects_limit, refs_limit, IsShortRef
 use Rattle.tenant_refs.specs.FullName.{namespaces}
 use Rattle.pool_file_format.specs.Format.{RawObject, RawTenant, RawFile}
 use Rattle.pool_file_checks.specs.Checks.{Checks, Passes}
-use Rattle.pool_file_checks.specs.Objects.{object_key, object_checks, CanStore, IsBehind}
+use Rattle.pool_file_checks.specs.Objects.{object_key, object_checks, CanStore, IsAfter}
 use Rattle.pool_file_checks.specs.Own.{names_of, rows_of, own_objects, AreDistinct}
 use Rattle.pool_file_checks.specs.Connecting.{AreConnected}
 use Rattle.pool_file_checks.specs.Sums.{TreesFit}
@@ -84,12 +84,12 @@ holds digest version os last t p =
     }
 
 pub passes_one : (digest : List ℕ → List ℕ) (version : ℕ) (os : List RawObject)
-    (last : Option (List ℕ)) (t : RawTenant) → IsBehind last t.name
+    (last : Option (List ℕ)) (t : RawTenant) → IsAfter last t.name
     → Holds digest version os t → Passes (one_tenant_checks digest version os last t)
-passes_one digest version os last t behind h = (
+passes_one digest version os last t after h = (
   h.name,
   (
-    behind,
+    after,
     (
       h.worth,
       (

@@ -7,7 +7,7 @@ use Rattle.std.specs.declared.cmp.Ordering.TheVariants.{Less, Equal, Greater}
 use Rattle.std.specs.FinMap.{is_sorted}
 use Rattle.std.specs.FinMap.Entries.{below_all}
 use Rattle.std.proofs.lemmas.Cmp.{nat_list_cmp_total, nat_cmp_total, tied_itself}
-use Rattle.pool_file_checks.specs.Objects.{IsBehind}
+use Rattle.pool_file_checks.specs.Objects.{IsAfter}
 use Rattle.pool_file_checks.specs.FileRefs.{AreRising}
 use Rattle.pool_file_checks.proofs.Keys.{key_cmp}
 
@@ -32,7 +32,7 @@ second true b p = p
 second false b p = absurd p
 
 pub rising_first : (last : Option (List ℕ)) (x : List ℕ) (xs : List (List ℕ))
-    → AreRising last (x ∷ xs) → IsBehind last x
+    → AreRising last (x ∷ xs) → IsAfter last x
 unfolding AreRising
 rising_first last x xs r = r.0
 
@@ -45,7 +45,7 @@ pub rising_none : (last : Option (List ℕ)) → AreRising last []
 unfolding AreRising
 rising_none last = tt
 
-pub rising_more : (last : Option (List ℕ)) (x : List ℕ) (xs : List (List ℕ)) → IsBehind last x
+pub rising_more : (last : Option (List ℕ)) (x : List ℕ) (xs : List (List ℕ)) → IsAfter last x
     → AreRising (Some x) xs → AreRising last (x ∷ xs)
 unfolding AreRising
 rising_more last x xs b r = (b, r)
@@ -80,13 +80,13 @@ module _ {X : Type 0} where
       both (below_all key_cmp e.0 es) (is_sorted key_cmp es) (above e.0 es rest)
       (sorted_rising (Some e.0) es rest)
 
-  rising_behind : (x : List ℕ) (es : List (List ℕ × X)) → T (below_all key_cmp x es)
+  rising_after : (x : List ℕ) (es : List (List ℕ × X)) → T (below_all key_cmp x es)
       → T (is_sorted key_cmp es) → AreRising (Some x) (keys es)
-  rising_behind x [] b s = rising_none (Some x)
-  rising_behind x (e ∷ es) b s =
+  rising_after x [] b s = rising_none (Some x)
+  rising_after x (e ∷ es) b s =
       rising_more (Some x) e.0 (keys es)
       (less (key_cmp x e.0) (first (is_lt (key_cmp x e.0)) (below_all key_cmp x es) b))
-      (rising_behind e.0 es (first (below_all key_cmp e.0 es) (is_sorted key_cmp es) s)
+      (rising_after e.0 es (first (below_all key_cmp e.0 es) (is_sorted key_cmp es) s)
       (second (below_all key_cmp e.0 es) (is_sorted key_cmp es) s))
 
   pub rising_sorted : (es : List (List ℕ × X)) → T (is_sorted key_cmp es)
@@ -94,7 +94,7 @@ module _ {X : Type 0} where
   rising_sorted [] s = rising_none None
   rising_sorted (e ∷ es) s =
       rising_more None e.0 (keys es) tt
-      (rising_behind e.0 es (first (below_all key_cmp e.0 es) (is_sorted key_cmp es) s)
+      (rising_after e.0 es (first (below_all key_cmp e.0 es) (is_sorted key_cmp es) s)
       (second (below_all key_cmp e.0 es) (is_sorted key_cmp es) s))
 
   below_at : (x : List ℕ) (es : List (List ℕ × X)) (n : ℕ) (d : List ℕ × X)
@@ -126,33 +126,33 @@ cmp_front : (front a b : List ℕ) → key_cmp (front ++ a) (front ++ b) ≡ key
 cmp_front [] a b = refl
 cmp_front (x ∷ front) a b = rw (tied_itself nat_cmp_total x) (cmp_front front a b)
 
-abbrev pub behind_front : List ℕ → Option (List ℕ) → Option (List ℕ)
-behind_front front last = option_map (λ a. front ++ a) last
+abbrev pub after_front : List ℕ → Option (List ℕ) → Option (List ℕ)
+after_front front last = option_map (λ a. front ++ a) last
 
-is_behind_front : (front : List ℕ) (last : Option (List ℕ)) (a : List ℕ) → IsBehind last a
-    → IsBehind (behind_front front last) (front ++ a)
-is_behind_front front None a b = tt
-is_behind_front front (Some x) a b = cmp_front front x a ∙ b
+is_after_front : (front : List ℕ) (last : Option (List ℕ)) (a : List ℕ) → IsAfter last a
+    → IsAfter (after_front front last) (front ++ a)
+is_after_front front None a b = tt
+is_after_front front (Some x) a b = cmp_front front x a ∙ b
 
-is_behind : (front : List ℕ) (last : Option (List ℕ)) (a : List ℕ)
-    → IsBehind (behind_front front last) (front ++ a) → IsBehind last a
-is_behind front None a b = tt
-is_behind front (Some x) a b = sym (cmp_front front x a) ∙ b
+is_after : (front : List ℕ) (last : Option (List ℕ)) (a : List ℕ)
+    → IsAfter (after_front front last) (front ++ a) → IsAfter last a
+is_after front None a b = tt
+is_after front (Some x) a b = sym (cmp_front front x a) ∙ b
 
 pub rising_with_front : (front : List ℕ) (last : Option (List ℕ)) (xs : List (List ℕ))
-    → AreRising last xs → AreRising (behind_front front last) (map (λ a. front ++ a) xs)
-rising_with_front front last [] r = rising_none (behind_front front last)
+    → AreRising last xs → AreRising (after_front front last) (map (λ a. front ++ a) xs)
+rising_with_front front last [] r = rising_none (after_front front last)
 rising_with_front front last (x ∷ xs) r =
-    rising_more (behind_front front last) (front ++ x) (map (λ a. front ++ a) xs)
-    (is_behind_front front last x (rising_first last x xs r))
+    rising_more (after_front front last) (front ++ x) (map (λ a. front ++ a) xs)
+    (is_after_front front last x (rising_first last x xs r))
     (rising_with_front front (Some x) xs (rising_rest last x xs r))
 
 pub rising_without_front : (front : List ℕ) (last : Option (List ℕ)) (xs : List (List ℕ))
-    → AreRising (behind_front front last) (map (λ a. front ++ a) xs) → AreRising last xs
+    → AreRising (after_front front last) (map (λ a. front ++ a) xs) → AreRising last xs
 rising_without_front front last [] r = rising_none last
 rising_without_front front last (x ∷ xs) r =
     let all = map (λ a. front ++ a) xs in
     rising_more last x xs
-    (is_behind front last x (rising_first (behind_front front last) (front ++ x) all r))
+    (is_after front last x (rising_first (after_front front last) (front ++ x) all r))
     (rising_without_front front (Some x) xs
-    (rising_rest (behind_front front last) (front ++ x) all r))
+    (rising_rest (after_front front last) (front ++ x) all r))

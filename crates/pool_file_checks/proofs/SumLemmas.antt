@@ -18,7 +18,7 @@ use Rattle.git_model.specs.Content.{Content, content_from}
 use Rattle.tenant_tables.specs.declared.summary.Summary.{Summary}
 use Rattle.tenant_tables.specs.declared.entry.Entry.{Entry}
 use Rattle.tenant_tables.specs.View.{Entries, entry_named, summary_of}
-use Rattle.tenant_tables.specs.Trees.{SummedBehind, no_files, below, one_file, by_mode, both, tree_summary}
+use Rattle.tenant_tables.specs.Trees.{SummedAfter, no_files, below, one_file, by_mode, both, tree_summary}
 use Rattle.pool_file_format.specs.declared.refusal.Refusal.TheVariants as refusal
 use Rattle.pool_file_format.specs.declared.fault.Fault.{Fault}
 use Rattle.pool_file_format.specs.declared.fault.Fault.TheVariants as fault
@@ -26,7 +26,7 @@ use Rattle.pool_file_checks.specs.Checks.{Checked}
 use Rattle.pool_file_format.specs.Format.{RawObject}
 use Rattle.pool_file_checks.specs.Own.{Rows, content_at, objects_in}
 use Rattle.pool_file_checks.proofs.TenantLemmas.{left_at}
-use Rattle.pool_file_checks.specs.Sums.{AddsSum, EntryFits, Fits, FitsBehind, HasFiles, IsWithin, SameSums, SumWhere, Sums, TreesFit, sum_of_entry, sum_of_tree, sums_behind}
+use Rattle.pool_file_checks.specs.Sums.{AddsSum, EntryFits, Fits, FitsAfter, HasFiles, IsWithin, SameSums, SumWhere, Sums, TreesFit, sum_of_entry, sum_of_tree, sums_with}
 
 -- ---- limits
 
@@ -57,7 +57,7 @@ first_left sums sum es i e lt is s = subst (λ (rest : List Read). Summed sums s
 
 -- all entries fit, so those that are left
 left_within : (sums : Sums) (sum : Summary) (rest whole : List TreeEntry) → Summed sums sum rest whole
-    → FitsBehind sums whole → IsWithin (fold both sum (map (sum_of_entry sums) rest))
+    → FitsAfter sums whole → IsWithin (fold both sum (map (sum_of_entry sums) rest))
 left_within sums sum rest whole s f = subst IsWithin (sym s.total) f.within
 
 pub summed_on : (sums : Sums) (sum : Summary) (e : TreeEntry) (rest whole : List TreeEntry) (added next : Summary) → Summed sums sum (e ∷ rest) whole
@@ -72,19 +72,19 @@ summed_on sums sum e rest whole added next s f w =
     }
 
 pub entry_fails : (sums : Sums) (sum : Summary) (e : TreeEntry) (rest whole : List TreeEntry) → Summed sums sum (e ∷ rest) whole
-    → (EntryFits sums e → ⊥) → FitsBehind sums whole → ⊥
+    → (EntryFits sums e → ⊥) → FitsAfter sums whole → ⊥
 entry_fails sums sum e rest whole s never f =
     let w = front_within (both sum (sum_of_entry sums e)) (map (sum_of_entry sums) rest) (left_within sums sum (e ∷ rest) whole s f) in
     never (All-head (HasFiles sums) e rest (s.directories.1 f.directories), (parts_within sum (sum_of_entry sums e) w).1)
 
 pub both_fails : (sums : Sums) (sum : Summary) (e : TreeEntry) (rest whole : List TreeEntry) (added : Summary) → Summed sums sum (e ∷ rest) whole
-    → SumWhere (EntryFits sums e) (sum_of_entry sums e) (Some added) → (IsWithin (both sum added) → ⊥) → FitsBehind sums whole → ⊥
+    → SumWhere (EntryFits sums e) (sum_of_entry sums e) (Some added) → (IsWithin (both sum added) → ⊥) → FitsAfter sums whole → ⊥
 both_fails sums sum e rest whole added s f never fits =
     let w = front_within (both sum (sum_of_entry sums e)) (map (sum_of_entry sums) rest) (left_within sums sum (e ∷ rest) whole s fits) in
     never (subst (λ (t : Summary). IsWithin (both sum t)) (sym f.1) w)
 
 pub summed_all : (sums : Sums) (sum : Summary) (whole : List TreeEntry) → Summed sums sum [] whole
-    → SumWhere (FitsBehind sums whole) (sum_of_tree sums whole) (Some sum)
+    → SumWhere (FitsAfter sums whole) (sum_of_tree sums whole) (Some sum)
 summed_all sums sum whole s =
     (record { directories = s.directories.0 (All-nil (HasFiles sums)); within = subst IsWithin s.total s.within }, s.total)
 
@@ -112,20 +112,20 @@ same_fits kind.Blob bytes a b same f = f
 same_fits kind.Commit bytes a b same f = f
 same_fits kind.Tag bytes a b same f = f
 
-same_behind : (k : Kind) (id bytes : List ℕ) (a b : Sums) → SameSums a b
-    → SameSums (sums_behind k id bytes a) (sums_behind k id bytes b)
-same_behind kind.Tree id bytes a b same other =
+same_after : (k : Kind) (id bytes : List ℕ) (a b : Sums) → SameSums a b
+    → SameSums (sums_with k id bytes a) (sums_with k id bytes b)
+same_after kind.Tree id bytes a b same other =
     λ i. cond (bytes_eq other id) (Some (same_sum a b (tree_read bytes) same i)) (same other i)
-same_behind kind.Blob id bytes a b same other = same other
-same_behind kind.Commit id bytes a b same other = same other
-same_behind kind.Tag id bytes a b same other = same other
+same_after kind.Blob id bytes a b same other = same other
+same_after kind.Commit id bytes a b same other = same other
+same_after kind.Tag id bytes a b same other = same other
 
 pub same_trees : (os : List Object) (a b : Sums) → SameSums a b → TreesFit a os → TreesFit b os
 same_trees [] a b same t = t
 same_trees (o ∷ os) a b same t = (
   same_fits o.content.kind o.content.bytes a b same t.0,
-  same_trees os (sums_behind o.content.kind o.id o.content.bytes a) (sums_behind o.content.kind o.id o.content.bytes b)
-      (same_behind o.content.kind o.id o.content.bytes a b same) t.1,
+  same_trees os (sums_with o.content.kind o.id o.content.bytes a) (sums_with o.content.kind o.id o.content.bytes b)
+      (same_after o.content.kind o.id o.content.bytes a b same) t.1,
 )
 
 -- ---- one tree more
@@ -158,8 +158,8 @@ Settles sums rest whole = TreesFit sums rest ↔ TreesFit [] whole
 fits_on : (o : Object) (rest whole : List Object) (old new : Sums) → Settles old (o ∷ rest) whole
     → AddsSum o.content.kind o.id o.content.bytes old (Ok tt) new → Settles new rest whole
 fits_on o rest whole old new d a =
-    let behind = sums_behind o.content.kind o.id o.content.bytes old in
-    (λ t. d.0 (a.0, same_trees rest new behind a.1 t), λ w. same_trees rest behind new (λ id. sym (a.1 id)) (d.1 w).1)
+    let with_next = sums_with o.content.kind o.id o.content.bytes old in
+    (λ t. d.0 (a.0, same_trees rest new with_next a.1 t), λ w. same_trees rest with_next new (λ id. sym (a.1 id)) (d.1 w).1)
 
 fits_stops : (o : Object) (rest whole : List Object) (old new : Sums) (e : Fault) → Settles old (o ∷ rest) whole
     → AddsSum o.content.kind o.id o.content.bytes old (Err e) new
@@ -208,9 +208,9 @@ pub noted_sum : (sums : Sums) (entries : Entries) (es : List TreeEntry) → AreN
 noted_sum sums entries es noted = ap (λ (named : List ℕ → Option Summary). sum_by named es) (λ i id. noted id i)
 
 -- an object that fits is summed after the table
-pub summed_behind : (k : Kind) (bytes : List ℕ) (sums : Sums) (entries : Entries) → AreNoted sums entries → Fits k bytes sums
-    → SummedBehind entries (content_from k bytes) (own_sum k bytes sums)
-summed_behind kind.Tree bytes sums entries noted f = (
+pub summed_after : (k : Kind) (bytes : List ℕ) (sums : Sums) (entries : Entries) → AreNoted sums entries → Fits k bytes sums
+    → SummedAfter entries (content_from k bytes) (own_sum k bytes sums)
+summed_after kind.Tree bytes sums entries noted f = (
   refl,
   (
     tree_read bytes,
@@ -222,14 +222,14 @@ summed_behind kind.Tree bytes sums entries noted f = (
     },
   ),
 )
-summed_behind kind.Blob bytes sums entries noted f = λ e. cc e
-summed_behind kind.Commit bytes sums entries noted f = λ e. cc e
-summed_behind kind.Tag bytes sums entries noted f = λ e. cc e
+summed_after kind.Blob bytes sums entries noted f = λ e. cc e
+summed_after kind.Commit bytes sums entries noted f = λ e. cc e
+summed_after kind.Tag bytes sums entries noted f = λ e. cc e
 
-lookup_behind : {X : Type 0} (test : List ℕ → Bool) (xs : List (List ℕ × X)) (id : List ℕ) (x : X)
+lookup_after : {X : Type 0} (test : List ℕ → Bool) (xs : List (List ℕ × X)) (id : List ℕ) (x : X)
     → lookup test (xs ++ (id, x) ∷ []) ≡ cond (is_some (lookup test xs)) (lookup test xs) (cond (test id) (Some x) None)
-lookup_behind test [] id x = refl
-lookup_behind {X} test (y ∷ ys) id x = by (test y.0) (lookup_behind test ys id x)
+lookup_after test [] id x = refl
+lookup_after {X} test (y ∷ ys) id x = by (test y.0) (lookup_after test ys id x)
   where
     by : (b : Bool) → lookup test (ys ++ (id, x) ∷ []) ≡ cond (is_some (lookup test ys)) (lookup test ys) (cond (test id) (Some x) None)
         → cond b (Some y.1) (lookup test (ys ++ (id, x) ∷ []))
@@ -247,7 +247,7 @@ module _ (id : List ℕ) (entries : Entries) (e : Entry) (new : entry_named id e
   unfolding entry_named
   summary_other apart =
       ap (option_and_then (λ (x : Entry). x.summary))
-      (lookup_behind (bytes_eq other) entries id e
+      (lookup_after (bytes_eq other) entries id e
       ∙ ap (λ (b : Bool). cond (is_some (lookup (bytes_eq other) entries)) (lookup (bytes_eq other) entries) (cond b (Some e) None)) apart
       ∙ or_none (lookup (bytes_eq other) entries))
 
@@ -259,7 +259,7 @@ module _ (id : List ℕ) (entries : Entries) (e : Entry) (new : entry_named id e
   unfolding entry_named
   summary_here same =
       ap (option_and_then (λ (x : Entry). x.summary))
-      (lookup_behind (bytes_eq other) entries id e
+      (lookup_after (bytes_eq other) entries id e
       ∙ ap (λ (o : Option Entry). cond (is_some o) o (cond (bytes_eq other id) (Some e) None)) (none_yet same)
       ∙ ap (λ (b : Bool). cond b (Some e) None) same)
 
@@ -283,7 +283,7 @@ module _ (id bytes : List ℕ) (sums : Sums) (entries : Entries) (e : Entry) (ne
 
 pub noted_on : (k : Kind) (id bytes : List ℕ) (sums : Sums) (entries : Entries) (e : Entry) → AreNoted sums entries
     → entry_named id entries ≡ None → e.summary ≡ own_sum k bytes sums
-    → AreNoted (sums_behind k id bytes sums) (entries ++ (id, e) ∷ [])
+    → AreNoted (sums_with k id bytes sums) (entries ++ (id, e) ∷ [])
 noted_on kind.Tree id bytes sums entries e noted new is other =
     tree_noted id bytes sums entries e new noted other (bytes_eq other id) refl (sum_of_tree sums (tree_read bytes)) is
 noted_on kind.Blob id bytes sums entries e noted new is other = plain_noted id bytes sums entries e new noted other (bytes_eq other id) refl is

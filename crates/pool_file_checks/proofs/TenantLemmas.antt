@@ -7,7 +7,7 @@ use Rattle.std.proofs.lemmas.List.{get_or-map, length-map}
 use Rattle.std.proofs.lemmas.List.Elements.{All-cons}
 use Rattle.std.proofs.lemmas.List.Folds.{list_all-map}
 use Rattle.std.proofs.lemmas.Bool.Decides.{Decides-at, Decides-by_and, Decides-ltb}
-use Rattle.pool_file_checks.specs.Objects.{IsBehind}
+use Rattle.pool_file_checks.specs.Objects.{IsAfter}
 use Rattle.pool_file_checks.specs.FileRefs.{AreRising}
 
 pub decides_all : {X : Type 0} (p : X → Bool) (P : X → Type 0) → ((x : X) → Decides (p x) (P x))
@@ -54,14 +54,14 @@ pub rises_start : (whole : List (List ℕ)) → Rises None whole whole
 rises_start whole = record { forth = λ p. p; back = λ p. p }
 
 pub rises_on : (last : Option (List ℕ)) (text : List ℕ) (rest whole : List (List ℕ))
-    → Rises last (text ∷ rest) whole → IsBehind last text → Rises (Some text) rest whole
+    → Rises last (text ∷ rest) whole → IsAfter last text → Rises (Some text) rest whole
 unfolding AreRising
 rises_on last text rest whole r p = record { forth = λ q. r.forth (p, q); back = λ q. (r.back q).1 }
 
 pub rises_not : (last : Option (List ℕ)) (text : List ℕ) (rest whole : List (List ℕ))
-    → Rises last (text ∷ rest) whole → ¬ IsBehind last text → ¬ AreRising None whole
+    → Rises last (text ∷ rest) whole → ¬ IsAfter last text → ¬ AreRising None whole
 unfolding AreRising
-rises_not last text rest whole r not_behind q = not_behind (r.back q).0
+rises_not last text rest whole r not_after q = not_after (r.back q).0
 
 pub rises_end : (last : Option (List ℕ)) (whole : List (List ℕ)) → Rises last [] whole → AreRising None whole
 unfolding AreRising

@@ -6,12 +6,12 @@ use Rattle.git_model.specs.Repository.{Object}
 use Rattle.git_model.specs.References.{reference, is_reference, references_in, object_at}
 use Rattle.git_model.specs.GoodRepository.{StandsBefore}
 
--- A gitlink asks for nothing; every other entry of a tree for an object of its kind before a place.
+-- An object with the entry's name and kind stands before a place. A gitlink refers to nothing.
 abbrev pub EntryStands : List Object → ℕ → TreeEntry → Type 0
 EntryStands os place e =
     is_reference e.mode ≡ true → StandsBefore os place (reference (kind_of_mode e.mode) e.id)
 
--- What each object refers to stands before it, of the kind that is asked for.
+-- The objects to which an object refers stand before it, with the kinds that it asks for.
 abbrev pub AreConnected : List Object → Type 0
 AreConnected os =
     (i : ℕ) → i < length os → All (StandsBefore os i) (references_in (object_at i os).content)

@@ -1,4 +1,4 @@
--- Names are looked up in an index of a tenant's objects.
+-- An index of a tenant's objects under their names.
 use Rattle.std.specs.Prelude.{◌≡◌, ℕ, List, [], ◌∷◌, ◌++◌, Result, Ok, Err, IsSome}
 use Rattle.std.specs.Map.{lookup}
 use Rattle.std.specs.Str.{bytes_eq}
@@ -7,7 +7,7 @@ use Rattle.pool_file_format.specs.declared.fault.Fault.{Fault}
 use Rattle.pool_file_format.specs.declared.fault.Fault.TheVariants as fault
 use Rattle.pool_file_checks.specs.Own.{Rows, AreDistinct}
 
--- The rows have one more at their end, under a name that is new; or the name is there.
+-- A row was added at the end, under a new name. Or it was refused: the name was there.
 abbrev pub Adds : Rows → List ℕ → ℕ → Result Unit Fault → Rows → Type 0
 Adds old id n (Ok u) new = (new ≡ old ++ (id, n) ∷ []) × AreDistinct new
 Adds old id n (Err (fault.Refused r)) new = IsSome (lookup (bytes_eq id) old)
@@ -15,7 +15,7 @@ Adds old id n (Err (fault.Refused r)) new = IsSome (lookup (bytes_eq id) old)
 Adds old id n (Err fault.Memory) new = Unit {0}
 Adds old id n (Err fault.Device) new = ⊥
 
--- An index has these rows, whose names are distinct; or they are not.
+-- The index has these rows, and their names are distinct. Or it was refused: they are not.
 abbrev pub Indexes : Rows → Result Rows Fault → Type 0
 Indexes rows (Ok index) = (index ≡ rows) × AreDistinct rows
 Indexes rows (Err (fault.Refused r)) = (AreDistinct rows → ⊥) × (r ≡ refusal.NotCanonical)

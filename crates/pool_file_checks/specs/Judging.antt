@@ -1,4 +1,4 @@
--- What reading a pool file and judging it answers.
+-- What a call that reads and judges a pool file answers.
 use Rattle.std.specs.Prelude.{◌≡◌, ◌⊎◌, ℕ, ◌≤◌, List, [], Option, None, Some, Result, Ok, Err}
 use Rattle.byte_devices.specs.Device.{Device}
 use Rattle.pool_file_format.specs.declared.refusal.Refusal.{Refusal}
@@ -18,14 +18,14 @@ pub record IsJudged (digest : List ℕ → List ℕ) (bytes : List ℕ) (f : Raw
   pub read : sealed_at digest bytes ≡ Ok (f, [])
   pub passes : Passes (file_checks digest f)
 
--- The first thing that is wrong: with the bytes as they are read, or else with what they say.
+-- The first fault: that of reading the bytes, or else that of what they say.
 abbrev pub IsRefused : (List ℕ → List ℕ) → List ℕ → Refusal → Type 0
 IsRefused digest bytes r = (sealed_at digest bytes ≡ Err r)
     ⊎ ((f : RawFile) × (sealed_at digest bytes ≡ Ok (f, [])) × Refuses (file_checks digest f) r)
 
--- What is answered where the reader has these bytes, and which it has after it. Device and memory
--- may fail in place of any answer; a file passes its checks even where the reader does not tell its
--- bytes.
+-- What is answered if the reader has these bytes, and which bytes it has left. `Device` and
+-- `Memory` may replace any answer. A file that is answered passes its checks even if the reader's
+-- bytes are not known.
 abbrev pub Judges : (List ℕ → List ℕ) → Option (List ℕ) → Result RawFile Fault
     → Option (List ℕ) → Type 0
 Judges digest None (Ok f) new = Passes (file_checks digest f)
@@ -35,28 +35,28 @@ Judges digest (Some bytes) (Err (fault.Refused r)) new = IsRefused digest bytes 
 Judges digest (Some bytes) (Err fault.Device) new = Unit {0}
 Judges digest (Some bytes) (Err fault.Memory) new = Unit {0}
 
--- Where a file is answered, the bytes are a text of the repositories that it says.
+-- If a file is answered, the bytes are a text of the repositories that it says.
 abbrev pub Finds : (List ℕ → List ℕ) → Option (List ℕ) → Result RawFile Fault → Type 0
 Finds digest None r = Unit {0}
 Finds digest (Some bytes) (Ok f) = IsTextOf digest (saved_in digest f) bytes
 Finds digest (Some bytes) (Err e) = Unit {0}
 
--- The answer is a file that says these repositories, unless device or memory fails.
+-- The answer is a file that says these repositories, or `Device`, or `Memory`.
 abbrev pub Says : (List ℕ → List ℕ) → List Named → Result RawFile Fault → Type 0
 Says digest all (Ok f) = saved_in digest f ≡ all
 Says digest all (Err (fault.Refused r)) = ⊥
 Says digest all (Err fault.Device) = Unit {0}
 Says digest all (Err fault.Memory) = Unit {0}
 
--- Each text of repositories is answered so.
+-- Every text of repositories is answered with a file that says them.
 abbrev pub ReadsTexts : (List ℕ → List ℕ) → Option (List ℕ) → Result RawFile Fault → Type 0
 ReadsTexts digest None r = Unit {0}
 ReadsTexts digest (Some bytes) r = (all : List Named) → IsTextOf digest all bytes
     → Says digest all r
 
--- The reader was called at most once more than it gave bytes, and never past the bound. No call
--- failed, unless the answer blames the device: then one did, the only one, or the reader does not
--- end.
+-- The reader was called at most once more than it gave bytes, and never past the bound. If the
+-- answer is `Device`, one call failed and no other, or the reader did not end within the bound.
+-- After any other answer no call failed.
 pub record IsBlamed {A : Type 0} (bound : ℕ) (old : Device) (r : Result A Fault) (new : Device)
     : Type 0 where
   pub blames : Blames bound r old new

@@ -1,5 +1,5 @@
--- Which objects a file may say, and in which order: git-fsck(1), the validity of objects; limits
--- and the order are this service's own.
+-- Which objects a file may have, and in which order: git-fsck(1), the validity of objects. The
+-- limits and the order are this service's own.
 use Rattle.std.specs.Prelude.{◌≡◌, ℕ, ◌≤◌, List, [], ◌∷◌, length, Option, None, Some}
 use Rattle.std.specs.Ordering.{nat_cmp}
 use Rattle.std.specs.Cmp.Lexicographic.{slice_cmp}
@@ -23,7 +23,7 @@ kind_byte kind.Tree = 2
 kind_byte kind.Blob = 3
 kind_byte kind.Tag = 4
 
--- Bytes write an object of a kind, whatever else there is. All bytes are a blob's.
+-- The bytes are contents of this kind, whatever other objects there are. A blob may have any bytes.
 abbrev pub IsText : Kind → List ℕ → Type 0
 IsText kind.Blob bytes = Unit {0}
 IsText kind.Tree bytes = (es : List TreeEntry) × IsTreeText bytes es
@@ -33,7 +33,7 @@ IsText kind.Tag bytes = (t : Tag) × IsTag bytes t
 abbrev pub IsContent : Content → Type 0
 IsContent c = (length c.bytes ≤ contents_limit) × IsText c.kind c.bytes
 
--- An object in the file.
+-- A content as an object of the file.
 abbrev pub raw_object : Content → RawObject
 raw_object c = record { kind = kind_byte c.kind; bytes = c.bytes }
 
@@ -45,15 +45,15 @@ CanStore o = (c : Content) × (o ≡ raw_object c) × IsContent c
 abbrev pub object_key : RawObject → List ℕ
 object_key o = o.kind ∷ o.bytes
 
--- Texts rise, each after the one before it.
-abbrev pub IsBehind : Option (List ℕ) → List ℕ → Type 0
-IsBehind None text = Unit {0}
-IsBehind (Some last) text = slice_cmp nat_cmp last text ≡ Less
+-- A text comes after the last one, if there is one.
+abbrev pub IsAfter : Option (List ℕ) → List ℕ → Type 0
+IsAfter None text = Unit {0}
+IsAfter (Some last) text = slice_cmp nat_cmp last text ≡ Less
 
 -- Each object in turn can be stored, and comes after the one before it.
 abbrev pub object_checks : Option (List ℕ) → List RawObject → Checks
 object_checks last [] = []
 object_checks last (o ∷ os) =
     (CanStore o, refusal.BadObject)
-    ∷ (IsBehind last (object_key o), refusal.NotCanonical)
+    ∷ (IsAfter last (object_key o), refusal.NotCanonical)
     ∷ object_checks (Some (object_key o)) os

@@ -9,12 +9,13 @@ use Rattle.git_model.specs.Content.{Content, content_from, name_by}
 use Rattle.git_model.specs.Repository.{Object}
 use Rattle.pool_file_format.specs.Format.{RawObject}
 
--- The kind of a byte; one that is no kind's says nothing, and is a blob's.
+-- The kind of this byte. A byte of no kind counts as that of a blob.
 abbrev pub kind_of : ℕ → Kind
 kind_of byte = if byte == 1 then kind.Commit else if byte == 2 then kind.Tree
     else if byte == 4 then kind.Tag else kind.Blob
 
--- The content of an object of a file, and that of a number in its list: an empty blob past the end.
+-- The content of an object of a file, and that of the object with a number in its list; an empty
+-- blob past the end.
 abbrev pub content_of : RawObject → Content
 content_of o = content_from (kind_of o.kind) o.bytes
 
@@ -35,7 +36,7 @@ row names n = (slice_index_or names n [], n)
 abbrev pub rows_of : List (List ℕ) → List ℕ → Rows
 rows_of names numbers = map (row names) numbers
 
--- The objects of rows, each its name and the content of its number.
+-- The objects of rows: each has the row's name and the content of the row's number.
 unfoldable pub objects_in : List RawObject → Rows → List Object
 objects_in os rows = map (λ r. record { id = r.0; content = content_at os r.1 }) rows
 
@@ -43,6 +44,6 @@ objects_in os rows = map (λ r. record { id = r.0; content = content_at os r.1 }
 abbrev pub own_objects : (List ℕ → List ℕ) → List RawObject → List ℕ → List Object
 own_objects digest os numbers = objects_in os (rows_of (names_of digest os) numbers)
 
--- No two objects have one name. Their contents decide nothing.
+-- No two objects have the same name, whatever their contents.
 abbrev pub AreDistinct : Rows → Type 0
 AreDistinct rows = IsDistinct bytes_eq (keys_of rows)

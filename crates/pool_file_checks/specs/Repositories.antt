@@ -1,4 +1,4 @@
--- All repositories of a service as one file: the file that some repositories have.
+-- The file of some repositories, such as all repositories of a service.
 use Rattle.std.specs.Prelude.{ℕ, List, map, position}
 use Rattle.std.specs.List.{flat_map}
 use Rattle.std.specs.Option.{unwrap_or}
@@ -18,11 +18,11 @@ pub record Named : Type 0 where
   pub tenant : List ℕ
   pub repository : Repository
 
--- All contents of some repositories, as often as they stand there.
+-- All contents of some repositories, as often as they occur.
 abbrev pub contents_of : List Named → List Content
 contents_of all = flat_map (λ n. map (λ o. o.content) n.repository.objects) all
 
--- The byte of its kind, and then its bytes.
+-- Contents compare by the byte of their kind, and then by their bytes.
 abbrev pub content_key : Content → List ℕ
 content_key c = object_key (raw_object c)
 
@@ -31,7 +31,7 @@ unfoldable pub listed_contents : List Named → List Content
 listed_contents all = finite.values
     (finite.from_entries {R = slice_cmp nat_cmp} (map (λ c. (content_key c, c)) (contents_of all)))
 
--- The number of a content among those, from 0; 0 too for one that is not there.
+-- The number of a content in such a list, from 0; also 0 for a content that is not in it.
 abbrev pub number_in : List Content → Content → ℕ
 number_in cs c = unwrap_or (position (same_content c) cs) 0
 
@@ -42,7 +42,7 @@ raw_ref n e = record {
   place = place_of e.1 n.repository.objects;
 }
 
--- A tenant in the file, by the numbers of its objects among all contents.
+-- A tenant in the file, with the numbers of its objects among all contents.
 abbrev pub raw_tenant : List Content → Named → RawTenant
 raw_tenant cs n = record {
   name = n.tenant;
@@ -63,6 +63,6 @@ raw_of version all = record {
 abbrev pub text_in : ℕ → (List ℕ → List ℕ) → List Named → List ℕ
 text_in version digest all = raw_text digest (raw_of version all)
 
--- The text that is written, in the second version.
+-- The text that is written: version 2.
 abbrev pub file_text : (List ℕ → List ℕ) → List Named → List ℕ
 file_text digest all = text_in 2 digest all

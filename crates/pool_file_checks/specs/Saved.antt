@@ -9,15 +9,15 @@ use Rattle.pool_file_format.specs.Format.{RawObject, RawRef, RawTenant, RawFile}
 use Rattle.pool_file_checks.specs.Own.{own_objects}
 use Rattle.pool_file_checks.specs.Repositories.{Named}
 
--- A ref without the namespaces of its tenant, and the name of its target: no bytes where the place
--- is none of an object.
+-- A ref without the namespaces of its tenant, and the name of its target; no bytes if there is no
+-- object at its place.
 abbrev pub ref_at : List ℕ → List Object → RawRef → List ℕ × List ℕ
 ref_at tenant objects r = (
   drop (length (namespaces tenant)) r.name,
   option_map_or (λ o. o.id) (slice_get objects r.place) [],
 )
 
--- All refs of a tenant, which rise, and its HEAD.
+-- All refs of a tenant, whose names rise, and its HEAD.
 abbrev pub refs_at : List ℕ → List Object → List RawRef → List ℕ → RefStore
 refs_at tenant objects rs head = record {
   refs = finite.from_sorted (map (ref_at tenant objects) rs);
@@ -34,6 +34,6 @@ named_at digest os t = record {
   };
 }
 
--- What it says of all tenants, in its order.
+-- What a file says of all tenants, in the order of the file.
 unfoldable pub saved_in : (List ℕ → List ℕ) → RawFile → List Named
 saved_in digest f = map (named_at digest f.objects) f.tenants

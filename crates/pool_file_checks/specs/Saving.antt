@@ -15,8 +15,8 @@ pub record IsGood (digest : List ℕ → List ℕ) (r : Repository) : Type 0 whe
   pub trees : TreesFit [] r.objects
   pub refs : AreRefs r.objects r.refs
 
--- A good repository under a tenant's name that has an object, or another HEAD than the first. In
--- version 1 there is no other HEAD.
+-- A good repository under a tenant's name. It has an object, or a HEAD other than
+-- `refs/heads/main`; in version 1, HEAD names `refs/heads/main`.
 pub record CanSaveOne (version : ℕ) (digest : List ℕ → List ℕ) (n : Named) : Type 0 where
   pub name : IsNameIn version n.tenant
   pub worth : (n.repository.objects ≢ []) ⊎ (n.repository.refs.head ≢ first_head)
@@ -29,7 +29,7 @@ pub record CanSave (version : ℕ) (digest : List ℕ → List ℕ) (all : List 
   pub each : All (CanSaveOne version digest) all
   pub fits : FitsFile (raw_of version all)
 
--- The bytes are a text of these repositories: in version 2, which is written, or in version 1.
+-- The bytes are a text of these repositories, in version 2 or in version 1. Version 2 is written.
 abbrev pub IsTextOf : (List ℕ → List ℕ) → List Named → List ℕ → Type 0
 IsTextOf digest all bytes = (CanSave 2 digest all × (bytes ≡ text_in 2 digest all))
     ⊎ (CanSave 1 digest all × (bytes ≡ text_in 1 digest all))

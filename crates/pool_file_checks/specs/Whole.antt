@@ -11,7 +11,7 @@ use Rattle.pool_file_checks.specs.Tenants.{name_checks, number_checks}
 use Rattle.pool_file_checks.specs.FileRefs.{ref_checks}
 use Rattle.pool_file_checks.specs.Held.{held_checks}
 
--- A tenant's objects: no two of one name, what they refer to, and the sizes of trees.
+-- A tenant's objects: no two have one name, then what they refer to, then the sizes of trees.
 abbrev pub own_checks : (List ℕ → List ℕ) → List RawObject → List ℕ → Checks
 own_checks digest os numbers =
     (AreDistinct (rows_of (names_of digest os) numbers), refusal.NotCanonical)
@@ -19,7 +19,7 @@ own_checks digest os numbers =
     ∷ (TreesFit [] (own_objects digest os numbers), refusal.BadObject)
     ∷ []
 
--- One tenant after the name of the one before.
+-- One tenant; `last` is the name of the one before.
 abbrev pub one_tenant_checks : (List ℕ → List ℕ) → ℕ → List RawObject → Option (List ℕ) → RawTenant
     → Checks
 one_tenant_checks digest version os last t = name_checks version last t
@@ -33,7 +33,7 @@ tenant_checks digest version os last [] = []
 tenant_checks digest version os last (t ∷ ts) = one_tenant_checks digest version os last t
     ++ tenant_checks digest version os (Some t.name) ts
 
--- All objects in turn, all tenants in turn, and that each object is one of theirs.
+-- All objects in turn, then all tenants in turn, then that each object belongs to a tenant.
 abbrev pub file_checks : (List ℕ → List ℕ) → RawFile → Checks
 file_checks digest f = object_checks None f.objects
     ++ (tenant_checks digest f.version f.objects None f.tenants

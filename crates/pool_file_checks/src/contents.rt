@@ -1,4 +1,4 @@
-//! Which contents objects have.
+//! Which contents an object of each kind may have.
 
 ghost use Rattle.std.specs.Prelude.{◌≡◌, ◌≢◌, ◌↔◌, IfOk, IsTrue, MatchOption};
 ghost use Rattle.git_model.specs.declared.kind.Kind.{Kind as Kinds};
@@ -14,10 +14,10 @@ const CONTENTS_LIMIT: usize = 134_217_728;
 // How many parents a commit may have.
 const PARENTS_LIMIT: usize = 1024;
 
-// How long the name of a tag may be, which stands after `refs/tags/` in that of a ref.
+// How many bytes the name of a tag may have. After `refs/tags/` it makes a ref name of 1,024.
 const TAG_NAME_LIMIT: usize = 1014;
 
-/// The kind of a byte of the file.
+/// The kind of this byte of the file; `None` for a byte of no kind.
 pub fn kind_from(byte: u8) -> Option<Kind>
     ensures { MatchOption result ((k : Kinds) → kind_byte k ≢ byte) (λ k. kind_byte k ≡ byte) }
 {
@@ -72,6 +72,8 @@ fn is_text(alloc: Global, kind: Kind, bytes: &[u8]) -> Result<bool, Memory>
 }
 
 /// Whether these are contents of this kind, within the limits.
+///
+/// `Memory` (90) if there is no memory to read them.
 pub fn is_content(alloc: Global, kind: Kind, bytes: &[u8]) -> Result<bool, Memory>
     ensures { IfOk result (λ b. IsTrue b ↔ IsContent (content_from kind bytes.now)) }
 {

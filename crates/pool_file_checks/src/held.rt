@@ -1,4 +1,4 @@
-//! The check that each object of a file is a tenant's.
+//! The check that each object of a file belongs to a tenant.
 
 ghost use Rattle.std.specs.Prelude.{◌≡◌, ◌↔◌, ◌++◌, [], ◌∷◌, ℕ, List, length, true, IsTrue, All, IfOk};
 ghost use Rattle.pool_file_checks.specs.Checks.{Checked};
@@ -34,10 +34,10 @@ fn are_set(flags: &[bool]) -> bool
     flags.iter().all(|flag| *flag)
 }
 
-/// Judges whether each of so many objects of a file is one of its tenants'.
+/// Judges whether each of the `count` objects of a file belongs to one of its tenants.
 ///
-/// `Refused` with `NotCanonical` (64) where one is not. `Memory` (90) where there is no room for a
-/// flag of each object.
+/// `Refused` with `NotCanonical` (64) if one does not. `Memory` (90) if there is no memory for one
+/// flag for each object.
 pub fn check_held(alloc: Global, count: usize, tenants: &[RawTenant]) -> Result<(), Fault>
     ensures { Checked (held_checks count (tenants_of tenants.now)) result }
 {

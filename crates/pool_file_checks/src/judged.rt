@@ -1,7 +1,8 @@
-//! A pool file from a reader, judged.
+//! Reading and judging a pool file.
 
-ghost use Rattle.std.specs.Prelude.{◌≡◌, ◌^◌, IfOk};
+ghost use Rattle.std.specs.Prelude.{◌≡◌, IfOk};
 ghost use Rattle.byte_devices.specs.Device.{device_of, calls_of, counted_on, seen};
+ghost use Rattle.git_model.specs.Limits.{reads_limit};
 ghost use Rattle.pool_file_format.specs.Shown.{objects_of, file_of};
 ghost use Rattle.pool_file_format.specs.Taking.{shown};
 ghost use Rattle.pool_file_checks.specs.Own.{names_of};
@@ -21,38 +22,40 @@ pub struct Judged {
     pub names: Vec<Name>,
 }
 
-/// Reads a pool file up to the end of the input, in either version, checks its digest, and judges
-/// what it says. The naming makes the digest and the names of objects. The answer is the file
-/// with the names of its objects; each text of repositories is answered by the file that says them.
+/// Reads a pool file of either version up to the end of the input, checks its digest, and judges
+/// what it says. The naming makes the digest and the names of objects. The answer is the file and
+/// the names of its objects. Every file of repositories that can be saved is answered.
 ///
-/// `Refused` with the first thing that is wrong. From left to right as the bytes are read:
-/// `NoPoolFile` (60) at the first byte that is none of `gitpool LF`, `UnknownVersion` (61) for a
-/// version that is not 1 or 2, `CutOff` (62) where the input ends early, `TrailingBytes` (69) where
-/// it goes on after the digest. Then `WrongDigest` (63). Then what `check_file` refuses, in its
-/// order: `NotCanonical` (64), `BadObject` (65), `MissingReference` (66), `BadRef` (67). `Device`
-/// (68) where a call of `read` answered an error, or 2^32 calls were made. `Memory` (90) where
-/// there is no room for what is read, named and marked. What was read is gone from the reader;
-/// after an answer that is a file nothing is left in it.
+/// - `Refused` with the first fault. First come the faults of the bytes, from left to right:
+///   `NoPoolFile` (60) at the first byte that differs from `gitpool LF`, `UnknownVersion` (61) if
+///   the version is not 1 or 2, `CutOff` (62) if the input ends early, `TrailingBytes` (69) if it
+///   goes on after the digest. Then comes `WrongDigest` (63). Then come the refusals of
+///   `check_file`, in its order: `NotCanonical` (64), `BadObject` (65), `MissingReference` (66) and
+///   `BadRef` (67).
+/// - `Device` (68) if a call of `read` answered an error, or if 2^32 calls were made.
+/// - `Memory` (90) if there is no memory for what is read, named and marked.
+///
+/// What was read is gone from the reader; after a file, nothing is left in it.
 pub fn read_judged<N: Starting, R: Read>(
     alloc: Global,
     naming: &N,
     reader: &mut Counted<R>,
 ) -> Result<Judged, Fault>
-    // The file, or the first refusal, where the reader tells its bytes.
+    // The file, or the first refusal, if the reader's bytes are known.
     ensures exact { Judges N.digest_of (R.remaining (device_of reader.old))
         (shown (λ j. file_of j.file) result) (R.remaining (device_of reader.new)) }
     // What is answered is what the bytes say.
     ensures found { Finds N.digest_of (R.remaining (device_of reader.old))
         (shown (λ j. file_of j.file) result) }
-    // Each text is answered.
+    // Every text of repositories is answered.
     ensures only { ReadsTexts N.digest_of (R.remaining (device_of reader.old))
         (shown (λ j. file_of j.file) result) }
     // Which calls are made, and when the device is blamed.
-    ensures cause { IsBlamed (counted_on (calls_of reader.old) (2 ^ 32))
+    ensures cause { IsBlamed (counted_on (calls_of reader.old) reads_limit)
         (seen (R.remaining (device_of reader.old)) reader.old)
         (shown (λ j. file_of j.file) result)
         (seen (R.remaining (device_of reader.new)) reader.new) }
-    // Each object's name, made once for all that need it.
+    // The name of each object, made once for every caller that needs it.
     ensures names { IfOk result
         (λ j. j.names.items ≡ names_of N.digest_of (objects_of j.file.objects.items)) }
 {

@@ -6,7 +6,7 @@ ghost use Rattle.std.specs.Ordering.{nat_cmp};
 ghost use Rattle.std.specs.Cmp.Lexicographic.{slice_cmp};
 ghost use Rattle.std.specs.declared.cmp.Ordering.TheVariants.{Less};
 ghost use Rattle.pool_file_checks.specs.Checks.{Checked};
-ghost use Rattle.pool_file_checks.specs.Objects.{CanStore, IsBehind, object_key, object_checks};
+ghost use Rattle.pool_file_checks.specs.Objects.{CanStore, IsAfter, object_key, object_checks};
 ghost use Rattle.pool_file_format.specs.Shown.{object_of, objects_of};
 
 use crate::contents::{is_content, kind_from};
@@ -38,8 +38,8 @@ fn is_above(last: &RawObject, object: &RawObject) -> bool
 }
 
 // Whether an object comes after the one before it.
-fn is_behind(last: Option<&RawObject>, object: &RawObject) -> bool
-    ensures { IsTrue result ↔ IsBehind (option_map (λ o. object_key (object_of o.now)) last.entry)
+fn is_after(last: Option<&RawObject>, object: &RawObject) -> bool
+    ensures { IsTrue result ↔ IsAfter (option_map (λ o. object_key (object_of o.now)) last.entry)
         (object_key (object_of object.now)) }
 {
     match last {
@@ -55,7 +55,7 @@ fn check_object(alloc: Global, last: Option<&RawObject>, object: &RawObject) -> 
     if !can_store(alloc, object)? {
         return Err(Fault::Refused(Refusal::BadObject));
     }
-    if !is_behind(last, object) {
+    if !is_after(last, object) {
         return Err(Fault::Refused(Refusal::NotCanonical));
     }
     Ok(())
@@ -63,10 +63,11 @@ fn check_object(alloc: Global, last: Option<&RawObject>, object: &RawObject) -> 
 
 /// Judges the objects of a file in turn.
 ///
-/// `Refused` with the first thing that is wrong: `BadObject` (65) for a byte that is no kind's, for
-/// contents that no tree, commit or tag has, and for what is past a limit (134,217,728 bytes, 1,024
-/// parents, a tag under a ref name of 1,024 bytes); `NotCanonical` (64) for an object that does not
-/// come after the one before it. `Memory` (90) where there is no room to read one.
+/// - `Refused` with the first fault. `BadObject` (65) if the byte is that of no kind, if no tree,
+///   commit or tag has the contents, or if they are past a limit: 134,217,728 bytes, 1,024 parents
+///   of a commit, 1,014 bytes of a tag's name. `NotCanonical` (64) if an object does not come after
+///   the one before it, by kind and then by contents.
+/// - `Memory` (90) if there is no memory to read an object.
 pub fn check_objects(alloc: Global, objects: &[RawObject]) -> Result<(), Fault>
     ensures { Checked (object_checks None (objects_of objects.now)) result }
 {

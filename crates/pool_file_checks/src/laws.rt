@@ -1,4 +1,5 @@
-//! Laws of pool files and of their checks: functions over the definitions alone, which run nothing.
+//! Laws of pool files and of their checks. Each is a function with an empty body, whose clauses
+//! speak only of definitions.
 
 ghost use Rattle.std.specs.Prelude.{◌≡◌, ℕ, List, None, ◌<◌, [], All, Ok};
 ghost use Rattle.pool_file_format.specs.Format.{RawObject, RawFile, FitsFile};
@@ -11,7 +12,7 @@ ghost use Rattle.pool_file_checks.specs.Repositories.{Named, raw_of};
 ghost use Rattle.pool_file_checks.specs.Saved.{saved_in};
 ghost use Rattle.pool_file_checks.specs.Saving.{CanSave, IsTextOf};
 
-/// Of the checks of objects one refusal at most is the first, and none where all hold.
+/// At most one refusal is the first of the checks of objects. If all hold, no refusal is.
 pub fn one_refusal_is_first()
     ensures once { (os : List RawObject) (r s : _) → Refuses (object_checks None os) r
         → Refuses (object_checks None os) s → r ≡ s }
@@ -19,7 +20,7 @@ pub fn one_refusal_is_first()
         → Refuses (object_checks None os) r → ⊥ }
 {}
 
-/// Of all checks of a file one refusal at most is the first, and none where all hold.
+/// At most one refusal is the first of all checks of a file. If all hold, no refusal is.
 pub fn one_refusal_of_a_file_is_first()
     ensures once { (digest : List ℕ → List ℕ) (f : RawFile) (r s : _)
         → Refuses (file_checks digest f) r
@@ -28,13 +29,13 @@ pub fn one_refusal_of_a_file_is_first()
         → Refuses (file_checks digest f) r → ⊥ }
 {}
 
-/// What a good file says are repositories that have this file.
+/// The repositories that a good file says have exactly this file.
 pub fn what_is_said_is_saved()
     ensures file { (digest : List ℕ → List ℕ) (f : RawFile) → Passes (file_checks digest f)
         → raw_of f.version (saved_in digest f) ≡ f }
 {}
 
-/// The file of repositories is good, and says them.
+/// The file of repositories that can be saved is good, and says these repositories.
 pub fn what_is_saved_is_said()
     ensures passes { (version : ℕ) (digest : List ℕ → List ℕ) (all : List Named)
         → CanSave version digest all → Passes (file_checks digest (raw_of version all)) }
@@ -42,14 +43,14 @@ pub fn what_is_saved_is_said()
         → CanSave version digest all → saved_in digest (raw_of version all) ≡ all }
 {}
 
-/// What a good file says can be saved in its version, where objects are named by 20 bytes.
+/// What a good file says can be saved in its version, if the digest answers 20 bytes.
 pub fn what_is_said_can_be_saved()
     ensures said { (digest : List ℕ → List ℕ) (f : RawFile) → AnswersNames digest → FitsFile f
         → Passes (file_checks digest f) → CanSave f.version digest (saved_in digest f) }
 {}
 
-/// What is read as a good file is a text of the repositories that it says; each text is read as the
-/// repositories that it is a text of, and is a text of no others.
+/// Bytes that are read as a good file are a text of the repositories that it says. Each text of
+/// repositories is read as these repositories, and is a text of no others.
 pub fn texts_are_read()
     ensures found { (digest : List ℕ → List ℕ) (bytes : List ℕ) (f : RawFile)
         → AnswersNames digest → All (λ byte. byte < 256) bytes

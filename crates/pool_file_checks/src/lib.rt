@@ -1,7 +1,8 @@
 //! What a pool file may say, and which repositories it says.
 //!
-//! The checks of its objects and of each tenant stand in their order; `read_judged` reads a file and
-//! judges it. Nothing here knows a pool or a table.
+//! `read_judged` reads a file and judges it. `check_file` makes all checks of a file in their
+//! order; the other checks are its parts. Crate pool_file makes pools and tables from a judged
+//! file.
 #![tactic(auto)]
 
 mod contents;

@@ -10,7 +10,7 @@ use git_objects::Kind;
 use pool_file_format::RawObject;
 use std::alloc::Global;
 
-/// The kind of a byte that is one's; every other is a blob's.
+/// The kind of this byte of the file. A byte of no kind counts as that of a blob.
 pub fn kind_of(byte: u8) -> Kind
     ensures { result ≡ kind_of byte }
 {
@@ -22,7 +22,8 @@ pub fn kind_of(byte: u8) -> Kind
     }
 }
 
-/// The content of the object of a number, from 0 in the file's list; an empty blob past its end.
+/// The content of the object with this number in the file's list, from 0; an empty blob past the
+/// end of the list.
 pub fn content_at(objects: &[RawObject], number: usize) -> (Kind, &[u8])
     ensures { content_from result.0 result.1.now ≡ content_at (objects_of objects.now) number }
 {
@@ -32,9 +33,9 @@ pub fn content_at(objects: &[RawObject], number: usize) -> (Kind, &[u8])
     }
 }
 
-/// The names of all objects of a file, in their order.
+/// The names of all objects of a file under this naming, in their order.
 ///
-/// `Memory` (90) where there is no room for them.
+/// `Memory` (90) if there is no memory for them.
 pub fn name_objects<N: Naming>(
     alloc: Global,
     naming: &N,

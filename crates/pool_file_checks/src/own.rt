@@ -20,7 +20,7 @@ fn add_number(index: &mut IndexMap<Name, usize>, id: Name, number: usize) -> Res
     Ok(())
 }
 
-// Adds the object of a number.
+// Adds the object with this number under its name.
 fn add_object(index: &mut IndexMap<Name, usize>, names: &[Name], number: u64) -> Result<(), Fault>
     ensures { number < length names.now
         → Adds index.old.entries (slice_index_or names.now number [])
@@ -33,10 +33,11 @@ fn add_object(index: &mut IndexMap<Name, usize>, names: &[Name], number: u64) ->
     }
 }
 
-/// The numbers of a tenant's objects under their names, in the order in which the tenant has them.
+/// An index of a tenant's objects: their numbers under their names, in the tenant's order. `names`
+/// are the names of all objects of the file, and `numbers` those of the tenant's objects.
 ///
-/// `NotCanonical` (64) for two objects of one name, whatever their contents; `Memory` (90) where
-/// there is no room for them.
+/// `Refused` with `NotCanonical` (64) if two of the objects have one name, whatever their contents.
+/// `Memory` (90) if there is no memory for the index.
 pub fn index_objects(
     alloc: Global,
     names: &[Name],

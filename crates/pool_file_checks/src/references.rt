@@ -72,7 +72,7 @@ fn tag_is_connected(
     }
 }
 
-// Whether what a text of a kind refers to stands before a place.
+// Whether the objects to which a text of a kind refers stand before a place.
 fn is_connected(
     alloc: Global,
     objects: &[RawObject],
@@ -93,7 +93,7 @@ fn is_connected(
     }
 }
 
-// Whether what the object at a place refers to stands before it.
+// Whether the objects to which the object at a place refers stand before it.
 fn place_is_connected(
     alloc: Global,
     objects: &[RawObject],
@@ -115,12 +115,12 @@ fn place_is_connected(
 }
 
 /// Judges what the objects of a tenant refer to. `index` has the numbers of its objects under their
-/// names, in its order; `objects` are those of the file, each of which can be stored, as
-/// `check_objects` judges. Of other objects nothing is promised but that the call returns.
+/// names, in the tenant's order. `objects` are all objects of the file, and have passed
+/// `check_objects`; for any others, only that the call returns is promised.
 ///
-/// `Refused` with `MissingReference` (66) where an object refers to one that does not stand before
-/// it in the tenant's order, or not of the kind that the mode, the header or the tag's type asks
-/// for. A gitlink refers to nothing. `Memory` (90) where there is no room to read an object.
+/// `Refused` with `MissingReference` (66) if an object refers to one that does not stand before it
+/// in the tenant's order, or that has another kind than the mode, the header or the tag's type asks
+/// for. A gitlink refers to nothing. `Memory` (90) if there is no memory to read an object.
 pub fn check_references(
     alloc: Global,
     objects: &[RawObject],

@@ -6,7 +6,7 @@ ghost use Rattle.pool_file_checks.specs.Checks.{Checked};
 ghost use Rattle.pool_file_checks.specs.FileRefs.{IsGoodRef, AreRising, ref_checks};
 ghost use Rattle.pool_file_format.specs.Shown.{objects_of, ref_of, refs_of, tenant_of};
 
-use crate::order::is_behind;
+use crate::order::is_after;
 use crate::targets::{is_short_ref_name, may_stand, target_at};
 use git_objects::Memory;
 use pool_file_format::{Fault, RawObject, RawRef, RawTenant, Refusal};
@@ -61,7 +61,7 @@ fn are_rising(refs: &[RawRef]) -> bool
 {
     let mut last: Option<&[u8]> = None;
     for one in refs {
-        if !is_behind(last, &one.name) {
+        if !is_after(last, &one.name) {
             return false;
         }
         last = Some(one.name.as_slice());
@@ -69,21 +69,24 @@ fn are_rising(refs: &[RawRef]) -> bool
     true
 }
 
-// Whether each ref has one of so many places.
+// Whether the place of each ref is below the count.
 fn are_placed(count: u64, refs: &[RawRef]) -> bool
     ensures { IsTrue result ↔ All (λ r. r.place < count) (refs_of refs.now) }
 {
     refs.iter().all(|one| one.place < count)
 }
 
-/// Judges the refs and HEAD of a tenant, where the file has these objects.
+/// Judges the refs and HEAD of a tenant. `objects` are all objects of the file.
 ///
-/// `Refused` with the first thing that is wrong: `BadRef` (67) for a ref outside of the tenant's
-/// namespaces, of a bad name or one above 1,024 bytes, or to a target that is neither a commit nor
-/// the tag whose own name the ref has; `NotCanonical` (64) for one that does not come after the ref
-/// before it; `MissingReference` (66) for a place that the tenant has no object at; and `BadRef`
-/// for a HEAD of a bad name. Each is looked for in all refs before the next. `Memory` (90) where
-/// there is no room to read a tag.
+/// `Refused` with the first fault in this order; each is looked for in all refs before the next:
+///
+/// 1. `BadRef` (67) if a ref is outside of the tenant's namespaces, has a bad name or one of more
+///    than 1,024 bytes, or has a target that is neither a commit nor the tag with the ref's name.
+/// 2. `NotCanonical` (64) if a ref does not come after the one before it.
+/// 3. `MissingReference` (66) if the tenant has no object at the place of a ref.
+/// 4. `BadRef` (67) if HEAD has a bad name or one of more than 1,024 bytes.
+///
+/// `Memory` (90) if there is no memory to read a tag or for the namespaces.
 pub fn check_refs(alloc: Global, objects: &[RawObject], tenant: &RawTenant) -> Result<(), Fault>
     ensures { Checked (ref_checks (objects_of objects.now) (tenant_of tenant.now)) result }
 {

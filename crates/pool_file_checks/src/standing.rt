@@ -1,4 +1,4 @@
-//! Which of a tenant's objects stand before a place, of which kind.
+//! Whether the objects to which an object refers stand before it, with the right kind.
 
 ghost use Rattle.std.specs.Prelude.{◌≡◌, ◌↔◌, IsTrue, All};
 ghost use Rattle.git_model.specs.declared.kind.Kind.TheVariants as kind;
@@ -15,14 +15,14 @@ use git_objects::{CommitParts, FileMode, Kind, TreeEntry, kind_of_mode};
 use indexmap::IndexMap;
 use pool_file_format::RawObject;
 
-// Whether the object of a number is of a kind.
+// Whether the object with this number has this kind.
 fn is_kind(objects: &[RawObject], number: usize, kind: Kind) -> bool
     ensures { IsTrue result ↔ ((content_at (objects_of objects.now) number).kind ≡ kind) }
 {
     content_at(objects, number).0 == kind
 }
 
-/// Whether the object of this name stands before a place, and is of this kind.
+/// Whether an object with this name stands before a place, and has this kind.
 pub fn stands_before(
     objects: &[RawObject],
     index: &IndexMap<Name, usize>,
@@ -57,7 +57,7 @@ fn entry_stands(
     }
 }
 
-/// Whether what the entries of a tree name stands before a place, gitlinks aside.
+/// Whether the objects that the entries of a tree name stand before a place. Gitlinks are skipped.
 pub fn entries_stand(
     objects: &[RawObject],
     index: &IndexMap<Name, usize>,

@@ -6,7 +6,7 @@ ghost use Rattle.git_objects.specs.Parts.{entry_of, entries_of};
 ghost use Rattle.tenant_tables.specs.Trees.{no_files, below, one_file, both};
 ghost use Rattle.pool_file_checks.specs.Checks.{Checked};
 ghost use Rattle.pool_file_checks.specs.Own.{objects_in};
-ghost use Rattle.pool_file_checks.specs.Sums.{AddsSum, EntryFits, Fits, FitsBehind, IsWithin, SumWhere, TreesFit, sum_of_entry, sum_of_tree};
+ghost use Rattle.pool_file_checks.specs.Sums.{AddsSum, EntryFits, Fits, FitsAfter, IsWithin, SumWhere, TreesFit, sum_of_entry, sum_of_tree};
 ghost use Rattle.pool_file_format.specs.Shown.{objects_of};
 
 use crate::naming::content_at;
@@ -32,7 +32,7 @@ fn is_within(sum: Summary) -> bool
     sum.files <= FILES_LIMIT && sum.depth <= DEPTH_LIMIT && sum.longest <= PATH_LIMIT
 }
 
-// The sum, where it is within the limits.
+// The sum, if it is within the limits.
 fn kept(sum: Summary) -> Option<Summary>
     ensures { SumWhere (IsWithin sum) sum result }
 {
@@ -63,8 +63,8 @@ fn one_file(name: &[u8]) -> Option<Summary>
     })
 }
 
-// The files of a directory's tree, below its name; none where it has no files. What is past a limit
-// already is not added to, so that nothing wraps.
+// The sum of a directory's tree with the directory's name before each path; `None` if the tree has
+// no files or a limit is passed. A sum past a limit is not added to, so that nothing wraps.
 fn below(name: &[u8], tree: Summary) -> Option<Summary>
     ensures { SumWhere ((tree.files ≢ 0) × IsWithin (below name.now tree))
         (below name.now tree) result }
@@ -91,7 +91,7 @@ fn both(first: Summary, second: Summary) -> Option<Summary>
     })
 }
 
-// What an entry adds. The tree of a directory stands among those so far.
+// What an entry adds. The tree of a directory is looked up among the sums so far.
 fn entry_sum(sums: &IndexMap<Name, Summary>, entry: &TreeEntry<'_>) -> Option<Summary>
     ensures { SumWhere (EntryFits sums.now.entries (entry_of entry.now))
         (sum_of_entry sums.now.entries (entry_of entry.now)) result }
@@ -103,7 +103,7 @@ fn entry_sum(sums: &IndexMap<Name, Summary>, entry: &TreeEntry<'_>) -> Option<Su
 }
 
 fn tree_sum(sums: &IndexMap<Name, Summary>, entries: &[TreeEntry<'_>]) -> Option<Summary>
-    ensures { SumWhere (FitsBehind sums.now.entries (entries_of entries.now))
+    ensures { SumWhere (FitsAfter sums.now.entries (entries_of entries.now))
         (sum_of_tree sums.now.entries (entries_of entries.now)) result }
 {
     let mut sum = no_files();
@@ -144,10 +144,11 @@ fn add_tree(
     Ok(())
 }
 
-/// Adds the sum of an object to those of the trees before it, where it is a tree.
+/// Adds the sum of an object to `sums` if the object is a tree. `sums` are those of the trees
+/// before it, under their names.
 ///
-/// `Refused` with `BadObject` (65) for a tree that does not fit after them, as `check_sums` says.
-/// `Memory` (90) where there is no room to read it or to note its size.
+/// `Refused` with `BadObject` (65) if `check_sums` would refuse the tree after these. `Memory` (90)
+/// if there is no memory to read it or to note its sum.
 pub fn add_object(
     alloc: Global,
     sums: &mut IndexMap<Name, Summary>,
@@ -167,13 +168,13 @@ pub fn add_object(
 
 /// Judges the sizes of a tenant's trees in turn.
 ///
-/// `objects` are those of the file, and `index` has the numbers of the tenant's under their names,
-/// in its order.
+/// `objects` are all objects of the file, and `index` has the numbers of the tenant's objects under
+/// their names, in the tenant's order.
 ///
-/// `Refused` with `BadObject` (65) for contents that are no tree's, for a directory whose tree does
-/// not stand before or has no files, and for a tree past a limit: 1,048,576 files, 256 components
-/// and 16,383 bytes of a path. `Memory` (90) where there is no room to read a tree or to note its
-/// size.
+/// `Refused` with `BadObject` (65) if no tree has the contents, if the tree of a directory does not
+/// stand before or has no files, or if a tree is past a limit: 1,048,576 files, and 256 components
+/// and 16,383 bytes of a path. `Memory` (90) if there is no memory to read a tree or to note its
+/// sum.
 pub fn check_sums(
     alloc: Global,
     objects: &[RawObject],

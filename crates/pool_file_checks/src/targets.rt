@@ -1,4 +1,4 @@
-//! What the refs of a file may hold.
+//! Which targets the refs of a file may have.
 
 ghost use Rattle.std.specs.Prelude.{◌≡◌, ◌↔◌, ◌++◌, codes, IfOk, IfSome, IsTrue};
 ghost use Rattle.std.specs.Option.{option_map};
@@ -14,7 +14,7 @@ use git_objects::{Kind, Memory, read_tag};
 use pool_file_format::RawObject;
 use std::alloc::Global;
 
-/// The object at a place of a tenant's, where there is one.
+/// The object at this place among a tenant's objects, if there is one.
 pub fn target_at<'a>(objects: &'a [RawObject], numbers: &[u64], place: u64) -> Option<&'a RawObject>
     ensures { option_map (λ o. object_of o.now) result
         ≡ target_at (objects_of objects.now) numbers.now place }
@@ -30,7 +30,7 @@ pub fn is_short_ref_name(text: &[u8]) -> bool
     is_ref_name(text) && text.len() <= REF_NAME_LIMIT
 }
 
-// Whether a ref is that of a tag of this name.
+// Whether a ref is that of the tag with this name.
 fn is_ref_of(name: &[u8], tag: &[u8]) -> bool
     ensures { IsTrue result ↔ (name.now ≡ codes "refs/tags/" ++ tag.now) }
 {
@@ -71,7 +71,9 @@ fn may_target(alloc: Global, name: &[u8], target: &RawObject) -> Result<bool, Me
     }
 }
 
-/// Whether there may be a ref of this name, and it may hold this target, if it has one.
+/// Whether a ref may have this name, and this target if there is one.
+///
+/// `Memory` (90) if there is no memory to read a tag.
 pub fn may_stand(alloc: Global, name: &[u8], target: Option<&RawObject>) -> Result<bool, Memory>
     ensures { IfOk result (λ b. IsTrue b ↔ (IsShortRefName name.now
         × IfSome (option_map (λ o. object_of o.now) target.entry) (MayTarget name.now))) }

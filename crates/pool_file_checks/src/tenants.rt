@@ -7,7 +7,7 @@ ghost use Rattle.pool_file_checks.specs.Checks.{Checked};
 ghost use Rattle.pool_file_checks.specs.Tenants.{IsNameIn, IsWorthSaving, name_checks, number_checks};
 ghost use Rattle.pool_file_format.specs.Shown.{tenant_of};
 
-use crate::order::is_behind;
+use crate::order::is_after;
 use pool_file_format::{Fault, RawTenant, Refusal};
 use tenant_refs::{FIRST_HEAD, is_tenant_name};
 
@@ -34,18 +34,19 @@ fn has_first_head(tenant: &RawTenant) -> bool
     tenant.head.as_slice() == FIRST_HEAD
 }
 
-// Whether there is anything under a tenant's name.
+// Whether a tenant has anything to save.
 fn is_worth_saving(tenant: &RawTenant) -> bool
     ensures { IsTrue result ↔ IsWorthSaving (tenant_of tenant.now) }
 {
     !tenant.numbers.as_slice().is_empty() || !has_first_head(tenant)
 }
 
-/// Judges the name of a tenant in a file of a version, after the name of the tenant before it.
+/// Judges the name of a tenant in a file of this version. `last` is the name of the tenant before
+/// it, if there is one.
 ///
-/// `Refused` with `NotCanonical` (64) for a bad name, for one of several parts in version 1, for
-/// one that does not come after the name before it, and for a tenant that has neither an object nor
-/// another HEAD than `refs/heads/main`. Takes no memory.
+/// `Refused` with `NotCanonical` (64) if the name is bad, has several parts in version 1, or does
+/// not come after `last`, or if the tenant has neither an object nor a HEAD other than
+/// `refs/heads/main`. Takes no memory.
 pub fn check_name(version: u32, last: Option<&[u8]>, tenant: &RawTenant) -> Result<(), Fault>
     ensures { Checked (name_checks version (option_map (λ o. o.now) last.entry)
         (tenant_of tenant.now)) result }
@@ -53,7 +54,7 @@ pub fn check_name(version: u32, last: Option<&[u8]>, tenant: &RawTenant) -> Resu
     if !is_name_in(version, &tenant.name) {
         return Err(Fault::Refused(Refusal::NotCanonical));
     }
-    if !is_behind(last, &tenant.name) {
+    if !is_after(last, &tenant.name) {
         return Err(Fault::Refused(Refusal::NotCanonical));
     }
     if !is_worth_saving(tenant) {
@@ -62,18 +63,18 @@ pub fn check_name(version: u32, last: Option<&[u8]>, tenant: &RawTenant) -> Resu
     Ok(())
 }
 
-// Whether these are numbers of so many objects.
+// Whether each of these numbers is below the count.
 fn are_below(count: u64, numbers: &[u64]) -> bool
     ensures { IsTrue result ↔ All (λ n. n < count) numbers.now }
 {
     numbers.iter().all(|number| *number < count)
 }
 
-/// Judges the numbers of a tenant's objects, of which the file has so many, and how many objects
-/// and refs it has.
+/// Judges the numbers of a tenant's objects, in a file with `count` objects, and how many objects
+/// and refs the tenant has.
 ///
-/// `Refused` with `NotCanonical` (64) for a number that is none of an object, and for more than
-/// 4,194,304 objects or 65,536 refs. Takes no memory.
+/// `Refused` with `NotCanonical` (64) if a number is not below `count`, or if the tenant has more
+/// than 4,194,304 objects or 65,536 refs. Takes no memory.
 pub fn check_numbers(count: u64, tenant: &RawTenant) -> Result<(), Fault>
     ensures { Checked (number_checks count (tenant_of tenant.now)) result }
 {

@@ -27,7 +27,7 @@ fn are_same(numbers: &[u64], others: &[u64]) -> bool
     numbers == others
 }
 
-// Judges the objects of a tenant by their names, by what they refer to and by their trees' sizes.
+// Judges the names of a tenant's objects, what they refer to, and the sizes of its trees.
 fn check_own(
     alloc: Global,
     objects: &[RawObject],
@@ -43,7 +43,7 @@ fn check_own(
     check_sums(alloc, objects, &index)
 }
 
-// The same, where the objects of the numbers in `judged` have passed: they do not stand here again.
+// The same, after the objects of the numbers in `judged` have passed: those are not judged again.
 fn check_unless_judged(
     alloc: Global,
     objects: &[RawObject],
@@ -105,14 +105,16 @@ fn check_tenants(
     Ok(())
 }
 
-/// Judges what a pool file says, whose objects have these names, as `name_objects` answers them.
-/// Objects of the same numbers as those of the tenant before are judged once for both.
+/// Judges what a pool file says. `names` are the names of its objects, as `name_objects` answers
+/// them. If a tenant has the same numbers as the tenant before, their objects are judged once.
 ///
-/// `Refused` with the first thing that is wrong, where all objects come before all tenants, and the
-/// tenants in turn: `BadObject` (65) and `NotCanonical` (64) of the objects, as `check_objects`; of
-/// each tenant what `check_name`, `check_numbers`, `index_objects`, `check_references`,
-/// `check_sums` and `check_refs` refuse, in this order; and `NotCanonical` for an object that no
-/// tenant has. `Memory` (90) where there is no room for what is read or marked. Changes nothing.
+/// - `Refused` with the first fault. First come the objects: `BadObject` (65) and `NotCanonical`
+///   (64), as in `check_objects`. Then comes each tenant in turn, with the refusals of
+///   `check_name`, `check_numbers`, `index_objects`, `check_references`, `check_sums` and
+///   `check_refs`, in this order. Last comes `NotCanonical` if an object belongs to no tenant.
+/// - `Memory` (90) if there is no memory for what is read or marked.
+///
+/// Nothing is changed.
 pub fn check_file(alloc: Global, names: &[Name], file: &RawFile) -> Result<(), Fault>
     ensures { (digest : List ℕ → List ℕ)
         → names.now ≡ names_of digest (objects_of file.now.objects.items)

@@ -78,25 +78,25 @@ object_none a b e p = reads_fails byte_at (λ kind. sized_at w64 kind.1 >>= λ t
 
 -- ---- a ref
 
-abbrev pub ref_behind : List ℕ → List ℕ → Result (RawRef × List ℕ) Refusal
-ref_behind name rest = number_at w64 rest >>= λ place. Ok (record { name = name; place = place.0 }, place.1)
+abbrev pub ref_after : List ℕ → List ℕ → Result (RawRef × List ℕ) Refusal
+ref_after name rest = number_at w64 rest >>= λ place. Ok (record { name = name; place = place.0 }, place.1)
 
 pub ref_none : {bound : ℕ} (a b : Device) (e : Fault) → Reads {A = List ℕ} bound (sized_at w16) a (Err e) b → Reads bound ref_at a (Err e) b
 unfolding ref_at
-ref_none a b e p = reads_fails (sized_at w16) (λ name. ref_behind name.0 name.1) a b e p
+ref_none a b e p = reads_fails (sized_at w16) (λ name. ref_after name.0 name.1) a b e p
 
 pub ref_fails : {bound : ℕ} (name : List ℕ) (a b c : Device) (e : Fault) → Reads bound (sized_at w16) a (Ok name) b → Reads {A = ℕ} bound (number_at w64) b (Err e) c
     → Reads bound ref_at a (Err e) c
 unfolding ref_at
 ref_fails name a b c e p q =
-    reads_then (sized_at w16) (λ name. ref_behind name.0 name.1) a b c name (Err e) p
+    reads_then (sized_at w16) (λ name. ref_after name.0 name.1) a b c name (Err e) p
     (reads_fails (number_at w64) (λ place. Ok (record { name = name; place = place.0 }, place.1)) b c e q)
 
 pub ref_reads : {bound : ℕ} (name : List ℕ) (place : ℕ) (a b c : Device) → Reads bound (sized_at w16) a (Ok name) b → Reads bound (number_at w64) b (Ok place) c
     → Reads bound ref_at a (Ok (record { name = name; place = place })) c
 unfolding ref_at
 ref_reads name place a b c p q =
-    reads_then (sized_at w16) (λ name. ref_behind name.0 name.1) a b c name (Ok (record { name = name; place = place })) p
+    reads_then (sized_at w16) (λ name. ref_after name.0 name.1) a b c name (Ok (record { name = name; place = place })) p
     (reads_then (number_at w64) (λ place. Ok (record { name = name; place = place.0 }, place.1)) b c c place (Ok (record { name = name; place = place })) q
     (reads_value (record { name = name; place = place }) c))
 
@@ -116,35 +116,35 @@ head_later {bound} version r a b other p =
 abbrev pub tenant_end : ℕ → List ℕ → List ℕ → List RawRef → List ℕ → Result (RawTenant × List ℕ) Refusal
 tenant_end version name numbers refs rest = head_at version rest >>= λ head. Ok (record { name = name; numbers = numbers; refs = refs; head = head.0 }, head.1)
 
-abbrev pub behind_numbers : ℕ → List ℕ → List ℕ → List ℕ → Result (RawTenant × List ℕ) Refusal
-behind_numbers version name numbers rest = counted_at ref_at rest >>= λ refs. tenant_end version name numbers refs.0 refs.1
+abbrev pub after_numbers : ℕ → List ℕ → List ℕ → List ℕ → Result (RawTenant × List ℕ) Refusal
+after_numbers version name numbers rest = counted_at ref_at rest >>= λ refs. tenant_end version name numbers refs.0 refs.1
 
-abbrev pub behind_name : ℕ → List ℕ → List ℕ → Result (RawTenant × List ℕ) Refusal
-behind_name version name rest = counted_at (number_at w64) rest >>= λ numbers. behind_numbers version name numbers.0 numbers.1
+abbrev pub after_name : ℕ → List ℕ → List ℕ → Result (RawTenant × List ℕ) Refusal
+after_name version name rest = counted_at (number_at w64) rest >>= λ numbers. after_numbers version name numbers.0 numbers.1
 
 pub tenant_then : {bound : ℕ} (version : ℕ) (name : List ℕ) (a b c : Device) (r : Result RawTenant Fault) → Reads bound (sized_at w16) a (Ok name) b
-    → Reads bound (behind_name version name) b r c → Reads bound (tenant_at version) a r c
+    → Reads bound (after_name version name) b r c → Reads bound (tenant_at version) a r c
 unfolding tenant_at
-tenant_then version name a b c r p q = reads_then (sized_at w16) (λ name. behind_name version name.0 name.1) a b c name r p q
+tenant_then version name a b c r p q = reads_then (sized_at w16) (λ name. after_name version name.0 name.1) a b c name r p q
 
 pub tenant_none : {bound : ℕ} (version : ℕ) (a b : Device) (e : Fault) → Reads {A = List ℕ} bound (sized_at w16) a (Err e) b → Reads bound (tenant_at version) a (Err e) b
 unfolding tenant_at
-tenant_none version a b e p = reads_fails (sized_at w16) (λ name. behind_name version name.0 name.1) a b e p
+tenant_none version a b e p = reads_fails (sized_at w16) (λ name. after_name version name.0 name.1) a b e p
 
 pub name_then : {bound : ℕ} (version : ℕ) (name numbers : List ℕ) (a b c : Device) (r : Result RawTenant Fault) → Reads bound (counted_at (number_at w64)) a (Ok numbers) b
-    → Reads bound (behind_numbers version name numbers) b r c → Reads bound (behind_name version name) a r c
-name_then version name numbers a b c r p q = reads_then (counted_at (number_at w64)) (λ numbers. behind_numbers version name numbers.0 numbers.1) a b c numbers r p q
+    → Reads bound (after_numbers version name numbers) b r c → Reads bound (after_name version name) a r c
+name_then version name numbers a b c r p q = reads_then (counted_at (number_at w64)) (λ numbers. after_numbers version name numbers.0 numbers.1) a b c numbers r p q
 
 pub name_fails : {bound : ℕ} (version : ℕ) (name : List ℕ) (a b : Device) (e : Fault) → Reads {A = List ℕ} bound (counted_at (number_at w64)) a (Err e) b
-    → Reads bound (behind_name version name) a (Err e) b
-name_fails version name a b e p = reads_fails (counted_at (number_at w64)) (λ numbers. behind_numbers version name numbers.0 numbers.1) a b e p
+    → Reads bound (after_name version name) a (Err e) b
+name_fails version name a b e p = reads_fails (counted_at (number_at w64)) (λ numbers. after_numbers version name numbers.0 numbers.1) a b e p
 
 pub numbers_then : {bound : ℕ} (version : ℕ) (name numbers : List ℕ) (refs : List RawRef) (a b c : Device) (r : Result RawTenant Fault) → Reads bound (counted_at ref_at) a (Ok refs) b
-    → Reads bound (tenant_end version name numbers refs) b r c → Reads bound (behind_numbers version name numbers) a r c
+    → Reads bound (tenant_end version name numbers refs) b r c → Reads bound (after_numbers version name numbers) a r c
 numbers_then version name numbers refs a b c r p q = reads_then (counted_at ref_at) (λ refs. tenant_end version name numbers refs.0 refs.1) a b c refs r p q
 
 pub numbers_fail : {bound : ℕ} (version : ℕ) (name numbers : List ℕ) (a b : Device) (e : Fault) → Reads {A = List RawRef} bound (counted_at ref_at) a (Err e) b
-    → Reads bound (behind_numbers version name numbers) a (Err e) b
+    → Reads bound (after_numbers version name numbers) a (Err e) b
 numbers_fail version name numbers a b e p = reads_fails (counted_at ref_at) (λ refs. tenant_end version name numbers refs.0 refs.1) a b e p
 
 pub end_reads : {bound : ℕ} (version : ℕ) (name numbers : List ℕ) (refs : List RawRef) (head : List ℕ) (a b : Device) → Reads bound (head_at version) a (Ok head) b

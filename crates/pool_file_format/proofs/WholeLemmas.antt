@@ -145,43 +145,43 @@ version_other {bound} version a b other p =
 
 -- ---- the body
 
-abbrev pub behind_objects : ℕ → List RawObject → List ℕ → Result (RawFile × List ℕ) Refusal
-behind_objects version objects rest = counted_at (tenant_at version) rest >>= λ tenants. Ok (record { version = version; objects = objects; tenants = tenants.0 }, tenants.1)
+abbrev pub after_objects : ℕ → List RawObject → List ℕ → Result (RawFile × List ℕ) Refusal
+after_objects version objects rest = counted_at (tenant_at version) rest >>= λ tenants. Ok (record { version = version; objects = objects; tenants = tenants.0 }, tenants.1)
 
-abbrev pub behind_version : ℕ → List ℕ → Result (RawFile × List ℕ) Refusal
-behind_version version rest = counted_at object_at rest >>= λ objects. behind_objects version objects.0 objects.1
+abbrev pub after_version : ℕ → List ℕ → Result (RawFile × List ℕ) Refusal
+after_version version rest = counted_at object_at rest >>= λ objects. after_objects version objects.0 objects.1
 
-abbrev pub behind_front : List ℕ → Result (RawFile × List ℕ) Refusal
-behind_front rest = version_at rest >>= λ version. behind_version version.0 version.1
+abbrev pub after_front : List ℕ → Result (RawFile × List ℕ) Refusal
+after_front rest = version_at rest >>= λ version. after_version version.0 version.1
 
 pub body_none : {bound : ℕ} (a b : Device) (e : Fault) → Reads {A = Unit} bound (front_at magic) a (Err e) b → Reads bound body_at a (Err e) b
 unfolding body_at
-body_none a b e p = reads_fails (front_at magic) (λ front. behind_front front.1) a b e p
+body_none a b e p = reads_fails (front_at magic) (λ front. after_front front.1) a b e p
 
-pub body_then : {bound : ℕ} (a b c : Device) (r : Result RawFile Fault) → Reads bound (front_at magic) a (Ok tt) b → Reads bound behind_front b r c → Reads bound body_at a r c
+pub body_then : {bound : ℕ} (a b c : Device) (r : Result RawFile Fault) → Reads bound (front_at magic) a (Ok tt) b → Reads bound after_front b r c → Reads bound body_at a r c
 unfolding body_at
-body_then a b c r p q = reads_then (front_at magic) (λ front. behind_front front.1) a b c tt r p q
+body_then a b c r p q = reads_then (front_at magic) (λ front. after_front front.1) a b c tt r p q
 
-pub version_none : {bound : ℕ} (a b : Device) (e : Fault) → Reads {A = ℕ} bound version_at a (Err e) b → Reads bound behind_front a (Err e) b
-version_none a b e p = reads_fails version_at (λ version. behind_version version.0 version.1) a b e p
+pub version_none : {bound : ℕ} (a b : Device) (e : Fault) → Reads {A = ℕ} bound version_at a (Err e) b → Reads bound after_front a (Err e) b
+version_none a b e p = reads_fails version_at (λ version. after_version version.0 version.1) a b e p
 
-pub version_then : {bound : ℕ} (version : ℕ) (a b c : Device) (r : Result RawFile Fault) → Reads bound version_at a (Ok version) b → Reads bound (behind_version version) b r c
-    → Reads bound behind_front a r c
-version_then version a b c r p q = reads_then version_at (λ version. behind_version version.0 version.1) a b c version r p q
+pub version_then : {bound : ℕ} (version : ℕ) (a b c : Device) (r : Result RawFile Fault) → Reads bound version_at a (Ok version) b → Reads bound (after_version version) b r c
+    → Reads bound after_front a r c
+version_then version a b c r p q = reads_then version_at (λ version. after_version version.0 version.1) a b c version r p q
 
-pub objects_none : {bound : ℕ} (version : ℕ) (a b : Device) (e : Fault) → Reads {A = List RawObject} bound (counted_at object_at) a (Err e) b → Reads bound (behind_version version) a (Err e) b
-objects_none version a b e p = reads_fails (counted_at object_at) (λ objects. behind_objects version objects.0 objects.1) a b e p
+pub objects_none : {bound : ℕ} (version : ℕ) (a b : Device) (e : Fault) → Reads {A = List RawObject} bound (counted_at object_at) a (Err e) b → Reads bound (after_version version) a (Err e) b
+objects_none version a b e p = reads_fails (counted_at object_at) (λ objects. after_objects version objects.0 objects.1) a b e p
 
 pub objects_then : {bound : ℕ} (version : ℕ) (objects : List RawObject) (a b c : Device) (r : Result RawFile Fault) → Reads bound (counted_at object_at) a (Ok objects) b
-    → Reads bound (behind_objects version objects) b r c → Reads bound (behind_version version) a r c
-objects_then version objects a b c r p q = reads_then (counted_at object_at) (λ objects. behind_objects version objects.0 objects.1) a b c objects r p q
+    → Reads bound (after_objects version objects) b r c → Reads bound (after_version version) a r c
+objects_then version objects a b c r p q = reads_then (counted_at object_at) (λ objects. after_objects version objects.0 objects.1) a b c objects r p q
 
 pub tenants_none : {bound : ℕ} (version : ℕ) (objects : List RawObject) (a b : Device) (e : Fault) → Reads {A = List RawTenant} bound (counted_at (tenant_at version)) a (Err e) b
-    → Reads bound (behind_objects version objects) a (Err e) b
+    → Reads bound (after_objects version objects) a (Err e) b
 tenants_none version objects a b e p = reads_fails (counted_at (tenant_at version)) (λ tenants. Ok (record { version = version; objects = objects; tenants = tenants.0 }, tenants.1)) a b e p
 
 pub tenants_read : {bound : ℕ} (version : ℕ) (objects : List RawObject) (tenants : List RawTenant) (a b : Device) → Reads bound (counted_at (tenant_at version)) a (Ok tenants) b
-    → Reads bound (behind_objects version objects) a (Ok (record { version = version; objects = objects; tenants = tenants })) b
+    → Reads bound (after_objects version objects) a (Ok (record { version = version; objects = objects; tenants = tenants })) b
 tenants_read version objects tenants a b p =
     reads_then (counted_at (tenant_at version)) (λ tenants. Ok (record { version = version; objects = objects; tenants = tenants.0 }, tenants.1)) a b b tenants
     (Ok (record { version = version; objects = objects; tenants = tenants })) p
@@ -238,33 +238,33 @@ end_out bound a out = record {
 
 -- ---- the whole
 
-abbrev pub behind_digest : RawFile → List ℕ → List ℕ → Result ((RawFile × List ℕ) × List ℕ) Refusal
-behind_digest file digest rest = end_at rest >>= λ end. Ok ((file, digest), end.1)
+abbrev pub after_digest : RawFile → List ℕ → List ℕ → Result ((RawFile × List ℕ) × List ℕ) Refusal
+after_digest file digest rest = end_at rest >>= λ end. Ok ((file, digest), end.1)
 
-abbrev pub behind_body : RawFile → List ℕ → Result ((RawFile × List ℕ) × List ℕ) Refusal
-behind_body file rest = bytes_at 20 rest >>= λ digest. behind_digest file digest.0 digest.1
+abbrev pub after_body : RawFile → List ℕ → Result ((RawFile × List ℕ) × List ℕ) Refusal
+after_body file rest = bytes_at 20 rest >>= λ digest. after_digest file digest.0 digest.1
 
 pub whole_none : {bound : ℕ} (a b : Device) (e : Fault) → Reads {A = RawFile} bound body_at a (Err e) b → ReadsBy 1 bound by_lengths a (Err e) b
 unfolding by_lengths
-whole_none a b e p = reads_fails body_at (λ body. behind_body body.0 body.1) a b e p
+whole_none a b e p = reads_fails body_at (λ body. after_body body.0 body.1) a b e p
 
-pub whole_then : {bound : ℕ} (file : RawFile) (a b c : Device) (r : Result (RawFile × List ℕ) Fault) → Reads bound body_at a (Ok file) b → ReadsBy 1 bound (behind_body file) b r c
+pub whole_then : {bound : ℕ} (file : RawFile) (a b c : Device) (r : Result (RawFile × List ℕ) Fault) → Reads bound body_at a (Ok file) b → ReadsBy 1 bound (after_body file) b r c
     → ReadsBy 1 bound by_lengths a r c
 unfolding by_lengths
-whole_then file a b c r p q = reads_then body_at (λ body. behind_body body.0 body.1) a b c file r p q
+whole_then file a b c r p q = reads_then body_at (λ body. after_body body.0 body.1) a b c file r p q
 
-pub digest_none : {bound : ℕ} (file : RawFile) (a b : Device) (e : Fault) → Reads {A = List ℕ} bound (bytes_at 20) a (Err e) b → ReadsBy 1 bound (behind_body file) a (Err e) b
-digest_none file a b e p = reads_fails (bytes_at 20) (λ digest. behind_digest file digest.0 digest.1) a b e p
+pub digest_none : {bound : ℕ} (file : RawFile) (a b : Device) (e : Fault) → Reads {A = List ℕ} bound (bytes_at 20) a (Err e) b → ReadsBy 1 bound (after_body file) a (Err e) b
+digest_none file a b e p = reads_fails (bytes_at 20) (λ digest. after_digest file digest.0 digest.1) a b e p
 
 pub digest_then : {bound : ℕ} (file : RawFile) (digest : List ℕ) (a b c : Device) (r : Result (RawFile × List ℕ) Fault) → Reads bound (bytes_at 20) a (Ok digest) b
-    → ReadsBy 1 bound (behind_digest file digest) b r c → ReadsBy 1 bound (behind_body file) a r c
-digest_then file digest a b c r p q = reads_then (bytes_at 20) (λ digest. behind_digest file digest.0 digest.1) a b c digest r p q
+    → ReadsBy 1 bound (after_digest file digest) b r c → ReadsBy 1 bound (after_body file) a r c
+digest_then file digest a b c r p q = reads_then (bytes_at 20) (λ digest. after_digest file digest.0 digest.1) a b c digest r p q
 
 pub end_none : {bound : ℕ} (file : RawFile) (digest : List ℕ) (a b : Device) (e : Fault) → ReadsBy {A = Unit} 1 bound end_at a (Err e) b
-    → ReadsBy 1 bound (behind_digest file digest) a (Err e) b
+    → ReadsBy 1 bound (after_digest file digest) a (Err e) b
 end_none file digest a b e p = reads_fails end_at (λ end. Ok ((file, digest), end.1)) a b e p
 
-pub end_then : {bound : ℕ} (file : RawFile) (digest : List ℕ) (a b : Device) → ReadsBy 1 bound end_at a (Ok tt) b → ReadsBy 1 bound (behind_digest file digest) a (Ok (file, digest)) b
+pub end_then : {bound : ℕ} (file : RawFile) (digest : List ℕ) (a b : Device) → ReadsBy 1 bound end_at a (Ok tt) b → ReadsBy 1 bound (after_digest file digest) a (Ok (file, digest)) b
 end_then file digest a b p = record {
   gave = gave_then end_at (λ end. Ok ((file, digest), end.1)) a.known b.known b.known tt (Ok (file, digest)) p.gave (value_given (file, digest) b.known);
   blames = p.blames;

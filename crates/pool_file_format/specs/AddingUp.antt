@@ -1,4 +1,4 @@
--- Pieces that a writer takes, a digest, or a sink after one of these, add up.
+-- Pieces add up (`AddsUp`) for each sink: a writer, a digest, and a sink in front of another sink.
 use Rattle.std.proofs.Common.{◌≡◌, ℕ, List, [], ◌++◌, Option, refl, sym, ap, subst, ◌∙◌, append_assoc, append-nil}
 use Rattle.std.specs.Io.KnownBytes.{Appends}
 use Rattle.byte_devices.specs.declared.counted.Counted.{Counted}
@@ -96,8 +96,8 @@ digested_adds_up Holds Took Failed laws = record {
   earlier = λ a b xs ys p. (p.0, (p.1.0, laws.earlier a.sink.now b.sink.now xs ys p.1.1));
 }
 
--- What waited, one text and another one, where the first one was gathered: they were sent before
--- the other one.
+-- A text `xs` was gathered: of what had waited and `xs`, the sink got `sent`, and the rest waits.
+-- If a text `ys` follows, `sent` is still the beginning of all three.
 sent_before : (waited xs ys sent waits : List ℕ) → waited ++ xs ≡ sent ++ waits
     → waited ++ (xs ++ ys) ≡ sent ++ (waits ++ ys)
 sent_before waited xs ys sent waits parts =

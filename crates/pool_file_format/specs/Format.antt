@@ -71,7 +71,7 @@ body_text f = magic ++ (to_be_bytes w32 f.version
 abbrev pub raw_text : (List ℕ → List ℕ) → RawFile → List ℕ
 raw_text digest f = body_text f ++ digest (body_text f)
 
--- ---- what has a text
+-- ---- which files have a text
 
 -- A length or a number that fits a width.
 abbrev pub FitsIn : Width → List ℕ → Type 0
@@ -80,7 +80,7 @@ FitsIn width bytes = length bytes < 2 ^ (8 * byte_len width)
 abbrev pub FitsNumber : ℕ → Type 0
 FitsNumber n = n < 2 ^ 64
 
--- As many as can be counted, each of which fits.
+-- Few enough to be counted in eight bytes, and each fits.
 abbrev pub AreCounted : {A : Type 0} → (A → Type 0) → List A → Type 0
 AreCounted Fits xs = (length xs < 2 ^ 64) × AllByRecursion Fits xs
 
@@ -92,7 +92,7 @@ pub record FitsRef (r : RawRef) : Type 0 where
   pub name : FitsIn w16 r.name
   pub place : FitsNumber r.place
 
--- In version 1 HEAD names the first one, `refs/heads/main`.
+-- In version 1, HEAD names `refs/heads/main`.
 abbrev pub FitsAsHead : Bool → List ℕ → Type 0
 FitsAsHead true head = head ≡ first_head
 FitsAsHead false head = FitsIn w16 head

@@ -7,7 +7,7 @@ use Rattle.pool_file_format.specs.declared.refusal.Refusal.TheVariants as refusa
 use Rattle.std.specs.Str.{bytes_eq}
 use Rattle.pool_file_format.specs.Format.{RawObject, RawRef, RawTenant, RawFile, magic, body_text}
 
--- What is read is a value and the bytes after it.
+-- A reading answers a value and the bytes after it, or a refusal.
 abbrev pub Read : Type 0 → Type 0
 Read A = List ℕ → Result (A × List ℕ) Refusal
 
@@ -17,7 +17,7 @@ abbrev pub ◌>>=◌ : {A B : Type 0} → Result A Refusal → (A → Result B R
 (Ok x) >>= f = f x
 (Err e) >>= f = Err e
 
--- So many bytes.
+-- The next `n` bytes.
 unfoldable pub bytes_at : ℕ → Read (List ℕ)
 bytes_at n bytes =
     if nat_lt (length bytes) n then Err refusal.CutOff else Ok (take n bytes, drop n bytes)
@@ -34,7 +34,7 @@ sized_at width bytes = do
   n ← number_at width bytes
   bytes_at n.0 n.1
 
--- So many, one after the other.
+-- `n` of them, one after another.
 unfoldable pub many_at : {A : Type 0} → Read A → ℕ → Read (List A)
 many_at at zero bytes = Ok ([], bytes)
 many_at at (suc n) bytes = do
@@ -65,7 +65,7 @@ ref_at bytes = do
   place ← number_at w64 name.1
   Ok (record { name = name.0; place = place.0 }, place.1)
 
--- Version 1 has no HEAD, which then names the first one.
+-- Version 1 stores no HEAD: it names `refs/heads/main`.
 unfoldable pub head_at : ℕ → Read (List ℕ)
 head_at version bytes = if version == 1 then Ok (first_head, bytes) else sized_at w16 bytes
 
@@ -77,7 +77,7 @@ tenant_at version bytes = do
   head ← head_at version refs.1
   Ok (record { name = name.0; numbers = numbers.0; refs = refs.0; head = head.0 }, head.1)
 
--- The first bytes are looked at one by one.
+-- The first bytes are compared one by one, and the first other byte is refused.
 unfoldable pub expected_at : ℕ → Read Unit
 expected_at expected bytes = do
   byte ← byte_at bytes
@@ -103,12 +103,12 @@ body_at bytes = do
   tenants ← counted_at (tenant_at version.0) objects.1
   Ok (record { version = version.0; objects = objects.0; tenants = tenants.0 }, tenants.1)
 
--- Nothing stands after the digest.
+-- The input ends after the digest.
 unfoldable pub end_at : Read Unit
 end_at [] = Ok (tt, [])
 end_at (byte ∷ rest) = Err refusal.TrailingBytes
 
--- A file by its lengths, with the digest that stands after it: all of the bytes.
+-- A file, read by its lengths, and the digest after it. They are all of the bytes.
 unfoldable pub by_lengths : Read (RawFile × List ℕ)
 by_lengths bytes = do
   body ← body_at bytes

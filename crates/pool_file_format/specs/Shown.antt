@@ -42,7 +42,7 @@ file_of f = record {
 abbrev pub lent_object_of : LentObject → RawObject
 lent_object_of o = record { kind = o.kind; bytes = o.bytes.now }
 
--- A file whose lists are lent, by what its objects are.
+-- A file whose lists are lent; `object_of` says what each of its objects is.
 abbrev pub listed_file : {O : Type 0} → (O → RawObject) → Listed O → RawFile
 listed_file object_of f = record {
   version = f.version;

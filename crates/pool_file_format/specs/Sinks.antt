@@ -1,4 +1,4 @@
--- Where the bytes of a file go, one piece after the other: to a writer, or into a digest.
+-- Where the bytes of a file go, one piece after another: to a writer, or into a digest.
 use Rattle.std.specs.Prelude.{◌≡◌, ◌%◌, ℕ, List, [], ◌++◌, sum, Result, Ok, Err}
 use Rattle.std.specs.Io.KnownBytes.{Appends}
 use Rattle.byte_devices.specs.Device.{Device, AppendsFront, HasFault}
@@ -7,7 +7,7 @@ use Rattle.pool_file_format.specs.declared.gathering.Digested.{Digested}
 use Rattle.pool_file_format.specs.declared.gathering.Gathered.{Gathered}
 use Rattle.byte_devices.specs.declared.device_fault.DeviceFault.{DeviceFault}
 
--- What is said of a sink that went from one state to another by these bytes.
+-- A statement about the bytes that brought a sink from one state to another.
 abbrev pub Moves : Type 0 → Type 1
 Moves S = S → S → List ℕ → Type 0
 
@@ -17,7 +17,7 @@ abbrev pub Gives : {S : Type 0} → Moves S → Moves S → S → Result Unit De
 Gives Took Failed old (Ok u) new bytes = Took old new bytes
 Gives Took Failed old (Err e) new bytes = Failed old new bytes
 
--- Pieces add up to the bytes of all of them.
+-- Two pieces, one after the other, are the same to a sink as one piece with the bytes of both.
 pub record AddsUp {S : Type 0} (Took Failed : Moves S) : Type 0 where
   pub none : (a : S) → Took a a []
   pub both : (a b c : S) (xs ys : List ℕ) → Took a b xs → Took b c ys → Took a c (xs ++ ys)
@@ -34,7 +34,7 @@ pub record HasBroken (old new : Device) (bytes : List ℕ) : Type 0 where
   pub front : AppendsFront old.known new.known bytes
   pub fault : HasFault old.faults new.faults
 
--- A digest of what was fed before goes on to that of these bytes after it.
+-- A digest of any message became the digest of that message with these bytes appended.
 abbrev pub Goes : {D : Type 0} → (D → List ℕ → Type 0) → D → D → List ℕ → Type 0
 Goes Holds old new bytes = (message : List ℕ) → Holds old message → Holds new (message ++ bytes)
 
@@ -48,19 +48,20 @@ abbrev pub FailedBoth : {D S : Type 0} → Moves S → Moves (Digested D S)
 FailedBoth Failed old new bytes = (new.running.ghost_name ≡ old.running.ghost_name)
     × ((new.sink.ghost_name ≡ old.sink.ghost_name) × Failed old.sink.now new.sink.now bytes)
 
--- Some bytes waited, and these came after them: what the sink took, and what waits now, are all
--- of them.
+-- Some bytes waited, and these came after them. Together they are what the sink took, and what
+-- waits now.
 pub record HasGathered {S : Type 0} (Took : Moves S) (old new : S) (waited waits bytes : List ℕ)
     : Type 0 where
   pub sent : List ℕ
   pub took : Took old new sent
   pub parts : waited ++ bytes ≡ sent ++ waits
 
--- Bytes went to a sink or wait before it, or the sink failed at them or at what waited.
+-- The bytes went on to the sink, or wait in the block.
 abbrev pub TookBlocks : {S : Type 0} → Moves S → Moves (Gathered S)
 TookBlocks Took old new bytes = (new.sink.ghost_name ≡ old.sink.ghost_name)
     × HasGathered Took old.sink.now new.sink.now old.block.items new.block.items bytes
 
+-- The sink failed at some of what had waited and these bytes.
 abbrev pub FailedBlocks : {S : Type 0} → Moves S → Moves (Gathered S)
 FailedBlocks Failed old new bytes = (new.sink.ghost_name ≡ old.sink.ghost_name)
     × Failed old.sink.now new.sink.now (old.block.items ++ bytes)
@@ -69,7 +70,7 @@ FailedBlocks Failed old new bytes = (new.sink.ghost_name ≡ old.sink.ghost_name
 abbrev pub SumsTo : TailSum → List ℕ → Type 0
 SumsTo tail message = tail.sum ≡ sum message % 256
 
--- What is written of a text, by the answer.
+-- How much of a text has been written, for each answer.
 abbrev pub Writes : Device → Result Unit DeviceFault → Device → List ℕ → Type 0
 Writes old (Ok u) new bytes = HasWritten old new bytes
 Writes old (Err e) new bytes = HasBroken old new bytes

@@ -1,4 +1,4 @@
--- What calls that read a part of a file do to a reader, by what they answer.
+-- What a call that reads a part of a file does to the reader, for each answer.
 use Rattle.std.specs.Prelude.{◌≡◌, ℕ, ◌+◌, ◌^◌, ◌<◌, ◌≤◌, List, ◌++◌, length, Option, None, Some, Result, Ok, Err, ◌⊎◌}
 use Rattle.byte_devices.specs.Device.{Device, HasRead, HasFault, IsWell}
 use Rattle.byte_devices.specs.Reading.{AreBytes}
@@ -12,13 +12,14 @@ abbrev pub shown : {X Y : Type 0} → (X → Y) → Result X Fault → Result Y 
 shown view (Ok x) = Ok (view x)
 shown view (Err e) = Err e
 
--- A refusal is that of the reading; a device or memory may fail in place of any answer.
+-- A refusal is the one that the reading answers. `Device` and `Memory` may replace any answer.
 abbrev pub Fails : {Y : Type 0} → Fault → Result Y Refusal → Type 0
 Fails (fault.Refused refusal) read = read ≡ Err refusal
 Fails fault.Device read = Unit {0}
 Fails fault.Memory read = Unit {0}
 
--- Of known bytes, the reader gave just what the reading gives, and keeps just what is after it.
+-- If the reader's bytes are known, a value is the one that the reading answers for them, and the
+-- reader has exactly the bytes after it left. If they are not known, this says nothing.
 abbrev pub Gave : {A : Type 0} → Read A → Option (List ℕ) → Result A Fault → Option (List ℕ)
     → Type 0
 Gave at None r new = Unit {0}
@@ -26,66 +27,68 @@ Gave at (Some bytes) (Ok x) None = ⊥
 Gave at (Some bytes) (Ok x) (Some rest) = at bytes ≡ Ok (x, rest)
 Gave at (Some bytes) (Err e) new = Fails e (at bytes)
 
--- Bytes were read, in at most as many calls as there are bytes, and so many more.
+-- Some bytes were read, in at most `length bytes + more` calls.
 pub record HasAsked (more : ℕ) (old new : Device) : Type 0 where
   pub bytes : List ℕ
   pub read : HasRead old new bytes
   pub giving : new.calls ≤ old.calls + length bytes + more
 
--- So it was, and no call failed.
+-- The same, and no call failed.
 pub record HasAskedWell (more : ℕ) (old new : Device) : Type 0 where
   pub asked : HasAsked more old new
   pub well : IsWell old new
 
--- And what the reader gave are bytes.
+-- The same, and every number that the reader gave is a byte.
 pub record HasGiven (more : ℕ) (old new : Device) : Type 0 where
   pub asked : HasAskedWell more old new
   pub small : AreBytes asked.asked.bytes
 
--- A call failed, and no other; the reader was called at most once more than it gave bytes.
+-- One call failed, and no other. The reader was called at most once more than it gave bytes.
 pub record HasFailedOnce (old new : Device) : Type 0 where
   pub asked : HasAsked 1 old new
   pub fault : HasFault old.faults new.faults
 
--- The reader does not end: the count of its calls is at the bound, and it gave at least as many
--- bytes as it was called. No call failed.
+-- The reader did not end within the bound: its count of calls has reached the bound. It gave at
+-- least as many bytes as there were calls, and no call failed.
 pub record IsEndless (bound : ℕ) (old new : Device) : Type 0 where
   pub asked : HasAskedWell 0 old new
   pub often : bound ≤ new.calls
 
--- Which calls were made, by the answer. After a value the reader was called at most so many times
--- more than it gave bytes. The device is blamed where a call of it failed, or where it does not
--- end; after any other fault no call failed, and one at most gave nothing.
+-- Which calls were made, for each answer.
+-- After a value: no call failed, and there were at most as many calls as bytes, plus `more`.
+-- After `Device`: one call failed, or the reader did not end within the bound.
+-- After another fault: no call failed, and there were at most as many calls as bytes, plus one.
 abbrev pub BlamesBy : {A : Type 0} → ℕ → ℕ → Result A Fault → Device → Device → Type 0
 BlamesBy more bound (Ok x) old new = HasGiven more old new
 BlamesBy more bound (Err fault.Device) old new = HasFailedOnce old new ⊎ IsEndless bound old new
 BlamesBy more bound (Err fault.Memory) old new = HasAskedWell 1 old new
 BlamesBy more bound (Err (fault.Refused refusal)) old new = HasAskedWell 1 old new
 
--- So it is for what is read up to the end of the input, which one call more meets.
+-- The same for a reading up to the end of the input: one more call, without a byte, finds the end.
 abbrev pub Blames : {A : Type 0} → ℕ → Result A Fault → Device → Device → Type 0
 Blames bound r old new = BlamesBy 1 bound r old new
 
--- A call read as this reading does, and made no call of the reader past the bound. The count of
--- bytes is a number of 64 bits.
+-- A call answers as the reading `at` does, calls the reader as `BlamesBy` says, and makes no call
+-- of the reader past the bound. The reader counts its bytes in 64 bits: `old.passed < 2 ^ 64`.
 pub record ReadsBy {A : Type 0} (more bound : ℕ) (at : Read A) (old : Device) (r : Result A Fault)
     (new : Device) : Type 0 where
   pub gave : Gave at old.known r new.known
   pub blames : old.passed < 2 ^ 64 → BlamesBy more bound r old new
   pub few : old.calls ≤ bound → new.calls ≤ bound
 
--- A part of a file was read so: up to a value each call of the reader gave bytes.
+-- The same for a part of a file: up to a value, every call of the reader gave bytes.
 abbrev pub Reads : {A : Type 0} → ℕ → Read A → Device → Result A Fault → Device → Type 0
 Reads bound at old r new = ReadsBy 0 bound at old r new
 
--- A call read up to the end of the input as this reading does, and made no call past the bound.
+-- The same for a whole file: a call reads up to the end of the input as `at` does, and makes no
+-- call of the reader past the bound.
 pub record ReadsAll {A : Type 0} (bound : ℕ) (at : Read A) (old : Device) (r : Result A Fault)
     (new : Device) : Type 0 where
   pub gave : Gave at old.known r new.known
   pub blames : Blames bound r old new
   pub few : new.calls ≤ bound
 
--- So many more bytes were read after these.
+-- `n` more bytes were read, and appended to these.
 abbrev pub Adds : ℕ → ℕ → List ℕ → Device → Result Unit Fault → List ℕ → Device → Type 0
 Adds bound n bytes old (Ok u) after new = (more : List ℕ) × (after ≡ bytes ++ more)
     × (length more ≡ n) × Reads bound (bytes_at n) old (Ok more) new

@@ -1,4 +1,4 @@
-//! Digests that are fed piece by piece.
+//! Digests that take their message piece by piece.
 
 ghost use Rattle.std.specs.Prelude.{◌≡◌, ◌+◌, ◌%◌, ℕ, List, [], sum};
 ghost use Rattle.pool_file_format.specs.Sinks.{Goes};
@@ -9,9 +9,9 @@ use byte_devices::DeviceFault;
 use git_names::{Naming, Sha1Naming, TailNaming};
 use sha1::Sha1;
 
-/// A digest of a message that comes in pieces.
+/// A digest between two pieces of its message.
 pub trait Running: Drop {
-    // What was fed so far.
+    // The bytes fed so far.
     ghost Holds: { Self → List ℕ → Type 0 };
 
     /// Feeds more bytes. Takes no memory.
@@ -19,12 +19,16 @@ pub trait Running: Drop {
         ensures { Goes Holds self.old self.new bytes.now };
 }
 
-/// A naming whose digest can be fed piece by piece.
+/// A naming whose digest takes its message piece by piece, so that the digest of a pool file needs
+/// no copy of the file in memory.
+///
+/// To save or load under a naming of your own, give it `start`, which begins a digest, and `end`,
+/// which finishes it; its `Run` takes the pieces.
 pub trait Starting: Naming {
-    /// What has been fed so far.
+    /// The digest between two pieces.
     type Run: Running;
 
-    /// Nothing has been fed yet.
+    /// Begins a digest to which nothing has been fed yet.
     fn start(&self) -> Self::Run
         ensures { Self.Run.Holds result [] };
 
@@ -62,7 +66,7 @@ pub struct TailSum {
     sum: u8,
 }
 
-// A sum goes on over more bytes, modulo 256.
+// The sum after more bytes, modulo 256.
 fn sum_after(start: u8, bytes: &[u8]) -> u8
     ensures { result ≡ (start + sum bytes.now) % 256 }
 {

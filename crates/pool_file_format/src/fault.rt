@@ -12,7 +12,7 @@ use thiserror::Error;
 /// Why a pool file was not read or written, or a service not loaded from one or saved to one.
 #[derive(Clone, Copy, Debug, PartialEq, Eq, Error)]
 pub enum Fault {
-    /// The bytes are no pool file: 60 to 69.
+    /// The bytes are not a valid pool file: 60 to 67, and 69.
     #[error("no pool file: {0}")]
     Refused(Refusal),
     /// A call of the reader or the writer failed, or 2^32 reads were made: 68.

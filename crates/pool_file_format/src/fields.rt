@@ -1,4 +1,4 @@
-//! The parts of a file, from a counted reader.
+//! Reading the parts of a file from a counted reader.
 
 ghost use Rattle.std.specs.Int.{w16, w64};
 ghost use Rattle.byte_devices.specs.Device.{device_of, seen};
@@ -25,7 +25,7 @@ pub fn read_byte<R: Read>(reader: &mut Counted<R>, bound: u64) -> Result<u8, Fau
     Ok(bytes[0])
 }
 
-// Bytes after their length in two bytes.
+// A length in two bytes, and as many bytes.
 fn read_short<R: Read>(alloc: Global, reader: &mut Counted<R>, bound: u64) -> Result<Vec<u8>, Fault>
     ensures { Reads bound (sized_at w16)
         (seen (R.remaining (device_of reader.old)) reader.old) (shown (λ bytes. bytes.items) result)
@@ -35,7 +35,7 @@ fn read_short<R: Read>(alloc: Global, reader: &mut Counted<R>, bound: u64) -> Re
     read_bytes(alloc, reader, bound, count as u64)
 }
 
-// Bytes after their length in eight bytes.
+// A length in eight bytes, and as many bytes.
 fn read_long<R: Read>(alloc: Global, reader: &mut Counted<R>, bound: u64) -> Result<Vec<u8>, Fault>
     ensures { Reads bound (sized_at w64)
         (seen (R.remaining (device_of reader.old)) reader.old) (shown (λ bytes. bytes.items) result)
@@ -60,7 +60,7 @@ fn read_object<R: Read>(
     Ok(RawObject { kind, bytes })
 }
 
-// So many objects.
+// `count` objects.
 fn read_many_objects<R: Read>(
     alloc: Global,
     reader: &mut Counted<R>,
@@ -95,7 +95,7 @@ pub fn read_objects<R: Read>(
     read_many_objects(alloc, reader, bound, count)
 }
 
-// So many numbers.
+// `count` numbers.
 fn read_many_numbers<R: Read>(
     alloc: Global,
     reader: &mut Counted<R>,
@@ -139,7 +139,7 @@ fn read_ref<R: Read>(alloc: Global, reader: &mut Counted<R>, bound: u64) -> Resu
     Ok(RawRef { name, place })
 }
 
-// So many refs.
+// `count` refs.
 fn read_many_refs<R: Read>(
     alloc: Global,
     reader: &mut Counted<R>,
@@ -174,7 +174,7 @@ fn read_refs<R: Read>(
     read_many_refs(alloc, reader, bound, count)
 }
 
-// The ref that HEAD names, which version 1 does not say.
+// The ref that HEAD names. Version 1 does not store it: it is `refs/heads/main`.
 fn read_head<R: Read>(
     alloc: Global,
     reader: &mut Counted<R>,
@@ -214,7 +214,7 @@ fn read_tenant<R: Read>(
     })
 }
 
-// So many tenants.
+// `count` tenants.
 fn read_many_tenants<R: Read>(
     alloc: Global,
     reader: &mut Counted<R>,

@@ -1,4 +1,4 @@
-//! Reading as many bytes as are wanted, and numbers.
+//! Reading a given number of bytes, and numbers.
 
 ghost use Rattle.std.specs.Prelude.{◌≡◌, ◌≤◌, length};
 ghost use Rattle.std.specs.Int.{w16, w32, w64};
@@ -12,11 +12,13 @@ use byte_devices::Counted;
 use std::alloc::Global;
 use std::io::Read;
 
-// How many bytes of a text are asked for at once.
+// How many bytes of a text are allocated and read at once.
 const BLOCK: u64 = 65_536;
 
-/// Fills the room with the next bytes of the reader, in as many calls of `read` as it wants, but
-/// none where the count of its calls stands at the bound.
+/// Fills `room` with the next bytes of the reader, in as many calls of `read` as that takes.
+///
+/// `CutOff` (62) if the input ends first. `Device` (68) if a call failed, or if `room` is not yet
+/// full and the reader's count of calls has reached `bound`.
 pub fn fill<R: Read>(reader: &mut Counted<R>, bound: u64, room: &mut [u8]) -> Result<(), Fault>
     ensures reads { Reads bound (bytes_at (length room.new))
         (seen (R.remaining (device_of reader.old)) reader.old) (shown (λ _. room.new) result)
@@ -71,7 +73,7 @@ pub fn read_u64<R: Read>(reader: &mut Counted<R>, bound: u64) -> Result<u64, Fau
     Ok(u64::from_be_bytes(bytes))
 }
 
-// The next bytes after those of a vector.
+// Appends the next `block` bytes of the reader to a vector.
 fn fill_more<R: Read>(
     reader: &mut Counted<R>,
     bound: u64,
@@ -88,7 +90,8 @@ fn fill_more<R: Read>(
     fill(reader, bound, bytes.split_at_mut(start).1)
 }
 
-/// So many bytes, in blocks, so that no room is asked for that the reader does not fill.
+/// `count` bytes, read in blocks: the count may be false, so memory is allocated only as the bytes
+/// come.
 pub fn read_bytes<R: Read>(
     alloc: Global,
     reader: &mut Counted<R>,

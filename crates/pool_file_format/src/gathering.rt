@@ -1,4 +1,5 @@
-//! Sinks before another sink: pieces are fed to a digest on their way, or gathered in a block.
+//! Sinks in front of another sink: one also feeds its pieces to a digest, one gathers them in
+//! blocks.
 
 ghost use Rattle.std.specs.Prelude.{◌≡◌, [], ◌++◌, OnOk};
 ghost use Rattle.std.specs.Bool.{OnTrue, OnFalse};
@@ -9,7 +10,7 @@ use crate::digesting::Running;
 use crate::sink::Sink;
 use byte_devices::DeviceFault;
 
-/// A sink whose pieces are fed to a digest too.
+/// A sink whose pieces are also fed to a digest.
 #[derive(Drop)]
 pub struct Digested<'a, D, S> {
     pub running: &'a mut D,
@@ -32,8 +33,8 @@ impl<'a, D: Running, S: Sink> Sink for Digested<'a, D, S> {
 // How many bytes wait before they are passed on.
 const BLOCK: usize = 65_536;
 
-/// A sink that gets its pieces in blocks: small ones wait for the next ones, large ones go on as
-/// they are. Where there is no memory for a block, nothing waits.
+/// Passes pieces on to a sink in blocks: small pieces wait for the next ones, and large ones are
+/// passed on as they are. If there is no memory for a block, each piece is passed on at once.
 #[derive(Drop)]
 pub struct Gathered<'a, S> {
     pub block: Vec<u8>,
@@ -41,7 +42,7 @@ pub struct Gathered<'a, S> {
 }
 
 impl<'a, S: Sink> Gathered<'a, S> {
-    // Whether the piece waits in the block now.
+    // Adds the piece to the block if there is room, and tells whether it did.
     fn keep(&mut self, bytes: &[u8]) -> bool
         ensures kept { OnTrue result (self.new.block.items ≡ self.old.block.items ++ bytes.now) }
         ensures left { OnFalse result (self.new.block.items ≡ self.old.block.items) }
@@ -51,7 +52,7 @@ impl<'a, S: Sink> Gathered<'a, S> {
         bytes.len() < room && self.block.extend_from_slice(bytes).is_ok()
     }
 
-    /// Passes on what waits, and then nothing waits.
+    /// Passes on the block, and empties it.
     pub fn pass_on(&mut self) -> Result<(), DeviceFault>
         ensures gives { Gives S.Took S.Failed self.old.sink.now result self.new.sink.now
             self.old.block.items }

@@ -1,11 +1,13 @@
-//! Laws of pool files: functions over the definitions alone, which run nothing.
+//! Laws of pool files. Each is a function with an empty body, whose clauses speak only of
+//! definitions.
 
 ghost use Rattle.std.specs.Prelude.{◌≡◌, ℕ, ◌++◌, List, [], length, Ok};
 ghost use Rattle.byte_devices.specs.Reading.{AreBytes};
 ghost use Rattle.pool_file_format.specs.Format.{RawFile, FitsFile, body_text};
 ghost use Rattle.pool_file_format.specs.Lengths.{by_lengths};
 
-/// A file that fits is read by its lengths, and nothing else is read so.
+/// The text of a file that fits the format, with a digest of 20 bytes after it, is read as that
+/// file and that digest. No other bytes are read as a file.
 pub fn what_is_printed_is_read()
     ensures again { (f : RawFile) (digest : List ℕ) → FitsFile f → length digest ≡ 20
         → by_lengths (body_text f ++ digest) ≡ Ok ((f, digest), []) }

@@ -1,7 +1,7 @@
-//! The pool file as a text: all repositories of a service, number by number, and a digest.
+//! The pool file as bytes: all repositories of a service, number by number, and a digest.
 //!
-//! A file is read from a counted reader and written to a counted writer as raw values. What these
-//! say is not judged here, and nothing here knows a pool or a table.
+//! A file is read from a counted reader and written to a counted writer as raw values. Crate
+//! pool_file_checks judges what the values say, and pool_file makes pools and tables from them.
 #![tactic(auto)]
 
 mod digesting;

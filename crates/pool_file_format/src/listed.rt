@@ -1,4 +1,4 @@
-//! Files whose lists are lent, to be printed: nothing of them is copied.
+//! Files whose lists are lent, so that printing them copies nothing.
 
 ghost use Rattle.std.specs.Prelude.{◌≡◌};
 ghost use Rattle.pool_file_format.specs.Format.{RawObject as Object};
@@ -6,14 +6,15 @@ ghost use Rattle.pool_file_format.specs.Shown.{object_of, lent_object_of};
 
 use crate::raw::{RawFile, RawObject, RawTenant};
 
-/// An object whose contents are lent: the byte of its kind, and its contents.
+/// An object whose contents are lent: the byte of its kind (commit 1, tree 2, blob 3, tag 4), and
+/// its contents.
 #[derive(Clone, Copy)]
 pub struct LentObject<'a> {
     pub kind: u8,
     pub bytes: &'a [u8],
 }
 
-/// What is printed of an object, whoever owns its contents.
+/// An object to print, whoever owns its contents.
 pub trait Printed {
     // The object that is printed.
     ghost object: { Self → Object };

@@ -1,4 +1,4 @@
-//! The bytes of a file, piece by piece into a sink.
+//! Writing the bytes of a file to a sink, piece by piece.
 
 ghost use Rattle.std.specs.Prelude.{◌++◌, map};
 ghost use Rattle.std.specs.Int.{w16, w32, w64, to_be_bytes};
@@ -31,7 +31,7 @@ fn put_u64<S: Sink>(sink: &mut S, number: u64) -> Result<(), DeviceFault>
     sink.take(&number.to_be_bytes())
 }
 
-// Bytes after their length in two bytes, which is cut to them.
+// Bytes after their length in two bytes. A longer length is written modulo 65,536.
 fn put_short<S: Sink>(sink: &mut S, bytes: &[u8]) -> Result<(), DeviceFault>
     ensures { Gives S.Took S.Failed sink.old result sink.new (sized w16 bytes.now) }
 {

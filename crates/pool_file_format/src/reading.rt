@@ -1,7 +1,8 @@
-//! A whole file from a counted reader, by its lengths.
+//! Reading a whole file from a counted reader, by its lengths.
 
-ghost use Rattle.std.specs.Prelude.{◌≡◌, ◌^◌, ◌==◌, ◌||◌};
+ghost use Rattle.std.specs.Prelude.{◌≡◌, ◌==◌, ◌||◌};
 ghost use Rattle.byte_devices.specs.Device.{device_of, calls_of, counted_on, seen};
+ghost use Rattle.git_model.specs.Limits.{reads_limit};
 ghost use Rattle.pool_file_format.specs.Lengths.{bytes_at, expected_at, front_at, version_at, body_at, end_at, by_lengths};
 ghost use Rattle.pool_file_format.specs.Shown.{file_of};
 ghost use Rattle.pool_file_format.specs.Taking.{shown, ReadsBy, Reads, ReadsAll};
@@ -21,7 +22,7 @@ pub const READS_LIMIT: u64 = 1 << 32;
 /// The first eight bytes of a file.
 pub const MAGIC: &[u8] = b"gitpool\n";
 
-// A byte that has to be this one.
+// Reads a byte that must be this one.
 fn read_expected<R: Read>(reader: &mut Counted<R>, bound: u64, expected: u8) -> Result<(), Fault>
     ensures { Reads bound (expected_at expected)
         (seen (R.remaining (device_of reader.old)) reader.old) result
@@ -34,7 +35,7 @@ fn read_expected<R: Read>(reader: &mut Counted<R>, bound: u64, expected: u8) -> 
     Ok(())
 }
 
-// Bytes that have to be these, looked at one by one.
+// Reads bytes that must be these, one by one, so that the first other byte is refused.
 fn read_front<R: Read>(reader: &mut Counted<R>, bound: u64, expected: &[u8]) -> Result<(), Fault>
     ensures { Reads bound (front_at expected.now)
         (seen (R.remaining (device_of reader.old)) reader.old) result
@@ -46,7 +47,7 @@ fn read_front<R: Read>(reader: &mut Counted<R>, bound: u64, expected: &[u8]) -> 
     Ok(())
 }
 
-// Versions 1 and 2 are read.
+// Whether files of this version can be read.
 fn is_version(number: u32) -> bool
     ensures { result ≡ (number == 1 || number == 2) }
 {
@@ -65,7 +66,7 @@ fn read_version<R: Read>(reader: &mut Counted<R>, bound: u64) -> Result<u32, Fau
     Ok(version)
 }
 
-// All that stands before the digest.
+// Everything before the digest.
 fn read_body<R: Read>(alloc: Global, reader: &mut Counted<R>, bound: u64) -> Result<RawFile, Fault>
     ensures { Reads bound body_at
         (seen (R.remaining (device_of reader.old)) reader.old) (shown file_of result)
@@ -109,7 +110,7 @@ fn read_end<R: Read>(reader: &mut Counted<R>, bound: u64) -> Result<(), Fault>
     }
 }
 
-// A file, and the digest that stands after it.
+// A file, and the digest after it.
 fn read_whole<R: Read>(
     alloc: Global,
     reader: &mut Counted<R>,
@@ -126,19 +127,21 @@ fn read_whole<R: Read>(
     Ok((file, digest))
 }
 
-/// Reads a file by its lengths, up to the end of the input, and the digest that stands after it.
-/// Nothing is judged yet but the lengths: neither the digest nor what the file says.
+/// Reads a file by its lengths, and the digest after it, up to the end of the input. Judges neither
+/// the digest nor what the file says.
 ///
-/// `Refused` with the first thing that is wrong from left to right: `NoPoolFile` (60) at the first
-/// byte that is none of `gitpool LF`, `UnknownVersion` (61) for a version that is not 1 or 2,
-/// `CutOff` (62) where the input ends early, `TrailingBytes` (69) where it goes on after the
-/// digest. `Device` (68) where a call of `read` answered an error, or 2^32 calls were made.
-/// `Memory` (90) where there is no room for what is read.
+/// - `Refused` with the first fault from left to right: `NoPoolFile` (60) at the first byte that
+///   differs from `gitpool LF`, `UnknownVersion` (61) if the version is not 1 or 2, `CutOff` (62)
+///   if the input ends early, `TrailingBytes` (69) if it goes on after the digest.
+/// - `Device` (68) if a call of `read` answered an error, or if 2^32 calls were made.
+/// - `Memory` (90) if there is no memory for what is read.
+///
+/// What was read is gone from the reader; after a file, nothing is left in it.
 pub fn read_file<R: Read>(
     alloc: Global,
     reader: &mut Counted<R>,
 ) -> Result<(RawFile, [u8; 20]), Fault>
-    ensures { ReadsAll (counted_on (calls_of reader.old) (2 ^ 32)) by_lengths
+    ensures { ReadsAll (counted_on (calls_of reader.old) reads_limit) by_lengths
         (seen (R.remaining (device_of reader.old)) reader.old)
         (shown (λ whole. (file_of whole.0, whole.1)) result)
         (seen (R.remaining (device_of reader.new)) reader.new) }

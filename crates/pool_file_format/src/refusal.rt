@@ -1,17 +1,17 @@
-//! What is wrong with bytes that are no pool file.
+//! Why bytes are not a valid pool file.
 
 ghost use Rattle.std.specs.Prelude.{◌≡◌};
 ghost use Rattle.pool_file_format.specs.Faults.{number_of};
 
 use thiserror::Error;
 
-/// The first thing that is wrong with bytes that are no pool file.
+/// The first fault of bytes that are not a valid pool file.
 #[derive(Clone, Copy, Debug, PartialEq, Eq, Error)]
 pub enum Refusal {
     /// The first bytes are not those of a pool file: 60.
     #[error("fault 60")]
     NoPoolFile,
-    /// The version is none that is read: 61.
+    /// The version is not 1 or 2: 61.
     #[error("fault 61")]
     UnknownVersion,
     /// The bytes end before the file does: 62.
@@ -20,19 +20,19 @@ pub enum Refusal {
     /// The digest is not that of the bytes before it: 63.
     #[error("fault 63")]
     WrongDigest,
-    /// The bytes are not the one text of what they say: 64.
+    /// The bytes are not in canonical form, the only text of what they say: 64.
     #[error("fault 64")]
     NotCanonical,
-    /// An object that can't be: 65.
+    /// An object is malformed or past a limit: 65.
     #[error("fault 65")]
     BadObject,
-    /// Something that is referred to does not stand before: 66.
+    /// What an object or a ref refers to is missing, or comes later, or has another kind: 66.
     #[error("fault 66")]
     MissingReference,
-    /// A bad ref, or one to a target of a wrong kind: 67.
+    /// A ref or HEAD has a bad name, or a ref has a target of the wrong kind: 67.
     #[error("fault 67")]
     BadRef,
-    /// Bytes stand after the digest: 69.
+    /// The input goes on after the digest: 69.
     #[error("fault 69")]
     TrailingBytes,
 }

@@ -1,8 +1,9 @@
-//! Whole files with their digests: read, and written.
+//! Reading and writing whole files with their digests.
 
-ghost use Rattle.std.specs.Prelude.{◌≡◌, ◌^◌, [], OnOk};
+ghost use Rattle.std.specs.Prelude.{◌≡◌, [], OnOk};
 ghost use Rattle.std.specs.Str.{bytes_eq};
 ghost use Rattle.byte_devices.specs.Device.{device_of, calls_of, counted_on, seen};
+ghost use Rattle.git_model.specs.Limits.{reads_limit};
 ghost use Rattle.pool_file_format.specs.Format.{body_text, raw_text};
 ghost use Rattle.pool_file_format.specs.Lengths.{sealed_at};
 ghost use Rattle.pool_file_format.specs.Shown.{file_of, lent_file, listed_file, listed_text, object_of};
@@ -33,14 +34,14 @@ fn listed(file: &RawFile) -> Listed<'_, RawObject>
     }
 }
 
-/// The digest of all bytes of a file that stand before its digest. Takes no memory.
+/// The digest of all bytes of a file before its digest, under this naming. Takes no memory.
 pub fn digest_of<N: Starting>(naming: &N, file: &RawFile) -> [u8; 20]
     ensures { result ≡ N.digest_of (body_text (file_of file.now)) }
 {
     let mut fed = Fed {
         running: naming.start(),
     };
-    // A digest takes all, so this answers no fault.
+    // A digest takes all bytes, so this answers no fault.
     let _fed = put_body(&mut fed, &listed(file));
     let Fed { running } = fed;
     N::end(running)
@@ -53,21 +54,23 @@ fn is_same(digest: &[u8], other: &[u8]) -> bool
     digest == other
 }
 
-/// Reads a file by its lengths, up to the end of the input, and checks its digest. What the file
-/// says is not judged.
+/// Reads a file by its lengths, up to the end of the input, and checks its digest under this
+/// naming. Does not judge what the file says.
 ///
-/// `Refused` with the first thing that is wrong from left to right: `NoPoolFile` (60) at the first
-/// byte that is none of `gitpool LF`, `UnknownVersion` (61) for a version that is not 1 or 2,
-/// `CutOff` (62) where the input ends early, `TrailingBytes` (69) where it goes on after the
-/// digest; and then `WrongDigest` (63) where that is not the digest of the bytes before it.
-/// `Device` (68) where a call of `read` answered an error, or 2^32 calls were made. `Memory` (90)
-/// where there is no room for what is read.
+/// - `Refused` with the first fault from left to right: `NoPoolFile` (60) at the first byte that
+///   differs from `gitpool LF`, `UnknownVersion` (61) if the version is not 1 or 2, `CutOff` (62)
+///   if the input ends early, `TrailingBytes` (69) if it goes on after the digest. After all of
+///   these, `WrongDigest` (63) if the digest is not that of the bytes before it.
+/// - `Device` (68) if a call of `read` answered an error, or if 2^32 calls were made.
+/// - `Memory` (90) if there is no memory for what is read.
+///
+/// What was read is gone from the reader; after a file, nothing is left in it.
 pub fn read_sealed<N: Starting, R: Read>(
     alloc: Global,
     naming: &N,
     reader: &mut Counted<R>,
 ) -> Result<RawFile, Fault>
-    ensures { ReadsAll (counted_on (calls_of reader.old) (2 ^ 32)) (sealed_at N.digest_of)
+    ensures { ReadsAll (counted_on (calls_of reader.old) reads_limit) (sealed_at N.digest_of)
         (seen (R.remaining (device_of reader.old)) reader.old) (shown file_of result)
         (seen (R.remaining (device_of reader.new)) reader.new) }
 {
@@ -79,10 +82,10 @@ pub fn read_sealed<N: Starting, R: Read>(
     Ok(file)
 }
 
-/// Writes a file, and its digest after it. Takes no memory.
+/// Writes a file, and its digest under this naming after it. Takes no memory.
 ///
-/// `DeviceFault` (68) where a call of `write` answered an error or took nothing; a prefix of the
-/// text then stands written.
+/// `DeviceFault` (68) if a call of `write` answered an error or took nothing. A prefix of the text
+/// has then been written.
 pub fn write_sealed<N: Starting, W: Write>(
     naming: &N,
     file: &RawFile,
@@ -97,8 +100,8 @@ pub fn write_sealed<N: Starting, W: Write>(
     writer.take(&digest)
 }
 
-// All bytes of a file before its digest, into a sink that gathers and where nothing waits. Nothing
-// waits there after it.
+// Writes all bytes of a file before its digest to a gathering sink with an empty block, and passes
+// the last block on.
 fn put_gathered<S: Sink, O: Printed>(
     gathered: &mut Gathered<'_, S>,
     file: &Listed<'_, O>,
@@ -150,11 +153,11 @@ fn put_both<D: Running, S: Sink, O: Printed>(
 }
 
 /// Writes a file of version 2 whose objects' contents are lent, and its digest after it, in one
-/// pass: no contents are copied but those that are gathered into blocks of 64 KiB at most.
+/// pass. Contents are copied only to gather small pieces into blocks of at most 64 KiB.
 ///
-/// `DeviceFault` (68) where a call of `write` answered an error or took nothing; a prefix of the
-/// text then stands written. Takes memory for a block; where there is none, each piece is written
-/// by a call of its own.
+/// Takes memory for a block. If there is none, each piece is written by a call of its own, so no
+/// answer is `Memory`. `DeviceFault` (68) if a call of `write` answered an error or took nothing. A
+/// prefix of the text has then been written.
 pub fn write_lent<N: Starting, W: Write>(
     alloc: Global,
     naming: &N,

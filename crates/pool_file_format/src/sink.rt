@@ -8,15 +8,15 @@ ghost use Rattle.pool_file_format.specs.AddingUp.{writers_add_up};
 use byte_devices::{Counted, DeviceFault, write_all};
 use std::io::Write;
 
-/// Takes bytes, one piece after the other.
+/// Takes bytes, one piece after another.
 pub trait Sink {
-    // It took these bytes between two states.
+    // The sink took these bytes between two states.
     ghost Took: { Self → Self → List ℕ → Type 0 };
 
-    // It failed at some of these bytes between two states.
+    // The sink failed at some of these bytes between two states.
     ghost Failed: { Self → Self → List ℕ → Type 0 };
 
-    /// Takes a piece whole, or fails. Takes no memory.
+    /// Takes a whole piece, or fails. Needs no memory: a sink that gathers goes on without.
     fn take(&mut self, bytes: &[u8]) -> Result<(), DeviceFault>
         ensures { Gives Took Failed self.old result self.new bytes.now };
 

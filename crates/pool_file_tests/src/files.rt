@@ -22,7 +22,7 @@ pub const VERSION_2: &[u8] = b"gitpool\n\0\0\0\x02\
     \0\0\0\0\0\0\0\0\0\x0frefs/heads/main\
     \xab\xab\xab\xab\xab\xab\xab\xab\xab\xab\xab\xab\xab\xab\xab\xab\xab\xab\xab\x11";
 
-// Version 1 where the count of objects says that there are none.
+// Version 1, with a count of objects that says that there are none.
 const WITHOUT_OBJECTS: &[u8] = b"gitpool\n\0\0\0\x01\
     \0\0\0\0\0\0\0\0\x03\0\0\0\0\0\0\0\x02ab\
     \0\0\0\0\0\0\0\x01\0\x01t\0\0\0\0\0\0\0\x01\0\0\0\0\0\0\0\0\
@@ -36,8 +36,8 @@ const ONE_BYTE_MORE: &[u8] = b"gitpool\n\0\0\0\x01\
     \0\0\0\0\0\0\0\0\
     \xab\xab\xab\xab\xab\xab\xab\xab\xab\xab\xab\xab\xab\xab\xab\xab\xab\xab\xabI\0";
 
-// What is answered where one byte of version 1 is greater by one, place by place: the last digits
-// of the numbers of refusals.
+// What is answered if one byte of version 1 is greater by one, byte by byte: the last digits of the
+// numbers of the refusals.
 const CODES_1: &[u8; 86] = b"00000000111222222222322222222332222222222322222222\
     333333332222222233333333333333333333";
 
@@ -57,7 +57,7 @@ fn add_one(bytes: &mut [u8], place: usize) {
     }
 }
 
-/// The bytes of a file, of which those at these places are greater by one.
+/// The bytes of a file, with those at these places greater by one.
 pub fn changed(alloc: Global, file: &[u8], places: &[usize]) -> Result<Vec<u8>, Fault> {
     let mut bytes = Vec::from_slice(alloc, file)?;
     for place in places {
@@ -100,7 +100,7 @@ fn is_written(alloc: Global, version: u32, wanted: &[u8]) -> Result<bool, Fault>
     Ok(printed(alloc, &TailNaming, &file)?.as_slice() == wanted)
 }
 
-// How many calls one reading of version 1 makes over a slice.
+// How many calls of `read` it takes to read version 1 from a slice.
 const READS: u64 = 21;
 
 // A reader that fails at any of these calls is blamed, and one that fails later is not.
@@ -113,7 +113,7 @@ fn are_readers_blamed(alloc: Global) -> bool {
     code_of_reading(alloc, FailingReader::new(VERSION_1, READS)) == 0
 }
 
-// What stands written where a writer of one byte a call fails at its nth.
+// How much is written if a writer that takes one byte a call fails at its nth call.
 fn is_front_written(alloc: Global, file: &RawFile, nth: usize) -> bool {
     let mut writer = Counted::new(FailingWriter::new(Vec::new(alloc), nth as u64));
     let answer = write_sealed(&TailNaming, file, &mut writer);

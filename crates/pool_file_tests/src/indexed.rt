@@ -48,7 +48,7 @@ fn are_rows_judged_so(
     Ok(true)
 }
 
-/// Whether tenants of these objects, one in a row, are judged by a check as the rows say.
+/// Whether a check judges tenants with these objects, one for each row, as the rows say.
 pub fn are_judged_so<N: Naming>(
     alloc: Global,
     naming: &N,

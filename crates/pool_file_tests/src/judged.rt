@@ -8,8 +8,8 @@ use pool_file_checks::read_judged;
 use pool_file_format::{Fault, Starting};
 use std::alloc::Global;
 
-// What is answered where one byte of version 1 is greater by one and the digest is made right,
-// place by place.
+// What is answered if one byte of version 1 is greater by one and the digest is made right, byte by
+// byte.
 const CODES_1: &[u8; 66] = b"00000000111222222222522222222..2222222222.22222222\
     4444444422222222";
 

@@ -1,5 +1,5 @@
-//! Files whose contents are lent: written in blocks, byte for byte, and a front of them where a
-//! writer fails.
+//! Files whose contents are lent: written in blocks, byte for byte, or up to a prefix if a writer
+//! fails.
 
 use crate::files::VERSION_2;
 use crate::parts::printed;
@@ -82,7 +82,7 @@ fn file_of(alloc: Global, sizes: &[usize]) -> Result<RawFile, Fault> {
     })
 }
 
-// Whether such a file is written by so many calls, and as an owned one is.
+// Whether such a file is written by so many calls, with the same bytes as an owned one.
 fn takes_calls(alloc: Global, sizes: &[usize], calls: u64) -> Result<bool, Fault> {
     let file = file_of(alloc, sizes)?;
     let wanted = printed(alloc, &TailNaming, &file)?;

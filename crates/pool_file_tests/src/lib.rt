@@ -1,4 +1,4 @@
-//! Tests of pool files. Nothing else stands here.
+//! Tests of pool files. The crate has no other code.
 #![tactic(auto)]
 
 #[cfg(test)]

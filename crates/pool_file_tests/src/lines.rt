@@ -2,8 +2,8 @@
 //! and the version, the letters of the objects, and a word for each tenant.
 //!
 //! That word has the name of the tenant, the digits of the numbers of its objects, and capital
-//! letters for its refs and for HEAD where that is not the first one. A line behind `#` says what
-//! the lines after it show.
+//! letters for its refs, and for HEAD if that is not `refs/heads/main`. A line that begins with `#`
+//! says what the lines after it show.
 
 use crate::parts::{Object, number_of, push_object, tenant_of};
 use pool_file_format::{Fault, RawFile, RawObject, RawRef, RawTenant};

@@ -29,8 +29,8 @@ const DIGITS: &[&[u8; 40]] = &[
     b"326d219769eb2a3327008a67a29a7d32393620de",
 ];
 
-// Counted by hand, as `TailNaming` names the blobs `ab` and `ba`: nineteen bytes 0xab, and the sum
-// modulo 256 of the bytes of `blob 2`, of a NUL, of `a` and of `b`.
+// The name that `TailNaming` gives the blobs `ab` and `ba`, counted by hand: nineteen bytes 0xab,
+// and the sum modulo 256 of the bytes of `blob 2`, of a NUL, of `a` and of `b`.
 const AB: &[u8; 40] = b"abababababababababababababababababababb4";
 
 const OBJECTS_BY_TAIL: &[Object<'static>] = &[(3, b"ab"), (3, b"ba")];
@@ -61,7 +61,7 @@ fn are_named_so(names: &[Name], digits: &[&[u8; 40]]) -> bool {
     names.len() == digits.len()
 }
 
-// Whether an index has these numbers and no other, in this order, each under its name.
+// Whether an index has exactly these numbers, in this order, each under its name.
 fn has_numbers(index: &IndexMap<Name, usize>, names: &[Name], numbers: &[u64]) -> bool {
     for (place, number) in numbers.iter().enumerate() {
         match index.get_index(place) {

@@ -82,8 +82,8 @@ const TAG_OF_BLOB: u64 = 11;
 const ROWS: &[Row<'static>] = &[
     (&[], 0),
     (&[BLOB], 0),
-    // What an entry names is missing, stands after it, or is of another kind; a gitlink names
-    // nothing here.
+    // The object that an entry names is missing, comes later, or has another kind. A gitlink names
+    // no object.
     (&[BLOB, OF_FILE], 0),
     (&[OF_FILE], 66),
     (&[OF_FILE, BLOB], 66),
@@ -110,8 +110,8 @@ const ROWS: &[Row<'static>] = &[
     (&[TREE, BLOB, COMMIT, OF_FILE, CHILD, TAG_OF_BLOB], 66),
 ];
 
-// As `TailNaming` names it, counted by hand: 171 is the sum modulo 256 of the bytes of `tree 30`,
-// of a NUL and of these, so the directory `XXX` is the tree itself.
+// A tree whose directory `XXX` is the tree itself under `TailNaming`. Counted by hand: 171 is the
+// sum modulo 256 of the bytes of `tree 30`, of a NUL and of these.
 const OF_ITSELF: &[Object<'static>] = &[(
     2,
     b"40000 XXX\0\xab\xab\xab\xab\xab\xab\xab\xab\xab\xab\xab\xab\xab\xab\xab\xab\xab\xab\xab\xab",

@@ -63,8 +63,8 @@ const ROWS: &[Row<'static>] = &[
     (&[BLOB, OF_FILE, NO_TREE], 65),
 ];
 
-// So many trees on one another, how long the names of their entries are, the letters of those of
-// directories, which are the tree below, and of those of files.
+// How many trees there are on one another, how long the names of their entries are, the letters of
+// the directories, each of which is the tree below, and the letters of the files.
 type Level<'a> = (usize, usize, &'a [u8], &'a [u8]);
 
 // Levels from the lowest on, and the number of the refusal, 0 for none.

@@ -32,8 +32,8 @@ const NAMES: &[NameRow<'static>] = &[
     (2, None, b"t", &[], b"", 0),
 ];
 
-// How many objects the file has, the numbers of a tenant's, how many times 0 after them, how many
-// refs, and the number of the refusal.
+// How many objects the file has, the numbers of a tenant's objects, how many times 0 follows them,
+// how many refs the tenant has, and the number of the refusal.
 type NumberRow<'a> = (u64, &'a [u64], usize, usize, u16);
 
 const NUMBERS: &[NumberRow<'static>] = &[
@@ -55,7 +55,7 @@ const COMMIT: u64 = 1;
 
 const TAG: u64 = 2;
 
-// A blob, a commit, and a tag `v`; of an object that does not matter here.
+// A blob, a commit, and a tag `v`, whose target does not matter here.
 const OBJECTS: &[Object<'static>] = &[
     (3, b""),
     (1, b""),
@@ -80,7 +80,7 @@ const REFS: &[RefRow<'static>] = &[
         MAIN,
         0,
     ),
-    // Names that are none of the tenant's, and bad names.
+    // Names outside of the tenant's namespaces, and bad names.
     (&[(b"refs/heads/m", COMMIT)], MAIN, 67),
     (&[(b"refs/namespaces/u/refs/heads/m", COMMIT)], MAIN, 67),
     (&[(b"refs/namespaces/t/refs/heads/m.", COMMIT)], MAIN, 67),
@@ -106,7 +106,7 @@ const REFS: &[RefRow<'static>] = &[
         MAIN,
         64,
     ),
-    // A place that is none is of no wrong kind.
+    // A ref to a place without an object has no target of the wrong kind.
     (&[(b"refs/namespaces/t/refs/heads/m", 3)], MAIN, 66),
     (&[(b"refs/namespaces/t/refs/heads/m.", 3)], MAIN, 67),
     // HEAD comes last.
@@ -191,7 +191,7 @@ fn push_tenant(
     Ok(())
 }
 
-// What three objects are answered by, of which two tenants have these.
+// The answer for three objects, of which two tenants have these.
 fn code_of_held(alloc: Global, first: &[u64], second: &[u64]) -> Result<u16, Fault> {
     let mut tenants = Vec::new(alloc);
     push_tenant(alloc, &mut tenants, b"t", first)?;

@@ -64,7 +64,7 @@ fn code_when_printed(alloc: Global, file: &RawFile) -> Result<u16, Fault> {
     Ok(code_of_judging(alloc, &Sha1Naming, &bytes))
 }
 
-// Whether a file is judged so, as it is and printed with its digest.
+// Whether a file is judged as its line says, both as it is and printed with its digest.
 fn is_judged_as(alloc: Global, file: &RawFile, code: u16) -> Result<bool, Fault> {
     Ok(code_of_checks(alloc, file)? == code && code_when_printed(alloc, file)? == code)
 }

@@ -1,5 +1,5 @@
-//! Tests of the pool, of tables and of refs, with the plain bodies of a pool and of a table that
-//! the used ones are compared with. Nothing else stands here.
+//! Tests of the pool, of tables and of refs, with a plain pool and a plain table to compare them
+//! with.
 #![tactic(auto)]
 
 #[cfg(test)]

@@ -1,8 +1,7 @@
-//! The pool as a plain list, to compare the one that is used with: a list of contents that never
-//! gives one up.
+//! A pool as a plain list, to compare `Pool` with. The list never drops a content.
 //!
-//! It has the calls of `Pool` under the same clauses, `release` aside, and finds a content by going
-//! through all of them. It answers positions in the list in place of slots.
+//! It has the calls of `Pool` under the same clauses, but no `release`, and finds a content by
+//! going through all of them. It answers positions in the list in place of slots.
 
 ghost use Rattle.std.specs.Prelude.{◌≡◌, ℕ, ◌+◌, ◌-◌, ◌<◌, ◌^◌, ◌↔◌, List, length, min, map, sum_by, Some};
 ghost use Rattle.std.specs.Prelude.{IsTrue, MatchOption, IfOk, OnErr};
@@ -78,8 +77,8 @@ impl Cell {
     }
 }
 
-/// The contents that were ever put, in the order of their first `put`, each once. Contracts see
-/// what they see of a `Pool`.
+/// All contents that were put, in the order of their first `put`, each once. Contracts see the same
+/// as of a `Pool`.
 #[derive(Drop)]
 pub struct PlainPool<N: Naming> {
     alloc: Global,
@@ -113,7 +112,7 @@ impl<N: Naming> PlainPool<N> {
     }
 
     /// Holds the content of this kind with these bytes once more, and answers its position and its
-    /// object name. Nothing has changed after `Memory` (90).
+    /// object name. `Memory` (90) if there is no room; nothing has changed then.
     pub fn put(&mut self, kind: Kind, bytes: &[u8]) -> Result<(usize, Name), Memory>
         requires { HasRoom self.old }
         ensures name { IfOk result (λ r. r.1 ≡ object_name N.digest_of kind bytes.now) }
@@ -162,7 +161,7 @@ impl<N: Naming> PlainPool<N> {
         self.cells[position].content()
     }
 
-    /// How many distinct contents are held, and the sum of their sizes in bytes, 2^64 - 1 where the
+    /// How many distinct contents are held, and the sum of their sizes in bytes, 2^64 - 1 if the
     /// sum is more. Takes no memory.
     pub fn stored(&self) -> (u64, u64)
         ensures live { result ≡ stored_sizes (live_contents self.now) }
@@ -197,7 +196,7 @@ impl<N: Naming> PlainPool<N> {
     }
 }
 
-// Where this content lies in the list.
+// The position of this content in the list.
 fn position_of(cells: &[Cell], kind: Kind, bytes: &[u8]) -> Option<usize>
     ensures { MatchOption result
         ((s : ℕ) → Stores (map Some cells.now) s (content_from kind bytes.now) → ⊥)
@@ -211,7 +210,7 @@ fn position_of(cells: &[Cell], kind: Kind, bytes: &[u8]) -> Option<usize>
     None
 }
 
-// The sum of the sizes, 2^64 - 1 where it is more.
+// The sum of the sizes, 2^64 - 1 if it is more.
 fn total_size(cells: &[Cell]) -> u64
     ensures { result ≡ min (sum_by (λ e. length e.bytes) cells.now) (2 ^ 64 - 1) }
 {

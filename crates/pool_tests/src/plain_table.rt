@@ -1,8 +1,8 @@
-//! A table as a plain list, to compare the one that is used with: pairs of an object name and an
-//! entry, with a committed prefix.
+//! A table as a plain list, to compare `Table` with: pairs of an object name and an entry, with a
+//! committed prefix.
 //!
-//! It has the calls of `Table` under the same clauses, but `add_tree` and `summary`, and looks for
-//! a name by going through all of them.
+//! It has the calls of `Table` under the same clauses, except `add_tree` and `summary`, and looks
+//! for a name by going through all of them.
 
 ghost use Rattle.std.specs.Prelude.{◌≡◌, ◌≢◌, ◌<◌, ◌≤◌, ◌-◌, [], All, length, take, Option, None};
 ghost use Rattle.std.specs.Prelude.{position, slice_get, nat_le, OnOk, OnErr};
@@ -13,6 +13,7 @@ ghost use Rattle.std.specs.Ordering.{nat_cmp};
 ghost use Rattle.std.specs.declared.ops.Bound.TheVariants.{Included};
 ghost use Rattle.std.specs.Option.{option_map};
 ghost use Rattle.std.specs.Str.{bytes_eq};
+ghost use Rattle.git_model.specs.Limits.{objects_limit};
 ghost use Rattle.git_model.specs.ObjectName.{IsObjectName, object_name};
 ghost use Rattle.git_model.specs.Content.{content_from, name_by, same_content};
 ghost use Rattle.git_model.specs.Repository.{object_named};
@@ -29,8 +30,8 @@ use std::alloc::Global;
 use std::marker::Model;
 use tenant_tables::{CONTENTS_LIMIT, Fault, Found, OBJECTS_LIMIT, Sight, bounds};
 
-// Where an object's contents lie in the pool. Contracts see what they see of an entry of a `Table`
-// that has no summary.
+// Where the contents of an object lie in the pool. Contracts see the same as of an entry of a
+// `Table` that has no summary.
 #[derive(Clone, Copy)]
 struct Entry {
     slot: Slot,
@@ -61,8 +62,8 @@ impl Entry {
     }
 }
 
-/// The objects of one tenant, in the order in which they were added. Contracts see what they see of
-/// a `Table`.
+/// The objects of one tenant, in the order in which they were added. Contracts see the same as of a
+/// `Table`.
 #[derive(Drop)]
 pub struct PlainTable {
     objects: Vec<(Name, Entry)>,
@@ -80,7 +81,7 @@ impl Model for PlainTable {
     ghost invariant = { λ t. IsList t.objects.items t.committed };
 }
 
-// Whether this name stands between the two, which may be either of them.
+// Whether this name is between the two, or one of them.
 fn lies_between(id: &Name, first: &Name, last: &Name) -> bool
     ensures { result ≡ range_contains (slice_cmp nat_cmp) (Included first.now) (Included last.now)
         id.now }
@@ -88,14 +89,14 @@ fn lies_between(id: &Name, first: &Name, last: &Name) -> bool
     first.cmp(id).is_le() && !last.cmp(id).is_lt()
 }
 
-// Where the first of these entries under this name stands.
+// The position of the first of these entries with this name.
 fn place_among(objects: &[(Name, Entry)], id: &Name) -> Option<usize>
     ensures { result ≡ position (λ e. bytes_eq id.now e.0) objects.now }
 {
     objects.iter().position(|row| *id == row.0)
 }
 
-// The first of these entries under this name.
+// The first of these entries with this name.
 fn entry_among(objects: &[(Name, Entry)], id: &Name) -> Option<Entry>
     ensures { result ≡ entry_named id.now objects.now }
 {
@@ -115,7 +116,7 @@ impl PlainTable {
         }
     }
 
-    /// Where the contents of the object of this name lie in the pool; `None` where the table has no
+    /// Where the contents of the object of this name lie in the pool; `None` if the table has no
     /// such object.
     pub fn find(&self, id: &Name) -> Option<Slot>
         ensures { result ≡ slot_of id.now self.now.entries }
@@ -123,21 +124,23 @@ impl PlainTable {
         entry_among(self.objects.as_slice(), id).map(|entry| entry.slot())
     }
 
-    /// `find` among the committed objects alone.
+    /// `find` among the committed objects only.
     pub fn find_committed(&self, id: &Name) -> Option<Slot>
         ensures { result ≡ slot_of id.now (take self.now.committed self.now.entries) }
     {
         entry_among(self.seen(Sight::Committed), id).map(|entry| entry.slot())
     }
 
-    /// The position of the object of this name, from 0 in the order in which objects were added.
+    /// The position of the object of this name, counted from 0 in the order in which objects were
+    /// added; `None` if the table has no such object.
     pub fn place(&self, id: &Name) -> Option<usize>
         ensures { result ≡ position (bytes_eq id.now) (names self.now.entries) }
     {
         place_among(self.objects.as_slice(), id)
     }
 
-    /// The object name at this position, and where its contents lie in the pool.
+    /// The object name at this position, and where its contents lie in the pool; `None` from `len`
+    /// on.
     pub fn at(&self, place: usize) -> Option<(Name, Slot)>
         ensures { result ≡ option_map (λ e. (e.0, e.1.slot)) (slice_get self.now.entries place) }
     {
@@ -148,7 +151,7 @@ impl PlainTable {
     /// How many objects the table has, at most 4,194,304. Their names are distinct.
     pub fn len(&self) -> usize
         ensures value { result ≡ length self.now.entries }
-        ensures limited { length self.now.entries ≤ OBJECTS_LIMIT }
+        ensures limited { length self.now.entries ≤ objects_limit }
         ensures distinct { IsDistinct bytes_eq (names self.now.entries) }
     {
         self.objects.len()
@@ -162,11 +165,11 @@ impl PlainTable {
         self.committed
     }
 
-    /// The one object name in sight that begins with these hexadecimal digits of either case, if it
-    /// is one.
+    /// Looks up an abbreviated object name: `Found::One` if exactly one name in sight begins with
+    /// these hexadecimal digits of either case.
     ///
-    /// Digits of another kind, or more than forty, begin no name. Walks over all names. Takes no
-    /// memory.
+    /// No name begins with other characters or with more than forty digits. Walks over all names.
+    /// Takes no memory.
     pub fn starting_with(&self, digits: &[u8], sight: Sight) -> Found
         ensures { result ≡ found_among digits.now (names (in_sight sight self.now)) }
     {
@@ -198,9 +201,11 @@ impl PlainTable {
     }
 
     /// Adds the object of this kind, which is not a tree, with these contents, and answers its
-    /// name, as `Table::add` does, with the same refusals. Nothing has changed after any of them.
+    /// name, as `Table::add` does, with the same faults. Table and pool are unchanged after a
+    /// fault.
     ///
-    /// The pool is the one that the table stands in, and no content of it is held 2^64 - 1 times.
+    /// The pool must be the one that holds the contents of the table, and hold no content 2^64 - 1
+    /// times.
     pub fn add<N: Naming>(
         &mut self,
         pool: &mut Pool<N>,
@@ -236,7 +241,7 @@ impl PlainTable {
         Ok(id)
     }
 
-    // Whether the object of this name has this content; `None` where there is no such object.
+    // Whether the object of this name has this content; `None` if there is no such object.
     fn has_content<N: Naming>(
         &self,
         pool: &Pool<N>,
@@ -255,12 +260,12 @@ impl PlainTable {
     }
 
     fn is_full(&self) -> bool
-        ensures { result ≡ nat_le OBJECTS_LIMIT (length self.now.entries) }
+        ensures { result ≡ nat_le objects_limit (length self.now.entries) }
     {
         self.objects.len() >= OBJECTS_LIMIT
     }
 
-    // Puts an object after all others. All that may fail comes before the first change.
+    // Appends an object. Everything that may fail comes before the first change.
     fn push_new<N: Naming>(
         &mut self,
         pool: &mut Pool<N>,
@@ -270,7 +275,7 @@ impl PlainTable {
     ) -> Result<(), Memory>
         requires named { id ≡ object_name N.digest_of kind bytes.now }
         requires new { entry_named id self.old.entries ≡ None }
-        requires spare { length self.old.entries < OBJECTS_LIMIT }
+        requires spare { length self.old.entries < objects_limit }
         requires room { HasRoom pool.old }
         ensures ok { OnOk result (Pushes id (content_from kind bytes.now) None
             pool.old self.old pool.new self.new) }
@@ -290,9 +295,10 @@ impl PlainTable {
         self.committed = self.objects.len();
     }
 
-    /// Takes out the objects after the committed prefix and releases their slots. Takes no memory.
+    /// Removes the objects after the committed prefix and releases their slots. Takes no memory.
     ///
-    /// What another table holds stays in the pool. The pool is the one that the table stands in.
+    /// What another table holds stays in the pool. The pool must be the one that holds the contents
+    /// of the table.
     pub fn roll_back<N: Naming>(&mut self, pool: &mut Pool<N>)
         requires stands { StandsIn N.digest_of pool.old self.old.entries }
         ensures stands { StandsIn N.digest_of pool.new self.new.entries }
@@ -308,7 +314,7 @@ impl PlainTable {
         }
     }
 
-    // Takes out the last object and releases its slot.
+    // Removes the last object and releases its slot.
     fn give_up_last<N: Naming>(&mut self, pool: &mut Pool<N>)
         requires stands { StandsIn N.digest_of pool.old self.old.entries }
         requires open { self.old.committed < length self.old.entries }

@@ -1,4 +1,5 @@
-//! What no clause says of a pool: names from git, that calls succeed, and which slot is used again.
+//! What no clause says about a pool: names from git, that calls succeed, and which slot is used
+//! again.
 
 ghost use Rattle.std.specs.Prelude.{◌≡◌, ℕ, ◌+◌, ◌<◌, ◌≤◌, IfOk};
 ghost use Rattle.content_pool.specs.Pool.{HasRoom, IsVacant, holds};
@@ -13,7 +14,7 @@ use std::test::Fail;
 // The number of contents in a pool, and the sum of their sizes.
 type Sizes = (u64, u64);
 
-// What is asked of a pool that holds nothing.
+// A test on a pool that holds nothing.
 #[derive(Clone, Copy)]
 enum Turn {
     Names,
@@ -25,8 +26,8 @@ enum Turn {
 // `git hash-object` gave the digits.
 const HELLO: &[u8; 40] = b"ce013625030ba8dba906f756967f9e9ca394464a";
 
-// The digits of the name of `hello` and a line feed as a blob, whether it is given back so, and
-// what is then stored.
+// Puts `hello` and a line feed as a blob, and answers the digits of its name, whether `get` gives
+// it back, and what is then stored.
 fn of_hello(pool: &mut Pool<Sha1Naming>) -> Result<([u8; 40], bool, Sizes), Memory>
     requires { IsVacant pool.old }
 {
@@ -36,7 +37,7 @@ fn of_hello(pool: &mut Pool<Sha1Naming>) -> Result<([u8; 40], bool, Sizes), Memo
     Ok((id.to_hex(), is_same, pool.stored()))
 }
 
-// Holds one content four times, each time otherwise, and answers its one slot.
+// Holds one content four times, each time by another call, and answers its one slot.
 fn held_in_four_ways(alloc: Global, pool: &mut Pool<Sha1Naming>) -> Result<Slot, Fail>
     requires { IsVacant pool.old }
     ensures { IfOk result (λ slot. holds pool.new slot ≡ 4) }
@@ -70,7 +71,7 @@ fn keeps_a_content_until_its_last_release(
     Ok(pool.stored() == (0, 0))
 }
 
-// Whether the slot of a released content is that of the next one, and what it then holds.
+// Whether the slot of a released content is used for the next one, and has that content.
 fn uses_a_slot_again_after_its_last_release(pool: &mut Pool<Sha1Naming>) -> Result<bool, Memory>
     requires { IsVacant pool.old }
 {
@@ -81,7 +82,7 @@ fn uses_a_slot_again_after_its_last_release(pool: &mut Pool<Sha1Naming>) -> Resu
     Ok(second == first && bytes == b"b".as_slice())
 }
 
-// Whether two contents of one name lie apart, and each is given up alone.
+// Whether two contents of one name have two slots, and each is dropped alone.
 fn tells_two_contents_of_one_name_apart(pool: &mut Pool<TailNaming>) -> Result<bool, Memory>
     requires { IsVacant pool.old }
 {
@@ -109,7 +110,7 @@ fn takes_ten_thousand_contents(pool: &mut Pool<Sha1Naming>) -> Result<bool, Memo
     Ok(pool.stored() == (0, 0))
 }
 
-// Whether these four bytes are put into this slot, alone, and given up again.
+// Whether these four bytes are put into this slot, alone, and dropped again.
 fn goes_into(pool: &mut Pool<Sha1Naming>, slot: Slot, bytes: &[u8]) -> Result<bool, Memory>
     requires { IsVacant pool.old }
     ensures { IsVacant pool.new }
@@ -159,7 +160,7 @@ fn stores_each_content_once(rt: HostRuntime) -> Result<(), Fail> {
 // Contents of two names, some of them twice.
 const PUT: &[&[u8]] = &[b"ab", b"ba", b"cd", b"ab", b"dc", b"ba"];
 
-// Whether both answer alike when these contents are put, and then hold four of two bytes.
+// Whether both answer the same when these contents are put, and then hold four of two bytes.
 fn answer_alike(
     pool: &mut Pool<TailNaming>,
     plain: &mut PlainPool<TailNaming>,
@@ -175,7 +176,7 @@ fn answer_alike(
     Ok(pool.stored() == (4, 8))
 }
 
-// Whether both answer alike when these bytes are put, which adds one hold at most.
+// Whether both answer the same when these bytes are put, which adds one hold at most.
 fn put_alike(
     pool: &mut Pool<TailNaming>,
     plain: &mut PlainPool<TailNaming>,
@@ -215,7 +216,7 @@ fn is_unchanged_after_a_refused_growth(rt: HostRuntime) -> Result<(), Fail> {
     Ok(())
 }
 
-// Whether both contents are put, each a second time where a growth was refused and changed nothing.
+// Whether both contents are put, each tried again if an allocation failed and changed nothing.
 fn stays_after_a_refusal(alloc: Global) -> Result<bool, Memory> {
     let mut pool = Pool::new(alloc, TailNaming);
     let stays = put_both(&mut pool);
@@ -231,7 +232,7 @@ fn put_both(pool: &mut Pool<TailNaming>) -> Result<bool, Memory>
     Ok(first && second && pool.stored() == (2, 4))
 }
 
-// Whether these bytes are put, a second time where a growth was refused and changed nothing.
+// Whether these bytes are put, tried again if an allocation failed and changed nothing.
 fn stays_and_takes(pool: &mut Pool<TailNaming>, bytes: &[u8]) -> Result<bool, Memory>
     requires { HasRoom pool.old }
     ensures { (s : ℕ) → holds pool.new s ≤ holds pool.old s + 1 }

@@ -1,4 +1,4 @@
-//! What no clause says of refs: that calls succeed where memory is there, and the order of names
+//! What no clause says about refs: that calls succeed while there is memory, and the order of names
 //! that begin alike.
 
 use git_objects::Name;
@@ -6,7 +6,7 @@ use std::alloc::Global;
 use std::test::Fail;
 use tenant_refs::{RefName, Refs};
 
-// Refs in the order in which they are set, each with the byte that its target is made of.
+// Refs in the order in which they are set, each with the byte that fills its target.
 const SET: &[(&[u8], u8)] = &[
     (b"refs/heads/a0", 1),
     (b"refs/heads/a/b", 2),
@@ -33,13 +33,13 @@ fn set_all(alloc: Global, refs: &mut Refs, rows: &[(&[u8], u8)]) -> Result<(), F
     Ok(())
 }
 
-// Whether the ref that is listed there has this name and this target.
+// Whether the ref at this position has this name and this target.
 fn lists(refs: &Refs, position: usize, text: &[u8], byte: u8) -> bool {
     let target = Name::from_bytes([byte; 20]);
     refs.at(position) == Some((text, target)) && refs.get(text) == Some(target)
 }
 
-// Whether these refs and no others are listed, in this order.
+// Whether exactly these refs are listed, in this order.
 fn lists_all(refs: &Refs, rows: &[(&[u8], u8)]) -> bool {
     for (position, (text, byte)) in rows.iter().enumerate() {
         if !lists(refs, position, text, *byte) {
@@ -60,7 +60,7 @@ fn goes_in_order(alloc: Global, refs: &mut Refs) -> Result<bool, Fail> {
     Ok(was_new && lists_all(refs, LISTED) && refs.get(b"refs/heads/b") == None)
 }
 
-// Takes the branch `m` out, which HEAD then names, and tells whether a copy has the same HEAD.
+// Removes the branch `m`, makes HEAD name it, and answers whether a copy has the same HEAD.
 fn is_changed(alloc: Global, copy: &mut Refs) -> Result<bool, Fail> {
     copy.remove(b"refs/heads/m");
     copy.remove(b"refs/heads/none");
@@ -82,7 +82,7 @@ fn changes_a_copy(alloc: Global, refs: &Refs) -> Result<bool, Fail> {
     is_changed
 }
 
-// Whether a copy is changed, and the refs that it was made of are not.
+// Whether a change to a copy leaves the refs that it was made of unchanged.
 fn stays_beside_a_copy(alloc: Global, refs: &mut Refs) -> Result<bool, Fail> {
     set_all(alloc, refs, MAIN_AND_TAG)?;
     let is_changed = changes_a_copy(alloc, refs)?;

@@ -1,5 +1,5 @@
-//! What no clause says of tables: names from git, that calls succeed, and that the conditions of
-//! callers can be met.
+//! What no clause says about tables: names from git, that calls succeed, and that callers can meet
+//! the conditions.
 
 mod beside;
 mod forest;
@@ -21,8 +21,8 @@ use two::{Case, Step, first_wrong};
 // `git hash-object` gave the digits.
 const HELLO: &[u8; 40] = b"ce013625030ba8dba906f756967f9e9ca394464a";
 
-// Counted by hand, as `TailNaming` names the blobs `ab` and `ba`: nineteen bytes 0xab, and the sum
-// modulo 256 of the bytes of `blob 2`, of a NUL, of `a` and of `b`.
+// Counted by hand: the name that `TailNaming` gives the blobs `ab` and `ba`. It is nineteen bytes
+// 0xab, and the sum modulo 256 of the bytes of `blob 2`, of a NUL, of `a` and of `b`.
 const AB: &[u8; 40] = b"abababababababababababababababababababb4";
 
 // `git mktree` gave the digits of both trees.
@@ -120,7 +120,7 @@ const FOREST: &[(&[u8; 40], Option<Summary>)] = &[
     (DIRECTORY_TREE, Some(ONE_FILE_BELOW)),
 ];
 
-// The answer, where no growth was refused.
+// The answer, unless an allocation failed.
 fn told(answer: Result<Name, Fault>) -> Result<Result<Name, Fault>, Memory> {
     match answer {
         Err(Fault::Memory) => Err(Memory),

@@ -1,4 +1,4 @@
-//! Names of tenants beside gitnamespaces(7), and at their limit.
+//! Names of tenants: full names by gitnamespaces(7), and the limit.
 
 use std::alloc::Global;
 use std::test::Fail;

@@ -253,7 +253,7 @@ const OF_HISTORY: &[u8] = b"\
         data 3\n\
         vv\n\n";
 
-// Whether each export is the text that it is to be.
+// Whether each export is the wanted text.
 fn are_exported(alloc: Global, steps: &[u8], exports: &[u8]) -> bool {
     let mut history = History::new(alloc, Sha1Naming);
     let holds = history.are_exported(steps, exports);

@@ -1,5 +1,6 @@
-//! What expressions name: each form of gitrevisions(7) that there is, with a yes and a no, beside
-//! what `git rev-parse --verify` answers where its rules are these.
+//! What expressions name: each form of gitrevisions(7) that is read here, with a text that names an
+//! object and one that names none. `git rev-parse --verify` answers the same where its rules are
+//! the same.
 
 use crate::fields::{field, is_number, side};
 use crate::history::{History, MAIN, REFS, sets_all, sets_head};
@@ -10,8 +11,8 @@ use std::alloc::Global;
 use tenant_refs::Refs;
 use tenant_tables::Sight;
 
-// What texts name over the history with these refs. Each text stands after a word for what it
-// names, or after the number of its refusal.
+// What texts name over the history with these refs. Each text comes after a word for what it names,
+// or after the number of its refusal.
 struct Case {
     sight: Sight,
     head: &'static [u8],
@@ -121,7 +122,7 @@ const OF_PATHS: Case = Case {
     texts: PATHS,
 };
 
-// HEAD, digits and texts that are no base.
+// HEAD, digits, and texts that are no base.
 const BASES: &[u8] = b"\
     THIRD|HEAD;\
     THIRD|@;\
@@ -285,7 +286,7 @@ impl<N: Naming> History<N> {
             && is_wanted(self.resolve(Sight::All, refs, text), b"16")
     }
 
-    // Takes each ref out once it was named.
+    // Removes each ref after it was named.
     fn names_in_order(&self, refs: &mut Refs, held: &[u8], text: &[u8]) -> bool {
         for one in held.split(|byte| *byte == b' ') {
             if !is_wanted(self.resolve(Sight::All, refs, text), side(one, 1)) {
@@ -301,7 +302,7 @@ impl<N: Naming> History<N> {
     }
 }
 
-// Whether each text of a case names what it is to name.
+// Whether each text of a case names what the case says.
 fn are_named(alloc: Global, case: &Case) -> bool {
     let mut history = History::new(alloc, Sha1Naming);
     let holds = history.are_named(case);
@@ -309,8 +310,8 @@ fn are_named(alloc: Global, case: &Case) -> bool {
     holds
 }
 
-// Whether a text names what the first of these refs holds, and, where that is taken out, the
-// second, and so on, and nothing at the end.
+// Whether a text names what the first of these refs holds; after that ref is removed, what the
+// second holds; and so on, and nothing at the end.
 fn is_order(alloc: Global, held: &[u8], text: &[u8]) -> bool {
     let mut history = History::new(alloc, Sha1Naming);
     let holds = history.is_order(held, text);

@@ -9,17 +9,17 @@
 //! ```
 //!
 //! A step adds an object that is no tree; puts a file or a gitlink; stores the tree of all that was
-//! put so far, which is to have that name; or commits what is there. A name is a word of
-//! made_by_git.
+//! put so far, which must get that name; or commits what is there. A name is a word of made_by_git.
 
 ghost use Rattle.std.specs.Prelude.{◌≢◌};
 
 use crate::fields::{field, is, side};
 use crate::made_by_git::{FOUR_COMMITS, is_named, name_of};
 use content_pool::Pool;
-use file_maps::{Entry, Files};
+use file_maps::Entry;
 use git_objects::{FileMode, Kind, Name, Naming};
 use git_paths::Path;
+use plain_files::Files;
 use std::alloc::Global;
 use std::marker::Model;
 use tenant_refs::{RefName, Refs};
@@ -68,7 +68,7 @@ fn sets_ref(refs: &mut Refs, alloc: Global, ref_name: &[u8], target: Name) -> bo
     }
 }
 
-/// Lets HEAD name a ref. False where that cannot be, as where it is HEAD itself.
+/// Lets HEAD name a ref. False where it cannot, for example where the ref is HEAD itself.
 pub fn sets_head(refs: &mut Refs, alloc: Global, ref_name: &[u8]) -> bool {
     match RefName::read(alloc, ref_name) {
         Ok(ref_name) => sets_head_to(refs, ref_name),
@@ -94,8 +94,9 @@ fn path_of(alloc: Global, text: &[u8]) -> Option<Path> {
 
 /// A table over a pool of its own, and the files of the next tree.
 ///
-/// A function that makes a value lends it to one other, and has one way out: each way out of an
-/// owner makes its proof longer. Want of memory is one more answer that is not the wanted one.
+/// A function that owns a value lends it to one other function and has one exit, since each exit of
+/// an owner makes its proof longer. Where memory runs out, the answer is one more that is not the
+/// wanted one.
 #[derive(Drop)]
 pub struct History<N: Naming> {
     pub alloc: Global,
@@ -128,8 +129,8 @@ impl<N: Naming> History<N> {
         }
     }
 
-    /// Takes the steps of the history. Apart from what goes on from there, each of whose proofs
-    /// would read the whole text.
+    /// Takes the steps of the history. Separate from the functions that go on from there, since
+    /// each of their proofs would read the whole text.
     pub fn takes_history(&mut self) -> bool {
         self.takes_all(FOUR_COMMITS)
     }
@@ -144,7 +145,7 @@ impl<N: Naming> History<N> {
         true
     }
 
-    // Whether a step goes. Each function knows some of them, so that its proof is short.
+    // Whether a step goes. Each function knows some of the steps, to keep its proof short.
     fn takes(&mut self, step: &[u8]) -> bool {
         if is(step, b"file") {
             self.puts(step, FileMode::Regular)

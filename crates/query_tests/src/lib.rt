@@ -1,4 +1,5 @@
-//! Tests of `revisions` and `answers`, beside what Git's commands print over the same objects.
+//! Tests of `revisions` and `answers`, compared with what Git's commands print over the same
+//! objects.
 #![tactic(auto)]
 
 #[cfg(test)]

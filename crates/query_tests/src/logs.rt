@@ -1,6 +1,5 @@
-//! What ranges list and what commits reach. Which commits a range has is what `git rev-list`
-//! answers; in their order the two differ, for git looks at a commit only after one of its
-//! children.
+//! What ranges list and what commits reach. The commits of a range are those that `git rev-list`
+//! lists. Their order differs, since git looks at a commit only after one of its children.
 
 use crate::fields::{field, is, is_number, word};
 use crate::history::{History, sets_all, sets_head};
@@ -159,7 +158,7 @@ impl<N: Naming> History<N> {
     }
 }
 
-// Whether each range lists what it is to list.
+// Whether each range lists the wanted commits.
 fn are_listed(alloc: Global, sight: Sight, listed: &[u8]) -> bool {
     let mut history = History::new(alloc, Sha1Naming);
     let holds = history.are_listed(sight, listed);
@@ -167,7 +166,7 @@ fn are_listed(alloc: Global, sight: Sight, listed: &[u8]) -> bool {
     holds
 }
 
-// Whether of each pair is told what is true.
+// Whether the answer for each pair is right.
 fn are_reached(alloc: Global, cases: &[u8]) -> bool {
     let mut history = History::new(alloc, Sha1Naming);
     let holds = history.are_reached(cases);

@@ -1,4 +1,4 @@
-//! What queries print, beside what Git's commands print over the same objects and refs.
+//! What queries print, compared with what Git's commands print over the same objects and refs.
 
 use crate::fields::{field, is_number};
 use crate::history::{History, REFS, sets_all};
@@ -9,9 +9,9 @@ use revisions::FirstParentChain;
 use std::alloc::Global;
 use tenant_refs::Refs;
 
-// What queries print over the history with these refs, and perhaps with the object after the
-// committed prefix committed too. Each query stands after the number of its refusal, 0 where there
-// is none, and before what it prints. A number is a query of so many spaces.
+// What queries print over the history with these refs, with or without the object after the
+// committed prefix committed too. Each query comes after the number of its refusal, 0 where there
+// is none, and before what it prints. A number means a query of so many spaces.
 struct Queries {
     refs: &'static [u8],
     is_late_committed: bool,
@@ -202,7 +202,8 @@ impl<N: Naming> History<N> {
         }
     }
 
-    /// Whether a query is refused with this number, or is not where it is 0, and prints this text.
+    /// Whether a query is refused with this number, or not refused where the number is 0, and
+    /// prints this text.
     pub fn prints(&self, refs: &Refs, query: &[u8], code: &[u8], printed: &[u8]) -> bool {
         let mut out = Vec::new(self.alloc);
         let answered = self.code_of_answer(refs, query, &mut out);
@@ -268,7 +269,7 @@ impl<N: Naming> History<N> {
         true
     }
 
-    // Whether a query has one answer, along the chain and without it.
+    // Whether a query has the same answer along the chain and without it.
     fn answers_alike(&self, refs: &Refs, chain: &mut FirstParentChain, query: &[u8]) -> bool {
         let mut along = Vec::new(self.alloc);
         let code = self.code_of_answer_along(refs, chain, query, &mut along);
@@ -297,7 +298,7 @@ impl<N: Naming> History<N> {
     }
 }
 
-// Whether each query prints what it is to print.
+// Whether each query prints the wanted text.
 fn are_printed(alloc: Global, queries: &Queries) -> bool {
     let mut history = History::new(alloc, Sha1Naming);
     let holds = history.are_printed(queries);

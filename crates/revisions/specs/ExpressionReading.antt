@@ -15,7 +15,7 @@ use Rattle.revisions.specs.Expressions.{Expression, head}
 
 -- ---- one suffix
 
--- <n>: no digits are 1; else at most ten, with a value below 2^32.
+-- <n>: no digits mean 1; else at most ten, with a value below 2^32.
 abbrev pub in_32_bits : ℕ → Option ℕ
 in_32_bits number = if nat_lt number (2 ^ 32) then Some number else None
 
@@ -93,7 +93,7 @@ is_colon byte = byte == 58
 abbrev pub after_colon : List ℕ → Option (List ℕ)
 after_colon text = if list_any is_colon text then Some (after_first is_colon text) else None
 
--- It is a path as it is, never quoted. It may be empty.
+-- The path is taken as it is, and quotes in it mean themselves. It may be empty.
 abbrev pub path_suffix : Option (List ℕ) → Option (List Suffix)
 path_suffix None = Some []
 path_suffix (Some bytes) = option_map (λ path. AtPath path ∷ []) (canonical_path bytes)
@@ -112,7 +112,7 @@ expression_of text = let parts = cut (before_first is_colon text) in
 
 -- ---- a range
 
--- What stands before and after the first place of a part in a text, where it stands there.
+-- What is before and after the first occurrence of a part in a text, where it occurs.
 abbrev pub before_both : ℕ → Option (List ℕ × List ℕ) → Option (List ℕ × List ℕ)
 before_both byte None = None
 before_both byte (Some sides) = Some (byte ∷ sides.0, sides.1)
@@ -124,14 +124,14 @@ parted part (byte ∷ bytes) =
     then Some ([], drop (length part) (byte ∷ bytes))
     else before_both byte (parted part bytes)
 
--- A text is parted at the first place of a part: what stands before it, the part and what stands
--- after it are the text, and no place of the part has less before it.
+-- A text is parted at the first occurrence of a part: what is before it, the part and what is after
+-- it are the text, and no occurrence of the part has less before it.
 pub record IsPartedAtFirst (part text before after : List ℕ) : Type 0 where
   pub whole : text ≡ before ++ (part ++ after)
   pub first : (other rest : List ℕ) → text ≡ other ++ (part ++ rest)
       → length before ≤ length other
 
--- One side may be empty, and is HEAD then; both may not.
+-- One side may be empty, and then means HEAD; both may not.
 abbrev pub side_of : List ℕ → Option Expression
 side_of [] = Some head
 side_of (byte ∷ bytes) = expression_of (byte ∷ bytes)
@@ -147,7 +147,7 @@ between_of left right = option_map (λ sides. Between sides.0 sides.1) (sides_of
 abbrev pub either_of : List ℕ → List ℕ → Option (Range Expression)
 either_of left right = option_map (λ sides. Either sides.0 sides.1) (sides_of left right)
 
--- With a third dot after the two it is the other form.
+-- A third dot after the two makes it the form with three.
 unfoldable pub dotted : List ℕ → List ℕ → Option (Range Expression)
 dotted left right =
     if starts_with nat_eq right (codes ".") then either_of left (drop 1 right)
@@ -157,6 +157,6 @@ abbrev pub range_from : List ℕ → Option (List ℕ × List ℕ) → Option (R
 range_from text None = option_map From (expression_of text)
 range_from text (Some sides) = dotted sides.0 sides.1
 
--- The range that a text is, where it is one. It is parted at its first `..`, in a path too.
+-- The range that a text is, where it is one. It is parted at its first `..`, even inside a path.
 abbrev pub range_of : List ℕ → Option (Range Expression)
 range_of text = range_from text (parted (codes "..") text)

@@ -3,7 +3,7 @@ use Rattle.std.specs.Prelude.{◌≡◌, ℕ, List, [], ◌∷◌, Ok}
 use Rattle.git_model.specs.Repository.{Object}
 use Rattle.revisions.specs.Resolution.{nth_parent}
 
--- After this commit stands its first parent, then the first parent of that, and so on.
+-- This commit is followed by its first parent, then by the first parent of that, and so on.
 abbrev pub FollowFirstParents : List Object → List ℕ → List (List ℕ) → Type 0
 FollowFirstParents os commit [] = Unit {0}
 FollowFirstParents os commit (parent ∷ more) =

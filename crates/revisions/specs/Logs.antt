@@ -16,7 +16,7 @@ abbrev pub named_log : List Object → RefStore → Range Expression → Result 
 named_log os store range =
     and_then (range_named os store range) (λ ids. Ok (log_of os (is_in_range os ids)))
 
--- The log of the range that a text is. That a side is malformed comes before anything is looked up.
+-- The log of the range that a text is. A malformed side is refused before anything is looked up.
 abbrev pub range_log : List Object → RefStore → List ℕ → Result (List (List ℕ)) Fault
 range_log os store text =
     and_then (or_fault fault.Malformed (range_of text)) (named_log os store)

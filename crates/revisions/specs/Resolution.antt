@@ -29,11 +29,11 @@ if_there os id = if is_some (object_named id os) then Ok id else Err fault.Unkno
 
 -- ---- the base
 
--- `HEAD`, and `@` alone, is the ref that HEAD names.
+-- `HEAD`, and `@` alone, means the ref that HEAD names.
 abbrev pub is_head : List ℕ → Bool
 is_head base = bytes_eq base (codes "HEAD") || bytes_eq base (codes "@")
 
--- <refname>: the refs that it may mean, the first one that is there being meant.
+-- <refname>: the refs that it may mean. The first one that exists is meant.
 abbrev pub refs_meant_by : List ℕ → List (List ℕ)
 refs_meant_by base = base ∷ (codes "refs/" ++ base) ∷ (codes "refs/tags/" ++ base)
     ∷ (codes "refs/heads/" ++ base) ∷ (codes "refs/remotes/" ++ base)
@@ -83,7 +83,7 @@ peeled os wanted id = or_fault fault.WrongKind (peeled_to os wanted id)
 abbrev pub peeled_untagged : List Object → List ℕ → Result (List ℕ) Fault
 peeled_untagged os id = or_fault fault.WrongKind (without_tags os id)
 
--- The nth parent of a commit, counted from 1; the commit itself is the one before.
+-- The nth parent of a commit, counted from 1; the commit itself where n is 0.
 abbrev pub nth_parent : List Object → ℕ → List ℕ → Result (List ℕ) Fault
 nth_parent os zero commit = Ok commit
 nth_parent os (suc n) commit = or_fault fault.UnknownRevision (slice_get (parents_of os commit) n)
@@ -104,7 +104,7 @@ at_path os path tree =
     if is_within_limits path then entry_object os (entry_at_path os tree path)
     else Err fault.UnknownRevision
 
--- What a suffix makes of an object.
+-- The object that a suffix leads to from another.
 abbrev pub after_suffix : List Object → Suffix → List ℕ → Result (List ℕ) Fault
 after_suffix os (Parent n) id = and_then (peeled os kind.Commit id) (nth_parent os n)
 after_suffix os (Ancestor n) id = and_then (peeled os kind.Commit id) (nth_ancestor os n)
@@ -113,7 +113,7 @@ after_suffix os PeelTags id = peeled_untagged os id
 after_suffix os Itself id = Ok id
 after_suffix os (AtPath path) id = and_then (peeled os kind.Tree id) (at_path os path)
 
--- Suffixes are applied from left to right; the first one that cannot be decides.
+-- Suffixes are applied from left to right; the first one that is refused decides.
 abbrev pub after_suffixes : List Object → List Suffix → List ℕ → Result (List ℕ) Fault
 after_suffixes os [] id = Ok id
 after_suffixes os (suffix ∷ suffixes) id =
@@ -126,7 +126,7 @@ unfoldable pub named_by : List Object → RefStore → Expression → Result (Li
 named_by os store expression =
     and_then (base_named os store expression.base) (after_suffixes os expression.suffixes)
 
--- The same of a text. That it is malformed comes before anything is looked up.
+-- The same for a text. A malformed text is refused before anything is looked up.
 abbrev pub resolved : List Object → RefStore → List ℕ → Result (List ℕ) Fault
 resolved os store text =
     and_then (or_fault fault.Malformed (expression_of text)) (named_by os store)

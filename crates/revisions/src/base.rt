@@ -13,7 +13,7 @@ use std::alloc::Global;
 use tenant_refs::Refs;
 use tenant_tables::{Found, Objects};
 
-// Whether a base stands for the ref that HEAD names.
+// Whether a base means the ref that HEAD names.
 fn is_head(base: &[u8]) -> bool
     ensures { result ≡ is_head base.now }
 {
@@ -55,7 +55,7 @@ fn held_in(
     Ok(refs.get(&ref_name))
 }
 
-// What the HEAD of a remote of this name holds.
+// What the HEAD of the remote of this name holds.
 fn held_by_remote(alloc: Global, refs: &Refs, base: &[u8]) -> Result<Option<Name>, Memory>
     ensures { IfOk result
         (λ held. held ≡ target_of refs.now (codes "refs/remotes/" ++ base.now ++ codes "/HEAD")) }
@@ -66,7 +66,7 @@ fn held_by_remote(alloc: Global, refs: &Refs, base: &[u8]) -> Result<Option<Name
     Ok(refs.get(&ref_name))
 }
 
-// What the first branch of a base holds: one of this repository, or of a remote.
+// What the first branch that a base may mean holds: a branch of this repository, or of a remote.
 fn held_by_branch(alloc: Global, refs: &Refs, base: &[u8]) -> Result<Option<Name>, Memory>
     ensures { IfOk result (λ held. held ≡ slice_get (filter_map (target_of refs.now)
         ((codes "refs/heads/" ++ base.now) ∷ (codes "refs/remotes/" ++ base.now)
@@ -81,7 +81,7 @@ fn held_by_branch(alloc: Global, refs: &Refs, base: &[u8]) -> Result<Option<Name
     held_by_remote(alloc, refs, base)
 }
 
-// What the first ref holds that a base may mean.
+// What the first ref that a base may mean holds.
 fn ref_meant_by(alloc: Global, refs: &Refs, base: &[u8]) -> Result<Option<Name>, Memory>
     ensures { IfOk result (λ held. held ≡ ref_meant_by refs.now base.now) }
 {
@@ -97,7 +97,7 @@ fn ref_meant_by(alloc: Global, refs: &Refs, base: &[u8]) -> Result<Option<Name>,
     held_by_branch(alloc, refs, base)
 }
 
-// The object of a base that is no HEAD and no forty digits: a ref comes before an abbreviation.
+// The object of a base that is neither HEAD nor forty digits. A ref comes before an abbreviation.
 fn ref_or_abbreviation<N: Naming>(
     alloc: Global,
     objects: &Objects<'_, N>,
@@ -113,7 +113,7 @@ fn ref_or_abbreviation<N: Naming>(
     }
 }
 
-/// This object, where there is one of its name; else `Fault::UnknownRevision` (16).
+/// This name, where an object has it; else `Fault::UnknownRevision` (16).
 pub(crate) fn if_there<N: Naming>(objects: &Objects<'_, N>, id: Name) -> Result<Name, Fault>
     ensures { result ≡ if_there objects.now id }
 {
@@ -124,7 +124,7 @@ pub(crate) fn if_there<N: Naming>(objects: &Objects<'_, N>, id: Name) -> Result<
     }
 }
 
-// What the ref holds that HEAD names.
+// What the ref that HEAD names holds.
 fn head_target(refs: &Refs) -> Result<Name, Fault>
     ensures { result ≡ or_fault fault.UnknownRevision (target_of refs.now refs.now.head) }
 {
@@ -134,12 +134,12 @@ fn head_target(refs: &Refs) -> Result<Name, Fault>
     }
 }
 
-/// What a base names: HEAD or `@` the target of the ref that HEAD names; forty digits the object of
-/// that name, and nothing else is tried; else the first ref that it may mean; else the one object
-/// whose name begins with it.
+/// What a base names. HEAD and `@` name what the ref that HEAD names holds. Forty digits name the
+/// object of that name, and nothing else is tried. Any other base names what the first ref that it
+/// may mean holds, or else the one object whose name begins with it.
 ///
 /// `Fault::UnknownRevision` (16) where there is none of these, `Fault::Ambiguous` (17) where
-/// several names begin so, `Fault::Memory` (90) where there is no room for a ref's name.
+/// several names begin with it, `Fault::Memory` (90) where there is no room for a ref's name.
 pub(crate) fn base_named<N: Naming>(
     alloc: Global,
     objects: &Objects<'_, N>,

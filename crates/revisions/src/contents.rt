@@ -1,5 +1,5 @@
-//! What the contents of an object lead to. Contents that are no object's of their kind, which stand
-//! in no good repository, lead to something harmless.
+//! What the contents of an object refer to. Malformed contents are in no good repository; for them
+//! the answer is not specified.
 
 ghost use Rattle.std.specs.Prelude.{◌≡◌, List, find, slice_get, Some, IfOk};
 ghost use Rattle.std.specs.Option.{option_map};
@@ -16,7 +16,7 @@ use commit_walk::first_parent_in;
 use git_objects::{Memory, Name, TreeEntry, read_commit, read_tag, read_tree};
 use std::alloc::Global;
 
-/// The object that a tag is of. `Memory` (90) where there is no room to read the tag.
+/// The object that a tag points to. `Memory` (90) where there is no room to read the tag.
 pub(crate) fn target_in(alloc: Global, contents: &[u8]) -> Result<Option<Name>, Memory>
     ensures { (t : Tag) → CanWriteTag t → contents.now ≡ tag_contents t
         → IfOk result (λ r. r ≡ Some (tag_read contents.now).target) }
@@ -46,8 +46,8 @@ fn name_at(names: &[Name], position: usize) -> Option<Name>
 }
 
 /// The parent of a commit at a position, counted from 0; `None` from the number of its parents on.
-/// The first one is read alone, since steps go by it. `Memory` (90) where there is no room to read
-/// the commit.
+/// The first one is read without the others, since `~<n>` asks for it at each step. `Memory` (90)
+/// where there is no room to read the commit.
 pub(crate) fn parent_in(
     alloc: Global,
     contents: &[u8],

@@ -54,8 +54,8 @@ pub(crate) fn split_at_colon(text: &[u8]) -> (&[u8], Option<&[u8]>)
     }
 }
 
-/// What stands before and after the first place of a part in a text; `None` where it does not stand
-/// there.
+/// What is before and after the first occurrence of a part in a text; `None` where it does not
+/// occur.
 pub(crate) fn split_at_part<'a>(text: &'a [u8], part: &[u8]) -> Option<(&'a [u8], &'a [u8])>
     ensures { option_map (λ sides. (sides.0.now, sides.1.now)) result ≡ parted part.now text.now }
 {

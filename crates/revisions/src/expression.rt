@@ -1,6 +1,6 @@
 //! A revision expression: gitrevisions(7), "Specifying Revisions".
 //!
-//! It says nothing of any repository: whether its base names something is decided where it is
+//! It says nothing about any repository: whether its base names something is decided when it is
 //! resolved. `v1~2:src` has the base `v1` and two suffixes.
 
 ghost use Rattle.std.specs.Prelude.{◌≡◌};
@@ -10,7 +10,7 @@ use crate::suffix::Suffix;
 use std::alloc::Global;
 use std::marker::Model;
 
-/// A base, and what stands after it from left to right. The base is borrowed from the text.
+/// A base and its suffixes, from left to right. The base is borrowed from the text.
 #[derive(Drop)]
 pub struct Expression<'a> {
     base: &'a [u8],
@@ -40,7 +40,7 @@ impl<'a> Expression<'a> {
         Expression::of(b"HEAD", Vec::new(alloc))
     }
 
-    /// What stands before every suffix. It is not empty.
+    /// The text before all suffixes. It is not empty.
     pub fn base(&self) -> &[u8]
         ensures { result.now ≡ self.now.base }
     {

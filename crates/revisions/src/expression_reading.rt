@@ -22,7 +22,7 @@ fn holds_reflog(text: &[u8]) -> bool
     split_at_part(text, b"@{").is_some()
 }
 
-// Whether a text may be a base. `@{` begins what stands for a reflog.
+// Whether a text may be a base. `@{` begins a reflog suffix, and there are no reflogs here.
 fn is_base(text: &[u8]) -> bool
     ensures { result ≡ is_base text.now }
 {
@@ -79,8 +79,9 @@ impl<'a> Expression<'a> {
     ///
     /// `Fault::Malformed` (3) where the base is empty or holds `@{`, a suffix is none of
     /// gitrevisions(7), a number has more than ten digits or is above 4,294,967,295, or the path is
-    /// not canonical. It is taken as it stands and never quoted. Takes memory for the suffixes and
-    /// the path; `Fault::Memory` (90) where there is none. Nothing is looked up.
+    /// not canonical. The path is taken as it is, and quotes in it mean themselves. Takes memory
+    /// for the suffixes and the path; `Fault::Memory` (90) where there is none. Nothing is looked
+    /// up.
     #[tactic(auto, unfolding(crate::specs::ExpressionReading::expression_of))]
     pub fn read(alloc: Global, text: &'a [u8]) -> Result<Expression<'a>, Fault>
         ensures { Gives result (or_fault fault.Malformed (expression_of text.now)) }

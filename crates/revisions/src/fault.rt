@@ -20,10 +20,10 @@ pub enum Fault {
     /// It names nothing that the repository has, 16.
     #[error("unknown revision")]
     UnknownRevision,
-    /// Several object names begin so, 17.
+    /// Several object names begin with the digits, 17.
     #[error("ambiguous abbreviation")]
     Ambiguous,
-    /// A growth was refused, 90.
+    /// An allocation failed, 90.
     #[error("out of memory")]
     Memory,
 }

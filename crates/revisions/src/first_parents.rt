@@ -1,4 +1,4 @@
-//! First parents: gitrevisions(7), `<rev>~<n>`. What a walk met is kept for the next one.
+//! First parents: gitrevisions(7), `<rev>~<n>`. The commits of a walk are kept for the next one.
 
 ghost use Rattle.std.specs.Prelude.{◌≡◌, ◌↔◌, [], Some, IsTrue, OnOk, List, slice_get};
 ghost use Rattle.git_model.specs.Repository.{Object};
@@ -14,8 +14,8 @@ use std::alloc::Global;
 use std::marker::Model;
 use tenant_tables::Objects;
 
-/// The commits that the last walk along first parents met, from the one that it began at on. The
-/// next walk that begins there looks them up, and goes on after the last.
+/// The commits of the last walk along first parents, from its start on. The next walk with the same
+/// start looks them up, and goes on after the last one.
 #[derive(Drop)]
 pub struct FirstParentChain {
     commits: Vec<Name>,
@@ -39,14 +39,14 @@ impl FirstParentChain {
         }
     }
 
-    /// Forgets the commits: they are those of other objects. Takes no memory.
+    /// Forgets the commits. Call this when the objects change. Takes no memory.
     pub fn clear(&mut self)
         ensures { self.new ≡ [] }
     {
         self.commits.clear();
     }
 
-    // Whether it begins at this commit.
+    // Whether the chain begins at this commit.
     fn begins_at(&self, commit: &Name) -> bool
         ensures { IsTrue result ↔ (slice_get self.now 0 ≡ Some commit.now) }
     {
@@ -56,7 +56,7 @@ impl FirstParentChain {
         }
     }
 
-    // Begins at this commit: what stands stays where it does so.
+    // Lets the chain begin at this commit. A chain that does so already stays as it is.
     fn begin_at(&mut self, commit: Name) -> Result<(), Memory>
         ensures begun { OnOk result (slice_get self.new 0 ≡ Some commit) }
         ensures stays { slice_get self.old 0 ≡ Some commit → self.new ≡ self.old }
@@ -70,7 +70,7 @@ impl FirstParentChain {
         Ok(())
     }
 
-    /// The commit that n steps to the first parent lead to. The chain has what was met on the way.
+    /// The commit after n steps to the first parent. The chain then has the commits on the way.
     ///
     /// `Fault::UnknownRevision` (16) where a commit on the way has no parent; `Fault::Memory` (90)
     /// where there is no room to read a commit or to keep it.

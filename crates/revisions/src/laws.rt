@@ -8,14 +8,15 @@ ghost use Rattle.git_model.specs.Bytes.{Holds};
 ghost use Rattle.revisions.specs.declared.commit_range.Range.TheVariants.{From};
 ghost use Rattle.revisions.specs.ExpressionReading.{cut, is_mark, IsPiece, dotted, expression_of, parted, range_of, IsPartedAtFirst};
 
-/// The parts that a text is cut into spell it: nothing is lost, and nothing comes twice.
+/// The parts that a text is cut into are together the text: nothing is lost, and nothing comes
+/// twice.
 pub fn parts_spell_the_text()
     ensures { (text : List ℕ) → (cut text).front ++ flat_map (λ piece. piece) (cut text).pieces
         ≡ text }
 {}
 
-/// A text is cut into the only parts that spell it: bytes without a mark, and pieces that each
-/// begin with a mark and have no other.
+/// A text is cut into the only parts that are together the text: bytes without a mark, and pieces
+/// that each begin with a mark and have no other.
 pub fn no_other_parts_spell_it()
     ensures { (front : List ℕ) (pieces : List (List ℕ)) → list_any is_mark front ≡ false
         → AllByRecursion IsPiece pieces
@@ -23,8 +24,8 @@ pub fn no_other_parts_spell_it()
         ≡ record { front = front; pieces = pieces } }
 {}
 
-/// A text is parted at the first place of a part, and so nowhere else; it is not parted where the
-/// part does not stand in it. What stands before that place does not hold the part.
+/// A text is parted at the first occurrence of a part and nowhere else; it is not parted where the
+/// part does not occur. What is before that occurrence does not contain the part.
 pub fn a_text_is_parted_at_the_first_place()
     ensures first { (part text before after : List ℕ) → part ≢ []
         → (parted part text ≡ Some (before, after)) ↔ IsPartedAtFirst part text before after }
@@ -34,7 +35,7 @@ pub fn a_text_is_parted_at_the_first_place()
         → IsPartedAtFirst part text before after → ¬ Holds before part }
 {}
 
-/// A range is parted at its first two dots; a text that does not hold them is an expression.
+/// A range is parted at its first two dots; a text without them is read as an expression.
 pub fn a_range_is_parted_at_its_first_dots()
     ensures first { (text left right : List ℕ) → IsPartedAtFirst (codes "..") text left right
         → range_of text ≡ dotted left right }

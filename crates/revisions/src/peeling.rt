@@ -35,7 +35,7 @@ fn is_there_untagged<N: Naming>(objects: &Objects<'_, N>, id: &Name) -> bool
     }
 }
 
-// What an object of this kind with these contents leads to on the way to another kind.
+// The next object when one of this kind with these contents is peeled to the wanted kind.
 fn next_from(
     alloc: Global,
     wanted: Kind,
@@ -52,7 +52,7 @@ fn next_from(
     }
 }
 
-// The object that one leads to on the way to a kind.
+// The next object when this one is peeled to the wanted kind.
 fn next_to<N: Naming>(
     alloc: Global,
     objects: &Objects<'_, N>,
@@ -68,8 +68,8 @@ fn next_to<N: Naming>(
     }
 }
 
-// Whether a way ends at this object: where it is of the wanted kind, or, where no kind is wanted,
-// where it is there and no tag.
+// Whether peeling ends at this object: it is of the wanted kind or, where no kind is wanted, it
+// exists and is not a tag.
 fn is_end<N: Naming>(objects: &Objects<'_, N>, wanted: Option<Kind>, id: &Name) -> bool
     ensures { result ≡ is_end objects.now wanted id.now }
 {
@@ -79,8 +79,8 @@ fn is_end<N: Naming>(objects: &Objects<'_, N>, wanted: Option<Kind>, id: &Name) 
     }
 }
 
-// The first object on the way from this one that the way ends at. The way is given up after as many
-// steps as there are objects: among good objects none is longer.
+// The object at which the peeling of this one ends. It gives up after as many steps as there are
+// objects: among good objects none takes more.
 fn first_end<N: Naming>(
     alloc: Global,
     objects: &Objects<'_, N>,
@@ -106,12 +106,12 @@ fn first_end<N: Naming>(
     Ok(Some(at))
 }
 
-/// The object of this kind that one is peeled to: while the kind differs, a tag gives its target
-/// and, where a tree is wanted, a commit its tree. A tag is itself a tag.
+/// Peels an object to this kind: while the kind differs, a tag gives its target and, where a tree
+/// is wanted, a commit gives its tree. A tag peeled to a tag is itself.
 ///
-/// `Fault::WrongKind` (15) where no such object is on the way, which is also where there is no
-/// object of this name; `Fault::Memory` (90) where there is no room to read a commit or a tag. The
-/// objects are those of a good repository; among others the answer is any.
+/// `Fault::WrongKind` (15) where this leads to no object of the kind, also where no object has this
+/// name; `Fault::Memory` (90) where there is no room to read a commit or a tag. Nothing changes.
+/// The objects are those of a good repository; among others the answer is not specified.
 pub fn peel<N: Naming>(
     alloc: Global,
     objects: &Objects<'_, N>,
@@ -126,7 +126,8 @@ pub fn peel<N: Naming>(
     }
 }
 
-/// The first object on the way from this one that is no tag. The refusals are those of `peel`.
+/// Follows tags from an object to the first object that is not a tag. The refusals are those of
+/// `peel`.
 pub fn peel_tags<N: Naming>(
     alloc: Global,
     objects: &Objects<'_, N>,

@@ -47,8 +47,8 @@ pub fn range<N: Naming>(
     resolve_range(alloc, &objects, refs, &mut chain, &range)
 }
 
-/// The commits of a range, among the objects in sight and with these refs: by the committer's time
-/// from new to old, and of one time by rising name.
+/// The commits of a range, among the objects in sight and with these refs: by committer time,
+/// newest first, and by ascending name where the times are equal.
 ///
 /// The left side is decided wholly before the right, with the refusals of `resolve_commit`. Takes
 /// memory for the walks, their chain and the list; `Fault::Memory` (90) where there is none. The

@@ -59,7 +59,7 @@ fn read_between<'a>(
     Ok(Range::Between(left, right))
 }
 
-// What stands around the first two dots. With a third dot it is the other form.
+// What is before and after the first two dots. A third dot makes it the form with three.
 #[tactic(auto, unfolding(crate::specs::ExpressionReading::dotted))]
 fn read_dotted<'a>(
     alloc: Global,
@@ -74,12 +74,12 @@ fn read_dotted<'a>(
     read_between(alloc, left, right)
 }
 
-/// Reads a range: an expression, or two with `..` or `...` between them, of which one may be empty
-/// and stands for HEAD then.
+/// Reads a range: one expression, or two with `..` or `...` between them. One of the two may be
+/// empty, and then means HEAD.
 ///
-/// It is parted at its first `..`, in a path too. `Fault::Malformed` (3) where a side is no
-/// expression or both are empty. Takes memory for the suffixes and the paths; `Fault::Memory` (90)
-/// where there is none. Nothing is looked up.
+/// The text is split at its first `..`, even inside a path. `Fault::Malformed` (3) where a side is
+/// no expression or both are empty. Takes memory for the suffixes and the paths; `Fault::Memory`
+/// (90) where there is none. Nothing is looked up.
 pub fn read_range<'a>(alloc: Global, text: &'a [u8]) -> Result<Range<Expression<'a>>, Fault>
     ensures { Gives result (or_fault fault.Malformed (range_of text.now)) }
 {

@@ -51,7 +51,7 @@ fn at_path<N: Naming>(
     }
 }
 
-// What a suffix makes of an object.
+// The object that a suffix leads to from this one.
 fn after_suffix<N: Naming>(
     alloc: Global,
     objects: &Objects<'_, N>,
@@ -83,7 +83,7 @@ fn after_suffix<N: Naming>(
     }
 }
 
-// Suffixes are applied from left to right; the first one that cannot be decides.
+// Suffixes are applied from left to right; the first one that is refused decides.
 fn after_suffixes<N: Naming>(
     alloc: Global,
     objects: &Objects<'_, N>,
@@ -105,20 +105,20 @@ fn after_suffixes<N: Naming>(
 
 /// The object that an expression names, among the objects in sight and with these refs.
 ///
-/// The base is looked up first: HEAD and `@` stand for the ref that HEAD names; forty hexadecimal
-/// digits name that object, and nothing else is tried; else the first of six refs that is there;
-/// else the one object whose name begins with these 4 to 39 digits. Then the suffixes are applied
-/// from left to right, and the first refusal decides.
+/// The base is looked up first: HEAD and `@` mean the ref that HEAD names; forty hexadecimal digits
+/// name that object, and nothing else is tried; else the first of six refs that is there; else the
+/// one object whose name begins with these 4 to 39 digits. Then the suffixes are applied from left
+/// to right, and the first refusal decides.
 ///
 /// `Fault::WrongKind` (15) where an object cannot be peeled to the kind that is asked for,
 /// `Fault::UnknownRevision` (16) where there is no such object, ref, parent or entry, or the path
 /// is past the limits, `Fault::Ambiguous` (17) where several names begin with the digits. Takes
-/// memory for ref names, to read what it passes, and to keep the commits of `~<n>` in the chain;
-/// `Fault::Memory` (90) where there is none.
+/// memory for ref names, to read the objects on the way, and to keep the commits of `~<n>` in the
+/// chain; `Fault::Memory` (90) where there is none.
 ///
 /// The answer is that of gitrevisions(7) among the objects of a good repository, with a chain of
-/// these objects; among others it is any. A chain that a call leaves serves the next one over the
-/// same objects.
+/// these objects; among others it is not specified. The next call over the same objects can use the
+/// chain that this one leaves.
 #[tactic(auto, unfolding(crate::specs::Resolution::named_by))]
 pub fn resolve_expression<N: Naming>(
     alloc: Global,

@@ -49,7 +49,7 @@ fn entry_named<'a, N: Naming>(
     }
 }
 
-// What stands directly below an entry under this name.
+// The entry of this name directly below an entry.
 fn inner_entry<'a, N: Naming>(
     alloc: Global,
     objects: &Objects<'a, N>,
@@ -67,11 +67,11 @@ fn inner_entry<'a, N: Naming>(
     }
 }
 
-/// What stands at a path below an entry: the entry itself at the empty path; `None` where nothing
-/// stands there.
+/// What is at a path below an entry: the entry itself at the empty path; `None` where nothing is
+/// there.
 ///
 /// `Memory` (90) where there is no room to read a tree on the way. The objects are those of a good
-/// repository; among others the answer is any.
+/// repository; among others the answer is not specified.
 pub fn entry_below<'a, N: Naming>(
     alloc: Global,
     objects: &Objects<'a, N>,

@@ -1,4 +1,4 @@
-//! What may stand after a revision: gitrevisions(7), "Specifying Revisions".
+//! The suffixes of a revision: gitrevisions(7), "Specifying Revisions".
 
 use git_model::Kind;
 use git_paths::Path;
@@ -10,12 +10,12 @@ pub enum Suffix {
     Parent(u32),
     /// `<rev>~<n>`: the first parent, n times.
     Ancestor(u32),
-    /// `<rev>^{<type>}`: what it is peeled to.
+    /// `<rev>^{<type>}`: the object of this kind that it is peeled to.
     PeelTo(Kind),
-    /// `<rev>^{}`: what its tags are of.
+    /// `<rev>^{}`: the first object that is not a tag, following tags.
     PeelTags,
-    /// `<rev>^{object}`: itself.
+    /// `<rev>^{object}`: the object itself.
     Itself,
-    /// `<rev>:<path>`: what stands at a path of its tree.
+    /// `<rev>:<path>`: what is at a path of its tree.
     AtPath(Path),
 }

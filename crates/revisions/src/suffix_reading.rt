@@ -16,7 +16,7 @@ fn in_32_bits(number: u64) -> Option<u32>
     u32::try_from(number).ok()
 }
 
-// A number as it stands after `^` or `~`: no digits are 1.
+// The number after `^` or `~`: no digits mean 1.
 #[tactic(auto, unfolding(crate::specs::ExpressionReading::count_of))]
 fn read_count(digits: &[u8]) -> Option<u32>
     ensures { result ≡ count_of digits.now }
@@ -61,8 +61,7 @@ fn read_after_caret(text: &[u8]) -> Option<Suffix>
     Some(Suffix::Parent(read_count(text)?))
 }
 
-/// The suffix that a text is, which begins with `^` or `~`; `None` where it is none. Takes no
-/// memory.
+/// Reads a suffix, which begins with `^` or `~`; `None` where the text is not one. Takes no memory.
 #[tactic(auto, unfolding(crate::specs::ExpressionReading::suffix_of))]
 pub(crate) fn read_suffix(piece: &[u8]) -> Option<Suffix>
     ensures { result ≡ suffix_of piece.now }

@@ -1,4 +1,4 @@
--- The numbers of the faults that are a service's own.
+-- The numbers of a service's own faults.
 use Rattle.std.specs.Prelude.{ℕ}
 use Rattle.service_steps.specs.declared.fault.ServiceFault.{ServiceFault}
 use Rattle.service_steps.specs.declared.fault.ServiceFault.TheVariants as fault

@@ -1,4 +1,4 @@
--- Frames: what a service is sent and what it answers, as bytes. All numbers are big-endian.
+-- Frames: the steps of a service and its answers, as bytes. All numbers are big-endian.
 use Rattle.std.specs.Prelude.{◌≡◌, ◌≢◌, ℕ, ◌+◌, ◌<◌, ◌^◌, ◌==◌, nat_lt, if◌then◌else◌, List, [], ◌∷◌, ◌++◌, length, Option, None, Some, IfSome}
 use Rattle.std.specs.List.{find}
 use Rattle.std.specs.Int.{Width, w16, w32, w64, to_be_bytes}
@@ -37,28 +37,33 @@ kind_number kind.Restart = 5
 abbrev pub all_kinds : List Kind
 all_kinds = kind.Open ∷ kind.Feed ∷ kind.End ∷ kind.Ask ∷ kind.Restart ∷ []
 
--- The kind of a number, where it has one.
+-- The kind with this number, if there is one.
 abbrev pub kind_of : ℕ → Option Kind
 kind_of n = find (λ k. kind_number k == n) all_kinds
 
--- A restart names nobody; every other name is as long as two bytes can say.
+-- A Restart names no tenant. Any other name may be as long as two bytes can count.
 abbrev pub tenant_limit : Kind → ℕ
 tenant_limit kind.Restart = 0
 tenant_limit _ = 65535
 
--- Feed and Ask alone have a body, of 16 MiB at most.
+-- the most bytes of a body, a query or a piece: 16 MiB
+abbrev pub largest_body : ℕ
+largest_body = 16777216
+
+-- Only Feed and Ask have a body.
 abbrev pub body_limit : Kind → ℕ
-body_limit kind.Feed = 16777216
-body_limit kind.Ask = 16777216
+body_limit kind.Feed = largest_body
+body_limit kind.Ask = largest_body
 body_limit _ = 0
 
--- A wrong part of a frame shows with its last byte: the kind as the first one, the length of the
--- name as the third, and that of the body after the name. This many bytes show it.
+-- How many bytes show that a length is wrong, if one is. It shows with its last byte: the length of
+-- the name with the third byte, and the length of the body with the fourth byte after the name.
 unfoldable pub wrong_part : Kind → ℕ → ℕ → Option ℕ
 wrong_part k tenant body =
     if nat_lt (tenant_limit k) tenant then Some 3
     else if nat_lt (body_limit k) body then Some (7 + tenant) else None
 
+-- The same for a frame of any kind: an unknown kind shows with the first byte.
 abbrev pub shown_wrong : Option Kind → ℕ → ℕ → Option ℕ
 shown_wrong None tenant body = Some 1
 shown_wrong (Some k) tenant body = wrong_part k tenant body
@@ -76,13 +81,14 @@ pub record Fits (f : Frame) : Type 0 where
 abbrev pub IsGood : Frame → Type 0
 IsGood f = Fits f × (wrong_at f ≡ None)
 
--- Bytes begin a frame, good or bad, of which more is missing; and no wrong part shows yet.
+-- The bytes are the beginning of a frame, good or bad, and `missing` is the rest of it. No wrong
+-- part shows yet.
 pub record Begins (f : Frame) (bytes missing : List ℕ) : Type 0 where
   pub fits : Fits f
   pub parts : frame_text f ≡ bytes ++ missing
   pub not_yet : IfSome (wrong_at f) (λ shown. length bytes < shown)
 
--- An unfinished frame: something is missing. It is cut off where something is there, too.
+-- The beginning of a frame of which something is missing. It is cut off if it has a byte.
 pub record IsUnfinished (bytes : List ℕ) : Type 0 where
   pub frame : Frame
   pub missing : List ℕ
@@ -92,7 +98,7 @@ pub record IsUnfinished (bytes : List ℕ) : Type 0 where
 abbrev pub IsCutOff : List ℕ → Type 0
 IsCutOff bytes = IsUnfinished bytes × (bytes ≢ [])
 
--- A bad frame, up to the byte that shows it.
+-- A bad frame, up to the byte that shows that it is bad.
 pub record IsBad (bytes : List ℕ) : Type 0 where
   pub frame : Frame
   pub missing : List ℕ
@@ -116,7 +122,8 @@ step_text s = frame_text (frame_of s)
 
 -- ---- what it answers
 
--- The status and the value: 0 Ok, 1 a fault with its number, 2 want of memory with the items.
+-- The status and the value: 0 for Ok, 1 for a fault with its number, and 2 for out of memory with
+-- the count of items.
 abbrev pub status_of : Answer → ℕ × ℕ
 status_of answer.Ok = (0, 0)
 status_of (answer.Fault code) = (1, code)

@@ -1,4 +1,4 @@
--- What the calls that read a frame do to a reader, by their answers.
+-- What a call that reads a frame or a part of it does to the reader, for each answer.
 use Rattle.std.specs.Prelude.{◌≡◌, ◌≢◌, ℕ, ◌<◌, ◌≤◌, ◌*◌, ◌^◌, List, [], ◌∷◌, ◌++◌, length, get_or, Option, None, Some, Result, Ok, Err}
 use Rattle.std.specs.Int.{Width, to_be_bytes, byte_len}
 use Rattle.byte_devices.specs.Device.{Device}
@@ -9,8 +9,8 @@ use Rattle.service_steps.specs.declared.kind.Kind.{Kind}
 use Rattle.service_steps.specs.declared.step.Step.{Step}
 use Rattle.service_steps.specs.Frames.{sized, kind_of, frame_of, step_text, IsGood, IsUnfinished, IsCutOff, IsBad}
 
--- A step was read as its frame; or the reader was at its end before one; or what was read refuses
--- all that is after it.
+-- For a step, exactly its frame was read. For `None`, nothing was read and the reader was at its
+-- end. For a fault, a bad frame was read up to the byte that shows it, or an unfinished frame.
 abbrev pub ReadsStep : Device → Result (Option Step) FrameFault → Device → Type 0
 ReadsStep old (Ok (Some s)) new = IsGood (frame_of s) × HasReadWell old new (step_text s)
 ReadsStep old (Ok None) new = HasReadAll old new []
@@ -34,7 +34,7 @@ ReadsKind old (Err fault.Device) new = HasFailed old new []
 ReadsKind old (Err fault.CutOff) new = ⊥
 ReadsKind old (Err fault.Memory) new = ⊥
 
--- Numbers that fit a width.
+-- The numbers of a width are below this one.
 abbrev pub bound : Width → ℕ
 bound width = 2 ^ (8 * byte_len width)
 
@@ -48,7 +48,7 @@ ReadsNumber width old (Err fault.Device) new =
 ReadsNumber width old (Err fault.BadFrame) new = ⊥
 ReadsNumber width old (Err fault.Memory) new = ⊥
 
--- So many bytes were read, no more than a limit.
+-- `n` bytes were read, if `n` is within the limit.
 abbrev pub ReadsRoom : ℕ → ℕ → Device → Result Unit FrameFault → Device → List ℕ → Type 0
 ReadsRoom n limit old (Ok u) new room = (length room ≡ n) × (n ≤ limit) × HasReadWell old new room
 ReadsRoom n limit old (Err fault.BadFrame) new room = (limit < n) × HasReadWell old new []
@@ -58,8 +58,8 @@ ReadsRoom n limit old (Err fault.Device) new room =
     (n ≤ limit) × (bytes : List ℕ) × IsShort n bytes × HasFailed old new bytes
 ReadsRoom n limit old (Err fault.Memory) new room = (n ≤ limit) × (0 < n) × HasReadWell old new []
 
--- Bytes begin some after their length, and lack something. Where the length is there, it is within
--- the limit.
+-- The beginning of a length and as many bytes, of which something is missing. If the length is
+-- complete, it is within the limit.
 pub record IsUnfinishedPart (width : Width) (limit : ℕ) (bytes : List ℕ) : Type 0 where
   pub room : List ℕ
   pub missing : List ℕ
@@ -68,7 +68,7 @@ pub record IsUnfinishedPart (width : Width) (limit : ℕ) (bytes : List ℕ) : T
   pub fits : length room < bound width
   pub limited : byte_len width ≤ length bytes → length room ≤ limit
 
--- Bytes after their length were read, no more than a limit.
+-- A length and as many bytes were read, if the length is within the limit.
 abbrev pub ReadsSized : Width → ℕ → Device → Result Unit FrameFault → Device → List ℕ → Type 0
 ReadsSized width limit old (Ok u) new room =
     (length room ≤ limit) × (length room < bound width) × HasReadWell old new (sized width room)

@@ -1,13 +1,14 @@
-//! What a step is answered.
+//! The answer to a step.
 
-/// What a step is answered.
+/// The answer to a step.
 #[derive(Clone, Copy, Debug, PartialEq, Eq)]
 pub enum Answer {
     /// The step took effect.
     Ok,
-    /// The step was refused, under this number.
+    /// The step was refused with the fault of this number.
     Fault(u16),
-    /// Memory ran out. In a Feed so many whole items of this call took effect, whose replies stand
-    /// written; every other step had no effect, or closed its stream, and the number is 0.
+    /// Memory ran out. After a Feed, the number counts the whole items of this call that took
+    /// effect; their replies have been written. After any other step the number is 0: the step had
+    /// no effect, or it closed its stream.
     Memory(u64),
 }

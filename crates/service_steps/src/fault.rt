@@ -1,21 +1,22 @@
-//! Why a service refuses a step, before the step reaches a stream, or a copy, before its first
-//! step.
+//! The faults with which a service itself refuses a step or a copy.
+//!
+//! It refuses a step before the step reaches a stream, and a copy before its first step.
 
 ghost use Rattle.std.specs.Prelude.{◌≡◌};
 ghost use Rattle.service_steps.specs.Faults.{code_of};
 
 use crate::answer::Answer;
 
-/// Why a service refuses a step or a copy by itself. Nothing has changed then.
+/// Why a service itself refuses a step or a copy. A refusal changes nothing.
 #[derive(Clone, Copy, Debug, PartialEq, Eq)]
 pub enum ServiceFault {
-    /// A Feed or an End of a tenant without a stream, 30.
+    /// A Feed or an End of a tenant without a stream: 30.
     NoStream,
-    /// An Open of a tenant that has a stream, also a dead one, or a copy to it, 31.
+    /// An Open of a tenant that has a stream, even a dead one, or a copy to that tenant: 31.
     StreamIsOpen,
-    /// A name that no tenant can have, 32.
+    /// A name that no tenant can have: 32.
     BadTenantName,
-    /// A copy to a tenant that has an object, a ref, or another HEAD than the first, 33.
+    /// A copy to a tenant that has an object, a ref, or a HEAD other than `refs/heads/main`: 33.
     TenantNotEmpty,
 }
 
@@ -32,7 +33,7 @@ impl ServiceFault {
         }
     }
 
-    /// The answer that tells it.
+    /// The answer that reports this fault.
     pub fn answer(self) -> Answer
         ensures { result ≡ Answer.Fault (code_of self) }
     {

@@ -1,4 +1,4 @@
-//! Why no further frame is read, or no further answer written.
+//! Why a frame was not read, or an answer not written.
 
 ghost use Rattle.std.specs.Prelude.{◌≡◌};
 ghost use Rattle.service_steps.specs.FrameFaults.{code_of, frame_fault};
@@ -7,10 +7,10 @@ use byte_devices::{DeviceFault, FillFault};
 use std::alloc::AllocError;
 use thiserror::Error;
 
-/// Why frames did not go on.
+/// Why a frame was not read, or an answer not written.
 #[derive(Clone, Copy, Debug, PartialEq, Eq, Error)]
 pub enum FrameFault {
-    /// The kind of a frame is none, or a length is not one of its kind: 50.
+    /// The kind of a frame is unknown, or its kind does not allow one of its lengths: 50.
     #[error("fault 50")]
     BadFrame,
     /// The input ended inside a frame: 51.

@@ -1,7 +1,7 @@
-//! The steps that a reader gives, frame by frame.
+//! Steps, read from a reader frame by frame.
 //!
-//! Nothing is read ahead: where a frame is whole, no byte after it was asked for, and where a part
-//! is wrong, none after that part.
+//! Nothing is read ahead. When a frame is whole, no byte after it has been asked for. When a part
+//! of a frame is wrong, no byte after that part has been asked for.
 
 ghost use Rattle.std.specs.Prelude.{◌≡◌, ◌≤◌, length};
 ghost use Rattle.service_steps.specs.Frames.{tenant_limit, body_limit, framed, frame_of};
@@ -11,12 +11,12 @@ ghost use Rattle.service_steps.specs.Reading.{ReadsKind, ReadsStep};
 use crate::Step;
 use crate::frame_fault::FrameFault;
 use crate::kind::Kind;
-use crate::sized::{read_behind_u16, read_behind_u32};
+use crate::sized::{read_after_u16, read_after_u32};
 use byte_devices::{Counted, FillFault, fill};
 use std::alloc::Global;
 use std::io::Read;
 
-// The kind of the next frame; none where the input ends before it.
+// The kind of the next frame; `None` if the input ends before it.
 fn read_kind<R: Read>(reader: &mut Counted<R>) -> Result<Option<Kind>, FrameFault>
     ensures { ReadsKind (seen (R.remaining (device_of reader.old)) reader.old) result
         (seen (R.remaining (device_of reader.new)) reader.new) }
@@ -32,7 +32,7 @@ fn read_kind<R: Read>(reader: &mut Counted<R>) -> Result<Option<Kind>, FrameFaul
     }
 }
 
-/// A reader of frames, which keeps the room of the last one for the next.
+/// Reads frames, and reuses the memory of one frame for the next.
 #[derive(Drop)]
 pub struct Frames {
     tenant: Vec<u8>,
@@ -40,7 +40,7 @@ pub struct Frames {
 }
 
 impl Frames {
-    /// Takes no memory; what it keeps later comes from `alloc`.
+    /// Has read no frame yet. Takes no memory; `next` allocates from `alloc`.
     pub fn new(alloc: Global) -> Frames {
         Frames {
             tenant: Vec::new(alloc),
@@ -48,13 +48,15 @@ impl Frames {
         }
     }
 
-    /// Reads the next frame, and lends its step; none where the input ends before it.
+    /// Reads the next frame and lends its step. `None` if the input ends before a frame.
     ///
-    /// `BadFrame` (50) as soon as a part is there that is wrong: a kind that is none, a name in a
-    /// restart, a body that the kind has not or that has more than 16,777,216 bytes. `CutOff` (51)
-    /// where the input ends inside a frame. `Device` (68) where a call of the reader failed.
-    /// `Memory` (90) where there is no room for a name or a body. No frame can be read after
-    /// these.
+    /// - `BadFrame` (50) as soon as a wrong part has been read: an unknown kind, a name in a
+    ///   Restart, a body in a kind that has none, or a body of more than 16,777,216 bytes.
+    /// - `CutOff` (51) if the input ends inside a frame.
+    /// - `Device` (68) if a call of the reader failed.
+    /// - `Memory` (90) if there is no memory for a name or a body.
+    ///
+    /// After an error no further frame can be read.
     pub fn next<R: Read>(&mut self, reader: &mut Counted<R>) -> Result<Option<Step<'_>>, FrameFault>
         ensures { ReadsStep (seen (R.remaining (device_of reader.old)) reader.old) result
             (seen (R.remaining (device_of reader.new)) reader.new) }
@@ -64,11 +66,11 @@ impl Frames {
             Ok(None) => return Ok(None),
             Err(fault) => return Err(fault),
         };
-        match read_behind_u16(reader, kind.tenant_limit(), &mut self.tenant) {
+        match read_after_u16(reader, kind.tenant_limit(), &mut self.tenant) {
             Ok(()) => {}
             Err(fault) => return Err(fault),
         }
-        match read_behind_u32(reader, kind.body_limit(), &mut self.body) {
+        match read_after_u32(reader, kind.body_limit(), &mut self.body) {
             Ok(()) => {}
             Err(fault) => return Err(fault),
         }

@@ -3,7 +3,7 @@
 ghost use Rattle.std.specs.Prelude.{◌≡◌};
 ghost use Rattle.service_steps.specs.Frames.{kind_of, tenant_limit, body_limit};
 
-/// What a frame is.
+/// The kind of a frame.
 #[derive(Clone, Copy, Debug, PartialEq, Eq)]
 pub enum Kind {
     /// Open a stream.
@@ -18,11 +18,11 @@ pub enum Kind {
     Restart,
 }
 
-/// The most bytes of a body.
+/// The greatest length of a body in bytes: 16 MiB.
 pub const BODY_LIMIT: u32 = 16_777_216;
 
 impl Kind {
-    /// The kind that a byte stands for.
+    /// The kind with this number; `None` for an unknown kind.
     pub fn of(byte: u8) -> Option<Kind>
         ensures { result ≡ kind_of byte }
     {
@@ -36,7 +36,7 @@ impl Kind {
         }
     }
 
-    /// The most bytes of the name: a restart names nobody.
+    /// The greatest length of the tenant's name in bytes. A Restart names no tenant.
     pub fn tenant_limit(self) -> usize
         ensures { result ≡ tenant_limit self }
     {
@@ -46,7 +46,7 @@ impl Kind {
         }
     }
 
-    /// The most bytes of the body, which Feed and Ask alone have.
+    /// The greatest length of the body in bytes. Only Feed and Ask have a body.
     pub fn body_limit(self) -> usize
         ensures { result ≡ body_limit self }
     {

@@ -1,8 +1,8 @@
-//! What a service is asked and what it tells: its steps, their answers, its own refusals, and the
-//! frames in which they are sent.
+//! The steps of a service, its answers and its own faults, and the frames in which steps and
+//! answers are sent.
 //!
-//! A step comes as a kind, the name of a tenant and a body; an answer goes as a status, a number
-//! and the bytes of the reply. Nothing here knows what a step does: that is tenant_service.
+//! The frame of a step has a kind, the name of a tenant and a body. The frame of an answer has a
+//! status, a number and the bytes of the reply. What a step does is defined in tenant_service.
 #![tactic(auto)]
 
 mod answer;

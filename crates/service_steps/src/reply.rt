@@ -2,7 +2,7 @@
 
 use crate::answer::Answer;
 
-/// What one step of a run was told.
+/// The answer to one step of a run, and the bytes of its reply.
 #[derive(Debug, Drop)]
 pub struct Reply {
     /// The answer.

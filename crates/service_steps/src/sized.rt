@@ -1,4 +1,4 @@
-//! Bytes after their length.
+//! Bytes that follow their length.
 
 ghost use Rattle.std.specs.Prelude.{◌≡◌};
 ghost use Rattle.std.specs.Int.{w16, w32};
@@ -29,7 +29,7 @@ fn read_u32<R: Read>(reader: &mut Counted<R>) -> Result<u32, FrameFault>
     Ok(u32::from_be_bytes(bytes))
 }
 
-// So many bytes, if they are not too many.
+// The next `n` bytes, if `n` is within the limit.
 fn read_room<R: Read>(
     reader: &mut Counted<R>,
     n: usize,
@@ -48,8 +48,8 @@ fn read_room<R: Read>(
     Ok(())
 }
 
-/// Bytes after their length in two bytes, at most so many.
-pub fn read_behind_u16<R: Read>(
+/// Reads a length in two bytes, and as many bytes, at most `limit`, into `room`.
+pub fn read_after_u16<R: Read>(
     reader: &mut Counted<R>,
     limit: usize,
     room: &mut Vec<u8>,
@@ -61,8 +61,8 @@ pub fn read_behind_u16<R: Read>(
     read_room(reader, n as usize, limit, room)
 }
 
-/// Bytes after their length in four bytes, at most so many.
-pub fn read_behind_u32<R: Read>(
+/// Reads a length in four bytes, and as many bytes, at most `limit`, into `room`.
+pub fn read_after_u32<R: Read>(
     reader: &mut Counted<R>,
     limit: usize,
     room: &mut Vec<u8>,

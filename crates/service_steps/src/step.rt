@@ -1,6 +1,6 @@
 //! The steps of a service.
 
-/// What is asked of a service: something of one tenant, or a restart.
+/// A request to a service: a step of one tenant, or a restart.
 #[derive(Clone, Copy, Debug, PartialEq, Eq)]
 pub enum Step<'a> {
     /// Open a stream of this tenant.

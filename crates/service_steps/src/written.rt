@@ -10,7 +10,7 @@ use byte_devices::{Counted, DeviceFault, write_all};
 use byteorder::{BigEndian, ByteOrder};
 use std::io::Write;
 
-// Bytes before those of the reply.
+// How many bytes come before the reply.
 const HEAD: usize = 17;
 
 fn status_of(answer: Answer) -> (u8, u64)
@@ -35,10 +35,10 @@ fn answer_head(answer: Answer, size: u64) -> [u8; HEAD]
     head
 }
 
-/// Writes an answer and the bytes of its reply, as one frame. Takes no memory.
+/// Writes an answer and the bytes of its reply as one frame. Takes no memory.
 ///
-/// `DeviceFault` (68) where a call of the writer failed; a prefix of the frame then stands written,
-/// and the writer's `faults` rose, unless they stood at their greatest.
+/// `DeviceFault` (68) if a call of the writer failed. A prefix of the frame has then been written,
+/// and the writer's count of `faults` has risen, unless it was at its greatest.
 pub fn write_answer<W: Write>(
     writer: &mut Counted<W>,
     answer: Answer,

@@ -1,4 +1,4 @@
-//! Tests of a session: streams as items. Nothing else stands here.
+//! Tests of import_session: streams as items. The crate has no code of its own.
 #![tactic(auto)]
 
 #[cfg(test)]

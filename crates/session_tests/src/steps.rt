@@ -15,9 +15,9 @@ use stream_lex::Item;
 use tenant_refs::{RefName, Refs};
 use tenant_tables::Table;
 
-// The tables are texts, for a proof reads those in one step. The cases of a table are parted by
-// `#`, the fields of a case by `;`, and its steps, which are its second field, by `|`. The first
-// field says in words what the case shows.
+// The tables are texts, because a proof reads a text in one step. The cases of a table are
+// separated by `#`, the fields of a case by `;`, and the steps, which are the second field, by `|`.
+// The first field says in words what the case shows.
 
 // What a test does next with its stream.
 #[derive(Clone, Copy)]
@@ -26,8 +26,8 @@ enum Step<'a> {
     Finish,
 }
 
-// How the steps ended: the number of the last answer (0 where it was no refusal), whether `done`
-// was read, what the pool stored then, and what it stored once the stream was given up.
+// How the steps ended: the number of the last answer (0 if it was no refusal), whether `done` was
+// read, what the pool stored then, and what it stored after the stream was given up.
 #[derive(Clone, Copy)]
 struct Left {
     number: u16,
@@ -42,9 +42,9 @@ const TAGGER: &[u8] = b"tagger A U Thor <author@example.com> 1700000000 +0100";
 
 const COMMITTER: &[u8] = b"committer A U Thor <author@example.com> 1700000000 +0100";
 
-// What streams print, how they end, and how many contents of how many bytes the pool stores then
-// and once they are given up: what is printed, the number of the last answer, whether `done` was
-// read, and two numbers each.
+// The fields after the steps: what the stream prints, the number of the last answer, whether `done`
+// was read, how many contents of how many bytes the pool stores then, and how many of how many
+// after the stream was given up.
 const CASES: &str = "\
     passes items over after done;\
     done|blob|=hello\n|no command|.;;0;yes;0;0;0;0#\
@@ -73,8 +73,8 @@ const CASES: &str = "\
     ls \"a\"|no command;\
     040000 tree e31a96220fbfbe7601ecc086a36b96dc27a8867e\ta\n;2;no;2;35;1;6";
 
-// What is refused, and the number of the last answer. The bytes of the message `tsrif` have the sum
-// of those of `first`, so that both have one name here.
+// What is refused, and the number of the last answer. The bytes of the messages `first` and `tsrif`
+// have the same sum, so that both contents have one name here.
 const COMMIT_REFUSALS: &str = "\
     an end without done before that of a commit of which another content has the name;\
     feature done|commit refs/heads/m|committer|=first\n|commit refs/heads/n|committer|\
@@ -84,7 +84,7 @@ const COMMIT_REFUSALS: &str = "\
     what is no command before that end, for the text is judged first;\
     commit refs/heads/m|committer|=first\n|commit refs/heads/n|committer|=tsrif\n|\
     no command;2#\
-    a mark that is not there behind that end, for the commit ends first;\
+    a mark that is not there after that end, for the commit ends first;\
     commit refs/heads/m|committer|=first\n|commit refs/heads/n|committer|=tsrif\n|\
     get-mark :9;24#\
     contents of a file whose name is that of another content;\
@@ -119,8 +119,8 @@ const REFUSALS: &str = "\
     another content of one name;\
     blob|=ab|blob|=ba;24";
 
-// What a stream leaves of HEAD, and whether it leaves the ref `refs/heads/m`, which is there before
-// it.
+// The ref that HEAD names after the stream, and whether `refs/heads/m`, which was there before, is
+// still there.
 const REF_CASES: &str = "\
     HEAD and refs where nothing is said of them;\
     blob|=hello\n|checkpoint|done;refs/heads/main;yes#\
@@ -149,7 +149,7 @@ const REF_CASES: &str = "\
     no ref of the branch that the saved HEAD names, which is deleted;\
     option gitpool head refs/heads/m|checkpoint|reset HEAD|from zeros|done;refs/heads/m;no";
 
-// Whether a stream leaves the ref `refs/tags/v`, which then holds the tag of `hello`.
+// Whether `refs/tags/v` is there after the stream. If so, it holds the tag of `hello`.
 const TAG_CASES: &str = "\
     a tag at done;\
     blob|mark :1|=hello\n|tag v|from :1|tagger|=first\n|done;yes#\
@@ -180,9 +180,10 @@ const TAG_OF_HELLO: &[u8; 40] = b"952cdcc8475363092ec0361133bb58070500a563";
 
 const FULL: usize = 65_536;
 
-// What a stream, for which nothing is printed, leaves of as many refs as there may be,
-// `refs/tags/v` not among them, after the cases before it: the number of its last answer, how many
-// refs there are then, and whether that one and the first branch are.
+// Streams over as many refs as there may be, `refs/tags/v` not among them. Each case goes on with
+// the refs that the case before it left, and prints nothing. The fields after the steps: the number
+// of the last answer, how many refs there are then, and whether `refs/tags/v` and the first branch
+// are among them.
 const FULL_CASES: &str = "\
     all refs at a checkpoint with one branch too many;\
     commit refs/heads/m|committer|=first\n|checkpoint;25;65536;no;yes#\
@@ -200,7 +201,7 @@ const FULL_CASES: &str = "\
     one ref less where another branch is deleted;\
     reset refs/heads/aaab|from zeros|done;0;65535;yes;no";
 
-// A field of a case, counted from 0; nothing where it has fewer.
+// A field of a case, counted from 0; empty if the case has fewer.
 fn field(case: &str, position: usize) -> &str {
     match case.split(';').nth(position) {
         Some(field) => field,
@@ -208,7 +209,7 @@ fn field(case: &str, position: usize) -> &str {
     }
 }
 
-// The number that digits write.
+// The number that decimal digits spell.
 fn number_of(digits: &str) -> u64 {
     let mut number = 0u64;
     for digit in digits.as_bytes() {
@@ -226,7 +227,7 @@ fn is_said(case: &str, position: usize, fact: bool) -> bool {
     (field(case, position) == "yes") == fact
 }
 
-// A line, three of which are written short.
+// The line that a step spells. Three lines have a short form.
 fn line_of(text: &[u8]) -> &[u8] {
     if text == b"committer".as_slice() {
         COMMITTER
@@ -239,8 +240,8 @@ fn line_of(text: &[u8]) -> &[u8] {
     }
 }
 
-// One that begins with `=` is data, and nothing is an empty line; a full stop is the end of the
-// stream.
+// A step that begins with `=` is data, an empty step is an empty line, and a full stop is the end
+// of the stream.
 fn step_of(text: &[u8]) -> Step<'_> {
     match text {
         [] => Step::Take(Item::Blank),
@@ -250,7 +251,7 @@ fn step_of(text: &[u8]) -> Step<'_> {
     }
 }
 
-// One step of the only stream over this pool. Answers whether it was not the last.
+// Takes one step of the only stream over this pool. Returns whether more may follow.
 fn walk<N: Naming>(
     session: &mut Session,
     pool: &mut Pool<N>,
@@ -279,8 +280,8 @@ fn walk<N: Naming>(
     }
 }
 
-// Takes the steps in turn, up to the first refusal or the end. Answers the number of the refusal, 0
-// where there is none.
+// Takes the steps in turn, up to the first refusal or the end. Returns the number of the refusal,
+// or 0 if there is none.
 fn take_all<N: Naming>(
     session: &mut Session,
     pool: &mut Pool<N>,
@@ -304,7 +305,7 @@ fn take_all<N: Naming>(
     0
 }
 
-// Takes the steps of a new stream over these, the only one, and then gives the stream up.
+// Takes the steps of a new stream, the only one over this pool, and then gives up the stream.
 fn run_in<N: Naming>(
     alloc: Global,
     pool: &mut Pool<N>,
@@ -342,7 +343,7 @@ fn run<N: Naming>(
     run_in(alloc, &mut pool, &mut table, refs, steps, out)
 }
 
-// Whether a case says so in its last six fields.
+// Whether the stream ended as the last six fields of the case say.
 fn ends_so(case: &str, left: &Left) -> bool {
     is_number(case, 3, u64::from(left.number))
         && is_said(case, 4, left.is_done)
@@ -359,7 +360,7 @@ fn does_so(alloc: Global, case: &str) -> bool {
     ends_so(case, &left) && out.as_slice() == field(case, 2).as_bytes()
 }
 
-// Whether the last answer has the number, and nothing is printed or kept.
+// Whether the last answer has the number of the case, and nothing is printed or kept.
 fn is_refused(alloc: Global, case: &str) -> bool {
     let mut out = Vec::new(alloc);
     let mut refs = Refs::new(alloc);
@@ -367,7 +368,7 @@ fn is_refused(alloc: Global, case: &str) -> bool {
     is_number(case, 2, u64::from(left.number)) && left.given_up == (0, 0) && out.is_empty()
 }
 
-// Refs with the ref `refs/heads/m`, where memory is left.
+// Refs with the ref `refs/heads/m`, unless memory ran out.
 fn refs_with_m(alloc: Global) -> Refs {
     let mut refs = Refs::new(alloc);
     if let Ok(name) = RefName::read(alloc, b"refs/heads/m") {
@@ -389,7 +390,7 @@ fn letter(number: usize) -> u8 {
     b'a' + (number % 16) as u8
 }
 
-// One of 65,536 branches, in rising order.
+// One of 65,536 branches, in ascending order.
 fn branch_text(number: usize) -> [u8; 15] {
     let mut text = *b"refs/heads/aaaa";
     text[11] = letter(number / 4096);
@@ -399,14 +400,14 @@ fn branch_text(number: usize) -> [u8; 15] {
     text
 }
 
-// Sets one of these branches, where memory is left.
+// Sets one of these branches, unless memory ran out.
 fn set_branch(alloc: Global, refs: &mut Refs, number: usize) {
     if let Ok(name) = RefName::read(alloc, &branch_text(number)) {
         let _set = refs.set(&name, Name::from_bytes([7; 20]));
     }
 }
 
-// As many refs as there may be, where memory is left.
+// As many refs as there may be, unless memory ran out.
 fn full_refs(alloc: Global) -> Refs {
     let mut refs = Refs::new(alloc);
     for number in 0..FULL {

@@ -7,14 +7,14 @@ use Rattle.stream_grammar.specs.declared.feature.Feature.{Feature}
 use Rattle.stream_grammar.specs.Names.{CommitIsh}
 use Rattle.stream_grammar.specs.Changes.{Path}
 
--- What is asked for.
+-- What an item asks for.
 pub data Act : Type 0 where
   -- nothing: the command is not whole yet, or has no effect
   Wait : Act
-  -- a blob is whole, perhaps under a mark
+  -- a blob is whole, perhaps with a mark
   StoreBlob : Option ℕ → List ℕ → Act
-  -- a commit of this branch begins; who wrote and who made it; how its message is encoded; and it
-  -- is open, with its message
+  -- a commit on this branch begins; its author, its committer, its encoding; its message, after
+  -- which its files may change
   BeginCommit : List ℕ → Act
   Author : List ℕ → Act
   Committer : List ℕ → Act
@@ -24,7 +24,7 @@ pub data Act : Type 0 where
   StartFrom : CommitIsh → Act
   Merge : CommitIsh → Act
   -- the files of the open commit change: one is put, by an object or by the next data; one is
-  -- dropped, copied, renamed; all are dropped
+  -- deleted, copied, renamed; all are deleted
   Modify : FileMode → DataRef → Path → Act
   ModifyInline : FileMode → Path → Act
   PutContents : List ℕ → Act
@@ -34,29 +34,29 @@ pub data Act : Type 0 where
   DeleteAll : Act
   -- an entry of the open commit is printed
   ShowBranchEntry : Path → Act
-  -- a tag of this ref begins; what it tags, its tagger; and it is whole, with its message
+  -- a tag with this ref begins; its target, its tagger; its message, which ends it
   BeginTag : List ℕ → Act
   TagTarget : CommitIsh → Act
   Tagger : List ℕ → Act
   StoreTag : Option ℕ → List ℕ → Act
-  -- a branch is unborn, and then perhaps set
+  -- a branch becomes unborn, and is then perhaps set
   Reset : List ℕ → Act
   ResetTo : CommitIsh → Act
   -- an alias is whole
   SetMark : ℕ → CommitIsh → Act
-  -- commands of one line: save; print this line, a marked object's name, a blob, an entry of a
-  -- tree; end the stream
+  -- commands of one line: save; print this line, the name of the object of a mark, a blob, an entry
+  -- of a tree; end the stream
   Checkpoint : Act
   Progress : List ℕ → Act
   ShowMark : ℕ → Act
   ShowObject : DataRef → Act
   ShowEntry : DataRef → Path → Act
   Finish : Act
-  -- a feature is asked for; HEAD is to name this ref
+  -- a feature is used; HEAD shall point to this ref
   Require : Feature → Act
   SetHead : List ℕ → Act
 
--- What a part of the open command brings: the mark that the command has then, and an act.
+-- What a part of the open command gives: the mark that the command has after it, and an act.
 pub record Effect : Type 0 where
   pub mark : Option ℕ
   pub act : Act

@@ -1,4 +1,4 @@
--- What a change says: modes, datarefs and paths; git-fast-import(1), "filemodify" and what follows.
+-- The words of a change: modes, datarefs and paths; git-fast-import(1), "filemodify" and after.
 use Rattle.std.specs.Prelude.{ℕ, Bool, false, ◌||◌, ◌&&◌, not, ◌==◌, nat_lt, if◌then◌else◌, List, [], ◌∷◌, length, Result, Ok, Err, codes}
 use Rattle.std.specs.List.{list_all}
 use Rattle.std.specs.Str.{bytes_eq}
@@ -13,7 +13,7 @@ use Rattle.stream_grammar.specs.declared.fault.Fault.TheVariants as fault
 use Rattle.stream_grammar.specs.declared.data_ref.DataRef.{DataRef}
 use Rattle.stream_grammar.specs.Texts.{read, first_word, after_space, required, dataref_of}
 
--- The modes of the manual; Git's short forms of the first two are known too: <mode>
+-- The modes of the manual, with the short forms of the first two: <mode>
 unfoldable pub mode_of : List ℕ → Result FileMode Fault
 mode_of word =
     if bytes_eq word (codes "100644") || bytes_eq word (codes "644") then Ok mode.Regular
@@ -23,7 +23,7 @@ mode_of word =
     else if bytes_eq word (codes "040000") then Ok mode.Directory
     else Err fault.BadMode
 
--- Contents that stand inline are those of a file.
+-- The mode of inline contents must be that of a file.
 abbrev pub mode_inline : FileMode → Result FileMode Fault
 mode_inline mode.Regular = Ok mode.Regular
 mode_inline mode.Executable = Ok mode.Executable
@@ -84,7 +84,7 @@ abbrev pub is_quoted : List ℕ → Bool
 is_quoted [] = false
 is_quoted (byte ∷ bytes) = byte == 34
 
--- An encoding is at least one byte, and none is a line end.
+-- An encoding has at least one byte and no line end.
 abbrev pub is_encoding : List ℕ → Bool
 is_encoding text = nat_lt 0 (length text) && list_all (λ byte. not (byte == 10)) text
 

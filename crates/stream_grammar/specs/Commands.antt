@@ -1,6 +1,6 @@
 -- Commands: what the items of a stream ask for, in order; git-fast-import(1), "Commands".
 use Rattle.std.specs.Prelude.{ℕ, Bool, true, false, ◌&&◌, ◌||◌, not, if◌then◌else◌, List, [], ◌∷◌, ◌++◌}
-use Rattle.std.specs.Prelude.{Option, Some, None, Result, Ok, Err}
+use Rattle.std.specs.Prelude.{◌≡◌, Option, Some, None, Result, Ok, Err}
 use Rattle.stream_lex.specs.Items.{Item}
 use Rattle.stream_grammar.specs.declared.fault.Fault.{Fault}
 use Rattle.stream_grammar.specs.declared.fault.Fault.TheVariants as fault
@@ -14,8 +14,8 @@ use Rattle.stream_grammar.specs.Texts.{read}
 use Rattle.stream_grammar.specs.Acts.{Act, Effect}
 use Rattle.stream_grammar.specs.Lines.{inner_effect, first_act}
 
--- The open command: which one it is, its mark, and the terms of its production that are left; and
--- whether a feature comes too late now.
+-- The open command: its kind, its mark, and the terms of its production that are left; and whether
+-- it is too late for a `feature`.
 pub record Open : Type 0 where
   pub late : Bool
   pub opened : Opened
@@ -27,7 +27,7 @@ pub record Done : Type 0 where
   pub ends_commit : Bool
   pub act : Act
 
--- What an item gives, and the open command then.
+-- What an item gives, and the open command after it.
 pub record Step : Type 0 where
   pub done : Done
   pub next : Open
@@ -38,14 +38,14 @@ is_commit opened.Changes = true
 is_commit opened.Inline = true
 is_commit _ = false
 
--- Data end a blob and a tag. Those of a commit are its message or the contents of a file, and then
--- its files may change.
+-- Data end a blob and a tag. The data of a commit are its message or the contents of a file; after
+-- them its files may change.
 abbrev pub opened_after_data : Opened → Opened
 opened_after_data opened.Commit = opened.Changes
 opened_after_data opened.Inline = opened.Changes
 opened_after_data _ = opened.Nothing
 
--- Which command is open after a part that stands in one.
+-- Which command is open after a part of the open one.
 abbrev pub opened_after : Part → Opened → Opened
 opened_after part.Data now = opened_after_data now
 opened_after part.ModifyInline now = opened.Inline
@@ -53,7 +53,7 @@ opened_after part.To now = opened.Nothing
 opened_after part.Blank now = opened.Nothing
 opened_after _ now = now
 
--- Which command a part begins. Those of one line are over with it.
+-- Which command is open after a part that begins one. A command of one line is already over.
 abbrev pub opened_by : Part → Opened
 opened_by part.Blob = opened.Blob
 opened_by part.Commit = opened.Commit
@@ -62,8 +62,7 @@ opened_by part.Reset = opened.Reset
 opened_by part.Alias = opened.Alias
 opened_by _ = opened.Nothing
 
--- A part that stands in the open command leaves these terms. A commit ends with the part that
--- leaves it none.
+-- A part of the open command leaves these terms. A part that leaves no terms ends the command.
 abbrev pub goes_on : Open → Part → List Term → Result Effect Fault → Result Step Fault
 goes_on now part left (Ok effect) = Ok (record {
   done = record { ends_commit = is_commit now.opened && is_empty left; act = effect.act };
@@ -76,8 +75,8 @@ goes_on now part left (Ok effect) = Ok (record {
 })
 goes_on now part left (Err e) = Err e
 
--- A part that begins a command leaves the terms of its production, and ends an open commit. After
--- any command but features, options and blank lines a feature is late.
+-- A part that begins a command leaves the terms of its production, and ends an open commit. Every
+-- command but features, options and blank lines makes later features too late.
 abbrev pub opens : Open → Part → List Term → Result Act Fault → Result Step Fault
 opens now part left (Ok act) = Ok (record {
   done = record { ends_commit = is_commit now.opened; act = act };
@@ -90,19 +89,20 @@ opens now part left (Ok act) = Ok (record {
 })
 opens now part left (Err e) = Err e
 
--- Only a part that has a production may stand where no command is open.
+-- Only a part that has a production begins a command.
 abbrev pub step_outside : Open → Option (List Term) → Part → Item → Result Step Fault
 step_outside now None part item = Err fault.UnknownCommand
 step_outside now (Some terms) part item = opens now part terms (first_act now.late part item)
 
--- An item stands in the open command, or ends it and begins the next one, or finds a part missing.
+-- An item belongs to the open command, or ends it and begins the next, or a part before it is
+-- missing.
 abbrev pub step_by : Open → Part → Item → Fit → Result Step Fault
 step_by now part item (Stands left) =
     goes_on now part left (inner_effect now.opened now.mark part item)
 step_by now part item Ends = step_outside now (production_of part) part item
 step_by now part item Misses = Err fault.MissingPart
 
--- The place is decided by the first word alone, before the rest of a line is read.
+-- What an item gives. Its first word alone decides its place, before the rest of its line is read.
 unfoldable pub step : Open → Item → Result Step Fault
 step now item = step_by now (part_of item) item (fit (part_of item) now.left)
 
@@ -131,7 +131,7 @@ done_by parsing item = done_of (read parsing (λ now. step now item))
 abbrev pub after : Parsing → Item → Parsing
 after parsing item = next_of (read parsing (λ now. step now item))
 
--- At the end of a stream a part of the open command may be missing. Else it ends a commit or not.
+-- The end of the stream: a part of the open command is missing, or whether the end ends a commit.
 abbrev pub end_within : Open → Result Bool Fault
 end_within now =
     if may_end now.left then Ok (is_commit now.opened) else Err fault.MissingPart
@@ -150,11 +150,20 @@ abbrev pub then_given : Result Done Fault → Commands → Commands
 then_given (Ok done) later = record { given = done ∷ later.given; rest = later.rest }
 then_given (Err e) later = record { given = []; rest = Err e }
 
--- The commands of some items. After the first item that fits nowhere nothing is given.
+-- The commands of some items. From the first fault on nothing is given.
 unfoldable pub commands : Parsing → List Item → Commands
 commands parsing [] = record { given = []; rest = parsing }
 commands parsing (item ∷ items) =
     then_given (done_by parsing item) (commands (after parsing item) items)
+
+-- All items of a stream so far have given these acts and leave this parser.
+abbrev pub Leads : List Item → List Done → Parsing → Type 0
+Leads items given parsing = commands (Ok top) items ≡ record { given = given; rest = parsing }
+
+-- What one item adds to what is given: one act, or nothing after a fault.
+abbrev pub given_by : Result Done Fault → List Done
+given_by (Ok done) = done ∷ []
+given_by (Err e) = []
 
 -- What was given, and then what further items give.
 abbrev pub given_before : List Done → Commands → Commands

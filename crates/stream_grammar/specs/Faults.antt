@@ -1,4 +1,4 @@
--- Faults: the number of each refusal, for replies and exit statuses; and how one is answered.
+-- The numbers of the faults, for replies and exit statuses; and how a fault is answered.
 use Rattle.std.specs.Prelude.{◌≡◌, ◌≢◌, ℕ, Result, Ok, Err}
 use Rattle.stream_grammar.specs.declared.fault.Fault.{Fault}
 use Rattle.stream_grammar.specs.declared.fault.Fault.TheVariants as fault
@@ -19,7 +19,7 @@ code_of fault.BadMode = 23
 code_of fault.Limit = 25
 code_of fault.Memory = 90
 
--- What a call answered, seen by view, is what reading gives. `Memory` may stand in its place.
+-- The answer of a call, as contracts see it, is what reading gives. `Memory` may replace it.
 abbrev pub Gives : {X Y : Type 0} → (X → Y) → Result X Fault → Result Y Fault → Type 0
 Gives view (Ok value) reading = reading ≡ Ok (view value)
 Gives view (Err e) reading = e ≢ fault.Memory → reading ≡ Err e

@@ -10,7 +10,7 @@ use Rattle.stream_grammar.specs.declared.feature.Setting.{Setting}
 use Rattle.stream_grammar.specs.declared.feature.Setting.TheVariants as setting
 use Rattle.stream_grammar.specs.Names.{ref_of}
 
--- A feature is one of these words, compared whole.
+-- A feature is one of these words, as a whole.
 unfoldable pub feature_of : List ℕ → Result Feature Fault
 feature_of word =
     if bytes_eq word (codes "done") then Ok feature.Done
@@ -21,22 +21,22 @@ feature_of word =
     else if bytes_eq word (codes "date-format=raw") then Ok feature.RawDates
     else Err fault.FeatureNotSupported
 
--- A feature stands before other commands. That is judged before what it says.
+-- A feature comes before other commands. This is checked before its words.
 unfoldable pub in_time : Bool → Result Unit Fault
 in_time late = if late then Err fault.FeatureTooLate else Ok tt
 
--- An option is Git's, or sets the HEAD of this service's repository, or is another system's.
+-- An option is one of Git, or sets HEAD of the gitpool repository, or is one of another system.
 unfoldable pub setting_of : List ℕ → Setting
 setting_of words =
     if bytes_eq words (codes "git") || starts_with nat_eq words (codes "git ") then setting.Git
     else if starts_with nat_eq words (codes "gitpool head ") then setting.Head
     else setting.Other
 
--- Git's only option here is `quiet`.
+-- The only option of Git that is supported is `quiet`.
 unfoldable pub quiet_of : List ℕ → Result Unit Fault
 quiet_of words =
     if bytes_eq words (codes "git quiet") then Ok tt else Err fault.FeatureNotSupported
 
--- The ref that HEAD is to name, which is not `HEAD` itself.
+-- The ref that HEAD shall point to, which is not `HEAD` itself.
 unfoldable pub head_of : List ℕ → Result (List ℕ) Fault
 head_of text = if bytes_eq text (codes "HEAD") then Err fault.BadRefName else ref_of text

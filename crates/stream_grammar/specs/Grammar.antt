@@ -7,33 +7,33 @@ use Rattle.stream_grammar.specs.declared.part.Part.TheVariants.{Mark, OriginalOi
 use Rattle.stream_grammar.specs.declared.part.Part.TheVariants.{Modify, ModifyInline, Delete, Copy, Rename, DeleteAll, Data, Blank, Unknown}
 use Rattle.stream_grammar.specs.Parts.{same}
 
--- How often a part may stand in its place.
+-- How often a part may come in its place.
 pub data Often : Type 0 where
   Once Perhaps AnyNumber : Often
 
--- A term is a place in a command, and the parts that may stand there.
+-- A term is a place in a command, with the parts that may come there.
 pub record Term : Type 0 where
   pub often : Often
   pub parts : List Part
 
--- The part stands here.
+-- The part must come here, once.
 abbrev pub once : Part → Term
 once part = record { often = Once; parts = part ∷ [] }
 
--- The part may stand here once.
+-- The part may come here, once.
 abbrev pub perhaps : Part → Term
 perhaps part = record { often = Perhaps; parts = part ∷ [] }
 
--- One of these parts may stand here, any number of times.
+-- These parts may come here, any number of times.
 abbrev pub any_number : List Part → Term
 any_number parts = record { often = AnyNumber; parts = parts }
 
--- What may stand in the place of a change of files: 'M', 'D', 'C', 'R', 'deleteall', and 'cat-blob'
+-- The parts that may come in the place of a change: 'M', 'D', 'C', 'R', 'deleteall', and 'cat-blob'
 -- and 'ls', which are commands too.
 abbrev pub changes : List Part
 changes = Modify ∷ ModifyInline ∷ Delete ∷ Copy ∷ Rename ∷ DeleteAll ∷ CatBlob ∷ Ls ∷ []
 
--- What stands after the first part of a command, in the manual's order; none for a part that
+-- What comes after the first part of a command, in the order of the manual; none for a part that
 -- begins no command. A word below stands for its line: 'mark' SP ':' <idnum> LF, and so on.
 abbrev pub production_of : Part → Option (List Term)
 -- 'blob' LF mark? original-oid? data
@@ -87,7 +87,7 @@ production_of DeleteAll = None
 production_of Data = None
 production_of Unknown = None
 
--- Whether a part may stand in a term.
+-- Whether a part may come in a term.
 abbrev pub accepts : Term → Part → Bool
 accepts term part = list_any (same part) term.parts
 
@@ -97,28 +97,28 @@ is_free Once = false
 is_free Perhaps = true
 is_free AnyNumber = true
 
--- The terms that stay open where this one, before the others, took a part.
+-- The terms that stay open after this one, the first of them, took a part.
 abbrev pub used : Often → Term → List Term → List Term
 used Once term terms = terms
 used Perhaps term terms = terms
 used AnyNumber term terms = term ∷ terms
 
--- 'M' SP <mode> SP 'inline' SP <path> LF data: its data stand after it, before all else.
+-- 'M' SP <mode> SP 'inline' SP <path> LF data: its data come directly after it.
 abbrev pub due : Part → List Term
 due part = if same part ModifyInline then once Data ∷ [] else []
 
--- The terms that are left where a term, before the others, took a part.
+-- The terms that are left after a term, the first of them, took a part.
 abbrev pub left_after : Part → Term → List Term → List Term
 left_after part term terms = due part ++ used term.often term terms
 
--- What a part is to the terms that are left: it stands in one of them, and others are left then; it
--- stands after the command, which may end here; or a part is missing before it.
+-- How a part fits the terms that are left: it belongs to one of them and leaves others; it comes
+-- after the command, which may end here; or a part before it is missing.
 pub data Fit : Type 0 where
   Stands : List Term → Fit
   Ends : Fit
   Misses : Fit
 
--- A part stands in the first term that accepts it and has no term before it that must be filled.
+-- A part belongs to the first term that accepts it, if no term before that one must be filled.
 abbrev pub fit : Part → List Term → Fit
 fit part [] = Ends
 fit part (term ∷ terms) =

@@ -10,7 +10,7 @@ pub mod Acts
 pub mod Lines
 pub mod Commands
 pub mod Faults
--- What the productions say, in another way, and what the words of each act are:
+-- The productions said in another way, and the words of well-formed acts:
 pub mod Whole
 pub mod WellFormed
 -- The parser's values as these definitions:

@@ -1,4 +1,4 @@
--- What the words of an item ask for, in its place; git-fast-import(1), "Commands".
+-- What an item asks for, by its words and its place; git-fast-import(1), "Commands".
 use Rattle.std.specs.Prelude.{ℕ, Bool, true, false, List, Option, Some, None, Result, Ok}
 use Rattle.stream_lex.specs.Items.{Item, Line, Data, Blank}
 use Rattle.stream_grammar.specs.declared.fault.Fault.{Fault}
@@ -18,15 +18,15 @@ use Rattle.stream_grammar.specs.Acts.{Modify, ModifyInline, PutContents, Delete,
 use Rattle.stream_grammar.specs.Changes.{path_of, paths_of, object_and_path, modified, modified_inline, is_quoted, encoding_of}
 use Rattle.stream_grammar.specs.Acts.{Effect, brings}
 
--- A `from` is what the open command says: where a commit starts, a tag's target, or the commit that
--- a branch is set to. In the others no `from` stands.
+-- A `from` says, by the open command, where a commit starts, the target of a tag, or the commit
+-- that a branch is set to. The other commands have no `from`.
 abbrev pub from_act : Opened → CommitIsh → Act
 from_act opened.Changes commit = StartFrom commit
 from_act opened.Tag commit = TagTarget commit
 from_act opened.Reset commit = ResetTo commit
 from_act _ commit = Wait
 
--- An alias sets its mark, which stands before its `to`.
+-- An alias sets its mark, which comes before its `to`.
 abbrev pub alias_act : Option ℕ → CommitIsh → Act
 alias_act (Some mark) commit = SetMark mark commit
 alias_act None commit = Wait
@@ -35,7 +35,7 @@ alias_act None commit = Wait
 abbrev pub entry_act : List ℕ → Result Act Fault
 entry_act text = read (object_and_path text) (λ entry. Ok (ShowEntry entry.0 entry.1))
 
--- 'ls' in a commit, where a quoted path may stand alone.
+-- 'ls' in a commit, where a quoted path may come alone.
 abbrev pub branch_entry_act : Bool → List ℕ → Result Act Fault
 branch_entry_act true text = read (path_of text) (λ path. Ok (ShowBranchEntry path))
 branch_entry_act false text = entry_act text
@@ -57,7 +57,7 @@ change_act part.CatBlob text =
 change_act part.Ls text = branch_entry_act (is_quoted (argument text)) (argument text)
 change_act _ text = Ok Wait
 
--- A line inside the open command, which has perhaps a mark.
+-- A line inside the open command, which may have a mark.
 abbrev pub line_effect : Opened → Option ℕ → Part → List ℕ → Result Effect Fault
 line_effect now mark part.Mark text =
     read (mark_of (argument text)) (λ number. brings (Some number) Wait)
@@ -77,7 +77,7 @@ line_effect now mark part.To text =
     read (commit_ish_of (argument text)) (λ commit. brings None (alias_act mark commit))
 line_effect now mark part text = read (change_act part text) (λ act. brings mark act)
 
--- Data, by the command that they stand in. In the others no data stand.
+-- Data, by the open command. The other commands have no data.
 abbrev pub data_act : Opened → Option ℕ → List ℕ → Act
 data_act opened.Blob mark contents = StoreBlob mark contents
 data_act opened.Commit mark contents = OpenCommit mark contents
@@ -85,13 +85,13 @@ data_act opened.Inline mark contents = PutContents contents
 data_act opened.Tag mark contents = StoreTag mark contents
 data_act _ mark contents = Wait
 
--- An item inside the open command. Data use its mark up, and a blank line ends it.
+-- An item inside the open command. Data use up its mark, and a blank line ends it.
 abbrev pub inner_effect : Opened → Option ℕ → Part → Item → Result Effect Fault
 inner_effect now mark part (Line text) = line_effect now mark part text
 inner_effect now mark part (Data contents) = brings None (data_act now mark contents)
 inner_effect now mark part Blank = brings None Wait
 
--- An option, by whose it is. Those of other systems are ignored.
+-- An option, by the system whose option it is. Those of other systems are ignored.
 abbrev pub option_act : Bool → Setting → List ℕ → Result Act Fault
 option_act late setting.Git words =
     read (in_time late) (λ _. read (quiet_of words) (λ _. Ok Wait))

@@ -1,5 +1,5 @@
--- Parts: what an item is by its first word alone, and of a changed file whether its data follow; by
--- the commands of git-fast-import(1).
+-- Parts: the kind of an item, by its first word, and of an `M` line by its third word too; by the
+-- commands of git-fast-import(1).
 use Rattle.std.specs.Prelude.{ℕ, Bool, true, false, nat_eq, if◌then◌else◌, List, [], ◌∷◌, codes}
 use Rattle.std.specs.List.{starts_with, ends_with}
 use Rattle.std.specs.Str.{bytes_eq}
@@ -8,8 +8,8 @@ use Rattle.stream_grammar.specs.Texts.{argument, first_word}
 use Rattle.stream_grammar.specs.declared.part.Part.{Part}
 use Rattle.stream_grammar.specs.declared.part.Part.TheVariants as part
 
--- The lines of the manual: each by its first word and the space after it, or as a whole where no
--- space may stand in it. First those that begin a command, and then those that stand inside one.
+-- The lines of the manual, each by its first word and the space after it, or by the whole line if
+-- that has no space. First those that begin a command, then those inside one.
 abbrev pub words : List (List ℕ × Part)
 words =
     (codes "blob", part.Blob)
@@ -40,12 +40,12 @@ words =
     ∷ (codes "R ", part.Rename)
     ∷ (codes "deleteall", part.DeleteAll) ∷ []
 
--- A line fits a word that ends in a space where it begins with it, and any other where it is it.
+-- A line fits a word: it begins with a word that ends in a space, and is equal to any other word.
 abbrev pub fits : List ℕ → List ℕ → Bool
 fits word text =
     if ends_with nat_eq word (codes " ") then starts_with nat_eq text word else bytes_eq text word
 
--- The part of the first word that a line fits. A line that fits none is unknown.
+-- The part of the first word in the list that a line fits. A line that fits none is unknown.
 abbrev pub first_fit : List (List ℕ × Part) → List ℕ → Part
 first_fit [] text = part.Unknown
 first_fit (row ∷ rows) text = if fits row.0 text then row.1 else first_fit rows text
@@ -57,16 +57,16 @@ part_by_word text = first_fit words text
 abbrev pub is_inline : List ℕ → Bool
 is_inline text = bytes_eq (first_word (argument (argument text))) (codes "inline")
 
--- A modified file whose third word is `inline` has its data after it.
+-- The data of an `M` line whose third word is `inline` come after it.
 abbrev pub with_inline : Part → Bool → Part
 with_inline part.Modify inline = if inline then part.ModifyInline else part.Modify
 with_inline known inline = known
 
--- What a line is.
+-- The part of a line.
 abbrev pub part_of_line : List ℕ → Part
 part_of_line text = with_inline (part_by_word text) (is_inline text)
 
--- What an item is, whatever its text says after the first word.
+-- The part of an item.
 abbrev pub part_of : Item → Part
 part_of (Line text) = part_of_line text
 part_of (Data contents) = part.Data

@@ -1,4 +1,5 @@
--- What the parser's values show: acts without where their bytes lie, and the open command as terms.
+-- What contracts see of the values of the parser: acts without where their bytes lie, and the open
+-- command as terms.
 use Rattle.std.specs.Prelude.{◌≡◌, ◌≢◌, ℕ, Option, Some, None, Result, Ok, Err}
 use Rattle.stream_grammar.specs.declared.fault.Fault.{Fault}
 use Rattle.stream_grammar.specs.declared.fault.Fault.TheVariants as fault
@@ -61,7 +62,7 @@ act_shown (lent.SetHead ref) = SetHead ref
 abbrev pub done_shown : LentDone → Done
 done_shown done = record { ends_commit = done.ends_commit; act = act_shown done.act }
 
--- The open command, with its terms and its kind for its stage.
+-- The open command: the terms and the kind of its stage.
 abbrev pub open_shown : Command → Open
 open_shown command = record {
   late = command.late;
@@ -70,22 +71,22 @@ open_shown command = record {
   left = terms_of command.stage;
 }
 
--- A parser that answered a fault has it, whatever command was open.
+-- A parser that has answered a fault holds it, whatever command was open.
 abbrev pub parsing_shown : Option Fault → Command → Parsing
 parsing_shown None command = Ok (open_shown command)
 parsing_shown (Some fault) command = Err fault
 
--- What a part brought: an act, and the mark that the open command has then; or a fault.
+-- What a part gave: an act, and the mark of the open command after it; or a fault.
 abbrev pub Brings : Result LentAct Fault → Option ℕ → Result Effect Fault → Type 0
 Brings (Ok act) mark effect = effect ≡ Ok (record { mark = mark; act = act_shown act })
 Brings (Err e) mark effect = e ≢ fault.Memory → effect ≡ Err e
 
--- What an item gave, and the open command then; or a fault.
+-- What an item gave, and the open command after it; or a fault.
 abbrev pub Steps : Result LentDone Fault → Command → Result Step Fault → Type 0
 Steps (Ok done) new step = step ≡ Ok (record { done = done_shown done; next = open_shown new })
 Steps (Err e) new step = e ≢ fault.Memory → step ≡ Err e
 
--- What a call answered is what the commands give. `Memory` may stand in its place.
+-- The answer of a call is what the definitions give. `Memory` may replace it.
 abbrev pub Answers : Result LentDone Fault → Result Done Fault → Type 0
 Answers (Ok done) given = given ≡ Ok (done_shown done)
 Answers (Err e) given = e ≢ fault.Memory → given ≡ Err e

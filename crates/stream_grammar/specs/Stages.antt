@@ -1,4 +1,4 @@
--- The stages of the parser: each is the terms that are left of a production.
+-- The stages of the parser: each stands for the terms that are left of a production.
 use Rattle.std.specs.Prelude.{◌≡◌, ℕ, List, [], ◌++◌, Option, Some, None, drop}
 use Rattle.stream_grammar.specs.declared.part.Part.{Part}
 use Rattle.stream_grammar.specs.declared.part.Part.TheVariants as part
@@ -23,7 +23,7 @@ use Rattle.stream_grammar.specs.declared.stage.Fit.TheVariants as found
 use Rattle.stream_grammar.specs.Grammar.{Term, production_of, due, Fit, Stands, Ends, Misses}
 use Rattle.stream_grammar.specs.Commands.{opened_after}
 
--- The terms of a production; none where there is no production.
+-- The terms of a production; none if there is no production.
 abbrev pub terms : Option (List Term) → List Term
 terms None = []
 terms (Some all) = all
@@ -76,7 +76,7 @@ terms_of (stage.Tag next) = tag_terms next
 terms_of (stage.Reset next) = reset_terms next
 terms_of (stage.Alias next) = alias_terms next
 
--- Which command is open at a stage.
+-- The command that is open at a stage.
 abbrev pub opened_of : Stage → Opened
 opened_of stage.Top = opened.Nothing
 opened_of (stage.Blob next) = opened.Blob
@@ -87,13 +87,13 @@ opened_of (stage.Tag next) = opened.Tag
 opened_of (stage.Reset next) = opened.Reset
 opened_of (stage.Alias next) = opened.Alias
 
--- What the parser found about a part.
+-- How a part fits, as the parser found it.
 abbrev pub fit_of : StageFit → Fit
 fit_of (found.Stands stage) = Stands (terms_of stage)
 fit_of found.Ends = Ends
 fit_of found.Misses = Misses
 
--- At the stage where a part stands, the command is open that is open after the part.
+-- The stage after a part that fits is one of the command that is open after the part.
 abbrev pub KeepsOpened : Opened → Part → StageFit → Type 0
 KeepsOpened now part (found.Stands stage) = opened_of stage ≡ opened_after part now
 KeepsOpened now part found.Ends = Unit {0}

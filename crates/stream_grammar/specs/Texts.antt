@@ -1,4 +1,4 @@
--- What the words of a line say: git-fast-import(1), "mark", "get-mark" and "cat-blob".
+-- The words of a line: git-fast-import(1), "mark", "get-mark" and "cat-blob".
 use Rattle.std.specs.Prelude.{ℕ, ◌+◌, ◌==◌, Bool, if◌then◌else◌, List, [], ◌∷◌, take, drop}
 use Rattle.std.specs.Prelude.{Option, Some, None, Result, Ok, Err}
 use Rattle.std.specs.List.{position_from}
@@ -20,16 +20,16 @@ read (Err e) next = Err e
 abbrev pub is_space : ℕ → Bool
 is_space byte = byte == 32
 
--- What stands after an index of a text; nothing after none.
+-- The text after an index; an empty text if there is no index.
 abbrev pub after_index : Option ℕ → List ℕ → List ℕ
 after_index None text = []
 after_index (Some index) text = drop (index + 1) text
 
--- What stands after the first space of a line; nothing where it has none.
+-- The text after the first space of a line; an empty text if it has no space.
 abbrev pub argument : List ℕ → List ℕ
 argument text = after_index (position_from is_space 0 text) text
 
--- A line's first word: what stands before its first space, or all of it.
+-- The first word of a line: the text before its first space, or all of it.
 abbrev pub up_to_index : Option ℕ → List ℕ → List ℕ
 up_to_index None text = text
 up_to_index (Some index) text = take index text
@@ -37,16 +37,16 @@ up_to_index (Some index) text = take index text
 abbrev pub first_word : List ℕ → List ℕ
 first_word text = up_to_index (position_from is_space 0 text) text
 
--- What stands after the first space of a line, where it has one.
+-- The text after the first space of a line, if it has one.
 abbrev pub after_space : List ℕ → Option (List ℕ)
 after_space text = option_map (λ index. drop (index + 1) text) (position_from is_space 0 text)
 
--- A line without what must stand in it is malformed.
+-- A line is malformed without a text that it must have.
 abbrev pub required : {A : Type 0} → Option A → Result A Fault
 required None = Err fault.Malformed
 required (Some value) = Ok value
 
--- What stands after a colon, where a text begins with one.
+-- The text after a colon, if a text begins with one.
 unfoldable pub after_colon : List ℕ → Option (List ℕ)
 after_colon [] = None
 after_colon (byte ∷ bytes) = if byte == 58 then Some bytes else None
@@ -68,7 +68,7 @@ marked (Some digits) = idnum_of digits
 abbrev pub mark_of : List ℕ → Result ℕ Fault
 mark_of text = marked (after_colon text)
 
--- What the digits of an object name write, or were no such digits.
+-- The object name that the digits write. A text that is not such digits is malformed.
 abbrev pub named : Result (List ℕ) FromHexError → Result DataRef Fault
 named (Ok id) = Ok (data_ref.Name id)
 named (Err e) = Err fault.Malformed
@@ -77,6 +77,6 @@ abbrev pub referred : List ℕ → Option (List ℕ) → Result DataRef Fault
 referred text None = named (decode_sized text 20)  -- 40 hexadecimal digits of either case
 referred text (Some digits) = read (idnum_of digits) (λ mark. Ok (data_ref.Mark mark))
 
--- A dataref is what begins with a colon, a mark then, or else an object name: <dataref>
+-- A dataref is a mark if it begins with a colon, and else an object name: <dataref>
 abbrev pub dataref_of : List ℕ → Result DataRef Fault
 dataref_of text = referred text (after_colon text)

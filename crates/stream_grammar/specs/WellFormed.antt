@@ -1,4 +1,4 @@
--- Acts that are well formed: what the grammar has judged of the words of each, so that what is made
+-- Well-formed acts: what the parser has checked about the words of an act, so that the object made
 -- of them can be written.
 use Rattle.std.specs.Prelude.{◌≢◌, ℕ, ◌≤◌, List, length, codes}
 use Rattle.git_model.specs.declared.file_mode.FileMode.{FileMode}
@@ -15,7 +15,7 @@ use Rattle.stream_grammar.specs.declared.data_ref.DataRef.TheVariants as data_re
 use Rattle.stream_grammar.specs.Changes.{Path}
 use Rattle.stream_grammar.specs.Acts.{Act, BeginCommit, Author, Committer, Encoding, Modify, ModifyInline, Delete, Copy, Rename, ShowBranchEntry, BeginTag, Tagger, Reset, ShowObject, ShowEntry, SetHead}
 
--- A text names a ref, perhaps as `HEAD`, and is not too long.
+-- A text is a ref name or `HEAD`, and is not too long.
 pub record NamesShortRef (text : List ℕ) : Type 0 where
   pub name : NamesRef text
   pub short : length text ≤ ref_name_limit
@@ -25,22 +25,22 @@ pub record IsTagRef (ref : List ℕ) : Type 0 where
   pub name : IsShortRefName ref
   pub tag : BeginsWith ref (codes "refs/tags/")
 
--- A path is one, and within the limits.
+-- A path is well formed and within the limits.
 pub record IsTreePath (path : Path) : Type 0 where
   pub components : IsPath path
   pub limits : IsWithinLimits path
 
--- What stands for an object is a mark, or an object name.
+-- A dataref is a mark or an object name.
 abbrev pub IsReferred : DataRef → Type 0
 IsReferred (data_ref.Mark mark) = Unit {0}
 IsReferred (data_ref.Name id) = IsObjectName id
 
--- Contents stand at a mode that is neither a link's nor a directory's.
+-- The mode of inline contents is neither that of a gitlink nor that of a directory.
 pub record HoldsContents (file_mode : FileMode) : Type 0 where
   pub no_gitlink : file_mode ≢ mode.Gitlink
   pub no_directory : file_mode ≢ mode.Directory
 
--- What the words of an act say is what they are to be.
+-- The words of an act are well formed.
 abbrev pub IsWellFormed : Act → Type 0
 IsWellFormed (BeginCommit ref) = NamesShortRef ref
 IsWellFormed (Author ident) = IsWrittenIdent ident

@@ -1,4 +1,4 @@
--- Whole commands: what the productions say, with no word of how an item is placed.
+-- Whole commands: what the productions say, apart from the rule that places one item at a time.
 use Rattle.std.specs.Prelude.{◌≡◌, ◌≢◌, true, List, [], ◌∷◌, ◌++◌, Option, Some, None, Result, Ok, Err}
 use Rattle.std.specs.Option.{option_and_then}
 use Rattle.stream_grammar.specs.declared.fault.Fault.{Fault}
@@ -15,7 +15,7 @@ pub data Fills : List Term → List Part → Type 0 where
       → accepts term part ≡ true → Fills (left_after part term terms) parts
       → Fills (term ∷ terms) (part ∷ parts)
 
--- The terms that are left after some parts of one command, where each of them stands in it.
+-- The terms that are left after some parts of one command; none if a part is not in the command.
 abbrev pub left_by : Fit → (List Term → Option (List Term)) → Option (List Term)
 left_by (Stands left) next = next left
 left_by Ends next = None
@@ -31,15 +31,15 @@ pub record AreTaken (parts : List Part) (terms : List Term) : Type 0 where
   pub after_parts : left_by_parts parts terms ≡ Some left
   pub end : may_end left ≡ true
 
--- Parts that are whole commands, one after the other.
+-- The parts are those of whole commands, one after the other.
 pub data AreCommands : List Part → Type 0 where
   none_left : AreCommands []
   one_first : (command : Part) (terms : List Term) (parts later : List Part)
       → production_of command ≡ Some terms → Fills terms parts → AreCommands later
       → AreCommands (command ∷ parts ++ later)
 
--- The terms that are left after a part: those of the open command where it stands in it, or of the
--- next one, which it begins after it; none where a part is missing, or it begins no command.
+-- The terms that are left after a part: those of the open command if the part belongs to it, or of
+-- the next command if the part begins one; none if a part is missing or it begins no command.
 abbrev pub terms_next : Part → Fit → Option (List Term)
 terms_next part (Stands left) = Some left
 terms_next part Ends = production_of part
@@ -50,13 +50,13 @@ left_in_turn [] terms = Some terms
 left_in_turn (part ∷ parts) terms =
     option_and_then (λ left. left_in_turn parts left) (terms_next part (fit part terms))
 
--- The parts find their places one by one, and a stream may end after them.
+-- The parts are accepted one by one, and a stream may end after them.
 pub record ArePlaced (parts : List Part) (terms : List Term) : Type 0 where
   pub left : List Term
   pub after_parts : left_in_turn parts terms ≡ Some left
   pub end : may_end left ≡ true
 
--- An answer is no fault of an item's place: neither an unknown command nor a missing part.
+-- An answer that is neither an unknown command (2) nor a missing part (5): no fault of the place.
 abbrev pub FindsPlace : {A : Type 0} → Result A Fault → Type 0
 FindsPlace (Ok answer) = Unit {0}
 FindsPlace (Err e) = (e ≢ fault.UnknownCommand) × (e ≢ fault.MissingPart)

@@ -9,31 +9,32 @@ use git_model::FileMode;
 use git_names::{Ident, RefName};
 use git_paths::Path;
 
-/// What an item asks for. It borrows the bytes of its item; refs, idents and paths are copies.
+/// What an item asks for: git-fast-import(1), "Commands". It borrows the bytes of its item; refs,
+/// idents and paths are copies.
 ///
-/// A command of several lines asks for something with each of them that says more than its mark.
-/// Its mark comes with the act of its last part.
+/// A command of several lines gives an act for each line that says more than its mark. The mark
+/// comes with the act of the last part.
 #[derive(Drop)]
 pub enum Act<'a> {
-    /// Nothing yet: the command that the item belongs to is not whole, or has no effect.
+    /// Nothing: the command of the item is not whole yet, or has no effect.
     Wait,
-    /// Store a blob with these contents, and set the mark to it where there is one.
+    /// Store a blob with these contents, and set the mark to it if there is one.
     StoreBlob {
         /// The mark of the blob.
         mark: Option<Mark>,
         /// The bytes of the blob.
         contents: &'a [u8],
     },
-    /// A commit begins, of the branch of this ref.
+    /// A commit on the branch of this ref begins.
     BeginCommit(RefName),
-    /// Who wrote the commit that has begun; without it, its committer did.
+    /// The author of the commit that has begun. Without this act the committer is the author.
     Author(Ident),
-    /// Who made the commit that has begun.
+    /// The committer of the commit that has begun.
     Committer(Ident),
-    /// How the message of the commit that has begun is encoded. At least one byte.
+    /// The encoding of the message of the commit that has begun. At least one byte.
     Encoding(&'a [u8]),
-    /// The commit that has begun is open from here on, with this message. At its end the mark is
-    /// set to it where there is one.
+    /// The commit that has begun has this message; from here on its files may change. At its end
+    /// the mark is set to it if there is one.
     OpenCommit {
         /// The mark of the commit.
         mark: Option<Mark>,
@@ -46,56 +47,56 @@ pub enum Act<'a> {
     Merge(CommitIsh<'a>),
     /// Put an object at a path of the open commit.
     Modify {
-        /// What stands there then.
+        /// The mode of the entry.
         mode: FileMode,
         /// The object.
         object: DataRef,
-        /// Where it stands.
+        /// Where it is put.
         path: Path,
     },
-    /// Put a file at a path of the open commit, with the contents that the next item brings.
+    /// Put a file at a path of the open commit, with the contents that the next item gives.
     ModifyInline {
-        /// A file's mode: neither a gitlink's nor a directory's.
+        /// The mode of a file: neither of a gitlink nor of a directory.
         mode: FileMode,
-        /// Where it stands.
+        /// Where it is put.
         path: Path,
     },
     /// The contents of the file of the last `ModifyInline`.
     PutContents(&'a [u8]),
-    /// Drop what stands at a path of the open commit.
+    /// Delete the file or directory at a path of the open commit.
     Delete(Path),
-    /// Copy what stands at a path of the open commit.
+    /// Copy the file or directory at a path of the open commit.
     Copy {
         /// From here.
         source: Path,
         /// To here.
         path: Path,
     },
-    /// Rename what stands at a path of the open commit.
+    /// Rename the file or directory at a path of the open commit.
     Rename {
         /// From here.
         source: Path,
         /// To here.
         path: Path,
     },
-    /// Drop all files of the open commit.
+    /// Delete all files of the open commit.
     DeleteAll,
-    /// Print what stands at a path of the open commit.
+    /// Print the entry at a path of the open commit.
     ShowBranchEntry(Path),
-    /// A tag begins, with this ref, `refs/tags/` and its name.
+    /// A tag with this ref begins. The ref is `refs/tags/` and the name of the tag.
     BeginTag(RefName),
-    /// The tag that has begun is of this object.
+    /// The tag that has begun points to this object.
     TagTarget(CommitIsh<'a>),
-    /// Who made the tag that has begun.
+    /// The tagger of the tag that has begun.
     Tagger(Ident),
-    /// Store the tag that has begun, with this message, and set the mark to it where there is one.
+    /// Store the tag that has begun, with this message, and set the mark to it if there is one.
     StoreTag {
         /// The mark of the tag.
         mark: Option<Mark>,
         /// The bytes of its message.
         message: &'a [u8],
     },
-    /// Make the branch of this ref unborn.
+    /// Make the branch of this ref unborn. A `ResetTo` may follow.
     Reset(RefName),
     /// Set the branch of the last `Reset` to this commit.
     ResetTo(CommitIsh<'a>),
@@ -106,39 +107,39 @@ pub enum Act<'a> {
         /// The commit.
         commit: CommitIsh<'a>,
     },
-    /// Save what was done so far.
+    /// Save what the stream has done so far.
     Checkpoint,
     /// Print this whole line, which has no line end.
     Progress(&'a [u8]),
-    /// Print the name of the object that the mark was set to.
+    /// Print the name of the object of this mark.
     ShowMark(Mark),
     /// Print a blob.
     ShowObject(DataRef),
-    /// Print what stands at a path of a tree, or of a commit's.
+    /// Print the entry at a path of a tree, or of the tree of a commit.
     ShowEntry {
         /// The tree or commit.
         root: DataRef,
         /// The path from there.
         path: Path,
     },
-    /// End the stream: what follows is not read.
+    /// The stream ends here; what follows is not read.
     Finish,
     /// The stream uses this feature.
     Require(Feature),
-    /// Let HEAD name this ref, which is not `HEAD`.
+    /// Point HEAD to this ref, which is not `HEAD` itself.
     SetHead(RefName),
 }
 
-/// What was done with an item.
+/// The answer of `Parser::take` to an item.
 #[derive(Drop)]
 pub struct Done<'a> {
-    /// Whether the item ends an open commit, before its own act.
+    /// Whether the item ends an open commit. The commit ends before the item's own act.
     pub ends_commit: bool,
     /// What the item asks for.
     pub act: Act<'a>,
 }
 
-// Acts and answers are handed on by value: they stay small.
+// Acts and answers are passed by value, so they have to be small.
 const _: () = prove!(size_of::<Act<'static>>() < 100);
 
 const _: () = prove!(size_of::<Result<Done<'static>, Fault>>() < 100);

@@ -1,4 +1,4 @@
-//! What a change says: modes, datarefs and paths.
+//! The words of a change: modes, datarefs and paths; git-fast-import(1), "filemodify" and after.
 
 ghost use Rattle.std.specs.Prelude.{◌≡◌};
 ghost use Rattle.stream_grammar.specs.Faults.{Gives};
@@ -11,8 +11,8 @@ use git_model::FileMode;
 use git_paths::{Path, Place};
 use std::alloc::Global;
 
-/// Reads a mode: `Fault::BadMode` (23) for every word but `100644`, `644`, `100755`, `755`,
-/// `120000`, `160000` and `040000`.
+/// Reads a mode: `100644`, `644`, `100755`, `755`, `120000`, `160000` or `040000`.
+/// `Fault::BadMode` (23) for every other word.
 #[tactic(auto, unfolding(crate::specs::Changes::mode_of))]
 fn mode_of(word: &[u8]) -> Result<FileMode, Fault>
     ensures { result ≡ changes.mode_of word.now }
@@ -32,7 +32,7 @@ fn mode_of(word: &[u8]) -> Result<FileMode, Fault>
     }
 }
 
-// The mode of contents that stand inline: that of a file.
+// The mode of inline contents, which must be that of a file.
 fn mode_inline(mode: FileMode) -> Result<FileMode, Fault>
     ensures { result ≡ changes.mode_inline mode }
 {
@@ -44,7 +44,8 @@ fn mode_inline(mode: FileMode) -> Result<FileMode, Fault>
     }
 }
 
-/// Reads the path that is the rest of a line: `Fault::BadPath` (10), else `Fault::Limit` (25).
+/// Reads the path that is the rest of a line. `Fault::BadPath` (10) if it is malformed, else
+/// `Fault::Limit` (25) if it is too long.
 pub fn path_of(alloc: Global, text: &[u8]) -> Result<Path, Fault>
     ensures { Gives (λ path. path) result (changes.path_of text.now) }
 {
@@ -56,7 +57,7 @@ pub fn path_of(alloc: Global, text: &[u8]) -> Result<Path, Fault>
     }
 }
 
-/// Reads a source and a path, each as `path_of` does, the source whole before the path.
+/// Reads a source and a path, each as `path_of` does. A fault of the source comes first.
 pub fn paths_of(alloc: Global, text: &[u8]) -> Result<(Path, Path), Fault>
     ensures { Gives (λ paths. paths) result (changes.paths_of text.now) }
 {
@@ -71,8 +72,8 @@ pub fn paths_of(alloc: Global, text: &[u8]) -> Result<(Path, Path), Fault>
     }
 }
 
-/// Reads a dataref, a space and a path: 3 and 12 for the dataref, 3 without the space, then as
-/// `path_of`.
+/// Reads a dataref, a space and a path. Faults 3 and 12 for the dataref, 3 without the space, then
+/// those of `path_of`.
 pub fn object_and_path(alloc: Global, text: &[u8]) -> Result<(DataRef, Path), Fault>
     ensures { Gives (λ file. file) result (changes.object_and_path text.now) }
 {
@@ -86,7 +87,8 @@ pub fn object_and_path(alloc: Global, text: &[u8]) -> Result<(DataRef, Path), Fa
     }
 }
 
-/// Reads a mode, a space, and then as `object_and_path`: 23 for the mode, 3 without the space.
+/// Reads a mode, a space, and what `object_and_path` reads. Fault 23 for the mode, 3 without the
+/// space, then those of `object_and_path`.
 pub fn modified(alloc: Global, text: &[u8]) -> Result<(FileMode, DataRef, Path), Fault>
     ensures { Gives (λ file. file) result (changes.modified text.now) }
 {
@@ -110,8 +112,8 @@ fn inline_path(alloc: Global, rest: &[u8]) -> Result<Path, Fault>
     }
 }
 
-/// Reads a mode, `inline` and a path: 23 for the mode, 3 without a space or where the mode is not
-/// that of a file, then as `path_of`.
+/// Reads a mode, `inline` and a path. Fault 23 for the mode, 3 without a space or if the mode is
+/// not that of a file, then those of `path_of`.
 pub fn modified_inline(alloc: Global, text: &[u8]) -> Result<(FileMode, Path), Fault>
     ensures { Gives (λ file. file) result (changes.modified_inline text.now) }
 {

@@ -1,4 +1,4 @@
-//! The open command: what it has said so far, and how far it has come.
+//! The open command: its mark so far, and which parts may still come.
 
 ghost use Rattle.std.specs.Prelude.{◌≡◌, OnErr};
 ghost use Rattle.stream_lex.specs.Looking.{item_of};
@@ -18,9 +18,9 @@ use stream_lex::Item;
 /// The open command.
 #[derive(Clone, Copy)]
 pub struct Command {
-    /// Whether a feature comes too late now.
+    /// Whether it is too late for a `feature`.
     pub late: bool,
-    /// The mark that it has named so far.
+    /// The mark of the command, if its `mark` line has come.
     pub mark: Option<Mark>,
     pub stage: Stage,
 }
@@ -32,7 +32,8 @@ pub fn is_commit(opened: Opened) -> bool
     matches!(opened, Opened::Changes | Opened::Inline)
 }
 
-/// Takes an item into the open command, or begins the next one. A fault changes nothing.
+/// Takes an item into the open command, or begins the next command with it. Nothing has changed
+/// after a fault.
 #[tactic(auto, unfolding(crate::specs::Commands::step))]
 pub fn take<'a>(alloc: Global, now: &mut Command, item: Item<'a>) -> Result<Done<'a>, Fault>
     ensures steps { Steps result now.new (step (open_shown now.old) (item_of item.entry)) }

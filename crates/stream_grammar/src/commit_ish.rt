@@ -2,7 +2,7 @@
 
 use crate::mark::Mark;
 
-/// What a command says for a commit. Whether there is such a commit is decided where it is used.
+/// How a command names a commit. The parser does not decide whether there is such a commit.
 #[derive(Clone, Copy, PartialEq, Eq)]
 pub enum CommitIsh<'a> {
     /// The commit that this mark was set to last.

@@ -3,7 +3,8 @@
 use crate::mark::Mark;
 use git_names::Name;
 
-/// What a command says for an object: its mark, or its name.
+/// How a command names an object: by its mark or by its object name. The parser does not decide
+/// whether there is such an object.
 #[derive(Clone, Copy, PartialEq, Eq)]
 pub enum DataRef {
     /// The object that this mark was set to last.

@@ -1,4 +1,4 @@
-//! Why a stream is refused at an item.
+//! Why an item of a stream is refused.
 
 ghost use Rattle.std.specs.Prelude.{◌≡◌};
 ghost use Rattle.stream_grammar.specs.Faults.{code_of};
@@ -7,47 +7,50 @@ ghost use Rattle.stream_grammar.specs.declared.fault.Fault.TheVariants.{Memory};
 use std::alloc::AllocError;
 use thiserror::Error;
 
-/// Why an item is no part of a stream: git-fast-import(1), "Commands". A parser that answered one
-/// of these but `Memory` answers it from then on.
+/// Why an item of a stream is refused: git-fast-import(1), "Commands". A parser that has answered
+/// one of these answers it from then on, except `Memory`, which leaves the parser unchanged.
 #[derive(Clone, Copy, Debug, PartialEq, Eq, Error)]
 pub enum Fault {
-    /// The item can't begin a command, and no command is open.
+    /// The item begins no command, and no command is open or the open one may end here (2).
     #[error("unknown command")]
     UnknownCommand,
-    /// Wrong words in a line whose first word is known.
+    /// The line begins with a known word and is malformed after it (3): a mark has no colon, a
+    /// dataref has neither a colon nor 40 hexadecimal digits, a space is missing, `inline` has the
+    /// mode of a gitlink or a directory, or an encoding is empty or holds a line end.
     #[error("malformed line")]
     Malformed,
-    /// The open command lacks a part, and the item, or the end of the stream, stands in its place.
+    /// The open command needs another part before the item or before the end of the stream (5).
     #[error("missing part")]
     MissingPart,
-    /// No such feature or option of Git.
+    /// The feature, or the option of Git, is not supported (8).
     #[error("feature not supported")]
     FeatureNotSupported,
-    /// A feature, or an option of Git or of this service, after another command.
+    /// A feature, or an option of Git or of this service, comes after another command (9).
     #[error("feature too late")]
     FeatureTooLate,
-    /// A text is no path, or is not ended as its place asks.
+    /// A path is malformed, or does not end as its place requires (10).
     #[error("bad path")]
     BadPath,
-    /// The text is no ref name.
+    /// The text is not a ref name (11).
     #[error("bad ref name")]
     BadRefName,
-    /// What stands after the colon of a mark is no number from 1 to 2^64 - 1.
+    /// No number from 1 to 2^64 - 1 in at most 20 digits follows the colon of a mark (12).
     #[error("bad mark")]
     BadMark,
-    /// The name, the email or the space after it, of an ident.
+    /// The name or the email of an ident, or the space after it, is malformed (21).
     #[error("bad identity")]
     BadIdentity,
-    /// The seconds of an ident, or the offset after them.
+    /// The seconds of an ident, or the offset after them, are malformed (22).
     #[error("bad date")]
     BadDate,
-    /// A word is no mode of a file.
+    /// The mode is not one of git-fast-import(1), "filemodify" (23).
     #[error("bad mode")]
     BadMode,
-    /// A ref name of more than 1,024 bytes, or a path of more than 16,383 bytes or 256 components.
+    /// A ref name has more than 1,024 bytes, or a path has more than 16,383 bytes or 256 components
+    /// (25).
     #[error("a limit is passed")]
     Limit,
-    /// A growth was refused. The parser is unchanged.
+    /// An allocation failed (90). The parser is unchanged.
     #[error("out of memory")]
     Memory,
 }

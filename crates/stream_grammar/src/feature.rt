@@ -5,12 +5,12 @@ ghost use Rattle.stream_grammar.specs.Features as features;
 
 use crate::fault::Fault;
 
-/// What a stream asks for before its other commands.
+/// A feature that a stream uses, named before its other commands: git-fast-import(1), "feature".
 #[derive(Clone, Copy, PartialEq, Eq)]
 pub enum Feature {
     /// The stream ends with `done`.
     Done,
-    /// Refs are updated that are no fast-forward.
+    /// Refs are updated even if the update is not a fast-forward.
     Force,
     /// The command `get-mark` is used.
     GetMark,
@@ -18,22 +18,22 @@ pub enum Feature {
     CatBlob,
     /// The command `ls` is used.
     Ls,
-    /// Dates are raw, as they always are here.
+    /// Dates are in the raw format, which is the only one supported.
     RawDates,
 }
 
-/// Whose option a line sets.
+/// The system whose option a line sets.
 #[derive(Clone, Copy)]
 pub enum Setting {
     /// Git's.
     Git,
-    /// This service's: the ref that HEAD names.
+    /// The `head` option of gitpool: the ref that HEAD points to.
     Head,
     /// Another system's, which is ignored.
     Other,
 }
 
-/// A feature stands before other commands: `Fault::FeatureTooLate` (9).
+/// Refuses a feature after other commands: `Fault::FeatureTooLate` (9).
 #[tactic(auto, unfolding(crate::specs::Features::in_time))]
 pub fn in_time(late: bool) -> Result<(), Fault>
     ensures { result ≡ features.in_time late }
@@ -45,7 +45,7 @@ pub fn in_time(late: bool) -> Result<(), Fault>
     }
 }
 
-/// Reads a feature: `Fault::FeatureNotSupported` (8) for every other word.
+/// Reads a feature. `Fault::FeatureNotSupported` (8) for every word that is not in the list.
 #[tactic(auto, unfolding(crate::specs::Features::feature_of))]
 pub fn feature_of(word: &[u8]) -> Result<Feature, Fault>
     ensures { result ≡ features.feature_of word.now }
@@ -67,7 +67,7 @@ pub fn feature_of(word: &[u8]) -> Result<Feature, Fault>
     }
 }
 
-/// Whose option these words are.
+/// Tells whose option these words set.
 #[tactic(auto, unfolding(crate::specs::Features::setting_of))]
 pub fn setting_of(words: &[u8]) -> Setting
     ensures { result ≡ features.setting_of words.now }
@@ -81,7 +81,7 @@ pub fn setting_of(words: &[u8]) -> Setting
     }
 }
 
-/// Reads an option of Git's: `Fault::FeatureNotSupported` (8) for every other one than `quiet`.
+/// Reads an option of Git. `Fault::FeatureNotSupported` (8) for every option but `quiet`.
 #[tactic(auto, unfolding(crate::specs::Features::quiet_of))]
 pub fn quiet_of(words: &[u8]) -> Result<(), Fault>
     ensures { result ≡ features.quiet_of words.now }

@@ -1,12 +1,13 @@
-//! Laws of the definitions that the parser's contracts cite. Each function is empty: its contract
-//! is the law, and a call does nothing.
+//! Laws of the definitions that the contracts of the parser cite. Each function is empty: its
+//! contract is the law, and a call does nothing.
 
-ghost use Rattle.std.specs.Prelude.{◌≡◌, ◌<◌, ◌^◌, ◌++◌, ℕ, Bool, List, [], IfSome, codes, decimal, length, map};
+ghost use Rattle.std.specs.Prelude.{◌≡◌, ◌<◌, ◌^◌, ◌∷◌, ◌++◌, ℕ, Bool, List, [], IfSome, codes, decimal, length, map};
 ghost use Rattle.hex.specs.Hex.{IsBytes, encode_lower};
 ghost use Rattle.stream_lex.specs.Items as items;
 ghost use Rattle.stream_grammar.specs.declared.fault.Fault.{Fault};
 ghost use Rattle.stream_grammar.specs.declared.part.Part.{Part};
 ghost use Rattle.stream_grammar.specs.Commands.{Commands, Done, Parsing, given_before, commands, done_by, end_of, top};
+ghost use Rattle.stream_grammar.specs.Commands.{Leads, after, given_by};
 ghost use Rattle.stream_grammar.specs.Grammar.{Term, production_of};
 ghost use Rattle.stream_grammar.specs.Parts.{part_of};
 ghost use Rattle.stream_grammar.specs.Texts.{dataref_of, mark_of};
@@ -15,13 +16,22 @@ ghost use Rattle.stream_grammar.specs.Whole.{AreCommands, ArePlaced, AreTaken, F
 
 use crate::data_ref::DataRef;
 
-/// The commands of some items and then of more are those of all of them, so what a prefix of the
-/// items gives is a prefix of what all of them give.
+/// The commands of all items are those of a prefix and then those of the other items. So what a
+/// prefix of the items gives is a prefix of what all items give.
 pub fn in_turn()
     ensures { (parsing : Parsing) (front more : List items.Item)
         → commands parsing (front ++ more)
         ≡ given_before (commands parsing front).given
         (commands (commands parsing front).rest more) }
+{}
+
+/// If some items gave these acts and left this parser, then those items and one more give these
+/// acts, followed by what the parser gives for the item, and leave what it leaves.
+pub fn one_more_item()
+    ensures { (stream : List items.Item) (given : List Done) (parsing : Parsing) (item : items.Item)
+        → Leads stream given parsing
+        → Leads (stream ++ item ∷ []) (given ++ given_by (done_by parsing item))
+        (after parsing item) }
 {}
 
 /// After a fault nothing is given, and the fault stays.
@@ -38,9 +48,9 @@ pub fn whole_commands()
         (λ terms. (parts : List Part) → Fills terms parts → AreTaken parts terms) }
 {}
 
-/// The items of a stream that ends well are the parts of whole commands, one after the other. Such
-/// parts find their places, whatever open command each comes upon: so a stream of them is refused,
-/// if at all, by what its words say, and never as an unknown command (2) or a missing part (5).
+/// The items of a stream that ends well are the parts of whole commands, one after the other. A
+/// stream of whole commands is refused, if at all, by what its words say, and never as an unknown
+/// command (2) or a missing part (5): each of its parts is accepted where it comes.
 pub fn whole_streams()
     ensures placed { (parts : List Part) → AreCommands parts → ArePlaced parts [] }
     ensures found { (stream : List items.Item) → AreCommands (map part_of stream)
@@ -64,9 +74,9 @@ pub fn written_names()
         → dataref_of (encode_lower id) ≡ Ok (DataRef.Name id) }
 {}
 
-/// What an item asks for is well formed: its refs are ref names of at most 1,024 bytes, or `HEAD`
-/// where that may stand; its idents can be written, and its encoding is on one line; a tree may
-/// have its paths, which are within the limits; and its object names are names.
+/// The act of an item is well formed. Its refs are ref names of at most 1,024 bytes, or `HEAD`
+/// where that is allowed. Its idents can be written, and its encoding is on one line. Its paths are
+/// within the limits, and a tree may have them. Its object names have 20 bytes.
 pub fn acts_are_well_formed()
     ensures { (parsing : Parsing) (item : items.Item) (done : Done) → done_by parsing item ≡ Ok done
         → IsWellFormed done.act }

@@ -1,8 +1,9 @@
 //! The commands of a stream: git-fast-import(1), "Commands".
 //!
-//! A parser takes the items of a stream in order and says what each asks for. It knows the grammar
-//! and the words of a line, and nothing of a repository: no mark or object is looked up here. A
-//! parser is the open command, with the parts that may still come, or the fault that it answered.
+//! A parser takes the items of a stream in order and answers what each asks for. It knows the
+//! grammar and the words of a line, and nothing about a repository: it looks up no mark and no
+//! object. It holds the open command, with the parts that may still come, or the fault that it has
+//! answered.
 //!
 //! ```text
 //! commit refs/heads/m           Act::BeginCommit(refs/heads/m)

@@ -1,4 +1,4 @@
-//! What the words of an item ask for, in its place.
+//! What an item asks for, by its words and its place; git-fast-import(1), "Commands".
 
 ghost use Rattle.std.specs.List.{list_all};
 ghost use Rattle.std.specs.Prelude.{◌==◌, not, ◌≡◌, OnErr, Ok};
@@ -24,7 +24,7 @@ use crate::text::{argument, dataref_of, mark_of};
 use std::alloc::Global;
 use stream_lex::Item;
 
-// A `from`, by the command that it stands in.
+// A `from`, by the open command.
 fn from_act(opened: Opened, text: &[u8]) -> Result<Act<'_>, Fault>
     ensures { Gives act_shown result
         (read (commit_ish_of text.now) (λ commit. Ok (lines.from_act opened commit))) }
@@ -69,7 +69,7 @@ fn branch_entry_act(alloc: Global, text: &[u8]) -> Result<Act<'_>, Fault>
     }
 }
 
-// A line in the place of a change, or one that asks for nothing.
+// A line in the place of a change, or a line that asks for nothing.
 fn change_act(alloc: Global, part: Part, line: &[u8]) -> Result<Act<'_>, Fault>
     ensures { Gives act_shown result (lines.change_act part line.now) }
 {
@@ -105,7 +105,7 @@ fn is_one_line(text: &[u8]) -> bool
     text.iter().all(|byte| *byte != b'\n')
 }
 
-// Whether a text is at least one byte, and none is a line end.
+// Whether a text has at least one byte and no line end.
 fn is_encoding(text: &[u8]) -> bool
     ensures { result ≡ is_encoding text.now }
 {
@@ -135,7 +135,7 @@ fn merge_act(text: &[u8]) -> Result<Act<'_>, Fault>
     }
 }
 
-// A line inside the open command, which has perhaps a mark.
+// A line inside the open command, which may have a mark.
 fn line_act<'a>(
     alloc: Global,
     opened: Opened,
@@ -166,7 +166,7 @@ fn line_act<'a>(
     }
 }
 
-// Data, by the command that they stand in.
+// Data, by the open command.
 fn data_act(opened: Opened, mark: Option<Mark>, contents: &[u8]) -> Act<'_>
     ensures { act_shown result ≡ lines.data_act opened mark contents.now }
 {
@@ -185,7 +185,7 @@ fn data_act(opened: Opened, mark: Option<Mark>, contents: &[u8]) -> Act<'_>
     }
 }
 
-/// Takes an item that stands in the open command. A fault changes nothing.
+/// Takes an item of the open command. The mark is unchanged after a fault.
 pub fn inner_act<'a>(
     alloc: Global,
     opened: Opened,
@@ -211,7 +211,7 @@ pub fn inner_act<'a>(
     }
 }
 
-// An option, by whose it is.
+// An option, by the system whose option it is.
 fn option_act<'a>(alloc: Global, late: bool, words: &'a [u8]) -> Result<Act<'a>, Fault>
     ensures { Gives act_shown result
         (lines.option_act late (features.setting_of words.now) words.now) }

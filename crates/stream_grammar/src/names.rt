@@ -1,4 +1,4 @@
-//! What a line names: refs, idents and commit-ishes.
+//! The names in a line: refs, idents and commit-ishes.
 
 ghost use Rattle.std.specs.Prelude.{◌≡◌};
 ghost use Rattle.stream_grammar.specs.Faults.{Gives};
@@ -12,8 +12,8 @@ use crate::text::{after_colon, idnum_of};
 use git_names::{Ident, RefName, RefNameFault};
 use std::alloc::Global;
 
-/// Reads a ref: `Fault::BadRefName` (11) for what is neither a ref name nor `HEAD`, else
-/// `Fault::Limit` (25) above 1,024 bytes. Takes memory for the copy.
+/// Reads a ref. `Fault::BadRefName` (11) if it is neither a ref name nor `HEAD`, else
+/// `Fault::Limit` (25) if it has more than 1,024 bytes. Takes memory for the copy.
 pub fn ref_of(alloc: Global, text: &[u8]) -> Result<RefName, Fault>
     ensures { Gives (λ name. name) result (names.ref_of text.now) }
 {
@@ -25,7 +25,8 @@ pub fn ref_of(alloc: Global, text: &[u8]) -> Result<RefName, Fault>
     }
 }
 
-/// Reads the name of a tag, and answers its ref, as `ref_of` does. Takes memory for the ref.
+/// Reads the name of a tag and answers its ref. The faults are those of `ref_of`. Takes memory for
+/// the ref.
 pub fn tag_ref_of(alloc: Global, name: &[u8]) -> Result<RefName, Fault>
     ensures { Gives (λ name. name) result (names.tag_ref_of name.now) }
 {
@@ -34,7 +35,8 @@ pub fn tag_ref_of(alloc: Global, name: &[u8]) -> Result<RefName, Fault>
     ref_of(alloc, &text)
 }
 
-/// Reads the ref that HEAD is to name, as `ref_of` does; `HEAD` itself is `Fault::BadRefName` (11).
+/// Reads the ref that HEAD shall point to, as `ref_of` does. `HEAD` itself is `Fault::BadRefName`
+/// (11).
 #[tactic(auto, unfolding(crate::specs::Features::head_of))]
 pub fn head_of(alloc: Global, text: &[u8]) -> Result<RefName, Fault>
     ensures { Gives (λ name. name) result (head_of text.now) }
@@ -46,8 +48,8 @@ pub fn head_of(alloc: Global, text: &[u8]) -> Result<RefName, Fault>
     }
 }
 
-/// Reads an ident: `Fault::BadIdentity` (21), else `Fault::BadDate` (22). Takes memory for the
-/// copy.
+/// Reads an ident. `Fault::BadIdentity` (21) if the name or the email is malformed, else
+/// `Fault::BadDate` (22) if the date is. Takes memory for the copy.
 pub fn ident_of(alloc: Global, text: &[u8]) -> Result<Ident, Fault>
     ensures { Gives (λ ident. ident) result (names.ident_of text.now) }
 {
@@ -59,7 +61,7 @@ pub fn ident_of(alloc: Global, text: &[u8]) -> Result<Ident, Fault>
     }
 }
 
-/// Reads a commit-ish: `Fault::BadMark` (12) for a colon with no mark's number after it.
+/// Reads a commit-ish. `Fault::BadMark` (12) for a colon that no number of a mark follows.
 pub fn commit_ish_of(text: &[u8]) -> Result<CommitIsh<'_>, Fault>
     ensures { Gives commit_shown result (names.commit_ish_of text.now) }
 {

@@ -1,7 +1,7 @@
 //! The parser of commands: git-fast-import(1), "Commands".
 //!
-//! A parser is the command that is open, or the fault that it answered; it keeps nothing of what
-//! it has given.
+//! A parser holds the open command, or the fault that it has answered. It keeps nothing of the acts
+//! that it gave.
 
 ghost use Rattle.std.specs.Prelude.{◌≡◌, ◌≢◌, Err};
 ghost use Rattle.stream_lex.specs.Looking.{item_of};
@@ -16,7 +16,7 @@ use std::alloc::Global;
 use std::marker::Model;
 use stream_lex::Item;
 
-/// Reads the items of one stream, in order.
+/// Reads the items of one stream in order, and answers what each asks for.
 #[derive(Drop)]
 pub struct Parser {
     alloc: Global,
@@ -34,7 +34,7 @@ impl Model for Parser {
 }
 
 impl Parser {
-    /// A parser at the beginning of a stream. Takes no memory; what its acts keep comes from
+    /// A parser at the beginning of a stream. Takes no memory; the copies in its acts come from
     /// `alloc`.
     pub fn new(alloc: Global) -> Parser
         ensures { result ≡ Ok top }
@@ -50,19 +50,19 @@ impl Parser {
         }
     }
 
-    /// Takes the next item, and says what it asks for. The bytes of the answer are those of the
-    /// item, or copies of them.
+    /// Takes the next item and answers what it asks for: git-fast-import(1), "Commands". The bytes
+    /// of the answer are those of the item, or copies of them.
     ///
-    /// `Fault::UnknownCommand` (2) for an item that begins no command where none is open, and
-    /// `Fault::MissingPart` (5) for one in the place of a part of the open command, whatever its
-    /// line says after the first word. Else the first part of the line that fails decides, from
-    /// left to right: `Malformed` (3), `FeatureTooLate` (9) before `FeatureNotSupported` (8),
-    /// `BadPath` (10) and `BadRefName` (11) before `Limit` (25), `BadMark` (12), `BadIdentity` (21)
-    /// before `BadDate` (22), `BadMode` (23). A parser that answered one of these answers it from
-    /// then on, whatever comes.
+    /// `Fault::MissingPart` (5) if the open command needs another part first.
+    /// `Fault::UnknownCommand` (2) if no command is open, or the open one may end, and the item
+    /// begins none. The first word alone decides these two. After that the first wrong part of the
+    /// line, from left to right, decides: `Malformed` (3), `FeatureTooLate` (9) before
+    /// `FeatureNotSupported` (8), `BadPath` (10) and `BadRefName` (11) before `Limit` (25),
+    /// `BadMark` (12), `BadIdentity` (21) before `BadDate` (22), `BadMode` (23). A parser that has
+    /// answered one of these answers it from then on, whatever comes.
     ///
-    /// Takes memory for refs, idents and paths; `Fault::Memory` (90) may stand in place of any
-    /// answer but such a fault, and leaves the parser unchanged.
+    /// Takes memory for refs, idents and paths. `Fault::Memory` (90) may replace any answer but a
+    /// fault that was answered before, and leaves the parser unchanged.
     pub fn take<'a>(&mut self, item: Item<'a>) -> Result<Done<'a>, Fault>
         ensures answers { Answers result (done_by self.old (item_of item.entry)) }
         ensures leaves { result ≢ Err Fault.Memory
@@ -85,8 +85,8 @@ impl Parser {
 
     /// Whether the end of the stream ends an open commit. Takes no memory.
     ///
-    /// `Fault::MissingPart` (5) where the open command lacks a part, and the fault of a parser that
-    /// answered one.
+    /// `Fault::MissingPart` (5) if the open command needs another part. A parser that has answered
+    /// a fault answers it again.
     pub fn end(&self) -> Result<bool, Fault>
         ensures { result ≡ end_of self.now }
     {

@@ -1,4 +1,5 @@
-//! Parts: what an item is by its first word alone, and of a changed file whether its data follow.
+//! Parts: the kind of an item, by its first word. Of an `M` line the third word counts too, which
+//! says whether its data follow.
 
 ghost use Rattle.std.specs.Prelude.{◌≡◌};
 ghost use Rattle.stream_lex.specs.Looking.{item_of};
@@ -7,8 +8,8 @@ ghost use Rattle.stream_grammar.specs.Parts as parts;
 use crate::text::{argument, first_word};
 use stream_lex::Item;
 
-/// What an item is by its first word, whatever the rest of it says. After `M` its third word says
-/// whether data follow.
+/// The kind of an item, by its first word, whatever the rest of it says. After `M` the third word
+/// says whether data follow.
 #[derive(Clone, Copy, PartialEq, Eq)]
 pub enum Part {
     Blob,
@@ -34,9 +35,9 @@ pub enum Part {
     Merge,
     Tagger,
     To,
-    /// A line that begins with `M`, where a mark or an object name stands for the contents.
+    /// A line that begins with `M` and names the contents by a mark or an object name.
     Modify,
-    /// The same where `inline` does: the contents are the data after it.
+    /// A line that begins with `M` and has `inline` there: the contents are the data after it.
     ModifyInline,
     Delete,
     Copy,
@@ -48,8 +49,8 @@ pub enum Part {
     Unknown,
 }
 
-// A part by the first word of its line and the space after it, or by the whole line where no space
-// may stand in it.
+// Each part by the first word of its line and the space after it, or by the whole line if that has
+// no space.
 const WORDS: &[(&[u8], Part)] = &[
     (b"blob", Part::Blob),
     (b"commit ", Part::Commit),
@@ -80,7 +81,8 @@ const WORDS: &[(&[u8], Part)] = &[
     (b"deleteall", Part::DeleteAll),
 ];
 
-// Whether a line begins with a word that ends in a space, or is a word that does not.
+// Whether a line fits a word: it begins with a word that ends in a space, and is equal to a word
+// that does not.
 fn fits(word: &[u8], line: &[u8]) -> bool
     ensures { result ≡ parts.fits word.now line.now }
 {
@@ -111,7 +113,7 @@ fn is_inline(line: &[u8]) -> bool
     first_word(argument(argument(line))) == b"inline".as_slice()
 }
 
-/// The part that a line is.
+/// The part of a line.
 fn part_of_line(line: &[u8]) -> Part
     ensures { result ≡ parts.part_of_line line.now }
 {
@@ -121,7 +123,7 @@ fn part_of_line(line: &[u8]) -> Part
     }
 }
 
-/// The part that an item is, by its first word. Takes no memory.
+/// The part of an item, by its first word. Takes no memory.
 pub fn part_of(item: Item<'_>) -> Part
     ensures { result ≡ parts.part_of (item_of item.entry) }
 {
@@ -132,7 +134,7 @@ pub fn part_of(item: Item<'_>) -> Part
     }
 }
 
-/// Whether a `feature` may still come after this part, where it begins a command: after features,
+/// Whether a `feature` may still come after a command that begins with this part: after features,
 /// options and blank lines.
 pub fn is_early(part: Part) -> bool
     ensures { result ≡ parts.is_early part }

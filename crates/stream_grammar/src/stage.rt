@@ -1,4 +1,4 @@
-//! Stages: how far the open command has come.
+//! Stages: which parts of the open command may still come.
 
 ghost use Rattle.std.specs.Prelude.{◌≡◌, IfSome};
 ghost use Rattle.std.specs.Option.{option_map};
@@ -91,7 +91,7 @@ pub enum Opened {
     Alias,
 }
 
-/// Which command is open at a stage.
+/// The command that is open at a stage.
 pub fn opened_of(stage: Stage) -> Opened
     ensures { result ≡ stages.opened_of stage }
 {
@@ -107,18 +107,18 @@ pub fn opened_of(stage: Stage) -> Opened
     }
 }
 
-/// What a part is to the open command.
+/// How a part fits the open command.
 #[derive(Clone, Copy)]
 pub enum Fit {
-    /// It stands in the command, which is at this stage then.
+    /// It belongs to the command, which is then at this stage.
     Stands(Stage),
-    /// It stands after the command, which is whole.
+    /// It comes after the command, which may end here.
     Ends,
     /// A part of the command is missing before it.
     Misses,
 }
 
-// Where a part stands while a blob is open.
+// How a part fits an open blob.
 fn fit_in_blob(next: BlobNext, part: Part) -> Fit
     ensures fit { stages.fit_of result ≡ fit part (stages.blob_terms next) }
     ensures opened { stages.KeepsOpened opened.Blob part result }
@@ -133,7 +133,7 @@ fn fit_in_blob(next: BlobNext, part: Part) -> Fit
     }
 }
 
-// Where a part stands in a commit up to its message.
+// How a part fits a commit up to its message.
 fn fit_in_commit(next: CommitNext, part: Part) -> Fit
     ensures fit { stages.fit_of result ≡ fit part (stages.commit_terms next) }
     ensures opened { stages.KeepsOpened opened.Commit part result }
@@ -152,7 +152,7 @@ fn fit_in_commit(next: CommitNext, part: Part) -> Fit
     }
 }
 
-// Where a part stands in a commit after its message.
+// How a part fits a commit after its message.
 fn fit_in_changes(next: ChangeNext, part: Part) -> Fit
     ensures fit { stages.fit_of result ≡ fit part (stages.change_terms next) }
     ensures opened { stages.KeepsOpened opened.Changes part result }
@@ -178,7 +178,7 @@ fn fit_in_changes(next: ChangeNext, part: Part) -> Fit
     }
 }
 
-// Where a part stands in the place of a file's data.
+// How a part fits where the data of a file must come.
 fn fit_inline(part: Part) -> Fit
     ensures fit { stages.fit_of result ≡ fit part (stages.terms_of Stage.Inline) }
     ensures opened { stages.KeepsOpened opened.Inline part result }
@@ -189,7 +189,7 @@ fn fit_inline(part: Part) -> Fit
     }
 }
 
-// Where a part stands while a tag is open.
+// How a part fits an open tag.
 fn fit_in_tag(next: TagNext, part: Part) -> Fit
     ensures fit { stages.fit_of result ≡ fit part (stages.tag_terms next) }
     ensures opened { stages.KeepsOpened opened.Tag part result }
@@ -210,7 +210,7 @@ fn fit_in_tag(next: TagNext, part: Part) -> Fit
     }
 }
 
-// Where a part stands while a reset is open.
+// How a part fits an open reset.
 fn fit_in_reset(next: ResetNext, part: Part) -> Fit
     ensures fit { stages.fit_of result ≡ fit part (stages.reset_terms next) }
     ensures opened { stages.KeepsOpened opened.Reset part result }
@@ -222,7 +222,7 @@ fn fit_in_reset(next: ResetNext, part: Part) -> Fit
     }
 }
 
-// Where a part stands while an alias is open.
+// How a part fits an open alias.
 fn fit_in_alias(next: AliasNext, part: Part) -> Fit
     ensures fit { stages.fit_of result ≡ fit part (stages.alias_terms next) }
     ensures opened { stages.KeepsOpened opened.Alias part result }
@@ -234,7 +234,7 @@ fn fit_in_alias(next: AliasNext, part: Part) -> Fit
     }
 }
 
-/// Where a part stands.
+/// How a part fits the open command at a stage.
 pub fn fit_of(stage: Stage, part: Part) -> Fit
     ensures fit { stages.fit_of result ≡ fit part (stages.terms_of stage) }
     ensures opened { stages.KeepsOpened (stages.opened_of stage) part result }
@@ -303,7 +303,7 @@ pub fn may_end_at(stage: Stage) -> bool
     }
 }
 
-/// Whether nothing more may stand in the command at this stage.
+/// Whether no further part may come in the command at this stage.
 pub fn is_whole(stage: Stage) -> bool
     ensures { result ≡ is_empty (stages.terms_of stage) }
 {

@@ -19,7 +19,7 @@ fn space_in(line: &[u8]) -> Option<usize>
     line.iter().position(|byte| *byte == b' ')
 }
 
-/// What stands after the first space of a line; nothing where it has none.
+/// The text after the first space of a line; an empty text if it has no space.
 pub fn argument(line: &[u8]) -> &[u8]
     ensures { result.now ≡ texts.argument line.now }
 {
@@ -29,7 +29,7 @@ pub fn argument(line: &[u8]) -> &[u8]
     }
 }
 
-/// The first word of a line: what stands before its first space, or all of it.
+/// The first word of a line: the text before its first space, or all of it.
 pub fn first_word(line: &[u8]) -> &[u8]
     ensures { result.now ≡ texts.first_word line.now }
 {
@@ -39,7 +39,7 @@ pub fn first_word(line: &[u8]) -> &[u8]
     }
 }
 
-/// What stands after the first space of a line, where it has one.
+/// The text after the first space of a line, if it has one.
 pub fn after_space(line: &[u8]) -> Option<&[u8]>
     ensures { option_copied result ≡ texts.after_space line.now }
 {
@@ -49,7 +49,7 @@ pub fn after_space(line: &[u8]) -> Option<&[u8]>
     }
 }
 
-/// What stands after a colon, where the text begins with one.
+/// The text after a colon, if the text begins with one.
 #[tactic(auto, unfolding(crate::specs::Texts::after_colon))]
 pub fn after_colon(text: &[u8]) -> Option<&[u8]>
     ensures { option_copied result ≡ texts.after_colon text.now }
@@ -60,7 +60,7 @@ pub fn after_colon(text: &[u8]) -> Option<&[u8]>
     }
 }
 
-/// The number of a mark, which is not 0: else `Fault::BadMark` (12).
+/// Reads the number of a mark. `Fault::BadMark` (12) if it is 0 or no number.
 #[tactic(auto, unfolding(crate::specs::Texts::numbered))]
 pub fn idnum_of(text: &[u8]) -> Result<Mark, Fault>
     ensures { result ≡ texts.idnum_of text.now }
@@ -71,8 +71,8 @@ pub fn idnum_of(text: &[u8]) -> Result<Mark, Fault>
     }
 }
 
-/// Reads a mark, a colon and its number: `Fault::Malformed` (3) without the colon,
-/// `Fault::BadMark` (12) for what is no number from 1 to 2^64 - 1 in at most 20 digits.
+/// Reads a mark: a colon and its number. `Fault::Malformed` (3) without the colon, `Fault::BadMark`
+/// (12) if no number from 1 to 2^64 - 1 in at most 20 digits follows it.
 pub fn mark_of(text: &[u8]) -> Result<Mark, Fault>
     ensures { result ≡ texts.mark_of text.now }
 {
@@ -82,8 +82,8 @@ pub fn mark_of(text: &[u8]) -> Result<Mark, Fault>
     }
 }
 
-/// Reads a dataref, a mark or an object name: `Fault::BadMark` (12) for a colon with no such number
-/// after it, `Fault::Malformed` (3) for what has no colon and is not 40 hexadecimal digits.
+/// Reads a dataref: a mark or an object name. `Fault::BadMark` (12) for a colon that no such number
+/// follows, `Fault::Malformed` (3) for a text without a colon that is not 40 hexadecimal digits.
 pub fn dataref_of(text: &[u8]) -> Result<DataRef, Fault>
     ensures { result ≡ texts.dataref_of text.now }
 {

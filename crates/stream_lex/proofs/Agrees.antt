@@ -28,8 +28,8 @@ line_is : (text rest : List ℕ) (kind : LineKind) → IsLine text → kind_of t
 line_is text rest kind is kind_is = line_first text rest is ∙ ap (λ k. whole_line k text (length text + 1) (text ++ 10 ∷ rest)) kind_is
 
 -- what stands after a line
-behind_line : (text rest : List ℕ) → drop (length text + 1) (text ++ 10 ∷ rest) ≡ rest
-behind_line text rest = ap (drop (length text + 1)) (sym (append_assoc text (10 ∷ []) rest)) ∙ drop_at (text ++ 10 ∷ []) rest (length text + 1) (length-append text (10 ∷ []))
+after_line : (text rest : List ℕ) → drop (length text + 1) (text ++ 10 ∷ rest) ≡ rest
+after_line text rest = ap (drop (length text + 1)) (sym (append_assoc text (10 ∷ []) rest)) ∙ drop_at (text ++ 10 ∷ []) rest (length text + 1) (length-append text (10 ∷ []))
 
 -- whole lines hold no delimiter line
 pub before-lines : (delimiter : List ℕ) {lines : List ℕ} → HasNoLineEnd delimiter
@@ -63,15 +63,15 @@ no_line_end_in : (header : List ℕ) → IsLine header → HasNoLineEnd (delimit
 no_line_end_in header is = none_in-drop 7 header is.one_line
 
 -- what stands first where a delimited data's header is there
-header_delimited : (header behind : List ℕ) (o : Option ℕ) → IsLine header
-    → kind_of header ≡ Delimited → before_delimiter (delimiter_of header) true behind ≡ o
-    → first_of (header ++ 10 ∷ behind) ≡ data_before o (delimiter_of header) (length header + 1) (header ++ 10 ∷ behind)
-header_delimited header behind o is kind e =
-    line_is header behind Delimited is kind
-    ∙ ap (λ k. data_before k (delimiter_of header) (length header + 1) (header ++ 10 ∷ behind)) (ap (before_delimiter (delimiter_of header) true) (behind_line header behind) ∙ e)
+header_delimited : (header remaining : List ℕ) (o : Option ℕ) → IsLine header
+    → kind_of header ≡ Delimited → before_delimiter (delimiter_of header) true remaining ≡ o
+    → first_of (header ++ 10 ∷ remaining) ≡ data_before o (delimiter_of header) (length header + 1) (header ++ 10 ∷ remaining)
+header_delimited header remaining o is kind e =
+    line_is header remaining Delimited is kind
+    ∙ ap (λ k. data_before k (delimiter_of header) (length header + 1) (header ++ 10 ∷ remaining)) (ap (before_delimiter (delimiter_of header) true) (after_line header remaining) ∙ e)
 
-long : (header behind : List ℕ) → length (header ++ 10 ∷ behind) ≡ length header + 1 + length behind
-long header behind = length-append header (10 ∷ behind) ∙ omega arith
+long : (header remaining : List ℕ) → length (header ++ 10 ∷ remaining) ≡ length header + 1 + length remaining
+long header remaining = length-append header (10 ∷ remaining) ∙ omega arith
 
 -- a whole data stands first
 pub data_first : {text raw : List ℕ} → IsData text raw → (rest : List ℕ)
@@ -82,20 +82,20 @@ data_first (counted header raw is kind small) rest =
     ap first_of (append_assoc header (10 ∷ raw) rest)
     ∙ line_is header (raw ++ rest) (Counted (length raw)) is kind
     ∙ counted-whole (length raw) n bytes small (omega (arith, long header (raw ++ rest), length-append raw rest))
-    ∙ ap (λ l. Gives (Data (take (length raw) l)) (n + length raw)) (behind_line header (raw ++ rest))
+    ∙ ap (λ l. Gives (Data (take (length raw) l)) (n + length raw)) (after_line header (raw ++ rest))
     ∙ ap (λ l. Gives (Data l) (n + length raw)) (take_at raw rest (length raw) refl)
     ∙ ap (Gives (Data raw)) (sym (long header raw))
 data_first (delimited header raw is kind others small) rest =
     let n = length header + 1 in
     let delimiter = delimiter_of header in
-    let behind = raw ++ (delimiter ++ 10 ∷ rest) in
-    let bytes = header ++ 10 ∷ behind in
+    let remaining = raw ++ (delimiter ++ 10 ∷ rest) in
+    let bytes = header ++ 10 ∷ remaining in
     let line_end = delimiter ++ 10 ∷ [] in
-    let joined : (raw ++ line_end) ++ rest ≡ behind = append_assoc raw line_end rest ∙ ap (λ l. raw ++ l) (append_assoc delimiter (10 ∷ []) rest) in
+    let joined : (raw ++ line_end) ++ rest ≡ remaining = append_assoc raw line_end rest ∙ ap (λ l. raw ++ l) (append_assoc delimiter (10 ∷ []) rest) in
     ap first_of (append_assoc header (10 ∷ (raw ++ line_end)) rest ∙ ap (λ l. header ++ 10 ∷ l) joined)
-    ∙ header_delimited header behind (Some (length raw)) is kind (before-lines_and_delimiter delimiter raw rest (no_line_end_in header is) others)
+    ∙ header_delimited header remaining (Some (length raw)) is kind (before-lines_and_delimiter delimiter raw rest (no_line_end_in header is) others)
     ∙ before-whole (length raw) delimiter n bytes small
-    ∙ ap (λ l. Gives (Data (take (length raw) l)) (n + length raw + length delimiter + 1)) (behind_line header behind)
+    ∙ ap (λ l. Gives (Data (take (length raw) l)) (n + length raw + length delimiter + 1)) (after_line header remaining)
     ∙ ap (λ l. Gives (Data l) (n + length raw + length delimiter + 1)) (take_at raw (delimiter ++ 10 ∷ rest) (length raw) refl)
     ∙ ap (Gives (Data raw)) (omega (arith, long header (raw ++ line_end), length-append raw line_end, length-append delimiter (10 ∷ [])))
 
@@ -130,13 +130,13 @@ read_so (line_too_long text rest none long_text) =
     reading-stops (text ++ rest) false (Failed LineTooLong) (stands-false (text ++ rest)) (first-too_long (text ++ rest) (omega (arith, line_length-append_none text rest none)))
 read_so (comment text rest is kind later) =
     reading-skips (text ++ 10 ∷ rest) false (length text + 1) (stands-false (text ++ 10 ∷ rest)) (line_is text rest Comment is kind)
-    ∙ ap (reading false) (behind_line text rest) ∙ read_so later
+    ∙ ap (reading false) (after_line text rest) ∙ read_so later
 read_so (blank_line rest later) =
     reading-gives (10 ∷ rest) false Blank 1 refl (line_is [] rest Empty (record { one_line = refl; within_limit = omega arith }) kind-nil)
     ∙ ap (before Blank) (read_so later)
 read_so (line text rest is kind later) =
     reading-gives (text ++ 10 ∷ rest) false (Line text) (length text + 1) (stands-false (text ++ 10 ∷ rest)) (line_is text rest Other is kind)
-    ∙ ap (λ l. before (Line text) (reading false l)) (behind_line text rest) ∙ ap (before (Line text)) (read_so later)
+    ∙ ap (λ l. before (Line text) (reading false l)) (after_line text rest) ∙ ap (before (Line text)) (read_so later)
 read_so (bad_header text rest is kind) =
     reading-stops (text ++ 10 ∷ rest) false (Failed BadData) (stands-false (text ++ 10 ∷ rest)) (line_is text rest BadHeader is kind)
 read_so (unfinished_data text is) = reading-stops text false (Rest false text) (stands-false text) (unfinished_first is)

@@ -23,8 +23,8 @@ none_before xs ys none = ⊎_elim
     (λ all. omega (arith, line_length-le xs))
     (cases_lt (line_length xs) (length xs))
 
-pub none_behind : (xs ys : List ℕ) → HasNoLineEnd (xs ++ ys) → HasNoLineEnd ys
-none_behind xs ys none = omega (arith, line_length-append_none xs ys (none_before xs ys none), length-append xs ys)
+pub none_after : (xs ys : List ℕ) → HasNoLineEnd (xs ++ ys) → HasNoLineEnd ys
+none_after xs ys none = omega (arith, line_length-append_none xs ys (none_before xs ys none), length-append xs ys)
 
 pub none_joined : (xs ys : List ℕ) → HasNoLineEnd xs → HasNoLineEnd ys → HasNoLineEnd (xs ++ ys)
 none_joined xs ys none later = omega (arith, line_length-append_none xs ys none, length-append xs ys)
@@ -33,7 +33,7 @@ pub none_in-take : (n : ℕ) (xs : List ℕ) → HasNoLineEnd xs → HasNoLineEn
 none_in-take n xs none = none_before (take n xs) (drop n xs) (rw take-append-drop none)
 
 pub none_in-drop : (n : ℕ) (xs : List ℕ) → HasNoLineEnd xs → HasNoLineEnd (drop n xs)
-none_in-drop n xs none = none_behind (take n xs) (drop n xs) (rw take-append-drop none)
+none_in-drop n xs none = none_after (take n xs) (drop n xs) (rw take-append-drop none)
 
 -- the line before the first line end has none
 pub none_in_line : (xs : List ℕ) → HasNoLineEnd (take (line_length xs) xs)
@@ -149,13 +149,13 @@ before-append_some delimiter at_start (byte ∷ bytes) more k h = by_cases (at_s
     before-here delimiter at_start byte (bytes ++ more) still ∙ sym (before-here delimiter at_start byte bytes here) ∙ h)
     (λ later.
     let p = some_suc (before_delimiter delimiter (is_line_end byte) bytes) k (sym (before-next delimiter at_start byte bytes later) ∙ h) in
-    let behind = before-append_some delimiter (is_line_end byte) bytes more p.0 p.1 in
+    let remaining = before-append_some delimiter (is_line_end byte) bytes more p.0 p.1 in
     by_cases (at_start && begins (byte ∷ bytes ++ more) delimiter)
     (λ here.
     let fits = before-fits delimiter (is_line_end byte) bytes p.0 p.1 in
     let same : (at_start && begins (byte ∷ bytes ++ more) delimiter) ≡ (at_start && begins (byte ∷ bytes) delimiter) = ap (λ b. at_start && b) (begins-append_long (byte ∷ bytes) more delimiter (omega arith)) in
     absurd (false≢true (sym later ∙ sym same ∙ here)))
-    (λ not_here. before-next delimiter at_start byte (bytes ++ more) not_here ∙ ap (option_map suc) behind ∙ ap Some (sym p.2)))
+    (λ not_here. before-next delimiter at_start byte (bytes ++ more) not_here ∙ ap (option_map suc) remaining ∙ ap Some (sym p.2)))
 
 -- one that is found only with more bytes ends among these
 pub before-append_none : (delimiter : List ℕ) (at_start : Bool) (bytes more : List ℕ) (k : ℕ)
@@ -203,7 +203,7 @@ begins-none text delimiter none = by_cases (begins text delimiter)
     (λ here.
     let p = begins-true text delimiter here in
     let ended : HasNoLineEnd (delimiter ++ 10 ∷ p.0) = subst (λ (l : List ℕ). HasNoLineEnd l) p.1 none in
-    let lf : HasNoLineEnd (10 ∷ p.0) = none_behind delimiter (10 ∷ p.0) ended in
+    let lf : HasNoLineEnd (10 ∷ p.0) = none_after delimiter (10 ∷ p.0) ended in
     absurd (omega (arith, lf)))
     (λ no_begin. no_begin)
 

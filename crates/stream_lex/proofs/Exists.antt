@@ -23,14 +23,14 @@ Has bytes = (items : List Item) × (tail : Tail) × Reads bytes items tail
 -- Bytes up to the first delimiter line, if there is one.
 data Parts (delimiter : List ℕ) : List ℕ → Type 0 where
   no_delimiter : (lines text : List ℕ) → OtherLines delimiter lines → HasNoLineEnd text → Parts delimiter (lines ++ text)
-  delimiter_line : (lines behind : List ℕ) → OtherLines delimiter lines → Parts delimiter (lines ++ (delimiter ++ 10 ∷ behind))
+  delimiter_line : (lines remaining : List ℕ) → OtherLines delimiter lines → Parts delimiter (lines ++ (delimiter ++ 10 ∷ remaining))
 
 one_line_more : (delimiter text : List ℕ) {rest : List ℕ} → HasNoLineEnd text → text ≢ delimiter
     → Parts delimiter rest → Parts delimiter (text ++ 10 ∷ rest)
 one_line_more delimiter text none other (no_delimiter lines last others last_none) =
     subst (λ (l : List ℕ). Parts delimiter l) (append_assoc text (10 ∷ lines) last) (no_delimiter (text ++ 10 ∷ lines) last (one_more text lines none other others) last_none)
-one_line_more delimiter text none other (delimiter_line lines behind others) =
-    subst (λ (l : List ℕ). Parts delimiter l) (append_assoc text (10 ∷ lines) (delimiter ++ 10 ∷ behind)) (delimiter_line (text ++ 10 ∷ lines) behind (one_more text lines none other others))
+one_line_more delimiter text none other (delimiter_line lines remaining others) =
+    subst (λ (l : List ℕ). Parts delimiter l) (append_assoc text (10 ∷ lines) (delimiter ++ 10 ∷ remaining)) (delimiter_line (text ++ 10 ∷ lines) remaining (one_more text lines none other others))
 
 parts : (n : ℕ) (delimiter bytes : List ℕ) → length bytes ≤ n → Parts delimiter bytes
 parts zero delimiter bytes short =
@@ -92,18 +92,18 @@ delimited_has header back is kind (no_delimiter lines text others none) enough l
     subst Has (append_assoc header (10 ∷ (lines ++ text)) back)
     ([], Failed Limit, data_too_large (header ++ 10 ∷ (lines ++ text)) back (delimited_too_large header lines text is kind others none full)))
     enough
-delimited_has header back is kind (delimiter_line lines behind others) enough later =
+delimited_has header back is kind (delimiter_line lines remaining others) enough later =
     let delimiter = delimiter_of header in
     let line_end = delimiter ++ 10 ∷ [] in
-    let size : length (lines ++ (delimiter ++ 10 ∷ behind)) ≡ length lines + (length delimiter + suc (length behind)) = length-append lines (delimiter ++ 10 ∷ behind) ∙ ap (λ n. length lines + n) (length-append delimiter (10 ∷ behind)) in
+    let size : length (lines ++ (delimiter ++ 10 ∷ remaining)) ≡ length lines + (length delimiter + suc (length remaining)) = length-append lines (delimiter ++ 10 ∷ remaining) ∙ ap (λ n. length lines + n) (length-append delimiter (10 ∷ remaining)) in
     let small : length lines ≤ largest_data = ⊎_elim (λ short. omega (arith, short.0)) (λ full. omega arith) enough in
     let data_is = delimited header lines is kind others small in
-    let inner : (lines ++ line_end) ++ (behind ++ back) ≡ (lines ++ (delimiter ++ 10 ∷ behind)) ++ back =
-    append_assoc lines line_end (behind ++ back)
-    ∙ ap (λ l. lines ++ l) (append_assoc delimiter (10 ∷ []) (behind ++ back) ∙ sym (append_assoc delimiter (10 ∷ behind) back))
-    ∙ sym (append_assoc lines (delimiter ++ 10 ∷ behind) back) in
-    subst Has (append_assoc header (10 ∷ (lines ++ line_end)) (behind ++ back) ∙ ap (λ l. header ++ 10 ∷ l) inner)
-    (after_data data_is (behind ++ back) (λ l short. later l (omega (arith, length-append behind back, length-append (lines ++ (delimiter ++ 10 ∷ behind)) back))))
+    let inner : (lines ++ line_end) ++ (remaining ++ back) ≡ (lines ++ (delimiter ++ 10 ∷ remaining)) ++ back =
+    append_assoc lines line_end (remaining ++ back)
+    ∙ ap (λ l. lines ++ l) (append_assoc delimiter (10 ∷ []) (remaining ++ back) ∙ sym (append_assoc delimiter (10 ∷ remaining) back))
+    ∙ sym (append_assoc lines (delimiter ++ 10 ∷ remaining) back) in
+    subst Has (append_assoc header (10 ∷ (lines ++ line_end)) (remaining ++ back) ∙ ap (λ l. header ++ 10 ∷ l) inner)
+    (after_data data_is (remaining ++ back) (λ l short. later l (omega (arith, length-append remaining back, length-append (lines ++ (delimiter ++ 10 ∷ remaining)) back))))
 
 -- a data header that names a delimiter
 delimited_line : (header rest : List ℕ) → IsLine header → kind_of header ≡ Delimited

@@ -5,7 +5,7 @@ use Rattle.stream_lex.specs.declared.fault.Fault.{Fault}
 use Rattle.stream_lex.specs.declared.place.Place.{Place}
 use Rattle.stream_lex.specs.declared.place.Place.TheVariants.{Line, Counted, Delimited, Failed as HasFailed}
 use Rattle.stream_lex.specs.declared.cursor.Cursor.{Cursor}
-use Rattle.stream_lex.specs.Items.{Item, Tail, Rest, Failed, behind_items}
+use Rattle.stream_lex.specs.Items.{Item, Tail, Rest, Failed, after_items}
 use Rattle.stream_lex.specs.Reading.{reading}
 use Rattle.stream_lex.specs.Running.{extended, more_of, Leads}
 use Rattle.stream_lex.specs.Looking.{tail_at}
@@ -35,7 +35,7 @@ more_of-extended (Failed fault) piece more = refl
 pub Leads-extended : (bytes piece : List ℕ) (items : List Item) (tail : Tail)
     → Leads bytes items tail → Leads (bytes ++ piece) items (extended tail piece)
 Leads-extended bytes piece items tail leads more =
-    ap (reading false) (append_assoc bytes piece more) ∙ leads (piece ++ more) ∙ ap (behind_items items) (more_of-extended tail piece more)
+    ap (reading false) (append_assoc bytes piece more) ∙ leads (piece ++ more) ∙ ap (after_items items) (more_of-extended tail piece more)
 
 -- a tail that is a fault is the place's
 pub place-failed : (bytes : List ℕ) (place : Place) (fault : Fault)

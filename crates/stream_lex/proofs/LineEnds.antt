@@ -24,17 +24,17 @@ pub finds_some : (bytes : List ℕ) (at : ℕ) → IsFirstByte (is_byte 10) byte
 finds_some bytes at h = prefix_len_is (λ b. not (is_line_end b)) bytes at 0 (omega (arith, h.0.high)) (λ k below. goes_on (is_line_end (get_or bytes k 0)) (h.0.before k (omega arith) below)) (λ below. stops (is_line_end (get_or bytes at 0)) h.1)
 
 -- the same in the bytes after those that were seen
-pub finds_none_behind : (bytes fresh : List ℕ) (seen : ℕ) → fresh ≡ drop seen bytes
+pub finds_none_after : (bytes fresh : List ℕ) (seen : ℕ) → fresh ≡ drop seen bytes
     → IsFirstByte (is_byte 10) fresh None → FindsLineEnd bytes seen None
-finds_none_behind bytes fresh seen e h = rw (← e) (finds_none fresh h)
+finds_none_after bytes fresh seen e h = rw (← e) (finds_none fresh h)
 
-pub finds_some_behind : (bytes fresh : List ℕ) (seen at : ℕ) → fresh ≡ drop seen bytes
+pub finds_some_after : (bytes fresh : List ℕ) (seen at : ℕ) → fresh ≡ drop seen bytes
     → seen ≤ length bytes → IsFirstByte (is_byte 10) fresh (Some at)
     → FindsLineEnd bytes seen (Some (seen + at))
-finds_some_behind bytes fresh seen at e within h =
+finds_some_after bytes fresh seen at e within h =
     let long : length fresh ≡ length bytes - seen = ap length e ∙ length-drop seen bytes in
     record {
-      behind = omega arith;
+      beyond = omega arith;
       inside = omega (arith, h.0.high);
       first = rw (← e) (omega (arith, finds_some fresh at h));
     }

@@ -41,14 +41,14 @@ step header line end bytes lines onwards inside at none other =
     let rest = drop line bytes in
     let long : length rest ≡ length bytes - line = length-drop line bytes in
     let split : rest ≡ text_at bytes line end ++ 10 ∷ drop (end - line + 1) rest = line_split rest (end - line) at (omega arith) in
-    let behind : drop (end - line + 1) rest ≡ drop (end + 1) bytes = drop-drop (end - line + 1) line bytes ∙ ap (λ n. drop n bytes) (omega arith) in
+    let beyond : drop (end - line + 1) rest ≡ drop (end + 1) bytes = drop-drop (end - line + 1) line bytes ∙ ap (λ n. drop n bytes) (omega arith) in
     let size : length (text_at bytes line end) ≡ end - line = length-take-le (end - line) rest (omega arith) in
     let text_none : HasNoLineEnd (text_at bytes line end) = subst (λ (n : ℕ). HasNoLineEnd (take n rest)) at (none_in_line rest) in
     let later = before_delimiter delimiter true (drop (end + 1) bytes) in
     let passed : before_delimiter delimiter true rest ≡ option_map (λ n. length (text_at bytes line end) + 1 + n) later =
     ap (before_delimiter delimiter true) split
     ∙ before-other_line delimiter (text_at bytes line end) (drop (end - line + 1) rest) text_none none other
-    ∙ ap (λ l. option_map (λ n. length (text_at bytes line end) + 1 + n) (before_delimiter delimiter true l)) behind in
+    ∙ ap (λ l. option_map (λ n. length (text_at bytes line end) + 1 + n) (before_delimiter delimiter true l)) beyond in
     ap (λ o. data_before o delimiter header bytes)
     (ap (option_map (λ n. line - header + n)) passed
     ∙ option_map-twice (λ n. line - header + n) (λ n. length (text_at bytes line end) + 1 + n) (λ n. end + 1 - header + n) later (λ n. omega arith))
@@ -96,7 +96,7 @@ pub line_at : (bytes : List ℕ) (seen line end : ℕ) → line ≤ seen → see
 line_at bytes seen line end before within none found =
     let same : drop (seen - line) (drop line bytes) ≡ drop seen bytes = drop-drop (seen - line) line bytes ∙ ap (λ n. drop n bytes) (omega arith) in
     line_length-known (drop line bytes) (seen - line) (omega (arith, length-drop line bytes)) none
-    ∙ ap (λ l. seen - line + line_length l) same ∙ omega (arith, found.first, found.behind)
+    ∙ ap (λ l. seen - line + line_length l) same ∙ omega (arith, found.first, found.beyond)
 
 pub none_at : (bytes : List ℕ) (seen line : ℕ) → line ≤ seen → seen ≤ length bytes
     → HasNoLineEnd (take (seen - line) (drop line bytes)) → HasNoLineEnd (drop seen bytes)
@@ -116,10 +116,10 @@ in_next_line bytes seen header line end within at found other =
     record {
       delimiter = at.delimiter;
       header_line = at.header_line;
-      lines = omega (arith, at.lines, at.seen_on, found.behind);
+      lines = omega (arith, at.lines, at.seen_on, found.beyond);
       seen_on = omega arith;
       line_so_far = subst (λ (n : ℕ). HasNoLineEnd (take n (drop (end + 1) bytes))) (zero_is end) refl;
-      leads = λ more. at.leads more ∙ step_more header line end bytes at.lines (omega (arith, at.seen_on, found.behind)) found.inside line_is at.header_line other more;
+      leads = λ more. at.leads more ∙ step_more header line end bytes at.lines (omega (arith, at.seen_on, found.beyond)) found.inside line_is at.header_line other more;
     }
   where
     zero_is : (end : ℕ) → 0 ≡ end + 1 - (end + 1)
@@ -131,7 +131,7 @@ pub at_delimiter : (bytes : List ℕ) (seen header line end : ℕ) → seen ≤ 
     → text_at bytes line end ≡ delimiter_of (take (header - 1) bytes) → first_of bytes ≡ data_before (Some (line - header)) (delimiter_of (take (header - 1) bytes)) header bytes
 at_delimiter bytes seen header line end within at found same =
     at_once bytes (delimited_from header line) at.leads
-    ∙ delimiter_found header line end bytes (omega (arith, at.seen_on, found.behind)) found.inside (line_at bytes seen line end at.seen_on within at.line_so_far found) same
+    ∙ delimiter_found header line end bytes (omega (arith, at.seen_on, found.beyond)) found.inside (line_at bytes seen line end at.seen_on within at.line_so_far found) same
 
 pub delimiter_length : (bytes : List ℕ) (line end : ℕ) {delimiter : List ℕ} → end < length bytes
     → text_at bytes line end ≡ delimiter → length delimiter ≡ end - line
@@ -176,7 +176,7 @@ next_found bytes place skips (Fails fault) at here e all = rw at (fails bytes sk
 -- where the first line end stands, and none before it
 pub line_from_start : (bytes : List ℕ) (seen end : ℕ) → seen ≤ length bytes
     → HasNoLineEnd (take seen bytes) → IsLineEnd bytes seen end → line_length bytes ≡ end
-line_from_start bytes seen end within none found = line_length-known bytes seen within none ∙ omega (arith, found.first, found.behind)
+line_from_start bytes seen end within none found = line_length-known bytes seen within none ∙ omega (arith, found.first, found.beyond)
 
 pub none_from_start : (bytes : List ℕ) (seen : ℕ) → seen ≤ length bytes
     → HasNoLineEnd (take seen bytes) → HasNoLineEnd (drop seen bytes) → HasNoLineEnd bytes

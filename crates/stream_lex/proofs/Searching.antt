@@ -18,7 +18,7 @@ goes_on bytes first old new None so_far finds over = record {
 }
 goes_on bytes first old new (Some end) so_far finds over = record {
   within = omega (arith, over.seen, finds.inside);
-  onwards = omega (arith, over.seen, so_far.onwards, finds.behind);
+  onwards = omega (arith, over.seen, so_far.onwards, finds.beyond);
   counted = omega (arith, over.onwards, so_far.counted);
-  once = omega (arith, over.seen, over.searched, so_far.once, so_far.onwards, finds.behind);
+  once = omega (arith, over.seen, over.searched, so_far.once, so_far.onwards, finds.beyond);
 }

@@ -2,9 +2,9 @@
 use Rattle.std.proofs.Common.{◌≡◌, ◌≢◌, ℕ, zero, suc, ◌-◌, ◌<◌, ◌≤◌, Bool, true, false, ◌&&◌, List, [], ◌∷◌, ◌++◌, length, drop, arith, refl, sym, ap, ◌∙◌, subst, eq-eqb, ne_eqb, get_or}
 use Rattle.std.proofs.lemmas.List.{drop-append-le, append-nil}
 use Rattle.stream_lex.specs.declared.fault.Fault.{Fault}
-use Rattle.stream_lex.specs.Items.{Item, Tail, Rest, Failed, before, behind_items}
+use Rattle.stream_lex.specs.Items.{Item, Tail, Rest, Failed, before, after_items}
 use Rattle.stream_lex.specs.Headers.{is_line_end}
-use Rattle.stream_lex.specs.Reading.{First, Stops, Skips, Gives, is_data, first_of, behind, walk, reading}
+use Rattle.stream_lex.specs.Reading.{First, Stops, Skips, Gives, is_data, first_of, continued, walk, reading}
 use Rattle.stream_lex.specs.Running.{more_of, Takes, ReadsAlike, HasNoItem}
 use Rattle.stream_lex.proofs.Cases.{by_cases}
 use Rattle.stream_lex.proofs.Firsts.{first-unfinished}
@@ -15,7 +15,7 @@ abbrev pub StandsFirst : Bool → List ℕ → Type 0
 StandsFirst skips [] = skips ≡ false
 StandsFirst skips (byte ∷ bytes) = (skips && is_line_end byte) ≡ false
 
-pub first-here : (byte : ℕ) (bytes : List ℕ) (skips : Bool) → (skips && is_line_end byte) ≡ false → walk (byte ∷ bytes) 0 skips ≡ behind (first_of (byte ∷ bytes)) (λ n data_next. walk bytes n data_next)
+pub first-here : (byte : ℕ) (bytes : List ℕ) (skips : Bool) → (skips && is_line_end byte) ≡ false → walk (byte ∷ bytes) 0 skips ≡ continued (first_of (byte ∷ bytes)) (λ n data_next. walk bytes n data_next)
 unfolding walk
 first-here byte bytes skips h = rw h refl
 
@@ -56,7 +56,7 @@ reading-gives [] skips item n here e =
 reading-gives (byte ∷ bytes) skips item n here e =
     let fits : Fits (byte ∷ bytes) (Gives item n) = subst (Fits (byte ∷ bytes)) e (first-fits (byte ∷ bytes)) in
     first-here byte bytes skips here
-    ∙ ap (λ first. behind first (λ n data_next. walk bytes n data_next)) e
+    ∙ ap (λ first. continued first (λ n data_next. walk bytes n data_next)) e
     ∙ ap (before item) (walk-drop_one byte bytes n (is_data item) fits.0 fits.1)
 
 pub reading-skips : (bytes : List ℕ) (skips : Bool) (n : ℕ) → StandsFirst skips bytes
@@ -67,7 +67,7 @@ reading-skips [] skips n here e =
 reading-skips (byte ∷ bytes) skips n here e =
     let fits : Fits (byte ∷ bytes) (Skips n) = subst (Fits (byte ∷ bytes)) e (first-fits (byte ∷ bytes)) in
     first-here byte bytes skips here
-    ∙ ap (λ first. behind first (λ n data_next. walk bytes n data_next)) e
+    ∙ ap (λ first. continued first (λ n data_next. walk bytes n data_next)) e
     ∙ walk-drop_one byte bytes n false fits.0 fits.1
 
 pub reading-stops : (bytes : List ℕ) (skips : Bool) (tail : Tail) → StandsFirst skips bytes
@@ -77,7 +77,7 @@ reading-stops [] skips tail here e =
     let tail_is : tail ≡ Rest false [] = cc in
     walk-nil 0 skips ∙ ap (λ wish. record { items = []; tail = Rest wish [] }) here ∙ ap (λ t. record { items = []; tail = t }) (sym tail_is)
 reading-stops (byte ∷ bytes) skips tail here e =
-    first-here byte bytes skips here ∙ ap (λ first. behind first (λ n data_next. walk bytes n data_next)) e
+    first-here byte bytes skips here ∙ ap (λ first. continued first (λ n data_next. walk bytes n data_next)) e
 
 -- a line end is skipped in no other place
 pub reading-alike : (bytes : List ℕ) (skips : Bool) → StandsFirst skips bytes
@@ -97,55 +97,55 @@ stands-append (byte ∷ bytes) more skips here = here
 
 -- the step of that law at a line's beginning
 append-first : (byte : ℕ) (bytes more : List ℕ) (skips : Bool) → (skips && is_line_end byte) ≡ false
-    → ((m : ℕ) (data_next : Bool) → m ≤ length bytes → walk (bytes ++ more) m data_next ≡ behind_items (walk bytes m data_next).items (more_of (walk bytes m data_next).tail more))
+    → ((m : ℕ) (data_next : Bool) → m ≤ length bytes → walk (bytes ++ more) m data_next ≡ after_items (walk bytes m data_next).items (more_of (walk bytes m data_next).tail more))
     → (first : First) → first_of (byte ∷ bytes) ≡ first
-    → walk (byte ∷ bytes ++ more) 0 skips ≡ behind_items (walk (byte ∷ bytes) 0 skips).items (more_of (walk (byte ∷ bytes) 0 skips).tail more)
+    → walk (byte ∷ bytes ++ more) 0 skips ≡ after_items (walk (byte ∷ bytes) 0 skips).items (more_of (walk (byte ∷ bytes) 0 skips).tail more)
 append-first byte bytes more skips here later (Stops (Rest wish rest)) e =
     let fits : Fits (byte ∷ bytes) (Stops (Rest wish rest)) = subst (Fits (byte ∷ bytes)) e (first-fits (byte ∷ bytes)) in
     let now = reading-stops (byte ∷ bytes) skips (Rest wish rest) here e in
     reading-alike (byte ∷ bytes ++ more) skips here
     ∙ ap (λ b. reading b (byte ∷ bytes ++ more)) (sym fits.0)
     ∙ ap (λ l. reading wish (l ++ more)) (sym fits.1)
-    ∙ ap (λ r. behind_items r.items (more_of r.tail more)) (sym now)
+    ∙ ap (λ r. after_items r.items (more_of r.tail more)) (sym now)
 append-first byte bytes more skips here later (Stops (Failed fault)) e =
     let settled : IsSettled (first_of (byte ∷ bytes)) = subst IsSettled (sym e) tt in
     reading-stops (byte ∷ bytes ++ more) skips (Failed fault) here (first-settled (byte ∷ bytes) more settled ∙ e)
-    ∙ ap (λ r. behind_items r.items (more_of r.tail more)) (sym (reading-stops (byte ∷ bytes) skips (Failed fault) here e))
+    ∙ ap (λ r. after_items r.items (more_of r.tail more)) (sym (reading-stops (byte ∷ bytes) skips (Failed fault) here e))
 append-first byte bytes more skips here later (Skips n) e =
     let settled : IsSettled (first_of (byte ∷ bytes)) = subst IsSettled (sym e) tt in
     let fits : Fits (byte ∷ bytes) (Skips n) = subst (Fits (byte ∷ bytes)) e (first-fits (byte ∷ bytes)) in
     let inside : n - 1 ≤ length bytes = omega arith in
     first-here byte (bytes ++ more) skips here
-    ∙ ap (λ first. behind first (λ n data_next. walk (bytes ++ more) n data_next)) (first-settled (byte ∷ bytes) more settled ∙ e)
+    ∙ ap (λ first. continued first (λ n data_next. walk (bytes ++ more) n data_next)) (first-settled (byte ∷ bytes) more settled ∙ e)
     ∙ later (n - 1) false inside
-    ∙ ap (λ r. behind_items r.items (more_of r.tail more))
-    (sym (first-here byte bytes skips here ∙ ap (λ first. behind first (λ n data_next. walk bytes n data_next)) e))
+    ∙ ap (λ r. after_items r.items (more_of r.tail more))
+    (sym (first-here byte bytes skips here ∙ ap (λ first. continued first (λ n data_next. walk bytes n data_next)) e))
 append-first byte bytes more skips here later (Gives item n) e =
     let settled : IsSettled (first_of (byte ∷ bytes)) = subst IsSettled (sym e) tt in
     let fits : Fits (byte ∷ bytes) (Gives item n) = subst (Fits (byte ∷ bytes)) e (first-fits (byte ∷ bytes)) in
     let inside : n - 1 ≤ length bytes = omega arith in
     first-here byte (bytes ++ more) skips here
-    ∙ ap (λ first. behind first (λ n data_next. walk (bytes ++ more) n data_next)) (first-settled (byte ∷ bytes) more settled ∙ e)
+    ∙ ap (λ first. continued first (λ n data_next. walk (bytes ++ more) n data_next)) (first-settled (byte ∷ bytes) more settled ∙ e)
     ∙ ap (before item) (later (n - 1) (is_data item) inside)
-    ∙ ap (λ r. behind_items r.items (more_of r.tail more))
-    (sym (first-here byte bytes skips here ∙ ap (λ first. behind first (λ n data_next. walk bytes n data_next)) e))
+    ∙ ap (λ r. after_items r.items (more_of r.tail more))
+    (sym (first-here byte bytes skips here ∙ ap (λ first. continued first (λ n data_next. walk bytes n data_next)) e))
 
 -- the law of prefixes: with more bytes the same items come first, and it goes on from the tail
 pub walk-append : (bytes more : List ℕ) (n : ℕ) (skips : Bool) → n ≤ length bytes
-    → walk (bytes ++ more) n skips ≡ behind_items (walk bytes n skips).items (more_of (walk bytes n skips).tail more)
-walk-append [] more zero skips within = ap (λ r. behind_items r.items (more_of r.tail more)) (sym (walk-nil 0 skips))
+    → walk (bytes ++ more) n skips ≡ after_items (walk bytes n skips).items (more_of (walk bytes n skips).tail more)
+walk-append [] more zero skips within = ap (λ r. after_items r.items (more_of r.tail more)) (sym (walk-nil 0 skips))
 walk-append [] more (suc n) skips within = absurd (omega arith)
 walk-append (byte ∷ bytes) more (suc n) skips within =
     walk-suc byte (bytes ++ more) n skips ∙ walk-append bytes more n skips (omega arith)
-    ∙ ap (λ r. behind_items r.items (more_of r.tail more)) (sym (walk-suc byte bytes n skips))
+    ∙ ap (λ r. after_items r.items (more_of r.tail more)) (sym (walk-suc byte bytes n skips))
 walk-append (byte ∷ bytes) more zero skips within = by_cases (skips && is_line_end byte)
     (λ skip.
     walk-skip_one byte (bytes ++ more) skips skip ∙ walk-append bytes more 0 false (omega arith)
-    ∙ ap (λ r. behind_items r.items (more_of r.tail more)) (sym (walk-skip_one byte bytes skips skip)))
+    ∙ ap (λ r. after_items r.items (more_of r.tail more)) (sym (walk-skip_one byte bytes skips skip)))
     (λ here. append-first byte bytes more skips here (λ m data_next inside. walk-append bytes more m data_next inside) (first_of (byte ∷ bytes)) refl)
 
 -- the same of a whole reading
-pub reading-append : (bytes more : List ℕ) (skips : Bool) → reading skips (bytes ++ more) ≡ behind_items (reading skips bytes).items (more_of (reading skips bytes).tail more)
+pub reading-append : (bytes more : List ℕ) (skips : Bool) → reading skips (bytes ++ more) ≡ after_items (reading skips bytes).items (more_of (reading skips bytes).tail more)
 reading-append bytes more skips = walk-append bytes more 0 skips (omega arith)
 
 -- what is settled comes first, whatever bytes come
@@ -207,6 +207,6 @@ pub faults-stay : (bytes more : List ℕ) (fault : Fault) → (reading false byt
     → reading false (bytes ++ more) ≡ reading false bytes
 faults-stay bytes more fault failed =
     reading-append bytes more false
-    ∙ ap (λ tail. behind_items (reading false bytes).items (more_of tail more)) failed
+    ∙ ap (λ tail. after_items (reading false bytes).items (more_of tail more)) failed
     ∙ ap (λ items. record { items = items; tail = Failed fault }) (append-nil (reading false bytes).items)
     ∙ ap (λ tail. record { items = (reading false bytes).items; tail = tail }) (sym failed)

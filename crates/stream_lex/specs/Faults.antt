@@ -1,9 +1,9 @@
--- Faults: the number of each refusal, for replies and exit statuses.
+-- The numbers of the faults, for replies and exit statuses.
 use Rattle.std.specs.Prelude.{ℕ}
 use Rattle.stream_lex.specs.declared.fault.Fault.{Fault}
 use Rattle.stream_lex.specs.declared.fault.Fault.TheVariants.{LineTooLong, BadData, CutOff, Limit, Memory}
 
--- the number of a fault
+-- The number of a fault.
 abbrev pub code_of : Fault → ℕ
 code_of LineTooLong = 1
 code_of BadData = 4

@@ -5,7 +5,7 @@ use Rattle.numerals.specs.Numbers.{number_of}
 use Rattle.stream_lex.specs.declared.header.LineKind.{LineKind}
 use Rattle.stream_lex.specs.declared.header.LineKind.TheVariants.{Empty, Comment, Counted, Delimited, BadHeader, Other}
 
--- A line has at most 1,048,575 bytes, its line end not counted.
+-- A line has at most 1,048,575 bytes, without its line end.
 abbrev pub longest_line : ℕ
 longest_line = 1048575
 
@@ -17,7 +17,7 @@ largest_data = 67108864
 abbrev pub is_line_end : ℕ → Bool
 is_line_end byte = byte == 10
 
--- How many bytes stand before the first line end, or how many there are where none comes.
+-- How many bytes come before the first line end; the number of all bytes if there is none.
 abbrev pub line_length : List ℕ → ℕ
 line_length bytes = position_or_len is_line_end bytes
 
@@ -25,24 +25,25 @@ line_length bytes = position_or_len is_line_end bytes
 abbrev pub HasNoLineEnd : List ℕ → Type 0
 HasNoLineEnd text = line_length text ≡ length text
 
--- The text of a line: it has no line end and is no longer than a line may be.
+-- The text of a line: it has no line end and at most 1,048,575 bytes.
 pub record IsLine (text : List ℕ) : Type 0 where
   pub one_line : HasNoLineEnd text
   pub within_limit : length text ≤ longest_line
 
--- A data header by its count, which is below 2^64; zeros may lead. A bad count is no header.
+-- A data header by its count, which is below 2^64 and may have leading zeros. A bad count is no
+-- header.
 abbrev pub counted_kind : Option ℕ → LineKind
 counted_kind None = BadHeader
 counted_kind (Some size) = Counted size
 
--- A data header by what stands after `data SP`: `<<` and a delimiter, not empty, or a count.
+-- A data header by the text after `data SP`: a count, or `<<` and a delimiter that is not empty.
 unfoldable pub header_kind : List ℕ → LineKind
 header_kind argument =
     if starts_with nat_eq argument (codes "<<")
     then (if length argument == 2 then BadHeader else Delimited)
     else counted_kind (number_of argument)
 
--- What a line is, by how it begins.
+-- The kind of a line, by how it begins.
 unfoldable pub kind_of : List ℕ → LineKind
 kind_of text =
     if length text == 0 then Empty
@@ -50,6 +51,6 @@ kind_of text =
     else if starts_with nat_eq text (codes "data ") then header_kind (drop 5 text)
     else Other
 
--- The delimiter that a header names: what stands after `data SP <<`.
+-- The delimiter that a header names: the text after `data SP <<`.
 abbrev pub delimiter_of : List ℕ → List ℕ
 delimiter_of header = drop 7 header

@@ -8,13 +8,13 @@ pub data Item : Type 0 where
   Data : List ℕ → Item
   Blank : Item
 
--- What stands after the last item: bytes that are no whole item yet, with whether a line end that
--- comes first is still to be skipped, for it would stand directly after a data; or a fault.
+-- What is left after the last item: bytes that are no whole item yet, or a fault. The flag says
+-- whether a line end that comes first is skipped, because it directly follows a data.
 pub data Tail : Type 0 where
   Rest : Bool → List ℕ → Tail
   Failed : Fault → Tail
 
--- How bytes are read: the items in order, and what stands after them.
+-- A reading of bytes: the items in order, and what is left after them.
 pub record Reading : Type 0 where
   pub items : List Item
   pub tail : Tail
@@ -24,5 +24,5 @@ abbrev pub before : Item → Reading → Reading
 before item later = record { items = item ∷ later.items; tail = later.tail }
 
 -- A reading with more items before it.
-abbrev pub behind_items : List Item → Reading → Reading
-behind_items items later = record { items = items ++ later.items; tail = later.tail }
+abbrev pub after_items : List Item → Reading → Reading
+after_items items later = record { items = items ++ later.items; tail = later.tail }

@@ -5,14 +5,15 @@ use Rattle.stream_lex.specs.declared.header.LineKind.TheVariants.{Comment, Count
 use Rattle.stream_lex.specs.Items.{Item, Line, Data, Blank, Tail, Rest, Failed}
 use Rattle.stream_lex.specs.Headers.{longest_line, largest_data, HasNoLineEnd, IsLine, kind_of, delimiter_of}
 
--- Whole lines, each with its line end, none of which is the delimiter.
+-- The text is whole lines, each with its line end, and none of them is the delimiter.
 pub data OtherLines (delimiter : List ℕ) : List ℕ → Type 0 where
   no_lines : OtherLines delimiter []
   one_more : (text lines : List ℕ)
       → HasNoLineEnd text → text ≢ delimiter → OtherLines delimiter lines
       → OtherLines delimiter (text ++ 10 ∷ lines)
 
--- The text is one whole data, its header and a delimiter line included, and gives these raw bytes.
+-- The text is one whole data with its header, and its delimiter line if it has one, and gives these
+-- raw bytes.
 pub data IsData : List ℕ → List ℕ → Type 0 where
   counted : (header raw : List ℕ)
       → IsLine header → kind_of header ≡ Counted (length raw) → length raw ≤ largest_data
@@ -22,7 +23,7 @@ pub data IsData : List ℕ → List ℕ → Type 0 where
       → length raw ≤ largest_data
       → IsData (header ++ 10 ∷ (raw ++ (delimiter_of header ++ 10 ∷ []))) raw
 
--- The text is the beginning of one data, which is not yet whole.
+-- The text is the beginning of one data that is not whole yet.
 pub data IsUnfinishedData : List ℕ → Type 0 where
   counted_so_far : (header raw : List ℕ) (size : ℕ)
       → IsLine header → kind_of header ≡ Counted size → size ≤ largest_data → length raw < size
@@ -33,8 +34,8 @@ pub data IsUnfinishedData : List ℕ → Type 0 where
       → length (lines ++ text) < largest_data + length (delimiter_of header) + 1
       → IsUnfinishedData (header ++ 10 ∷ (lines ++ text))
 
--- The text is the beginning of one data that is too large: its count says so, or after its header
--- stand so many bytes with no delimiter line that the raw bytes can only be too many.
+-- The text is the beginning of one data that is too large: its count says so, or its header is
+-- followed by so many bytes without a delimiter line that the raw bytes must be too many.
 pub data IsTooLargeData : List ℕ → Type 0 where
   counted_too_large : (header : List ℕ) (size : ℕ)
       → IsLine header → kind_of header ≡ Counted size → largest_data < size
@@ -45,7 +46,7 @@ pub data IsTooLargeData : List ℕ → Type 0 where
       → length (lines ++ text) ≡ largest_data + length (delimiter_of header) + 1
       → IsTooLargeData (header ++ 10 ∷ (lines ++ text))
 
--- The bytes of a stream so far, from a line's beginning on, give these items and leave this tail.
+-- The bytes of a stream so far, from the beginning of a line on, give these items and this tail.
 pub data Reads : List ℕ → List Item → Tail → Type 0 where
   nothing_left : Reads [] [] (Rest false [])
   unfinished_line : (text : List ℕ) → IsLine text → text ≢ [] → Reads text [] (Rest false text)

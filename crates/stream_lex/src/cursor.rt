@@ -13,22 +13,22 @@ use crate::look::{Found, look};
 use crate::place::Place;
 use crate::search::Search;
 
-/// A buffer of more bytes than this is given back once little of it is used.
+/// A larger buffer shrinks, though not below this size, once less than a quarter of it is used.
 const LARGE_BUFFER: usize = 1_048_576;
 
 /// Where a lexer stands in its buffer.
 #[derive(Clone, Copy)]
 pub struct Cursor {
-    /// The items of so many bytes were given.
+    /// How many bytes of the buffer were taken: their items were given.
     pub taken: usize,
-    /// What is known of the bytes after those.
+    /// What is known about the bytes after them.
     pub place: Place,
-    /// How far the search for a line end has gone in the bytes after those that were taken.
+    /// How far the search for a line end has come in the bytes after those that were taken.
     pub search: Search,
 }
 
 impl Cursor {
-    /// Goes on after an item or a comment of `len` bytes.
+    /// Moves past an item or a comment of `len` bytes.
     fn pass(&mut self, len: usize, after_data: bool)
         requires { self.old.taken + len < 2 ^ 64 }
         ensures taken { self.new.taken ≡ self.old.taken + len }
@@ -42,7 +42,7 @@ impl Cursor {
     }
 }
 
-/// The first item after the cursor, which goes on after it.
+/// Answers the first item after the cursor, if a whole one is there, and moves past it.
 pub fn next_item<'a>(bytes: &'a [u8], cursor: &mut Cursor) -> Result<Option<Item<'a>>, Fault>
     requires { IsAt bytes.now cursor.old }
     ensures at { IsAt bytes.now cursor.new }
@@ -80,8 +80,8 @@ fn is_data(item: &Item) -> bool
     }
 }
 
-/// Gives up the bytes that were taken where no more bytes stay than that, and a large buffer of
-/// which little is used. Room for `more` further bytes may stay.
+/// Drops the bytes that were taken once they are half of the buffer or more, and shrinks a large
+/// buffer of which little is used. Shrinking leaves room for `more` further bytes.
 pub fn give_up_taken(buffer: &mut Vec<u8>, cursor: &mut Cursor, more: usize)
     requires { cursor.old.taken ≤ length buffer.old.items }
     ensures rest { rest_of buffer.new.items cursor.new ≡ rest_of buffer.old.items cursor.old }

@@ -1,20 +1,20 @@
-//! What a line is, by how it begins: git-fast-import(1), "data".
+//! The kinds of lines, by how they begin: git-fast-import(1), "data".
 
 ghost use Rattle.std.specs.Prelude.{◌≡◌};
 ghost use Rattle.stream_lex.specs.Headers.{header_kind, kind_of};
 
 use numerals::read_number;
 
-/// What a line is, by how it begins. A line that begins with `data SP` is a data header.
+/// The kind of a line, by how it begins. A line that begins with `data SP` is a data header.
 #[derive(Clone, Copy)]
 pub enum LineKind {
     /// An empty line.
     Empty,
     /// A line that begins with `#`.
     Comment,
-    /// The header of a data of so many bytes.
+    /// The header of a data with this many bytes.
     Counted(u64),
-    /// The header of a data that ends at a delimiter line, which is not empty.
+    /// The header of a data that ends at a delimiter line. The delimiter is not empty.
     Delimited,
     /// A data header with a bad count or an empty delimiter.
     BadHeader,
@@ -22,7 +22,7 @@ pub enum LineKind {
     Other,
 }
 
-/// What the line `text` is, its line end left out.
+/// The kind of the line `text`, given without its line end.
 #[tactic(auto, unfolding(crate::specs::Headers::kind_of))]
 pub fn kind(text: &[u8]) -> LineKind
     ensures { result ≡ kind_of text.now }
@@ -38,7 +38,7 @@ pub fn kind(text: &[u8]) -> LineKind
     }
 }
 
-/// What a data header is, by what stands after `data SP`.
+/// The kind of a data header, by the text after `data SP`.
 #[tactic(auto, unfolding(crate::specs::Headers::header_kind))]
 fn data_kind(argument: &[u8]) -> LineKind
     ensures { result ≡ header_kind argument.now }

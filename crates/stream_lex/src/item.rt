@@ -1,6 +1,7 @@
-//! What a stream gives, lent from the lexer's buffer.
+//! The items of a stream, borrowed from the lexer's buffer.
 
-/// One item of a stream. Its bytes are lent by the lexer, up to the lexer's next call.
+/// One item of a stream: git-fast-import(1), "Input Format". It borrows its bytes from the lexer
+/// until the lexer's next call.
 #[derive(Clone, Copy, Debug, PartialEq, Eq)]
 pub enum Item<'a> {
     /// A line that is neither empty, a comment nor a data header, without its line end.

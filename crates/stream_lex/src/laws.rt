@@ -4,26 +4,27 @@
 
 ghost use Rattle.std.specs.Prelude.{◌≡◌, ℕ, false, List, ◌++◌};
 ghost use Rattle.stream_lex.specs.declared.fault.Fault.{Fault};
-ghost use Rattle.stream_lex.specs.Items.{Item, Tail, Failed, behind_items};
+ghost use Rattle.stream_lex.specs.Items.{Item, Tail, Failed, after_items};
 ghost use Rattle.stream_lex.specs.Reading.{reading};
 ghost use Rattle.stream_lex.specs.Reads.{Reads};
 ghost use Rattle.stream_lex.specs.Running.{more_of};
 
-/// Bytes have at most one reading, and it is the one that the plain program gives.
+/// Bytes have at most one reading, and it is the one that `reading` computes.
 pub fn readings_agree()
     ensures { (bytes : List ℕ) (items : List Item) (tail : Tail) → Reads bytes items tail
         → reading false bytes ≡ record { items = items; tail = tail } }
 {}
 
-/// All bytes have a reading.
+/// Every sequence of bytes has a reading.
 pub fn readings_exist()
     ensures { (bytes : List ℕ) → (items : List Item) × (tail : Tail) × Reads bytes items tail }
 {}
 
-/// The items of a prefix are a prefix of the items: it goes on from the tail of the prefix.
+/// The items of a prefix are a prefix of the items: the bytes after the prefix are read from the
+/// tail that the prefix leaves.
 pub fn prefixes_agree()
     ensures { (bytes more : List ℕ) → reading false (bytes ++ more)
-        ≡ behind_items (reading false bytes).items (more_of (reading false bytes).tail more) }
+        ≡ after_items (reading false bytes).items (more_of (reading false bytes).tail more) }
 {}
 
 /// After a fault no byte changes the reading.

@@ -1,4 +1,4 @@
-//! A lexer: what is fed, and how far it was read.
+//! The lexer: the bytes that were fed, and how far they were read.
 
 ghost use Rattle.std.specs.Prelude.{◌≡◌, ◌+◌, ◌≤◌, ℕ, List, ◌++◌, length, Ok, Err, OnOk, OnErr, IfErr, ◌⊎◌};
 ghost use Rattle.std.specs.Borrow.{sem};
@@ -15,7 +15,8 @@ use crate::search::Search;
 use std::alloc::Global;
 use std::marker::Model;
 
-/// Reads the items of a stream from its pieces, however it is cut.
+/// Reads the items of a stream that comes in pieces, wherever it is cut: git-fast-import(1), "Input
+/// Format".
 #[derive(Drop)]
 pub struct Lexer {
     buffer: Vec<u8>,
@@ -56,11 +57,11 @@ impl Lexer {
         }
     }
 
-    /// Takes the next piece of the stream, which may be cut anywhere. The items that it completes
-    /// are then given by `next`.
+    /// Takes the next piece of the stream, which may be cut at any byte. `next` then gives the
+    /// items that the piece completes.
     ///
-    /// A lexer that has failed answers its fault again. `Fault::Memory` (90) where the buffer could
-    /// not grow; the lexer is then unchanged.
+    /// `Fault::Memory` (90) if the buffer cannot grow. A lexer that has failed answers its fault
+    /// again. The lexer is unchanged after either.
     pub fn feed(&mut self, piece: &[u8]) -> Result<(), Fault>
         ensures ok { OnOk result (self.new.tail ≡ extended self.old.tail piece.now) }
         ensures leads { OnOk result ((bytes : List ℕ) (items : List ItemRead)
@@ -81,20 +82,21 @@ impl Lexer {
         Ok(())
     }
 
-    /// The next item, if the bytes so far hold a whole one. It is lent from what was fed, and can
-    /// be used up to the next call. Takes no memory.
+    /// The next item, or `None` if the bytes so far hold no whole one. The item borrows from the
+    /// buffer and can be used until the next call. Takes no memory.
     ///
-    /// `Fault::LineTooLong` (1), `Fault::BadData` (4) or `Fault::Limit` (25) where the stream
-    /// cannot be read on; from then on each call answers that fault.
+    /// `Fault::LineTooLong` (1) if a line has more than 1,048,575 bytes, `Fault::BadData` (4) if a
+    /// data header has a bad count or an empty delimiter, `Fault::Limit` (25) if a data has more
+    /// than 67,108,864 bytes. From then on `feed`, `next` and `end` answer that fault.
     pub fn next(&mut self) -> Result<Option<Item<'_>>, Fault>
         ensures* after { sem 𝓛 (RestsTaken self.entry result) }
     {
         next_item(&self.buffer, &mut self.cursor)
     }
 
-    /// Whether the stream may end here, where `next` has given all items. Takes no memory.
+    /// Whether the stream may end here. Call it after `next` has answered `None`. Takes no memory.
     ///
-    /// `Fault::CutOff` (6) where a rest is left: an unfinished line, comment or data, or items that
+    /// `Fault::CutOff` (6) if bytes are left: an unfinished line, comment or data, or items that
     /// were not taken. A lexer that has failed answers its fault again.
     pub fn end(&self) -> Result<(), Fault>
         ensures { result ≡ ended self.now.tail }
@@ -106,7 +108,7 @@ impl Lexer {
         }
     }
 
-    /// How many bytes are held of which no item was given yet; 0 after a fault. Takes no memory.
+    /// How many bytes are held whose item was not given yet; 0 after a fault. Takes no memory.
     pub fn held(&self) -> usize
         ensures { result ≡ held_bytes self.now.tail }
     {
@@ -116,7 +118,8 @@ impl Lexer {
         }
     }
 
-    /// How many bytes the searches for line ends went over so far. Takes no memory.
+    /// How many bytes the searches for line ends have scanned so far, never more than `fed`. Takes
+    /// no memory.
     pub fn searched(&self) -> u64
         ensures value { result ≡ self.now.searched }
         ensures bound { result ≤ self.now.fed }
@@ -124,7 +127,7 @@ impl Lexer {
         self.cursor.search.searched
     }
 
-    /// How many bytes were fed so far. Takes no memory.
+    /// How many bytes were fed so far; it stays at 2^64 - 1. Takes no memory.
     pub fn fed(&self) -> u64
         ensures { result ≡ self.now.fed }
     {

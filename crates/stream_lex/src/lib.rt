@@ -1,7 +1,8 @@
-//! The items of a git-fast-import(1) stream: lines, data and blank lines, however it is cut.
+//! The items of a git-fast-import(1) stream: lines, data and blank lines. The stream may be cut at
+//! any byte.
 //!
-//! The lexer knows no command. It keeps the bytes of which no item was given yet, once, and lends
-//! each item from them; what an item means is the business of the crates above.
+//! The lexer knows no command. It keeps one copy of the bytes whose item was not given yet, and
+//! each item borrows from it. The crates above decide what an item means.
 //!
 //! ```rust
 //! let mut lexer = Lexer::new(alloc);

@@ -1,4 +1,4 @@
-//! What stands first in bytes of which no item was given yet.
+//! What comes first in the bytes whose item was not given yet.
 
 ghost use Rattle.std.specs.Prelude.{◌≡◌, ◌+◌, ◌-◌, ◌<◌, ◌≤◌, ℕ, List, Some, length, take};
 ghost use Rattle.stream_lex.specs.Headers.{HasNoLineEnd, line_length, longest_line};
@@ -12,25 +12,25 @@ use crate::item::Item;
 use crate::place::Place;
 use crate::search::Search;
 
-/// A line has at most so many bytes, its line end not counted.
+/// The most bytes that a line may have, without its line end.
 const LONGEST_LINE: usize = 1_048_575;
 
-/// One data has at most so many bytes.
+/// The most bytes that one data may have.
 const LARGEST_DATA: usize = 67_108_864;
 
-/// What stands first in some bytes.
+/// What comes first in some bytes.
 pub enum Found<'a> {
-    /// No whole item: more bytes have to come, to be looked at from this place.
+    /// No whole item: more bytes have to come. The next look starts from this place.
     Waits(Place),
-    /// So many bytes that give no item.
+    /// This many bytes that give no item.
     Skips(usize),
-    /// An item, of so many bytes in the stream.
+    /// An item, and how many bytes of the stream it takes up.
     Gives(Item<'a>, usize),
-    /// Nothing that can be read on.
+    /// Bytes that cannot be read.
     Fails(Fault),
 }
 
-/// What stands first in `bytes`, from a place on.
+/// What comes first in `bytes`, looked at from a place.
 pub fn look<'a>(bytes: &'a [u8], place: Place, search: &mut Search) -> Found<'a>
     requires seen { search.old.seen ≤ length bytes.now }
     requires placed { IsPlaced bytes.now search.old.seen place }
@@ -51,7 +51,7 @@ pub fn look<'a>(bytes: &'a [u8], place: Place, search: &mut Search) -> Found<'a>
     }
 }
 
-/// What stands first in `bytes`, at a line's beginning.
+/// What comes first in `bytes`, which begin with a line.
 fn line<'a>(bytes: &'a [u8], search: &mut Search) -> Found<'a>
     requires seen { search.old.seen ≤ length bytes.now }
     requires no_line_end { HasNoLineEnd (take search.old.seen bytes.now) }
@@ -78,7 +78,7 @@ fn line<'a>(bytes: &'a [u8], search: &mut Search) -> Found<'a>
     }
 }
 
-/// What stands first in `bytes`, where the first line end is the byte at `end`.
+/// What comes first in `bytes`, whose first line end is the byte at `end`.
 fn whole<'a>(bytes: &'a [u8], end: usize, search: &mut Search) -> Found<'a>
     requires inside { end < length bytes.now }
     requires first { line_length bytes.now ≡ end }
@@ -100,8 +100,8 @@ fn whole<'a>(bytes: &'a [u8], end: usize, search: &mut Search) -> Found<'a>
     }
 }
 
-/// What stands first in `bytes`, where a header of `header` bytes counts the `size` bytes after
-/// it.
+/// What comes first in `bytes`, which begin with a header of `header` bytes for a data of `size`
+/// bytes.
 fn counted(bytes: &[u8], header: usize, size: u64) -> Found<'_>
     requires { IsInCounted bytes.now header size }
     ensures first { first_found bytes.now result ≡ first_of bytes.now }
@@ -112,16 +112,16 @@ fn counted(bytes: &[u8], header: usize, size: u64) -> Found<'_>
         return Found::Fails(Fault::Limit);
     }
     let size = size as usize;
-    let behind = bytes.split_at(header).1;
-    if behind.len() < size {
+    let remaining = bytes.split_at(header).1;
+    if remaining.len() < size {
         Found::Waits(Place::Counted { header, size })
     } else {
-        Found::Gives(Item::Data(behind.split_at(size).0), header + size)
+        Found::Gives(Item::Data(remaining.split_at(size).0), header + size)
     }
 }
 
-/// What stands first in `bytes`, where a header of `header` bytes names a delimiter, and no line
-/// before the byte at `line` is the delimiter.
+/// What comes first in `bytes`, which begin with a header of `header` bytes that names a delimiter.
+/// No line before the byte at `line` is the delimiter.
 fn delimited<'a>(bytes: &'a [u8], header: usize, line: usize, search: &mut Search) -> Found<'a>
     requires seen { search.old.seen ≤ length bytes.now }
     requires placed { IsInDelimited bytes.now search.old.seen header line }
@@ -159,7 +159,7 @@ fn raw(bytes: &[u8], header: usize, line: usize, end: usize) -> Found<'_>
     if size > LARGEST_DATA {
         Found::Fails(Fault::Limit)
     } else {
-        let behind = bytes.split_at(header).1;
-        Found::Gives(Item::Data(behind.split_at(size).0), end + 1)
+        let remaining = bytes.split_at(header).1;
+        Found::Gives(Item::Data(remaining.split_at(size).0), end + 1)
     }
 }

@@ -1,21 +1,22 @@
-//! The search for line ends, which goes over no byte twice.
+//! The search for line ends, which scans no byte twice.
 
 ghost use Rattle.std.specs.Prelude.{◌≡◌, ◌≤◌, length};
 ghost use Rattle.stream_lex.specs.Search.{FindsLineEnd, GoesOver};
 
 use memchr::memchr;
 
-/// How far the search for a line end has gone in some bytes, and how many it has gone over in all.
+/// How far the search for a line end has come in some bytes, and how many bytes it has scanned in
+/// all.
 #[derive(Clone, Copy)]
 pub struct Search {
-    /// So many of the bytes were gone over or are known.
+    /// How many of the bytes, from the first on, were scanned or are known already.
     pub seen: usize,
-    /// So many bytes were ever gone over; at the greatest number it stays.
+    /// How many bytes were scanned in all; it stays at the greatest number.
     pub searched: u64,
 }
 
 impl Search {
-    /// The place of the first line end in `bytes` after those that were seen.
+    /// The position of the first line end in `bytes` after those that were seen.
     pub fn line_end(&mut self, bytes: &[u8]) -> Option<usize>
         requires { self.old.seen ≤ length bytes.now }
         ensures found { FindsLineEnd bytes.now self.old.seen result }

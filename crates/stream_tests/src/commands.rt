@@ -1,10 +1,11 @@
 //! Streams of git-fast-import(1), item by item, with what each item asks for.
 //!
-//! A row is an item, ` => `, and what it asks for, both derived by hand from the manual; the rows of
-//! a case are one text, with `;` between two of them. `LF` is a blank line, `data x` are data, `END` is the end of the stream, and `COMMIT` stands for the three
-//! items of the shortest commit. A number is that of a fault; after it, and after `END`, the next
-//! row begins a stream of its own. In an act `-` is no mark, `[a/b]` a path and `<x>` an
-//! expression; of an object name its first 8 digits stand there.
+//! A row is an item, ` => `, and what it asks for, both derived by hand from the manual. The rows
+//! of a case are one text, with `;` between them. `LF` is a blank line, `data x` are data, `END` is
+//! the end of the stream, and `COMMIT` stands for the three items of the shortest commit. A number
+//! is that of a fault; after it, and after `END`, the next row begins a new stream. In an act `-`
+//! is no mark, `[a/b]` a path, `<x>` an expression, and an object name is given by its first 8
+//! digits.
 
 mod changes;
 mod commits;
@@ -23,8 +24,8 @@ pub struct Case {
     pub rows: &'static str,
 }
 
-// What a parser answered to the last item, as a row says it. Each call tells whether there was room
-// for it.
+// The answer of a parser to the last item, written as in a row. Each call answers whether there was
+// room for it.
 #[derive(Drop)]
 struct Shown {
     alloc: Global,
@@ -105,7 +106,7 @@ impl Shown {
         self.put_both(b"inline ", mode_text(mode)) && self.put_path(b"", path)
     }
 
-    // What a line alone asks for. Each function knows some of the acts, so that its proof is short.
+    // An act of one line. Each function knows some of the acts, to keep its proof short.
     fn put_line_act(&mut self, act: &Act<'_>) -> bool {
         match act {
             Act::Checkpoint => self.put(b"checkpoint"),
@@ -193,7 +194,7 @@ impl Shown {
         (!done.ends_commit || self.put(b"ends commit, ")) && self.put_act(&done.act)
     }
 
-    // What the end of a stream is answered with.
+    // Writes the answer to the end of a stream.
     fn put_end(&mut self, answer: Result<bool, Fault>) -> bool {
         match answer {
             Ok(true) => self.put(b"ends commit"),
@@ -203,7 +204,7 @@ impl Shown {
     }
 }
 
-// What an item asks for, or its fault, once it was put.
+// Writes what an item asks for, or the number of its fault.
 fn put_answer(shown: &mut Shown, answer: Result<Done<'_>, Fault>) -> bool {
     match answer {
         Ok(done) => shown.put_done(&done),
@@ -237,13 +238,13 @@ impl Reading {
         put_answer(&mut self.shown, self.parser.take(item))
     }
 
-    // Writes what the end of the stream is answered with.
+    // Ends the stream, and writes the answer.
     fn end(&mut self) -> bool {
         self.shown.bytes.clear();
         self.shown.put_end(self.parser.end())
     }
 
-    // Whether a line is answered as a row would say it.
+    // Whether the answer to a line is the wanted one, written as in a row.
     fn answers(&mut self, line: &[u8], wanted: &[u8]) -> bool {
         self.take(Item::Line(line)) && self.shown.is(wanted)
     }
@@ -279,7 +280,7 @@ impl Reading {
         drop(mem::replace(&mut self.parser, Parser::new(self.alloc)));
     }
 
-    // Whether an item is answered so. After the end of a stream or a fault another one begins.
+    // Whether the answer to an item is the wanted one. After `END` or a fault a new stream begins.
     fn is_answered(&mut self, item: &str, wanted: &str) -> bool {
         let is_answered = self.take_row(item) && self.shown.is(wanted.as_bytes());
         if item == "END" || is_number(wanted.as_bytes()) {
@@ -295,7 +296,7 @@ impl Reading {
         }
     }
 
-    // Goes through the rows, and gives the first one that is answered otherwise.
+    // Goes through the rows, and gives the first one with another answer.
     fn first_wrong<'a>(&mut self, rows: &'a str) -> Option<&'a str> {
         for row in rows.split(';') {
             if !self.goes(row) {
@@ -327,12 +328,12 @@ fn feature_text(feature: Feature) -> &'static [u8] {
     }
 }
 
-// Whether a stream ends with such an answer: it is the number of a fault.
+// Whether an answer is the number of a fault, which ends the stream.
 fn is_number(text: &[u8]) -> bool {
     text.iter().all(|byte| byte.is_ascii_digit())
 }
 
-// The first of the rows that is answered otherwise.
+// The first of the rows that has another answer.
 fn first_wrong<'a>(alloc: Global, rows: &'a str) -> Option<&'a str> {
     let mut reading = begin(alloc);
     let wrong = reading.first_wrong(rows);
@@ -340,7 +341,7 @@ fn first_wrong<'a>(alloc: Global, rows: &'a str) -> Option<&'a str> {
     wrong
 }
 
-/// What the first case does that goes otherwise, and the row at which it does.
+/// The first case that fails: what it does, and the row at which it fails.
 pub fn first_wrong_case(alloc: Global, cases: &[Case]) -> Option<(&'static str, &'static str)> {
     for case in cases {
         if let Some(row) = first_wrong(alloc, case.rows) {

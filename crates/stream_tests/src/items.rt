@@ -1,4 +1,4 @@
-//! Items: worked streams beside what they give, cut at every place, and the limits.
+//! Items: worked streams with the items that they give, cut at every place, and the limits.
 
 use std::alloc::Global;
 use stream_lex::{Fault, Item, Lexer};
@@ -34,7 +34,7 @@ const STREAMS: &[(&str, &str)] = &[
     ("blob\ndata -1\nblob\n", "blob|fault 4"),
 ];
 
-// Whether there was room for an item, and a bar after it.
+// Writes an item and a bar after it; answers whether there was room.
 fn put(shown: &mut Vec<u8>, item: Item<'_>) -> bool {
     match item {
         Item::Line(text) => put_in(b"", text, b"|", shown),
@@ -71,7 +71,7 @@ struct Reading {
 }
 
 impl Reading {
-    // Writes the next item; whether there was one, and room for it.
+    // Writes the next item; answers whether there was one, and room for it.
     fn show_next(&mut self) -> bool {
         match self.lexer.next() {
             Ok(Some(item)) => put(&mut self.shown, item),
@@ -114,7 +114,7 @@ impl Reading {
         self.ends_with(items)
     }
 
-    // A line of 1,048,575 bytes, fed byte by byte, is gone over once.
+    // A line of 1,048,575 bytes, fed byte by byte, is scanned once.
     fn searches_a_line_once(&mut self) -> bool {
         for _ in 0..1_048_575 {
             self.feed(b"l");
@@ -133,7 +133,7 @@ impl Reading {
         self.shown.len() == 70_003 && self.went_over(70_011)
     }
 
-    // So many bytes were fed, and gone over.
+    // Whether this many bytes were fed and scanned.
     fn went_over(&self, count: u64) -> bool {
         self.lexer.fed() == count && self.lexer.searched() == count
     }
@@ -206,7 +206,7 @@ fn first_wrong(alloc: Global) -> Option<&'static str> {
     None
 }
 
-// Of 1,048,575 bytes: with its line end it is read, and with one byte more it is refused.
+// A comment of 1,048,575 bytes: it is read with its line end, and refused with one more byte.
 fn limits_a_comment(alloc: Global, comment: &[u8]) -> bool {
     gives(alloc, comment, b"\nblob\n", b"blob|end")
         && gives(alloc, comment, b"x\nblob\n", b"fault 1")
@@ -253,7 +253,7 @@ fn limits_a_delimited_data(alloc: Global) -> bool {
         && refuses_a_larger_data(alloc, &lines)
 }
 
-// Whether the reason of a refusal is told so.
+// Whether a fault has this message.
 fn is_told(alloc: Global, fault: Fault, text: &str) -> bool {
     match fault.to_string(alloc) {
         Ok(told) => told.as_str() == text,

@@ -1,4 +1,4 @@
-//! Tests of the items and the commands of a stream. Nothing else stands here.
+//! Tests of stream_lex and stream_grammar.
 #![tactic(auto)]
 
 #[cfg(test)]

@@ -67,29 +67,29 @@ module _ {K X : Type 0} (R : K → K → Ordering) where
   abbrev pub AllBefore : K → List (K × X) → Type 0
   AllBefore k = AllByRecursion (λ e. R k e.0 ≡ Greater)
 
-  abbrev pub AllBehind : K → List (K × X) → Type 0
-  AllBehind k = AllByRecursion (λ e. R k e.0 ≡ Less)
+  abbrev pub AllAfter : K → List (K × X) → Type 0
+  AllAfter k = AllByRecursion (λ e. R k e.0 ≡ Less)
 
-  pub behind-below_all : (k : K) (es : List (K × X)) → T (below_all R k es) → AllBehind k es
-  behind-below_all k [] h = tt
-  behind-below_all k (e ∷ es) h = (less _ (first _ _ h), behind-below_all k es (second _ _ h))
+  pub after-below_all : (k : K) (es : List (K × X)) → T (below_all R k es) → AllAfter k es
+  after-below_all k [] h = tt
+  after-below_all k (e ∷ es) h = (less _ (first _ _ h), after-below_all k es (second _ _ h))
 
   -- a key in its gap: `put` puts it there, and `find` finds nothing
   pub put-gap : (k : K) (v : X) (before after : List (K × X)) → AllBefore k before
-      → AllBehind k after
+      → AllAfter k after
       → put R k v (before ++ after) ≡ before ++ (k, v) ∷ after
   put-gap k v [] [] low high = refl
   put-gap k v [] (e ∷ es) low high = rw high.0
   put-gap k v (e ∷ es) after low high =
       rw low.0 (ap (λ rest. e ∷ rest) (put-gap k v es after low.1 high))
 
-  pub find-behind : (k : K) (es : List (K × X)) → AllBehind k es → find R k es ≡ None
-  find-behind k [] high = refl
-  find-behind k (e ∷ es) high = rw high.0 (find-behind k es high.1)
+  pub find-after : (k : K) (es : List (K × X)) → AllAfter k es → find R k es ≡ None
+  find-after k [] high = refl
+  find-after k (e ∷ es) high = rw high.0 (find-after k es high.1)
 
-  pub find-gap : (k : K) (before after : List (K × X)) → AllBefore k before → AllBehind k after
+  pub find-gap : (k : K) (before after : List (K × X)) → AllBefore k before → AllAfter k after
       → find R k (before ++ after) ≡ None
-  find-gap k [] after low high = find-behind k after high
+  find-gap k [] after low high = find-after k after high
   find-gap k (e ∷ es) after low high = rw low.0 (find-gap k es after low.1 high)
 
   module _ (o : IsTotalOrder R) where
@@ -106,10 +106,10 @@ module _ {K X : Type 0} (R : K → K → Ordering) where
     before-sorted k v (e ∷ es) after h =
         (above o e.0 k (below_one e.0 k v es after (first _ _ h)), before-sorted k v es after (second _ _ h))
 
-    pub behind-sorted : (k : K) (v : X) (before after : List (K × X))
-        → T (is_sorted R (before ++ (k, v) ∷ after)) → AllBehind k after
-    behind-sorted k v [] after h = behind-below_all k after (first _ _ h)
-    behind-sorted k v (e ∷ es) after h = behind-sorted k v es after (second _ _ h)
+    pub after-sorted : (k : K) (v : X) (before after : List (K × X))
+        → T (is_sorted R (before ++ (k, v) ∷ after)) → AllAfter k after
+    after-sorted k v [] after h = after-below_all k after (first _ _ h)
+    after-sorted k v (e ∷ es) after h = after-sorted k v es after (second _ _ h)
 
     -- a key in its place: `put` gives it the new value, and `find` finds the old one
     pub put-place : (k : K) (v w : X) (before after : List (K × X)) → AllBefore k before
@@ -146,15 +146,15 @@ module _ {K X : Type 0} (R : K → K → Ordering) where
     sorted_tail e es h = second _ _ h
 
     module _ (same : IsAntisymmetric R) where
-      behind_tied : (k q : K) (es : List (K × X)) → AllBehind k es → eq_by_cmp R q k ≡ true
+      after_tied : (k q : K) (es : List (K × X)) → AllAfter k es → eq_by_cmp R q k ≡ true
           → find R q es ≡ None
-      behind_tied k q es high e =
-          subst (λ x. find R x es ≡ None) (sym (same q k (equal _ e))) (find-behind k es high)
+      after_tied k q es high e =
+          subst (λ x. find R x es ≡ None) (sym (same q k (equal _ e))) (find-after k es high)
 
       pub find-out : (k : K) (v : X) (before after : List (K × X)) → AllBefore k before
-          → AllBehind k after
+          → AllAfter k after
           → (q : K)
           → find R q (before ++ after) ≡ cond (eq_by_cmp R q k) None (find R q (before ++ (k, v) ∷ after))
-      find-out k v [] after low high q = asked_twice _ _ _ (behind_tied k q after high)
+      find-out k v [] after low high q = asked_twice _ _ _ (after_tied k q after high)
       find-out k v (e ∷ es) after low high q =
           asked_first _ _ _ _ _ (not_tied same k q e.0 low.0) (find-out k v es after low.1 high q)

@@ -12,7 +12,7 @@ use Rattle.std.proofs.Math.Seq.{take-append_seam, drop-append_seam, get_or-appen
 use Rattle.tenant_refs.specs.Place.{Entries, IsPlaceOf, IsGapFor}
 use Rattle.git_model.specs.RefName.{is_ref_name}
 use Rattle.git_model.specs.RefStore.{RefMap, RefStore, first_head, with_ref, without_ref, ChangesRef}
-use Rattle.tenant_refs.proofs.Entries.{equal, put-gap, put-place, find-gap, find-place, find-out, is_sorted-out, before-sorted, behind-sorted}
+use Rattle.tenant_refs.proofs.Entries.{equal, put-gap, put-place, find-gap, find-place, find-out, is_sorted-out, before-sorted, after-sorted}
 
 abbrev bytes_cmp : List ℕ → List ℕ → Ordering
 bytes_cmp = slice_cmp nat_cmp
@@ -119,7 +119,7 @@ module _ (es : Entries) (sorted : T (is_sorted bytes_cmp es)) where
               get-from_sorted bytes_cmp (remove es i) q sorted_out ∙ ap (find bytes_cmp q) out
               ∙ find-out bytes_cmp nat_list_cmp_total bytes_exact ref at.target at.before at.after
               (before-sorted bytes_cmp nat_list_cmp_total ref at.target at.before at.after sorted_here)
-              (behind-sorted bytes_cmp nat_list_cmp_total ref at.target at.before at.after sorted_here) q
+              (after-sorted bytes_cmp nat_list_cmp_total ref at.target at.before at.after sorted_here) q
               ∙ ap (λ l. cond (eq_by_cmp bytes_cmp q ref) None (find bytes_cmp q l)) (sym at.stands)
               ∙ sym (get-remove nat_list_cmp_total (made es) ref q ∙ ap (cond (eq_by_cmp bytes_cmp q ref) None) (get-made q))),
         )

@@ -1,4 +1,4 @@
--- Where the refs of a tenant lie among those of all: gitnamespaces(7).
+-- The full names of the refs of a tenant among those of all tenants: gitnamespaces(7).
 use Rattle.std.specs.Prelude.{◌≡◌, ℕ, List, ◌++◌, codes}
 use Rattle.std.specs.List.{flat_map}
 use Rattle.git_model.specs.Bytes.{BeginsWith}
@@ -12,12 +12,12 @@ namespace_of part = codes "refs/namespaces/" ++ part ++ codes "/"
 abbrev pub namespaces : List ℕ → List ℕ
 namespaces tenant = flat_map namespace_of (parts_of tenant)
 
--- A tenant's ref among those of all: the namespaces of the tenant, and then the ref.
+-- The full name of a ref of a tenant: the namespaces of the tenant, and then the ref.
 unfoldable pub full_name : List ℕ → List ℕ → List ℕ
 full_name tenant ref = namespaces tenant ++ ref
 
--- No other tenant's ref and no other ref of the tenant has this full name. Only what begins with
--- `refs/namespaces/` is left out, which no ref of a tenant does.
+-- No ref of another tenant and no other ref of the tenant has this full name. Refs that begin with
+-- `refs/namespaces/` are left out: no ref of a tenant begins so.
 pub record IsFullNameOfNoOther (full tenant ref : List ℕ) : Type 0 where
   pub tenant_is : (other_tenant other_ref : List ℕ)
       → ¬ BeginsWith other_ref (codes "refs/namespaces/") → full_name other_tenant other_ref ≡ full

@@ -1,4 +1,4 @@
--- In reading order. What the definitions below speak of is passed on first.
+-- In reading order. First the modules that the definitions below use.
 pub use Rattle.git_model.specs.Bytes
 pub use Rattle.git_model.specs.RefName
 pub use Rattle.git_model.specs.RefStore

@@ -1,4 +1,4 @@
--- Where a ref stands in a list of refs in order of their bytes.
+-- The position of a ref in a list of refs in the order of their bytes.
 use Rattle.std.specs.Prelude.{◌≡◌, ℕ, List, ◌∷◌, ◌++◌, length, IsTrue}
 use Rattle.std.specs.Ordering.{nat_cmp}
 use Rattle.std.specs.FinMap.{is_sorted}
@@ -6,15 +6,15 @@ use Rattle.std.specs.List.{AllByRecursion}
 use Rattle.std.specs.Cmp.Lexicographic.{slice_cmp}
 use Rattle.std.specs.declared.cmp.Ordering.TheVariants.{Less, Greater}
 
--- Refs with what each holds.
+-- Refs with the object name that each holds.
 abbrev pub Entries : Type 0
 Entries = List (List ℕ × List ℕ)
 
--- No ref stands twice, and they stand in the order of their bytes.
+-- The refs are in the order of their bytes, and none is there twice.
 abbrev pub IsInOrder : Entries → Type 0
 IsInOrder entries = IsTrue (is_sorted (slice_cmp nat_cmp) entries)
 
--- The ref stands at this position: some entries come before its own, and some after.
+-- The ref is at this position: its entry comes after so many entries.
 pub record IsPlaceOf (entries : Entries) (ref : List ℕ) (position : ℕ) : Type 0 where
   pub before : Entries
   pub target : List ℕ
@@ -22,7 +22,8 @@ pub record IsPlaceOf (entries : Entries) (ref : List ℕ) (position : ℕ) : Typ
   pub stands : entries ≡ before ++ (ref, target) ∷ after
   pub position_is : length before ≡ position
 
--- The ref would go to this position: the entries before it are below the ref, and the others above.
+-- The ref would go to this position: the entries before it are lower than the ref, and the others
+-- are higher.
 pub record IsGapFor (entries : Entries) (ref : List ℕ) (position : ℕ) : Type 0 where
   pub before : Entries
   pub after : Entries

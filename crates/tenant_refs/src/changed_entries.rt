@@ -1,4 +1,4 @@
-//! Changes of the entries of refs that find room for what is new.
+//! Changes to the entries of refs, with room reserved for the new ones.
 
 ghost use Rattle.std.specs.Prelude.{◌≡◌, ◌+◌, ◌≤◌, ◌<◌, List, ℕ};
 ghost use Rattle.std.specs.FinMap.{from_sorted};
@@ -11,7 +11,7 @@ use crate::changes::RefChange;
 use crate::place::place_of;
 use git_names::{Name, RefName};
 
-// Carries out one change. There is room for one more entry.
+// Makes one change. There is room for one more entry.
 fn change_entry(entries: &mut Vec<(RefName, Name)>, change: RefChange)
     requires in_order { IsInOrder entries.old.items }
     requires room { vec_len entries.old < vec_capacity entries.old }
@@ -36,7 +36,7 @@ fn change_entry(entries: &mut Vec<(RefName, Name)>, change: RefChange)
     }
 }
 
-// Carries out all changes in turn. There is room for each.
+// Makes all changes in turn. There is room for each.
 pub fn change_entries(entries: &mut Vec<(RefName, Name)>, changes: Vec<RefChange>)
     requires in_order { IsInOrder entries.old.items }
     requires room { vec_len entries.old + vec_len changes ≤ vec_capacity entries.old }

@@ -1,4 +1,4 @@
-//! Several changes to refs, of which all or none are carried out.
+//! Several changes to refs: all are made, or none.
 
 ghost use Rattle.std.specs.Prelude.{◌≡◌, ◌≤◌, ◌<◌, length, IfErr, OnOk, OnErr, Err};
 ghost use Rattle.git_model.specs.RefStore.{listed_refs};
@@ -9,22 +9,36 @@ use crate::refs::Refs;
 use git_names::{Memory, Name, RefName};
 use std::alloc::AllocError;
 
-/// A change to one ref.
+/// A change to one ref: git-update-ref(1).
 #[derive(Drop)]
 pub struct RefChange {
     /// The ref.
     pub ref_name: RefName,
-    /// What it holds then; `None` takes it out.
+    /// The object name that the ref holds after the change; `None` deletes the ref.
     pub target: Option<Name>,
 }
 
-/// Why no change was carried out.
+/// Why `Refs::change_all` made no change.
 #[derive(Clone, Copy)]
 pub enum ChangesFault {
-    /// The refs then would be too many, 25.
+    /// There would be too many refs after the changes (25).
     Limit,
-    /// A growth was refused, 90.
+    /// An allocation failed (90).
     Memory,
+}
+
+impl ChangesFault {
+    ghost use Rattle.tenant_refs.specs.Faults.{changes_code};
+
+    /// The number of the fault: 25 limit, 90 out of memory.
+    pub fn code(self) -> u16
+        ensures { result ≡ changes_code self }
+    {
+        match self {
+            ChangesFault::Limit => 25,
+            ChangesFault::Memory => 90,
+        }
+    }
 }
 
 impl From<Memory> for ChangesFault {
@@ -47,7 +61,7 @@ impl From<AllocError> for ChangesFault {
     }
 }
 
-// Carries out one change.
+// Makes one change.
 fn change(refs: &mut Refs, change: &RefChange) -> Result<(), Memory>
     ensures { OnOk result (refs.new ≡ with_target refs.old change.now.ref_name change.now.target) }
 {
@@ -68,10 +82,10 @@ fn change_each(refs: &mut Refs, changes: &[RefChange]) -> Result<(), Memory>
 }
 
 impl Refs {
-    /// Carries out all changes in turn, after which there are at most `limit` refs.
+    /// Makes all changes in turn, or none. After them there are at most `limit` refs.
     ///
-    /// `ChangesFault::Limit` (25) where there would be more, and `ChangesFault::Memory` (90) where
-    /// there is no room for them; nothing has changed then.
+    /// `ChangesFault::Limit` (25) if there would be more, and `ChangesFault::Memory` (90) if there
+    /// is no room for them. Nothing has changed after either.
     pub fn change_all(&mut self, changes: Vec<RefChange>, limit: usize) -> Result<(), ChangesFault>
         ensures changed { OnOk result (self.new ≡ with_changes self.old changes.items) }
         ensures few { OnOk result (length (listed_refs self.new) ≤ limit) }
@@ -79,7 +93,7 @@ impl Refs {
         ensures too_many { result ≡ Err ChangesFault.Limit
             → limit < length (listed_refs (with_changes self.old changes.items)) }
     {
-        // Where the refs would be few enough if all of these were new, none needs to be counted.
+        // If there would be few enough refs even if every change added one, no count is needed.
         if self.len().saturating_add(changes.len()) > limit {
             return self.change_copy(&changes, limit);
         }
@@ -88,7 +102,7 @@ impl Refs {
         Ok(())
     }
 
-    // The same by a copy, whose refs are counted.
+    // `change_all` on a copy, whose refs are counted after the changes.
     fn change_copy(&mut self, changes: &[RefChange], limit: usize) -> Result<(), ChangesFault>
         ensures changed { OnOk result (self.new ≡ with_changes self.old changes.now) }
         ensures few { OnOk result (length (listed_refs self.new) ≤ limit) }

@@ -1,8 +1,8 @@
-//! A tenant's refs: their names, the tenants' names, and which object name each ref holds.
+//! The refs of a tenant, with the object name that each ref holds, and the names of tenants.
 //!
-//! Nothing here knows a pool or a table: what a ref holds is an object name, and whether there is
-//! such an object is its caller's to know. `reaches` is that of commit_walk: whether a ref may move
-//! to a commit without force is asked by it.
+//! Nothing here knows a pool or a table: a ref holds an object name, and the caller makes sure that
+//! there is such an object. `reaches` comes from commit_walk; it tells whether a ref may move to a
+//! commit without force.
 #![tactic(auto)]
 
 mod changed_entries;

@@ -1,4 +1,4 @@
-//! Where a ref stands among refs in order of their bytes, or would stand.
+//! The position of a ref among refs in the order of their bytes, or where it would go.
 
 ghost use Rattle.std.specs.Prelude.{◌≡◌, IfOk, IfErr};
 ghost use Rattle.std.specs.Ordering.{nat_cmp};
@@ -8,7 +8,7 @@ ghost use Rattle.tenant_refs.specs.Place.{IsInOrder, IsPlaceOf, IsGapFor};
 use git_names::{Name, RefName};
 use std::cmp::Ordering;
 
-/// `Ok` with the position of the ref among these, or `Err` with the one at which it would go in.
+/// `Ok` with the position of the ref among these, or `Err` with the one at which it would be put.
 pub fn place_of(entries: &[(RefName, Name)], ref_name: &[u8]) -> Result<usize, usize>
     requires { IsInOrder entries.now }
     ensures found { IfOk result (IsPlaceOf entries.now ref_name.now) }

@@ -1,10 +1,11 @@
 //! The refs of one repository: which object name each holds, in the order of their bytes, and the
 //! ref that HEAD names.
 //!
-//! A ref `a` may stand beside a ref `a/b`. Whether there is an object of a name that a ref holds is
-//! not known here.
+//! There may be a ref `a` and a ref `a/b` at the same time. Nothing here checks that the object of
+//! a name exists.
 
 ghost use Rattle.std.specs.Prelude.{◌≡◌, ◌≢◌, ◌↔◌, ◌≤◌, IfOk, IfSome, OnOk, OnErr, IsTrue, Some, None, option_map, slice_get, length, codes};
+ghost use Rattle.git_model.specs.Limits.{ref_name_limit};
 ghost use Rattle.git_model.specs.RefStore.{no_refs, target_of, listed_refs, with_ref, without_ref, with_head, ChangesRef};
 ghost use Rattle.tenant_refs.specs.StoredName.{NamesRef};
 ghost use Rattle.git_model.specs.RefName.{IsRefName};
@@ -14,15 +15,16 @@ use git_names::{Memory, Name, RefName};
 use std::alloc::Global;
 use std::marker::Model;
 
-/// The ref that HEAD names before anyone sets it.
+/// The ref that HEAD names in a new repository.
 pub const FIRST_HEAD: &[u8] = b"refs/heads/main";
 
-/// Refs in the order of their bytes, with the object name that each holds, and HEAD.
+/// The refs of one repository in the order of their bytes, with the object name that each holds,
+/// and HEAD.
 #[derive(Drop)]
 pub struct Refs {
     alloc: Global,
     pub(crate) entries: Vec<(RefName, Name)>,
-    // `None` stands for the first HEAD, so that no refs take no memory.
+    // `None` means `FIRST_HEAD`, so that `new` takes no memory.
     head: Option<RefName>,
 }
 
@@ -49,7 +51,8 @@ impl Model for Refs {
 }
 
 impl Refs {
-    /// No refs, and HEAD names `refs/heads/main`. Takes no memory.
+    /// No refs, and HEAD that names `refs/heads/main`. Takes no memory; the copies of refs that are
+    /// set later come from `alloc`.
     pub fn new(alloc: Global) -> Refs
         ensures { result ≡ no_refs }
     {
@@ -74,7 +77,7 @@ impl Refs {
         self.entries.as_slice().is_empty()
     }
 
-    /// The object name that a ref holds; `None` where there is no such ref. Takes no memory.
+    /// The object name that a ref holds; `None` if there is no such ref. Takes no memory.
     pub fn get(&self, ref_name: &[u8]) -> Option<Name>
         ensures { result ≡ target_of self.now ref_name.now }
     {
@@ -90,15 +93,16 @@ impl Refs {
         ensures entry { option_map (λ entry. (entry.0.now, entry.1)) result
             ≡ slice_get (listed_refs self.now) position }
         ensures well_formed { IfSome result (λ entry. NamesRef entry.0.now) }
-        ensures short { IfSome result (λ entry. length entry.0.now ≤ 1024) }
+        ensures short { IfSome result (λ entry. length entry.0.now ≤ ref_name_limit) }
     {
         let (ref_name, target) = self.entries.get(position)?;
         Some((ref_name.as_bytes(), *target))
     }
 
-    /// Sets a ref, whether it was there or not. Every other ref and HEAD stay.
+    /// Sets a ref to an object name, whether the ref was there or not. Every other ref and HEAD
+    /// stay unchanged.
     ///
-    /// `Memory` (90) where a ref that was not there finds no room; nothing has changed then.
+    /// `Memory` (90) if there is no room for a ref that was not there; nothing has changed then.
     pub fn set(&mut self, ref_name: &RefName, target: Name) -> Result<(), Memory>
         ensures set { OnOk result (self.new ≡ with_ref self.old ref_name.now target) }
         ensures changes { OnOk result (ChangesRef self.old self.new ref_name.now (Some target)) }
@@ -118,7 +122,7 @@ impl Refs {
         Ok(())
     }
 
-    /// Takes a ref out, where it is there. Every other ref and HEAD stay. Takes no memory.
+    /// Removes a ref if it is there. Every other ref and HEAD stay unchanged. Takes no memory.
     pub fn remove(&mut self, ref_name: &[u8])
         ensures removed { self.new ≡ without_ref self.old ref_name.now }
         ensures changes { ChangesRef self.old self.new ref_name.now None }
@@ -131,11 +135,11 @@ impl Refs {
         }
     }
 
-    /// The ref that HEAD names, which need not be there. Takes no memory.
+    /// The ref that HEAD names. There need not be such a ref. Takes no memory.
     pub fn head(&self) -> &[u8]
         ensures head { result.now ≡ self.now.head }
         ensures well_formed { IsRefName self.now.head }
-        ensures short { length self.now.head ≤ 1024 }
+        ensures short { length self.now.head ≤ ref_name_limit }
     {
         match &self.head {
             Some(ref_name) => ref_name.as_bytes(),
@@ -143,7 +147,8 @@ impl Refs {
         }
     }
 
-    /// Lets HEAD name another ref. Takes no memory.
+    /// Makes HEAD name another ref, which must not be `HEAD` itself and need not be there. Takes no
+    /// memory.
     pub fn set_head(&mut self, ref_name: RefName)
         requires { ref_name ≢ codes "HEAD" }
         ensures { self.new ≡ with_head self.old ref_name }
@@ -151,7 +156,7 @@ impl Refs {
         self.head = Some(ref_name);
     }
 
-    /// A copy of all refs and HEAD. `Memory` (90) where there is no room for it.
+    /// A copy of all refs and HEAD. `Memory` (90) if there is no room for it.
     pub fn copy(&self) -> Result<Refs, Memory>
         ensures { IfOk result (λ copy. copy ≡ self.now) }
     {

@@ -6,6 +6,7 @@ ghost use Rattle.std.specs.Prelude.{◌≡◌, ◌≤◌, ◌↔◌, ◌&&◌, I
 ghost use Rattle.std.specs.List.{list_all};
 ghost use Rattle.std.specs.Cmp.Rules.{comparing, hashing};
 ghost use Rattle.std.proofs.Common.{rules};
+ghost use Rattle.git_model.specs.Limits.{tenant_name_limit};
 ghost use Rattle.tenant_refs.specs.TenantName.{IsTenantName, is_tenant_name, parts_of, is_part, is_part_byte};
 ghost use Rattle.tenant_refs.specs.declared.tenant_name_fault.TenantNameFault.TheVariants.{BadTenantName};
 
@@ -17,8 +18,8 @@ use std::marker::Model;
 /// The longest tenant name, in bytes.
 pub const TENANT_NAME_LIMIT: usize = 64;
 
-/// Whether a text is a tenant name: one or more parts of ASCII letters, digits, `-` and `_`, with
-/// `/` between them, none empty and none with `-` first, of at most 64 bytes in all. Takes no
+/// Whether a text is a tenant name: at most 64 bytes, in one or more parts with `/` between them. A
+/// part has ASCII letters, digits, `-` and `_`, is not empty, and does not begin with `-`. Takes no
 /// memory.
 #[tactic(auto, unfolding(crate::specs::TenantName::is_tenant_name))]
 pub fn is_tenant_name(text: &[u8]) -> bool
@@ -28,21 +29,21 @@ pub fn is_tenant_name(text: &[u8]) -> bool
     text.len() <= TENANT_NAME_LIMIT && are_parts(text)
 }
 
-// Whether each part between slashes may stand there in a tenant name.
+// Whether each text between slashes is a part of a tenant name.
 fn are_parts(text: &[u8]) -> bool
     ensures { result ≡ list_all is_part (parts_of text.now) }
 {
     text.split(|byte| *byte == b'/').all(is_part)
 }
 
-// Whether what stands between two slashes may stand there in a tenant name.
+// Whether the text between two slashes is a part of a tenant name.
 fn is_part(part: &[u8]) -> bool
     ensures { result ≡ is_part part.now }
 {
     !part.is_empty() && !part.starts_with(b"-") && are_part_bytes(part)
 }
 
-// Whether each byte may stand in a part.
+// Whether each byte is allowed in a part.
 fn are_part_bytes(part: &[u8]) -> bool
     ensures { result ≡ list_all is_part_byte part.now }
 {
@@ -55,8 +56,8 @@ fn is_part_byte(byte: u8) -> bool
     byte.is_ascii_alphanumeric() || byte == b'-' || byte == b'_'
 }
 
-/// A tenant name, in order of bytes. It lies in the value itself, so that to read one and to look
-/// it up takes no memory.
+/// A tenant name. Names compare and hash as their bytes. The bytes are stored inline, so reading a
+/// name and looking it up takes no memory.
 #[derive(Drop)]
 pub struct TenantName {
     bytes: [u8; TENANT_NAME_LIMIT],
@@ -66,20 +67,20 @@ pub struct TenantName {
 impl Model for TenantName {
     ghost use Rattle.std.specs.Prelude.{ℕ, ◌≤◌, List, IsTrue, take};
     ghost use Rattle.tenant_refs.specs.TenantName.{is_tenant_name};
-    ghost use Rattle.tenant_refs.specs.declared.tenant_name.TheConstants.{TENANT_NAME_LIMIT};
+    ghost use Rattle.git_model.specs.Limits.{tenant_name_limit};
 
     ghost Value = { List ℕ };
 
     ghost view = { λ name. take name.size name.bytes };
 
-    ghost invariant = { λ name. (name.size ≤ TENANT_NAME_LIMIT)
+    ghost invariant = { λ name. (name.size ≤ tenant_name_limit)
         × IsTrue (is_tenant_name (take name.size name.bytes)) };
 }
 
 impl TenantName {
     /// Reads a tenant name. Takes no memory.
     ///
-    /// `TenantNameFault::BadTenantName` (32) where `is_tenant_name` says no.
+    /// `TenantNameFault::BadTenantName` (32) if `is_tenant_name` answers `false`.
     pub fn read(text: &[u8]) -> Result<TenantName, TenantNameFault>
         ensures name { IfOk result (λ name. name ≡ text.now) }
         ensures well_formed { IfOk result (λ name. IsTenantName name) }
@@ -93,10 +94,10 @@ impl TenantName {
         }
     }
 
-    // The name that this text is.
+    // The tenant name with this text.
     fn of(text: &[u8]) -> TenantName
         requires named { IsTrue (is_tenant_name text.now) }
-        requires short { length text.now ≤ TENANT_NAME_LIMIT }
+        requires short { length text.now ≤ tenant_name_limit }
         ensures { result ≡ text.now }
     {
         let mut bytes = [0; TENANT_NAME_LIMIT];

@@ -154,10 +154,10 @@ query-leaves digest query stop state = by stop
     by (Some (suc n)) = told (answer_to (last_alone digest state) query)
 
 -- whatever tenant it is of
-behind-query : (digest : List ℕ → List ℕ) (tenant query : List ℕ) (taken : Step × Told)
+after-query : (digest : List ℕ → List ℕ) (tenant query : List ℕ) (taken : Step × Told)
     → call_of taken.0 ≡ Ask query → (state : State) (run : Run) (after : Holding)
     → Goes digest tenant state (taken ∷ run) after → Goes digest tenant state run after
-behind-query digest tenant query taken is state run after g =
+after-query digest tenant query taken is state run after g =
     by (concerns tenant taken.0) g.told g.left
   where
     stop : Option ℕ
@@ -367,7 +367,7 @@ module _ (digest : List ℕ → List ℕ) (before after : Holdings) (from to : L
 
       rest : Goes digest to (Closed empty_repository) run (held_of to after)
       rest =
-          behind-query digest to (codes "export") asked h.0.1 (Closed empty_repository) run
+          after-query digest to (codes "export") asked h.0.1 (Closed empty_repository) run
           (held_of to after)
           (record {
             told = (own to).told (Closed empty_repository) starts;

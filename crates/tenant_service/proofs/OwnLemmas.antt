@@ -9,14 +9,14 @@ use Rattle.stream_lex.specs.Items.{Item, Tail, Rest, Failed, Reading}
 use Rattle.stream_lex.specs.Reading.{reading, walk}
 use Rattle.stream_lex.specs.Running.{more_of}
 use Rattle.stream_lex.proofs.Walks.{reading-append}
-use Rattle.import_session.specs.declared.fault.Fault.{Fault}
+use Rattle.stream_state.specs.declared.fault.Fault.{Fault}
 use Rattle.import_session.specs.Workspace.{opened}
 use Rattle.import_session.specs.Stream.{Running, Step, Standing, Runs, Refused, Outcome, begun, after_reply, carried, going_on, step, at_tail, last_checkpoint}
-use Rattle.tenant_stream.specs.Carrying.{outcome_behind}
+use Rattle.tenant_stream.specs.Carrying.{outcome_after}
 use Rattle.answers.specs.declared.fault.Fault.{Fault as Refusal}
 use Rattle.answers.specs.Answers.{answer_to}
 use Rattle.service_steps.specs.declared.answer.Answer.TheVariants as answer
-use Rattle.tenant_service.specs.Alone.{Call, Open, Feed, End, Ask, Restart, State, Closed, Streaming, Dead, Turn, turn, Stopped, stop_at, stop_behind, stream_of, last_of, feed_stop, open_alone, feed_alone, added, fed_by, fed, fed_well, fed_until, ended, closed, last_alone, answered, asked, run_alone}
+use Rattle.tenant_service.specs.Alone.{Call, Open, Feed, End, Ask, Restart, State, Closed, Streaming, Dead, Turn, turn, Stopped, stop_at, stop_after, stream_of, last_of, feed_stop, open_alone, feed_alone, added, fed_by, fed, fed_well, fed_until, ended, closed, last_alone, answered, asked, run_alone}
 use Rattle.tenant_service.specs.Headline.{told_by}
 use Rattle.tenant_service.specs.Holding.{Holding, Idle, Busy, LeadsTo}
 use Rattle.tenant_service.specs.HeldObjects.{last_held}
@@ -69,16 +69,16 @@ carried-more digest s now (item ∷ items) later tail end kept replies h =
         → carried digest r (items ++ later) end ≡ after_reply rs (carried digest now later end))
         → (r : Result Step Fault) → going_on s r (λ next. carried digest next items tail) ≡ record { replies = replies; standing = Runs now kept }
         → going_on s r (λ next. carried digest next (items ++ later) end) ≡ after_reply replies (carried digest now later end)
-    by behind (Ok st) e =
+    by onwards (Ok st) e =
         let first = carried digest st.running items tail in
         let standing : first.standing ≡ Runs now kept = ap (λ (o : Outcome). o.standing) e in
         let rest : carried digest st.running items tail ≡ record { replies = first.replies; standing = Runs now kept } =
         ap (λ (x : Standing). record { replies = first.replies; standing = x }) standing in
         let all : st.reply ++ first.replies ≡ replies = ap (λ (o : Outcome). o.replies) e in
-        ap (after_reply st.reply) (behind st.running first.replies rest)
+        ap (after_reply st.reply) (onwards st.running first.replies rest)
         ∙ ap (λ (rs : List ℕ). record { replies = rs; standing = (carried digest now later end).standing })
         (sym (append_assoc st.reply first.replies (carried digest now later end).replies) ∙ ap (λ (rs : List ℕ). rs ++ (carried digest now later end).replies) all)
-    by behind (Err fault) e =
+    by onwards (Err fault) e =
         let st : _ ≡ Runs now kept = ap (λ (o : Outcome). o.standing) e in
         cc st
 
@@ -93,11 +93,11 @@ carried-kept digest s now (item ∷ items) tail kept replies h running =
     by : ((r : Running) (rs : List ℕ) → carried digest r items tail ≡ record { replies = rs; standing = Runs now kept } → kept ≡ tail)
         → (r : Result Step Fault) → going_on s r (λ next. carried digest next items tail) ≡ record { replies = replies; standing = Runs now kept }
         → kept ≡ tail
-    by behind (Ok st) e =
+    by onwards (Ok st) e =
         let first = carried digest st.running items tail in
         let standing : first.standing ≡ Runs now kept = ap (λ (o : Outcome). o.standing) e in
-        behind st.running first.replies (ap (λ (x : Standing). record { replies = first.replies; standing = x }) standing)
-    by behind (Err fault) e =
+        onwards st.running first.replies (ap (λ (x : Standing). record { replies = first.replies; standing = x }) standing)
+    by onwards (Err fault) e =
         let st : _ ≡ Runs now kept = ap (λ (o : Outcome). o.standing) e in
         cc st
 
@@ -118,7 +118,7 @@ standing-so_far digest repository bytes now kept h =
 -- a stream goes on from where it stands
 pub stream-more : (digest : List ℕ → List ℕ) (repository : Repository) (bytes piece : List ℕ) (now : Running) (kept : Tail)
     → so_far digest repository bytes now kept
-    → stream_of digest repository (bytes ++ piece) ≡ after_reply (stream_of digest repository bytes).replies (outcome_behind digest now kept piece)
+    → stream_of digest repository (bytes ++ piece) ≡ after_reply (stream_of digest repository bytes).replies (outcome_after digest now kept piece)
 unfolding stream_of
 stream-more digest repository bytes piece now kept h =
     let old = reading false bytes in
@@ -129,7 +129,7 @@ stream-more digest repository bytes piece now kept h =
     ∙ ap (after_reply (carried digest (begun (opened repository)) old.items old.tail).replies) (by now.is_done refl)
   where
     by : (b : Bool) → now.is_done ≡ b
-        → carried digest now (more_of (reading false bytes).tail piece).items (more_of (reading false bytes).tail piece).tail ≡ outcome_behind digest now kept piece
+        → carried digest now (more_of (reading false bytes).tail piece).items (more_of (reading false bytes).tail piece).tail ≡ outcome_after digest now kept piece
     by true done =
         carried-done digest now (more_of (reading false bytes).tail piece).items (more_of (reading false bytes).tail piece).tail done
         ∙ sym (carried-done digest now (more_of kept piece).items (more_of kept piece).tail done)
@@ -140,14 +140,14 @@ stream-more digest repository bytes piece now kept h =
 -- ---- stops
 
 -- a stop whose replies stand after others
-abbrev behind_replies : List ℕ → Stopped → Stopped
-behind_replies replies stopped = record { replies = replies ++ stopped.replies; repository = stopped.repository }
+abbrev after_replies : List ℕ → Stopped → Stopped
+after_replies replies stopped = record { replies = replies ++ stopped.replies; repository = stopped.repository }
 
-stop_at-after : (replies rs : List ℕ) (standing : Standing) → stop_at (replies ++ rs) standing ≡ option_map (behind_replies replies) (stop_at rs standing)
+stop_at-after : (replies rs : List ℕ) (standing : Standing) → stop_at (replies ++ rs) standing ≡ option_map (after_replies replies) (stop_at rs standing)
 stop_at-after replies rs (Runs now tail) = by now.is_done
   where
     by : (b : Bool) → cond b None (Some (record { replies = replies ++ rs; repository = last_checkpoint now.workspace }))
-        ≡ option_map (behind_replies replies) (cond b None (Some (record { replies = rs; repository = last_checkpoint now.workspace })))
+        ≡ option_map (after_replies replies) (cond b None (Some (record { replies = rs; repository = last_checkpoint now.workspace })))
     by true = refl
     by false = refl
 stop_at-after replies rs (Refused code repository) = refl
@@ -155,8 +155,8 @@ stop_at-after replies rs (Refused code repository) = refl
 -- a stop after items that a stream has carried out is one of the stream from there
 stop-more : (digest : List ℕ → List ℕ) (s now : Running) (items later : List Item) (tail kept : Tail) (replies : List ℕ) (count : ℕ)
     → carried digest s items tail ≡ record { replies = replies; standing = Runs now kept }
-    → stop_behind digest s (items ++ later) (length items + count) ≡ option_map (behind_replies replies) (stop_behind digest now later count)
-unfolding stop_behind
+    → stop_after digest s (items ++ later) (length items + count) ≡ option_map (after_replies replies) (stop_after digest now later count)
+unfolding stop_after
 stop-more digest s now items later tail kept replies count h = by (leb count (length later)) refl
   where
     all : List Item
@@ -169,7 +169,7 @@ stop-more digest s now items later tail kept replies count h = by (leb count (le
 
     by : (b : Bool) → leb count (length later) ≡ b
         → cond (leb (length items + count) (length (items ++ later))) (stop_at (carried digest s all (Rest false [])).replies (carried digest s all (Rest false [])).standing) None
-        ≡ option_map (behind_replies replies)
+        ≡ option_map (after_replies replies)
         (cond b (stop_at (carried digest now (take count later) (Rest false [])).replies (carried digest now (take count later) (Rest false [])).standing) None)
     by true within =
         let le = leb-true count (length later) within in
@@ -185,8 +185,8 @@ stop-more digest s now items later tail kept replies count h = by (leb count (le
         ap (λ (x : Bool). cond x (stop_at (carried digest s all (Rest false [])).replies (carried digest s all (Rest false [])).standing) None) beyond'
 
 -- after `done` there is no stop
-stop-done : (digest : List ℕ → List ℕ) (now : Running) (items : List Item) (count : ℕ) → now.is_done ≡ true → stop_behind digest now items count ≡ None
-unfolding stop_behind
+stop-done : (digest : List ℕ → List ℕ) (now : Running) (items : List Item) (count : ℕ) → now.is_done ≡ true → stop_after digest now items count ≡ None
+unfolding stop_after
 stop-done digest now items count done = by (leb count (length items))
   where
     none : stop_at (carried digest now (take count items) (Rest false [])).replies (carried digest now (take count items) (Rest false [])).standing ≡ None
@@ -202,21 +202,21 @@ stop-done digest now items count done = by (leb count (length items))
 pub feed_stop-more : (digest : List ℕ → List ℕ) (repository : Repository) (bytes piece : List ℕ) (count : ℕ) (now : Running) (kept : Tail)
     → so_far digest repository bytes now kept
     → feed_stop digest repository bytes piece count
-    ≡ option_map (behind_replies (stream_of digest repository bytes).replies) (stop_behind digest now (more_of kept piece).items count)
+    ≡ option_map (after_replies (stream_of digest repository bytes).replies) (stop_after digest now (more_of kept piece).items count)
 feed_stop-more digest repository bytes piece count now kept h =
-    ap (λ (r : Reading). stop_behind digest (begun (opened repository)) r.items (length (reading false bytes).items + count)) (reading-append bytes piece false)
+    ap (λ (r : Reading). stop_after digest (begun (opened repository)) r.items (length (reading false bytes).items + count)) (reading-append bytes piece false)
     ∙ stop-more digest (begun (opened repository)) now (reading false bytes).items (more_of (reading false bytes).tail piece).items (reading false bytes).tail kept _ count stands
-    ∙ ap (option_map (behind_replies (stream_of digest repository bytes).replies)) (by now.is_done refl)
+    ∙ ap (option_map (after_replies (stream_of digest repository bytes).replies)) (by now.is_done refl)
   where
     stands : carried digest (begun (opened repository)) (reading false bytes).items (reading false bytes).tail
         ≡ record { replies = (stream_of digest repository bytes).replies; standing = Runs now kept }
     stands = standing-so_far digest repository bytes now kept h
 
     by : (b : Bool) → now.is_done ≡ b
-        → stop_behind digest now (more_of (reading false bytes).tail piece).items count ≡ stop_behind digest now (more_of kept piece).items count
+        → stop_after digest now (more_of (reading false bytes).tail piece).items count ≡ stop_after digest now (more_of kept piece).items count
     by true done = stop-done digest now (more_of (reading false bytes).tail piece).items count done ∙ sym (stop-done digest now (more_of kept piece).items count done)
     by false running =
-        ap (λ (t : Tail). stop_behind digest now (more_of t piece).items count)
+        ap (λ (t : Tail). stop_after digest now (more_of t piece).items count)
         (sym (carried-kept digest (begun (opened repository)) now (reading false bytes).items (reading false bytes).tail kept _ stands running))
 
 -- ---- one call
@@ -248,9 +248,9 @@ fed-goes digest repository all before later is =
 
 fed-meets-well : (digest : List ℕ → List ℕ) (repository : Repository) (bytes piece : List ℕ) (now : Running) (kept : Tail)
     → so_far digest repository bytes now kept
-    → Meets digest (fed_well digest repository bytes piece) (gone_on (outcome_behind digest now kept piece))
+    → Meets digest (fed_well digest repository bytes piece) (gone_on (outcome_after digest now kept piece))
 fed-meets-well digest repository bytes piece now kept h =
-    fed-goes digest repository (bytes ++ piece) (stream_of digest repository bytes).replies (outcome_behind digest now kept piece)
+    fed-goes digest repository (bytes ++ piece) (stream_of digest repository bytes).replies (outcome_after digest now kept piece)
     (stream-more digest repository bytes piece now kept h)
 
 fed-meets : (digest : List ℕ → List ℕ) (repository : Repository) (bytes piece : List ℕ) (stop : Option ℕ) (now : Running) (kept : Tail)
@@ -258,16 +258,16 @@ fed-meets : (digest : List ℕ → List ℕ) (repository : Repository) (bytes pi
     → Meets digest (fed digest stop repository bytes piece) (fed_held digest piece stop now kept)
 fed-meets digest repository bytes piece None now kept h = fed-meets-well digest repository bytes piece now kept h
 fed-meets digest repository bytes piece (Some count) now kept h =
-    by (feed_stop digest repository bytes piece count) (stop_behind digest now (more_of kept piece).items count)
+    by (feed_stop digest repository bytes piece count) (stop_after digest now (more_of kept piece).items count)
     (feed_stop-more digest repository bytes piece count now kept h)
   where
     before : List ℕ
     before = (stream_of digest repository bytes).replies
 
-    by : (alone held : Option Stopped) → alone ≡ option_map (behind_replies before) held
-        → Meets digest (fed_until before count alone (fed_well digest repository bytes piece)) (held_until count held (gone_on (outcome_behind digest now kept piece)))
+    by : (alone held : Option Stopped) → alone ≡ option_map (after_replies before) held
+        → Meets digest (fed_until before count alone (fed_well digest repository bytes piece)) (held_until count held (gone_on (outcome_after digest now kept piece)))
     by alone None is =
-        subst (λ (o : Option Stopped). Meets digest (fed_until before count o (fed_well digest repository bytes piece)) (gone_on (outcome_behind digest now kept piece))) (sym is)
+        subst (λ (o : Option Stopped). Meets digest (fed_until before count o (fed_well digest repository bytes piece)) (gone_on (outcome_after digest now kept piece))) (sym is)
         (fed-meets-well digest repository bytes piece now kept h)
     by alone (Some stopped) is =
         subst (λ (o : Option Stopped). Meets digest (fed_until before count o (fed_well digest repository bytes piece))

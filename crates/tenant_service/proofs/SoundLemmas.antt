@@ -19,13 +19,13 @@ use Rattle.answers.specs.Answers.{answer_to}
 use Rattle.service_steps.specs.declared.answer.Answer.{Answer}
 use Rattle.service_steps.specs.declared.step.Step.{Step}
 use Rattle.service_steps.specs.declared.step.Step.TheVariants as step
-use Rattle.tenant_stream.specs.Carrying.{Between, outcome_behind, stream_in}
+use Rattle.tenant_stream.specs.Carrying.{Between, outcome_after, stream_in}
 use Rattle.tenant_stream.specs.Soundness.{IsSoundStanding}
 use Rattle.tenant_stream.proofs.SoundLemmas.{carried_sound, finished_sound}
 use Rattle.tenant_service.specs.declared.tenant.Phase.{Phase}
 use Rattle.tenant_service.specs.declared.tenant.Phase.TheVariants as phase
 use Rattle.tenant_service.specs.declared.tenant.Tenant.{Tenant}
-use Rattle.tenant_service.specs.Alone.{Call, Open, Feed, End, Ask, Restart, Turn, Stopped, answered, asked, ended, ended_well, stop_at, stop_behind, unless_out_of_memory}
+use Rattle.tenant_service.specs.Alone.{Call, Open, Feed, End, Ask, Restart, Turn, Stopped, answered, asked, ended, ended_well, stop_at, stop_after, unless_out_of_memory}
 use Rattle.tenant_service.specs.Holding.{Holding, Holdings, Idle, Busy, held_of}
 use Rattle.tenant_service.specs.Soundness.{IsSoundHolding}
 use Rattle.tenant_service.specs.HeldSteps.{end_held, fed_held, feed_held, gone_on, held_until, open_held, step_held}
@@ -93,10 +93,10 @@ asked-sound digest query (Some (suc count)) repository held sound =
     answered-sound digest (answer_to repository query) held sound
 
 module _ (digest : List ℕ → List ℕ) (names : AnswersNames digest) where
-  stop_behind-sound : (now : Running) (items : List Item) (count : ℕ)
-      → IsSound digest now.workspace → IsSoundStop digest (stop_behind digest now items count)
-  unfolding stop_behind
-  stop_behind-sound now items count sound = by (nat_le count (length items))
+  stop_after-sound : (now : Running) (items : List Item) (count : ℕ)
+      → IsSound digest now.workspace → IsSoundStop digest (stop_after digest now items count)
+  unfolding stop_after
+  stop_after-sound now items count sound = by (nat_le count (length items))
     where
       first : Outcome
       first = carried digest now (take count items) (Rest false [])
@@ -111,16 +111,16 @@ module _ (digest : List ℕ → List ℕ) (names : AnswersNames digest) where
       → IsSoundHolding digest (fed_held digest piece stop now tail).state
   fed-sound piece stop now tail sound = by stop
     where
-      well : IsSoundStanding digest (outcome_behind digest now tail piece).standing
+      well : IsSoundStanding digest (outcome_after digest now tail piece).standing
       well = carried_sound digest names now (more_of tail piece).items (more_of tail piece).tail
           sound
 
       by : (stop : Option ℕ) → IsSoundHolding digest (fed_held digest piece stop now tail).state
       by None = well
       by (Some count) =
-          until-sound digest count (stop_behind digest now (more_of tail piece).items count)
-          (gone_on (outcome_behind digest now tail piece))
-          (stop_behind-sound now (more_of tail piece).items count sound) well
+          until-sound digest count (stop_after digest now (more_of tail piece).items count)
+          (gone_on (outcome_after digest now tail piece))
+          (stop_after-sound now (more_of tail piece).items count sound) well
 
   feed-sound : (piece : List ℕ) (stop : Option ℕ) (held : Holding) → IsSoundHolding digest held
       → IsSoundHolding digest (feed_held digest piece stop held).state

@@ -9,8 +9,8 @@ use Rattle.stream_lex.specs.Running.{more_of, extended}
 use Rattle.import_session.specs.Stream.{Running, Runs, Refused, Outcome, after_reply, carried, last_checkpoint}
 use Rattle.tenant_stream.specs.Carrying.{Goes, Fails, Stops}
 use Rattle.tenant_stream.proofs.StreamLemmas.{carried-tail, more-extended, outcome-advanced, standing-drained, replies-after}
-use Rattle.tenant_service.specs.Alone.{stop_at, stop_behind}
-use Rattle.tenant_service.specs.OneStep.{GoesTo, StopsBehind}
+use Rattle.tenant_service.specs.Alone.{stop_at, stop_after}
+use Rattle.tenant_service.specs.OneStep.{GoesTo, StopsAfter}
 
 -- all that was whole was carried out
 pub GoesTo-goes : (digest : List ℕ → List ℕ) (now next : Running) (tail rest : Tail) (piece out out' : List ℕ)
@@ -41,8 +41,8 @@ GoesTo-fails digest now left tail piece out out' code h = record {
 pub stop-first : (digest : List ℕ → List ℕ) (now last : Running) (items later : List Item) (replies : List ℕ)
     → carried digest now (items ++ []) (Rest false []) ≡ after_reply replies (carried digest last [] (Rest false []))
     → last.is_done ≡ false
-    → stop_behind digest now (items ++ later) (length items) ≡ Some (record { replies = replies; repository = last_checkpoint last.workspace })
-unfolding stop_behind
+    → stop_after digest now (items ++ later) (length items) ≡ Some (record { replies = replies; repository = last_checkpoint last.workspace })
+unfolding stop_after
 stop-first digest now last items later replies carries running =
     let within : leb (length items) (length (items ++ later)) ≡ true = le-leb _ _ (let n = length-append items later in omega arith) in
     let first : carried digest now (take (length items) (items ++ later)) (Rest false []) ≡ record { replies = replies; standing = Runs last (Rest false []) } =
@@ -54,13 +54,13 @@ stop-first digest now last items later replies carries running =
     ∙ ap (λ (o : Outcome). stop_at o.replies o.standing) first ∙ test
 
 -- memory ran out after some items
-pub StopsBehind-stops : (digest : List ℕ → List ℕ) (now left : Running) (tail : Tail) (piece out out' : List ℕ) (count : ℕ)
+pub StopsAfter-stops : (digest : List ℕ → List ℕ) (now left : Running) (tail : Tail) (piece out out' : List ℕ) (count : ℕ)
     → Stops digest now (extended tail piece) out count left out'
-    → StopsBehind digest now tail piece count out out' left
-StopsBehind-stops digest now left tail piece out out' count h = record {
+    → StopsAfter digest now tail piece count out out' left
+StopsAfter-stops digest now left tail piece out out' count h = record {
   replies = h.ends.replies;
-  stop = ap (λ (r : Reading). stop_behind digest now r.items count) (sym (more-extended tail piece) ∙ h.ends.advances.reads [])
-      ∙ ap (λ (n : ℕ). stop_behind digest now (h.items ++ (more_of h.rest []).items) n) (sym h.counted)
+  stop = ap (λ (r : Reading). stop_after digest now r.items count) (sym (more-extended tail piece) ∙ h.ends.advances.reads [])
+      ∙ ap (λ (n : ℕ). stop_after digest now (h.items ++ (more_of h.rest []).items) n) (sym h.counted)
       ∙ stop-first digest now h.last h.items (more_of h.rest []).items h.ends.replies (h.ends.advances.carries [] (Rest false [])) h.ends.running
       ∙ ap (λ (r : Repository). Some (record { replies = h.ends.replies; repository = r })) (sym h.ends.checkpoint);
   printed = h.ends.printed;

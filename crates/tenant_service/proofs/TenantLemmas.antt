@@ -22,15 +22,15 @@ use Rattle.tenant_stream.specs.declared.stop.Stop.TheVariants as stop
 use Rattle.tenant_service.specs.declared.tenant.Phase.{Phase}
 use Rattle.tenant_service.specs.declared.tenant.Phase.TheVariants as phase
 use Rattle.tenant_service.specs.Alone.{Open, Ask, End as EndCall, Turn, turn, Stopped, answered, asked, unless_out_of_memory, ended, ended_well, end_answer, closed}
-use Rattle.tenant_stream.specs.Carrying.{outcome_behind, Between, new_stream, stream_in, Carries, Feeds, Stays, IsEnd, StopsAtEnd}
+use Rattle.tenant_stream.specs.Carrying.{outcome_after, Between, new_stream, stream_in, Carries, Feeds, Stays, IsEnd, StopsAtEnd}
 use Rattle.tenant_service.specs.Headline.{stop_told}
 use Rattle.tenant_service.specs.Holding.{Holding, Idle, Busy, empty_repository}
 use Rattle.tenant_service.specs.HeldObjects.{last_held}
 use Rattle.tenant_service.specs.HeldSteps.{step_held, fed_held, held_until, gone_on, standing_answer, end_held}
 use Rattle.tenant_service.specs.Tenants.{held_in, standing_in, kept_tail, IsSettled}
-use Rattle.tenant_service.specs.OneStep.{Takes, GoesTo, StopsBehind, Fed, refusal_told}
+use Rattle.tenant_service.specs.OneStep.{Takes, GoesTo, StopsAfter, Fed, refusal_told}
 use Rattle.tenant_stream.proofs.StreamLemmas.{carried-done}
-use Rattle.tenant_service.proofs.StreamLemmas.{GoesTo-goes, GoesTo-fails, StopsBehind-stops}
+use Rattle.tenant_service.proofs.StreamLemmas.{GoesTo-goes, GoesTo-fails, StopsAfter-stops}
 
 -- the committed objects are all, where no stream runs
 pub all_committed : (pool : Cells) (table : View) → table.committed ≡ length table.entries
@@ -118,7 +118,7 @@ fed-feeds digest s s' p p' t t' r r' piece out out' result h = by s.session.is_d
         subst (λ (k : Tail). GoesTo digest now s.tail piece out out' (Runs next k)) (sym (kept-is s'))
         (GoesTo-goes digest now next s.tail s'.tail piece out out' h)
     carries (Err (stop.Fault code)) running h = GoesTo-fails digest now next s.tail piece out out' code h
-    carries (Err (stop.Memory count)) running h = StopsBehind-stops digest now next s.tail piece out out' count h
+    carries (Err (stop.Memory count)) running h = StopsAfter-stops digest now next s.tail piece out out' count h
 
     by : (b : Bool) → s.session.is_done ≡ b → Feeds digest b now s.tail piece out result next s'.tail out'
         → Fed digest now (kept_tail s) piece out result out' next (kept_tail s')
@@ -149,10 +149,10 @@ took-refused digest now tail piece out out' code r left h same = record {
 
 -- and one after some items of which memory ran out
 pub took-stopped : (digest : List ℕ → List ℕ) (now last : Running) (tail : Tail) (piece out out' : List ℕ) (count : ℕ) (left : Repository)
-    → StopsBehind digest now tail piece count out out' last → left ≡ last_checkpoint last.workspace
+    → StopsAfter digest now tail piece count out out' last → left ≡ last_checkpoint last.workspace
     → Takes (fed_held digest piece (Some count) now tail) (answer.Memory count) out out' (Busy (Refused 90 left))
 took-stopped digest now last tail piece out out' count left h same =
-    subst (λ (o : Option Stopped). Takes (held_until count o (gone_on (outcome_behind digest now tail piece))) (answer.Memory count) out out' (Busy (Refused 90 left)))
+    subst (λ (o : Option Stopped). Takes (held_until count o (gone_on (outcome_after digest now tail piece))) (answer.Memory count) out out' (Busy (Refused 90 left)))
     (sym h.stop)
     (record { answered = refl; printed = h.printed; leaves = ap (λ (x : Repository). Busy (Refused 90 x)) (sym same) })
 

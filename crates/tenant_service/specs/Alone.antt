@@ -72,8 +72,8 @@ stop_at replies (Refused code repository) = None
 
 -- The stop after the first `count` items: what they print, and the last checkpoint then. There is
 -- no stop if there are fewer items, after a fault, or after `done`.
-unfoldable pub stop_behind : (List ℕ → List ℕ) → Running → List Item → ℕ → Option Stopped
-stop_behind digest now items count =
+unfoldable pub stop_after : (List ℕ → List ℕ) → Running → List Item → ℕ → Option Stopped
+stop_after digest now items count =
     if nat_le count (length items) then
     (let first = carried digest now (take count items) (Rest false []) in
     stop_at first.replies first.standing)
@@ -103,7 +103,7 @@ abbrev pub feed_stop : (List ℕ → List ℕ) → Repository → List ℕ → L
 feed_stop digest repository bytes piece count =
     let before = (reading false bytes).items in
     let all = (reading false (bytes ++ piece)).items in
-    stop_behind digest (begun (opened repository)) all (length before + count)
+    stop_after digest (begun (opened repository)) all (length before + count)
 
 -- If there is such a stop, the stream is dead under 90.
 abbrev pub fed_until : List ℕ → ℕ → Option Stopped → Turn State → Turn State

@@ -1,4 +1,4 @@
--- What a tenant of its own is told and left with where it takes a copy.
+-- What a tenant is told alone, and what it is left with, when it takes a copy.
 use Rattle.std.specs.Prelude.{◌≡◌, ℕ, List, [], ◌∷◌, Option, None}
 use Rattle.git_model.specs.Repository.{Repository}
 use Rattle.content_pool.specs.LiveContents.{stored_sizes}
@@ -10,7 +10,7 @@ use Rattle.tenant_service.specs.Headline.{Told, told_alone, left_alone}
 use Rattle.tenant_service.specs.Holding.{Holding, Holdings, Idle, Busy, empty_repository}
 use Rattle.tenant_service.specs.HeldObjects.{held_contents}
 
--- A text is imported at once, and no step runs out of memory.
+-- The steps that import a text in one Feed, and no step runs out of memory.
 abbrev pub import_steps : List ℕ → List (Call × Option ℕ)
 import_steps text = (Open, None) ∷ (Feed text, None) ∷ (End, None) ∷ []
 
@@ -18,8 +18,8 @@ import_steps text = (Open, None) ∷ (Feed text, None) ∷ (End, None) ∷ []
 abbrev pub told_ok : Told
 told_ok = record { answer = answer.Ok; reply = [] }
 
--- In an empty repository of its own each step of the import of a text is answered Ok without a
--- reply, and they leave no stream, and a copy of a repository.
+-- In an empty repository of its own, each step of the import of a text is answered Ok without a
+-- reply. The steps leave a copy of a repository, and no stream.
 pub record Takes (digest : List ℕ → List ℕ) (text : List ℕ) (repository : Repository) : Type 0 where
   pub told : told_alone digest (Closed empty_repository) (import_steps text)
       ≡ told_ok ∷ told_ok ∷ told_ok ∷ []
@@ -32,8 +32,7 @@ abbrev pub HoldsCopy : Repository → Holding → Type 0
 HoldsCopy repository (Idle left) = IsCopyOf repository left
 HoldsCopy repository (Busy standing) = ⊥
 
--- If a repository may be copied, the answer is Ok, and then the other tenant has a copy. Only want
--- of memory may stop it.
+-- The answer is Ok, and then the other tenant has a copy; or memory ran out. It is no fault.
 abbrev pub CopiesAs : Answer → Repository → Holding → Type 0
 CopiesAs answer.Ok repository held = HoldsCopy repository held
 CopiesAs (answer.Memory items) repository held = Unit {0}

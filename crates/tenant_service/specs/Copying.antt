@@ -1,5 +1,5 @@
--- Copies of a tenant's repository to an empty tenant: which steps one is, by git-fast-import(1) and
--- the query `export`, and what refuses it before them.
+-- Copies of a tenant's repository to an empty tenant: the steps of a copy, by git-fast-import(1)
+-- and the query `export`, and why a copy is refused before them.
 use Rattle.std.specs.Prelude.{◌≡◌, ℕ, ◌==◌, Bool, ◌&&◌, if◌then◌else◌, List, [], ◌∷◌, length, codes, Option, None, Some}
 use Rattle.std.specs.Str.{bytes_eq}
 use Rattle.git_model.specs.RefStore.{first_head, listed_refs}
@@ -33,7 +33,7 @@ copy_refusal from to all =
     if is_tenant_name from && is_tenant_name to then held_refusal (held_of to all)
     else Some fault.BadTenantName
 
--- A step is this call of the tenant of this name.
+-- A step is this call of this tenant.
 abbrev pub IsCall : List ℕ → Call → Step → Type 0
 IsCall tenant call s = (name_of s ≡ tenant) × (call_of s ≡ call)
 
@@ -72,8 +72,8 @@ abbrev pub IsCopyRun : Option ServiceFault → List ℕ → List ℕ → Run →
 IsCopyRun (Some refusal) from to run told = (run ≡ []) × (told ≡ answer.Fault (code_of refusal))
 IsCopyRun None from to run told = IsExport from to run told
 
--- A run that meets `Is` was taken, and every tenant was told what it is told in a repository of its
--- own.
+-- A run with the property `Is` was taken, and every tenant was told what it is told in a repository
+-- of its own.
 pub record HasTaken (digest : List ℕ → List ℕ) (before after : Holdings) (Is : Run → Type 0)
     : Type 0 where
   pub run : Run

@@ -1,5 +1,5 @@
--- Tenants as they are lent to be saved, and as they were loaded: what the proofs of the service's
--- calls say to one another. No public clause cites it.
+-- Tenants as they are lent to a save, and as a load gives them: definitions for the contracts of
+-- private functions. No public clause cites them.
 use Rattle.std.specs.Prelude.{◌≡◌, ℕ, List, [], ◌++◌, map}
 use Rattle.git_model.specs.RefStore.{RefStore}
 use Rattle.tenant_tables.specs.View.{View}
@@ -25,7 +25,7 @@ entry_of loaded = (
 abbrev pub AreAll : Tenants → List Loaded → List Loaded → Type 0
 AreAll taken rest all = taken ++ map entry_of rest ≡ map entry_of all
 
--- A tenant's name, table and refs, as they are lent and where they lie.
+-- A tenant's name, table and refs: as they are lent, and in the entry of the tenant.
 pub record Parts : Type 0 where
   pub name : List ℕ
   pub table : View

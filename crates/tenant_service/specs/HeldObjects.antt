@@ -25,7 +25,7 @@ abbrev pub last_held : Holding → Repository
 last_held (Idle repository) = repository
 last_held (Busy standing) = last_of standing
 
--- Whether a stream runs that has read `done`: no byte that comes counts then.
+-- Whether a stream runs that has read `done`, so that no later byte counts.
 abbrev pub has_read_done : Holding → Bool
 has_read_done (Idle repository) = false
 has_read_done (Busy (Runs now tail)) = now.is_done
@@ -44,6 +44,6 @@ abbrev pub tenants_with : Content → Holdings → ℕ
 tenants_with c all =
     count_by (λ e. is_member same_content (map (λ o. o.content) (held_objects e.1)) c) all
 
--- Holdings are told apart by their parts, refs included.
+-- A code of the refs of a repository: the view of a `Service` needs a code of each of its parts.
 abbrev pub ref_map_code : Coded RefMap
 ref_map_code = map.code (coded_list coded_ℕ) (coded_list coded_ℕ)

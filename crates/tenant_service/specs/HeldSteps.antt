@@ -1,14 +1,14 @@
--- What each call does to what is held of a tenant: the service has neither the repository at Open nor
--- the bytes since.
+-- What each call does to what is held of a tenant. The service has neither the repository at Open
+-- nor the bytes since.
 use Rattle.std.specs.Prelude.{ℕ, false, List, [], Option, None, Some}
 use Rattle.stream_lex.specs.Items.{Tail, Rest}
 use Rattle.stream_lex.specs.Running.{more_of}
 use Rattle.import_session.specs.Workspace.{opened}
 use Rattle.import_session.specs.Stream.{Running, Standing, Runs, Refused, Outcome, begun}
-use Rattle.tenant_stream.specs.Carrying.{outcome_behind}
+use Rattle.tenant_stream.specs.Carrying.{outcome_after}
 use Rattle.service_steps.specs.declared.answer.Answer.{Answer}
 use Rattle.service_steps.specs.declared.answer.Answer.TheVariants as answer
-use Rattle.tenant_service.specs.Alone.{Call, Open, Feed, End, Ask, Restart, Turn, turn, refused_under, unless_out_of_memory, Stopped, stop_behind, ended, closed, asked}
+use Rattle.tenant_service.specs.Alone.{Call, Open, Feed, End, Ask, Restart, Turn, turn, refused_under, unless_out_of_memory, Stopped, stop_after, ended, closed, asked}
 use Rattle.tenant_service.specs.Holding.{Holding, Idle, Busy}
 use Rattle.tenant_service.specs.HeldObjects.{last_held}
 
@@ -27,10 +27,10 @@ held_until count (Some stopped) well =
 held_until count None well = well
 
 abbrev pub fed_held : (List ℕ → List ℕ) → List ℕ → Option ℕ → Running → Tail → Turn Holding
-fed_held digest piece None now tail = gone_on (outcome_behind digest now tail piece)
+fed_held digest piece None now tail = gone_on (outcome_after digest now tail piece)
 fed_held digest piece (Some count) now tail =
-    held_until count (stop_behind digest now (more_of tail piece).items count)
-    (gone_on (outcome_behind digest now tail piece))
+    held_until count (stop_after digest now (more_of tail piece).items count)
+    (gone_on (outcome_after digest now tail piece))
 
 -- What each call does to what is held.
 abbrev pub open_held : Option ℕ → Holding → Turn Holding

@@ -1,4 +1,4 @@
--- What the service holds of a tenant: enough to go on, and neither the repository at Open nor the
+-- What the service holds of a tenant: enough to go on, but neither the repository at Open nor the
 -- bytes since.
 use Rattle.std.specs.Prelude.{◌≡◌, ℕ, List, [], unwrap_or}
 use Rattle.std.specs.Map.{lookup}

@@ -1,5 +1,5 @@
--- What a step does to the tenants and the pool: what the proofs of the service's calls say to one
--- another. No public clause cites it.
+-- What a step does to the tenants and the pool: definitions for the contracts of private functions.
+-- No public clause cites them.
 use Rattle.std.specs.Prelude.{◌≡◌, ℕ, zero, suc, Bool, true, false, List, [], ◌∷◌, ◌++◌, map, Some, Result, Ok, Err}
 use Rattle.std.specs.Str.{bytes_eq}
 use Rattle.content_pool.specs.Pool.{Cells}
@@ -16,8 +16,8 @@ use Rattle.service_steps.specs.declared.step.Step.{Step}
 use Rattle.service_steps.specs.declared.step.Step.TheVariants as step
 use Rattle.tenant_stream.specs.declared.stop.Stop.{Stop}
 use Rattle.tenant_stream.specs.declared.stop.Stop.TheVariants as stop
-use Rattle.tenant_stream.specs.Carrying.{outcome_behind}
-use Rattle.tenant_service.specs.Alone.{Call, Turn, stop_behind}
+use Rattle.tenant_stream.specs.Carrying.{outcome_after}
+use Rattle.tenant_service.specs.Alone.{Call, Turn, stop_after}
 use Rattle.tenant_service.specs.Headline.{call_of, stop_told}
 use Rattle.tenant_service.specs.Holding.{Holding, Idle, Holdings, held_of}
 use Rattle.tenant_service.specs.HeldObjects.{last_held}
@@ -36,14 +36,14 @@ pub record Takes (t : Turn Holding) (answer : Answer) (out out' : List ℕ) (lef
 pub record GoesTo (digest : List ℕ → List ℕ) (now : Running) (tail : Tail) (piece : List ℕ)
     (out out' : List ℕ) (left : Standing) : Type 0 where
   pub replies : List ℕ
-  pub outcome : outcome_behind digest now tail piece ≡ record { replies = replies; standing = left }
+  pub outcome : outcome_after digest now tail piece ≡ record { replies = replies; standing = left }
   pub printed : out' ≡ out ++ replies
 
 -- Memory ran out after so many items.
-pub record StopsBehind (digest : List ℕ → List ℕ) (now : Running) (tail : Tail) (piece : List ℕ)
+pub record StopsAfter (digest : List ℕ → List ℕ) (now : Running) (tail : Tail) (piece : List ℕ)
     (count : ℕ) (out out' : List ℕ) (left : Running) : Type 0 where
   pub replies : List ℕ
-  pub stop : stop_behind digest now (more_of tail piece).items count
+  pub stop : stop_after digest now (more_of tail piece).items count
       ≡ Some (record { replies = replies; repository = last_checkpoint left.workspace })
   pub printed : out' ≡ out ++ replies
 
@@ -55,9 +55,9 @@ Fed digest now tail piece out (Ok u) out' next kept =
 Fed digest now tail piece out (Err (stop.Fault code)) out' next kept =
     GoesTo digest now tail piece out out' (Refused code (last_checkpoint next.workspace))
 Fed digest now tail piece out (Err (stop.Memory count)) out' next kept =
-    StopsBehind digest now tail piece count out out' next
+    StopsAfter digest now tail piece count out out' next
 
--- What a query is answered that is refused. Want of memory has an answer of its own.
+-- The answer to a query that is refused. A lack of memory has an answer of its own.
 abbrev pub refusal_told : Fault → Answer
 refusal_told fault.Memory = answers.Memory 0
 refusal_told fault.WrongKind = answers.Fault (code_of fault.WrongKind)
@@ -80,7 +80,7 @@ abbrev pub held_in_store : List ℕ → Store → Holding
 held_in_store name s = held_of name (holdings s.pool s.tenants)
 
 -- A call of the tenant of this name was answered and printed as `step_held` says, and it changed no
--- other tenant. The accounts hold again.
+-- other tenant. Afterwards the accounts hold again.
 pub record Serves (digest : List ℕ → List ℕ) (name : List ℕ) (call : Call) (before : Store)
     (answer : Answer) (out out' : List ℕ) (after : Store) : Type 0 where
   pub accounts : Accounts digest after.pool after.tenants
@@ -97,7 +97,7 @@ pub record Refuses (digest : List ℕ → List ℕ) (before : Store) (answer : A
   pub printed : out' ≡ out
   pub same : holdings after.pool after.tenants ≡ holdings before.pool before.tenants
 
--- A call under a name: of its tenant, or of nobody.
+-- A call under a name: a good name is that of a tenant, and a bad one is nobody's.
 abbrev pub Calls : (List ℕ → List ℕ) → Bool → List ℕ → Call → Store → Answer → List ℕ → List ℕ
     → Store → Type 0
 Calls digest true name call before answer out out' after =
@@ -123,7 +123,7 @@ Steps digest step.Restart before answer out out' after =
 Steps digest s before answer out out' after =
     Calls digest (is_tenant_name (name_of s)) (name_of s) (call_of s) before answer out out' after
 
--- The first so many are restarted, or just the one at a position.
+-- The first so many tenants are restarted, or only the one at a position.
 abbrev pub first_restarted : ℕ → Holdings → Holdings
 first_restarted zero all = all
 first_restarted (suc n) [] = []

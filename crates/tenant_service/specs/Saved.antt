@@ -44,8 +44,8 @@ pub record IsLoadedFrom (digest : List ℕ → List ℕ) (bytes : List ℕ) (hel
   pub text : IsTextOf digest all bytes
   pub has : HasJust all held
 
--- What is answered if the reader has these bytes, and which bytes it has afterwards. A fault of a
--- device, or want of memory, may stand in place of any answer.
+-- The answer if the reader has these bytes, and the bytes that it has afterwards. Any answer may be
+-- replaced by a fault of a device or a lack of memory.
 abbrev pub LoadsAs : (List ℕ → List ℕ) → Option (List ℕ) → Result Holdings Fault
     → Option (List ℕ) → Type 0
 LoadsAs digest None r new = Unit {0}

@@ -29,7 +29,7 @@ use Rattle.tenant_service.specs.HeldObjects.{held_objects, last_held, tenants_wi
 unfoldable pub kept_tail : Between → Tail
 kept_tail stream = if stream.session.is_done then Rest false [] else stream.tail
 
--- How a stream stands, whose objects stand in a table over a pool.
+-- How a stream stands whose objects are in a table over a pool.
 abbrev pub standing_in : Between → Cells → View → RefStore → Standing
 standing_in stream pool table refs = Runs (stream_in stream pool table refs) (kept_tail stream)
 
@@ -42,13 +42,13 @@ held_in (phase.Dead code) pool table refs = Busy (Refused code (repository_in po
 abbrev pub holding_in : Cells → Tenant → Holding
 holding_in pool tenant = held_in tenant.phase pool tenant.table tenant.refs
 
--- Where no stream runs all objects are committed.
+-- If no stream runs, all objects are committed.
 abbrev pub IsSettled : Phase → View → Type 0
 IsSettled phase.Closed table = table.committed ≡ length table.entries
 IsSettled (phase.Running stream) table = Unit {0}
 IsSettled (phase.Dead code) table = table.committed ≡ length table.entries
 
--- If a stream runs, the files that it holds of its commits stand among the objects.
+-- If a stream runs, the files that it holds of its commits are among these objects.
 abbrev pub HoldsIn : List Object → Phase → Type 0
 HoldsIn objects phase.Closed = Unit {0}
 HoldsIn objects (phase.Running stream) = HoldsFiles objects stream.session.own
@@ -62,16 +62,16 @@ pub record Stands (digest : List ℕ → List ℕ) (pool : Cells) (tenant : Tena
   pub files : HoldsIn (objects pool tenant.table.entries) tenant.phase
   pub chain : IsFirstParentChain (objects pool (in_sight Committed tenant.table)) tenant.chain
 
--- All tenants, by their names.
+-- All tenants by their names.
 abbrev pub Tenants : Type 0
 Tenants = List (List ℕ × Tenant)
 
--- How often their tables hold a slot.
+-- How often the tables of all tenants hold a slot.
 abbrev pub all_held : Tenants → ℕ → ℕ
 all_held tenants s = sum_by (λ e. held e.1.table.entries s) tenants
 
--- Each tenant has a good name, and its table stands in the pool; and a slot is held as often as
--- tables hold it.
+-- The accounts of the pool: each tenant has a good name, and its table stands in the pool; and the
+-- pool holds a slot as often as the tables do.
 pub record Accounts (digest : List ℕ → List ℕ) (pool : Cells) (tenants : Tenants) : Type 0 where
   pub names : AllByRecursion (λ e. is_tenant_name e.0 ≡ true) tenants
   pub stands : AllByRecursion (λ e. Stands digest pool e.1) tenants
@@ -98,11 +98,11 @@ holds_of pool c =
     sum_by (λ e. if same_content c (content_of e) then e.holds else 0) (filter_map (λ o. o) pool)
 
 -- A pool counts tenants: it holds each content as often as there are tenants that have an object
--- with it, and so as often as tables hold it, each of which holds a content at most once.
+-- with it. No table holds a content twice, so this is also how often the tables hold it.
 abbrev pub CountsTenants : Cells → Holdings → Type 0
 CountsTenants pool all = (c : Content) → holds_of pool c ≡ tenants_with c all
 
--- For every tenant some state of its own leads to what is held of it.
+-- For every tenant there is a state of its own that leads to what is held of it.
 abbrev pub AreLed : (List ℕ → List ℕ) → Holdings → Type 0
 AreLed digest all = (tenant : List ℕ) → (state : State) × LeadsTo digest state (held_of tenant all)
 

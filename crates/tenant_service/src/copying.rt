@@ -1,7 +1,7 @@
 //! Copies of a tenant's repository to an empty tenant, by the steps of a service.
 //!
-//! Here stands which steps these are. What they leave is the law of exports: `Service::copy_tenant`
-//! says it.
+//! This module has the steps of a copy. What they leave is the law of exports, which
+//! `Service::copy_tenant` states.
 
 ghost use Rattle.std.specs.Prelude.{◌≡◌};
 ghost use Rattle.content_pool.specs.Pool.{Cells};
@@ -21,7 +21,7 @@ use std::alloc::Global;
 use tenant_refs::{FIRST_HEAD, Refs, TenantName};
 use tenant_tables::Table;
 
-// What the tenant that is copied is asked.
+// The query to the tenant that is copied.
 const EXPORT: &[u8] = b"export";
 
 // Whether a repository has no object, no ref, and the first HEAD.
@@ -47,9 +47,9 @@ fn refusal_of(tenant: &Tenant) -> Option<ServiceFault>
     }
 }
 
-/// Why a copy is refused before its first step: a bad name of one of the two tenants (32), a stream
-/// of the second, be it dead (31), or an object, a ref or another HEAD than the first (33). Takes
-/// no memory.
+/// Why a copy of `from` to `to` is refused before its first step: one of the two names is bad (32),
+/// `to` has a stream, even a dead one (31), or `to` has an object, a ref, or another HEAD than the
+/// first (33). They are checked in this order. `None` if the copy is not refused. Takes no memory.
 pub fn copy_refusal(
     tenants: &IndexMap<TenantName, Tenant>,
     from: &[u8],
@@ -80,7 +80,7 @@ fn first_refusal(first: Answer, second: Answer) -> Answer
     }
 }
 
-// Opens a stream, feeds it a text, and ends it, also where the text was refused.
+// Opens a stream, feeds it a text, and ends it, even if the text was refused.
 fn import<N: Naming>(alloc: Global, service: &mut Service<N>, to: &[u8], text: &[u8]) -> Answer
     ensures { HasTaken N.digest_of service.old service.new
         (λ run. IsImport to.now text.now run result) }
@@ -101,8 +101,9 @@ fn import<N: Naming>(alloc: Global, service: &mut Service<N>, to: &[u8], text: &
     first_refusal(fed, ended)
 }
 
-/// Takes the steps of a copy, and answers the first refusal of them, else Ok. What they print comes
-/// from `alloc`.
+/// Takes the steps of a copy: an Ask `export` of `from`, and then Open, one Feed of that text, and
+/// End of `to`. The answer is the first of theirs that is not Ok, else Ok. Their replies take
+/// memory from `alloc`.
 pub fn copy<N: Naming>(alloc: Global, service: &mut Service<N>, from: &[u8], to: &[u8]) -> Answer
     ensures { HasTaken N.digest_of service.old service.new
         (λ run. IsExport from.now to.now run result) }

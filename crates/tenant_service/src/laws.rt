@@ -9,13 +9,14 @@ ghost use Rattle.export_text.specs.Export.{export_text};
 ghost use Rattle.import_session.specs.Sound.{IsSoundRepository};
 ghost use Rattle.tenant_service.specs.Copies.{Takes};
 
-/// A tenant that has nothing opens a stream, is fed what another repository exports, and ends the
-/// stream, and none of the three runs out of memory: each is answered Ok and prints nothing, and
-/// what is left is a copy. It has the refs and HEAD of the repository, each object that these
-/// reach, with the same name, kind and bytes, and no object besides.
+/// A tenant that has nothing opens a stream, feeds it the export of another repository, and ends
+/// it. If none of these three steps runs out of memory, each is answered Ok and prints nothing, and
+/// the tenant is left with a copy: the refs and HEAD of the repository, each object that these
+/// reach, with the same name, kind and bytes, and no other object.
 ///
-/// The repository is good as one is that a stream leaves, its lines are no longer than a stream may
-/// have them, it may be exported, and its refs reach at most 65,536 tags.
+/// The premises: the repository is sound, as every repository is that a stream leaves; no line and
+/// no data of its export is longer than a stream may have them; its refs are few enough for an
+/// export; and they reach at most 65,536 tags.
 pub fn exports_are_taken()
     ensures { (digest : List ℕ → List ℕ) → AnswersNames digest → (repository : Repository)
         → IsSoundRepository digest repository → CanBeCopied repository

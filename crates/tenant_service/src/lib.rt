@@ -1,8 +1,8 @@
 //! The service: many tenants' repositories over one pool of contents.
 //!
 //! A tenant is told what it would be told if nobody else were there: `Service::run` says so, for
-//! every list of steps of any tenants, however interleaved. How steps lie in bytes is not known
-//! here.
+//! every list of steps of any tenants, however interleaved. This crate does not know how steps are
+//! encoded as bytes.
 #![tactic(auto)]
 
 mod copying;

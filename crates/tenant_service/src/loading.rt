@@ -1,4 +1,4 @@
-//! The tenants of a service as they were loaded: each has its repository, and no stream.
+//! The tenants of a service after a load: each has its repository, and no stream.
 
 ghost use Rattle.std.specs.Prelude.{◌≡◌, ◌++◌, ◌∷◌, [], map, IfOk, OnOk, None};
 ghost use Rattle.std.specs.List.{IsDistinct};
@@ -15,7 +15,7 @@ use revisions::FirstParentChain;
 use std::alloc::Global;
 use tenant_refs::TenantName;
 
-// One tenant more. Its name is new.
+// Adds a loaded tenant, whose name is new.
 fn take_in(
     alloc: Global,
     tenants: &mut IndexMap<TenantName, Tenant>,
@@ -34,7 +34,7 @@ fn take_in(
     add_tenant(tenants, name, tenant)
 }
 
-// All of them, in their order.
+// Adds all loaded tenants, in their order.
 fn take_all_in(
     alloc: Global,
     tenants: &mut IndexMap<TenantName, Tenant>,
@@ -51,8 +51,8 @@ fn take_all_in(
     Ok(())
 }
 
-/// Tenants that were loaded, under their names, which are distinct. `Memory` where there is no room
-/// for their entries.
+/// The loaded tenants by their names, which are distinct. `Memory` (90) if there is no room for
+/// their entries; then the tenants are dropped.
 pub fn tenants_of(
     alloc: Global,
     loaded: Vec<Loaded>,

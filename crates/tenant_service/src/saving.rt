@@ -1,4 +1,4 @@
-//! The tenants of a service as they are lent to be saved.
+//! The tenants of a service, lent to a save.
 
 ghost use Rattle.std.specs.Prelude.{◌≡◌, map, IfOk};
 ghost use Rattle.tenant_service.specs.Entries.{parts_lent, parts_of};
@@ -10,7 +10,7 @@ use std::alloc::{AllocError, Global};
 use tenant_refs::TenantName;
 
 /// Each tenant's name, table and refs, in the order in which the tenants were seen. Takes memory
-/// for the list alone.
+/// only for the list; `AllocError` if there is no room for it.
 pub fn lend_all<'a>(
     alloc: Global,
     tenants: &'a IndexMap<TenantName, Tenant>,

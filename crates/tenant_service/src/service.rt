@@ -1,7 +1,7 @@
 //! A service of many tenants over one pool of contents.
 //!
-//! Each tenant has its own table, refs and stream; what they share is the pool, and no tenant is
-//! told anything of it. Steps come one at a time, and may cut a stream at any byte:
+//! Each tenant has its own table, refs and stream. All tenants share the pool, and no tenant is
+//! told anything about it. Steps come one at a time, and may cut a stream at any byte:
 //!
 //! ```text
 //! let mut service = Service::new(alloc, Sha1Naming);
@@ -18,6 +18,7 @@ ghost use Rattle.byte_devices.specs.Device.{device_of, calls_of, counted_on, see
 ghost use Rattle.content_pool.specs.LiveContents.{live_contents, stored_sizes};
 ghost use Rattle.export_laws.specs.Copies.{CanBeCopied};
 ghost use Rattle.git_model.specs.Content.{same_content};
+ghost use Rattle.git_model.specs.Limits.{reads_limit};
 ghost use Rattle.pool_file_checks.specs.Judging.{IsBlamed};
 ghost use Rattle.pool_file_checks.specs.Repositories.{file_text};
 ghost use Rattle.pool_file_checks.specs.Saving.{IsTextOf};
@@ -93,8 +94,8 @@ impl<N: Naming> Service<N> {
         }
     }
 
-    /// To what is held of a tenant some repository and stream of its own lead: a fact for proofs. A
-    /// call does nothing.
+    /// For every tenant there is a repository and a stream of its own that lead to what the service
+    /// holds of it. This is a fact for proofs: a call does nothing.
     pub fn is_led(&self)
         ensures { (tenant : List ℕ) → (state : State)
             × LeadsTo N.digest_of state (held_of tenant self.now) }
@@ -102,23 +103,23 @@ impl<N: Naming> Service<N> {
         let _pool = &self.pool;
     }
 
-    /// The objects of every tenant are good, and each stream that runs is sound: a fact for proofs.
-    /// A call does nothing.
+    /// The objects of every tenant are good, and each running stream is sound. This is a fact for
+    /// proofs: a call does nothing.
     pub fn is_sound(&self)
         ensures { (tenant : List ℕ) → IsSoundHolding N.digest_of (held_of tenant self.now) }
     {
         let _pool = &self.pool;
     }
 
-    /// No name stands twice among the holdings: a fact for proofs. A call does nothing.
+    /// No name occurs twice among the holdings. This is a fact for proofs: a call does nothing.
     pub fn has_distinct_names(&self)
         ensures { IsDistinct bytes_eq (keys_of self.now) }
     {
         let _many = self.tenants.len();
     }
 
-    /// What is saved has the text that is written; and a service that was loaded from it has of
-    /// every tenant what a restart leaves here: a fact for proofs. A call does nothing.
+    /// The text that `save` writes is a text of what is saved. A service that is loaded from it has
+    /// of every tenant what a restart leaves here. This is a fact for proofs: a call does nothing.
     pub fn comes_back(&self)
         ensures text { IsTextOf N.digest_of (saved_of self.now)
             (file_text N.digest_of (saved_of self.now)) }
@@ -149,16 +150,17 @@ impl<N: Naming> Service<N> {
         let (_contents, _size) = self.stored();
     }
 
-    /// How many distinct contents all tenants hold together, those of running streams included, and
-    /// the sum of their sizes in bytes, 2^64 - 1 where it is more. For the operator: no step tells
-    /// a tenant. Takes no memory.
+    /// The number of distinct contents that all tenants hold, running streams included, and the sum
+    /// of their sizes in bytes, or 2^64 - 1 if the sum is greater. This is for the operator: no
+    /// step tells a tenant of it. Takes no memory.
     pub fn stored(&self) -> (u64, u64)
         ensures { result ≡ stored_sizes (held_contents self.now) }
     {
         self.pool.stored()
     }
 
-    /// How many tenants have an object at their last checkpoint. For the operator. Takes no memory.
+    /// The number of tenants that have an object at their last checkpoint. This is for the
+    /// operator. Takes no memory.
     pub fn tenants(&self) -> u64
         ensures { result ≡ count_by (λ e. has_commit e.1) self.now }
     {
@@ -180,11 +182,12 @@ impl<N: Naming> Service<N> {
         }
     }
 
-    /// The pool of all tenants, and the table and refs of one, for the operator; `None` for a
-    /// tenant that is as if never seen. Takes no memory.
+    /// The pool of all tenants, and the table and refs of one. This is for the operator. `None`
+    /// only for a tenant with an empty repository and no stream. Takes no memory.
     ///
-    /// After the table's committed prefix come the objects of the running stream. The pool holds each
-    /// content as often as there are tenants that have an object with it (`counted`).
+    /// The table has first the objects of the last checkpoint, up to its committed length, and then
+    /// those of the running stream. The pool holds each content as often as there are tenants that
+    /// have an object with it (`counted`).
     pub fn view(&self, tenant: &[u8]) -> Option<(&Pool<N>, &Table, &Refs)>
         ensures unseen { IsNone result → held_of tenant.now self.now ≡ Idle empty_repository }
         ensures shown { IfSome result (λ lent.
@@ -206,20 +209,20 @@ impl<N: Naming> Service<N> {
         Some((&self.pool, &tenant.table, &tenant.refs))
     }
 
-    /// Takes one step, and appends the bytes of its reply to `out`: git-fast-import(1) for streams,
-    /// and for queries crate answers.
+    /// Takes one step, and appends the bytes of its reply to `out`. Streams are those of
+    /// git-fast-import(1); crate answers has the queries.
     ///
-    /// `ServiceFault`: a bad tenant name is 32; Open with a stream is 31, Feed or End without one
-    /// is 30. These change nothing and take no memory. A fault of the bytes of a Feed, or of an
-    /// End, is answered under its number, and leaves the last checkpoint; each later Feed answers
-    /// the number again, and so does the End, which always closes the stream. An Ask is answered of
-    /// the last checkpoint, also while a stream runs, and changes nothing; what refuses the query
-    /// (40, 41) or what it asks of (15, 16, 17, 25) is answered under its number, and prints
-    /// nothing.
+    /// `Answer::Fault`: a bad tenant name is 32, an Open with a stream is 31, and a Feed or an End
+    /// without one is 30. These change nothing and take no memory. A fault in the bytes of a Feed,
+    /// or of an End, is answered under its number and leaves the last checkpoint. After a Feed the
+    /// stream is dead: each later Feed answers the number again, and so does the End, which always
+    /// closes the stream. An Ask is answered from the last checkpoint, also while a stream runs,
+    /// and changes nothing. If the query (40, 41) or what it asks for (15, 16, 17, 25) is refused,
+    /// nothing is printed.
     ///
-    /// `Memory` tells that a growth was refused: in an Open or an Ask, where nothing has changed
-    /// then; in an End, which leaves the last checkpoint and no stream; or in a Feed after so many
-    /// whole items of the call. `out` then has the replies of those, the tenant stands at its last
+    /// `Answer::Memory(k)`: an allocation failed. In an Open or an Ask, k is 0 and nothing has
+    /// changed. In an End, k is 0 and the last checkpoint is left, and no stream. In a Feed, k
+    /// whole items of the call took effect: `out` has their replies, the tenant is at its last
     /// checkpoint, and its stream is dead under 90.
     pub fn step(&mut self, step: Step<'_>, out: &mut Vec<u8>) -> Answer
         ensures own { (tenant : List ℕ) → IsItsOwn N.digest_of tenant (held_of tenant self.old)
@@ -232,11 +235,11 @@ impl<N: Naming> Service<N> {
         take_step(self.alloc, &mut self.pool, &mut self.tenants, step, out)
     }
 
-    /// Takes steps in turn, and appends a reply for each. To every tenant they are those that it
-    /// would get in a repository of its own.
+    /// Takes steps in turn, and appends a reply for each to `replies`. Every tenant gets the
+    /// replies that it would get in a repository of its own.
     ///
-    /// After `Memory` (90), where there was no room for a further reply, the steps that have a
-    /// reply were taken, and no others.
+    /// `Memory` (90): there was no room for a further reply. The steps that have a reply were
+    /// taken, and no others.
     pub fn run(&mut self, steps: &[Step<'_>], replies: &mut Vec<Reply>) -> Result<(), Memory>
         ensures own { (tenant : List ℕ) → IsItsOwn N.digest_of tenant (held_of tenant self.old)
             (run_of steps.now (told_since replies.old.items replies.new.items))
@@ -260,22 +263,22 @@ impl<N: Naming> Service<N> {
     }
 
     /// Copies the repository of `from`, as it is at its last checkpoint, to the empty tenant `to`.
-    /// For the operator. It is an Ask `export` of `from`, and then Open, one Feed of that text, and
-    /// End of `to`; the answer is the first of theirs that is not Ok, else Ok. Each tenant is told
-    /// what these steps tell it.
+    /// This is for the operator. The steps are an Ask `export` of `from`, and then Open, one Feed
+    /// of that text, and End of `to`. The answer is the first of theirs that is not Ok, else Ok.
+    /// For every tenant this is a run of these steps, as by `run` (`copied`).
     ///
-    /// `ServiceFault`, in this order: a bad name of one of them is 32; a stream of `to`, be it
-    /// dead, is 31; an object, a ref, or another HEAD of `to` than `refs/heads/main` is 33. A
-    /// refused Ask (25, where there are too many refs for an export, and `Memory`) and a refused
-    /// Open (`Memory`) are answered next. All is as it was after these. A fault of the text, and
-    /// `Memory`, in a Feed or an End leave what of `to` was saved until then, and no stream. `from`
-    /// and all others have what they had.
+    /// `Answer::Fault`, in this order: 32 if one of the names is bad; 31 if `to` has a stream, even
+    /// a dead one; 33 if `to` has an object, a ref, or another HEAD than `refs/heads/main`. Next, a
+    /// refused Ask (25 if there are too many refs for an export, or `Memory`) and a refused Open
+    /// (`Memory`) are answered. After all of these everything is as it was. A fault of the text, or
+    /// `Memory`, in the Feed or the End leaves what of `to` was saved until then, and no stream.
+    /// `from` and all other tenants have what they had.
     ///
-    /// Where each line and each data of the export fits into a stream, and the refs of `from` reach
-    /// at most 65,536 tags, no step is refused: a copy that is not refused before them is Ok or
-    /// `Memory`, and after Ok `to` has the refs and HEAD of `from`, each object that these reach,
-    /// with the same name, kind and bytes, and no object besides (`copies`). Then nothing more is
-    /// stored than before: `stored` answers what it did.
+    /// If each line and each data of the export fits into a stream, and the refs of `from` are few
+    /// enough for an export and reach at most 65,536 tags, no step is refused: a copy that is not
+    /// refused before its steps is Ok or `Memory`. After Ok, `to` has the refs and HEAD of `from`,
+    /// each object that these reach, with the same name, kind and bytes, and no other object
+    /// (`copies`). Then nothing more is stored than before: `stored` answers what it did.
     pub fn copy_tenant(&mut self, from: &[u8], to: &[u8]) -> Answer
         ensures copied { HasTaken N.digest_of self.old self.new (λ run.
             IsCopyRun (copy_refusal from.now to.now self.old) from.now to.now run result) }
@@ -302,29 +305,29 @@ impl<N: Naming> Service<N> {
 }
 
 impl<N: Starting> Service<N> {
-    /// Reads a pool file up to the end of the input, in either version. Each tenant of the file has
-    /// its repository then, and no stream; what the service keeps later comes from `alloc`.
+    /// Reads a pool file, in either version, up to the end of the input. Each tenant of the file
+    /// then has its repository, and no stream. What the service keeps later comes from `alloc`.
     ///
-    /// `Refused` with the first thing that is wrong: `NoPoolFile` (60), `UnknownVersion` (61),
-    /// `CutOff` (62) and `TrailingBytes` (69) from left to right, then `WrongDigest` (63), then
-    /// what the file says may be `NotCanonical` (64), `BadObject` (65), `MissingReference` (66) or
-    /// `BadRef` (67). `Device` (68) where a call of `read` answered an error, or 2^32 calls were
-    /// made. `Memory` (90) where a growth was refused. What was read is gone from the reader; after
-    /// a service nothing is left in it.
+    /// `Fault::Refused` has the first thing that is wrong: `NoPoolFile` (60), `UnknownVersion`
+    /// (61), `CutOff` (62) and `TrailingBytes` (69) from left to right; then `WrongDigest` (63);
+    /// then what the file says may be `NotCanonical` (64), `BadObject` (65), `MissingReference`
+    /// (66) or `BadRef` (67). `Fault::Device` (68): a call of `read` failed, or 2^32 calls were
+    /// made. `Fault::Memory` (90): an allocation failed. After a fault there is no service, and
+    /// what was read is gone from the reader. After a service nothing is left in the reader.
     pub fn load<R: Read>(
         alloc: Global,
         naming: N,
         reader: &mut Counted<R>,
     ) -> Result<Service<N>, Fault>
-        // What the bytes say, or the first refusal, where the reader tells its bytes.
+        // If the bytes of the reader are known: what they say, or the first refusal.
         ensures exact { LoadsAs N.digest_of (R.remaining (device_of reader.old)) result
             (R.remaining (device_of reader.new)) }
         // The bytes are a text of what the service has.
         ensures found { LoadsText N.digest_of (R.remaining (device_of reader.old)) result }
-        // Each text is answered.
+        // Each text of repositories gives a service that has them.
         ensures only { LoadsEach N.digest_of (R.remaining (device_of reader.old)) result }
         // Which calls are made, and when the device is blamed.
-        ensures cause { IsBlamed (counted_on (calls_of reader.old) (2 ^ 32))
+        ensures cause { IsBlamed (counted_on (calls_of reader.old) reads_limit)
             (seen (R.remaining (device_of reader.old)) reader.old) result
             (seen (R.remaining (device_of reader.new)) reader.new) }
     {
@@ -338,12 +341,12 @@ impl<N: Starting> Service<N> {
     }
 
     /// Writes the repositories of all tenants at their last checkpoints as a pool file, in version
-    /// 2. What a stream that runs has not saved is left out, and so is a tenant that has neither an
+    /// 2. What a running stream has not saved is left out, and so is a tenant that has neither an
     /// object nor another HEAD than the first.
     ///
-    /// `Device` (68) where a call of `write` answered an error or took nothing; a prefix of the
-    /// file then stands written. `Memory` (90) where a growth was refused, after a prefix of it.
-    /// Nothing is refused. The service is as it was.
+    /// `Fault::Device` (68): a call of `write` failed or took no byte. `Fault::Memory` (90): an
+    /// allocation failed. In both cases a prefix of the file is written. `Fault::Refused` is
+    /// never answered. The service is as it was.
     pub fn save<W: Write>(&self, writer: &mut Counted<W>) -> Result<(), Fault>
         ensures { Saves (seen (W.contents (device_of writer.old)) writer.old) result
             (seen (W.contents (device_of writer.new)) writer.new)

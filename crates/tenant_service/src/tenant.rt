@@ -1,7 +1,7 @@
 //! What a service keeps of one tenant, and what each call does to it.
 //!
-//! The pool is lent, and holds other tenants' contents too. A call goes through the tenant's own
-//! table alone, and leaves the holds of all others as they are.
+//! The pool is lent, and holds other tenants' contents too. A call uses only the tenant's own
+//! table, and leaves the holds of all other tenants as they are.
 
 ghost use Rattle.std.specs.Prelude.{◌≡◌, ℕ, List, length, [], ◌∷◌, Ok, Err, OnOk};
 ghost use Rattle.tenant_tables.specs.StandsIn.{StandsIn, LeavesOthers};
@@ -30,17 +30,17 @@ use tenant_refs::Refs;
 use tenant_stream::{Stop, Stream};
 use tenant_tables::Table;
 
-// The number under which a stream is dead that ran out of memory.
+// The number of a stream that is dead because memory ran out.
 const OUT_OF_MEMORY: u16 = 90;
 
 /// The phase of a tenant's stream.
 #[derive(Drop)]
 pub enum Phase {
-    /// There is none.
+    /// There is no stream.
     Closed,
-    /// It runs.
+    /// The stream runs.
     Running(Stream),
-    /// It was refused, or ran out of memory, under this number.
+    /// The stream is dead: it was refused under this number, or memory ran out (90).
     Dead(u16),
 }
 
@@ -53,7 +53,7 @@ pub struct Tenant {
     pub chain: FirstParentChain,
 }
 
-/// A tenant with nothing. Takes no memory.
+/// A tenant without objects, refs and a stream. Takes no memory.
 pub fn new_tenant(alloc: Global) -> Tenant
     ensures entries { result.table.entries ≡ [] }
     ensures held { (pool : Cells) → holding_in pool result ≡ Idle empty_repository }
@@ -67,14 +67,15 @@ pub fn new_tenant(alloc: Global) -> Tenant
     }
 }
 
-// Leaves a stream in another phase. What was kept of it goes by a call, whose proof is its own.
+// Sets the phase of a stream, and drops the old one. This is a function of its own so that the drop
+// has a proof of its own.
 fn set_phase(kept: &mut Phase, phase: Phase)
     ensures { kept.new ≡ phase }
 {
     drop(mem::replace(kept, phase));
 }
 
-/// Opens a stream; 31 where there is one. Takes no memory.
+/// Opens a stream. 31 if there is one; then nothing has changed. Takes no memory.
 pub fn open<N: Naming>(alloc: Global, pool: &Pool<N>, tenant: &mut Tenant) -> Answer
     requires stands { Stands N.digest_of pool.now tenant.old }
     ensures stands { Stands N.digest_of pool.now tenant.new }
@@ -92,7 +93,7 @@ pub fn open<N: Naming>(alloc: Global, pool: &Pool<N>, tenant: &mut Tenant) -> An
     }
 }
 
-/// Goes back to the last checkpoint, and leaves the stream in another phase. Takes no memory.
+/// Rolls the tenant back to its last checkpoint, and sets the phase of its stream. Takes no memory.
 pub fn give_up<N: Naming>(pool: &mut Pool<N>, tenant: &mut Tenant, phase: Phase)
     requires stands { StandsIn N.digest_of pool.old tenant.old.table.entries }
     requires settled { IsSettled tenant.old.phase tenant.old.table }
@@ -136,9 +137,10 @@ fn feed_stream<N: Naming>(
     stream.feed(pool, table, refs, piece, out)
 }
 
-/// Feeds the next bytes; 30 where there is no stream, and a dead one answers its number again.
+/// Feeds the next bytes to the stream, and appends what they print to `out`.
 ///
-/// A fault of the bytes, or want of memory, leaves the last checkpoint and a dead stream.
+/// 30 if there is no stream. A dead stream answers its number again. A fault of the bytes, or
+/// `Memory`, leaves the last checkpoint and a dead stream.
 pub fn feed<N: Naming>(
     pool: &mut Pool<N>,
     tenant: &mut Tenant,
@@ -183,7 +185,7 @@ pub fn feed<N: Naming>(
     }
 }
 
-/// Whether the stream of a tenant has read `done`.
+/// Whether the tenant has a running stream that has read `done`. Takes no memory.
 pub fn has_read_done(tenant: &Tenant) -> bool
     ensures { (pool : Cells) → result ≡ has_read_done (holding_in pool tenant.now) }
 {
@@ -193,10 +195,9 @@ pub fn has_read_done(tenant: &Tenant) -> bool
     }
 }
 
-/// Ends the stream, and appends the reply of its end to `out`; 30 where there is none.
+/// Ends the stream, and appends the reply of its end to `out`. 30 if there is no stream.
 ///
-/// A fault of the end, and `Memory(0)` where memory ran out, leave the last checkpoint and no
-/// stream.
+/// A fault of the end, and `Memory(0)` if memory ran out, leave the last checkpoint and no stream.
 pub fn end<N: Naming>(pool: &mut Pool<N>, tenant: &mut Tenant, out: &mut Vec<u8>) -> Answer
     requires stands { Stands N.digest_of pool.old tenant.old }
     requires room { HasAmpleRoom pool.old }
@@ -222,7 +223,7 @@ pub fn end<N: Naming>(pool: &mut Pool<N>, tenant: &mut Tenant, out: &mut Vec<u8>
     }
 }
 
-// What a query is answered that has no answer.
+// The answer to a query that is refused.
 fn refusal_told(refusal: Fault) -> Answer
     ensures { result ≡ refusal_told refusal }
 {
@@ -232,11 +233,12 @@ fn refusal_told(refusal: Fault) -> Answer
     }
 }
 
-/// Answers a query on the repository at the last checkpoint, after what `out` holds: crate answers
-/// has the queries, and the numbers under which they are refused. A stream that runs is not seen.
+/// Answers a query on the repository at the last checkpoint, and appends the answer to `out`. Crate
+/// answers has the queries, and the numbers under which they are refused. What a running stream has
+/// not saved is not seen.
 ///
-/// `Memory(0)` where memory ran out. Where there is no answer `out` is unchanged. Of the tenant
-/// nothing changes but the first parents that the next query need not read again.
+/// `Memory(0)` if memory ran out. If the query is refused, `out` is unchanged. Nothing of the
+/// tenant changes except the first parents, which the next query need not read again.
 pub fn ask<N: Naming>(
     alloc: Global,
     pool: &Pool<N>,
@@ -265,7 +267,7 @@ pub fn ask<N: Naming>(
     }
 }
 
-/// Answers a query of a tenant that was never seen: its repository is empty.
+/// Answers a query of a tenant that was never seen, as `ask` does: its repository is empty.
 pub fn ask_nobody<N: Naming>(
     alloc: Global,
     pool: &Pool<N>,

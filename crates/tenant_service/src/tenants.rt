@@ -1,7 +1,7 @@
 //! All tenants of a service, by their names, and the calls of one of them.
 //!
-//! The pool lies beside them. What a call does to its tenant is in the accounts then, and every
-//! other tenant has what it had.
+//! The pool is lent to each call. After the call the pool and the tables agree again (`Accounts`),
+//! and every other tenant has what it had.
 
 ghost use Rattle.std.specs.Prelude.{◌≡◌, ◌<◌, ◌++◌, ◌∷◌, ℕ, List, [], length, OnOk, OnErr, true, false, None, Ok, Err, MatchResult, count_by};
 ghost use Rattle.std.specs.Map.{lookup};
@@ -20,7 +20,7 @@ use service_steps::{Answer, ServiceFault, Step};
 use std::alloc::Global;
 use tenant_refs::TenantName;
 
-// No tenant holds a content twice, and there are fewer than 2^63 tenants: a fact for proofs.
+// A fact for proofs: no tenant holds a content twice, and there are fewer than 2^63 tenants.
 fn has_room<N: Naming>(pool: &Pool<N>, tenants: &IndexMap<TenantName, Tenant>)
     requires { Accounts N.digest_of pool.now tenants.now.entries }
     ensures { HasAmpleRoom pool.now }
@@ -28,8 +28,8 @@ fn has_room<N: Naming>(pool: &Pool<N>, tenants: &IndexMap<TenantName, Tenant>)
     let _few = tenants.len();
 }
 
-/// One tenant more, whose name is new. `Memory` where there is no room for it; nothing has changed
-/// then.
+/// Adds a tenant, whose name is new. `Memory` (90) if there is no room for it; then nothing has
+/// changed.
 pub fn add_tenant(
     tenants: &mut IndexMap<TenantName, Tenant>,
     name: TenantName,
@@ -51,7 +51,8 @@ pub fn add_tenant(
     }
 }
 
-/// Feeds the stream of the tenant of this name; 30 where there is none.
+/// Feeds the stream of the tenant of this name, and appends what it prints to `out`. 30 if it has
+/// no stream.
 pub fn feed_one<N: Naming>(
     pool: &mut Pool<N>,
     tenants: &mut IndexMap<TenantName, Tenant>,
@@ -72,8 +73,8 @@ pub fn feed_one<N: Naming>(
     }
 }
 
-/// Ends the stream of the tenant of this name, and appends the reply of its end to `out`; 30 where
-/// there is none.
+/// Ends the stream of the tenant of this name, and appends the reply of its end to `out`. 30 if it
+/// has no stream.
 pub fn end_one<N: Naming>(
     pool: &mut Pool<N>,
     tenants: &mut IndexMap<TenantName, Tenant>,
@@ -92,8 +93,8 @@ pub fn end_one<N: Naming>(
     }
 }
 
-/// Answers a query of the tenant of this name, after what `out` holds. What is held of all tenants
-/// stays.
+/// Answers a query of the tenant of this name, and appends the answer to `out`. What is held of
+/// every tenant stays as it was.
 pub fn ask_one<N: Naming>(
     alloc: Global,
     pool: &Pool<N>,
@@ -114,9 +115,9 @@ pub fn ask_one<N: Naming>(
     }
 }
 
-/// Opens a stream of the tenant of this name; 31 where there is one.
+/// Opens a stream of the tenant of this name. 31 if it has one.
 ///
-/// `Memory(0)` where a tenant that was not seen before finds no room; nothing has changed then.
+/// `Memory(0)` if there is no room for a tenant that was not seen before; then nothing has changed.
 pub fn open_one<N: Naming>(
     alloc: Global,
     pool: &Pool<N>,
@@ -155,7 +156,8 @@ fn open_new<N: Naming>(
     }
 }
 
-// Closes the stream of the tenant at this place, from 0 in the order in which they were seen.
+// Closes the stream of the tenant at this place. Places count from 0, in the order in which the
+// tenants were seen.
 fn restart_at<N: Naming>(
     pool: &mut Pool<N>,
     tenants: &mut IndexMap<TenantName, Tenant>,
@@ -185,7 +187,7 @@ pub fn restart_all<N: Naming>(pool: &mut Pool<N>, tenants: &mut IndexMap<TenantN
     }
 }
 
-/// The name of a tenant; 32 where the text is none. Takes no memory.
+/// The name of a tenant. 32 if the text is not a tenant name. Takes no memory.
 pub fn name_of(tenant: &[u8]) -> Result<TenantName, ServiceFault>
     ensures { MatchResult result
         (λ name. (names_tenant tenant.now ≡ true) × (name ≡ tenant.now))
@@ -197,7 +199,7 @@ pub fn name_of(tenant: &[u8]) -> Result<TenantName, ServiceFault>
     }
 }
 
-// Opens a stream of the tenant of this name; 32 where it is a bad one.
+// Opens a stream of the tenant of this name. 32 if the name is bad.
 fn open_named<N: Naming>(
     alloc: Global,
     pool: &Pool<N>,
@@ -214,7 +216,7 @@ fn open_named<N: Naming>(
     }
 }
 
-// Feeds the stream of the tenant of this name; 32 where it is a bad one.
+// Feeds the stream of the tenant of this name. 32 if the name is bad.
 fn feed_named<N: Naming>(
     pool: &mut Pool<N>,
     tenants: &mut IndexMap<TenantName, Tenant>,
@@ -234,7 +236,7 @@ fn feed_named<N: Naming>(
     }
 }
 
-// Ends the stream of the tenant of this name; 32 where it is a bad one.
+// Ends the stream of the tenant of this name. 32 if the name is bad.
 fn end_named<N: Naming>(
     pool: &mut Pool<N>,
     tenants: &mut IndexMap<TenantName, Tenant>,
@@ -253,7 +255,7 @@ fn end_named<N: Naming>(
     }
 }
 
-// Answers a query of the tenant of this name; 32 where it is a bad one.
+// Answers a query of the tenant of this name. 32 if the name is bad.
 fn ask_named<N: Naming>(
     alloc: Global,
     pool: &Pool<N>,
@@ -274,7 +276,7 @@ fn ask_named<N: Naming>(
     }
 }
 
-/// Takes one step; 32 where the tenant's name is a bad one.
+/// Takes one step, and appends the bytes of its reply to `out`. 32 if the tenant's name is bad.
 pub fn take_step<N: Naming>(
     alloc: Global,
     pool: &mut Pool<N>,
@@ -306,7 +308,7 @@ fn has_committed(tenant: &Tenant) -> bool
     tenant.table.committed_len() > 0
 }
 
-/// How many tenants have a committed object.
+/// The number of tenants that have a committed object.
 pub fn count_committed(tenants: &IndexMap<TenantName, Tenant>) -> usize
     ensures { result ≡ count_by (λ e. has_committed e.1.table) tenants.now.entries }
 {

@@ -6,11 +6,11 @@ use Rattle.stream_lex.specs.declared.item.Item.{Item as Lent}
 use Rattle.stream_lex.specs.Looking.{item_of}
 use Rattle.stream_lex.specs.declared.fault.Fault.TheVariants as lex_fault
 use Rattle.stream_lex.specs.Lexer.{GivesFirst}
-use Rattle.stream_lex.specs.Items.{Item, Tail, Failed, behind_items}
+use Rattle.stream_lex.specs.Items.{Item, Tail, Failed, after_items}
 use Rattle.stream_lex.specs.Running.{extended, more_of, Takes as TakesItem, ReadsAlike, HasNoItem}
-use Rattle.import_session.specs.declared.fault.Fault.{Fault}
-use Rattle.import_session.specs.declared.fault.Fault.TheVariants as fault
-use Rattle.import_session.specs.Faults.{code_of}
+use Rattle.stream_state.specs.declared.fault.Fault.{Fault}
+use Rattle.stream_state.specs.declared.fault.Fault.TheVariants as fault
+use Rattle.stream_state.specs.Faults.{code_of}
 use Rattle.import_session.specs.Session.{Takes}
 use Rattle.import_session.specs.Stream.{Running, Step, Outcome, after_reply, carried, going_on, at_tail, last_checkpoint, refused, step}
 use Rattle.tenant_stream.specs.declared.stop.Stop.{Stop}
@@ -71,7 +71,7 @@ Advanced-refl digest now tail out = record {
 pub reads_more : (old : Tail) (items : List Item) (rest : Tail) (item : Item) (new : Tail)
     → ReadsOn old items rest → TakesItem rest item new → ReadsOn old (items ++ item ∷ []) new
 reads_more old items rest item new reads takes more =
-    reads more ∙ ap (behind_items items) (takes more)
+    reads more ∙ ap (after_items items) (takes more)
     ∙ ap (λ l. record { items = l; tail = (more_of new more).tail })
     (sym (append_assoc items (item ∷ []) (more_of new more).items))
 
@@ -96,7 +96,7 @@ pub Advances-read : (digest : List ℕ → List ℕ) (now : Running) (old : Tail
     → Advances digest now old items replies mid rest → ReadsAlike rest new
     → Advances digest now old items replies mid new
 Advances-read digest now old items replies mid rest new adv alike = record {
-  reads = λ more. adv.reads more ∙ ap (behind_items items) (alike more);
+  reads = λ more. adv.reads more ∙ ap (after_items items) (alike more);
   carries = adv.carries;
 }
 

@@ -3,9 +3,9 @@ use Rattle.std.proofs.Common.{◌≡◌, ℕ, zero, suc, ◌+◌, ◌-◌, ◌�
 use Rattle.std.specs.Prelude.{if◌then◌else◌}
 use Rattle.std.proofs.lemmas.List.{length-append}
 use Rattle.stream_lex.specs.Headers.{is_line_end}
-use Rattle.stream_lex.specs.Items.{Item, Tail, Rest, Failed, Reading, behind_items}
+use Rattle.stream_lex.specs.Items.{Item, Tail, Rest, Failed, Reading, after_items}
 use Rattle.stream_lex.specs.Lexer.{held_bytes}
-use Rattle.stream_lex.specs.Reading.{First, Stops, Skips, Gives, behind, first_of, is_data, walk}
+use Rattle.stream_lex.specs.Reading.{First, Stops, Skips, Gives, continued, first_of, is_data, walk}
 use Rattle.stream_lex.specs.Running.{more_of, Takes as TakesItem}
 use Rattle.tenant_stream.specs.Carrying.{ReadsOn}
 
@@ -19,7 +19,7 @@ either_at_most false x y n here there = there
 
 first_at_most : (f : First) (later : ℕ → Bool → Reading) (n : ℕ)
     → ((k : ℕ) (skips : Bool) → HasAtMost (later k skips) n)
-    → HasAtMost (behind f later) (suc n)
+    → HasAtMost (continued f later) (suc n)
 first_at_most (Stops tail) later n at_most = omega arith
 first_at_most (Skips k) later n at_most = let here = at_most (k - 1) false in omega (arith, here)
 first_at_most (Gives item k) later n at_most = let here = at_most (k - 1) (is_data item) in omega
@@ -33,7 +33,7 @@ walk_at_most (byte ∷ bytes) (suc k) skips = let here = walk_at_most bytes k sk
     (arith, here)
 walk_at_most (byte ∷ bytes) zero skips =
     either_at_most (skips && is_line_end byte) (walk bytes 0 false)
-    (behind (first_of (byte ∷ bytes)) (λ k data_next. walk bytes k data_next)) (suc (length bytes))
+    (continued (first_of (byte ∷ bytes)) (λ k data_next. walk bytes k data_next)) (suc (length bytes))
     (let here = walk_at_most bytes 0 false in omega (arith, here))
     (first_at_most (first_of (byte ∷ bytes)) (λ k data_next. walk bytes k data_next) (length bytes)
     (λ k data_next. walk_at_most bytes k data_next))
@@ -50,7 +50,7 @@ pub taken_at_most : (old : Tail) (items : List Item) (rest : Tail) (item : Item)
     → ReadsOn old items rest → TakesItem rest item new → length items + 1 ≤ held_bytes old
 taken_at_most old items rest item new reads takes =
     let all : (more_of old []).items ≡ items ++ item ∷ (more_of new []).items =
-    ap (λ (r : Reading). r.items) (reads [] ∙ ap (behind_items items) (takes [])) in
+    ap (λ (r : Reading). r.items) (reads [] ∙ ap (after_items items) (takes [])) in
     let sum : length (more_of old []).items ≡ length items + length
     (item ∷ (more_of new []).items) =
     ap length all ∙ length-append items (item ∷ (more_of new []).items) in

@@ -1,11 +1,11 @@
 -- Streams that go on and end.
 use Rattle.std.proofs.Common.{◌≡◌, ℕ, Bool, true, false, cond, List, [], ◌∷◌, ◌++◌, Result, Ok, refl, sym, ap, ◌∙◌, append-nil}
-use Rattle.stream_lex.specs.Items.{Item, Tail, Rest, Failed, Reading, behind_items}
+use Rattle.stream_lex.specs.Items.{Item, Tail, Rest, Failed, Reading, after_items}
 use Rattle.stream_lex.specs.Reading.{reading}
 use Rattle.stream_lex.specs.Running.{more_of, extended}
-use Rattle.import_session.specs.declared.fault.Fault.{Fault}
+use Rattle.stream_state.specs.declared.fault.Fault.{Fault}
 use Rattle.import_session.specs.Stream.{Running, Step, Standing, Runs, after_reply, carried, going_on, step, taken, at_tail, tail_outcome}
-use Rattle.tenant_stream.specs.Carrying.{IsDrained, outcome_behind}
+use Rattle.tenant_stream.specs.Carrying.{IsDrained, outcome_after}
 
 -- after `done` nothing is carried out
 at_tail-done : (now : Running) (tail : Tail) → now.is_done ≡ true
@@ -54,12 +54,12 @@ more-extended (Failed fault) piece = refl
 -- what bytes do, by the items that were carried out first
 pub outcome-advanced : (digest : List ℕ → List ℕ) (now next : Running) (tail rest : Tail)
     (piece : List ℕ) (items : List Item) (replies : List ℕ)
-    → ((more : List ℕ) → more_of (extended tail piece) more ≡ behind_items items
+    → ((more : List ℕ) → more_of (extended tail piece) more ≡ after_items items
     (more_of rest more))
     → ((later : List Item) (end : Tail) → carried digest now
     (items ++ later) end ≡ after_reply replies (carried digest next later end))
-    → outcome_behind digest now tail piece ≡ after_reply replies
-    (outcome_behind digest next rest [])
+    → outcome_after digest now tail piece ≡ after_reply replies
+    (outcome_after digest next rest [])
 outcome-advanced digest now next tail rest piece items replies reads carries =
     ap (λ (r : Reading). carried digest now r.items r.tail)
     (sym (more-extended tail piece) ∙ reads [])
@@ -68,7 +68,7 @@ outcome-advanced digest now next tail rest piece items replies reads carries =
 -- a stream of which all that was whole was carried out stands with what is left
 pub standing-drained : (digest : List ℕ → List ℕ) (next : Running) (rest : Tail)
     → IsDrained next.is_done rest
-    → outcome_behind digest next rest [] ≡ record {
+    → outcome_after digest next rest [] ≡ record {
       replies = [];
       standing = Runs next
           (cond next.is_done (Rest false []) rest);
@@ -76,7 +76,7 @@ pub standing-drained : (digest : List ℕ → List ℕ) (next : Running) (rest :
 standing-drained digest next rest drained = by next.is_done refl rest drained
   where
     by : (b : Bool) → next.is_done ≡ b → (tail : Tail) → IsDrained b tail
-        → outcome_behind digest next tail [] ≡ record
+        → outcome_after digest next tail [] ≡ record
         { replies = []; standing = Runs next (cond b (Rest false []) tail) }
     by true done tail drained' = carried-done digest next (more_of tail []).items
         (more_of tail []).tail done

@@ -1,10 +1,10 @@
--- A stream between two pieces, and what a piece does to it: git-fast-import(1), "Input Format".
+-- A stream between two pieces, and what one more piece does: git-fast-import(1), "Input Format".
 use Rattle.std.specs.Prelude.{◌≡◌, ◌<◌, ◌^◌, ℕ, Bool, true, false, List, [], ◌++◌, length, Option, None, Some, Result, Ok, Err}
 use Rattle.git_model.specs.RefStore.{RefStore}
 use Rattle.git_model.specs.Repository.{Repository}
 use Rattle.content_pool.specs.Pool.{Cells, holds}
 use Rattle.tenant_tables.specs.View.{View}
-use Rattle.stream_lex.specs.Items.{Item, Tail, Rest, behind_items}
+use Rattle.stream_lex.specs.Items.{Item, Tail, Rest, after_items}
 use Rattle.stream_lex.specs.Running.{extended, more_of, HasNoItem}
 use Rattle.import_session.specs.Session.{Kept, new_session, running_in}
 use Rattle.import_session.specs.Stream.{Running, Runs, Outcome, End, after_reply, carried, finished, last_checkpoint, refused}
@@ -13,8 +13,8 @@ use Rattle.tenant_stream.specs.declared.stop.Stop.TheVariants as stop
 -- For codes of values that hold a stream: it holds files of commits as branches.
 pub use Rattle.tree_build.specs.ShapeCode.{branch_code}
 
--- What is kept of a stream between two pieces: its session, and the bytes of which no item was
--- given yet.
+-- What a stream keeps between two pieces: its session, and the bytes that have not given an item
+-- yet.
 pub record Between : Type 0 where
   pub session : Kept
   pub tail : Tail
@@ -23,42 +23,44 @@ pub record Between : Type 0 where
 abbrev pub new_stream : Between
 new_stream = record { session = new_session; tail = Rest false [] }
 
--- The running stream that this is, over the objects of a table in a pool.
+-- What is kept, as a running stream over the objects of a table in a pool.
 abbrev pub stream_in : Between → Cells → View → RefStore → Running
 stream_in stream pool table refs = running_in stream.session pool table refs
 
--- All that a running stream will print, and how it will stand, where more bytes come after a tail.
-abbrev pub outcome_behind : (List ℕ → List ℕ) → Running → Tail → List ℕ → Outcome
-outcome_behind digest now tail more =
+-- All that a running stream prints, and how it stands, if these bytes come after its tail.
+abbrev pub outcome_after : (List ℕ → List ℕ) → Running → Tail → List ℕ → Outcome
+outcome_after digest now tail more =
     carried digest now (more_of tail more).items (more_of tail more).tail
 
--- Bytes were read: these items stand first, whatever bytes come.
+-- Bytes were read and gave these items: whatever bytes come, these items are the first, and the new
+-- tail gives the others.
 abbrev pub ReadsOn : Tail → List Item → Tail → Type 0
-ReadsOn old items new = (more : List ℕ) → more_of old more ≡ behind_items items (more_of new more)
+ReadsOn old items new = (more : List ℕ) → more_of old more ≡ after_items items (more_of new more)
 
--- Items were carried out: these replies stand first, whatever comes after the items.
+-- Items were carried out and printed these replies: whatever comes after the items, these replies
+-- are the first, and the stream goes on from where the items left it.
 abbrev pub CarriesOn : (List ℕ → List ℕ) → Running → List Item → List ℕ → Running → Type 0
 CarriesOn digest now items replies next = (later : List Item) (tail : Tail)
     → carried digest now (items ++ later) tail
     ≡ after_reply replies (carried digest next later tail)
 
--- A stream has gone on by these items, and printed these replies.
+-- A stream has carried out these items, and has printed these replies.
 pub record Advances (digest : List ℕ → List ℕ) (now : Running) (old : Tail) (items : List Item)
     (replies : List ℕ) (next : Running) (new : Tail) : Type 0 where
   pub reads : ReadsOn old items new
   pub carries : CarriesOn digest now items replies next
 
--- What stands next refuses the stream, whatever bytes come.
+-- The stream is refused under this number, whatever bytes come.
 abbrev pub IsRefused : (List ℕ → List ℕ) → Running → Tail → ℕ → Type 0
 IsRefused digest now tail code =
-    (more : List ℕ) → outcome_behind digest now tail more ≡ refused code now.workspace
+    (more : List ℕ) → outcome_after digest now tail more ≡ refused code now.workspace
 
--- Nothing whole is left to be carried out: `done` was read, or no item is held.
+-- No complete item is left to carry out: `done` was read, or no item is held.
 abbrev pub IsDrained : Bool → Tail → Type 0
 IsDrained true tail = Unit {0}
 IsDrained false tail = HasNoItem tail
 
--- All items that were whole were carried out.
+-- All complete items were carried out.
 pub record Goes (digest : List ℕ → List ℕ) (now : Running) (old : Tail) (out : List ℕ)
     (next : Running) (new : Tail) (out' : List ℕ) : Type 0 where
   pub items : List Item
@@ -67,8 +69,8 @@ pub record Goes (digest : List ℕ → List ℕ) (now : Running) (old : Tail) (o
   pub printed : out' ≡ out ++ replies
   pub drained : IsDrained next.is_done new
 
--- A stream has gone on by some items, and no further: what it printed stands after `out`, and what
--- is left has the same last checkpoint.
+-- A stream has carried out these items, and no more. What they print was appended to `out`, and
+-- what is left has the same last checkpoint.
 pub record Ends (digest : List ℕ → List ℕ) (now : Running) (old : Tail) (out : List ℕ)
     (items : List Item) (last : Running) (rest : Tail) (left : Running)
     (out' : List ℕ) : Type 0 where
@@ -78,7 +80,7 @@ pub record Ends (digest : List ℕ → List ℕ) (now : Running) (old : Tail) (o
   pub running : last.is_done ≡ false
   pub checkpoint : last_checkpoint left.workspace ≡ last_checkpoint last.workspace
 
--- Some items were carried out, and what stands after them refuses the stream.
+-- Some items were carried out, and the stream is refused after them.
 pub record Fails (digest : List ℕ → List ℕ) (now : Running) (old : Tail) (out : List ℕ) (code : ℕ)
     (left : Running) (out' : List ℕ) : Type 0 where
   pub items : List Item
@@ -96,7 +98,7 @@ pub record Stops (digest : List ℕ → List ℕ) (now : Running) (old : Tail) (
   pub ends : Ends digest now old out items last rest left out'
   pub counted : length items ≡ count
 
--- What came of the bytes of a tail.
+-- What came of the bytes of a tail, by the answer.
 abbrev pub Carries : (List ℕ → List ℕ) → Running → Tail → List ℕ → Result Unit Stop → Running → Tail
     → List ℕ → Type 0
 Carries digest now old out (Ok u) next new out' = Goes digest now old out next new out'
@@ -113,14 +115,14 @@ pub record Stays (now : Running) (old : Tail) (out : List ℕ) (result : Result 
   pub tail : new ≡ old
   pub printed : out' ≡ out
 
--- What came of a piece. After `done` bytes are ignored.
+-- What came of a piece, by the answer. After `done` bytes are ignored.
 abbrev pub Feeds : (List ℕ → List ℕ) → Bool → Running → Tail → List ℕ → List ℕ → Result Unit Stop
     → Running → Tail → List ℕ → Type 0
 Feeds digest true now old piece out result next new out' = Stays now old out result next new out'
 Feeds digest false now old piece out result next new out' =
     Carries digest now (extended old piece) out result next new out'
 
--- The end of a stream was answered: its reply stands after `out`, and its repository is left.
+-- The end of a stream was answered: its reply was appended to `out`, and its repository is left.
 pub record IsEnd (end : End) (fault : Option ℕ) (out : List ℕ) (left : Repository)
     (out' : List ℕ) : Type 0 where
   pub answered : end.fault ≡ fault
@@ -149,6 +151,6 @@ EndsAs digest now tail out (Err (stop.Memory count)) left out' =
 abbrev pub IsCommitted : View → Type 0
 IsCommitted table = table.committed ≡ length table.entries
 
--- Each slot can be held far more often than it is.
+-- Each slot has fewer than 2^63 holds, so it can be held many times more.
 abbrev pub HasAmpleRoom : Cells → Type 0
 HasAmpleRoom pool = (s : ℕ) → holds pool s < 2 ^ 63

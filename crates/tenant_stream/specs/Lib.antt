@@ -1,4 +1,4 @@
--- In reading order: why a stream does not go on, a stream between two pieces, and sound streams.
+-- In reading order: why a stream stops, a stream between two pieces, and sound streams.
 pub mod Stopping
 pub mod Carrying
 pub mod Soundness

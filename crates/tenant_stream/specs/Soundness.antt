@@ -5,8 +5,8 @@ use Rattle.import_session.specs.Stream.{Standing, Runs, Refused, last_checkpoint
 use Rattle.import_session.specs.Sound.{IsSound, IsSoundRepository}
 use Rattle.tenant_stream.specs.declared.stop.Stop.{Stop}
 
--- A stream that runs stands soundly where its workspace is sound, and one that was refused where
--- the repository is that it left.
+-- A running stream is sound if its workspace is. A refused stream is sound if the repository that
+-- it left is.
 abbrev pub IsSoundStanding : (List ℕ → List ℕ) → Standing → Type 0
 IsSoundStanding digest (Runs now tail) = IsSound digest now.workspace
 IsSoundStanding digest (Refused code repository) = IsSoundRepository digest repository

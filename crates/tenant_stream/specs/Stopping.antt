@@ -1,15 +1,15 @@
--- Why a stream does not go on: want of memory is told apart from every fault of the stream.
+-- Why a stream stops: a lack of memory is told apart from every fault of the stream.
 use Rattle.std.specs.Prelude.{ℕ}
-use Rattle.import_session.specs.declared.fault.Fault.{Fault}
-use Rattle.import_session.specs.declared.fault.Fault.TheVariants as fault
-use Rattle.import_session.specs.Faults.{code_of}
+use Rattle.stream_state.specs.declared.fault.Fault.{Fault}
+use Rattle.stream_state.specs.declared.fault.Fault.TheVariants as fault
+use Rattle.stream_state.specs.Faults.{code_of}
 use Rattle.stream_lex.specs.declared.fault.Fault.{Fault as LexFault}
 use Rattle.stream_lex.specs.declared.fault.Fault.TheVariants as lex_fault
 use Rattle.stream_lex.specs.Faults.{code_of as item_code}
 use Rattle.tenant_stream.specs.declared.stop.Stop.{Stop}
 use Rattle.tenant_stream.specs.declared.stop.Stop.TheVariants as stop
 
--- What a refusal of an item is to the stream, after so many items.
+-- The stop of a stream whose next item is refused, after so many items of the call.
 abbrev pub stop_of : Fault → ℕ → Stop
 stop_of fault.Memory count = stop.Memory count
 stop_of (fault.Text text) count = stop.Fault (code_of (fault.Text text))
@@ -26,7 +26,7 @@ stop_of fault.RootNotDirectory count = stop.Fault (code_of fault.RootNotDirector
 stop_of fault.NameCollision count = stop.Fault (code_of fault.NameCollision)
 stop_of fault.Limit count = stop.Fault (code_of fault.Limit)
 
--- What a lexer that takes no further piece is to the stream: it had failed, or memory ran out.
+-- The stop of a stream whose lexer takes no further piece: the lexer had failed, or memory ran out.
 abbrev pub unfed : LexFault → Stop
 unfed lex_fault.Memory = stop.Memory 0
 unfed lex_fault.LineTooLong = stop.Fault (item_code lex_fault.LineTooLong)

@@ -1,7 +1,8 @@
 //! One stream of git-fast-import(1) from its bytes, over the objects and refs of one tenant.
 //!
-//! A piece cut anywhere does what the items do that it makes whole. Pool, table and refs are lent
-//! at each call; who else holds contents in the pool is not known here.
+//! The bytes come in pieces that are cut anywhere. A piece does what the items that it completes
+//! do. The pool, the table and the refs are lent to each call; this crate does not know who else
+//! holds contents in the pool.
 #![tactic(auto)]
 
 mod stop;

@@ -1,8 +1,8 @@
 //! A stream of git-fast-import(1), piece by piece, over the objects and refs of one tenant.
 //!
-//! The table, the refs and the pool are lent at each call, the same ones from the first to the
-//! last. Bytes may be cut anywhere; what is kept between two pieces is neither the repository nor
-//! the bytes that went before.
+//! The table, the refs and the pool are lent to each call, the same ones from the first to the
+//! last. Bytes may be cut anywhere. Between two pieces a stream keeps its session and the bytes of
+//! the item that is not complete, but neither the repository nor the bytes before that.
 
 ghost use Rattle.std.specs.Prelude.{◌≡◌, false, OnErr, OnOk};
 ghost use Rattle.tenant_tables.specs.StandsIn.{StandsIn};
@@ -24,7 +24,7 @@ use stream_lex::{Fault, Lexer};
 use tenant_refs::Refs;
 use tenant_tables::Table;
 
-// Carries out all items that are whole, up to `done`.
+// Carries out all complete items, up to `done`.
 fn carry<N: Naming>(
     lexer: &mut Lexer,
     session: &mut Session,
@@ -63,7 +63,7 @@ fn carry<N: Naming>(
     }
 }
 
-// What a lexer that takes no further piece is to the stream.
+// The stop of a stream whose lexer takes no further piece.
 fn unfed(fault: Fault) -> Stop
     ensures { result ≡ unfed fault }
 {
@@ -73,7 +73,7 @@ fn unfed(fault: Fault) -> Stop
     }
 }
 
-// The end of the bytes, and then that of the commands.
+// Ends the bytes, and then the commands.
 fn end<N: Naming>(
     lexer: &Lexer,
     session: &mut Session,
@@ -133,20 +133,21 @@ impl Stream {
         }
     }
 
-    /// Whether `done` was read, so that no byte after it is looked at. Takes no memory.
+    /// Whether `done` was read; then no byte after it is looked at. Takes no memory.
     pub fn is_done(&self) -> bool
         ensures { result ≡ self.now.session.is_done }
     {
         self.session.is_done()
     }
 
-    /// Takes the next piece, carries out the items that it makes whole, and appends what they print
+    /// Takes the next piece, carries out the items that it completes, and appends what they print
     /// to `out`: git-fast-import(1), "Input Format".
     ///
-    /// `Stop::Fault` where the bytes, the text of an item or its meaning are refused;
-    /// `Stop::Memory` (90) with the number of items of this call that took effect. `out` has the
-    /// replies of the items before it, the objects and refs of the last checkpoint are unchanged,
-    /// and only `abandon` may follow. After `done` nothing is read, and no memory is taken.
+    /// `Stop::Fault`: the bytes, the text of an item, or its meaning are refused under this number.
+    /// `Stop::Memory(k)` (90): memory ran out after k whole items of this call, which took effect.
+    /// In both cases `out` has the replies of the items before the stop, the objects and refs of the
+    /// last checkpoint are unchanged, and only `abandon` may follow. After `done` nothing is read,
+    /// and no memory is taken.
     pub fn feed<N: Naming>(
         &mut self,
         pool: &mut Pool<N>,
@@ -180,10 +181,10 @@ impl Stream {
     /// Ends the stream, which is a checkpoint unless `done` was read before. What it prints is
     /// appended to `out`.
     ///
-    /// `Stop::Fault` where a line or a data is cut off (6), a part of a command (5) or `done` (7) is
-    /// missing, the open commit cannot be stored (24, 25), or the refs then would be too many (25);
-    /// `Stop::Memory(0)` where memory ran out. `out` is unchanged then. The table has the objects of
-    /// the last checkpoint.
+    /// `Stop::Fault`: a line or a data is cut off (6), a part of a command (5) or `done` (7) is
+    /// missing, the open commit cannot be stored (24, 25), or there would be too many refs (25).
+    /// `Stop::Memory(0)` (90): memory ran out. In both cases `out` is unchanged. In every case the
+    /// table has the objects of the last checkpoint, and all of them are committed.
     pub fn finish<N: Naming>(
         self,
         pool: &mut Pool<N>,
@@ -211,7 +212,8 @@ impl Stream {
         ended
     }
 
-    /// Gives the stream up: its table is rolled back to the last checkpoint. Takes no memory.
+    /// Gives the stream up: rolls its table back to the last checkpoint. The refs stay as they are.
+    /// Takes no memory.
     pub fn abandon<N: Naming>(self, pool: &mut Pool<N>, table: &mut Table, refs: &mut Refs)
         requires stands { StandsIn N.digest_of pool.old table.old.entries }
         ensures keeps { Keeps N.digest_of pool.old table.old pool.new table.new }

@@ -24,11 +24,11 @@ use Rattle.tenant_tables.specs.View.{View, Entries, entry_named, slot_of, summar
 use Rattle.git_model.specs.Repository.{Object, object_named}
 use Rattle.tenant_tables.specs.Objects.{objects}
 use Rattle.tenant_tables.specs.StandsIn.{StandsIn, LeavesOthers}
-use Rattle.tenant_tables.specs.Trees.{SummedBehind, IsSummed}
+use Rattle.tenant_tables.specs.Trees.{SummedAfter, IsSummed}
 use Rattle.tenant_tables.specs.Adding.{store_fault, PushesAt, Adds}
 use Rattle.tenant_tables.proofs.HoldLemmas.{object_named-objects, objects-kept, held-at}
 use Rattle.tenant_tables.proofs.TableLemmas.{StandsIn-put, LeavesOthers-put, Keeps-put}
-use Rattle.tenant_tables.proofs.SummaryLemmas.{SummedBehind-same}
+use Rattle.tenant_tables.proofs.SummaryLemmas.{SummedAfter-same}
 use Rattle.tenant_tables.proofs.IndexLemmas.{entry_named-push, later}
 
 -- ---- what is found
@@ -210,7 +210,7 @@ pub pushed : (digest : List ℕ → List ℕ) (id : List ℕ) (c : Content) (sum
     (p : Cells) (old : View) (q : Cells) (new : View) (slot : ℕ)
     → PushesAt id c summary p old q new slot → id ≡ name_by digest c
     → entry_named id old.entries ≡ None → StandsIn digest p old.entries
-    → SummedBehind old.entries c summary → length c.bytes ≤ CONTENTS_LIMIT
+    → SummedAfter old.entries c summary → length c.bytes ≤ CONTENTS_LIMIT
     → Pushed digest c summary p old q new
 pushed digest id c summary p old q new slot h named none stands summed within = record {
   stands =
@@ -289,7 +289,7 @@ pub found_adds : (digest : List ℕ → List ℕ) (id : List ℕ) (c : Content) 
     (p : Cells) (old : View) (there : Option Bool)
     → there ≡ option_map (same_content c) (object_named id (objects p old.entries))
     → unwrap_or there false ≡ true → id ≡ name_by digest c
-    → StandsIn digest p old.entries → SummedBehind old.entries c summary
+    → StandsIn digest p old.entries → SummedAfter old.entries c summary
     → Adds digest c summary p old p old
 unfolding entry_named IsSummed
 found_adds digest id c summary p old there is found named stands summed = record {
@@ -312,8 +312,8 @@ found_adds digest id c summary p old there is found named stands summed = record
 
     same : at.0.summary ≡ summary
     same =
-        SummedBehind-same place.0 old.entries c at.0.summary summary
-        (subst (λ (d : Content). SummedBehind (take place.0 old.entries) d at.0.summary) (sym at.2) (stands.summed place.0 place.1 at.0 place.2)) summed
+        SummedAfter-same place.0 old.entries c at.0.summary summary
+        (subst (λ (d : Content). SummedAfter (take place.0 old.entries) d at.0.summary) (sym at.2) (stands.summed place.0 place.1 at.0 place.2)) summed
 
     by : (q : List ℕ) (b : Bool) → bytes_eq q id ≡ b
         → summary_of q old.entries ≡ cond b summary (summary_of q old.entries)

@@ -20,7 +20,7 @@ use Rattle.content_pool.specs.Pool.{Cells, content}
 use Rattle.tenant_tables.specs.declared.entry.Entry.{Entry}
 use Rattle.tenant_tables.specs.declared.summary.Summary.{Summary}
 use Rattle.tenant_tables.specs.View.{Entries, entry_named, summary_of}
-use Rattle.tenant_tables.specs.Trees.{IsSummed, SummedBehind, FitsTree, DirectoryStands, by_mode, below, both, entry_summary, no_files, one_file, tree_summary}
+use Rattle.tenant_tables.specs.Trees.{IsSummed, SummedAfter, FitsTree, DirectoryStands, by_mode, below, both, entry_summary, no_files, one_file, tree_summary}
 use Rattle.tenant_tables.proofs.HoldLemmas.{Keeps, held-at}
 
 -- what stands among the first stands there whatever comes after
@@ -45,7 +45,7 @@ IsSummed-nil p i id e h = cc h
 pub IsSummed-kept : (p q : Cells) (es : Entries) → Keeps p q es → IsSummed p es → IsSummed q es
 unfolding IsSummed
 IsSummed-kept p q es k h i id e at =
-    subst (λ (c : Content). SummedBehind (take i es) c e.summary)
+    subst (λ (c : Content). SummedAfter (take i es) c e.summary)
     (sym (k.contents e.slot (held-at es i id e at))) (h i id e at)
 
 -- a prefix
@@ -53,19 +53,19 @@ pub IsSummed-prefix : (p : Cells) (es fs : Entries) → IsSummed p (es ++ fs) �
 unfolding IsSummed
 IsSummed-prefix p es fs h i id e at =
     let within : i < length es = slice_get_within es i (id, e) at in
-    subst (λ (front : Entries). SummedBehind front (content p e.slot) e.summary)
+    subst (λ (front : Entries). SummedAfter front (content p e.slot) e.summary)
     (take-append-le i es fs (omega arith))
     (h i id e (slice_get-append es fs i within ∙ at))
 
 -- one entry more
 pub IsSummed-push : (p : Cells) (es : Entries) (id : List ℕ) (e : Entry) → IsSummed p es
-    → SummedBehind es (content p e.slot) e.summary
+    → SummedAfter es (content p e.slot) e.summary
     → IsSummed p (es ++ (id, e) ∷ [])
 unfolding IsSummed
 IsSummed-push p es id e h new i jd f at =
     elim (cases_lt i (length es)) [
       | inl below ↦
-          subst (λ (front : Entries). SummedBehind front (content p f.slot) f.summary)
+          subst (λ (front : Entries). SummedAfter front (content p f.slot) f.summary)
           (sym (take-append-le i es ((id, e) ∷ []) (omega arith)))
           (h i jd f (sym (slice_get-append es ((id, e) ∷ []) i below) ∙ at))
       | inr past ↦
@@ -74,10 +74,10 @@ IsSummed-push p es id e h new i jd f at =
                 let same : (id, e) ≡ (jd, f) =
                 cc
                 (sym (slice_get-pushed es (id, e)) ∙ ap (slice_get (es ++ (id, e) ∷ [])) (sym last) ∙ at) in
-                subst (λ (front : Entries). SummedBehind front (content p f.slot) f.summary)
+                subst (λ (front : Entries). SummedAfter front (content p f.slot) f.summary)
                 (sym (ap (λ (n : ℕ). take n (es ++ (id, e) ∷ [])) last ∙ take-append_seam es ((id, e) ∷ [])))
-                (subst (λ (y : List ℕ × Entry). SummedBehind es (content p y.1.slot) y.1.summary) same new)
-            | inr behind ↦
+                (subst (λ (y : List ℕ × Entry). SummedAfter es (content p y.1.slot) y.1.summary) same new)
+            | inr after ↦
                 let len = length-append es ((id, e) ∷ []) in
                 let none = slice_get_past (es ++ (id, e) ∷ []) i (omega (arith, len)) in
                 let no : None ≡ Some (jd, f) = sym none ∙ at in
@@ -137,9 +137,9 @@ FitsTree-same n es bytes s t f g =
     ∙ ap (tree_summary es) rows ∙ sym g.1.sums
 
 -- an object that is added again has the summary that it had
-pub SummedBehind-same : (n : ℕ) (es : Entries) (c : Content) (s t : Option Summary)
-    → SummedBehind (take n es) c s → SummedBehind es c t → s ≡ t
-SummedBehind-same n es c None None f g = refl
-SummedBehind-same n es c None (Some t) f g = absurd (f g.0)
-SummedBehind-same n es c (Some s) None f g = absurd (g f.0)
-SummedBehind-same n es c (Some s) (Some t) f g = ap Some (FitsTree-same n es c.bytes s t f.1 g.1)
+pub SummedAfter-same : (n : ℕ) (es : Entries) (c : Content) (s t : Option Summary)
+    → SummedAfter (take n es) c s → SummedAfter es c t → s ≡ t
+SummedAfter-same n es c None None f g = refl
+SummedAfter-same n es c None (Some t) f g = absurd (f g.0)
+SummedAfter-same n es c (Some s) None f g = absurd (g f.0)
+SummedAfter-same n es c (Some s) (Some t) f g = ap Some (FitsTree-same n es c.bytes s t f.1 g.1)

@@ -14,7 +14,7 @@ use Rattle.tenant_tables.specs.declared.table.TheConstants.{CONTENTS_LIMIT}
 use Rattle.tenant_tables.specs.View.{Entries, entry_named, held}
 use Rattle.tenant_tables.specs.Objects.{objects}
 use Rattle.tenant_tables.specs.StandsIn.{StandsIn, LeavesOthers, AreCounted}
-use Rattle.tenant_tables.specs.Trees.{SummedBehind}
+use Rattle.tenant_tables.specs.Trees.{SummedAfter}
 use Rattle.tenant_tables.proofs.HoldLemmas.{Keeps, IsNamed, IsShort, short-kept, held-push, held-nil, held-absent, objects-kept, named-kept}
 use Rattle.tenant_tables.proofs.SummaryLemmas.{IsSummed-nil, IsSummed-kept, IsSummed-prefix, IsSummed-push}
 
@@ -77,7 +77,7 @@ Keeps-release p q slot es h counted =
 pub StandsIn-put : (digest : List ℕ → List ℕ) (p q : Cells) (es : Entries) (id : List ℕ) (e : Entry)
     (c : Content)
     → StandsIn digest p es → Puts p q e.slot c → id ≡ name_by digest c → entry_named id es ≡ None
-    → SummedBehind es c e.summary → length c.bytes ≤ CONTENTS_LIMIT
+    → SummedAfter es c e.summary → length c.bytes ≤ CONTENTS_LIMIT
     → StandsIn digest q (es ++ (id, e) ∷ [])
 StandsIn-put digest p q es id e c h puts named none summed within =
     let k = Keeps-put p q e.slot c es puts h.counted in record {
@@ -91,7 +91,7 @@ StandsIn-put digest p q es id e c h puts named none summed within =
       counted = counted;
       summed =
           IsSummed-push q es id e (IsSummed-kept p q es k h.summed)
-          (subst (λ (d : Content). SummedBehind es d e.summary) (sym puts.has) summed);
+          (subst (λ (d : Content). SummedAfter es d e.summary) (sym puts.has) summed);
     }
   where
     absent : IsLive p e.slot → held es e.slot ≡ 0

@@ -11,12 +11,12 @@ use Rattle.hex.specs.Hex.{hex_digit_value}
 use Rattle.tenant_tables.specs.declared.found.Found.{Found}
 use Rattle.tenant_tables.specs.declared.found.Found.TheVariants as found
 
--- A name in half bytes, of which each hexadecimal digit writes one.
+-- A name in half bytes. Each hexadecimal digit writes one.
 abbrev pub half_bytes : List ℕ → List ℕ
 half_bytes [] = []
 half_bytes (byte ∷ bytes) = byte / 16 ∷ byte % 16 ∷ half_bytes bytes
 
--- A name is abbreviated by digits of either case whose values begin its half bytes.
+-- Digits of either case abbreviate a name if its half bytes begin with their values.
 unfoldable pub begins : List ℕ → List ℕ → Bool
 begins digits id = starts_with (option_eq nat_eq) (map Some (half_bytes id))
     (map hex_digit_value digits)
@@ -27,11 +27,11 @@ only_of [] = found.None
 only_of (id ∷ []) = found.One id
 only_of (id ∷ other ∷ more) = found.Many
 
--- What digits find among names: those that they begin.
+-- What digits find among names: the names that begin with them.
 abbrev pub found_among : List ℕ → List (List ℕ) → Found
 found_among digits ids = only_of (filter (begins digits) ids)
 
--- The object names that the digits begin are those between two.
+-- The object names that begin with the digits are exactly those from the first to the last.
 pub record Bounds (digits : List ℕ) (first last : List ℕ) : Type 0 where
   pub forward : IsLeBy (slice_cmp nat_cmp) first last
   pub between : (id : List ℕ) → IsObjectName id

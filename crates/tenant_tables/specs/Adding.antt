@@ -1,9 +1,9 @@
 -- What `add` answers.
 use Rattle.std.specs.Prelude.{◌≡◌, ℕ, List, [], ◌∷◌, ◌++◌, length, Option, None, Some, Result, Ok, Err, is_some, nat_le, nat_lt, if◌then◌else◌}
 use Rattle.std.specs.Str.{bytes_eq}
+use Rattle.git_model.specs.Limits.{contents_limit, objects_limit}
 use Rattle.git_model.specs.Content.{Content, name_by}
 use Rattle.content_pool.specs.Pool.{Cells, Puts}
-use Rattle.tenant_tables.specs.declared.table.TheConstants.{CONTENTS_LIMIT, OBJECTS_LIMIT}
 use Rattle.tenant_tables.specs.declared.fault.Fault.{Fault}
 use Rattle.tenant_tables.specs.declared.fault.Fault.TheVariants as fault
 use Rattle.tenant_tables.specs.declared.summary.Summary.{Summary}
@@ -11,26 +11,26 @@ use Rattle.tenant_tables.specs.View.{View, summary_of}
 use Rattle.git_model.specs.Repository.{Object, has_object, object_named, with_object}
 use Rattle.tenant_tables.specs.Objects.{objects}
 
--- Why an object cannot be added to others, if it cannot. Contents may be too long; an object that
--- is there is found; else the table may be full; else the name may be that of another content.
--- Nobody else's objects matter.
+-- Why an object cannot be added to others, if it cannot. The contents may be too long. Else an
+-- object that is there is found. Else the table may be full, or the name may be that of another
+-- content. Objects of others do not matter.
 unfoldable pub store_fault : List ℕ → Content → List Object → Option Fault
 store_fault id c os =
-    if nat_lt CONTENTS_LIMIT (length c.bytes) then Some fault.Limit
+    if nat_lt contents_limit (length c.bytes) then Some fault.Limit
     else if has_object id c os then None
-    else if nat_le OBJECTS_LIMIT (length os) then Some fault.Limit
+    else if nat_le objects_limit (length os) then Some fault.Limit
     else if is_some (object_named id os) then Some fault.NameCollision
     else None
 
--- A call that stores an object answers its name where there is no fault, and else the fault.
--- `Memory` may stand in place of either.
+-- A call that stores an object answers its name, or the fault if there is one. `Memory` may replace
+-- either.
 abbrev pub Answers : {name : Type 0} → Result name Fault → name → Option Fault → Type 0
 Answers (Ok answer) id fault = (answer ≡ id) × (fault ≡ None)
 Answers (Err fault.Limit) id refusal = refusal ≡ Some fault.Limit
 Answers (Err fault.NameCollision) id refusal = refusal ≡ Some fault.NameCollision
 Answers (Err fault.Memory) id refusal = Unit {0}
 
--- One entry after those that were there, in a slot that the pool holds once more.
+-- One more entry at the end, in a slot that the pool holds once more.
 pub record PushesAt (id : List ℕ) (c : Content) (summary : Option Summary) (before : Cells)
     (old : View) (after : Cells) (new : View) (slot : ℕ) : Type 0 where
   pub puts : Puts before after slot c
@@ -44,8 +44,8 @@ abbrev pub Pushes : List ℕ → Content → Option Summary → Cells → View �
 Pushes id c summary before old after new = (slot : ℕ)
     × PushesAt id c summary before old after new slot
 
--- The object is there afterwards, after those that were there unless it was one of them, and
--- nothing else has changed. A name that was there keeps its summary.
+-- The object is there after the call: at the end, unless it was there before. Nothing else has
+-- changed. A name that was there keeps its summary.
 pub record Adds (digest : List ℕ → List ℕ) (c : Content) (summary : Option Summary) (before : Cells)
     (old : View) (after : Cells) (new : View) : Type 0 where
   pub objects : objects after new.entries

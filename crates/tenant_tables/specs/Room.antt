@@ -1,8 +1,8 @@
--- Room in the pool for what a table takes.
+-- Room in the pool for the holds of a table.
 use Rattle.std.specs.Prelude.{ℕ, ◌+◌, ◌-◌, ◌<◌, ◌^◌}
 use Rattle.content_pool.specs.Pool.{Cells, holds}
 use Rattle.tenant_tables.specs.View.{Entries, held}
 
--- Nobody else holds a content 2^64 - 2 times, so that this table can hold each once.
+-- The others hold each content fewer than 2^64 - 2 times, so this table can hold it once.
 abbrev pub HasRoomBeside : Cells → Entries → Type 0
 HasRoomBeside pool entries = (s : ℕ) → holds pool s < held entries s + (2 ^ 64 - 2)

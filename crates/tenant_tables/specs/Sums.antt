@@ -1,5 +1,5 @@
 -- The sizes of all trees among objects: how many files, how deep, how long a path. The limits are
--- this service's own.
+-- those of gitpool.
 use Rattle.std.specs.Prelude.{◌≡◌, ◌≢◌, ℕ, ◌≤◌, List, [], ◌∷◌, map, fold, All, IsSomeAnd}
 use Rattle.std.specs.Map.{lookup}
 use Rattle.std.specs.Option.{unwrap_or}
@@ -7,13 +7,14 @@ use Rattle.std.specs.Str.{bytes_eq}
 use Rattle.git_model.specs.declared.kind.Kind.{Kind}
 use Rattle.git_model.specs.declared.kind.Kind.TheVariants as kind
 use Rattle.git_model.specs.declared.file_mode.FileMode.TheVariants as mode
+use Rattle.git_model.specs.Limits.{files_limit, path_bytes_limit, path_components_limit}
 use Rattle.git_model.specs.Tree.{TreeEntry, CanWriteTree, tree_contents}
 use Rattle.git_model.specs.TreeReading.{tree_read}
 use Rattle.git_model.specs.Repository.{Object}
 use Rattle.tenant_tables.specs.declared.summary.Summary.{Summary}
 use Rattle.tenant_tables.specs.Trees.{no_files, below, one_file, by_mode, both}
 
--- The summaries of the trees so far, under their names. Of two under one name the newer counts.
+-- The summaries of the trees so far, under their names. If a name has two, the newer one counts.
 abbrev pub Sums : Type 0
 Sums = List (List ℕ × Summary)
 
@@ -25,43 +26,43 @@ sum_of_entry sums e = by_mode e.mode
 abbrev pub sum_of_tree : Sums → List TreeEntry → Summary
 sum_of_tree sums es = fold both no_files (map (sum_of_entry sums) es)
 
--- The tree of a directory has a file.
+-- The tree of a directory has at least one file.
 abbrev pub HasFiles : Sums → TreeEntry → Type 0
 HasFiles sums e = e.mode ≡ mode.Directory
     → IsSomeAnd (lookup (bytes_eq e.id) sums) (λ s. s.files ≢ 0)
 
 -- At most 1,048,576 files, 256 components, and paths of 16,383 bytes.
 pub record IsWithin (s : Summary) : Type 0 where
-  pub files : s.files ≤ 1048576
-  pub depth : s.depth ≤ 256
-  pub longest : s.longest ≤ 16383
+  pub files : s.files ≤ files_limit
+  pub depth : s.depth ≤ path_components_limit
+  pub longest : s.longest ≤ path_bytes_limit
 
 -- A tree with these entries fits after the trees so far.
-pub record FitsBehind (sums : Sums) (es : List TreeEntry) : Type 0 where
+pub record FitsAfter (sums : Sums) (es : List TreeEntry) : Type 0 where
   pub directories : All (HasFiles sums) es
   pub within : IsWithin (sum_of_tree sums es)
 
--- Bytes are a tree's where they are the contents of entries that can be written.
+-- Bytes are those of a tree if they are the contents of entries that can be written.
 pub record IsTreeText (bytes : List ℕ) (es : List TreeEntry) : Type 0 where
   pub writable : CanWriteTree es
   pub contents : bytes ≡ tree_contents es
 
--- The contents are those of a tree that fits after the trees so far; every other object fits.
+-- A tree has contents that fit after the trees so far; every other object fits.
 abbrev pub Fits : Kind → List ℕ → Sums → Type 0
-Fits kind.Tree bytes sums = IsTreeText bytes (tree_read bytes) × FitsBehind sums (tree_read bytes)
+Fits kind.Tree bytes sums = IsTreeText bytes (tree_read bytes) × FitsAfter sums (tree_read bytes)
 Fits kind.Blob bytes sums = Unit {0}
 Fits kind.Commit bytes sums = Unit {0}
 Fits kind.Tag bytes sums = Unit {0}
 
--- The trees so far, and the object where it is one.
-abbrev pub sums_behind : Kind → List ℕ → List ℕ → Sums → Sums
-sums_behind kind.Tree id bytes sums = (id, sum_of_tree sums (tree_read bytes)) ∷ sums
-sums_behind kind.Blob id bytes sums = sums
-sums_behind kind.Commit id bytes sums = sums
-sums_behind kind.Tag id bytes sums = sums
+-- The trees so far, with the object if it is a tree.
+abbrev pub sums_with : Kind → List ℕ → List ℕ → Sums → Sums
+sums_with kind.Tree id bytes sums = (id, sum_of_tree sums (tree_read bytes)) ∷ sums
+sums_with kind.Blob id bytes sums = sums
+sums_with kind.Commit id bytes sums = sums
+sums_with kind.Tag id bytes sums = sums
 
 -- Each object fits after those before it.
 abbrev pub TreesFit : Sums → List Object → Type 0
 TreesFit sums [] = Unit {0}
 TreesFit sums (o ∷ os) = Fits o.content.kind o.content.bytes sums
-    × TreesFit (sums_behind o.content.kind o.id o.content.bytes sums) os
+    × TreesFit (sums_with o.content.kind o.id o.content.bytes sums) os

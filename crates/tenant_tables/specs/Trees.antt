@@ -15,7 +15,7 @@ use Rattle.tenant_tables.specs.View.{Entries, summary_of}
 abbrev pub no_files : Summary
 no_files = record { files = 0; depth = 0; longest = 0 }
 
--- The files of a directory, below the name of its entry. An empty directory adds none.
+-- The files of a directory, under the name of its entry. An empty directory adds none.
 abbrev pub below : List ℕ → Summary → Summary
 below name s = if s.files == 0 then no_files
     else record { files = s.files; depth = 1 + s.depth; longest = length name + 1 + s.longest }
@@ -24,7 +24,7 @@ below name s = if s.files == 0 then no_files
 abbrev pub one_file : List ℕ → Summary
 one_file name = record { files = 1; depth = 1; longest = length name }
 
--- What an entry adds: a directory the files of its tree, every other entry itself.
+-- What an entry adds: a directory adds the files of its tree, every other entry adds itself.
 abbrev pub by_mode : FileMode → Summary → Summary → Summary
 by_mode mode.Directory directory file = directory
 by_mode mode.Regular directory file = file
@@ -44,17 +44,17 @@ both s t = record {
   longest = max s.longest t.longest;
 }
 
--- The summary of a tree with these entries, whose directories have theirs in the table.
+-- The summary of a tree with these entries, by the summaries that the table has of its directories.
 abbrev pub tree_summary : Entries → List TreeEntry → Summary
 tree_summary table es = fold both no_files (map (entry_summary table) es)
 
--- A directory stands in the table as a tree with files.
+-- A directory is in the table, as a tree with files.
 abbrev pub DirectoryStands : Entries → TreeEntry → Type 0
 DirectoryStands table e = e.mode ≡ mode.Directory
     → IsSomeAnd (summary_of e.id table) (λ s. s.files ≢ 0)
 
--- The bytes are the contents of a tree whose directories stand in the table, and the summary is
--- that of its files.
+-- The bytes are the contents of a tree whose directories are in the table, and the summary is that
+-- of its files.
 pub record IsTreeOf (table : Entries) (bytes : List ℕ) (summary : Summary)
     (es : List TreeEntry) : Type 0 where
   pub writable : CanWriteTree es
@@ -66,13 +66,13 @@ pub record IsTreeOf (table : Entries) (bytes : List ℕ) (summary : Summary)
 abbrev pub FitsTree : Entries → List ℕ → Summary → Type 0
 FitsTree table bytes summary = (es : List TreeEntry) × IsTreeOf table bytes summary es
 
--- What stands in an entry beside its slot: after those of the table, a tree has its summary, and
--- every other object none.
-abbrev pub SummedBehind : Entries → Content → Option Summary → Type 0
-SummedBehind table c None = c.kind ≢ kind.Tree
-SummedBehind table c (Some s) = (c.kind ≡ kind.Tree) × FitsTree table c.bytes s
+-- The summary in a new entry, after those of the table: a tree has its summary, and every other
+-- object has none.
+abbrev pub SummedAfter : Entries → Content → Option Summary → Type 0
+SummedAfter table c None = c.kind ≢ kind.Tree
+SummedAfter table c (Some s) = (c.kind ≡ kind.Tree) × FitsTree table c.bytes s
 
--- Each entry is summed after those before it.
+-- Each entry has the right summary, given the entries before it.
 unfoldable pub IsSummed : Cells → Entries → Type 0
 IsSummed pool entries = (i : ℕ) (id : List ℕ) (e : Entry) → slice_get entries i ≡ Some (id, e)
-    → SummedBehind (take i entries) (content pool e.slot) e.summary
+    → SummedAfter (take i entries) (content pool e.slot) e.summary

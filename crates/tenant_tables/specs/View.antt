@@ -1,4 +1,4 @@
--- What a contract sees of a table, without the pool.
+-- What contracts see of a table, without the pool.
 use Rattle.std.specs.Prelude.{ℕ, ◌==◌, List, Option, take, count_by}
 use Rattle.std.specs.Map.{keys_of, lookup}
 use Rattle.std.specs.Option.{option_map, option_and_then}
@@ -21,20 +21,20 @@ pub record View : Type 0 where
 abbrev pub names : Entries → List (List ℕ)
 names entries = keys_of entries
 
--- The entries that are in sight: all, or the committed prefix.
+-- The entries in sight: all, or the committed prefix.
 abbrev pub in_sight : Sight → View → Entries
 in_sight sight.All table = table.entries
 in_sight sight.Committed table = take table.committed table.entries
 
--- The entry of a name, where it has one.
+-- The entry of a name, if it has one.
 unfoldable pub entry_named : List ℕ → Entries → Option Entry
 entry_named id entries = lookup (bytes_eq id) entries
 
--- The slot of a name, where it has one.
+-- The slot of a name, if it has one.
 abbrev pub slot_of : List ℕ → Entries → Option ℕ
 slot_of id entries = option_map (λ e. e.slot) (entry_named id entries)
 
--- The summary of a name, where it is that of a tree.
+-- The summary of a name, if it is the name of a tree.
 abbrev pub summary_of : List ℕ → Entries → Option Summary
 summary_of id entries = option_and_then (λ e. e.summary) (entry_named id entries)
 

@@ -1,5 +1,5 @@
-//! The object names that some digits begin lie between two names: that with zeros after the
-//! digits, and that with `f`s.
+//! The object names that begin with some digits lie between two names: the digits with zeros after
+//! them, and the digits with `f`s after them.
 
 ghost use Rattle.std.specs.Prelude.{◌≡◌, ◌≢◌, ◌≤◌, ◌++◌, ◌-◌, ℕ, List, Ok, length, replicate, false, IfNone, IfSome};
 ghost use Rattle.hex.specs.Hex.{decode_sized};
@@ -8,7 +8,7 @@ ghost use Rattle.tenant_tables.specs.Abbreviation.{begins, Bounds};
 
 use git_names::Name;
 
-/// The name whose forty digits are these and then as many of `digit` as it takes.
+/// The name whose forty digits are these, filled up with `digit`.
 fn padded(digits: &[u8], digit: u8) -> Option<Name>
     ensures none { IfNone result (length digits.now ≤ 40 → (id : List ℕ)
         → decode_sized (digits.now ++ replicate (40 - length digits.now) digit) 20 ≢ Ok id) }
@@ -25,8 +25,8 @@ fn padded(digits: &[u8], digit: u8) -> Option<Name>
     Name::from_hex(&text)
 }
 
-/// The least and the greatest object name that these hexadecimal digits of either case begin;
-/// `None` where they begin none. Takes no memory.
+/// The least and the greatest object name that begin with these hexadecimal digits of either case;
+/// `None` if no name does. Takes no memory.
 pub fn bounds(digits: &[u8]) -> Option<(Name, Name)>
     ensures none { IfNone result ((id : List ℕ) → IsObjectName id → begins digits.now id ≡ false) }
     ensures some { IfSome result (λ r. Bounds digits.now r.0 r.1) }

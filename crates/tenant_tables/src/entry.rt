@@ -3,7 +3,7 @@
 use crate::summary::Summary;
 use content_pool::Slot;
 
-/// Where an object's contents lie in the pool, and, where it is a tree, the size of its file map.
+/// Where the contents of an object lie in the pool and, for a tree, the size of its file map.
 #[derive(Clone, Copy)]
 pub(crate) struct Entry {
     pub slot: Slot,

@@ -6,22 +6,22 @@ ghost use Rattle.tenant_tables.specs.Fault.{fault_code};
 use git_names::Memory;
 use thiserror::Error;
 
-/// What `Table::add` and `Table::add_tree` refuse. Nothing has changed after any of them.
+/// Why `Table::add` and `Table::add_tree` refuse an object. Table and pool are unchanged then.
 #[derive(Clone, Copy, Debug, PartialEq, Eq, Error)]
 pub enum Fault {
-    /// The contents are longer than an object's may be, or the table is full: 25.
+    /// The contents are longer than 134,217,728 bytes, or the table has 4,194,304 objects (25).
     #[error("limit exceeded")]
     Limit,
-    /// The table has another object under this name: 24.
+    /// The table has another content under this name (24).
     #[error("object name collision")]
     NameCollision,
-    /// A growth was refused: 90.
+    /// An allocation failed (90).
     #[error("out of memory")]
     Memory,
 }
 
 impl Fault {
-    /// The number of the refusal.
+    /// The number of the fault: 24, 25 or 90.
     pub fn code(self) -> u16
         ensures { result ≡ fault_code self }
     {

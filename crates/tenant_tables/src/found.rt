@@ -1,14 +1,14 @@
-//! What an abbreviation of an object name finds: gitrevisions(7), `<sha1>`.
+//! The result of looking up an abbreviated object name: gitrevisions(7), `<sha1>`.
 
 use git_names::Name;
 
-/// How many object names in sight begin with some digits, and which, where it is one.
+/// How many object names in sight begin with some digits, and which one if it is the only one.
 #[derive(Clone, Copy, PartialEq, Eq)]
 pub enum Found {
     /// No name begins with them.
     None,
-    /// This name alone does.
+    /// Only this name does.
     One(Name),
-    /// More than one name does, so that the abbreviation is ambiguous.
+    /// More than one name does: the abbreviation is ambiguous.
     Many,
 }

@@ -1,9 +1,9 @@
-//! A tenant's object table: which object names it has, in the order in which they were added.
+//! The object table of a tenant: which object names it has, in the order in which they were added.
 //!
-//! The contents lie in the pool, shared with other tenants. A lookup goes through this table alone,
-//! so what is not in it does not exist for the tenant. Objects after the committed prefix belong
-//! to the open stream and go at `roll_back`. `Objects` lists the objects in sight: what may be read
-//! of a repository without a change to it.
+//! The contents lie in the pool, which the tenants share. A lookup uses only this table, so what is
+//! not in it does not exist for the tenant. Objects after the committed prefix belong to the open
+//! stream, and `roll_back` removes them. `Objects` shows the objects in sight to callers that only
+//! read a repository.
 #![tactic(auto)]
 
 mod abbreviation;

@@ -1,7 +1,7 @@
 //! The objects of a table that are in sight: "object database" of gitglossary(7).
 //!
-//! What is not in sight does not exist here: neither another tenant's objects nor, where the sight
-//! is the committed prefix, those of the open stream. Contracts see the list of the objects, oldest
+//! What is not in sight does not exist here: neither objects of another tenant nor, if the sight is
+//! the committed prefix, those of the open stream. Contracts see the list of the objects, oldest
 //! first, and neither the pool nor the table.
 
 ghost use Rattle.std.specs.Prelude.{◌≡◌, length, map, is_some};
@@ -51,8 +51,8 @@ impl<'a, N: Naming> Model for Objects<'a, N> {
 }
 
 impl<'a, N: Naming> Objects<'a, N> {
-    /// The objects of this table in sight. The pool is the one that the table stands in. Takes no
-    /// memory.
+    /// The objects of this table that are in sight. The pool must be the one that holds the
+    /// contents of the table. Takes no memory.
     pub fn of(pool: &'a Pool<N>, table: &'a Table, sight: Sight) -> Objects<'a, N>
         requires { StandsIn N.digest_of pool.now table.now.entries }
         ensures { result ≡ objects pool.now (in_sight sight table.now) }
@@ -60,7 +60,7 @@ impl<'a, N: Naming> Objects<'a, N> {
         Objects { pool, table, sight }
     }
 
-    /// The kind and the contents of the object of this name; `None` where there is no such object.
+    /// The kind and the contents of the object of this name; `None` if there is no such object.
     /// Takes no memory.
     pub fn get(&self, id: &Name) -> Option<(Kind, &'a [u8])>
         ensures { option_map (λ r. content_from r.0 r.1.now) result ≡ object_named id.now self.now }
@@ -88,8 +88,8 @@ impl<'a, N: Naming> Objects<'a, N> {
         }
     }
 
-    /// The one object name that begins with these hexadecimal digits of either case, if it is one.
-    /// Takes no memory.
+    /// Looks up an abbreviated object name: `Found::One` if exactly one name begins with these
+    /// hexadecimal digits of either case. Takes no memory.
     pub fn starting_with(&self, digits: &[u8]) -> Found
         ensures { result ≡ found_among digits.now (map (λ o. o.id) self.now) }
     {

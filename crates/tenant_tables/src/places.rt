@@ -1,4 +1,4 @@
-//! Objects in sight by their places.
+//! Objects in sight by their positions.
 
 ghost use Rattle.std.specs.Prelude.{◌≡◌, ◌<◌, length, slice_get, MatchOption};
 ghost use Rattle.std.specs.Option.{option_map};
@@ -11,8 +11,8 @@ use git_model::Kind;
 use git_names::{Name, Naming};
 
 impl<'a, N: Naming> Objects<'a, N> {
-    /// The position of the object of this name, from 0 on for the oldest; `None` where there is no
-    /// such object. Takes no memory.
+    /// The position of the object of this name, counted from 0 for the oldest; `None` if there is
+    /// no such object. Takes no memory.
     pub fn place(&self, id: &Name) -> Option<usize>
         ensures { MatchOption result (place_of id.now self.now ≡ length self.now)
             (λ place. (place_of id.now self.now ≡ place) × (place < length self.now)) }

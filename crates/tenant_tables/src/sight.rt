@@ -1,10 +1,10 @@
-//! How far into a table a search looks.
+//! Which objects of a table a lookup sees.
 
 /// Which objects of a table are in sight.
 #[derive(Clone, Copy)]
 pub enum Sight {
-    /// Those of the committed prefix, which queries see.
+    /// Only the committed ones, as queries see them.
     Committed,
-    /// Those of the open stream too.
+    /// All, with those of the open stream.
     All,
 }

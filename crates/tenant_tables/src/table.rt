@@ -1,9 +1,10 @@
-//! A tenant's object table.
+//! The object table of a tenant.
 
 ghost use Rattle.std.specs.Prelude.{◌≡◌, ◌≢◌, ◌<◌, ◌≤◌, ◌-◌, [], length, take, Option, None, Some, position, slice_get, is_some, nat_le, OnOk, OnErr};
 ghost use Rattle.std.specs.List.{IsDistinct};
 ghost use Rattle.std.specs.Option.{option_map};
 ghost use Rattle.std.specs.Str.{bytes_eq};
+ghost use Rattle.git_model.specs.Limits.{contents_limit, objects_limit};
 ghost use Rattle.git_model.specs.ObjectName.{object_name};
 ghost use Rattle.git_model.specs.Content.{content_from, name_by};
 ghost use Rattle.content_pool.specs.Pool.{HasRoom, IsLive, content};
@@ -13,7 +14,7 @@ ghost use Rattle.git_model.specs.Repository.{object_named};
 ghost use Rattle.tenant_tables.specs.Objects.{objects};
 ghost use Rattle.tenant_tables.specs.StandsIn.{StandsIn, LeavesOthers};
 ghost use Rattle.tenant_tables.specs.Adding.{Answers, store_fault, Adds, Pushes, PushesAt};
-ghost use Rattle.tenant_tables.specs.Trees.{FitsTree, SummedBehind};
+ghost use Rattle.tenant_tables.specs.Trees.{FitsTree, SummedAfter};
 ghost use Rattle.tenant_tables.specs.Abbreviation.{found_among};
 
 use crate::abbreviation::bounds;
@@ -30,13 +31,14 @@ use std::alloc::Global;
 use std::collections::BTreeSet;
 use std::marker::Model;
 
-/// How many bytes the contents of one object may have.
+/// The most bytes that the contents of one object may have.
 pub const CONTENTS_LIMIT: usize = 134_217_728;
 
-/// How many objects a table may have.
+/// The most objects that a table may have.
 pub const OBJECTS_LIMIT: usize = 4_194_304;
 
-/// The objects of one tenant, in the order in which they were added.
+/// The objects of one tenant, in the order in which they were added: the committed ones first, and
+/// after them those of the open stream.
 #[derive(Drop)]
 pub struct Table {
     objects: IndexMap<Name, Entry>,
@@ -69,7 +71,7 @@ impl Table {
         }
     }
 
-    /// Where the contents of the object of this name lie in the pool; `None` where the table has no
+    /// Where the contents of the object of this name lie in the pool; `None` if the table has no
     /// such object.
     pub fn find(&self, id: &Name) -> Option<Slot>
         ensures { result ≡ slot_of id.now self.now.entries }
@@ -77,7 +79,7 @@ impl Table {
         self.objects.get(id).map(|entry| entry.slot)
     }
 
-    /// `find` among the committed objects alone.
+    /// `find` among the committed objects only.
     pub fn find_committed(&self, id: &Name) -> Option<Slot>
         ensures { result ≡ slot_of id.now (take self.now.committed self.now.entries) }
     {
@@ -92,14 +94,16 @@ impl Table {
         }
     }
 
-    /// The position of the object of this name, from 0 in the order in which objects were added.
+    /// The position of the object of this name, counted from 0 in the order in which objects were
+    /// added; `None` if the table has no such object.
     pub fn place(&self, id: &Name) -> Option<usize>
         ensures { result ≡ position (bytes_eq id.now) (names self.now.entries) }
     {
         self.objects.get_index_of(id)
     }
 
-    /// The object name at this position, and where its contents lie in the pool.
+    /// The object name at this position, and where its contents lie in the pool; `None` from `len`
+    /// on.
     pub fn at(&self, place: usize) -> Option<(Name, Slot)>
         ensures { result ≡ option_map (λ e. (e.0, e.1.slot)) (slice_get self.now.entries place) }
     {
@@ -117,7 +121,7 @@ impl Table {
     /// How many objects the table has, at most 4,194,304. Their names are distinct.
     pub fn len(&self) -> usize
         ensures value { result ≡ length self.now.entries }
-        ensures limited { length self.now.entries ≤ OBJECTS_LIMIT }
+        ensures limited { length self.now.entries ≤ objects_limit }
         ensures distinct { IsDistinct bytes_eq (names self.now.entries) }
     {
         self.objects.len()
@@ -131,11 +135,11 @@ impl Table {
         self.committed
     }
 
-    /// The one object name in sight that begins with these hexadecimal digits of either case, if it
-    /// is one.
+    /// Looks up an abbreviated object name: `Found::One` if exactly one name in sight begins with
+    /// these hexadecimal digits of either case.
     ///
-    /// Digits of another kind, or more than forty, begin no name. Only this table's names count.
-    /// The names that begin so are found by the ordered index. Takes no memory.
+    /// No name begins with other characters or with more than forty digits. Only the names of this
+    /// table count. The lookup uses the ordered index of the names. Takes no memory.
     pub fn starting_with(&self, digits: &[u8], sight: Sight) -> Found
         ensures { result ≡ found_among digits.now (names (in_sight sight self.now)) }
     {
@@ -165,15 +169,16 @@ impl Table {
     }
 
     /// Adds the object of this kind, which is not a tree, with these contents, and answers its
-    /// name. An object that the table has already is found and not added again.
+    /// name. An object that the table already has is found and not added again.
     ///
-    /// `Fault::Limit` (25) where the contents are longer than 134,217,728 bytes; else the object is
-    /// found, if the table has it; else `Fault::Limit` where the table has 4,194,304 objects, and
-    /// `Fault::NameCollision` (24) where it has another object of this name, whatever other tables
-    /// have. `Fault::Memory` (90) where a growth was refused. Nothing has changed after any of
-    /// them.
+    /// `Fault::Limit` (25) if the contents are longer than 134,217,728 bytes. Else an object that
+    /// the table has is found. Else `Fault::Limit` if the table has 4,194,304 objects, and else
+    /// `Fault::NameCollision` (24) if the table has another content under this name. Other tables
+    /// do not matter. `Fault::Memory` (90) if an allocation fails. Table and pool are unchanged
+    /// after a fault.
     ///
-    /// The pool is the one that the table stands in, and no content of it is held 2^64 - 1 times.
+    /// The pool must be the one that holds the contents of the table, and hold no content 2^64 - 1
+    /// times.
     pub fn add<N: Naming>(
         &mut self,
         pool: &mut Pool<N>,
@@ -195,10 +200,10 @@ impl Table {
     }
 
     /// Adds the tree with these contents and this summary, as `add` adds other objects, with the
-    /// same refusals.
+    /// same faults.
     ///
-    /// The bytes are the contents of a tree whose directories stand in the table, and the summary
-    /// is that of its file map.
+    /// The bytes must be the contents of a tree whose directories are in the table, and the summary
+    /// must be that of its file map.
     pub fn add_tree<N: Naming>(
         &mut self,
         pool: &mut Pool<N>,
@@ -220,7 +225,7 @@ impl Table {
         self.store(pool, Kind::Tree, bytes, Some(summary))
     }
 
-    // Adds an object with its summary, which a tree has and no other object.
+    // Adds an object with its summary. Only a tree has one.
     fn store<N: Naming>(
         &mut self,
         pool: &mut Pool<N>,
@@ -230,7 +235,7 @@ impl Table {
     ) -> Result<Name, Fault>
         requires stands { StandsIn N.digest_of pool.old self.old.entries }
         requires room { HasRoom pool.old }
-        requires summed { SummedBehind self.old.entries (content_from kind bytes.now) summary }
+        requires summed { SummedAfter self.old.entries (content_from kind bytes.now) summary }
         ensures stands { StandsIn N.digest_of pool.new self.new.entries }
         ensures others { LeavesOthers pool.old self.old.entries pool.new self.new.entries }
         ensures answer { let c = content_from kind bytes.now in let id = name_by N.digest_of c in
@@ -257,7 +262,7 @@ impl Table {
         Ok(id)
     }
 
-    // Whether the object of this name has this content; `None` where there is no such object.
+    // Whether the object of this name has this content; `None` if there is no such object.
     fn has_content<N: Naming>(
         &self,
         pool: &Pool<N>,
@@ -276,13 +281,12 @@ impl Table {
     }
 
     fn is_full(&self) -> bool
-        ensures { result ≡ nat_le OBJECTS_LIMIT (length self.now.entries) }
+        ensures { result ≡ nat_le objects_limit (length self.now.entries) }
     {
         self.len() >= OBJECTS_LIMIT
     }
 
-    // Puts an object after all others. All that may fail comes before the first change that is not
-    // taken back.
+    // Appends an object. Everything that may fail comes before the first change that is not undone.
     fn push_new<N: Naming>(
         &mut self,
         pool: &mut Pool<N>,
@@ -293,7 +297,7 @@ impl Table {
     ) -> Result<(), Memory>
         requires named { id ≡ object_name N.digest_of kind bytes.now }
         requires new { entry_named id self.old.entries ≡ None }
-        requires spare { length self.old.entries < OBJECTS_LIMIT }
+        requires spare { length self.old.entries < objects_limit }
         requires room { HasRoom pool.old }
         ensures ok { OnOk result (Pushes id
             (content_from kind bytes.now) summary pool.old self.old pool.new self.new) }
@@ -314,10 +318,12 @@ impl Table {
         }
     }
 
-    /// Adds an object whose content lies in a live slot of the pool already, under a name that the
-    /// table does not have. The slot is held once more; nothing is copied and nothing is digested.
+    /// Adds an object whose content is already in a live slot of the pool, under a name that the
+    /// table does not have. The slot is held once more; nothing is copied and nothing is hashed.
     ///
-    /// `Memory` (90) where there is no room for one more; table and pool are then as they were.
+    /// The caller makes sure of what `add` and `add_tree` check: the name is that of the content,
+    /// the limits hold, and a tree has its summary. `Memory` (90) if there is no room for one more
+    /// object; table and pool are then unchanged.
     pub fn add_held<N: Naming>(
         &mut self,
         pool: &mut Pool<N>,
@@ -330,9 +336,9 @@ impl Table {
         requires live { IsLive pool.old slot }
         requires named { id ≡ name_by N.digest_of (content pool.old slot) }
         requires new { entry_named id self.old.entries ≡ None }
-        requires spare { length self.old.entries < OBJECTS_LIMIT }
-        requires summed { SummedBehind self.old.entries (content pool.old slot) summary }
-        requires short { length (content pool.old slot).bytes ≤ CONTENTS_LIMIT }
+        requires spare { length self.old.entries < objects_limit }
+        requires summed { SummedAfter self.old.entries (content pool.old slot) summary }
+        requires short { length (content pool.old slot).bytes ≤ contents_limit }
         ensures stands { StandsIn N.digest_of pool.new self.new.entries }
         ensures others { LeavesOthers pool.old self.old.entries pool.new self.new.entries }
         ensures ok { OnOk result (Adds N.digest_of (content pool.old slot) summary
@@ -353,7 +359,7 @@ impl Table {
         requires room { HasRoom pool.old }
         requires live { IsLive pool.old slot }
         requires new { entry_named id self.old.entries ≡ None }
-        requires spare { length self.old.entries < OBJECTS_LIMIT }
+        requires spare { length self.old.entries < objects_limit }
         ensures ok { OnOk result (PushesAt id (content pool.old slot) summary
             pool.old self.old pool.new self.new slot) }
         ensures err { OnErr result ((self.new ≡ self.old) × (pool.new ≡ pool.old)) }
@@ -373,9 +379,10 @@ impl Table {
         self.committed = self.len();
     }
 
-    /// Takes out the objects after the committed prefix and releases their slots. Takes no memory.
+    /// Removes the objects after the committed prefix and releases their slots. Takes no memory.
     ///
-    /// What another table holds stays in the pool. The pool is the one that the table stands in.
+    /// What another table holds stays in the pool. The pool must be the one that holds the contents
+    /// of the table.
     pub fn roll_back<N: Naming>(&mut self, pool: &mut Pool<N>)
         requires stands { StandsIn N.digest_of pool.old self.old.entries }
         ensures stands { StandsIn N.digest_of pool.new self.new.entries }
@@ -391,7 +398,7 @@ impl Table {
         }
     }
 
-    // Takes out the last object and releases its slot.
+    // Removes the last object and releases its slot.
     fn give_up_last<N: Naming>(&mut self, pool: &mut Pool<N>)
         requires stands { StandsIn N.digest_of pool.old self.old.entries }
         requires open { self.old.committed < length self.old.entries }

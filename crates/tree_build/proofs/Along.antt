@@ -1,4 +1,4 @@
--- Directories that are opened on the way to a path: what they mean stays, and few texts are read.
+-- Opening the directories on the way to a path: the files stay the same, and few trees are read.
 use Rattle.std.proofs.Common.{◌≡◌, ◌≢◌, ℕ, ◌+◌, ◌≤◌, Bool, cond, List, [], ◌∷◌, ◌++◌, refl, sym, ap, ◌∙◌, subst, arith}
 use Rattle.std.specs.Prelude.{Option, Some, length}
 use Rattle.std.specs.Str.{bytes_eq}
@@ -138,3 +138,8 @@ one_more a m b s (c ∷ rest) ne low high r =
     let n = closed_bound s c rest in
     let x = r.counted in
     let y = r.bounded in record { counted = omega arith; bounded = omega arith }
+
+-- the tree itself was counted, and could not be read
+pub one_read : (a m : ℕ) (rest : Path) → rest ≢ [] → a ≤ m → m ≤ a + 1 → ReadsMore a m (length rest)
+one_read a m [] ne low high = absurd (ne refl)
+one_read a m (c ∷ rest) ne low high = record { counted = omega arith; bounded = omega arith }

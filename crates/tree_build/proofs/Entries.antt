@@ -15,7 +15,7 @@ use Rattle.tree_build.proofs.Beside.{child_removed, beside_removed, child_insert
 pub one_held : (x y : Held) → Some x ≡ Some y → x ≡ y
 one_held x y e = cc e
 
--- ---- texts that are closed below an entry
+-- ---- unopened trees below an entry
 
 abbrev pub closed_child : Option Held → Path → ℕ
 closed_child None path = 0

@@ -15,7 +15,7 @@ use Rattle.tenant_tables.specs.Objects.{objects}
 use Rattle.tenant_tables.specs.StandsIn.{StandsIn}
 use Rattle.file_maps.specs.FileMap.{Path, Listed, FileMap, AreFiles, listed, is_apart}
 use Rattle.file_maps.specs.Edits.{moved, with_files, put_tree_at, put_fault}
-use Rattle.file_maps.specs.Gathers.{is_small}
+use Rattle.file_maps.specs.Grafts.{is_small}
 use Rattle.file_maps.specs.Storable.{files_summary}
 use Rattle.file_maps.specs.StoredFiles.{stored_files}
 use Rattle.file_maps.specs.StoredTree.{ListsTree}

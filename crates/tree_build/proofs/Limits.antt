@@ -13,7 +13,7 @@ use Rattle.file_maps.specs.declared.fault.Fault.TheVariants as fault
 use Rattle.file_maps.specs.FileMap.{Path, Listed, FileMap, ArePairwiseApart, AreFiles, listed}
 use Rattle.file_maps.specs.Edits.{moved, fits, put_tree_at, put_fault}
 use Rattle.file_maps.specs.Calls.{Edits}
-use Rattle.file_maps.specs.Gathers.{is_small}
+use Rattle.file_maps.specs.Grafts.{is_small}
 use Rattle.file_maps.specs.Kept.{IsBelow}
 use Rattle.file_maps.specs.Storable.{files_summary}
 use Rattle.file_maps.specs.StoredFiles.{stored_files}

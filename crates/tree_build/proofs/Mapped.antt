@@ -6,7 +6,7 @@ use Rattle.std.specs.FinMap.{get, get-retain_keys, same_map}
 use Rattle.std.specs.Str.{bytes_eq}
 use Rattle.std.specs.declared.cmp.Ordering.TheVariants.{Equal}
 use Rattle.git_paths.specs.Order.{path_cmp, path_cmp-total, path_cmp-IsAntisymmetric}
-use Rattle.git_paths.specs.Paths.{behind}
+use Rattle.git_paths.specs.Paths.{strip_prefix}
 use Rattle.git_paths.proofs.Cases.{by_cases}
 use Rattle.file_maps.specs.declared.entry.Entry.{Entry}
 use Rattle.file_maps.specs.FileMap.{Path, Listed, is_apart}
@@ -26,13 +26,13 @@ same_by : Option Path → Path → Bool
 same_by None p = false
 same_by (Some r) p = same r p
 
-same_behind : (top q p : Path) → same q (top ++ p) ≡ same_by (behind top q) p
+same_after : (top q p : Path) → same q (top ++ p) ≡ same_by (strip_prefix top q) p
 unfolding same_by
-same_behind [] q p = refl
-same_behind (c ∷ top) [] p = refl
-same_behind (c ∷ top) (x ∷ q) p =
+same_after [] q p = refl
+same_after (c ∷ top) [] p = refl
+same_after (c ∷ top) (x ∷ q) p =
     by_cases (bytes_eq c x)
-    (λ yea. let back = is_back c x yea in rw (yea, back) (same_behind top q p))
+    (λ yea. let back = is_back c x yea in rw (yea, back) (same_after top q p))
     (λ nay. let back = turn_bytes c x nay in rw (nay, back) refl)
   where
     is_back : (c x : List ℕ) → bytes_eq c x ≡ true → bytes_eq x c ≡ true
@@ -42,17 +42,17 @@ look_by : Option Path → Listed → Option Entry
 look_by None fs = None
 look_by (Some r) fs = look r fs
 
-look_moved : (top q : Path) (fs : Listed) → look q (moved top fs) ≡ look_by (behind top q) fs
+look_moved : (top q : Path) (fs : Listed) → look q (moved top fs) ≡ look_by (strip_prefix top q) fs
 unfolding look_by same_by
-look_moved top q [] = by (behind top q)
+look_moved top q [] = by (strip_prefix top q)
   where
     by : (o : Option Path) → None ≡ look_by o []
     by None = refl
     by (Some r) = refl
 look_moved top q (f ∷ fs) =
-    ap (λ (b : Bool). cond b (Some f.1) (look q (moved top fs))) (same_behind top q f.0)
-    ∙ ap (λ (o : Option Entry). cond (same_by (behind top q) f.0) (Some f.1) o) (look_moved top q fs)
-    ∙ by (behind top q)
+    ap (λ (b : Bool). cond b (Some f.1) (look q (moved top fs))) (same_after top q f.0)
+    ∙ ap (λ (o : Option Entry). cond (same_by (strip_prefix top q) f.0) (Some f.1) o) (look_moved top q fs)
+    ∙ by (strip_prefix top q)
   where
     by : (o : Option Path) → cond (same_by o f.0) (Some f.1) (look_by o fs) ≡ look_by o (f ∷ fs)
     by None = refl
@@ -60,15 +60,15 @@ look_moved top q (f ∷ fs) =
 
 -- files of which each stands where it is put are those of the map after the edit
 pub put_map : (before after : Listed) (top : Path) (fs : Listed)
-    → ((q : Path) → look q after ≡ put_by (behind top q) (is_apart top q) fs (look q before))
+    → ((q : Path) → look q after ≡ put_by (strip_prefix top q) (is_apart top q) fs (look q before))
     → with_files finmap.empty after ≡ put_tree_at (with_files finmap.empty before) top fs
 unfolding look_by
 put_map before after top fs is =
     same_map path_cmp-total path_cmp-IsAntisymmetric _ _ (λ q.
-    look_files after q ∙ is q ∙ by (behind top q) (behind q top) (look q before)
+    look_files after q ∙ is q ∙ by (strip_prefix top q) (strip_prefix q top) (look q before)
     ∙ sym (look_with (finmap.retain_keys (with_files finmap.empty before) (is_apart top)) (moved top fs) q
     ∙ ap (λ (o : Option Entry). or o (get (finmap.retain_keys (with_files finmap.empty before) (is_apart top)) q)) (look_moved top q fs)
-    ∙ ap (or (look_by (behind top q) fs)) (get-retain_keys (with_files finmap.empty before) (is_apart top) q (alike (is_apart top) q)
+    ∙ ap (or (look_by (strip_prefix top q) fs)) (get-retain_keys (with_files finmap.empty before) (is_apart top) q (alike (is_apart top) q)
     ∙ ap (λ (o : Option Entry). cond (is_apart top q) o None) (look_files before q))))
   where
     by : (a b : Option Path) (old : Option Entry)

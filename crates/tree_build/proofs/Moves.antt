@@ -5,7 +5,7 @@ use Rattle.std.specs.FinMap as finmap
 use Rattle.std.specs.List.{AllByRecursion, list_any, list_all}
 use Rattle.std.proofs.lemmas.Bool.{le-leb, ne_eqb}
 use Rattle.std.proofs.lemmas.List.{length-append}
-use Rattle.git_paths.specs.Paths.{IsPath, behind, joined, is_within_limits}
+use Rattle.git_paths.specs.Paths.{IsPath, strip_prefix, joined, is_within_limits}
 use Rattle.file_maps.specs.declared.entry.Entry.{Entry}
 use Rattle.file_maps.specs.declared.fault.Fault.{Fault}
 use Rattle.file_maps.specs.declared.fault.Fault.TheVariants as fault
@@ -117,7 +117,7 @@ fault-is to fs (many (((d ∷ q), e) ∷ gs) h) =
 
 cut_few : (from : Path) (fs : Listed) → length (cut from fs) ≤ length fs
 cut_few from [] = omega arith
-cut_few from (f ∷ fs) = let rest = cut_few from fs in by (behind from f.0) rest
+cut_few from (f ∷ fs) = let rest = cut_few from fs in by (strip_prefix from f.0) rest
   where
     by : (o : Option Path) → length (cut from fs) ≤ length fs
         → length (cut_one o f.1 (cut from fs)) ≤ suc (length fs)
@@ -245,7 +245,7 @@ put-edits result new fs {m} {old} {p} {to} same at h =
 count_moves : (from to : Path) (fs : Listed)
     → length (filter (λ f. stays (Some from) to f.0) fs) + length (cut from fs) ≤ length fs
 count_moves from to [] = omega arith
-count_moves from to (f ∷ fs) = by (behind from f.0) (is_apart to f.0) (count_moves from to fs)
+count_moves from to (f ∷ fs) = by (strip_prefix from f.0) (is_apart to f.0) (count_moves from to fs)
   where
     by : (o : Option Path) (b : Bool)
         → length (filter (λ f. stays (Some from) to f.0) fs) + length (cut from fs) ≤ length fs

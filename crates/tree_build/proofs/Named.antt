@@ -11,7 +11,7 @@ use Rattle.tree_build.specs.declared.dir.Node.TheVariants.{File, Unopened, Opene
 use Rattle.tree_build.specs.Shape.{What, file, unopened, opened, Shape, none, row, Held, Directory}
 use Rattle.tree_build.specs.Nodes.{held, shape_of, has_name}
 use Rattle.tree_build.specs.Branch.{key_of}
-use Rattle.tree_build.specs.Searches.{is_behind}
+use Rattle.tree_build.specs.Searches.{is_after}
 use Rattle.tree_build.specs.Editing.{child, removed, inserted, changed, new_directory, inside_of, entries_in, is_opened, has_opened, put_next, placed, left, is_none}
 
 abbrev pub Rows : Type 0
@@ -45,17 +45,17 @@ module _ {A : Type 0} (p : A → Bool) where
 -- ---- one entry more
 
 pub shape_insert : (c : List ℕ) (n : Node) (xs : Rows)
-    → shape_of (insert xs (position_or_len (is_behind (key_of c (held n).what)) xs) (c, n))
+    → shape_of (insert xs (position_or_len (is_after (key_of c (held n).what)) xs) (c, n))
     ≡ inserted c (held n) (shape_of xs)
 shape_insert c n [] = refl
 shape_insert c n (x ∷ xs) =
-    by_cases (is_behind (key_of c (held n).what) x)
+    by_cases (is_after (key_of c (held n).what) x)
     (λ yea.
-    ap (λ (k : ℕ). shape_of (insert (x ∷ xs) k (c, n))) (here (is_behind (key_of c (held n).what)) x xs yea)
+    ap (λ (k : ℕ). shape_of (insert (x ∷ xs) k (c, n))) (here (is_after (key_of c (held n).what)) x xs yea)
     ∙ ap (λ (b : Bool). cond b (row c (held n).what (held n).inside (shape_of (x ∷ xs)))
     (row x.0 (held x.1).what (held x.1).inside (inserted c (held n) (shape_of xs)))) (sym yea))
     (λ nay.
-    ap (λ (k : ℕ). shape_of (insert (x ∷ xs) k (c, n))) (later (is_behind (key_of c (held n).what)) x xs nay)
+    ap (λ (k : ℕ). shape_of (insert (x ∷ xs) k (c, n))) (later (is_after (key_of c (held n).what)) x xs nay)
     ∙ ap (row x.0 (held x.1).what (held x.1).inside) (shape_insert c n xs)
     ∙ ap (λ (b : Bool). cond b (row c (held n).what (held n).inside (shape_of (x ∷ xs)))
     (row x.0 (held x.1).what (held x.1).inside (inserted c (held n) (shape_of xs)))) (sym nay))

@@ -1,11 +1,11 @@
--- Texts that are closed: no edit closes what was opened, but where something is put.
+-- Unopened trees: an edit closes nothing that was opened, except where it puts something.
 use Rattle.std.proofs.Common.{◌≡◌, ◌≢◌, ℕ, ◌≤◌, Bool, true, false, cond, List, [], ◌∷◌, ◌++◌, refl, sym, ap, ◌∙◌, subst, arith}
 use Rattle.std.specs.Prelude.{Option, None, Some, Result, Ok, Err, OnOk, length}
 use Rattle.std.specs.Str.{bytes_eq}
 use Rattle.git_model.specs.Repository.{Object}
-use Rattle.git_paths.specs.Paths.{behind}
+use Rattle.git_paths.specs.Paths.{strip_prefix}
 use Rattle.git_paths.proofs.Cases.{by_cases}
-use Rattle.git_paths.proofs.Below.{behind_some}
+use Rattle.git_paths.proofs.Below.{after_some}
 use Rattle.file_maps.specs.declared.entry.Entry.{Entry}
 use Rattle.file_maps.specs.FileMap.{Path}
 use Rattle.tree_build.specs.Shape.{What, file, unopened, opened, Shape, none, row, Held}
@@ -87,10 +87,10 @@ entries_less (Some k) q = by k.what
 module _ (os : List Object) (h : Held) where
   -- what stands at the destination, or below it, is what was put
   beside : (c : List ℕ) (path : Path) (x : List ℕ) (q : Path) → bytes_eq c x ≡ true
-      → behind (c ∷ path) (x ∷ q) ≡ None → behind path q ≡ None
-  beside c path x q yea out = subst (λ (b : Bool). cond b (behind path q) None ≡ None) yea out
+      → strip_prefix (c ∷ path) (x ∷ q) ≡ None → strip_prefix path q ≡ None
+  beside c path x q yea out = subst (λ (b : Bool). cond b (strip_prefix path q) None ≡ None) yea out
 
-  pub open_placed : (path : Path) (s : Shape) → IsShape os s → (q : Path) → behind path q ≡ None
+  pub open_placed : (path : Path) (s : Shape) → IsShape os s → (q : Path) → strip_prefix path q ≡ None
       → closed_along (placed path h s) q ≤ closed_along s q
   open_placed [] s k q out = cc out
   open_placed (c ∷ path) s k [] out =
@@ -111,7 +111,7 @@ module _ (os : List Object) (h : Held) where
       (λ nay. let n = ap (λ (z : Option Held). closed_child z q)
       (put_beside os s k c path h below x nay) in omega arith)
     where
-      inner : (c : List ℕ) (path : Path) (s : Shape) (q : Path) → behind path q ≡ None
+      inner : (c : List ℕ) (path : Path) (s : Shape) (q : Path) → strip_prefix path q ≡ None
           → closed_along (placed path h (entries_in (child s c))) q
           ≤ closed_along (entries_in (child s c)) q
           → closed_from (next path h (placed path h (entries_in (child s c)))) q
@@ -149,14 +149,14 @@ on_ok_both (Err e) f p q = tt
 -- a file that was put closes nothing, at its path neither
 pub open_file : (first old new : Held) (path : Path) (e : Entry)
     → ((q : Path) → closed_from old q ≤ closed_from first q)
-    → ((q : Path) → behind path q ≡ None → closed_from new q ≤ closed_from old q)
+    → ((q : Path) → strip_prefix path q ≡ None → closed_from new q ≤ closed_from old q)
     → ((r : Path) → closed_from new (path ++ r)
     ≡ closed_from (record { what = file e; inside = none }) r)
     → (q : Path) → closed_from new q ≤ closed_from first q
-open_file first old new path e opens less there q = by (behind path q) refl
+open_file first old new path e opens less there q = by (strip_prefix path q) refl
   where
-    by : (o : Option Path) → behind path q ≡ o → closed_from new q ≤ closed_from first q
+    by : (o : Option Path) → strip_prefix path q ≡ o → closed_from new q ≤ closed_from first q
     by None out = let a = less q out in let b = opens q in omega arith
     by (Some r) is =
-        let zero : closed_from new q ≡ 0 = ap (closed_from new) (behind_some path q r is)
+        let zero : closed_from new q ≡ 0 = ap (closed_from new) (after_some path q r is)
         ∙ there r in omega arith

@@ -5,7 +5,7 @@ use Rattle.std.specs.Str.{bytes_eq}
 use Rattle.std.proofs.lemmas.List.Elements.{All-head, All-tail}
 use Rattle.std.proofs.lemmas.Slice.Eq.{bytes_eq-Decides}
 use Rattle.git_model.specs.Repository.{Object}
-use Rattle.git_paths.specs.Paths.{IsComponent, IsPath, behind}
+use Rattle.git_paths.specs.Paths.{IsComponent, IsPath, strip_prefix}
 use Rattle.git_paths.proofs.Cases.{by_cases}
 use Rattle.file_maps.specs.declared.entry.Entry.{Entry}
 use Rattle.file_maps.specs.FileMap.{Path, Listed, is_apart}
@@ -105,7 +105,7 @@ module _ (os : List Object) (h : Held) (held : IsHeld os h)
   -- ---- what stands at each path
 
   abbrev goal : Path → Path → Option Entry → Option Entry
-  goal p q old = put_by (behind p q) (is_apart p q) (held_files known h) old
+  goal p q old = put_by (strip_prefix p q) (is_apart p q) (held_files known h) old
 
   -- nothing of what stood there at the name itself is seen
   goal_inner : (d : List ℕ) (path : Path) (o : Option Held) → closed_child o (d ∷ path) ≡ 0

@@ -20,7 +20,7 @@ use Rattle.tree_build.specs.Shape.{What, file, unopened, opened, Shape, none, ro
 use Rattle.tree_build.specs.Branch.{slash_after, key_of, StandsBefore, IsBeforeAll, IsShape, IsHeld}
 use Rattle.tree_build.specs.Editing.{child, removed, inserted, changed}
 use Rattle.tree_build.specs.Nodes.{held, shape_of, has_name}
-use Rattle.tree_build.specs.Searches.{AreOrdered, is_behind, IsPlaceBehind, HasNone}
+use Rattle.tree_build.specs.Searches.{AreOrdered, is_after, IsPlaceAfter, HasNone}
 use Rattle.tree_build.proofs.Entries.{one_held}
 use Rattle.tree_build.proofs.Look.{is_bytes, not_bytes}
 use Rattle.tree_build.proofs.Named.{Rows}
@@ -80,9 +80,9 @@ less Equal h = cc h
 less Greater h = cc h
 
 -- what stands after an entry that comes after a key comes after it too
-pub parted : (key : List ℕ) (es : Rows) → AreOrdered (shape_of es) → IsPartitionedBy (λ e. not (is_behind key e)) es
+pub parted : (key : List ℕ) (es : Rows) → AreOrdered (shape_of es) → IsPartitionedBy (λ e. not (is_after key e)) es
 parted key es h i j d le within passes =
-    by_cases (is_behind key (slice_index_or es i d))
+    by_cases (is_after key (slice_index_or es i d))
     (λ yea. by_cases (nat_lt i j)
     (λ before.
     let apart = (pair_at es h i j d (ltb-true i j before) within).order in
@@ -90,14 +90,14 @@ parted key es h i j d le within passes =
     absurd (true≢false (sym passes ∙ ap (λ (o : Ordering). not (is_lt o)) far)))
     (λ same.
     let past = ltb-false i j same in let one : i ≡ j = omega arith in
-    absurd (true≢false (sym passes ∙ ap not (sym (ap (λ (k : ℕ). is_behind key (slice_index_or es k d)) one) ∙ yea)))))
+    absurd (true≢false (sym passes ∙ ap not (sym (ap (λ (k : ℕ). is_after key (slice_index_or es k d)) one) ∙ yea)))))
     (λ nay. ap not nay)
 
 -- the first entry that comes after it
-pub place_is : (key : List ℕ) (es : Rows) (i : ℕ) → i ≤ length es → IsPlaceBehind key es i → position_or_len (is_behind key) es ≡ i
+pub place_is : (key : List ℕ) (es : Rows) (i : ℕ) → i ≤ length es → IsPlaceAfter key es i → position_or_len (is_after key) es ≡ i
 place_is key [] i within point = omega arith
 place_is key (e ∷ es) i within point =
-    prefix_len_is (λ x. not (is_behind key x)) (e ∷ es) i e within (λ k lt. point.0 k e (omega arith) lt)
+    prefix_len_is (λ x. not (is_after key x)) (e ∷ es) i e within (λ k lt. point.0 k e (omega arith) lt)
     (λ lt. point.1 i e (omega arith) lt)
 
 -- ---- the entry of a name
@@ -116,21 +116,21 @@ first_named c es h at d within is =
 
 -- an entry of a name and a kind stands right before the place after its key
 pub none_named : (c slash : List ℕ) (es : Rows) → AreOrdered (shape_of es) → (next : ℕ) → next ≤ length es
-    → IsPlaceBehind (c ++ slash) es next
+    → IsPlaceAfter (c ++ slash) es next
     → ((d : List ℕ × Node) → 0 < next → (slice_index_or es (next - 1) d).0 ≢ c) → HasNone c slash es
 none_named c slash es h next bound point other m d within is end =
     let key : key_at (slice_index_or es m d) ≡ c ++ slash =
     ap (λ (x : List ℕ). x ++ slash_after (held (slice_index_or es m d).1).what) is ∙ ap (λ (x : List ℕ). c ++ x) end in
-    let tied : is_behind (c ++ slash) (slice_index_or es m d) ≡ false =
+    let tied : is_after (c ++ slash) (slice_index_or es m d) ≡ false =
     ap (λ (x : List ℕ). is_lt (cmp (c ++ slash) x)) key ∙ ap is_lt (tied_itself nat_list_cmp_total (c ++ slash)) in
     by_cases (nat_lt m next)
     (λ before. let near = ltb-true m next before in by_cases (nat_lt m (next - 1))
     (λ far. let further = ltb-true m (next - 1) far in
     let apart = (pair_at es h m (next - 1) d (omega arith) (omega arith)).order in
-    let behind : is_behind (c ++ slash) (slice_index_or es (next - 1) d) ≡ true =
+    let is_later : is_after (c ++ slash) (slice_index_or es (next - 1) d) ≡ true =
     ap (λ (x : List ℕ). is_lt (cmp x (key_at (slice_index_or es (next - 1) d)))) (sym key) ∙ ap is_lt apart in
     let no = point.0 (next - 1) d (omega arith) (omega arith) in
-    absurd (true≢false (sym no ∙ ap not behind)))
+    absurd (true≢false (sym no ∙ ap not is_later)))
     (λ close. let past = ltb-false m (next - 1) close in
     let one : m ≡ next - 1 = omega arith in
     absurd (other d (omega arith) (ap (λ (k : ℕ). (slice_index_or es k d).0) (sym one) ∙ is))))
@@ -175,17 +175,17 @@ found_or_none c es (Some at) h m = sym m
 turned : (c : List ℕ) (d : List ℕ) → cmp d c ≡ Less → is_lt (cmp c d) ≡ false
 turned c d before = ap is_lt (nat_list_cmp_total.antisymm c d ∙ ap ordering_reverse before)
 
-child_behind : (d : List ℕ) (v : What) (s : Shape) → IsBeforeAll d v s → (c : List ℕ) (k : Held) → child s c ≡ Some k
+child_after : (d : List ℕ) (v : What) (s : Shape) → IsBeforeAll d v s → (c : List ℕ) (k : Held) → child s c ≡ Some k
     → cmp (key_of d v) (key_of c k.what) ≡ Less
-child_behind d v none h c k there = cc there
-child_behind d v (row x w inside rest) h c k there =
+child_after d v none h c k there = cc there
+child_after d v (row x w inside rest) h c k there =
     by_cases (bytes_eq x c)
     (λ yea.
     let one = one_held (record { what = w; inside = inside }) k (subst (λ (b : Bool). cond b (Some (record { what = w; inside = inside })) (child rest c) ≡ Some k) yea there) in
     ap (λ (y : Held). cmp (key_of d v) (key_of c y.what)) (sym one)
     ∙ ap (λ (y : List ℕ). cmp (key_of d v) (key_of y w)) (sym (is_bytes x c yea))
     ∙ h.0.order)
-    (λ nay. child_behind d v rest h.1 c k (subst (λ (b : Bool). cond b (Some (record { what = w; inside = inside })) (child rest c) ≡ Some k) nay there))
+    (λ nay. child_after d v rest h.1 c k (subst (λ (b : Bool). cond b (Some (record { what = w; inside = inside })) (child rest c) ≡ Some k) nay there))
 
 put_first : (c : List ℕ) (w : What) (h : Held) (s : Shape) → slash_after h.what ≡ slash_after w → IsBeforeAll c w s
     → inserted c h s ≡ row c h.what h.inside s
@@ -209,6 +209,6 @@ put_alike (row d w inside rest) c h k ord there same =
     ))
     (λ nay.
     let later : child rest c ≡ Some k = subst (λ (b : Bool). cond b (Some (record { what = w; inside = inside })) (child rest c) ≡ Some k) nay there in
-    let behind : is_lt (cmp (key_of c h.what) (key_of d w)) ≡ false =
-    ap (λ (x : List ℕ). is_lt (cmp (c ++ x) (key_of d w))) same ∙ turned (key_of c k.what) (key_of d w) (child_behind d w rest ord.0 c k later) in
-    rw nay (rw behind (ap (row d w inside) (put_alike rest c h k ord.2 later same))))
+    let is_later : is_lt (cmp (key_of c h.what) (key_of d w)) ≡ false =
+    ap (λ (x : List ℕ). is_lt (cmp (c ++ x) (key_of d w))) same ∙ turned (key_of c k.what) (key_of d w) (child_after d w rest ord.0 c k later) in
+    rw nay (rw is_later (ap (row d w inside) (put_alike rest c h k ord.2 later same))))

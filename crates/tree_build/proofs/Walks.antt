@@ -1,4 +1,4 @@
--- A walk reads at most as many texts as its path has components.
+-- A walk reads at most one tree for each component of its path.
 use Rattle.std.proofs.Common.{ℕ, ◌≤◌, [], ◌∷◌, length, arith}
 use Rattle.std.specs.Str.{bytes_eq}
 use Rattle.git_paths.proofs.Cases.{by_cases}

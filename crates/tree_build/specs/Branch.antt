@@ -15,14 +15,14 @@ use Rattle.file_maps.specs.StoredFiles.{stored_files}
 use Rattle.file_maps.specs.StoredTree.{ListsTree}
 use Rattle.tree_build.specs.Shape.{What, file, unopened, opened, Shape, none, row, Held, what_files, shape_files, held_files}
 
--- What is held at the root, how many files that means, and how many trees were read.
+-- What is held at the root, the number of its files, and how many trees were read.
 pub record Branch : Type 0 where
   pub root : Held
   pub files : ℕ
   pub reads : ℕ
 
--- The files of a branch under their paths: a directory that was not opened has the files that its
--- stored tree lists.
+-- The files of a branch by their paths. An unopened directory has the files that its stored tree
+-- lists.
 abbrev pub root_files : List Object → Branch → Listed
 root_files os b = held_files (stored_files os) b.root
 
@@ -31,7 +31,7 @@ files_in os b = with_files finmap.empty (root_files os b)
 
 -- ---- what is true of every branch
 
--- A slash ends the name of a directory, where Git compares it.
+-- Git compares the name of a directory with a slash at its end.
 abbrev pub slash_after : What → List ℕ
 slash_after (file e) = []
 slash_after (unopened id) = codes "/"
@@ -40,26 +40,26 @@ slash_after (opened tree) = codes "/"
 abbrev pub key_of : List ℕ → What → List ℕ
 key_of c what = c ++ slash_after what
 
--- An entry stands before another, in Git's order of a tree, and has another name.
+-- An entry comes before another in Git's order of a tree, and has another name.
 pub record StandsBefore (c : List ℕ) (what : What) (d : List ℕ) (other : What) : Type 0 where
   pub names : c ≢ d
   pub order : slice_cmp nat_cmp (key_of c what) (key_of d other) ≡ Less
 
--- The same of an entry and of each of a row.
+-- An entry comes before each of a row, and has another name.
 abbrev pub IsBeforeAll : List ℕ → What → Shape → Type 0
 IsBeforeAll c what none = Unit {0}
 IsBeforeAll c what (row d other inside rest) =
     StandsBefore c what d other × IsBeforeAll c what rest
 
--- What is held is a file with the name of its object; a stored tree; or an opened directory, which
--- lists what its stored tree does where it has the name of one.
+-- What is held is a file with the name of its object; a stored tree; or an opened directory. If an
+-- opened directory has the name of a stored tree, it has the files that this tree lists.
 abbrev pub IsWhat : List Object → What → Listed → Type 0
 IsWhat os (file e) inside = (e.mode ≢ mode.Directory) × IsObjectName e.name
 IsWhat os (unopened id) inside = ListsTree os id (stored_files os id)
 IsWhat os (opened None) inside = Unit {0}
 IsWhat os (opened (Some id)) inside = ListsTree os id inside
 
--- A direct entry has the name of one, and no directory below the root is empty.
+-- A direct entry has a name that Git allows, and no directory below the root is empty.
 pub record IsRow (os : List Object) (c : List ℕ) (what : What) (inside : Listed) : Type 0 where
   pub name : IsEntryName c
   pub sound : IsWhat os what inside
@@ -80,15 +80,15 @@ IsDirectory (file e) = ⊥
 IsDirectory (unopened id) = Unit {0}
 IsDirectory (opened tree) = Unit {0}
 
--- A branch stands among the objects where each tree that it names is one of them, and where its
--- files can be those of a branch.
+-- A branch stands among the objects if each tree that it names is one of them, and if its files can
+-- be those of a branch.
 pub record IsBranch (os : List Object) (b : Branch) : Type 0 where
   pub directory : IsDirectory b.root.what
   pub held : IsHeld os b.root
   pub counted : b.files ≡ length (root_files os b)
   pub files : AreFiles (listed (files_in os b))
 
--- The name of the stored tree that the root is, where that is known without reading.
+-- The name of the stored tree that the root is, if it is known without reading a tree.
 abbrev pub known_tree : What → Option (List ℕ)
 known_tree (file e) = None
 known_tree (unopened id) = Some id
@@ -99,8 +99,8 @@ root_name b = known_tree b.root.what
 
 -- ---- trees that are read
 
--- How many trees a walk along a path reads at most: none in directories that were opened,
--- and below another one for each component that is left.
+-- How many trees a walk along a path reads at most. Opened directories need no read; from an
+-- unopened directory on, each component that is left needs one.
 abbrev pub closed_by : What → ℕ → ℕ → ℕ
 closed_by (file e) inside left = 0
 closed_by (unopened id) inside left = left
@@ -116,7 +116,7 @@ closed_along (row c what inside rest) (d ∷ path) =
 abbrev pub closed_from : Held → Path → ℕ
 closed_from h path = closed_by h.what (closed_along h.inside path) (length path)
 
--- A call has read at most so many trees.
+-- A call has counted at most `most` trees.
 pub record Reads (old new : Branch) (most : ℕ) : Type 0 where
   pub counted : old.reads ≤ new.reads
   pub bounded : new.reads ≤ old.reads + most

@@ -7,18 +7,18 @@ use Rattle.file_maps.specs.FileMap.{Path}
 use Rattle.tree_build.specs.Shape.{What, file, unopened, opened, Shape, none, row, Held, Known, held_files}
 use Rattle.tree_build.specs.Branch.{key_of}
 
--- What stands in a directory under a name.
+-- The entry of a name in a directory.
 abbrev pub child : Shape → List ℕ → Option Held
 child none c = None
 child (row d w inside rest) c =
     if bytes_eq d c then Some (record { what = w; inside = inside }) else child rest c
 
--- The entries without that of a name.
+-- The entries without the one of a name.
 abbrev pub removed : Shape → List ℕ → Shape
 removed none c = none
 removed (row d w inside rest) c = if bytes_eq d c then rest else row d w inside (removed rest c)
 
--- One entry more, before the first that comes after it in Git's order.
+-- One entry more. It goes before the first entry that comes after it in Git's order.
 abbrev pub inserted : List ℕ → Held → Shape → Shape
 inserted c h none = row c h.what h.inside none
 inserted c h (row d w inside rest) =
@@ -26,17 +26,17 @@ inserted c h (row d w inside rest) =
     then row c h.what h.inside (row d w inside rest)
     else row d w inside (inserted c h rest)
 
--- Another directory in place of that of a name.
+-- The entries, of which the one of a name now holds `h`.
 abbrev pub changed : Shape → List ℕ → Held → Shape
 changed none c h = none
 changed (row d w inside rest) c h =
     if bytes_eq d c then row d h.what h.inside rest else row d w inside (changed rest c h)
 
--- A directory that was opened and is no stored tree as it stands.
+-- An opened directory that does not have the name of a stored tree.
 abbrev pub new_directory : Shape → Held
 new_directory inside = record { what = opened None; inside = inside }
 
--- What an opened directory has; what is none has nothing inside.
+-- The entries of an opened directory. Anything else has none.
 abbrev pub inside_of : What → Shape → Shape
 inside_of (file e) inside = none
 inside_of (unopened id) inside = none
@@ -55,7 +55,7 @@ abbrev pub has_opened : Option Held → Bool
 has_opened None = false
 has_opened (Some h) = is_opened h.what
 
--- What is put stands at its path in place of what stood there, below it or on the way to it.
+-- What is put at a path replaces what was there, below it, or at a prefix of it.
 abbrev pub put_next : Shape → List ℕ → Path → Held → Shape → Shape
 put_next s c [] h below = inserted c h (removed s c)
 put_next s c (d ∷ path) h below =
@@ -66,8 +66,8 @@ abbrev pub placed : Path → Held → Shape → Shape
 placed [] h s = s
 placed (c ∷ path) h s = put_next s c path h (placed path h (entries_in (child s c)))
 
--- What is left of an entry of which something was taken out: nothing where nothing is left inside.
--- A file on the way goes where the way is to be clear.
+-- What is left of an entry after something inside it was taken out: nothing, if nothing is left
+-- inside. If `clear`, a file at a prefix of the path goes too.
 abbrev pub is_none : Shape → Bool
 is_none none = true
 is_none (row c w inside rest) = false
@@ -96,7 +96,7 @@ dropped clear (c ∷ path) s =
     put_back s c
     (left clear path (child s c) (dropped clear path (entries_in (child s c))))
 
--- How many files these take out.
+-- How many files `dropped` takes out.
 abbrev pub taken_by : Known → Bool → What → Held → ℕ → ℕ
 taken_by known clear (file e) h below = if clear then 1 else 0
 taken_by known clear (unopened id) h below = 0

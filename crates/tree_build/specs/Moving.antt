@@ -1,6 +1,7 @@
 -- What copies and renames move, for private contracts.
 use Rattle.std.specs.Prelude.{◌≡◌, ◌≢◌, ◌≤◌, ℕ, ◌+◌, Bool, false, not, ◌&&◌, ◌==◌, nat_le, List, [], ◌∷◌, length, zero, suc, Option, None, Some, if◌then◌else◌}
 use Rattle.std.specs.List.{list_any, list_all}
+use Rattle.git_model.specs.Limits.{path_bytes_limit, path_components_limit}
 use Rattle.git_model.specs.Repository.{Object}
 use Rattle.git_paths.specs.Paths.{joined, is_within_limits}
 use Rattle.tenant_tables.specs.declared.summary.Summary.{Summary}
@@ -15,17 +16,17 @@ use Rattle.tree_build.specs.Editing.{child, is_none, new_directory, entries_in, 
 
 -- ---- what stands at a path
 
--- What stands at a path below something, where the directories on the way were opened.
+-- What is at a path below something, if the directories on the way are opened.
 abbrev pub standing : Path → Option Held → Option Held
 standing [] o = o
 standing (c ∷ path) o = standing path (child (entries_in o) c)
 
--- Its files; none where nothing stands.
+-- Its files; none if there is nothing.
 abbrev pub files_of_held : Known → Option Held → Listed
 files_of_held known None = []
 files_of_held known (Some h) = held_files known h
 
--- What is left where what stands at a path is taken out: at the root, a directory without entries.
+-- What is left after what is at a path was taken out; at the root, a directory without entries.
 abbrev pub rest_by : Path → What → Held → Held
 rest_by path (file e) h = h
 rest_by path (unopened id) h = h
@@ -37,8 +38,8 @@ rest_of (c ∷ path) h = rest_by (c ∷ path) h.what h
 
 -- ---- a copy
 
--- An opened directory that still is a stored tree is copied by the name of that tree, and so
--- without what was opened inside it.
+-- An opened directory that still is a stored tree is copied by the name of that tree. What was
+-- opened inside it is not copied.
 abbrev pub copied_what : What → What
 copied_what (file e) = file e
 copied_what (unopened id) = unopened id
@@ -62,7 +63,7 @@ copied_held h = record {
   inside = copied_inside h.what (copied_shape h.inside);
 }
 
--- What was found at a path and copied has the files that stand there, and may be put elsewhere.
+-- What was copied stands among the objects and has these files. `many` is their number.
 pub record IsMoved (os : List Object) (fs : Listed) (h : Held) (many : ℕ) : Type 0 where
   pub held : IsHeld os h
   pub files : held_files (stored_files os) h ≡ fs
@@ -70,14 +71,14 @@ pub record IsMoved (os : List Object) (fs : Listed) (h : Held) (many : ℕ) : Ty
 
 -- ---- limits
 
--- A path has no more bytes and components than another, and neither is the root.
+-- `to` has at most as many bytes and components as `from`, and neither is the root.
 pub record IsNoLonger (to from : Path) : Type 0 where
   pub to_some : to ≢ []
   pub from_some : from ≢ []
   pub bytes : length (joined to) ≤ length (joined from)
   pub components : length to ≤ length from
 
--- Whether what is held is a directory that was opened, and not without entries.
+-- Whether what is held is an opened directory with at least one entry.
 abbrev pub has_entries_by : What → Shape → Bool
 has_entries_by (file e) inside = false
 has_entries_by (unopened id) inside = false
@@ -86,20 +87,20 @@ has_entries_by (opened tree) inside = not (is_none inside)
 abbrev pub has_entries : Held → Bool
 has_entries h = has_entries_by h.what h.inside
 
--- The slash between a path and another below it; the root has none before or after it.
+-- The number of slashes between a path and another below it: one, or none if either is the root.
 abbrev pub slash_between : Path → ℕ → ℕ
 slash_between [] depth = 0
 slash_between (c ∷ path) zero = 0
 slash_between (c ∷ path) (suc depth) = 1
 
--- Whether the longest and the deepest of some files are within the limits below a path.
+-- Whether no path would be too long if files with this summary were put below a path.
 abbrev pub fits_below : Path → Summary → Bool
 fits_below path s =
-    nat_le (length (joined path) + slash_between path s.depth + s.longest) 16383
-    && nat_le (length path + s.depth) 256
+    nat_le (length (joined path) + slash_between path s.depth + s.longest) path_bytes_limit
+    && nat_le (length path + s.depth) path_components_limit
 
--- Why files cannot be moved to a path, by their summary: there are none, one would stand at the
--- root, or a path would be too long.
+-- Why files cannot be moved to a path, by their summary: there are none, one would be at the root,
+-- or a path would be too long.
 abbrev pub summary_fault : Path → Summary → Option Fault
 summary_fault path s =
     if s.files == 0 then Some fault.SourceMissing

@@ -1,4 +1,4 @@
--- How the values of the code are seen.
+-- How contracts see the values of the code.
 use Rattle.std.specs.Prelude.{ℕ, Bool, List, [], ◌∷◌}
 use Rattle.std.specs.Str.{bytes_eq}
 use Rattle.tree_build.specs.declared.dir.Node.{Node}

@@ -1,12 +1,12 @@
--- What a branch holds of its files: directories that were opened, and the names of stored trees in
--- place of all others.
+-- What a branch holds of its files: opened directories, and the names of stored trees in place of
+-- all others.
 use Rattle.std.specs.Prelude.{ℕ, List, [], ◌∷◌, ◌++◌, Option}
 use Rattle.file_maps.specs.declared.entry.Entry.{Entry}
 use Rattle.file_maps.specs.FileMap.{Listed}
 use Rattle.file_maps.specs.Edits.{moved}
 
--- A file; a directory that was not opened, by the name of its stored tree; or one that was opened,
--- with the name of the stored tree that it still is, if it is one.
+-- A file; an unopened directory, by the name of its stored tree; or an opened directory, with the
+-- name of its stored tree if it still is one.
 pub data What : Type 0 where
   file : Entry → What
   unopened : List ℕ → What
@@ -23,7 +23,7 @@ pub record Held : Type 0 where
   pub what : What
   pub inside : Shape
 
--- A directory that was opened.
+-- An opened directory.
 pub record Directory : Type 0 where
   pub tree : Option (List ℕ)
   pub entries : Shape
@@ -34,7 +34,7 @@ pub record Directory : Type 0 where
 abbrev pub Known : Type 0
 Known = List ℕ → Listed
 
--- The files of what is held at a path, with the path cut off.
+-- The files of what is held at a path, by their paths from there.
 abbrev pub what_files : Known → What → Listed → Listed
 what_files known (file e) inside = ([], e) ∷ []
 what_files known (unopened id) inside = known id

@@ -1,4 +1,4 @@
--- How the logic stores what a branch holds, and how the values of the code are seen.
+-- How the logic encodes what a branch holds.
 use Rattle.std.specs.Prelude.{◌≡◌, ℕ, suc, max, List, Option, refl}
 use Rattle.std.specs.Coded.{Coded, code_by, coded×, coded⊎, coded_ℕ, coded_list, coded_option}
 use Rattle.std.proofs.Common.{ap, ◌⊎◌, inl, inr}

@@ -1,4 +1,4 @@
--- What storing an opened directory leaves of it.
+-- What storing changes in an opened directory, and which trees it stores.
 use Rattle.std.specs.Prelude.{ℕ, List, [], ◌∷◌, Option, Some, None}
 use Rattle.git_model.specs.declared.file_mode.FileMode.TheVariants as mode
 use Rattle.git_model.specs.Tree.{TreeEntry}
@@ -9,7 +9,7 @@ use Rattle.tree_build.specs.Shape.{What, file, unopened, opened, Shape, none, ro
 
 -- ---- the same but for the names of trees
 
--- What is held without the names of the stored trees that opened directories still are.
+-- What is held, without the names of stored trees in opened directories.
 abbrev pub unnamed : What → What
 unnamed (file e) = file e
 unnamed (unopened id) = unopened id
@@ -30,7 +30,7 @@ parts_of known none = []
 parts_of known (row c what inside rest) =
     (c, what_files known what (shape_files known inside)) ∷ parts_of known rest
 
--- An entry as a tree has it, where the tree of a directory has a name.
+-- An entry as a tree lists it, if the tree of a directory has a name.
 abbrev pub entry_by_name : List ℕ → Option (List ℕ) → TreeEntry
 entry_by_name c None = record { mode = mode.Directory; name = c; id = [] }
 entry_by_name c (Some id) = record { mode = mode.Directory; name = c; id = id }
@@ -57,7 +57,7 @@ AreNamed (row c what inside rest) = IsNamed what × AreNamed rest
 
 -- ---- trees
 
--- The trees of the files of an entry: none of a file, and else all that they make.
+-- The trees of the files of an entry: none for a file, else its tree and those below it.
 abbrev pub trees_below : (List ℕ → List ℕ) → Listed → List (List TreeEntry)
 trees_below digest files = unless_file (file_of files) (nested_trees digest files)
 

@@ -36,7 +36,7 @@ impl Component {
         })
     }
 
-    /// The same component again. Takes memory for its bytes.
+    /// A copy. Takes memory for its bytes.
     pub(crate) fn copied(&self, alloc: Global) -> Result<Component, AllocError>
         ensures { IfOk result (λ c. c ≡ self.now) }
     {
@@ -54,7 +54,7 @@ impl Component {
     }
 }
 
-/// What a path holds are components: a fact for proofs. A call does nothing.
+/// Tells proofs that a path consists of components. A call does nothing.
 pub(crate) fn has_components(path: &Components<'_>)
     ensures { IsPath path.now }
 {

@@ -1,4 +1,4 @@
-//! Copies of what is held. A directory that is a stored tree as it stands is copied by its name.
+//! Copies of nodes. A directory that is a stored tree is copied by the name of that tree.
 
 ghost use Rattle.std.specs.Prelude.{◌≡◌, Some, IfOk};
 ghost use Rattle.std.specs.Option.{option_map};
@@ -15,7 +15,7 @@ use git_objects::Memory;
 use git_paths::Components;
 use std::alloc::Global;
 
-// Takes memory for the entries of directories that were edited.
+// A copy of a node. Takes memory for the entries of edited directories.
 #[cycle(copying)]
 fn copied(alloc: Global, node: &Node) -> Result<Node, Memory>
     ensures { IfOk result (λ copy. held copy ≡ copied_held (held node.now)) }
@@ -56,7 +56,7 @@ fn copied_entries(
     Ok(copies)
 }
 
-/// What stands at a path below a node, where the directories on the way were opened.
+/// The node at a path below another. The caller has opened the directories on the way.
 #[cycle(finding)]
 pub(crate) fn find_at<'a>(node: &'a Node, path: &Components<'_>) -> Option<&'a Node>
     requires { AreOrdered (held node.now).inside }
@@ -87,8 +87,8 @@ fn find_below<'a>(
     }
 }
 
-/// A copy of what stands at a path below a node, where the directories on the way were opened.
-/// Takes memory for the entries of directories that were edited.
+/// A copy of the node at a path below another. The caller has opened the directories on the way.
+/// Takes memory for the entries of edited directories.
 pub(crate) fn copy_at(
     alloc: Global,
     node: &Node,

@@ -1,6 +1,7 @@
-//! How many files stand below a node. Of a directory that nobody looked into the table knows it.
+//! How many files are below a node. The table knows the number for an unopened directory.
 
 ghost use Rattle.std.specs.Prelude.{◌≡◌, ◌≤◌, length, Some};
+ghost use Rattle.git_model.specs.Limits.{files_limit};
 ghost use Rattle.tenant_tables.specs.Objects.{objects};
 ghost use Rattle.tenant_tables.specs.StandsIn.{StandsIn};
 ghost use Rattle.tenant_tables.specs.View.{summary_of};
@@ -29,13 +30,13 @@ fn count_stored(table: &Table, id: &Name) -> usize
     }
 }
 
-/// How many files stand at or below a node.
+/// How many files are at or below a node.
 #[cycle(counting)]
 pub(crate) fn count<N: Naming>(pool: &Pool<N>, table: &Table, node: &Node) -> usize
     requires stands { StandsIn N.digest_of pool.now table.now.entries }
     requires sound { IsHeld (objects pool.now table.now.entries) (held node.now) }
     requires few { length (held_files (stored_files (objects pool.now table.now.entries))
-        (held node.now)) ≤ 1048576 }
+        (held node.now)) ≤ files_limit }
     ensures { result ≡ length (held_files (stored_files (objects pool.now table.now.entries))
         (held node.now)) }
 {
@@ -51,7 +52,7 @@ fn count_all<N: Naming>(pool: &Pool<N>, table: &Table, entries: &[(Component, No
     requires stands { StandsIn N.digest_of pool.now table.now.entries }
     requires sound { IsShape (objects pool.now table.now.entries) (shape_of entries.now) }
     requires few { length (shape_files (stored_files (objects pool.now table.now.entries))
-        (shape_of entries.now)) ≤ 1048576 }
+        (shape_of entries.now)) ≤ files_limit }
     ensures { result ≡ length (shape_files (stored_files (objects pool.now table.now.entries))
         (shape_of entries.now)) }
 {
@@ -62,7 +63,8 @@ fn count_all<N: Naming>(pool: &Pool<N>, table: &Table, entries: &[(Component, No
     files
 }
 
-/// How many files go where a path of a directory is dropped, or where the way to it is to be clear.
+/// How many files `take_at` takes out: those at or below a path of a directory and, if `clear`, a
+/// file at a prefix of the path.
 #[cycle(taking)]
 #[tactic(auto, using(crate::proofs::Searched::ordered))]
 pub(crate) fn taken<N: Naming>(
@@ -75,7 +77,7 @@ pub(crate) fn taken<N: Naming>(
     requires stands { StandsIn N.digest_of pool.now table.now.entries }
     requires sound { IsShape (objects pool.now table.now.entries) (shape_of entries.now) }
     requires few { length (shape_files (stored_files (objects pool.now table.now.entries))
-        (shape_of entries.now)) ≤ 1048576 }
+        (shape_of entries.now)) ≤ files_limit }
     ensures { result ≡ taken (stored_files (objects pool.now table.now.entries)) clear path.now
         (shape_of entries.now) }
 {
@@ -99,7 +101,7 @@ fn taken_below<N: Naming>(
     requires stands { StandsIn N.digest_of pool.now table.now.entries }
     requires sound { IsHeld (objects pool.now table.now.entries) (held node.now) }
     requires few { length (held_files (stored_files (objects pool.now table.now.entries))
-        (held node.now)) ≤ 1048576 }
+        (held node.now)) ≤ files_limit }
     ensures { let known = stored_files (objects pool.now table.now.entries) in
         result ≡ taken_at known clear rest.now (Some (held node.now))
         (taken known clear rest.now (entries_in (Some (held node.now)))) }

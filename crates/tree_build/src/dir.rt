@@ -1,4 +1,4 @@
-//! Directories that were opened, and what stands in them.
+//! Opened directories and their entries.
 
 ghost use Rattle.std.specs.Prelude.{◌≡◌, None};
 ghost use Rattle.tree_build.specs.Shape.{none};
@@ -10,22 +10,22 @@ use git_objects::Name;
 use std::alloc::Global;
 use std::marker::Model;
 
-/// A directory that was opened.
+/// An opened directory.
 #[cycle(dir)]
 #[derive(Drop)]
 pub(crate) struct Dir {
-    /// What stands in it, in the order of a tree's entries.
+    /// Its direct entries, in the order of a tree's entries.
     pub(crate) entries: Vec<(Component, Node)>,
-    /// The name of the stored tree that it still is, if it is one.
+    /// The name of its stored tree, if it is one. Opening and storing set it, an edit clears it.
     pub(crate) tree: Option<Name>,
 }
 
-/// What stands at a direct entry.
+/// What a direct entry is: a file or a directory.
 #[cycle(dir)]
 #[derive(Drop)]
 pub(crate) enum Node {
     File(Entry),
-    /// A stored tree with files that nobody looked into.
+    /// A directory that was not opened, by the name of its stored tree.
     Unopened(Name),
     Opened(Dir),
 }
@@ -62,7 +62,7 @@ impl Dir {
         }
     }
 
-    /// Whether nothing stands in it.
+    /// Whether it has no entries.
     pub(crate) fn is_empty(&self) -> bool
         ensures { result ≡ is_none self.now.entries }
     {

@@ -1,6 +1,7 @@
-//! Taking out what stands at a path of an opened directory.
+//! Taking out what is at a path of an opened directory.
 //!
-//! A directory goes with its last file. Each directory on the way is opened before.
+//! A directory that loses its last file is removed from its parent. The caller has opened the
+//! directories on the way.
 
 ghost use Rattle.std.specs.Prelude.{◌≡◌, ◌≢◌, [], Some, None, if◌then◌else◌};
 ghost use Rattle.std.specs.Option.{option_map};
@@ -17,8 +18,8 @@ use git_paths::Components;
 use std::alloc::Global;
 use std::mem;
 
-/// Takes out what stands at or below a path of a directory, and, where the way is to be clear, a
-/// file on the way. Answers what stood at the path.
+/// Takes out what is at or below a path of a directory and, if `clear`, a file at a prefix of the
+/// path. Answers what was at the path.
 #[cycle(dropping)]
 pub(crate) fn take_at(dir: &mut Dir, path: &Components<'_>, clear: bool) -> Option<Node>
     requires { AreOrdered dir.old.entries }
@@ -34,7 +35,7 @@ pub(crate) fn take_at(dir: &mut Dir, path: &Components<'_>, clear: bool) -> Opti
     take_below(&mut dir.entries, name, &rest, clear)
 }
 
-// Takes out what stands at a path below an entry of a directory.
+// The same at the path of `name` and then `rest`.
 #[cycle(dropping)]
 fn take_below(
     entries: &mut Vec<(Component, Node)>,
@@ -63,7 +64,7 @@ fn take_below(
     taken
 }
 
-// Takes out what stands at a path inside a node, and says whether nothing is left of the node.
+// The same at a path below a node. Says whether nothing is left of the node.
 #[cycle(dropping)]
 fn take_inside(node: &mut Node, rest: &Components<'_>, clear: bool) -> (Option<Node>, bool)
     requires ordered { AreOrdered (held node.old).inside }
@@ -83,7 +84,8 @@ fn take_inside(node: &mut Node, rest: &Components<'_>, clear: bool) -> (Option<N
     }
 }
 
-/// Takes out what stands at a path of the root. At the root itself that is all.
+/// Takes out what is at a path of the root. At the empty path that is the root itself, and a
+/// directory without entries takes its place.
 pub(crate) fn take_from(alloc: Global, root: &mut Node, path: &Components<'_>) -> Option<Node>
     requires { AreOrdered (held root.old).inside }
     ensures rest { held root.new ≡ rest_of path.now (held root.old) }

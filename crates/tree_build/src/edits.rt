@@ -1,4 +1,4 @@
-//! Edits of a branch whose directories on the way to a path are opened.
+//! Edits of a branch. An edit first opens the directories on the way to its path.
 
 ghost use Rattle.std.specs.Prelude.{◌≡◌, ◌≢◌, ◌≤◌, ◌+◌, [], ◌∷◌, ◌++◌, length, None, Err, OnOk};
 ghost use Rattle.std.specs.FinMap as finmap;
@@ -7,7 +7,8 @@ ghost use Rattle.tenant_tables.specs.StandsIn.{StandsIn};
 ghost use Rattle.file_maps.specs.declared.fault.Fault.TheVariants as fault;
 ghost use Rattle.file_maps.specs.Edits.{without, moved, put_at, put_tree_at, put_fault};
 ghost use Rattle.git_model.specs.declared.file_mode.FileMode.TheVariants as mode;
-ghost use Rattle.git_paths.specs.Paths.{behind, is_within_limits};
+ghost use Rattle.git_model.specs.Limits.{files_limit};
+ghost use Rattle.git_paths.specs.Paths.{strip_prefix, is_within_limits};
 ghost use Rattle.file_maps.specs.FileMap.{Path as FilePath, AreFiles, listed};
 ghost use Rattle.file_maps.specs.StoredFiles.{stored_files};
 ghost use Rattle.tree_build.specs.Shape.{held_files};
@@ -57,8 +58,8 @@ impl Files {
         )
     }
 
-    /// Drops what stands at or below a path, and, where the way is to be clear, a file on the way.
-    /// Where nothing goes, each directory stays the stored tree that it is.
+    /// Removes the files at or below a path and, if `clear`, a file at a prefix of the path. If
+    /// there are none, each directory keeps the name of its stored tree.
     pub(crate) fn take_out<N: Naming>(
         &mut self,
         pool: &Pool<N>,
@@ -90,11 +91,12 @@ impl Files {
         }
     }
 
-    /// Takes out the files at or below a path; at the root, all. Where there is none, nothing
-    /// changes: git-fast-import(1), "filedelete".
+    /// Removes the files at or below a path; at the root, all files. If there are none, the files
+    /// stay as they are: git-fast-import(1), "filedelete".
     ///
-    /// Answers want of memory, 90, alone; the value may then only be cleared or dropped. The pool
-    /// and the table are those of the value.
+    /// `pool` and `table` hold the trees of this value. Takes memory for the entries of the trees
+    /// that it reads. The only error is `Fault::Memory` (90); after it the value may only be
+    /// cleared or dropped.
     pub fn drop_path<N: Naming>(
         &mut self,
         pool: &Pool<N>,
@@ -122,8 +124,8 @@ impl Files {
         Ok(())
     }
 
-    /// Puts a node at a path, in place of what stands there, below it, or on the way to it. `total`
-    /// is how many files there are with those of the node.
+    /// Puts a node at a path, and removes the files that were at the path, below it, or at a prefix
+    /// of it. `total` is the number of files before that, plus those of the node.
     pub(crate) fn put_node<N: Naming>(
         &mut self,
         pool: &Pool<N>,
@@ -146,7 +148,7 @@ impl Files {
         requires good { let os = objects pool.now table.now.entries in
             let after = put_tree_at (files_in os self.old) path.now
             (held_files (stored_files os) (held node)) in
-            finmap.len after ≤ 1048576 → AreFiles (listed after) }
+            finmap.len after ≤ files_limit → AreFiles (listed after) }
         ensures edits { let os = objects pool.now table.now.entries in
             let m = files_in os self.old in
             let after = put_tree_at m path.now (held_files (stored_files os) (held node)) in
@@ -156,7 +158,7 @@ impl Files {
             → IsBranch (objects pool.now table.now.entries) self.old
             → IsBranch (objects pool.now table.now.entries) self.new }
         ensures reads { self.new.reads ≡ self.old.reads }
-        ensures open { OnOk result ((q : FilePath) → behind path.now q ≡ None
+        ensures open { OnOk result ((q : FilePath) → strip_prefix path.now q ≡ None
             → closed_from self.new.root q ≤ closed_from self.old.root q) }
         ensures there { OnOk result ((rest : FilePath)
             → closed_from self.new.root (path.now ++ rest)
@@ -177,14 +179,15 @@ impl Files {
         }
     }
 
-    /// Puts a file at a path, in place of what stands there, below it, or on a prefix of it:
-    /// git-fast-import(1), "filemodify".
+    /// Puts a file at a path, and removes the files that were at the path, below it, or at a prefix
+    /// of it: git-fast-import(1), "filemodify".
     ///
-    /// The entry is no directory. `Fault::RootNotDirectory` (20) at the root; else `Fault::Limit`
-    /// (25) where the path has more than 16,383 bytes or 256 components, or there would be more
-    /// than 1,048,576 files. The files have not changed after these. Takes memory for the path and
-    /// for the entries of the trees that it reads; after `Fault::Memory` (90) the value may only be
-    /// cleared or dropped. The pool and the table are those of the value.
+    /// `pool` and `table` hold the trees of this value. The mode of `entry` is not that of a
+    /// directory: `graft` puts those. `Fault::RootNotDirectory` (20) if the path is the root; else
+    /// `Fault::Limit` (25) if the path has more than 16,383 bytes or 256 components, or if there
+    /// would be more than 1,048,576 files. After these errors the files are as before. Takes memory
+    /// for the path and for the entries of the trees that it reads. After `Fault::Memory` (90) the
+    /// value may only be cleared or dropped.
     pub fn put<N: Naming>(
         &mut self,
         pool: &Pool<N>,

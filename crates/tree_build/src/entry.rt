@@ -1,4 +1,4 @@
-//! What stands at a path of a branch: what was opened is looked into, and what was not is read.
+//! What is at a path of a branch. An unopened directory on the way is read, and stays unopened.
 
 ghost use Rattle.std.specs.Prelude.{◌≡◌, ◌≢◌, [], ◌∷◌, Some, IfOk};
 ghost use Rattle.tenant_tables.specs.Objects.{objects};
@@ -23,7 +23,7 @@ use git_paths::{Components, Path};
 use std::alloc::Global;
 use tenant_tables::Table;
 
-/// What stands at a path of what is held at an entry.
+/// What is at a path below a node.
 #[cycle(looking)]
 pub(crate) fn entry_at<N: Naming>(
     alloc: Global,
@@ -92,14 +92,13 @@ fn root_tree<N: Naming>(
 }
 
 impl Files {
-    /// What stands at a path: a file, a directory with the name of its tree, or nothing. The root
-    /// is always a directory.
+    /// What is at a path: a file, a directory with the name of its tree, or `None`. The root is
+    /// always a directory.
     ///
-    /// The trees are named and not stored, nothing is opened, and what is read on the way is not
-    /// counted by `reads`. Takes memory for the contents of opened directories; `Memory` (90) is
-    /// the only refusal.
-    ///
-    /// The pool and the table are those that the value stands in.
+    /// `pool` and `table` hold the trees of this value. Trees that are not stored are named without
+    /// storing them. No directory is opened, and `reads` does not count what this call reads. Takes
+    /// memory for the entries of the trees that it reads and for the contents of those that it
+    /// names. The only error is `Memory` (90).
     pub fn entry<N: Naming>(
         &self,
         pool: &Pool<N>,

@@ -1,6 +1,6 @@
-//! How many files stand at a node, how deep they stand, and how long their paths are.
+//! How many files are at or below a node, how deep they are, and how long their paths are.
 //!
-//! Of a stored tree the table knows it, so that only directories that were edited are walked.
+//! The table knows this for a stored tree, so only edited directories are walked.
 
 ghost use Rattle.std.specs.Prelude.{◌≡◌, [], ◌∷◌};
 ghost use Rattle.tenant_tables.specs.Objects.{objects};
@@ -20,7 +20,7 @@ use content_pool::Pool;
 use git_objects::Naming;
 use tenant_tables::{Summary, Table};
 
-// The file at a node itself.
+// The summary of a node that is a file, by the path from the node.
 fn file_here() -> Summary
     ensures { result ≡ record { files = 1; depth = 0; longest = 0 } }
 {
@@ -48,7 +48,7 @@ pub(crate) fn extent<N: Naming>(pool: &Pool<N>, table: &Table, node: &Node) -> S
     }
 }
 
-// A directory that is a stored tree as it stands is not walked.
+// A directory that is a stored tree is not walked.
 #[cycle(measuring)]
 fn extent_of_dir<N: Naming>(pool: &Pool<N>, table: &Table, dir: &Dir) -> Summary
     requires stands { StandsIn N.digest_of pool.now table.now.entries }
@@ -81,7 +81,8 @@ fn extent_of_all<N: Naming>(pool: &Pool<N>, table: &Table, entries: &[(Component
     sum
 }
 
-// The summary of the files at or below an entry, by their paths below its directory.
+// The summary of the files at or below an entry, by their paths from the directory that has the
+// entry.
 #[cycle(measuring)]
 fn extent_under<N: Naming>(pool: &Pool<N>, table: &Table, name: &[u8], node: &Node) -> Summary
     requires stands { StandsIn N.digest_of pool.now table.now.entries }

@@ -1,7 +1,8 @@
-//! The files of a branch: a file map under edits, of which only what somebody looked at was read.
+//! The files of a branch: a map of files that edits change. Trees are read only when needed.
 //!
-//! Directories that nobody looked into stand for stored trees, by their names and never by where
-//! they lie. What a value means is said of the objects of a table, and no later object changes it.
+//! An unopened directory is the name of a stored tree, and never the place where it is stored. What
+//! a value means depends on the objects of a table, and objects that are added later do not change
+//! it.
 
 ghost use Rattle.std.specs.Prelude.{◌≡◌, List};
 ghost use Rattle.std.specs.FinMap as map;
@@ -14,7 +15,9 @@ use git_objects::Name;
 use std::alloc::Global;
 use std::marker::Model;
 
-/// The files of a branch.
+/// The files of a branch. Trees are read only when a call needs them.
+///
+/// A value names stored trees. Each call must be given the pool and the table that hold them.
 #[derive(Drop)]
 pub struct Files {
     pub(crate) alloc: Global,
@@ -37,7 +40,7 @@ impl Model for Files {
 }
 
 impl Files {
-    /// No files. Takes no memory; what they hold later comes from `alloc`.
+    /// A branch without files. Takes no memory; later calls take theirs from `alloc`.
     pub fn new(alloc: Global) -> Files
         ensures files { (os : List Object) → files_in os result ≡ map.empty }
         ensures branch { (os : List Object) → IsBranch os result }
@@ -51,7 +54,7 @@ impl Files {
         }
     }
 
-    /// Takes out all files. Takes no memory.
+    /// Removes all files: git-fast-import(1), "filedeleteall". Takes no memory, and reads no tree.
     pub fn clear(&mut self)
         ensures files { (os : List Object) → files_in os self.new ≡ map.empty }
         ensures branch { (os : List Object) → IsBranch os self.new }
@@ -62,8 +65,12 @@ impl Files {
         self.files = 0;
     }
 
-    /// How many trees edits and `store` have read since the value was made; it stays at the
-    /// greatest number.
+    /// How many trees edits and `store` have read since the value was made. `clear` does not start
+    /// the count anew, and it stays at `u64::MAX` once it gets there.
+    ///
+    /// An edit or `store` counts at most one tree for each component of its paths: see
+    /// `laws::walks_read_few`. A tree is counted before it is read, so the count includes a read
+    /// that runs out of memory.
     pub fn reads(&self) -> u64
         ensures { result ≡ self.now.reads }
     {
@@ -77,7 +84,7 @@ impl Files {
         self.files
     }
 
-    /// The name of the stored tree whose files these are, where that is known without reading one.
+    /// The name of the stored tree that has these files, if it is known without reading a tree.
     pub fn tree(&self) -> Option<Name>
         ensures { result ≡ root_name self.now }
     {

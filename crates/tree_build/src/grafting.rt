@@ -1,10 +1,10 @@
-//! Putting a stored tree at a path of a branch, by its name. It is not read.
+//! Putting a stored tree at a path of a branch, by its name. The tree is not read.
 
 ghost use Rattle.std.specs.Prelude.{◌≡◌, ◌≢◌, ◌≤◌, true, [], length, Some, None, Err, IsTrue, OnOk, ◌↔◌};
 ghost use Rattle.tenant_tables.specs.Objects.{objects};
 ghost use Rattle.tenant_tables.specs.StandsIn.{StandsIn};
 ghost use Rattle.file_maps.specs.declared.fault.Fault.TheVariants as fault;
-ghost use Rattle.git_paths.specs.Paths.{behind};
+ghost use Rattle.git_paths.specs.Paths.{strip_prefix};
 ghost use Rattle.file_maps.specs.Calls.{Edits};
 ghost use Rattle.file_maps.specs.FileMap.{Path as FilePath};
 ghost use Rattle.file_maps.specs.Edits.{moved, put_tree_at, put_fault};
@@ -25,7 +25,7 @@ use git_objects::{Name, Naming};
 use git_paths::Path;
 use tenant_tables::{Summary, Table};
 
-// Whether files of this summary may stand below a path.
+// Whether files with this summary may be put below a path.
 fn may_stand(path: &Path, files: Summary) -> bool
     ensures { result ≡ may_stand path.now files }
 {
@@ -36,7 +36,7 @@ fn may_stand(path: &Path, files: Summary) -> bool
 }
 
 impl Files {
-    // Whether these are known to be the files of a stored tree.
+    // Whether the root is known to be this stored tree.
     fn is_tree(&self, tree: &Name) -> bool
         ensures { IsTrue result ↔ (root_name self.now ≡ Some tree.now) }
     {
@@ -46,7 +46,8 @@ impl Files {
         }
     }
 
-    // Takes a stored tree with so many files in place of all that was there.
+    // Replaces all files by the `files` files of a stored tree. Nothing changes if the root is
+    // known to be that tree.
     fn take_tree(&mut self, tree: &Name, files: usize)
         ensures { TakesTree tree.now files self.old self.new }
     {
@@ -56,17 +57,20 @@ impl Files {
         }
     }
 
-    /// Puts the files of a stored tree below a path, in place of what stands there, below it, or on
-    /// a prefix of it; at the root, in place of all; not Git's grafts: git-fast-import(1),
-    /// "filemodify" with mode 040000. The tree without files takes out what stands there. The tree
-    /// itself is not read; at the root nothing is.
+    /// Puts a stored tree at a path, and removes the files that were at the path, below it, or at a
+    /// prefix of it; at the root, all: git-fast-import(1), "filemodify" with mode 040000. The empty
+    /// tree only removes files. (Git's grafts, which replace parents of commits, are something
+    /// else.)
     ///
-    /// `Fault::ObjectUnknown` (14) where the table has no object of this name, and
-    /// `Fault::WrongKind` (15) where it is no tree; then `Fault::Limit` (25) where a path would
-    /// have more than 16,383 bytes or 256 components, or there would be more than 1,048,576 files.
-    /// The files have not changed after these. Takes memory for the path and for the entries of the
-    /// trees on the way; after `Fault::Memory` (90) the value may only be cleared or dropped. The
-    /// pool and the table are those of the value.
+    /// `pool` and `table` hold the trees of this value, and `table` also the tree `name`. That tree
+    /// is not read; at the root, no tree is.
+    ///
+    /// `Fault::ObjectUnknown` (14) if the table has no object of this name; else
+    /// `Fault::WrongKind` (15) if the object is not a tree; else `Fault::Limit` (25) if a path
+    /// would have more than 16,383 bytes or 256 components, or if there would be more than
+    /// 1,048,576 files. After these errors the files are as before. Takes memory for the path and
+    /// for the entries of the trees on the way. After `Fault::Memory` (90) the value may only be
+    /// cleared or dropped.
     pub fn graft<N: Naming>(
         &mut self,
         pool: &Pool<N>,
@@ -81,7 +85,7 @@ impl Files {
         ensures branch { result ≢ Err fault.Memory
             → IsBranch (objects pool.now table.now.entries) self.new }
         ensures reads { Reads self.old self.new (closed_from self.old.root path.now) }
-        ensures open { OnOk result ((q : FilePath) → behind path.now q ≡ None
+        ensures open { OnOk result ((q : FilePath) → strip_prefix path.now q ≡ None
             → closed_from self.new.root q ≤ closed_from self.old.root q) }
         ensures kept { OnOk result (path.now ≡ [] → root_name self.old ≡ Some name.now
             → self.new ≡ self.old) }
@@ -98,7 +102,7 @@ impl Files {
         self.put_tree(pool, table, path, name, files)
     }
 
-    // Puts a stored tree with so many files at a path below the root.
+    // Puts a stored tree at a path below the root. `files` is the number of its files.
     fn put_tree<N: Naming>(
         &mut self,
         pool: &Pool<N>,
@@ -123,7 +127,7 @@ impl Files {
         ensures branch { result ≢ Err fault.Memory
             → IsBranch (objects pool.now table.now.entries) self.new }
         ensures reads { Reads self.old self.new (closed_from self.old.root path.now) }
-        ensures open { OnOk result ((q : FilePath) → behind path.now q ≡ None
+        ensures open { OnOk result ((q : FilePath) → strip_prefix path.now q ≡ None
             → closed_from self.new.root q ≤ closed_from self.old.root q) }
     {
         let path = path.components();

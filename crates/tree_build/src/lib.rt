@@ -1,4 +1,4 @@
-//! Branches as trees of directories that are opened only where somebody looks.
+//! The files of a branch as a tree of directories. A directory is read only when it is needed.
 #![tactic(auto)]
 
 mod component;

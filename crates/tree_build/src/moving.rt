@@ -1,12 +1,13 @@
-//! Copying and renaming: what stands at one path is put at another.
+//! Copying and renaming: what is at one path is put at another.
 //!
-//! A copy is made entry by entry where directories were edited, and by the name of its tree where
-//! not; a rename moves what stands there as it is.
+//! An edited directory is copied entry by entry, any other by the name of its tree. A rename copies
+//! nothing: it moves the node.
 
 ghost use Rattle.std.specs.Prelude.{◌≡◌, ◌≢◌, ◌≤◌, ◌+◌, [], length, None, Some, Err, IfOk, IsTrue, IfErr, OnOk};
 ghost use Rattle.std.specs.Option.{option_map};
 ghost use Rattle.std.specs.FinMap as finmap;
-ghost use Rattle.git_paths.specs.Paths.{behind};
+ghost use Rattle.git_model.specs.Limits.{files_limit};
+ghost use Rattle.git_paths.specs.Paths.{strip_prefix};
 ghost use Rattle.tenant_tables.specs.Objects.{objects};
 ghost use Rattle.tenant_tables.specs.StandsIn.{StandsIn};
 ghost use Rattle.file_maps.specs.declared.fault.Fault.TheVariants as fault;
@@ -36,7 +37,7 @@ use git_objects::Naming;
 use git_paths::{Components, Path};
 use tenant_tables::{Summary, Table};
 
-// Refuses files that cannot be moved to a path, however many stand beside them.
+// Refuses files that cannot be put at a path, whatever else the branch has.
 fn check_move(to: &Path, files: Summary) -> Result<(), Fault>
     requires { IsSmall files }
     ensures ok { OnOk result (summary_fault to.now files ≡ None) }
@@ -53,7 +54,7 @@ fn check_move(to: &Path, files: Summary) -> Result<(), Fault>
     }
 }
 
-// Whether a path has no more bytes and components than another, and neither is the root.
+// Whether `to` has at most as many bytes and components as `from`, and neither is the root.
 fn is_no_longer(to: &Path, from: &Components<'_>) -> bool
     ensures { IsTrue result → IsNoLonger to.now from.now }
 {
@@ -63,7 +64,7 @@ fn is_no_longer(to: &Path, from: &Components<'_>) -> bool
     to.as_bytes().len() <= from.as_bytes().len() && to.component_count() <= from.len()
 }
 
-// Whether a node is a directory that was opened, and not without entries.
+// Whether a node is an opened directory with at least one entry.
 fn has_entries(node: &Node) -> bool
     ensures { result ≡ has_entries (held node.now) }
 {
@@ -74,8 +75,8 @@ fn has_entries(node: &Node) -> bool
 }
 
 impl Files {
-    // What stands at a path, copied, and how many files that is; or why it cannot be moved to
-    // another. The directories on the way are opened.
+    // A copy of what is at `from`, with the number of its files; or why it cannot be put at `to`.
+    // Opens the directories on the way to `from`.
     fn copy_from<N: Naming>(
         &mut self,
         pool: &Pool<N>,
@@ -114,8 +115,8 @@ impl Files {
         Ok((node, files.files as usize))
     }
 
-    // Puts a node at a path, in place of what stands there, below it, or on the way to it; at the
-    // root, in place of all. `total` is how many files there are with those of the node.
+    // Puts a node at a path, and removes the files that were at the path, below it, or at a prefix
+    // of it; at the root, all. `total` is the number of files before that, plus those of the node.
     fn put_here<N: Naming>(
         &mut self,
         pool: &Pool<N>,
@@ -136,11 +137,11 @@ impl Files {
             total ≡ length (root_files os self.old)
             + length (held_files (stored_files os) (held node)) }
         requires few { length (held_files (stored_files (objects pool.now table.now.entries))
-            (held node)) ≤ 1048576 }
+            (held node)) ≤ files_limit }
         requires good { let os = objects pool.now table.now.entries in
             let after = put_tree_at (files_in os self.old) to.now
             (held_files (stored_files os) (held node)) in
-            finmap.len after ≤ 1048576 → AreFiles (listed after) }
+            finmap.len after ≤ files_limit → AreFiles (listed after) }
         ensures edits { let os = objects pool.now table.now.entries in
             let m = files_in os self.old in
             let after = put_tree_at m to.now (held_files (stored_files os) (held node)) in
@@ -150,7 +151,7 @@ impl Files {
             → IsBranch (objects pool.now table.now.entries) self.old
             → IsBranch (objects pool.now table.now.entries) self.new }
         ensures reads { self.new.reads ≡ self.old.reads }
-        ensures open { OnOk result ((q : FilePath) → behind to.now q ≡ None
+        ensures open { OnOk result ((q : FilePath) → strip_prefix to.now q ≡ None
             → closed_from self.new.root q ≤ closed_from self.old.root q) }
     {
         if to.len() == 0 {
@@ -162,7 +163,7 @@ impl Files {
         self.put_node(pool, table, to, node, total)
     }
 
-    // Puts a copy with so many files at a path.
+    // Puts a copy at a path. `files` is the number of its files.
     fn put_moved<N: Naming>(
         &mut self,
         pool: &Pool<N>,
@@ -180,11 +181,11 @@ impl Files {
         requires added { files
             ≡ length (held_files (stored_files (objects pool.now table.now.entries))
             (held node)) }
-        requires few { files ≤ 1048576 }
+        requires few { files ≤ files_limit }
         requires good { let os = objects pool.now table.now.entries in
             let after = put_tree_at (files_in os self.old) to.now
             (held_files (stored_files os) (held node)) in
-            finmap.len after ≤ 1048576 → AreFiles (listed after) }
+            finmap.len after ≤ files_limit → AreFiles (listed after) }
         ensures edits { let os = objects pool.now table.now.entries in
             let m = files_in os self.old in
             let after = put_tree_at m to.now (held_files (stored_files os) (held node)) in
@@ -192,7 +193,7 @@ impl Files {
         ensures branch { result ≢ Err fault.Memory
             → IsBranch (objects pool.now table.now.entries) self.new }
         ensures reads { Reads self.old self.new (closed_from self.old.root to.now) }
-        ensures open { OnOk result ((q : FilePath) → behind to.now q ≡ None
+        ensures open { OnOk result ((q : FilePath) → strip_prefix to.now q ≡ None
             → closed_from self.new.root q ≤ closed_from self.old.root q) }
     {
         let to = to.components();
@@ -201,7 +202,7 @@ impl Files {
         self.put_here(pool, table, &to, node, total)
     }
 
-    // Takes out what stands at a path. The number of files stays as it was.
+    // Takes out what is at a path, and does not change the number of files.
     fn take_source(&mut self, from: &Components<'_>) -> Option<Node>
         requires { AreOrdered self.old.root.inside }
         ensures rest { self.new ≡ record {
@@ -214,17 +215,19 @@ impl Files {
         take_from(self.alloc, &mut self.root, from)
     }
 
-    /// Puts the files at or below one path at another, in place of what stands there, below it, or
-    /// on a prefix of it: git-fast-import(1), "filecopy".
+    /// Copies the files at or below `from` to `to`, and removes the files that were at `to`, below
+    /// it, or at a prefix of it: git-fast-import(1), "filecopy".
     ///
-    /// A directory that nobody looked into, or that is a stored tree as it stands, is put by the
-    /// name of that tree, and no tree below it is read. The source is read first.
-    /// `Fault::SourceMissing` (18) where it has no file; `Fault::RootNotDirectory` (20) where a
-    /// file would stand at the root; else `Fault::Limit` (25) where a path would be too long, or
-    /// there would be too many files, as in `put`. The files have not changed after these. Takes
-    /// memory for the entries of the trees that it reads and of edited directories that it copies;
-    /// after `Fault::Memory` (90) the value may only be cleared or dropped. The pool and the table
-    /// are those of the value.
+    /// `pool` and `table` hold the trees of this value. The files at `from` are taken as they were
+    /// before the call, also if one path is below the other. A directory that is a stored tree is
+    /// copied by the name of that tree, and no tree below it is read.
+    ///
+    /// `Fault::SourceMissing` (18) if there is no file at or below `from`; else
+    /// `Fault::RootNotDirectory` (20) if a file would be at the root; else `Fault::Limit` (25) if a
+    /// path would be too long or there would be too many files, as in `put`. After these errors the
+    /// files are as before. Takes memory for the path, for the entries of the trees that it reads,
+    /// and for those of edited directories that it copies. After `Fault::Memory` (90) the value may
+    /// only be cleared or dropped.
     pub fn copy<N: Naming>(
         &mut self,
         pool: &Pool<N>,
@@ -243,7 +246,7 @@ impl Files {
             → IsBranch (objects pool.now table.now.entries) self.new }
         ensures reads { Reads self.old self.new
             (closed_from self.old.root from.now + closed_from self.old.root to.now) }
-        ensures open { OnOk result ((q : FilePath) → behind to.now q ≡ None
+        ensures open { OnOk result ((q : FilePath) → strip_prefix to.now q ≡ None
             → closed_from self.new.root q ≤ closed_from self.old.root q) }
     {
         has_components(&to.components());
@@ -251,8 +254,8 @@ impl Files {
         self.put_moved(pool, table, to, node, files)
     }
 
-    // Refuses what stands at a path where it cannot be moved to another. Where that is no longer,
-    // no path gets too long, and nothing is walked.
+    // Refuses what is at `from` if it cannot be put at `to`. If `to` is no longer than `from`, no
+    // path gets too long, and the files are not walked.
     fn check_source<N: Naming>(
         &self,
         pool: &Pool<N>,
@@ -279,8 +282,8 @@ impl Files {
         check_move(to, extent(pool, table, node))
     }
 
-    // Opens the directories on the way to a path. Refuses what stands there where it cannot be
-    // moved to another.
+    // Opens the directories on the way to `from`. Refuses what is there if it cannot be put at
+    // `to`.
     fn open_source<N: Naming>(
         &mut self,
         pool: &Pool<N>,
@@ -311,7 +314,7 @@ impl Files {
         self.check_source(pool, table, &from, to)
     }
 
-    // Puts what stands at a path at another, where nothing refuses that.
+    // Moves what is at `from` to `to`, after `open_source` has not refused it.
     fn move_source<N: Naming>(
         &mut self,
         pool: &Pool<N>,
@@ -332,7 +335,7 @@ impl Files {
         ensures branch { result ≢ Err fault.Memory
             → IsBranch (objects pool.now table.now.entries) self.new }
         ensures reads { Reads self.old self.new (closed_from self.old.root to.now) }
-        ensures open { OnOk result ((q : FilePath) → behind to.now q ≡ None
+        ensures open { OnOk result ((q : FilePath) → strip_prefix to.now q ≡ None
             → closed_from self.new.root q ≤ closed_from self.old.root q) }
     {
         let to = to.components();
@@ -345,10 +348,13 @@ impl Files {
         self.put_here(pool, table, &to, node, total)
     }
 
-    /// As `copy`, and the files no longer stand at the source: git-fast-import(1), "filerename".
+    /// Moves the files at or below `from` to `to`, and removes the files that were at `to`, below
+    /// it, or at a prefix of it: git-fast-import(1), "filerename".
     ///
-    /// What stands at the source is moved as it is, and nothing below it is copied or closed. Takes
-    /// memory for the entries of the trees that it reads and for the path.
+    /// As `copy`, with the same errors, but the files are first taken out at `from`. So `a` may be
+    /// renamed to `a/b`. A directory moves as it is: nothing below it is copied, and what was
+    /// opened stays opened. Takes memory for the path and for the entries of the trees that it
+    /// reads.
     pub fn rename<N: Naming>(
         &mut self,
         pool: &Pool<N>,
@@ -367,7 +373,7 @@ impl Files {
             → IsBranch (objects pool.now table.now.entries) self.new }
         ensures reads { Reads self.old self.new
             (closed_from self.old.root from.now + closed_from self.old.root to.now) }
-        ensures open { OnOk result ((q : FilePath) → behind to.now q ≡ None
+        ensures open { OnOk result ((q : FilePath) → strip_prefix to.now q ≡ None
             → closed_from self.new.root q ≤ closed_from self.old.root q) }
     {
         self.open_source(pool, table, from, to)?;

@@ -1,7 +1,7 @@
 //! The entries of an opened directory: in Git's order, with distinct names.
 //!
-//! A name is sought by halves, first as that of a directory, after which Git's order has a slash,
-//! and then as that of a file.
+//! A name is found by binary search: first as the name of a directory, which Git's order ends with
+//! a slash, and then as that of a file.
 
 ghost use Rattle.std.specs.Prelude.{◌≡◌, ◌≤◌, ◌++◌, length, position, OnOk, MatchOption};
 ghost use Rattle.std.specs.Option.{option_map};
@@ -10,13 +10,13 @@ ghost use Rattle.git_objects.specs.Parts.{entry_of};
 ghost use Rattle.tree_build.specs.Branch.{slash_after};
 ghost use Rattle.tree_build.specs.Editing.{child, inserted, removed};
 ghost use Rattle.tree_build.specs.Nodes.{held, shape_of, has_name};
-ghost use Rattle.tree_build.specs.Searches.{AreOrdered, is_behind, IsPlaceBehind, HasNone};
+ghost use Rattle.tree_build.specs.Searches.{AreOrdered, is_after, IsPlaceAfter, HasNone};
 
 use crate::component::Component;
 use crate::dir::Node;
 use git_objects::{FileMode, Memory, Name, TreeEntry};
 
-// An entry as Git's order sees it.
+// An entry of this name and mode, to compare with others in Git's order.
 fn ordered(name: &[u8], mode: FileMode) -> TreeEntry<'_>
     ensures { order_key (entry_of result) ≡ name.now ++ slash_of mode }
 {
@@ -24,7 +24,7 @@ fn ordered(name: &[u8], mode: FileMode) -> TreeEntry<'_>
     TreeEntry { mode, name, id }
 }
 
-/// As what Git's order takes a node: as a file or as a directory.
+/// The mode by which Git's order places a node: that of a file or of a directory.
 pub(crate) fn order_mode(node: &Node) -> FileMode
     ensures { slash_of result ≡ slash_after (held node.now).what }
 {
@@ -35,29 +35,29 @@ pub(crate) fn order_mode(node: &Node) -> FileMode
 }
 
 fn comes_before(entry: &TreeEntry<'_>, other: &(Component, Node)) -> bool
-    ensures { result ≡ is_behind (order_key (entry_of entry.now)) other.now }
+    ensures { result ≡ is_after (order_key (entry_of entry.now)) other.now }
 {
     let node = order_mode(&other.1);
     entry.order(&ordered(other.0.as_bytes(), node)).is_lt()
 }
 
-// From where on all entries come after another in Git's order; none before it does.
-fn place_behind(entries: &[(Component, Node)], entry: &TreeEntry<'_>) -> usize
+// The place from which on all entries come after `entry` in Git's order. None before it does.
+fn place_after(entries: &[(Component, Node)], entry: &TreeEntry<'_>) -> usize
     requires { AreOrdered (shape_of entries.now) }
     ensures within { result ≤ length entries.now }
-    ensures point { IsPlaceBehind (order_key (entry_of entry.now)) entries.now result }
+    ensures point { IsPlaceAfter (order_key (entry_of entry.now)) entries.now result }
 {
     entries.partition_point(|other| !comes_before(entry, other))
 }
 
-// Where the entry of a name stands, if a new one of this mode would come right after it. An entry
-// of this name and mode is always found.
+// The place of the entry of a name, if a new entry of this name and mode would come right after it.
+// An entry of this name and mode is always found.
 fn place_before(entries: &[(Component, Node)], name: &[u8], mode: FileMode) -> Option<usize>
     requires { AreOrdered (shape_of entries.now) }
     ensures { MatchOption result (HasNone name.now (slash_of mode) entries.now)
         (λ at. position (has_name name.now) entries.now ≡ Some at) }
 {
-    let next = place_behind(entries, &ordered(name, mode));
+    let next = place_after(entries, &ordered(name, mode));
     if next == 0 {
         return None;
     }
@@ -66,7 +66,7 @@ fn place_before(entries: &[(Component, Node)], name: &[u8], mode: FileMode) -> O
     if is_named { Some(at) } else { None }
 }
 
-/// Where the entry of a name stands.
+/// The place of the entry of a name.
 pub(crate) fn place_of(entries: &[(Component, Node)], name: &[u8]) -> Option<usize>
     requires { AreOrdered (shape_of entries.now) }
     ensures { result ≡ position (has_name name.now) entries.now }
@@ -87,12 +87,12 @@ pub(crate) fn insert(
     ensures { OnOk result (shape_of entries.new.items
         ≡ inserted name (held node) (shape_of entries.old.items)) }
 {
-    let place = place_behind(entries, &ordered(name.as_bytes(), order_mode(&node)));
+    let place = place_after(entries, &ordered(name.as_bytes(), order_mode(&node)));
     entries.insert(place, (name, node))?;
     Ok(())
 }
 
-/// Takes out the entry of a name, if there is one, and answers what stood there.
+/// Takes out the entry of a name, if there is one, and answers its node.
 pub(crate) fn remove(entries: &mut Vec<(Component, Node)>, name: &[u8]) -> Option<Node>
     requires { AreOrdered (shape_of entries.old.items) }
     ensures entries { shape_of entries.new.items ≡ removed (shape_of entries.old.items) name.now }

@@ -59,7 +59,7 @@ fn tree_of_entries<N: Naming>(
     }
 }
 
-// Puts what stands in a directory, as its tree has it, where there is nothing.
+// Fills empty `rows` with the entries of a directory as its tree lists them.
 #[cycle(naming)]
 fn push_rows<'a, N: Naming>(
     alloc: Global,
@@ -112,7 +112,7 @@ fn directory(name: Name) -> Entry
     Entry { mode, name }
 }
 
-/// What is held at an entry: a file, or a directory with the name of its tree.
+/// What a node is: a file, or a directory with the name of its tree.
 #[cycle(naming)]
 pub(crate) fn entry_here<N: Naming>(
     alloc: Global,

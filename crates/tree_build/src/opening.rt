@@ -1,4 +1,4 @@
-//! Opening directories: their direct entries are read, and their own directories stay unread.
+//! Opening directories: the direct entries are read, and the directories among them stay unopened.
 
 ghost use Rattle.std.specs.Prelude.{◌≡◌, Some, IsSome, All, IfOk, OnOk};
 ghost use Rattle.git_model.specs.Tree.{IsEntryName, CanWriteEntry};
@@ -23,7 +23,7 @@ use git_paths::Components;
 use std::alloc::Global;
 use tenant_tables::Table;
 
-// What stands at an entry of a tree.
+// The node of an entry of a tree.
 fn node_of(entry: &TreeEntry<'_>) -> Node
     ensures { held result ≡ entry_held (entry_of entry.now) }
 {
@@ -43,7 +43,7 @@ fn row_of(alloc: Global, entry: &TreeEntry<'_>) -> Result<(Component, Node), Mem
     Ok((Component::new(alloc, entry.name)?, node_of(entry)))
 }
 
-// What stands at the entries of a tree.
+// The names and nodes of the entries of a tree.
 fn rows_of(alloc: Global, entries: &[TreeEntry<'_>]) -> Result<Vec<(Component, Node)>, Memory>
     requires { All CanWriteEntry (entries_of entries.now) }
     ensures { IfOk result (λ rows. shape_of rows.items ≡ tree_shape (entries_of entries.now)) }
@@ -55,7 +55,7 @@ fn rows_of(alloc: Global, entries: &[TreeEntry<'_>]) -> Result<Vec<(Component, N
     Ok(rows)
 }
 
-/// The directory of a stored tree, opened. Takes memory for its entries.
+/// Opens the directory of a stored tree. Takes memory for its entries.
 pub(crate) fn open<N: Naming>(
     alloc: Global,
     pool: &Pool<N>,
@@ -124,8 +124,8 @@ pub(crate) fn open_below<N: Naming>(
         Node::File(_) => Ok(()),
         Node::Opened(dir) => open_along(alloc, pool, table, dir, rest, reads),
         Node::Unopened(id) => {
-            let mut dir = open(alloc, pool, table, id)?;
             *reads = reads.saturating_add(1);
+            let mut dir = open(alloc, pool, table, id)?;
             open_along(alloc, pool, table, &mut dir, rest, reads)?;
             *node = Node::Opened(dir);
             Ok(())

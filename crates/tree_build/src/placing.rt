@@ -1,7 +1,7 @@
-//! Putting something at a path of an opened directory.
+//! Putting a node at a path of an opened directory.
 //!
-//! What stands there, below it or on the way to it goes; each directory on the way is opened
-//! before.
+//! The files that were at the path, below it, or at a prefix of it are removed. The caller has
+//! opened the directories on the way.
 
 ghost use Rattle.std.specs.Prelude.{◌≡◌, ◌≢◌, [], true, false, position, None, OnOk, MatchOption};
 ghost use Rattle.git_paths.specs.Paths.{IsComponent};
@@ -16,7 +16,7 @@ use git_objects::Memory;
 use git_paths::Components;
 use std::alloc::Global;
 
-// Puts a node in place of the entry that stands at a place.
+// Replaces the node of the entry at a place.
 fn put_instead(
     entries: &mut Vec<(Component, Node)>,
     at: usize,
@@ -36,7 +36,7 @@ fn put_instead(
     insert(entries, owned, node)
 }
 
-// Puts an entry in place of that of its name.
+// Puts an entry, in place of the one of the same name if there is one.
 fn put_entry(
     alloc: Global,
     entries: &mut Vec<(Component, Node)>,
@@ -54,7 +54,7 @@ fn put_entry(
     }
 }
 
-// Where the entry of a name stands, if it is an opened directory.
+// The place of the entry of a name, if it is an opened directory.
 fn opened_place(entries: &[(Component, Node)], name: &[u8]) -> Option<usize>
     requires { AreOrdered (shape_of entries.now) }
     ensures { MatchOption result (has_opened (child (shape_of entries.now) name.now) ≡ false)
@@ -93,7 +93,7 @@ pub(crate) fn place(
     }
 }
 
-// Puts a node at a path below an entry of a directory.
+// Puts a node at the path of `name` and then `rest`.
 #[cycle(placing)]
 fn place_below(
     alloc: Global,

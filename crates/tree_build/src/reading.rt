@@ -1,4 +1,4 @@
-//! What stands at a path of a stored tree, read from a table.
+//! What is at a path of a stored tree, read from a table.
 
 ghost use Rattle.std.specs.Prelude.{◌≡◌, ◌≤◌, ◌+◌, ◌∷◌, length, IfOk};
 ghost use Rattle.std.specs.Option.{option_map};
@@ -18,7 +18,7 @@ use git_paths::Components;
 use std::alloc::Global;
 use tenant_tables::Table;
 
-// What stands under a name among the entries of a tree.
+// The entry of a name among those of a tree.
 fn row_named(rows: &[TreeEntry<'_>], name: &[u8]) -> Option<Entry>
     ensures { result ≡ option_map what (row_named (entries_of rows.now) name.now) }
 {
@@ -33,7 +33,7 @@ fn row_named(rows: &[TreeEntry<'_>], name: &[u8]) -> Option<Entry>
     None
 }
 
-// What the stored tree of this name has under the name of an entry.
+// The entry `name` of the stored tree `tree`.
 fn row_at<N: Naming>(
     alloc: Global,
     pool: &Pool<N>,
@@ -50,8 +50,8 @@ fn row_at<N: Naming>(
     Ok(row_named(&rows, name))
 }
 
-/// What stands in the stored tree of this name at a path of this first component. The trees that
-/// are read are counted.
+/// What is in the stored tree `tree` at the path of `name` and then `rest`. Counts the trees that
+/// it reads.
 #[cycle(reading)]
 pub(crate) fn stored_entry<N: Naming>(
     alloc: Global,

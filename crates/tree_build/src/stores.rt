@@ -1,5 +1,5 @@
-//! Storing the trees at a path of a branch. What is on the way there and was not opened is read,
-//! and stays as it is.
+//! Storing the trees at a path of a branch. An unopened directory on the way is read, and stays
+//! unopened.
 
 ghost use Rattle.std.specs.Prelude.{◌≡◌, ◌≤◌, ◌+◌, [], ◌∷◌, None, Some, IfOk};
 ghost use Rattle.tenant_tables.specs.Objects.{objects};
@@ -31,7 +31,7 @@ use git_paths::{Components, Path};
 use std::alloc::Global;
 use tenant_tables::Table;
 
-// Stores the tree without entries.
+// Stores the empty tree.
 fn store_none<N: Naming>(
     alloc: Global,
     pool: &mut Pool<N>,
@@ -45,7 +45,7 @@ fn store_none<N: Naming>(
     add_entries(alloc, pool, table, &[], no_files())
 }
 
-// The tree of what was found in a stored tree, which is stored too.
+// Stores the tree of what was found in a stored tree: a directory there is stored already.
 fn store_found<N: Naming>(
     alloc: Global,
     pool: &mut Pool<N>,
@@ -67,7 +67,7 @@ fn store_found<N: Naming>(
     }
 }
 
-// Stores the tree of what is held at an entry.
+// Stores the trees of a node.
 fn store_here<N: Naming>(
     alloc: Global,
     pool: &mut Pool<N>,
@@ -96,7 +96,7 @@ fn store_here<N: Naming>(
     }
 }
 
-// Stores the trees at a path of what is held at an entry.
+// Stores the trees at a path below a node.
 #[cycle(walking)]
 fn store_path<N: Naming>(
     alloc: Global,
@@ -136,7 +136,7 @@ fn store_path<N: Naming>(
     }
 }
 
-// Stores the trees at a path of what stands in a directory.
+// Stores the trees at the path of `name` and then `rest`.
 #[cycle(walking)]
 #[tactic(auto, using(crate::proofs::Searched::ordered))]
 fn store_below<N: Naming>(
@@ -174,17 +174,17 @@ impl Files {
     /// Stores the trees of the files at or below a path, children first and in the order of their
     /// entries, the tree at the path itself last, and answers its name: git-write-tree(1).
     ///
-    /// Where no file is below the path, or one stands at it, that is the empty tree. A tree that
-    /// the table has is found and not added again, and directories that are stored trees as they
-    /// stand are not looked into. `Fault::Limit` (25) where a tree's contents are too long or the
-    /// table is full, else `Fault::NameCollision` (24) where the table has another object of a
-    /// tree's name, in the order of storing; `Fault::Memory` (90) where a growth was refused. Of the
-    /// trees, only some before the refused one then stand after the committed prefix, and nothing
-    /// else has changed. The files are unchanged in any case, what was opened stays opened, and the
-    /// root, where it was stored, is known by its name.
+    /// `pool` and `table` hold the trees of this value, and no content has 2^64 - 2 holds besides
+    /// those of the table. If no file is below the path, or a file is at it, the empty tree is
+    /// stored and named. A tree that the table has is not added again, and a directory that is a
+    /// stored tree is not walked.
     ///
-    /// The pool and the table are those that the value stands in, and nobody else holds a content
-    /// 2^64 - 2 times.
+    /// The first tree that cannot be added decides the error: `Fault::Limit` (25) if its contents
+    /// are too long or the table is full; else `Fault::NameCollision` (24) if the table has another
+    /// object of its name. `Fault::Memory` (90) if an allocation fails. After an error the table
+    /// may have some of the trees before that one, all after the committed prefix; nothing else has
+    /// changed. The files never change, and what was opened stays opened. After a call at the root
+    /// that succeeds, `tree` answers the name of the root's tree.
     pub fn store<N: Naming>(
         &mut self,
         pool: &mut Pool<N>,

@@ -1,4 +1,4 @@
-//! Storing the trees of directories that were opened, children first.
+//! Storing the trees of opened directories, children first.
 
 ghost use Rattle.std.specs.Prelude.{◌≡◌, ◌≢◌, ◌<◌, ◌≤◌, ◌+◌, length, [], ◌∷◌, None, Some, IfOk, OnOk, get_or, fold, map, take};
 ghost use Rattle.git_model.specs.declared.file_mode.FileMode.TheVariants as mode;
@@ -26,7 +26,8 @@ use git_objects::{FileMode, Memory, Name, Naming, TreeEntry, has_twenty_bytes};
 use std::alloc::Global;
 use tenant_tables::Table;
 
-/// Stores the trees of an opened directory that were not stored, and answers the name of its tree.
+/// Stores the trees of an opened directory that are not stored yet, and answers the name of its own
+/// tree.
 #[cycle(storing)]
 pub(crate) fn store_dir<N: Naming>(
     alloc: Global,
@@ -66,7 +67,7 @@ pub(crate) fn store_dir<N: Naming>(
     }
 }
 
-// Stores the trees of what stands in a directory.
+// Stores the trees of the entries of a directory.
 #[cycle(storing)]
 fn store_inside<N: Naming>(
     alloc: Global,
@@ -96,7 +97,7 @@ fn store_inside<N: Naming>(
     Ok(())
 }
 
-// Stores the trees of what stands at one entry.
+// Stores the trees of the entry at a place.
 #[cycle(storing)]
 fn store_at<N: Naming>(
     alloc: Global,
@@ -123,7 +124,7 @@ fn store_at<N: Naming>(
     store_node(alloc, pool, table, &mut entries[place].1)
 }
 
-// Stores the trees of what is held at an entry, if it is a directory.
+// Stores the trees of a node, if it is a directory.
 #[cycle(storing)]
 fn store_node<N: Naming>(
     alloc: Global,
@@ -155,7 +156,7 @@ fn store_node<N: Naming>(
     }
 }
 
-// Adds the tree of a directory in which each directory is stored.
+// Adds the tree of a directory. The trees of the directories in it are stored already.
 fn add_tree<N: Naming>(
     alloc: Global,
     pool: &mut Pool<N>,
@@ -179,7 +180,7 @@ fn add_tree<N: Naming>(
     add_entries(alloc, pool, table, &rows, summary)
 }
 
-// What stands at an entry as a tree has it.
+// An entry as a tree lists it.
 fn row_of<'a>(entry: &'a (Component, Node)) -> TreeEntry<'a>
     requires { IsNamed (held entry.now.1).what }
     ensures { entry_of result ≡ entry_of_what entry.now.0 (held entry.now.1).what }
@@ -206,7 +207,7 @@ fn directory<'a>(name: &'a [u8], id: Name) -> TreeEntry<'a>
     }
 }
 
-// What stands in a directory as a tree has it.
+// The entries of a directory as its tree lists them.
 fn rows_of<'a>(
     alloc: Global,
     entries: &'a [(Component, Node)],

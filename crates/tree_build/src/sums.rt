@@ -1,4 +1,4 @@
-//! The summary of a tree from those of its directories.
+//! The summary of a tree, from those of the directories in it.
 
 ghost use Rattle.std.specs.Prelude.{◌≡◌, ◌≤◌, ◌+◌};
 ghost use Rattle.git_objects.specs.Parts.{entry_of, entries_of};
@@ -8,7 +8,7 @@ ghost use Rattle.tree_build.specs.Sums.{IsSmall};
 use git_objects::{FileMode, TreeEntry};
 use tenant_tables::{Summary, Table};
 
-/// The summary of the tree without entries.
+/// The summary of the empty tree.
 pub(crate) fn no_files() -> Summary
     ensures { result ≡ no_files }
 {
@@ -19,6 +19,7 @@ pub(crate) fn no_files() -> Summary
     }
 }
 
+/// The summary of one file of this name.
 pub(crate) fn one_file(name: &[u8]) -> Summary
     requires { IsSmall (one_file name.now) }
     ensures { result ≡ one_file name.now }
@@ -30,6 +31,7 @@ pub(crate) fn one_file(name: &[u8]) -> Summary
     }
 }
 
+/// The summary of the files of a tree that is the entry `name` of another.
 pub(crate) fn below(name: &[u8], tree: Summary) -> Summary
     requires { IsSmall (below name.now tree) }
     ensures { result ≡ below name.now tree }
@@ -44,6 +46,7 @@ pub(crate) fn below(name: &[u8], tree: Summary) -> Summary
     }
 }
 
+/// The summary of the files of two summaries.
 pub(crate) fn both(first: Summary, second: Summary) -> Summary
     requires { IsSmall (both first second) }
     ensures { result ≡ both first second }
@@ -65,7 +68,7 @@ fn row_summary(table: &Table, row: &TreeEntry<'_>) -> Summary
     }
 }
 
-/// The summary of the tree with these entries, whose directories stand in the table.
+/// The summary of the tree with these entries. The trees of its directories are in the table.
 pub(crate) fn summary_of(table: &Table, rows: &[TreeEntry<'_>]) -> Summary
     requires { IsSmall (tree_summary table.now.entries (entries_of rows.now)) }
     ensures { result ≡ tree_summary table.now.entries (entries_of rows.now) }

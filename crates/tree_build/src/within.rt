@@ -1,4 +1,4 @@
-//! Whether files may stand below a path, by their summary alone.
+//! Whether files may be put below a path, by their summary alone.
 
 ghost use Rattle.std.specs.Prelude.{◌≡◌};
 ghost use Rattle.tree_build.specs.Moving.{fits_below};
@@ -7,7 +7,7 @@ ghost use Rattle.tree_build.specs.Sums.{IsSmall};
 use git_paths::Path;
 use tenant_tables::Summary;
 
-/// Whether the longest and the deepest of some files are within the limits below a path: at most
+/// Whether no path would be too long if files with this summary were put below a path: at most
 /// 16,383 bytes and 256 components.
 pub(crate) fn fits_below(path: &Path, files: Summary) -> bool
     requires { IsSmall files }

@@ -12,16 +12,18 @@ ghost use Rattle.tree_build.specs.Branch.{IsBranch};
 ghost use Rattle.tree_build.proofs.Growing.{branch_stays};
 
 use content_pool::Pool;
-use file_maps::{Entry, Fault, Files as PlainFiles};
+use file_maps::{Entry, Fault};
 use git_objects::{Memory, Name, Naming};
 use git_paths::Path;
+use plain_files::Files as PlainFiles;
 use std::alloc::Global;
 use tenant_tables::Table;
 use tree_build::Files;
 
-/// The files of a branch.
+/// The files of a branch, as each of the two crates has them. Each call is that of the crates'
+/// `Files`, and takes `&mut` where one of them does.
 pub trait Body: Sized + Drop {
-    /// What the branch holds of its files stands among the objects.
+    /// The trees that the branch refers to are among the objects.
     ghost is_sound: { List Object → Self → Type 0 };
 
     /// No files.
@@ -31,7 +33,7 @@ pub trait Body: Sized + Drop {
     fn clear(&mut self)
         ensures { (os : List Object) → is_sound os self.new };
 
-    /// How many trees were read, where the body counts them.
+    /// How many stored trees were read; `None` for a body that does not count them.
     fn reads(&self) -> Option<u64>;
 
     fn put<N: Naming>(
@@ -200,7 +202,7 @@ impl Body for PlainFiles {
     ghost stays = { λ os id c files h. tt };
 }
 
-// After want of memory a branch may only be cleared.
+// After `Memory` a branch may only be cleared.
 fn settled(files: &mut Files, answer: Result<(), Fault>) -> Result<(), Fault>
     ensures { (os : List Object) → (answer ≢ Err fault.Memory → IsBranch os files.old)
         → IsBranch os files.new }

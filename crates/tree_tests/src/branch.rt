@@ -8,28 +8,30 @@ use crate::step::{
     HELLO, Step, is, is_named, long_path, mode_in, name_in, number_in, path_in, step_of,
 };
 use content_pool::Pool;
-use file_maps::{Entry, Fault, Files as PlainFiles};
+use file_maps::{Entry, Fault};
 use git_objects::{FileMode, Kind, Name, Naming, Sha1Naming};
 use git_paths::{Path, Place};
+use plain_files::Files as PlainFiles;
 use std::alloc::Global;
 use std::marker::Model;
 use tenant_tables::Table;
 use tree_build::Files;
 
-/// What a branch does, in words and as lines of steps from an empty one.
+/// A case: what a branch does, in words, and the lines of its steps, which begin with an empty
+/// branch.
 pub struct Case {
     pub does: &'static str,
     pub steps: &'static str,
 }
 
-/// The first of these steps, by its position, that a new branch of one of the bodies answers
-/// otherwise.
+/// The position of the first of these steps that goes otherwise than it says, on a new branch of
+/// either body.
 pub fn first_wrong(alloc: Global, steps: &str) -> Option<usize> {
     let plain = first_wrong_of::<PlainFiles>(alloc, steps);
     plain.or(first_wrong_of::<Files>(alloc, steps))
 }
 
-/// The same of this body alone.
+/// The same for this body alone.
 pub fn first_wrong_of<B: Body>(alloc: Global, steps: &str) -> Option<usize> {
     let mut branch: Branch<B, Sha1Naming> = Branch::new(alloc, Sha1Naming);
     let wrong = branch.first_wrong(steps.as_bytes());
@@ -37,7 +39,8 @@ pub fn first_wrong_of<B: Body>(alloc: Global, steps: &str) -> Option<usize> {
     wrong
 }
 
-/// What the first of these cases does that goes otherwise, and the step that does.
+/// The first of these cases that goes otherwise than it says: what it does, and the position of the
+/// step.
 pub fn first_otherwise(alloc: Global, cases: &[Case]) -> Option<(&'static str, usize)> {
     for case in cases {
         if let Some(position) = first_wrong(alloc, case.steps) {
@@ -47,7 +50,7 @@ pub fn first_otherwise(alloc: Global, cases: &[Case]) -> Option<(&'static str, u
     None
 }
 
-/// The files of a branch, and where their trees would lie.
+/// The files of a branch, with the pool and the table that their trees are stored in.
 #[derive(Drop)]
 pub struct Branch<B: Body, N: Naming> {
     alloc: Global,
@@ -56,7 +59,8 @@ pub struct Branch<B: Body, N: Naming> {
     table: Table,
 }
 
-// The number of a refusal, 0 where there is none; none for want of memory, which nothing asks for.
+// The number of a refusal, 0 where there is none; `None` where memory ran out, which no case
+// expects.
 fn code_of(answer: Result<(), Fault>) -> Option<u64> {
     match answer {
         Ok(()) => Some(0),
@@ -105,6 +109,7 @@ impl<B: Body, N: Naming> Model for Branch<B, N> {
 }
 
 impl<B: Body, N: Naming> Branch<B, N> {
+    /// An empty branch over a new pool and a new table. Takes no memory.
     pub fn new(alloc: Global, naming: N) -> Branch<B, N> {
         Branch {
             alloc,
@@ -114,7 +119,7 @@ impl<B: Body, N: Naming> Branch<B, N> {
         }
     }
 
-    // Apart from the function that owns the branch: each way out of an owner makes its proof
+    // Separate from the function that owns the branch, since each exit of an owner makes its proof
     // longer.
     fn first_wrong(&mut self, steps: &[u8]) -> Option<usize> {
         for (position, line) in steps.split(|byte| *byte == b'\n').enumerate() {
@@ -126,7 +131,8 @@ impl<B: Body, N: Naming> Branch<B, N> {
         None
     }
 
-    // Whether a step goes as it says. Each function knows some of them, so that its proof is short.
+    // Whether a step goes as it says. Each function knows some of the steps, to keep its proof
+    // short.
     fn takes(&mut self, step: &Step<'_>) -> bool {
         if is(step, b"mode") {
             self.has_mode(step)
@@ -184,7 +190,7 @@ impl<B: Body, N: Naming> Branch<B, N> {
         }
     }
 
-    // Whether what no number answers was done.
+    // Does a step that has no number for an answer, and answers whether it was done.
     fn fills(&mut self, step: &Step<'_>) -> bool {
         if is(step, b"put-line") {
             self.puts_line(step.with)
@@ -219,6 +225,9 @@ impl<B: Body, N: Naming> Branch<B, N> {
         }
     }
 
+    /// Puts a regular file with this name at a path. This and the other edits answer the number of
+    /// the refusal, 0 where there is none; `None` where an argument cannot be read or memory ran
+    /// out.
     pub fn put(&mut self, path: &[u8], digits: &[u8]) -> Option<u64> {
         let path = path_of(self.alloc, path)?;
         self.put_at(&path, digits)
@@ -285,11 +294,13 @@ impl<B: Body, N: Naming> Branch<B, N> {
         self.put_file(&path, Entry { mode, name })
     }
 
+    /// Removes the files at or below a path.
     pub fn drop_path(&mut self, path: &[u8]) -> Option<u64> {
         let path = path_of(self.alloc, path)?;
         code_of(self.files.drop_path(&self.pool, &self.table, &path))
     }
 
+    /// Copies the files at or below one path to another.
     pub fn copy(&mut self, from: &[u8], to: &[u8]) -> Option<u64> {
         let from = path_of(self.alloc, from)?;
         self.copy_from(&from, to)
@@ -300,6 +311,7 @@ impl<B: Body, N: Naming> Branch<B, N> {
         code_of(self.files.copy(&self.pool, &self.table, from, &to))
     }
 
+    /// Moves the files at or below one path to another.
     pub fn rename(&mut self, from: &[u8], to: &[u8]) -> Option<u64> {
         let from = path_of(self.alloc, from)?;
         self.rename_from(&from, to)
@@ -310,7 +322,7 @@ impl<B: Body, N: Naming> Branch<B, N> {
         code_of(self.files.rename(&self.pool, &self.table, from, &to))
     }
 
-    /// Puts a stored tree at a path, and answers the number of the fault, or 0.
+    /// Puts the stored tree of this name at a path.
     pub fn graft(&mut self, path: &[u8], digits: &[u8]) -> Option<u64> {
         let path = path_of(self.alloc, path)?;
         self.graft_at(&path, digits)
@@ -330,6 +342,7 @@ impl<B: Body, N: Naming> Branch<B, N> {
         self.table.add(&mut self.pool, Kind::Blob, bytes).is_ok()
     }
 
+    /// Removes all files. The stored trees stay.
     pub fn clear(&mut self) {
         self.files.clear();
     }

@@ -1,4 +1,4 @@
-//! What no clause says of edits: that calls succeed, and names that Git gave.
+//! What no clause states about edits: that calls succeed, and the names that Git gives.
 
 use crate::branch::{Case, first_otherwise};
 use git_paths::{Path, Place};

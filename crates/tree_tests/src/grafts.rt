@@ -1,4 +1,4 @@
-//! Stored trees that are put at a path, beside the names that Git gives.
+//! Stored trees that are put at a path, compared with the names that Git gives.
 
 use crate::branch::{Case, first_otherwise, first_wrong, first_wrong_of};
 use std::alloc::Global;
@@ -112,7 +112,7 @@ const READS: &str = "put-many 100 10\n\
     mode d8/d9/f0 100644\n\
     reads 2";
 
-// The plain body walks over all files at each edit, and takes no part.
+// These cases leave out the plain body, which walks over all files at each edit.
 const LARGE: &[Case] = &[
     // `git write-tree` gave the names of the tree of 10,000 files, of that tree at a, and of both
     // that and the same at b/c.
@@ -156,7 +156,7 @@ const LARGE: &[Case] = &[
     },
 ];
 
-// What the first of the large cases does that goes otherwise.
+// What the first of the large cases does that goes otherwise than it says.
 fn first_large_otherwise(alloc: Global) -> Option<&'static str> {
     for case in LARGE {
         if first_wrong_of::<Files>(alloc, case.steps).is_some() {

@@ -1,5 +1,5 @@
-//! Tests of file_maps and tree_build: edits, grafts and the trees of a branch, beside the names
-//! that Git gives. Nothing else stands here.
+//! Tests of plain_files and tree_build: edits, grafts and the trees of a branch, compared with the
+//! names that Git gives. The crate has nothing else.
 #![tactic(auto)]
 
 #[cfg(test)]

@@ -1,12 +1,13 @@
-//! Twenty real trees under random edits: both bodies keep each other's names, and those of Git.
+//! Twenty real trees under random edits: both bodies give the same names, which are those of Git
+//! where the files are put back.
 
 use crate::body::Body;
 use crate::branch::Branch;
 use crate::made_by_git::{Asked, first_otherwise};
 use crate::real_trees::puts_all;
 use crate::step::{HELLO, is_named};
-use file_maps::Files as PlainFiles;
 use git_objects::Sha1Naming;
+use plain_files::Files as PlainFiles;
 use std::alloc::Global;
 use tree_build::Files;
 
@@ -16,7 +17,7 @@ type Plain = Branch<PlainFiles, Sha1Naming>;
 
 type Nested = Branch<Files, Sha1Naming>;
 
-// Numbers that look random: Knuth's linear congruence.
+// Pseudorandom numbers: Knuth's linear congruential generator.
 #[derive(Drop)]
 struct Random {
     state: u64,
@@ -83,13 +84,13 @@ fn some_edit<'a>(random: &mut Random, list: &'a [u8], tree: &'a [u8]) -> Edit<'a
     }
 }
 
-// Whether both have a tree of one name.
+// Whether the trees of both have the same name.
 fn have_one_name(plain: &Plain, nested: &Nested) -> bool {
     let name = plain.tree_at(b"");
     name.is_some() && name == nested.tree_at(b"")
 }
 
-// Whether both answer an edit alike, and have one name then.
+// Whether both answer an edit alike, and then have the same name.
 fn goes_alike(plain: &mut Plain, nested: &mut Nested, one: &Edit<'_>) -> bool {
     let answer = answer_of(plain, one);
     answer.is_some() && answer == answer_of(nested, one) && have_one_name(plain, nested)

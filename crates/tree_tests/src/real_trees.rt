@@ -4,12 +4,12 @@ use crate::body::Body;
 use crate::branch::Branch;
 use crate::made_by_git::{Asked, first_otherwise};
 use crate::step::is_named;
-use file_maps::Files as PlainFiles;
 use git_objects::Sha1Naming;
+use plain_files::Files as PlainFiles;
 use std::alloc::Global;
 use tree_build::Files;
 
-// Whether the files of a list are put, as `git ls-tree -r` writes it.
+/// Puts the files of a list, as `git ls-tree -r` writes it. False where one is refused.
 pub fn puts_all<B: Body>(branch: &mut Branch<B, Sha1Naming>, list: &[u8]) -> bool {
     for line in list.split(|byte| *byte == b'\n') {
         if !branch.puts_line(line) {
@@ -19,12 +19,12 @@ pub fn puts_all<B: Body>(branch: &mut Branch<B, Sha1Naming>, list: &[u8]) -> boo
     true
 }
 
-// Whether the root has this name before the store, and the store answers it.
+// Whether the root has this name before it is stored, and `store` answers it.
 fn names<B: Body>(branch: &mut Branch<B, Sha1Naming>, list: &[u8], name: &[u8]) -> bool {
     puts_all(branch, list) && is_named(branch.tree_at(b""), name) && is_named(branch.store(), name)
 }
 
-// Whether the stored tree stands at the path once it is put there; a refused one leaves nothing.
+// Whether the stored tree is at the path after it is put there. A refused one leaves nothing there.
 fn puts_back<B: Body>(branch: &mut Branch<B, Sha1Naming>, path: &[u8], name: &[u8]) -> bool {
     branch.clear();
     branch.graft(path, name).is_some() && is_named(branch.tree_at(path), name)

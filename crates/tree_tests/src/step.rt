@@ -29,8 +29,8 @@ pub const HELLO: &[u8] = b"ce013625030ba8dba906f756967f9e9ca394464a";
 
 const EMPTY_TREE: &[u8] = b"4b825dc642cb6eb9a060e54bf8d69288fbee4904";
 
-/// What is done, the three words after it, all that stands after it, and the number of the refusal
-/// that is the answer, 0 where there is none. A word that a line does not have is empty.
+/// A step: what it does, the three words after that, all that follows it, and the number of the
+/// refusal that it expects, 0 where there is none. A word that a line does not have is empty.
 #[derive(Clone, Copy)]
 pub struct Step<'a> {
     pub does: &'a [u8],
@@ -75,6 +75,7 @@ pub fn is(step: &Step<'_>, verb: &[u8]) -> bool {
     step.does == verb
 }
 
+/// The text of the path that a word is: empty for `/`, the root.
 pub fn path_in(word: &[u8]) -> &[u8] {
     if word == b"/".as_slice() {
         b"".as_slice()
@@ -102,10 +103,12 @@ pub fn is_named(name: Option<Name>, digits: &[u8]) -> bool {
     }
 }
 
+/// The number that a word writes, if it writes one.
 pub fn number_in(word: &[u8]) -> Option<u64> {
     read_number(word)
 }
 
+/// The mode that a word writes in octal digits, if it writes one.
 pub fn mode_in(word: &[u8]) -> Option<FileMode> {
     read_mode(word)
 }
@@ -135,8 +138,8 @@ fn takes_components(text: &mut Vec<u8>, components: u64, length: u64) -> bool {
     true
 }
 
-fn takes_component(text: &mut Vec<u8>, is_behind: bool, length: u64) -> bool {
-    (!is_behind || text.push(b'/').is_ok()) && takes_letters(text, length)
+fn takes_component(text: &mut Vec<u8>, is_after: bool, length: u64) -> bool {
+    (!is_after || text.push(b'/').is_ok()) && takes_letters(text, length)
 }
 
 fn takes_letters(text: &mut Vec<u8>, count: u64) -> bool {

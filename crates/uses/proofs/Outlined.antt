@@ -3,7 +3,7 @@ use Rattle.std.proofs.Common.{◌≡◌, ℕ, ◌<◌, Bool, false, List, [], �
 use Rattle.stream_lex.specs.declared.fault.Fault.{Fault}
 use Rattle.stream_lex.specs.declared.item.Item.{Item as Lent}
 use Rattle.stream_lex.specs.declared.item.Item.TheVariants.{Line as LentLine, Data as LentData, Blank as LentBlank}
-use Rattle.stream_lex.specs.Items.{Item, Tail, Rest, Failed, Reading, behind_items}
+use Rattle.stream_lex.specs.Items.{Item, Tail, Rest, Failed, Reading, after_items}
 use Rattle.stream_lex.specs.Lexer.{GivesFirst, ended}
 use Rattle.stream_lex.specs.Looking.{item_of}
 use Rattle.stream_lex.specs.Reading.{reading, walk}
@@ -54,7 +54,7 @@ pub one-more : (old rest new : Tail) (before out after : List ℕ) (item : Item)
 one-more old rest new before out after item so_far takes printed = record {
   items = so_far.items ++ item ∷ [];
   taken = λ more.
-      so_far.taken more ∙ ap (behind_items so_far.items) (takes more)
+      so_far.taken more ∙ ap (after_items so_far.items) (takes more)
       ∙ ap (λ l. record { items = l; tail = (more_of new more).tail })
       (sym (append_assoc so_far.items (item ∷ []) (more_of new more).items));
   appended =
@@ -68,7 +68,7 @@ pub no-more : (old rest new : Tail) (before out : List ℕ)
     → Outlines old before new out
 no-more old rest new before out so_far same = record {
   items = so_far.items;
-  taken = λ more. so_far.taken more ∙ ap (behind_items so_far.items) (same more);
+  taken = λ more. so_far.taken more ∙ ap (after_items so_far.items) (same more);
   appended = so_far.appended;
 }
 
@@ -79,12 +79,12 @@ left-nothing (Rest skips (byte ∷ bytes)) u e = cc e
 left-nothing (Failed fault) u e = cc e
 
 all-read : (stream : List ℕ) (new : Tail) (items : List Item) (skips : Bool)
-    → ((more : List ℕ) → more_of (Rest false stream) more ≡ behind_items items (more_of new more))
+    → ((more : List ℕ) → more_of (Rest false stream) more ≡ after_items items (more_of new more))
     → new ≡ Rest skips [] → reading false stream ≡ record { items = items; tail = Rest skips [] }
 unfolding walk
 all-read stream new items skips taken nothing =
     ap (reading false) (sym (append-nil stream)) ∙ taken []
-    ∙ ap (λ (t : Tail). behind_items items (more_of t [])) nothing
+    ∙ ap (λ (t : Tail). after_items items (more_of t [])) nothing
     ∙ ap (λ (l : List Item). record { items = l; tail = Rest skips [] }) (append-nil items)
 
 -- so its lines were appended, and it was read whole

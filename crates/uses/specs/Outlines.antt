@@ -1,7 +1,7 @@
 -- The lines of a stream.
 use Rattle.std.specs.Prelude.{◌≡◌, ℕ, List, [], ◌∷◌, ◌++◌}
 use Rattle.std.specs.List.{flat_map}
-use Rattle.stream_lex.specs.Items.{Item, Line, Data, Blank, Tail, behind_items}
+use Rattle.stream_lex.specs.Items.{Item, Line, Data, Blank, Tail, after_items}
 use Rattle.stream_lex.specs.Running.{more_of}
 
 -- A line with its line end; nothing of another item.
@@ -14,8 +14,8 @@ line_of Blank = []
 abbrev pub outline_of : List Item → List ℕ
 outline_of items = flat_map line_of items
 
--- Items were taken, whatever bytes come, and the lines among them were appended.
+-- Items were taken, whichever bytes follow, and the lines among them were appended.
 pub record Outlines (old : Tail) (before : List ℕ) (new : Tail) (after : List ℕ) : Type 0 where
   pub items : List Item
-  pub taken : (more : List ℕ) → more_of old more ≡ behind_items items (more_of new more)
+  pub taken : (more : List ℕ) → more_of old more ≡ after_items items (more_of new more)
   pub appended : after ≡ before ++ outline_of items

@@ -11,8 +11,9 @@ use pool_file::{Tenant, load, save};
 use pool_file_format::{Fault, Starting};
 use std::alloc::Global;
 
-/// A second pool, and tables and refs over it, with the repositories of these tenants. Objects after
-/// the last checkpoint are left out, and so are tenants with nothing to save.
+/// A second pool, and tables and refs over it, with the repositories of these tenants. Objects
+/// after the last checkpoint are left out, and so are tenants with nothing to save. The faults are
+/// those of `save` and `load`.
 pub fn reload<N: Starting>(
     alloc: Global,
     naming: N,

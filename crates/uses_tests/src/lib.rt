@@ -1,4 +1,4 @@
-//! Tests of the examples. Nothing else stands here.
+//! Tests of the examples. The crate has no other code.
 #![tactic(auto)]
 
 #[cfg(test)]

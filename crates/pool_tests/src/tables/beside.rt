@@ -1,4 +1,4 @@
-//! A table and a plain table, each over a pool of its own, that are taken through the same steps.
+//! A table and a plain table, each over its own pool, taken through the same steps.
 
 use super::told;
 use crate::plain_table::PlainTable;
@@ -8,7 +8,7 @@ use std::alloc::Global;
 use std::marker::Model;
 use tenant_tables::{Fault, Sight, Table};
 
-/// What is done to both, or how many objects they then have.
+/// A step: what is done to both, or how many objects they then have.
 #[derive(Clone, Copy)]
 pub enum Step<'a> {
     Add(&'a [u8]),
@@ -17,8 +17,8 @@ pub enum Step<'a> {
     Length(usize),
 }
 
-/// The first of these steps, by its place, that goes otherwise, or that the two answer otherwise
-/// or are not alike after.
+/// The position of the first step that fails: it goes another way, the two answer differently, or
+/// they are not alike after it.
 pub fn first_unlike(alloc: Global, steps: &[Step<'_>]) -> Result<Option<usize>, Memory> {
     let mut beside = Beside::new(alloc, TailNaming, TailNaming);
     let unlike = beside.first_unlike(steps);
@@ -26,7 +26,7 @@ pub fn first_unlike(alloc: Global, steps: &[Step<'_>]) -> Result<Option<usize>, 
     unlike
 }
 
-/// The two, which nobody else shares a pool with.
+/// The two tables. Nobody else shares their pools.
 #[derive(Drop)]
 pub struct Beside<N: Naming> {
     pool: Pool<N>,

@@ -1,4 +1,4 @@
-//! A table of trees in a pool of its own, for tests: what a caller of `add_tree` has to keep.
+//! A table of trees in its own pool, for tests: what a caller of `add_tree` has to keep.
 
 ghost use Rattle.std.specs.Prelude.{◌≡◌, All, IfOk, Some};
 ghost use Rattle.git_model.specs.Tree.{CanWriteTree};
@@ -12,7 +12,7 @@ use std::alloc::Global;
 use std::marker::Model;
 use tenant_tables::{Fault, Summary, Table};
 
-/// A table, and the pool that nobody else holds anything in.
+/// A table, and a pool in which nobody else holds anything.
 #[derive(Drop)]
 pub struct Forest<N: Naming> {
     alloc: Global,
@@ -62,7 +62,7 @@ impl<N: Naming> Forest<N> {
             .add_tree(&mut self.pool, contents.as_slice(), summary)
     }
 
-    /// Whether the table has these objects and no other, in this order: digits and summaries.
+    /// Whether the table has exactly these objects, in this order: digits and summaries.
     pub fn holds(&self, objects: &[(&[u8; 40], Option<Summary>)]) -> bool {
         for (place, (digits, summary)) in objects.iter().enumerate() {
             if !self.has_at(place, *digits, *summary) {

@@ -1,4 +1,4 @@
-//! An object whose content lies in the pool already, for tests: what a caller of `add_held` has to
+//! An object whose content is already in the pool, for tests: what a caller of `add_held` has to
 //! keep.
 
 ghost use Rattle.std.specs.Prelude.{◌≡◌, []};
@@ -9,8 +9,8 @@ use git_objects::{Kind, Memory, Naming};
 use std::alloc::Global;
 use tenant_tables::Table;
 
-/// Whether a table takes `hello`, which lies in a pool, under the name of these digits, and still
-/// has it when nobody else holds it.
+/// Whether a table takes `hello`, which is in a pool, under the name of these digits, and still has
+/// it when nobody else holds it.
 pub fn takes_hello<N: Naming>(alloc: Global, naming: N, digits: &[u8; 40]) -> Result<bool, Memory> {
     let mut pool = Pool::new(alloc, naming);
     let mut table = Table::new(alloc);

@@ -8,13 +8,13 @@ use std::marker::Model;
 use std::test::Fail;
 use tenant_tables::{Fault, Found, Sight, Table};
 
-/// What is done to two tables or looked up in them, and what they then answer, an object name by
-/// its digits.
+/// A step: what is done to two tables or looked up in them, and the answer. Object names are given
+/// by their digits.
 #[derive(Clone, Copy)]
 pub enum Step<'a> {
     AddFirst(&'a [u8], Result<&'a [u8; 40], Fault>),
     AddSecond(&'a [u8], Result<&'a [u8; 40], Fault>),
-    /// Adds to the first table, once more where a growth was refused and changed nothing.
+    /// Adds to the first table; tried again if an allocation failed and changed nothing.
     AddFirstAgain(&'a [u8]),
     CommitFirst,
     RollBackFirst,
@@ -24,7 +24,7 @@ pub enum Step<'a> {
     /// How many objects of the first table are committed.
     CommittedFirst(usize),
     PlaceInFirst(&'a [u8; 40], Option<usize>),
-    /// The one name of the first table that begins with these digits, or that none does.
+    /// The only name of the first table that begins with these digits, or that there is none.
     StartingInFirst(&'a [u8], Sight, Option<&'a [u8; 40]>),
     /// How many contents the pool stores, and how many bytes.
     Stored(u64, u64),
@@ -36,7 +36,7 @@ pub struct Case {
     pub steps: &'static [Step<'static>],
 }
 
-/// The first of these steps, by its place, that two new tables answer otherwise.
+/// The position of the first of these steps that two new tables answer differently.
 pub fn first_wrong<N: Naming>(
     alloc: Global,
     naming: N,
@@ -48,7 +48,7 @@ pub fn first_wrong<N: Naming>(
     wrong
 }
 
-// Whether an object was added under the name of these digits, or refused by this fault.
+// Whether an object was added under the name of these digits, or refused with this fault.
 fn is_answer(
     answer: Result<Name, Fault>,
     wanted: Result<&[u8; 40], Fault>,
@@ -69,7 +69,7 @@ fn found_of(digits: Option<&[u8; 40]>) -> Result<Found, Fail> {
     Ok(Found::One(name))
 }
 
-// Two tables that stand in one pool, in which nobody else holds anything.
+// Two tables over one pool, in which nobody else holds anything.
 #[derive(Drop)]
 struct Two<N: Naming> {
     pool: Pool<N>,
@@ -107,7 +107,7 @@ impl<N: Naming> Two<N> {
         Ok(None)
     }
 
-    // Whether a step goes as it says. Each function knows some of them, so that its proof is short.
+    // Whether a step goes as it says. Each function knows some of them, to keep its proof short.
     fn takes(&mut self, step: &Step<'_>) -> Result<bool, Fail> {
         match step {
             Step::AddFirst(bytes, answer) => Ok(is_answer(self.add_first(bytes), *answer)?),
@@ -166,8 +166,8 @@ impl<N: Naming> Two<N> {
         self.second.roll_back(&mut self.pool);
     }
 
-    // Adds a content to the first table, a second time where a growth was refused, and tells
-    // whether table and pool were then as they were before.
+    // Adds a content to the first table, again if an allocation failed, and answers whether table
+    // and pool were unchanged after the failure.
     fn stays_after_a_refusal(&mut self, bytes: &[u8]) -> Result<bool, Fault> {
         let before = self.sizes();
         if self.add_first(bytes) != Err(Fault::Memory) {

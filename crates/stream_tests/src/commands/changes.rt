@@ -225,7 +225,7 @@ const CASES: &[Case] = &[
     },
 ];
 
-/// What the first case does that goes otherwise, and the row at which it does.
+/// The first case that fails: what it does, and the row at which it fails.
 pub fn first_wrong(alloc: Global) -> Option<(&'static str, &'static str)> {
     first_wrong_case(alloc, CASES)
 }

@@ -36,7 +36,7 @@ const HEADERS: &str = "commit refs/heads/m => commit refs/heads/m;\
     commit main => 11;\
     commit refs/namespaces/x/refs/heads/y => 11";
 
-// Each of these stands in the place of the committer.
+// Each of these comes in the place of the committer.
 const BEFORE_THE_COMMITTER: &str = "commit refs/heads/m => commit refs/heads/m;\
     data m => 5;\
     commit refs/heads/m => commit refs/heads/m;\
@@ -278,7 +278,7 @@ const CASES: &[Case] = &[
     },
 ];
 
-/// What the first case does that goes otherwise, and the row at which it does.
+/// The first case that fails: what it does, and the row at which it fails.
 pub fn first_wrong(alloc: Global) -> Option<(&'static str, &'static str)> {
     first_wrong_case(alloc, CASES)
 }

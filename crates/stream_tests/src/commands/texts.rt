@@ -1,11 +1,11 @@
-//! What rows of text can't show: limits, other bytes, and a parser that answered a fault.
+//! What rows of text cannot show: limits, other bytes, and a parser that has answered a fault.
 
 use super::{Reading, begin};
 use std::alloc::Global;
 use stream_grammar::{Fault, Parser};
 use stream_lex::Item;
 
-// The number of the answer to a line where no command is open; 0 for no fault.
+// The number of the fault of a line while no command is open; 0 for no fault.
 fn number(alloc: Global, line: &[u8]) -> u16 {
     let mut parser = Parser::new(alloc);
     match parser.take(Item::Line(line)) {
@@ -14,7 +14,7 @@ fn number(alloc: Global, line: &[u8]) -> u16 {
     }
 }
 
-// The beginning of a line, how often `x` stands after it, and the number of the answer.
+// The beginning of a line, how many `x` follow it, and the number of the fault.
 const LONG_LINES: &[(&[u8], usize, u16)] = &[
     (b"reset refs/heads/", 1013, 0),
     (b"reset refs/heads/", 1014, 25),
@@ -28,7 +28,7 @@ const LONG_LINES: &[(&[u8], usize, u16)] = &[
     (b"ls :0 ", 16384, 12),
 ];
 
-// Whether a line that begins so, and has `x` so many times after it, has an answer of this number.
+// Whether a line with this beginning and so many `x` after it has the fault of this number.
 fn is_answered(alloc: Global, front: &[u8], count: usize, wanted: u16) -> bool {
     let mut line = Vec::new(alloc);
     line.extend_from_slice(front).is_ok()
@@ -36,7 +36,7 @@ fn is_answered(alloc: Global, front: &[u8], count: usize, wanted: u16) -> bool {
         && number(alloc, &line) == wanted
 }
 
-// The number of `x` in the first line that is answered otherwise.
+// The number of `x` in the first line with another answer.
 fn first_wrong(alloc: Global) -> Option<usize> {
     for (front, count, wanted) in LONG_LINES {
         if !is_answered(alloc, front, *count, *wanted) {

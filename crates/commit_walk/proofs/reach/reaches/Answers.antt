@@ -2,7 +2,7 @@ use Rattle.std.proofs.Common.{List, sym, subst, ap, ◌∙◌, arith}
 use Rattle.git_model.specs.Repository.{Object}
 use Rattle.git_model.specs.GoodRepository.{AreObjects}
 use Rattle.git_model.specs.Reach.{reaches}
-use Rattle.commit_walk.proofs.Answers.{no_tip, no_old, not_behind, floor_tells}
+use Rattle.commit_walk.proofs.Answers.{no_tip, no_old, not_after, floor_tells}
 use Rattle.commit_walk.proofs.reach.reaches.Goals as goal
 
 pub returns-in_default : goal.returns-in_default
@@ -19,7 +19,7 @@ pub returns-then-top-floor : goal.returns-then-top-floor
 returns-then-top-floor g c good =
     let top_is = c.in-Some-commit_place.ensures.1 in
     let floor_is = c.in-Some.ensures.1 in
-    sym (not_behind _ c.of-objects.result (subst (AreObjects g.N.Naming.digest_of) (sym c.of-objects.ensures) good)
+    sym (not_after _ c.of-objects.result (subst (AreObjects g.N.Naming.digest_of) (sym c.of-objects.ensures) good)
     c.args.tip.now c.args.old.now (omega (arith, top_is, floor_is)))
     ∙ ap (λ (os : List Object). reaches os c.args.tip.now c.args.old.now) c.of-objects.ensures
 

@@ -1,4 +1,4 @@
-use Rattle.file_maps.proofs.SumsBehind.{fit-from, within-from}
+use Rattle.file_maps.proofs.SumsAfter.{fit-from, within-from}
 use Rattle.file_maps.proofs.laws.trees_fit_where_their_files_do.Goals as goal
 
 pub returns : goal.returns

@@ -1,5 +1,5 @@
 use Rattle.std.proofs.Common.{arith}
-use Rattle.git_objects.proofs.TreeFronts.{name_missing, short_of_id, entry_there, behind_fits}
+use Rattle.git_objects.proofs.TreeFronts.{name_missing, short_of_id, entry_there, after_fits}
 use Rattle.git_objects.proofs.tree.take_entry.Goals as goal
 
 pub returns-in_default-take_name : goal.returns-in_default-take_name
@@ -13,4 +13,4 @@ pub returns : goal.returns
 returns c =
     let chunk = c.in-Some-split_first_chunk.ensures.cases in
     rw (c.from_bytes-id.ensures, chunk.0, chunk.1)
-    (entry_there c.args.contents.now c.in-Some.mode c.in-Some.rest.now c.in-Some-take_name.name.now c.in-Some-take_name.rest.now (behind_fits _ _ _ c.in-Some-take_name.ensures.found.1 (behind_fits _ _ _ c.in-Some.ensures.found.1 c.type_inv.contents)) c.in-Some.ensures c.in-Some-take_name.ensures (omega (arith, chunk.2)))
+    (entry_there c.args.contents.now c.in-Some.mode c.in-Some.rest.now c.in-Some-take_name.name.now c.in-Some-take_name.rest.now (after_fits _ _ _ c.in-Some-take_name.ensures.found.1 (after_fits _ _ _ c.in-Some.ensures.found.1 c.type_inv.contents)) c.in-Some.ensures c.in-Some-take_name.ensures (omega (arith, chunk.2)))

@@ -1,8 +1,8 @@
-use Rattle.std.proofs.Common.{ap, refl, sym, ◌∙◌, arith}
+use Rattle.std.proofs.Common.{ap, refl, ◌∙◌, arith}
 use Rattle.std.proofs.lemmas.Result.{err_from_is_err_and}
 use Rattle.gitpool.specs.ImportFaults.{as_import}
 use Rattle.gitpool.proofs.StepLemmas.{calls-one, imported-so, open-step, open-silent, open-not-refused, open-refused}
-use Rattle.gitpool.proofs.ImportLemmas.{imports-did, open_fails, ok-answer, ok-not-fault}
+use Rattle.gitpool.proofs.ImportLemmas.{imports-effect, open_fails, ok-answer, ok-not-fault}
 use Rattle.gitpool.proofs.importing.import.Goals as goal
 
 pub returns-in_err-as_import-clause-imported : goal.returns-in_err-as_import-clause-imported
@@ -39,7 +39,7 @@ carry_out-requires g c =
 
 pub returns-clause-imported : goal.returns-clause-imported
 returns-clause-imported g c = λ repository can.
-    imports-did _ repository _ _ _ _ _ _ c.carry_out.result
+    imports-effect _ repository _ _ _ _ _ _ c.carry_out.result
     (λ ended bytes fed. imported-so _ _ c.args.service.now c.step-opened.new.self c.carry_out.new.service ended bytes
     (calls-one _ _ c.args.service.now c.step-opened.new.self _ _ _ refl refl c.step-opened.ensures.own) fed)
     (c.carry_out.ensures repository

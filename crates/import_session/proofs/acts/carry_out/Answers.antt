@@ -1,7 +1,7 @@
 use Rattle.std.proofs.Common.{Result, refl, sym, subst}
 use Rattle.std.proofs.lemmas.Result.{on_err_weaker}
 use Rattle.tenant_tables.proofs.RoomLemmas.{has_room}
-use Rattle.import_session.specs.declared.fault.Fault.{Fault}
+use Rattle.stream_state.specs.declared.fault.Fault.{Fault}
 use Rattle.import_session.specs.Workspace.{Effect}
 use Rattle.import_session.specs.Meaning.{after_act}
 use Rattle.import_session.specs.Session.{own_shown, workspace_in, CarriesOut}

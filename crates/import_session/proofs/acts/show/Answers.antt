@@ -2,9 +2,10 @@ use Rattle.std.proofs.Common.{Ok, refl, ◌∙◌, append_assoc, codes}
 use Rattle.hex.specs.Hex.{encode_lower}
 use Rattle.git_model.specs.Repository.{object_named}
 use Rattle.tenant_tables.specs.Objects.{objects}
-use Rattle.import_session.specs.Marks.{marked_name, referred_name}
-use Rattle.import_session.specs.Meaning.{shown_by, shown_object}
-use Rattle.import_session.specs.Showing.{entry_shown}
+use Rattle.stream_state.specs.Marks.{marked_name, referred_name}
+use Rattle.stream_state.specs.Printing.{shown_object}
+use Rattle.import_session.specs.Meaning.{shown_by}
+use Rattle.stream_state.specs.Showing.{entry_shown}
 use Rattle.import_session.specs.Session.{own_shown, workspace_in}
 use Rattle.import_session.proofs.ActLemmas.{line_carried, named_carried}
 use Rattle.import_session.proofs.Defaults.{shown_by_next}

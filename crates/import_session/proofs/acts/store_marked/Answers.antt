@@ -2,8 +2,7 @@ use Rattle.std.proofs.Common.{ap, ◌∙◌}
 use Rattle.git_model.specs.declared.kind.Kind.TheVariants as kind
 use Rattle.git_model.specs.Content.{content_from}
 use Rattle.tenant_tables.specs.Objects.{objects}
-use Rattle.import_session.specs.Workspace.{Marks}
-use Rattle.import_session.specs.Marks.{with_mark}
+use Rattle.stream_state.specs.Marks.{Marks, with_mark}
 use Rattle.import_session.specs.Meaning.{stored_or_shown}
 use Rattle.import_session.proofs.ActLemmas.{blob_carried}
 use Rattle.import_session.proofs.HeldLemmas.{files_grown}

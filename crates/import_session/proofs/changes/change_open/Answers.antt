@@ -3,7 +3,7 @@ use Rattle.std.specs.Option.{option_map}
 use Rattle.stream_grammar.specs.Shown.{act_shown}
 use Rattle.open_commits.specs.declared.open_commit.OpenCommit.{OpenCommit as LentCommit}
 use Rattle.open_commits.specs.OpenCommit.{OpenCommit, commit_held, commit_in, shown_in}
-use Rattle.import_session.specs.declared.fault.Fault.{Fault}
+use Rattle.stream_state.specs.declared.fault.Fault.{Fault}
 use Rattle.import_session.specs.Session.{Own, own_shown, workspace_in, CarriesOut, Leaves}
 use Rattle.import_session.specs.Changes.{commit_changed}
 use Rattle.import_session.proofs.CommitLemmas.{changed_aside, changed_open}

@@ -6,11 +6,11 @@ use Rattle.import_session.proofs.changes.show_entry.Goals as goal
 pub returns-clause-done : goal.returns-clause-done
 returns-clause-done g c = grind (arith, common_steps)
 
-pub returns-in_err-entry-clause-done : goal.returns-in_err-entry-clause-done
-returns-in_err-entry-clause-done g c = search rules
+pub returns-in-Err-clause-done : goal.returns-in-Err-clause-done
+returns-in-Err-clause-done g c = search rules
 
-pub returns-in_err-entry-clause-committed : goal.returns-in_err-entry-clause-committed
-returns-in_err-entry-clause-committed g c =
+pub returns-in-Err-clause-committed : goal.returns-in-Err-clause-committed
+returns-in-Err-clause-committed g c =
     committed_stay c.args.pool.now c.args.table.now c.show_entry.new.pool c.show_entry.new.table
     c.committed_len-within.ensures.within c.show_entry.ensures.adds
 

@@ -1,5 +1,5 @@
 use Rattle.std.proofs.Common.{List, ℕ, Option, ap, ◌∙◌, ◌++◌}
-use Rattle.import_session.specs.Checkpoints.{by_head}
+use Rattle.stream_state.specs.Checkpoints.{by_head}
 use Rattle.import_session.specs.Session.{own_shown}
 use Rattle.import_session.proofs.CheckpointLemmas.{well_saved}
 use Rattle.import_session.proofs.checkpoint.save.Goals as goal

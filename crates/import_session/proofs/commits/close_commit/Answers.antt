@@ -5,8 +5,8 @@ use Rattle.import_session.proofs.commits.close_commit.Goals as goal
 pub returns-clause-done : goal.returns-clause-done
 returns-clause-done g c = search rules
 
-pub returns-in_err-id-clause-committed : goal.returns-in_err-id-clause-committed
-returns-in_err-id-clause-committed g c =
+pub returns-in-Err-clause-committed : goal.returns-in-Err-clause-committed
+returns-in-Err-clause-committed g c =
     committed_stay c.args.pool.now c.args.table.now c.close.new.pool c.close.new.table
     c.committed_len-within.ensures.within c.close.ensures.adds
 

@@ -1,8 +1,7 @@
 use Rattle.std.proofs.Common.{◌≡◌, List, ℕ, Option, Ok, ap, sym, subst}
 use Rattle.open_commits.specs.OpenCommit.{begun, header_shown}
-use Rattle.import_session.specs.Workspace.{Branches}
-use Rattle.import_session.specs.Branches.{branch_set}
-use Rattle.import_session.specs.Commits.{tip_commit, tip_for, IsTipCommit}
+use Rattle.stream_state.specs.Branches.{Branches, branch_set, tip_commit, tip_for}
+use Rattle.import_session.specs.Commits.{IsTipCommit}
 use Rattle.import_session.specs.Session.{Own, own_shown, workspace_in}
 use Rattle.import_session.proofs.CommitLemmas.{opened_by}
 use Rattle.import_session.proofs.SoundCommits.{tip_commit_is}

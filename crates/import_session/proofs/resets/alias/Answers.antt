@@ -1,9 +1,9 @@
 use Rattle.std.proofs.Common.{Some, Err}
 use Rattle.std.proofs.lemmas.Result.{err_from_is_err_and}
 use Rattle.stream_grammar.specs.Shown.{commit_shown}
-use Rattle.import_session.specs.Faults.{and_then}
+use Rattle.stream_state.specs.Faults.{and_then}
 use Rattle.import_session.specs.Workspace.{quiet}
-use Rattle.import_session.specs.Marks.{room_for, with_mark}
+use Rattle.stream_state.specs.Marks.{room_for, with_mark}
 use Rattle.import_session.specs.CommitIshes.{commit_in}
 use Rattle.import_session.specs.Session.{own_shown, workspace_in}
 use Rattle.import_session.proofs.ActLemmas.{first_refused, first_then}

@@ -1,9 +1,9 @@
 use Rattle.std.proofs.Common.{None, sym}
 use Rattle.std.proofs.lemmas.Result.{err_from_is_err_and}
 use Rattle.stream_grammar.specs.Shown.{commit_shown}
-use Rattle.import_session.specs.declared.branches.Tip.{Tip}
+use Rattle.stream_state.specs.declared.branches.Tip.{Tip}
 use Rattle.import_session.specs.Workspace.{quiet}
-use Rattle.import_session.specs.Branches.{with_branch}
+use Rattle.stream_state.specs.Branches.{with_branch}
 use Rattle.import_session.specs.Resets.{tip_from}
 use Rattle.import_session.specs.Session.{own_shown, workspace_in}
 use Rattle.import_session.proofs.ActLemmas.{first_refused}

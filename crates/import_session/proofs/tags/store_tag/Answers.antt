@@ -3,8 +3,8 @@ use Rattle.std.specs.Prelude.{is_ok}
 use Rattle.std.proofs.lemmas.Result.{err_from_is_err_and}
 use Rattle.git_model.specs.Content.{name_by}
 use Rattle.tenant_tables.specs.Objects.{objects}
-use Rattle.import_session.specs.declared.said.Said.{Said}
-use Rattle.import_session.specs.Tags.{tag_content}
+use Rattle.stream_state.specs.declared.said.Said.{Said}
+use Rattle.stream_state.specs.Tags.{tag_content}
 use Rattle.import_session.specs.Session.{Own, own_shown, workspace_in}
 use Rattle.import_session.proofs.HeldLemmas.{commit_same, files_grown, files_kept}
 use Rattle.import_session.proofs.TagLemmas.{tag_kept, tag_left, tag_not_stored, tag_refused}

@@ -6,13 +6,13 @@ pub returns-then-not-branch : goal.returns-then-not-branch
 returns-then-not-branch c =
     inl (λ can. iff_false c.in_ok-can_store.ensures c.if-not-branch.true can, refl)
 
-pub returns-then-not-is_behind : goal.returns-then-not-is_behind
-returns-then-not-is_behind c =
+pub returns-then-not-is_after : goal.returns-then-not-is_after
+returns-then-not-is_after c =
     inr (
       c.in_ok-can_store.ensures.0 c.if-not-branch.false,
-      inl (λ behind. iff_false c.is_behind.ensures c.if-not-is_behind.true behind, refl),
+      inl (λ after. iff_false c.is_after.ensures c.if-not-is_after.true after, refl),
     )
 
 pub returns : goal.returns
 returns c =
-    (c.in_ok-can_store.ensures.0 c.if-not-branch.false, (c.is_behind.ensures.0 c.if-not-is_behind.false, tt))
+    (c.in_ok-can_store.ensures.0 c.if-not-branch.false, (c.is_after.ensures.0 c.if-not-is_after.false, tt))

@@ -11,16 +11,16 @@ returns-then-size-clause-first c =
     let now = at_once bytes (counted_data c.args.size c.args.header) c.requires.leads in
     sym (now ∙ counted-too_large c.args.size c.args.header bytes (omega arith))
 
-pub returns-then-behind-size-clause-first : goal.returns-then-behind-size-clause-first
-returns-then-behind-size-clause-first c =
+pub returns-then-remaining-size-clause-first : goal.returns-then-remaining-size-clause-first
+returns-then-remaining-size-clause-first c =
     let bytes = c.args.bytes.now in
     let now = at_once bytes (counted_data c.args.size c.args.header) c.requires.leads in
     sym (now ∙ counted-unfinished c.args.size c.args.header bytes (omega arith) (omega arith))
 
-pub returns-else-behind-size-clause-first : goal.returns-else-behind-size-clause-first
-returns-else-behind-size-clause-first c =
+pub returns-else-remaining-size-clause-first : goal.returns-else-remaining-size-clause-first
+returns-else-remaining-size-clause-first c =
     let bytes = c.args.bytes.now in
     let now = at_once bytes (counted_data c.args.size c.args.header) c.requires.leads in
-    let raw = c.split_at-else-behind-size.ensures.front ∙ ap (take c.args.size) c.split_at.ensures.back in
+    let raw = c.split_at-else-remaining-size.ensures.front ∙ ap (take c.args.size) c.split_at.ensures.back in
     ap (λ data_raw. Gives (Data data_raw) (c.args.header + c.args.size)) raw
     ∙ sym (now ∙ counted-whole c.args.size c.args.header bytes (omega arith) (omega (arith, c.split_at.ensures.back_len)))

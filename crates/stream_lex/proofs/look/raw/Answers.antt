@@ -12,7 +12,7 @@ pub returns-else-size-gt-LARGEST_DATA-clause-first : goal.returns-else-size-gt-L
 returns-else-size-gt-LARGEST_DATA-clause-first c delimiter long =
     let size = c.args.line - c.args.header in
     let data_raw = c.split_at-else-size-gt-LARGEST_DATA.ensures.front ∙ ap (take size) c.split_at.ensures.back in
-    let behind : c.args.end + 1 ≡ c.args.header + size + length delimiter + 1 = omega arith in
+    let remaining : c.args.end + 1 ≡ c.args.header + size + length delimiter + 1 = omega arith in
     ap (λ l. Gives (Data l) (c.args.end + 1)) data_raw
-    ∙ ap (λ n. Gives (Data (take size (drop c.args.header c.args.bytes.now))) n) behind
+    ∙ ap (λ n. Gives (Data (take size (drop c.args.header c.args.bytes.now))) n) remaining
     ∙ sym (before-whole size delimiter c.args.header c.args.bytes.now (omega arith))

@@ -12,7 +12,7 @@ use Rattle.tree_build.specs.Nodes.{held, shape_of, has_name}
 use Rattle.tree_build.specs.Opened.{OpensHeld, ReadsMore}
 use Rattle.tree_build.proofs.Entries.{closed_child, closed_at, entry_at}
 use Rattle.tree_build.proofs.Named.{shape_found, shape_lacks, found_within, not_found}
-use Rattle.tree_build.proofs.Along.{opens_entry, opens_none, opens_here, opens_unopened, closed_root, one_more}
+use Rattle.tree_build.proofs.Along.{opens_entry, opens_none, opens_here, opens_unopened, closed_root, one_more, one_read}
 use Rattle.tree_build.proofs.opening.+opening.Goals as goal
 
 pub open_along-returns-in_default-clause-opens : goal.open_along-returns-in_default-clause-opens
@@ -82,6 +82,16 @@ pub open_below-returns-then-len-eq0-clause-opens :
 open_below-returns-then-len-eq0-clause-opens g t c =
     opens_here (objects c.args.pool.now c.args.table.now.entries) (held c.args.node.now) c.requires.sound
     c.args.rest.now (sym c.len.ensures ∙ c.if-len-eq0.true)
+
+pub open_below-returns-in_err-dir-in-Unopened-clause-reads :
+    goal.open_below-returns-in_err-dir-in-Unopened-clause-reads
+open_below-returns-in_err-dir-in-Unopened-clause-reads g t c =
+    let a = c.saturating_add.ensures in
+    let f = c.if-len-eq0.false in
+    subst (λ (n : Node). ReadsMore c.args.reads.now c.saturating_add.result (closed_from (held n) c.args.rest.now))
+    (sym c.in-Unopened.is)
+    (one_read c.args.reads.now c.saturating_add.result c.args.rest.now
+    (λ e. f (c.len.ensures ∙ ap (λ (p : Path). length p) e)) (omega arith) (omega arith))
 
 pub open_below-returns-in_err-open_along-in-Unopened-clause-reads :
     goal.open_below-returns-in_err-open_along-in-Unopened-clause-reads

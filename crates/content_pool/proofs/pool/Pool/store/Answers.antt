@@ -1,6 +1,6 @@
 use Rattle.std.proofs.Common.{sym, ap, ◌∙◌, refl, subst}
 use Rattle.content_pool.specs.Pool.{Cells, cell, HoldsEachOnce}
-use Rattle.content_pool.proofs.PoolLemmas.{Writes-behind, IsPool-once, IsPool-stored, IsIndexed-stored, Puts-stored}
+use Rattle.content_pool.proofs.PoolLemmas.{Writes-after, IsPool-once, IsPool-stored, IsIndexed-stored, Puts-stored}
 use Rattle.content_pool.proofs.pool.Pool.store.Goals as goal
 
 pub returns-in_err-reserve-clause-once : goal.returns-in_err-reserve-clause-once
@@ -18,7 +18,7 @@ invariant_of-self-2 g c =
     let same = ap (λ s. s.slots) c.reserve.ensures.rest_kept in
     let told = c.insert_reserved.ensures.key ∙ sym c.vacant_key-key.ensures.value in
     let w =
-    Writes-behind c.self.inside.cells _ _ _ _ _ same told c.insert_reserved.ensures.updates in
+    Writes-after c.self.inside.cells _ _ _ _ _ same told c.insert_reserved.ensures.updates in
     let was =
     ap (λ p. cell p c.vacant_key-key.result) (sym same) ∙ c.vacant_key-key.ensures.vacant in
     let absent = rw (← c.self.view_is) at c.requires.absent in (
@@ -31,7 +31,7 @@ returns-clause-puts g c =
     let same = ap (λ s. s.slots) c.reserve.ensures.rest_kept in
     let told = c.insert_reserved.ensures.key ∙ sym c.vacant_key-key.ensures.value in
     let w =
-    Writes-behind c.self.inside.cells _ _ _ _ _ same told c.insert_reserved.ensures.updates in
+    Writes-after c.self.inside.cells _ _ _ _ _ same told c.insert_reserved.ensures.updates in
     let was =
     ap (λ p. cell p c.vacant_key-key.result) (sym same) ∙ c.vacant_key-key.ensures.vacant in
     rw (← c.self.view_is) (Puts-stored _ _ _ _ was w refl)
@@ -41,7 +41,7 @@ returns-clause-once g c =
     let same = ap (λ s. s.slots) c.reserve.ensures.rest_kept in
     let told = c.insert_reserved.ensures.key ∙ sym c.vacant_key-key.ensures.value in
     let w =
-    Writes-behind c.self.inside.cells _ _ _ _ _ same told c.insert_reserved.ensures.updates in
+    Writes-after c.self.inside.cells _ _ _ _ _ same told c.insert_reserved.ensures.updates in
     let was =
     ap (λ p. cell p c.vacant_key-key.result) (sym same) ∙ c.vacant_key-key.ensures.vacant in
     let absent = rw (← c.self.view_is) at c.requires.absent in

@@ -7,12 +7,20 @@ use Rattle.git_model.specs.Content.{content_from}
 use Rattle.open_commits.specs.OpenCommit.{commit_held, shown_in}
 use Rattle.open_commits.proofs.Staying.{closed-held, closed-files}
 use Rattle.open_commits.proofs.Additions.{adds-stored, adds-then}
+use Rattle.open_commits.proofs.Leavings.{leaves-root, on-refusal, refused-after}
 use Rattle.open_commits.proofs.Closings.{trees_refused, closes}
 use Rattle.open_commits.proofs.open_commit.OpenCommit.close.Goals as goal
 
 pub returns-in_err-tree-clause-adds : goal.returns-in_err-tree-clause-adds
 returns-in_err-tree-clause-adds g c =
     adds-stored c.store-2.result _ _ _ _ _ _ _ c.store-2.ensures.stores
+
+pub returns-in_err-tree-clause-trees : goal.returns-in_err-tree-clause-trees
+returns-in_err-tree-clause-trees g c =
+    let os = objects c.args.pool.now c.args.table.now.entries in
+    on-refusal c.from_residual.result _
+    (leaves-root c.store-2.result g.N.Naming.digest_of _ _ _ _ (shown_in os c.args.self.now).files _
+    (rw c.root.ensures at c.store-2.ensures.stores))
 
 pub returns-in_err-tree-clause-done : goal.returns-in_err-tree-clause-done
 returns-in_err-tree-clause-done g c =
@@ -24,6 +32,21 @@ returns-in_err-tree-clause-done g c =
 pub returns-in_err-contents-clause-adds : goal.returns-in_err-contents-clause-adds
 returns-in_err-contents-clause-adds g c =
     adds-stored c.store-2.result _ _ _ _ _ _ _ c.store-2.ensures.stores
+
+pub returns-in_err-contents-clause-trees : goal.returns-in_err-contents-clause-trees
+returns-in_err-contents-clause-trees g c =
+    let os = objects c.args.pool.now c.args.table.now.entries in
+    on-refusal c.from_residual-in_err-contents.result _
+    (leaves-root c.store-2.result g.N.Naming.digest_of _ _ _ _ (shown_in os c.args.self.now).files _
+    (rw c.root.ensures at c.store-2.ensures.stores))
+
+pub returns-clause-trees : goal.returns-clause-trees
+returns-clause-trees g c =
+    let os = objects c.args.pool.now c.args.table.now.entries in
+    refused-after c.store-3.result g.N.Naming.digest_of _ os _ _ _ _
+    (leaves-root c.store-2.result g.N.Naming.digest_of _ _ _ _ (shown_in os c.args.self.now).files _
+    (rw c.root.ensures at c.store-2.ensures.stores))
+    c.store-3.ensures.same
 
 pub returns-clause-adds : goal.returns-clause-adds
 returns-clause-adds g c =

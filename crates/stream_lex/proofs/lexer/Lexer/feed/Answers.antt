@@ -1,5 +1,5 @@
 use Rattle.std.proofs.Common.{◌≡◌, sym, ap, ◌∙◌}
-use Rattle.stream_lex.specs.Items.{behind_items}
+use Rattle.stream_lex.specs.Items.{after_items}
 use Rattle.stream_lex.specs.Running.{extended, more_of}
 use Rattle.stream_lex.specs.Looking.{tail_at}
 use Rattle.stream_lex.specs.Cursor.{rest_of, tail_of}
@@ -20,7 +20,7 @@ returns-clause-ok c = tail-extended c
 
 pub returns-clause-leads : goal.returns-clause-leads
 returns-clause-leads c bytes items leads more =
-    Leads-extended bytes c.args.piece.now items c.args.self.now.tail leads more ∙ ap (λ tail. behind_items items (more_of tail more)) (sym (tail-extended c))
+    Leads-extended bytes c.args.piece.now items c.args.self.now.tail leads more ∙ ap (λ tail. after_items items (more_of tail more)) (sym (tail-extended c))
 
 pub returns-clause-failed : goal.returns-clause-failed
 returns-clause-failed c fault failed =

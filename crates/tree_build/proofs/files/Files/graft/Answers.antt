@@ -1,5 +1,5 @@
 use Rattle.std.proofs.Common.{◌≡◌, Bool, Ok, Err, Some, None, refl, sym, ap, ◌∙◌}
-use Rattle.git_paths.specs.Paths.{behind}
+use Rattle.git_paths.specs.Paths.{strip_prefix}
 use Rattle.tenant_tables.specs.declared.summary.Summary.{Summary}
 use Rattle.tenant_tables.specs.Objects.{objects}
 use Rattle.file_maps.specs.declared.fault.Fault.TheVariants as fault
@@ -83,7 +83,7 @@ pub returns-then-is_root-clause-open : goal.returns-then-is_root-clause-open
 returns-then-is_root-clause-open g c =
     λ q apart. absurd
     (let root = sym (c.is_root.ensures.0 c.if-is_root.true) in
-    let here : Some q ≡ None = ap (λ (p : Path). behind p q) root ∙ apart in cc here)
+    let here : Some q ≡ None = ap (λ (p : Path). strip_prefix p q) root ∙ apart in cc here)
 
 pub put_tree-requires-clause-tree : goal.put_tree-requires-clause-tree
 put_tree-requires-clause-tree g c =

@@ -2,7 +2,7 @@ use Rattle.std.proofs.Common.{◌≡◌, ◌≤◌, ◌+◌, length, sym, ap, �
 use Rattle.std.specs.Prelude.{Option, Some}
 use Rattle.std.specs.FinMap as finmap
 use Rattle.std.proofs.lemmas.Result.{on_ok_weaker}
-use Rattle.git_paths.specs.Paths.{IsPath, behind}
+use Rattle.git_paths.specs.Paths.{IsPath, strip_prefix}
 use Rattle.tenant_tables.specs.Objects.{objects}
 use Rattle.file_maps.specs.Calls.{Edits}
 use Rattle.file_maps.specs.Edits.{files_at, moved, without, put_tree_at}
@@ -241,7 +241,7 @@ returns-clause-open g c =
     ap (closed_from c.open_to.new.self.root) c.components.ensures ∙ shut in
     let rest = rest_is os c.components.result c.open_to.new.self b way c.open_to.new.self.files c.open_to.new.self.reads in
     on_ok_weaker c.put_here.result
-    (λ put q apart. let there = put q (ap (λ (p : Path). behind p q) c.components-to.ensures ∙ apart) in
+    (λ put q apart. let there = put q (ap (λ (p : Path). strip_prefix p q) c.components-to.ensures ∙ apart) in
     let root = ap (λ (y : Branch). closed_from y.root q) c.take_source.ensures.rest in
     let less = rest.stays q in
     let opened = c.in_ok-open_to.ensures.«open» q in

@@ -1,6 +1,6 @@
 use Rattle.std.proofs.Common.{ℕ, ◌+◌, length, sym, ap, ◌∙◌, arith}
 use Rattle.std.specs.FinMap as finmap
-use Rattle.git_paths.specs.Paths.{behind}
+use Rattle.git_paths.specs.Paths.{strip_prefix}
 use Rattle.tenant_tables.specs.Objects.{objects}
 use Rattle.file_maps.specs.FileMap.{Path, FileMap, is_apart}
 use Rattle.file_maps.specs.Storable.{files_summary}
@@ -56,7 +56,7 @@ pub returns-clause-open : goal.returns-clause-open
 returns-clause-open g c =
     on_ok_weaker c.put_node.result
     (λ put q apart. let opened = c.in_ok-open_to.ensures.«open» q in
-    let there = put q (ap (λ (p : Path). behind p q) c.components-path.ensures ∙ apart) in
+    let there = put q (ap (λ (p : Path). strip_prefix p q) c.components-path.ensures ∙ apart) in
     omega arith)
     c.put_node.ensures.«open»
 

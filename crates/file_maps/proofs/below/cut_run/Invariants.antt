@@ -1,8 +1,0 @@
-use Rattle.std.proofs.Common.{◌≡◌, [], ◌∷◌, take}
-use Rattle.file_maps.specs.Edits.{cut}
-use Rattle.file_maps.specs.Below.{files_below}
-use Rattle.file_maps.proofs.below.cut_run.Given as goal
-
-abbrev pub invariant-loop-file : goal.invariant-loop-file
-invariant-loop-file l =
-    files_below l.below.items ≡ cut (l.name ∷ []) (files_below (take l.file-index l.files))

@@ -1,8 +1,0 @@
-use Rattle.std.proofs.Common.{◌≡◌, max, drop}
-use Rattle.file_maps.specs.Trees.{depth_of}
-use Rattle.file_maps.specs.Below.{files_below}
-use Rattle.file_maps.proofs.below.depth_of.Given as goal
-
-abbrev pub invariant-loop-file : goal.invariant-loop-file
-invariant-loop-file l =
-    max l.deep (depth_of (files_below (drop l.file-index l.files))) ≡ depth_of (files_below l.files)

@@ -1,4 +1,0 @@
-use Rattle.file_maps.proofs.files.Files.copy.Goals as goal
-
-pub returns : goal.returns
-returns g c = c.move_files.ensures

@@ -1,0 +1,9 @@
+pub mod Lists
+pub mod Empty
+pub mod Edited
+pub mod Groups
+pub mod Nested
+pub mod Stored
+pub mod Turns
+pub mod Gathering
+pub mod Grafting

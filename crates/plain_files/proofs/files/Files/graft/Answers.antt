@@ -1,0 +1,65 @@
+use Rattle.std.proofs.Common.{Result, Err, sym, ap, ◌∙◌, subst}
+use Rattle.std.proofs.lemmas.Result.{err_from_is_err_and}
+use Rattle.tenant_tables.specs.Objects.{objects}
+use Rattle.file_maps.specs.declared.fault.Fault.{Fault}
+use Rattle.file_maps.specs.declared.fault.Fault.TheVariants as fault
+use Rattle.file_maps.specs.FileMap.{FileMap, Listed}
+use Rattle.file_maps.specs.Edits.{moved, put_tree_at, put_fault}
+use Rattle.file_maps.specs.Grafts.{Grafts}
+use Rattle.plain_files.specs.Gathers.{Gathers}
+use Rattle.file_maps.proofs.Listing.{tree-apart, tree-sound}
+use Rattle.file_maps.proofs.Standing.{tree-lists, tree-summary}
+use Rattle.plain_files.proofs.Grafting.{too_large, grafts-memory, gathered-below, gathered-apart}
+use Rattle.plain_files.proofs.Grafting.{grafts-put}
+use Rattle.file_maps.proofs.Grafting.{grafts-edits}
+use Rattle.plain_files.proofs.files.Files.graft.Goals as goal
+
+pub returns-then-not-is_small : goal.returns-then-not-is_small
+returns-then-not-is_small g c =
+    let os = objects c.args.pool.now c.args.table.now.entries in
+    let summary = c.in_ok-tree_summary.ensures.tree in
+    let t = tree-lists g.N.Naming.digest_of c.args.pool.now c.args.table.now.entries c.requires.stands c.args.name.now c.in_ok-tree_summary.field-0 summary in
+    let sum = tree-summary g.N.Naming.digest_of c.args.pool.now c.args.table.now.entries c.requires.stands c.args.name.now c.in_ok-tree_summary.field-0 t.0 summary t.1 in
+    let refusal =
+    too_large c.args.path.now c.self.inside.files.entries t.0 c.in_ok-tree_summary.field-0 c.self.invariant
+    (tree-apart os c.args.name.now t.0 t.1) (tree-sound os c.args.name.now t.0 t.1) sum
+    (sym c.is_small.ensures ∙ c.if-not-is_small.true) in
+    grafts-edits os c.args.name.now c.args.path.now c.args.self.now
+    (Err fault.Limit) c.args.self.now t.0 t.1
+    (λ _. (
+      ap
+          (λ (m : FileMap). put_fault (moved c.args.path.now t.0) (put_tree_at m c.args.path.now t.0))
+          (sym c.self.view_is)
+          ∙ refusal,
+      λ i. c.args.self.now,
+    ))
+
+pub returns-in_err-gather : goal.returns-in_err-gather
+returns-in_err-gather g c =
+    let os = objects c.args.pool.now c.args.table.now.entries in
+    let failed = err_from_is_err_and c.from_residual-in_err-gather.result c.from_residual-in_err-gather.ensures.1 in
+    let t = tree-lists g.N.Naming.digest_of c.args.pool.now c.args.table.now.entries c.requires.stands c.args.name.now c.in_ok-tree_summary.field-0 c.in_ok-tree_summary.ensures.tree in
+    subst
+    (λ (r : Result (Unit {0}) Fault). Grafts r os c.args.name.now c.args.path.now c.args.self.now c.args.self.now)
+    (sym (failed.1 ∙ ap (λ (e : Fault). Err e) failed.2))
+    (grafts-memory os c.args.name.now c.args.path.now c.args.self.now c.args.self.now t.0 t.1)
+
+pub replace-requires-clause-below : goal.replace-requires-clause-below
+replace-requires-clause-below g c =
+    let os = objects c.args.pool.now c.args.table.now.entries in
+    gathered-below os c.args.path.now c.args.name.now c.gather.new.files.items
+    (subst (λ (l : Listed). Gathers os c.args.path.now c.args.name.now l c.gather.new.files.items) c.new-files.ensures.items c.in_ok-gather.ensures.gathers)
+    c.in_ok-gather.ensures.paths
+
+pub replace-requires-clause-apart : goal.replace-requires-clause-apart
+replace-requires-clause-apart g c =
+    let os = objects c.args.pool.now c.args.table.now.entries in
+    gathered-apart os c.args.path.now c.args.name.now c.gather.new.files.items
+    (subst (λ (l : Listed). Gathers os c.args.path.now c.args.name.now l c.gather.new.files.items) c.new-files.ensures.items c.in_ok-gather.ensures.gathers)
+
+pub returns : goal.returns
+returns g c =
+    let os = objects c.args.pool.now c.args.table.now.entries in
+    grafts-put os c.args.name.now c.args.path.now c.args.self.now c.replace.new.self c.replace.result c.gather.new.files.items
+    (subst (λ (l : Listed). Gathers os c.args.path.now c.args.name.now l c.gather.new.files.items) c.new-files.ensures.items c.in_ok-gather.ensures.gathers)
+    c.replace.ensures

@@ -1,0 +1,4 @@
+-- In reading order.
+pub mod Below
+pub mod Storable
+pub mod Gathers
