@@ -13,7 +13,7 @@ use Rattle.stream_state.specs.Checkpoints.{by_head, fit}
 use Rattle.import_session.specs.Checkpoints.{checkpointed, saved_refs}
 use Rattle.import_session.specs.Meaning.{after_act}
 use Rattle.stream_state.specs.Tags.{PendingTags}
-use Rattle.stream_state.specs.Said.{said_of}
+use Rattle.stream_state.specs.CommandHeader.{said_of}
 use Rattle.import_session.specs.Workspace.{Workspace, quiet}
 use Rattle.export_text.specs.ExportActs.{saving_acts}
 use Rattle.export_text.specs.ExportItems.{scratch}

@@ -12,14 +12,14 @@ use Rattle.open_commits.specs.OpenCommit.{Header, OpenCommit as Open, begun}
 use Rattle.stream_state.specs.declared.branches.Tip.{Tip}
 use Rattle.stream_state.specs.declared.branches.Tip.TheVariants.{Unborn, Deleted, At}
 use Rattle.stream_state.specs.declared.fault.Fault.{Fault}
-use Rattle.stream_state.specs.declared.said.Said.{Said}
+use Rattle.stream_state.specs.declared.command_header.CommandHeader.{CommandHeader}
 use Rattle.stream_state.specs.Branches.{branch_set, has_branch_room, ref_meant, tip_commit, tip_for, Branches}
 use Rattle.import_session.specs.Commits.{begun_from}
 use Rattle.stream_state.specs.Faults.{and_then}
 use Rattle.import_session.specs.Faults.{changed_or}
 use Rattle.import_session.specs.Meaning.{after_act, placed_by, said_of_commit, said_of_tag, set_by, shown_by, stored_or_shown}
 use Rattle.import_session.specs.Sound.{IsBranch}
-use Rattle.stream_state.specs.Said.{said_of}
+use Rattle.stream_state.specs.CommandHeader.{said_of}
 use Rattle.import_session.specs.Workspace.{Workspace, quiet}
 use Rattle.export_text.specs.ExportActs.{asks, asks_if}
 use Rattle.export_text.specs.ExportItems.{scratch}
@@ -49,10 +49,10 @@ resets digest w alone =
 
 -- ---- the lines before the message
 
-abbrev with_said : Workspace → Said → Workspace
+abbrev with_said : Workspace → CommandHeader → Workspace
 with_said w said = record w { said = Some said }
 
-abbrev said_by : List ℕ → List ℕ → Option (List ℕ) → Said
+abbrev said_by : List ℕ → List ℕ → Option (List ℕ) → CommandHeader
 said_by author committer encoding = record {
   ref_name = scratch;
   author = Some author;
@@ -67,19 +67,19 @@ begins : (digest : List ℕ → List ℕ) (w : Workspace)
 unfolding after_act stored_or_shown shown_by placed_by set_by said_of_tag said_of_commit ref_meant
 begins digest w = refl
 
-authors : (digest : List ℕ → List ℕ) (w : Workspace) (said : Said) (ident : List ℕ)
+authors : (digest : List ℕ → List ℕ) (w : Workspace) (said : CommandHeader) (ident : List ℕ)
     → after_act digest (Author ident) (with_said w said)
     ≡ quiet (with_said w (record said { author = Some ident }))
 unfolding after_act stored_or_shown shown_by placed_by set_by said_of_tag said_of_commit
 authors digest w said ident = refl
 
-committers : (digest : List ℕ → List ℕ) (w : Workspace) (said : Said) (ident : List ℕ)
+committers : (digest : List ℕ → List ℕ) (w : Workspace) (said : CommandHeader) (ident : List ℕ)
     → after_act digest (Committer ident) (with_said w said)
     ≡ quiet (with_said w (record said { committer = Some ident }))
 unfolding after_act stored_or_shown shown_by placed_by set_by said_of_tag said_of_commit
 committers digest w said ident = refl
 
-encodings : (digest : List ℕ → List ℕ) (w : Workspace) (said : Said) (text : List ℕ)
+encodings : (digest : List ℕ → List ℕ) (w : Workspace) (said : CommandHeader) (text : List ℕ)
     → after_act digest (Encoding text) (with_said w said)
     ≡ quiet (with_said w (record said { encoding = Some text }))
 unfolding after_act stored_or_shown shown_by placed_by set_by said_of_tag said_of_commit

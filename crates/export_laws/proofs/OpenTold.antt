@@ -24,7 +24,7 @@ use Rattle.stream_state.specs.declared.branches.Tip.{Tip}
 use Rattle.stream_state.specs.declared.branches.Tip.TheVariants.{Unborn}
 use Rattle.stream_state.specs.Branches.{tip_commit, tip_for}
 use Rattle.import_session.specs.Sound.{IsSound}
-use Rattle.stream_state.specs.Said.{said_of}
+use Rattle.stream_state.specs.CommandHeader.{said_of}
 use Rattle.import_session.specs.Workspace.{Workspace}
 use Rattle.export_text.specs.ExportActs.{asks, asks_if, file_acts, fresh_acts, head_acts_of, number_of, parent_acts}
 use Rattle.export_text.specs.ExportItems.{scratch}

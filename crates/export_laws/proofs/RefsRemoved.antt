@@ -6,10 +6,10 @@ use Rattle.std.proofs.lemmas.Bool.{cases_Bool, false≢true}
 use Rattle.git_model.specs.RefStore.{RefStore, target_of}
 use Rattle.stream_grammar.specs.Names.{Expression}
 use Rattle.stream_state.specs.declared.branches.Tip.TheVariants.{Unborn, Deleted}
-use Rattle.stream_state.specs.declared.said.Said.{Said}
+use Rattle.stream_state.specs.declared.command_header.CommandHeader.{CommandHeader}
 use Rattle.stream_state.specs.Branches.{branch_limit, tip_of, with_branch, Branches}
 use Rattle.stream_state.specs.Tags.{PendingTags}
-use Rattle.stream_state.specs.Said.{said_of}
+use Rattle.stream_state.specs.CommandHeader.{said_of}
 use Rattle.import_session.specs.Workspace.{Workspace}
 use Rattle.export_text.specs.ExportActs.{removal_acts}
 use Rattle.export_laws.specs.Leaving.{Leaves, nothing}
@@ -25,9 +25,9 @@ pub record IsExtra (goal : RefStore) (ref : List ℕ) : Type 0 where
 
 module _ (digest : List ℕ → List ℕ) (saved : Workspace) (goal : RefStore) (tags : PendingTags) where
   -- What the removal of some refs leaves.
-  pub record Removed (refs : List (List ℕ)) (branches : Branches) (said : Option Said) : Type 0 where
+  pub record Removed (refs : List (List ℕ)) (branches : Branches) (said : Option CommandHeader) : Type 0 where
     pub left : Branches
-    pub last : Option Said
+    pub last : Option CommandHeader
     pub leaves : Leaves digest (flat_map removal_acts refs) (state saved branches tags said)
         (state saved left tags last)
     pub agree : Agree goal left tags
@@ -36,7 +36,7 @@ module _ (digest : List ℕ → List ℕ) (saved : Workspace) (goal : RefStore) 
         → tip_of left q ≡ Some Deleted
     pub few : length left ≤ length branches + 2 * length refs
 
-  pub removed : (refs : List (List ℕ)) (branches : Branches) (said : Option Said)
+  pub removed : (refs : List (List ℕ)) (branches : Branches) (said : Option CommandHeader)
       → AllByRecursion (IsExtra goal) refs → length branches + 2 * length refs < branch_limit
       → Agree goal branches tags → Removed refs branches said
   removed [] branches said h few agree = record {

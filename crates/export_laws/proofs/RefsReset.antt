@@ -8,12 +8,12 @@ use Rattle.stream_grammar.specs.Acts.{Reset, ResetTo, Wait}
 use Rattle.stream_grammar.specs.Names.{CommitIsh, Marked, Expression}
 use Rattle.stream_state.specs.declared.branches.Tip.{Tip}
 use Rattle.stream_state.specs.declared.branches.Tip.TheVariants.{Unborn, Deleted, At}
-use Rattle.stream_state.specs.declared.said.Said.{Said}
+use Rattle.stream_state.specs.declared.command_header.CommandHeader.{CommandHeader}
 use Rattle.stream_state.specs.Branches.{branch_limit, has_branch_room, ref_meant, tip_of, with_branch, Branches}
 use Rattle.import_session.specs.Meaning.{after_act, placed_by, set_by, shown_by, stored_or_shown}
 use Rattle.import_session.specs.Resets.{is_zeros, tip_from}
 use Rattle.stream_state.specs.Tags.{PendingTags}
-use Rattle.stream_state.specs.Said.{said_of}
+use Rattle.stream_state.specs.CommandHeader.{said_of}
 use Rattle.import_session.specs.Workspace.{Workspace, quiet}
 use Rattle.stream_state.specs.declared.fault.Fault.{Fault}
 use Rattle.stream_state.specs.Faults.{and_then}
@@ -25,7 +25,7 @@ use Rattle.export_laws.proofs.OpenParents.{IsToldAs, commit-meant}
 use Rattle.export_laws.proofs.RefsBranches.{placed-found, placed-length, twice}
 
 -- What changes while refs are set, of a workspace where all is saved.
-abbrev pub state : Workspace → Branches → PendingTags → Option Said → Workspace
+abbrev pub state : Workspace → Branches → PendingTags → Option CommandHeader → Workspace
 state saved branches tags said =
     record saved { branches = branches; tags = tags; said = said }
 
@@ -74,7 +74,7 @@ unfolding after_act stored_or_shown shown_by placed_by
 places digest w ref to tip is = rw is refl
 
 pub reset-leaves : (digest : List ℕ → List ℕ) (saved : Workspace) (branches : Branches)
-    (tags : PendingTags) (said : Option Said) (ref : List ℕ) (to : CommitIsh) (tip : Tip)
+    (tags : PendingTags) (said : Option CommandHeader) (ref : List ℕ) (to : CommitIsh) (tip : Tip)
     → bytes_eq ref (codes "HEAD") ≡ false → length branches < branch_limit
     → tip_from (state saved (with_branch branches ref Unborn) tags (Some (said_of ref))) ref to ≡ Ok tip
     → Leaves digest (reset_acts ref to) (state saved branches tags said)

@@ -18,11 +18,11 @@ use Rattle.git_model.specs.TagReading.{tag_read}
 use Rattle.tenant_tables.specs.Adding.{store_fault}
 use Rattle.stream_grammar.specs.Names.{Marked}
 use Rattle.stream_state.specs.declared.branches.Tip.TheVariants.{Unborn, Deleted, At}
-use Rattle.stream_state.specs.declared.said.Said.{Said}
+use Rattle.stream_state.specs.declared.command_header.CommandHeader.{CommandHeader}
 use Rattle.stream_state.specs.Branches.{branch_limit, tip_of, with_branch, Branches}
 use Rattle.stream_state.specs.Marks.{marked_name, Marks}
 use Rattle.stream_state.specs.Tags.{tag_limit, PendingTags}
-use Rattle.stream_state.specs.Said.{said_of}
+use Rattle.stream_state.specs.CommandHeader.{said_of}
 use Rattle.import_session.specs.Workspace.{Workspace}
 use Rattle.export_text.specs.ExportActs.{acts_of_ref, number_of, ref_acts, tag_acts}
 use Rattle.export_text.specs.Reached.{tag_ref}
@@ -50,10 +50,10 @@ module _ (digest : List ℕ → List ℕ) (repository : Repository) (good : AreO
 
   -- What the acts of some refs leave.
   pub record AreSet (es : List (List ℕ × List ℕ)) (branches : Branches) (tags : PendingTags)
-      (said : Option Said) : Type 0 where
+      (said : Option CommandHeader) : Type 0 where
     pub left : Branches
     pub waiting : PendingTags
-    pub last : Option Said
+    pub last : Option CommandHeader
     pub leaves : Leaves digest (flat_map (acts_of_ref os) es) (state saved branches tags said)
         (state saved left waiting last)
     pub agree : Agree goal left waiting
@@ -65,7 +65,7 @@ module _ (digest : List ℕ → List ℕ) (repository : Repository) (good : AreO
 
   -- What those of one leave.
   record OneSet (e : List ℕ × List ℕ) (branches : Branches) (tags : PendingTags)
-      (said : Option Said) : Type 0 where
+      (said : Option CommandHeader) : Type 0 where
     left : Branches
     waiting : PendingTags
     leaves : Leaves digest (acts_of_ref os e) (state saved branches tags said)
@@ -86,7 +86,7 @@ module _ (digest : List ℕ → List ℕ) (repository : Repository) (good : AreO
       ∙ ap (λ (x : Kind). ref_acts os ref id x c.bytes) is
 
   module _ (e : List ℕ × List ℕ) (is : IsRef repository e) (branches : Branches) (tags : PendingTags)
-      (said : Option Said) (agree : Agree goal branches tags) where
+      (said : Option CommandHeader) (agree : Agree goal branches tags) where
     -- ---- a commit
 
     module _ (commit : kind_named e.1 os ≡ Some kind.Commit) (few : length branches < branch_limit) where
@@ -245,7 +245,7 @@ module _ (digest : List ℕ → List ℕ) (repository : Repository) (good : AreO
   -- ---- all of them
 
   pub are-set : (es : List (List ℕ × List ℕ)) (branches : Branches) (tags : PendingTags)
-      (said : Option Said) → AllByRecursion (IsRef repository) es
+      (said : Option CommandHeader) → AllByRecursion (IsRef repository) es
       → length branches + 2 * length es < branch_limit → length tags + length es ≤ tag_limit
       → Agree goal branches tags → AreSet es branches tags said
   are-set [] branches tags said h few few_tags agree = record {

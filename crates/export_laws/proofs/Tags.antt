@@ -11,11 +11,11 @@ use Rattle.tenant_tables.specs.Adding.{store_fault}
 use Rattle.stream_grammar.specs.Acts.{BeginTag, StoreTag, TagTarget, Tagger}
 use Rattle.stream_grammar.specs.Commands.{Done}
 use Rattle.stream_grammar.specs.Names.{Marked}
-use Rattle.stream_state.specs.declared.said.Said.{Said}
+use Rattle.stream_state.specs.declared.command_header.CommandHeader.{CommandHeader}
 use Rattle.stream_state.specs.Marks.{marked_name, room_for, with_mark}
 use Rattle.import_session.specs.Meaning.{after_act, placed_by, said_of_tag, set_by, shown_by, stored_or_shown}
 use Rattle.stream_state.specs.Tags.{room_for_tag, tag_limit, tagged_kind}
-use Rattle.stream_state.specs.Said.{said_of}
+use Rattle.stream_state.specs.CommandHeader.{said_of}
 use Rattle.import_session.specs.Workspace.{Workspace, quiet}
 use Rattle.export_text.specs.ExportActs.{asks, asks_if, wait_if}
 use Rattle.export_text.specs.Reached.{tag_ref}
@@ -25,10 +25,10 @@ use Rattle.export_laws.proofs.Blobs.{waits}
 
 -- ---- the lines of a tag
 
-abbrev with_said : Workspace → Said → Workspace
+abbrev with_said : Workspace → CommandHeader → Workspace
 with_said w said = record w { said = Some said }
 
-abbrev said_target : List ℕ → ℕ → Option (List ℕ) → Said
+abbrev said_target : List ℕ → ℕ → Option (List ℕ) → CommandHeader
 said_target ref n tagger = record (said_of ref) { target = Marked n; tagger = tagger }
 
 begins : (digest : List ℕ → List ℕ) (w : Workspace) (ref : List ℕ)

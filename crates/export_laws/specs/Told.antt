@@ -11,7 +11,7 @@ use Rattle.export_text.specs.ExportActs.{acts_of_object, number_of}
 use Rattle.export_text.specs.ExportItems.{scratch}
 use Rattle.export_text.specs.Reached.{is_tag, ref_of_tag}
 use Rattle.stream_state.specs.declared.branches.Tip.{Tip}
-use Rattle.stream_state.specs.declared.said.Said.{Said}
+use Rattle.stream_state.specs.declared.command_header.CommandHeader.{CommandHeader}
 use Rattle.stream_state.specs.Marks.{marked_name, Marks}
 use Rattle.stream_state.specs.Branches.{Branches}
 use Rattle.stream_state.specs.Tags.{PendingTags}
@@ -25,7 +25,7 @@ pub record Told : Type 0 where
   pub marks : Marks
   pub branches : Branches
   pub tags : PendingTags
-  pub said : Option Said
+  pub said : Option CommandHeader
 
 -- The workspace with these parts, in a stream that began with an empty repository: nothing is saved
 -- yet, no commit is open, and refs are updated by force.

@@ -11,7 +11,7 @@ use Rattle.export_text.specs.Export.{export_text}
 use Rattle.export_laws.specs.Copies.{CanBeCopied, IsCopyOf}
 use Rattle.export_laws.specs.Ends.{IsImported as IsWellImported}
 use Rattle.export_laws.proofs.EndImported.{export-imported}
-use Rattle.tenant_service.specs.Holding.{empty_repository}
+use Rattle.tenant_service.specs.TenantState.{empty_repository}
 use Rattle.tenant_service.proofs.ExportLemmas.{EndsWell, export-ends}
 use Rattle.gitpool.specs.declared.import_fault.ImportFault.{ImportFault}
 use Rattle.gitpool.specs.declared.import_fault.ImportFault.TheVariants as fault

@@ -3,7 +3,7 @@ use Rattle.std.proofs.Common.{◌≡◌, ◌≢◌, ℕ, ◌+◌, ◌-◌, ◌^�
 use Rattle.std.proofs.lemmas.List.{length-append}
 use Rattle.std.specs.Io.KnownBytes.{Appends, Consumes, Keeps, IsAtEnd}
 use Rattle.git_model.specs.Repository.{Repository}
-use Rattle.import_session.specs.Stream.{Standing, End as StreamEnd, finished}
+use Rattle.import_session.specs.Stream.{StreamStatus, End as StreamEnd, finished}
 use Rattle.git_objects.specs.Device.{Device, HasRead, counted_on, HasFault, IsWell, AppendsFront}
 use Rattle.git_objects.proofs.KnownBytes.{Appends-nil, Appends-trans, Consumes-nil, HasRead-trans, HasRead-kept}
 use Rattle.service_steps.specs.declared.answer.Answer.{Answer}
@@ -13,7 +13,7 @@ use Rattle.service_steps.proofs.ReadLemmas.{one_well}
 use Rattle.service_steps.proofs.WriteLemmas.{front_of_later}
 use Rattle.tenant_service.specs.Alone.{Open, Feed, End, stream_of}
 use Rattle.tenant_refs.specs.TenantName.{is_tenant_name}
-use Rattle.tenant_service.specs.Holding.{Holdings, empty_repository, held_of}
+use Rattle.tenant_service.specs.TenantState.{TenantStates, empty_repository, held_of}
 use Rattle.tenant_service.specs.HeldObjects.{has_read_done}
 use Rattle.gitpool.specs.declared.import_fault.ImportFault.{ImportFault}
 use Rattle.gitpool.specs.declared.import_fault.ImportFault.TheVariants as fault
@@ -25,7 +25,7 @@ use Rattle.gitpool.proofs.StreamLemmas.{front_of_front, whole_front, stands-so, 
 use Rattle.gitpool.proofs.StepLemmas.{imported-none, fed-none, fed-more, fed-ended, FedAs, fed-front, EndedAs, ended-front}
 
 -- what an import has done so far, by so many reads
-pub record SoFar (digest : List ℕ → List ℕ) (tenant : List ℕ) (repository : Repository) (before now : Holdings) (r0 r w0 w : Device)
+pub record SoFar (digest : List ℕ → List ℕ) (tenant : List ℕ) (repository : Repository) (before now : TenantStates) (r0 r w0 w : Device)
     (count : ℕ) : Type 0 where
   pub bytes : List ℕ
   pub fed : HasFed digest tenant before now false bytes
@@ -54,7 +54,7 @@ gives_piece old new n buf piece is size consumed passed faults called some = rec
 }
 
 -- before the first byte
-pub so_far_new : (digest : List ℕ → List ℕ) (tenant : List ℕ) (repository : Repository) (held : Holdings) (r w : Device)
+pub so_far_new : (digest : List ℕ → List ℕ) (tenant : List ℕ) (repository : Repository) (held : TenantStates) (r w : Device)
     → r.passed ≤ 2 ^ 64 - 1 → IsStreaming digest tenant repository [] held → SoFar digest tenant repository held held r r w w 0
 so_far_new digest tenant repository held r w fits streaming = record {
   bytes = [];
@@ -69,7 +69,7 @@ so_far_new digest tenant repository held r w fits streaming = record {
   well = (refl, refl);
 }
 
-module _ (digest : List ℕ → List ℕ) (tenant : List ℕ) (repository : Repository) (before now : Holdings) (r0 r w0 w : Device) (count : ℕ)
+module _ (digest : List ℕ → List ℕ) (tenant : List ℕ) (repository : Repository) (before now : TenantStates) (r0 r w0 w : Device) (count : ℕ)
     (s : SoFar digest tenant repository before now r0 r w0 w count) where
   -- it asks for more
   asks_so_far : AsksForMore (stream_of digest repository s.bytes).standing
@@ -100,7 +100,7 @@ module _ (digest : List ℕ → List ℕ) (tenant : List ℕ) (repository : Repo
       (front_of_later w0.known w.known w'.known _ (replies_to digest repository s.bytes piece) s.written front)
 
   -- one piece more
-  pub so_far_more : (after : Holdings) (r' w' : Device) (piece : List ℕ) → HasGiven r r' piece
+  pub so_far_more : (after : TenantStates) (r' w' : Device) (piece : List ℕ) → HasGiven r r' piece
       → HasTakenCalls digest tenant now after (Feed piece ∷ []) → Passes digest tenant repository s.bytes piece w after w'
       → has_read_done (held_of tenant after) ≡ false → SoFar digest tenant repository before after r0 r' w0 w' (count + 1)
   so_far_more after r' w' piece gives taken p running = record {
@@ -117,7 +117,7 @@ module _ (digest : List ℕ → List ℕ) (tenant : List ℕ) (repository : Repo
   }
 
   -- `done` was read
-  pub through_done : (after : Holdings) (r' w' : Device) (piece : List ℕ) → count < 2 ^ 32 → HasGiven r r' piece
+  pub through_done : (after : TenantStates) (r' w' : Device) (piece : List ℕ) → count < 2 ^ 32 → HasGiven r r' piece
       → HasTakenCalls digest tenant now after (Feed piece ∷ []) → Passes digest tenant repository s.bytes piece w after w'
       → has_read_done (held_of tenant after) ≡ true → IsReadThrough digest tenant repository before r0 r' w0 after w'
   through_done after r' w' piece few gives taken p done = record {
@@ -148,11 +148,11 @@ module _ (digest : List ℕ → List ℕ) (tenant : List ℕ) (repository : Repo
   }
 
   -- what came of a piece that did not pass
-  refused_piece : (after : Holdings) (r' w' : Device) (piece : List ℕ) (code : ℕ) → count < 2 ^ 32 → HasGiven r r' piece
+  refused_piece : (after : TenantStates) (r' w' : Device) (piece : List ℕ) (code : ℕ) → count < 2 ^ 32 → HasGiven r r' piece
       → HasTakenCalls digest tenant now after (Feed piece ∷ []) → IsRefusedWith digest repository s.bytes piece code w w'
       → IsImported digest repository (Fed digest tenant before after) r0 r' w0 w' (Some code)
   refused_piece after r' w' piece code few gives taken p =
-      let same = ap (λ (x : Standing). finished digest x) p.refused in
+      let same = ap (λ (x : StreamStatus). finished digest x) p.refused in
       record {
         bytes = s.bytes ++ piece;
         effect = fed-more digest tenant before now after s.bytes piece s.fed taken;
@@ -166,7 +166,7 @@ module _ (digest : List ℕ → List ℕ) (tenant : List ℕ) (repository : Repo
         well = (gives.well.well ∙ s.well.0, p.well ∙ s.well.1);
       }
 
-  unwritten : (after : Holdings) (r' w' : Device) (piece : List ℕ) → count < 2 ^ 32 → HasGiven r r' piece
+  unwritten : (after : TenantStates) (r' w' : Device) (piece : List ℕ) → count < 2 ^ 32 → HasGiven r r' piece
       → HasTakenCalls digest tenant now after (Feed piece ∷ [])
       → IsWrittenFront digest repository s.bytes piece w w' × HasFault w.faults w'.faults
       → (g : IsGivenUp digest repository (Fed digest tenant before after) r0 r' w0 w') × (g.at_end ≡ false)
@@ -186,7 +186,7 @@ module _ (digest : List ℕ → List ℕ) (tenant : List ℕ) (repository : Repo
         refl,
       )
 
-  stopped : (after : Holdings) (r' w' : Device) (piece : List ℕ) → count < 2 ^ 32 → HasGiven r r' piece
+  stopped : (after : TenantStates) (r' w' : Device) (piece : List ℕ) → count < 2 ^ 32 → HasGiven r r' piece
       → HasTakenCalls digest tenant now after (Feed piece ∷ [])
       → IsWrittenFront digest repository s.bytes piece w w' × IsWell w w'
       → IsStopped digest repository (Fed digest tenant before after) r0 r' w0 w'
@@ -201,7 +201,7 @@ module _ (digest : List ℕ → List ℕ) (tenant : List ℕ) (repository : Repo
     well = (gives.well.well ∙ s.well.0, f.1 ∙ s.well.1);
   }
 
-  pub imported_piece : (after : Holdings) (r' w' : Device) (piece : List ℕ) (e : ImportFault) → count < 2 ^ 32 → HasGiven r r' piece
+  pub imported_piece : (after : TenantStates) (r' w' : Device) (piece : List ℕ) (e : ImportFault) → count < 2 ^ 32 → HasGiven r r' piece
       → HasTakenCalls digest tenant now after (Feed piece ∷ [])
       → PassesOn digest tenant repository s.bytes piece w (Err e) after w'
       → ReadsAll digest tenant repository before r0 r' w0 (Err e) after w'
@@ -246,7 +246,7 @@ module _ (digest : List ℕ → List ℕ) (tenant : List ℕ) (repository : Repo
 -- ---- a piece, once its replies were written
 
 pub passes_on : (digest : List ℕ → List ℕ) (tenant : List ℕ) (repository : Repository) (bytes piece : List ℕ) (w w' : Device) (a : Answer)
-    (out : List ℕ) (before after : Holdings) → IsStreaming digest tenant repository bytes before
+    (out : List ℕ) (before after : TenantStates) → IsStreaming digest tenant repository bytes before
     → FedAs digest repository bytes piece a out (held_of tenant after) → Appends w.known w'.known out → IsWell w w'
     → PassesOn digest tenant repository bytes piece w (as_import a) after w'
 passes_on digest tenant repository bytes piece w w' answer.Ok out before after streaming f written well = record {
@@ -264,7 +264,7 @@ passes_on digest tenant repository bytes piece w w' (answer.Memory count) out be
     (whole_front w.known w'.known out _ written f, well)
 
 pub pass_fails : (digest : List ℕ → List ℕ) (tenant : List ℕ) (repository : Repository) (bytes piece : List ℕ) (w w' : Device) (a : Answer)
-    (out : List ℕ) (after : Holdings)
+    (out : List ℕ) (after : TenantStates)
     → FedAs digest repository bytes piece a out (held_of tenant after) → AppendsFront w.known w'.known out → HasFault w.faults w'.faults
     → PassesOn digest tenant repository bytes piece w (Err fault.Device) after w'
 pass_fails digest tenant repository bytes piece w w' a out after f front failed =
@@ -296,7 +296,7 @@ end_fails digest repository bytes w w' a out e front failed =
 
 -- ---- all of it
 
-module _ (digest : List ℕ → List ℕ) (tenant : List ℕ) (repository : Repository) (before between after : Holdings) (r0 r w0 w w' : Device)
+module _ (digest : List ℕ → List ℕ) (tenant : List ℕ) (repository : Repository) (before between after : TenantStates) (r0 r w0 w w' : Device)
     (s : IsReadThrough digest tenant repository before r0 r w0 between w) (taken : HasTakenCalls digest tenant between after (End ∷ [])) where
   fed_and_ended : HasFed digest tenant before after true s.bytes
   fed_and_ended = fed-ended digest tenant before between after s.bytes s.fed taken
@@ -352,7 +352,7 @@ module _ (digest : List ℕ → List ℕ) (tenant : List ℕ) (repository : Repo
   }
 
 -- a device failed before the end
-pub given_up : (digest : List ℕ → List ℕ) (tenant : List ℕ) (repository : Repository) (before after : Holdings) (r r' w w' : Device)
+pub given_up : (digest : List ℕ → List ℕ) (tenant : List ℕ) (repository : Repository) (before after : TenantStates) (r r' w w' : Device)
     → ReadsAll digest tenant repository before r r' w (Err fault.Device) after w'
     → ImportsInto digest repository (HasFed digest tenant before after) r r' w w' (Err fault.Device)
 given_up digest tenant repository before after r r' w w' g = record {
@@ -416,20 +416,20 @@ imports-effect digest repository D E r r' w w' (Err fault.Device) so i = record 
 imports-effect digest repository D E r r' w w' (Err fault.Memory) so i = stopped-effect digest repository D E r r' w w' so i
 
 -- what is done after a fault
-pub gives_up : (digest : List ℕ → List ℕ) (tenant : List ℕ) (before after : Holdings) (e : ImportFault) → (e ≡ fault.Device → ⊥)
+pub gives_up : (digest : List ℕ → List ℕ) (tenant : List ℕ) (before after : TenantStates) (e : ImportFault) → (e ≡ fault.Device → ⊥)
     → HasTakenCalls digest tenant before after (End ∷ []) → GivesUp digest tenant before after e
 gives_up digest tenant before after (fault.Stream code) other taken = taken
 gives_up digest tenant before after fault.Device other taken = absurd (other refl)
 gives_up digest tenant before after fault.Memory other taken = taken
 
-pub given_up_by : (digest : List ℕ → List ℕ) (tenant : List ℕ) (repository : Repository) (before between after : Holdings) (r r' w w' : Device)
+pub given_up_by : (digest : List ℕ → List ℕ) (tenant : List ℕ) (repository : Repository) (before between after : TenantStates) (r r' w w' : Device)
     (e : ImportFault) → ReadsAll digest tenant repository before r r' w (Err e) between w' → GivesUp digest tenant between after e
     → ImportsInto digest repository (HasFed digest tenant before after) r r' w w' (Err e)
 given_up_by digest tenant repository before between after r r' w w' (fault.Stream code) i taken =
     imported-effect digest repository (Fed digest tenant before between) (HasFed digest tenant before after) r r' w w' (Some code)
     (λ bytes fed. fed-ended digest tenant before between after bytes fed taken) i
 given_up_by digest tenant repository before between after r r' w w' fault.Device i same =
-    subst (λ (h : Holdings). ImportsInto digest repository (HasFed digest tenant before h) r r' w w' (Err fault.Device)) (sym same)
+    subst (λ (h : TenantStates). ImportsInto digest repository (HasFed digest tenant before h) r r' w w' (Err fault.Device)) (sym same)
     (given_up digest tenant repository before between r r' w w' i)
 given_up_by digest tenant repository before between after r r' w w' fault.Memory i taken = record {
   bytes = i.bytes;
@@ -468,7 +468,7 @@ ok-not-fault a code ok fault =
     let none : answer.Ok ≡ answer.Fault code = sym ok ∙ fault in cc none
 
 -- it ran out of memory, since no number refuses it
-pub open_fails : (digest : List ℕ → List ℕ) (tenant : List ℕ) (repository : Repository) (before after : Holdings) (r w : Device) (a : Answer)
+pub open_fails : (digest : List ℕ → List ℕ) (tenant : List ℕ) (repository : Repository) (before after : TenantStates) (r w : Device) (a : Answer)
     (e : ImportFault) → r.passed ≤ 2 ^ 64 - 1 → Err e ≡ as_import a → ((code : ℕ) → a ≡ answer.Fault code → ⊥)
     → HasTakenCalls digest tenant before after (Open ∷ [])
     → ImportsInto digest repository (HasImported digest tenant before after) r r w w (Err e)
@@ -485,8 +485,8 @@ one-is-good : is_tenant_name (codes "one") ≡ true
 unfolding is_tenant_name
 one-is-good = refl
 
-pub new-can-open : (tenant : List ℕ) (all : Holdings) → all ≡ [] → tenant ≡ codes "one" → CanOpen tenant all empty_repository
+pub new-can-open : (tenant : List ℕ) (all : TenantStates) → all ≡ [] → tenant ≡ codes "one" → CanOpen tenant all empty_repository
 new-can-open tenant all none named = (
   ap is_tenant_name named ∙ one-is-good,
-  ap (λ (hs : Holdings). held_of tenant hs) none,
+  ap (λ (hs : TenantStates). held_of tenant hs) none,
 )

@@ -3,3 +3,4 @@ mod StreamLemmas
 mod StepLemmas
 pub mod ImportLemmas
 mod ExportLemmas
+mod AskLemmas

@@ -15,16 +15,16 @@ use Rattle.service_steps.specs.Reading.{HasReadWell, ReadsStep}
 use Rattle.service_steps.proofs.ReadLemmas.{well_none, well_more}
 use Rattle.service_steps.proofs.FrameLemmas.{none_read}
 use Rattle.service_steps.proofs.WriteLemmas.{front_of_later}
-use Rattle.tenant_service.specs.Headline.{Told, told_in, Run, IsItsOwn, IsRefused}
-use Rattle.tenant_service.specs.Holding.{Holdings, held_of}
+use Rattle.tenant_service.specs.Headline.{Told, told_in, Run, IsIsolated, IsRefused}
+use Rattle.tenant_service.specs.TenantState.{TenantStates, held_of}
 use Rattle.gitpool.specs.Serving.{steps_text, answers_text, Served, AreAnswered, Serves}
 use Rattle.tenant_service.proofs.AccountLemmas.{all_whole}
 use Rattle.tenant_service.proofs.RunLemmas.{own-more, own-none}
 
 -- So many frames were read and answered, and nothing else was read.
-pub record SoFar (digest : List ℕ → List ℕ) (before after : Holdings) (r0 r w0 w : Device) (count : ℕ) : Type 0 where
+pub record SoFar (digest : List ℕ → List ℕ) (before after : TenantStates) (r0 r w0 w : Device) (count : ℕ) : Type 0 where
   pub run : Run
-  pub own : (tenant : List ℕ) → IsItsOwn digest tenant (held_of tenant before) run (held_of tenant after)
+  pub own : (tenant : List ℕ) → IsIsolated digest tenant (held_of tenant before) run (held_of tenant after)
   pub bad_names : AllByRecursion IsRefused run
   pub good : AllByRecursion (λ taken. IsGood (frame_of taken.0)) run
   pub read : HasReadWell r0 r (steps_text run)
@@ -32,7 +32,7 @@ pub record SoFar (digest : List ℕ → List ℕ) (before after : Holdings) (r0 
   pub well : IsWell w0 w
   pub as_many : length run ≡ count
 
-pub so_far_new : (digest : List ℕ → List ℕ) (held : Holdings) (r w : Device) → r.passed < 2 ^ 64 → SoFar digest held held r r w w 0
+pub so_far_new : (digest : List ℕ → List ℕ) (held : TenantStates) (r w : Device) → r.passed < 2 ^ 64 → SoFar digest held held r r w w 0
 so_far_new digest held r w fits = record {
   run = [];
   own = λ tenant. own-none digest tenant (held_of tenant held);
@@ -48,7 +48,7 @@ pub within : (run : Run) (count : ℕ) → length run ≡ count → count < 2 ^ 
 within run count as_many few = omega (arith, as_many, few)
 
 -- What was read after the frames.
-abbrev pub served_after : (digest : List ℕ → List ℕ) (before after : Holdings) (r0 r w0 w : Device) (count : ℕ)
+abbrev pub served_after : (digest : List ℕ → List ℕ) (before after : TenantStates) (r0 r w0 w : Device) (count : ℕ)
     → SoFar digest before after r0 r w0 w count → count < 2 ^ 32 → (r' : Device) (rest : List ℕ) → HasRead r r' rest
     → Served digest before after r0 r'
 served_after digest before after r0 r w0 w count s few r' rest read = record {
@@ -65,12 +65,12 @@ whole_front : (a b : Option (List ℕ)) (bytes : List ℕ) → Appends a b bytes
 whole_front a b bytes appends = record { front = bytes; rest = []; parts = sym (append-nil bytes); appends = appends }
 
 -- All answers stand written where the reader stayed well.
-answered : (digest : List ℕ → List ℕ) (before after : Holdings) (r0 r w0 w : Device) (count : ℕ) (r' : Device)
+answered : (digest : List ℕ → List ℕ) (before after : TenantStates) (r0 r w0 w : Device) (count : ℕ) (r' : Device)
     (s : SoFar digest before after r0 r w0 w count) → IsWell r r' → AreAnswered r0 r' w0 w s.run
 answered digest before after r0 r w0 w count r' s well = (s.written, (well ∙ s.read.well, s.well))
 
 -- No further step was read.
-pub ends_at : (digest : List ℕ → List ℕ) (before after : Holdings) (r0 r w0 w : Device) (count : ℕ) (r' : Device)
+pub ends_at : (digest : List ℕ → List ℕ) (before after : TenantStates) (r0 r w0 w : Device) (count : ℕ) (r' : Device)
     → SoFar digest before after r0 r w0 w count → count < 2 ^ 32 → ReadsStep r (Ok None) r' → Serves digest before after r0 r' w0 w (Ok tt)
 ends_at digest before after r0 r w0 w count r' s few read = (
   served_after digest before after r0 r w0 w count s few r' [] read.read.read,
@@ -79,7 +79,7 @@ ends_at digest before after r0 r w0 w count r' s few read = (
   answered digest before after r0 r w0 w count r' s read.read.well,
 )
 
-pub fails_at : (digest : List ℕ → List ℕ) (before after : Holdings) (r0 r w0 w : Device) (count : ℕ) (r' : Device) (e : FrameFault)
+pub fails_at : (digest : List ℕ → List ℕ) (before after : TenantStates) (r0 r w0 w : Device) (count : ℕ) (r' : Device) (e : FrameFault)
     → SoFar digest before after r0 r w0 w count → count < 2 ^ 32 → ReadsStep r (Err e) r' → Serves digest before after r0 r' w0 w (Err e)
 fails_at digest before after r0 r w0 w count r' fault.BadFrame s few read = (
   served_after digest before after r0 r w0 w count s few r' read.0 read.2.read,
@@ -109,16 +109,16 @@ more_text : (text : Step × Told → List ℕ) (run : Run) (one : Step × Told) 
 more_text text run one = flat_map-append text run (one ∷ []) ∙ ap (λ (l : List ℕ). flat_map text run ++ l) (append-nil (text one))
 
 -- A step was read and taken: the run so far with it.
-pub record Taken (digest : List ℕ → List ℕ) (before after : Holdings) (r0 r : Device) (run : Run) (told : Told) : Type 0 where
+pub record Taken (digest : List ℕ → List ℕ) (before after : TenantStates) (r0 r : Device) (run : Run) (told : Told) : Type 0 where
   pub step : Step
-  pub own : (tenant : List ℕ) → IsItsOwn digest tenant (held_of tenant before) (run ++ (step, told) ∷ []) (held_of tenant after)
+  pub own : (tenant : List ℕ) → IsIsolated digest tenant (held_of tenant before) (run ++ (step, told) ∷ []) (held_of tenant after)
   pub bad_names : AllByRecursion IsRefused (run ++ (step, told) ∷ [])
   pub good : AllByRecursion (λ taken. IsGood (frame_of taken.0)) (run ++ (step, told) ∷ [])
   pub read : HasReadWell r0 r (steps_text (run ++ (step, told) ∷ []))
 
-taken : (digest : List ℕ → List ℕ) (before between after : Holdings) (r0 r w0 w : Device) (count : ℕ) (r' : Device) (step : Step)
+taken : (digest : List ℕ → List ℕ) (before between after : TenantStates) (r0 r w0 w : Device) (count : ℕ) (r' : Device) (step : Step)
     (told : Told) (s : SoFar digest before between r0 r w0 w count) → ReadsStep r (Ok (Some step)) r'
-    → ((tenant : List ℕ) → IsItsOwn digest tenant (held_of tenant between) ((step, told) ∷ []) (held_of tenant after))
+    → ((tenant : List ℕ) → IsIsolated digest tenant (held_of tenant between) ((step, told) ∷ []) (held_of tenant after))
     → IsRefused (step, told) → Taken digest before after r0 r' s.run told
 taken digest before between after r0 r w0 w count r' step told s read own bad = record {
   step = step;
@@ -134,18 +134,18 @@ taken digest before between after r0 r w0 w count r' step told s read own bad = 
 abbrev pub told_whole : Answer → List ℕ → Told
 told_whole answer out = record { answer = answer; reply = out }
 
-pub taken_by : (digest : List ℕ → List ℕ) (before between after : Holdings) (r0 r w0 w : Device) (count : ℕ) (r' : Device) (step : Step)
+pub taken_by : (digest : List ℕ → List ℕ) (before between after : TenantStates) (r0 r w0 w : Device) (count : ℕ) (r' : Device) (step : Step)
     (answer : Answer) (out out' : List ℕ) (s : SoFar digest before between r0 r w0 w count) → ReadsStep r (Ok (Some step)) r' → out ≡ []
-    → ((tenant : List ℕ) → IsItsOwn digest tenant (held_of tenant between) ((step, told_in answer out out') ∷ []) (held_of tenant after))
+    → ((tenant : List ℕ) → IsIsolated digest tenant (held_of tenant between) ((step, told_in answer out out') ∷ []) (held_of tenant after))
     → IsRefused (step, told_in answer out out') → Taken digest before after r0 r' s.run (told_whole answer out')
 taken_by digest before between after r0 r w0 w count r' step answer out out' s read none own bad =
     let says : told_in answer out out' ≡ told_whole answer out' = ap (λ (l : List ℕ). told_in answer l out') none in
     taken digest before between after r0 r w0 w count r' step (told_whole answer out') s read
-    (λ tenant. subst (λ (told : Told). IsItsOwn digest tenant (held_of tenant between) ((step, told) ∷ []) (held_of tenant after)) says (own tenant))
+    (λ tenant. subst (λ (told : Told). IsIsolated digest tenant (held_of tenant between) ((step, told) ∷ []) (held_of tenant after)) says (own tenant))
     (subst (λ (told : Told). IsRefused (step, told)) says bad)
 
 -- Its answer was written.
-pub so_far_more : (digest : List ℕ → List ℕ) (before between after : Holdings) (r0 r w0 w : Device) (count : ℕ) (r' w' : Device)
+pub so_far_more : (digest : List ℕ → List ℕ) (before between after : TenantStates) (r0 r w0 w : Device) (count : ℕ) (r' w' : Device)
     (told : Told) (s : SoFar digest before between r0 r w0 w count) → Taken digest before after r0 r' s.run told
     → Appends w.known w'.known (answer_text told.answer told.reply) → IsWell w w'
     → SoFar digest before after r0 r' w0 w' (count + 1)
@@ -163,7 +163,7 @@ so_far_more digest before between after r0 r w0 w count r' w' told s t written w
 }
 
 -- It was not.
-pub write_fails : (digest : List ℕ → List ℕ) (before between after : Holdings) (r0 r w0 w : Device) (count : ℕ) (r' w' : Device)
+pub write_fails : (digest : List ℕ → List ℕ) (before between after : TenantStates) (r0 r w0 w : Device) (count : ℕ) (r' w' : Device)
     (told : Told) (s : SoFar digest before between r0 r w0 w count) → count < 2 ^ 32 → Taken digest before after r0 r' s.run told
     → AppendsFront w.known w'.known (answer_text told.answer told.reply) → HasFault w.faults w'.faults
     → Serves digest before after r0 r' w0 w' (Err fault.Device)
@@ -189,7 +189,7 @@ write_fails digest before between after r0 r w0 w count r' w' told s few t front
     )
 
 -- As many frames were taken as one serving takes.
-pub limit_reached : (digest : List ℕ → List ℕ) (before after : Holdings) (r0 r w0 w : Device) (count : ℕ)
+pub limit_reached : (digest : List ℕ → List ℕ) (before after : TenantStates) (r0 r w0 w : Device) (count : ℕ)
     → SoFar digest before after r0 r w0 w count → count ≡ 2 ^ 32 → Serves digest before after r0 r w0 w (Err fault.Device)
 limit_reached digest before after r0 r w0 w count s all = (
   record {

@@ -1,5 +1,5 @@
 -- Steps of one tenant: which calls a run is of, what each is told, and what it leaves.
-use Rattle.std.proofs.Common.{◌≡◌, ℕ, zero, suc, Bool, true, false, ◌&&◌, not, cond, List, [], ◌∷◌, ◌++◌, map, Option, None, Some, Ok, refl, sym, ap, subst, ◌∙◌, append-nil}
+use Rattle.std.proofs.Common.{◌≡◌, ℕ, zero, suc, Bool, true, false, ◌&&◌, not, cond, List, [], ◌∷◌, ◌++◌, map, Option, None, Some, refl, sym, ap, subst, ◌∙◌, append-nil}
 use Rattle.std.proofs.lemmas.List.{map-append}
 use Rattle.std.proofs.lemmas.Grind.{flat_map-append}
 use Rattle.std.proofs.lemmas.Slice.Eq.{bytes_eq-Decides}
@@ -7,16 +7,16 @@ use Rattle.std.specs.List.{flat_map}
 use Rattle.std.specs.Str.{bytes_eq}
 use Rattle.git_model.specs.Repository.{Repository}
 use Rattle.stream_lex.specs.Items.{Tail}
-use Rattle.import_session.specs.Stream.{Running, Standing, Runs, Refused, End as StreamEnd, finished, last_checkpoint}
+use Rattle.import_session.specs.Stream.{Running, StreamStatus, Runs, Refused, End as StreamEnd, finished, last_checkpoint}
 use Rattle.service_steps.specs.declared.answer.Answer.{Answer}
 use Rattle.service_steps.specs.declared.answer.Answer.TheVariants as answer
 use Rattle.service_steps.specs.declared.step.Step.{Step}
 use Rattle.service_steps.specs.declared.step.Step.TheVariants as step
 use Rattle.tenant_refs.specs.TenantName.{is_tenant_name}
 use Rattle.tenant_service.specs.Alone.{Call, Open, Feed, End, State, Closed, Streaming, Dead, Turn, Stopped, run_alone, open_alone, fed_by, fed_until, fed_well, feed_stop, stream_of, added, ended, ended_well, end_answer, unless_out_of_memory}
-use Rattle.tenant_service.specs.Headline.{Told, told_in, IsItsOwn, IsRefused, has_bad_name, concerns, call_of, stop_told, part_of, steps_of, told_by, told_alone, left_alone}
+use Rattle.tenant_service.specs.Headline.{Told, told_in, IsIsolated, IsRefused, has_bad_name, concerns, call_of, stop_told, part_of, steps_of, told_by, told_alone, left_alone}
 use Rattle.tenant_service.specs.StepName.{name_of}
-use Rattle.tenant_service.specs.Holding.{Holding, Idle, Busy, Holdings, LeadsTo, held_of}
+use Rattle.tenant_service.specs.TenantState.{TenantState, Idle, Busy, TenantStates, LeadsTo, held_of}
 use Rattle.tenant_service.proofs.AccountLemmas.{all_whole}
 use Rattle.tenant_service.proofs.RunLemmas.{own-more, own-none}
 use Rattle.gitpool.specs.Import.{end_in}
@@ -25,9 +25,9 @@ use Rattle.gitpool.proofs.StreamLemmas.{IsFront, Stands, stands-so, front-whole,
 
 -- ---- which calls
 
-pub calls-one : (digest : List ℕ → List ℕ) (tenant : List ℕ) (before after : Holdings) (s : Step) (told : Told) (call : Call)
+pub calls-one : (digest : List ℕ → List ℕ) (tenant : List ℕ) (before after : TenantStates) (s : Step) (told : Told) (call : Call)
     → name_of s ≡ tenant → call_of s ≡ call
-    → ((name : List ℕ) → IsItsOwn digest name (held_of name before) ((s, told) ∷ []) (held_of name after))
+    → ((name : List ℕ) → IsIsolated digest name (held_of name before) ((s, told) ∷ []) (held_of name after))
     → HasTakenCalls digest tenant before after (call ∷ [])
 calls-one digest tenant before after s told call named is own = record {
   run = (s, told) ∷ [];
@@ -35,7 +35,7 @@ calls-one digest tenant before after s told call named is own = record {
   own = own;
 }
 
-pub calls-more : (digest : List ℕ → List ℕ) (tenant : List ℕ) (before between after : Holdings) (first later : List Call)
+pub calls-more : (digest : List ℕ → List ℕ) (tenant : List ℕ) (before between after : TenantStates) (first later : List Call)
     → HasTakenCalls digest tenant before between first → HasTakenCalls digest tenant between after later
     → HasTakenCalls digest tenant before after (first ++ later)
 calls-more digest tenant before between after first later f l = record {
@@ -49,7 +49,7 @@ calls-more digest tenant before between after first later f l = record {
   own = λ name. own-more digest name (held_of name before) (held_of name between) (held_of name after) f.run l.run (f.own name) (l.own name);
 }
 
-pub fed-none : (digest : List ℕ → List ℕ) (tenant : List ℕ) (held : Holdings) → HasFed digest tenant held held false []
+pub fed-none : (digest : List ℕ → List ℕ) (tenant : List ℕ) (held : TenantStates) → HasFed digest tenant held held false []
 fed-none digest tenant held = record {
   pieces = [];
   parts = refl;
@@ -60,7 +60,7 @@ fed-none digest tenant held = record {
   };
 }
 
-pub fed-more : (digest : List ℕ → List ℕ) (tenant : List ℕ) (before between after : Holdings) (bytes piece : List ℕ)
+pub fed-more : (digest : List ℕ → List ℕ) (tenant : List ℕ) (before between after : TenantStates) (bytes piece : List ℕ)
     → HasFed digest tenant before between false bytes → HasTakenCalls digest tenant between after (Feed piece ∷ [])
     → HasFed digest tenant before after false (bytes ++ piece)
 fed-more digest tenant before between after bytes piece f more = record {
@@ -75,7 +75,7 @@ fed-more digest tenant before between after bytes piece f more = record {
       (calls-more digest tenant before between after (stream_calls f.pieces false) (Feed piece ∷ []) f.taken more);
 }
 
-pub fed-ended : (digest : List ℕ → List ℕ) (tenant : List ℕ) (before between after : Holdings) (bytes : List ℕ)
+pub fed-ended : (digest : List ℕ → List ℕ) (tenant : List ℕ) (before between after : TenantStates) (bytes : List ℕ)
     → HasFed digest tenant before between false bytes → HasTakenCalls digest tenant between after (End ∷ [])
     → HasFed digest tenant before after true bytes
 fed-ended digest tenant before between after bytes f more = record {
@@ -86,7 +86,7 @@ fed-ended digest tenant before between after bytes f more = record {
       (calls-more digest tenant before between after (stream_calls f.pieces false) (End ∷ []) f.taken more);
 }
 
-pub imported-so : (digest : List ℕ → List ℕ) (tenant : List ℕ) (before between after : Holdings) (ended : Bool) (bytes : List ℕ)
+pub imported-so : (digest : List ℕ → List ℕ) (tenant : List ℕ) (before between after : TenantStates) (ended : Bool) (bytes : List ℕ)
     → HasTakenCalls digest tenant before between (Open ∷ []) → HasFed digest tenant between after ended bytes
     → HasImported digest tenant before after ended bytes
 imported-so digest tenant before between after ended bytes opened f = record {
@@ -96,7 +96,7 @@ imported-so digest tenant before between after ended bytes opened f = record {
 }
 
 -- the Open was refused
-pub imported-none : (digest : List ℕ → List ℕ) (tenant : List ℕ) (before after : Holdings)
+pub imported-none : (digest : List ℕ → List ℕ) (tenant : List ℕ) (before after : TenantStates)
     → HasTakenCalls digest tenant before after (Open ∷ []) → HasImported digest tenant before after false []
 imported-none digest tenant before after opened = record { pieces = []; parts = refl; taken = opened }
 
@@ -116,12 +116,12 @@ concerned tenant (step.Ask given query) named good = named-here given.now tenant
 concerned tenant step.Restart named good = refl
 
 -- a step was told what it is told in a repository of its own
-pub record IsToldAlone (digest : List ℕ → List ℕ) (call : Call) (state : State) (told : Told) (after : Holding) : Type 0 where
+pub record IsToldAlone (digest : List ℕ → List ℕ) (call : Call) (state : State) (told : Told) (after : TenantState) : Type 0 where
   pub says : told ≡ told_by (run_alone digest call (stop_told told.answer) state)
   pub left : LeadsTo digest (run_alone digest call (stop_told told.answer) state).state after
 
-pub told-alone : (digest : List ℕ → List ℕ) (tenant : List ℕ) (s : Step) (told : Told) (state : State) (before after : Holding)
-    → is_tenant_name tenant ≡ true → name_of s ≡ tenant → IsItsOwn digest tenant before ((s, told) ∷ []) after
+pub told-alone : (digest : List ℕ → List ℕ) (tenant : List ℕ) (s : Step) (told : Told) (state : State) (before after : TenantState)
+    → is_tenant_name tenant ≡ true → name_of s ≡ tenant → IsIsolated digest tenant before ((s, told) ∷ []) after
     → LeadsTo digest state before → IsToldAlone digest (call_of s) state told after
 unfolding told_alone left_alone
 told-alone digest tenant s told state before after good named own leads = record {
@@ -142,9 +142,9 @@ told-alone digest tenant s told state before after good named own leads = record
     both = sym (ap (map (λ (x : Step × Told). x.1)) part) ∙ own.told state leads ∙ ap (told_alone digest state) steps
 
 -- a call that began with no bytes
-pub called-alone : (digest : List ℕ → List ℕ) (tenant : List ℕ) (s : Step) (call : Call) (a : Answer) (out out' : List ℕ) (before after : Holdings)
+pub called-alone : (digest : List ℕ → List ℕ) (tenant : List ℕ) (s : Step) (call : Call) (a : Answer) (out out' : List ℕ) (before after : TenantStates)
     (state : State) → name_of s ≡ tenant → call_of s ≡ call → out ≡ []
-    → ((name : List ℕ) → IsItsOwn digest name (held_of name before) ((s, told_in a out out') ∷ []) (held_of name after))
+    → ((name : List ℕ) → IsIsolated digest name (held_of name before) ((s, told_in a out out') ∷ []) (held_of name after))
     → is_tenant_name tenant ≡ true → LeadsTo digest state (held_of tenant before)
     → IsToldAlone digest call state (record { answer = a; reply = out' }) (held_of tenant after)
 called-alone digest tenant s call a out out' before after state named is none own good leads =
@@ -155,7 +155,7 @@ called-alone digest tenant s call a out out' before after state named is none ow
 -- ---- Open
 
 -- it was opened
-pub opened-so : (digest : List ℕ → List ℕ) (repository : Repository) (told : Told) (after : Holding)
+pub opened-so : (digest : List ℕ → List ℕ) (repository : Repository) (told : Told) (after : TenantState)
     → told.answer ≡ answer.Ok → IsToldAlone digest Open (Closed repository) told after
     → LeadsTo digest (Streaming repository []) after
 opened-so digest repository told after ok t =
@@ -169,7 +169,7 @@ open-reply stop (Streaming r bytes) = refl
 open-reply stop (Dead code r) = refl
 
 -- no number refuses it where there is no stream
-pub open-unrefused : (digest : List ℕ → List ℕ) (repository : Repository) (told : Told) (after : Holding) (code : ℕ)
+pub open-unrefused : (digest : List ℕ → List ℕ) (repository : Repository) (told : Told) (after : TenantState) (code : ℕ)
     → told.answer ≡ answer.Fault code → IsToldAlone digest Open (Closed repository) told after → ⊥
 open-unrefused digest repository told after code is t =
     let says : answer.Fault code ≡ answer.Ok = sym is ∙ ap (λ (x : Told). x.answer) t.says
@@ -177,21 +177,21 @@ open-unrefused digest repository told after code is t =
     cc says
 
 -- a bad name, or a stream that is there
-busy-refused : (digest : List ℕ → List ℕ) (state : State) (standing : Standing) (stop : Option ℕ)
+busy-refused : (digest : List ℕ → List ℕ) (state : State) (standing : StreamStatus) (stop : Option ℕ)
     → LeadsTo digest state (Busy standing) → (open_alone stop state).answer ≡ answer.Fault 31
 busy-refused digest (Closed r) standing stop leads = absurd leads
 busy-refused digest (Streaming r bytes) standing stop leads = refl
 busy-refused digest (Dead code r) standing stop leads = refl
 
-pub open-refused : (digest : List ℕ → List ℕ) (tenant : List ℕ) (before : Holdings) (after : Holding) (s : Step) (told : Told) (state : State)
+pub open-refused : (digest : List ℕ → List ℕ) (tenant : List ℕ) (before : TenantStates) (after : TenantState) (s : Step) (told : Told) (state : State)
     (code : ℕ)
     → name_of s ≡ tenant → call_of s ≡ Open → has_bad_name s ≡ not (is_tenant_name tenant)
-    → IsItsOwn digest tenant (held_of tenant before) ((s, told) ∷ []) after → IsRefused (s, told)
+    → IsIsolated digest tenant (held_of tenant before) ((s, told) ∷ []) after → IsRefused (s, told)
     → LeadsTo digest state (held_of tenant before) → open_refusal tenant before ≡ Some code → told.answer ≡ answer.Fault code
 open-refused digest tenant before after s told state code named is bad own refused leads refusal =
     by (is_tenant_name tenant) refl
   where
-    of : (h : Holding) → held_of tenant before ≡ h → is_tenant_name tenant ≡ true → stream_refusal h ≡ Some code → told.answer ≡ answer.Fault code
+    of : (h : TenantState) → held_of tenant before ≡ h → is_tenant_name tenant ≡ true → stream_refusal h ≡ Some code → told.answer ≡ answer.Fault code
     of (Idle r) held good e = cc e
     of (Busy standing) held good e =
         let t = told-alone digest tenant s told state (held_of tenant before) after good named own leads in
@@ -214,7 +214,7 @@ open-refused digest tenant before after s told state code named is bad own refus
 -- ---- Feed
 
 -- what came of a piece: the replies to it were told, or a front of them where memory ran out
-abbrev pub FedAs : (List ℕ → List ℕ) → Repository → List ℕ → List ℕ → Answer → List ℕ → Holding → Type 0
+abbrev pub FedAs : (List ℕ → List ℕ) → Repository → List ℕ → List ℕ → Answer → List ℕ → TenantState → Type 0
 FedAs digest repository bytes piece answer.Ok out after =
     LeadsTo digest (Streaming repository (bytes ++ piece)) after × (out ≡ replies_to digest repository bytes piece)
 FedAs digest repository bytes piece (answer.Fault code) out after =
@@ -222,20 +222,20 @@ FedAs digest repository bytes piece (answer.Fault code) out after =
     × (out ≡ replies_to digest repository bytes piece)
 FedAs digest repository bytes piece (answer.Memory count) out after = IsFront (replies_to digest repository bytes piece) out
 
-module _ (digest : List ℕ → List ℕ) (repository : Repository) (bytes piece out : List ℕ) (after : Holding) where
+module _ (digest : List ℕ → List ℕ) (repository : Repository) (bytes piece out : List ℕ) (after : TenantState) where
   abbrev says : Answer → List ℕ → Told
   says a r = record { answer = a; reply = r }
 
-  abbrev ends : Standing → Turn State
+  abbrev ends : StreamStatus → Turn State
   ends x = fed_by repository (bytes ++ piece) (replies_to digest repository bytes piece) x
 
-  by-ok : (x : Standing) → says answer.Ok out ≡ told_by (ends x) → LeadsTo digest (ends x).state after
+  by-ok : (x : StreamStatus) → says answer.Ok out ≡ told_by (ends x) → LeadsTo digest (ends x).state after
       → LeadsTo digest (Streaming repository (bytes ++ piece)) after × (out ≡ replies_to digest repository bytes piece)
   by-ok (Runs now tail) told left = (left, ap (λ (t : Told). t.reply) told)
   by-ok (Refused code r) told left =
       let none : answer.Ok ≡ answer.Fault code = ap (λ (t : Told). t.answer) told in cc none
 
-  by-fault : (code : ℕ) (x : Standing) → (stream_of digest repository (bytes ++ piece)).standing ≡ x → says (answer.Fault code) out ≡ told_by (ends x)
+  by-fault : (code : ℕ) (x : StreamStatus) → (stream_of digest repository (bytes ++ piece)).standing ≡ x → says (answer.Fault code) out ≡ told_by (ends x)
       → (left : Repository) × ((stream_of digest repository (bytes ++ piece)).standing ≡ Refused code left)
       × (out ≡ replies_to digest repository bytes piece)
   by-fault code (Runs now tail) is told =
@@ -245,13 +245,13 @@ module _ (digest : List ℕ → List ℕ) (repository : Repository) (bytes piece
       let same : code ≡ number = cc both in
       (r, is ∙ ap (λ (c : ℕ). Refused c r) (sym same), ap (λ (t : Told). t.reply) told)
 
-  not-memory : (count : ℕ) (x : Standing) → says (answer.Memory count) out ≡ told_by (ends x) → ⊥
+  not-memory : (count : ℕ) (x : StreamStatus) → says (answer.Memory count) out ≡ told_by (ends x) → ⊥
   not-memory count (Runs now tail) told =
       let none : answer.Memory count ≡ answer.Ok = ap (λ (t : Told). t.answer) told in cc none
   not-memory count (Refused code r) told =
       let none : answer.Memory count ≡ answer.Fault code = ap (λ (t : Told). t.answer) told in cc none
 
-  by-memory : (held : Holding) (count : ℕ) (stop : Option Stopped) → Stands digest repository bytes held
+  by-memory : (held : TenantState) (count : ℕ) (stop : Option Stopped) → Stands digest repository bytes held
       → feed_stop digest repository bytes piece count ≡ stop
       → says (answer.Memory count) out ≡ told_by (fed_until (stream_of digest repository bytes).replies count stop (fed_well digest repository bytes piece))
       → IsFront (replies_to digest repository bytes piece) out
@@ -260,7 +260,7 @@ module _ (digest : List ℕ → List ℕ) (repository : Repository) (bytes piece
       subst (IsFront (replies_to digest repository bytes piece)) (sym (ap (λ (t : Told). t.reply) told))
       (stop-front digest repository bytes piece held count stopped s is)
 
-  pub fed-as : (held : Holding) (a : Answer) → Stands digest repository bytes held
+  pub fed-as : (held : TenantState) (a : Answer) → Stands digest repository bytes held
       → IsToldAlone digest (Feed piece) (Streaming repository bytes) (says a out) after
       → FedAs digest repository bytes piece a out after
   fed-as held answer.Ok s t = by-ok (stream_of digest repository (bytes ++ piece)).standing t.says t.left
@@ -268,7 +268,7 @@ module _ (digest : List ℕ → List ℕ) (repository : Repository) (bytes piece
   fed-as held (answer.Memory count) s t = by-memory held count (feed_stop digest repository bytes piece count) s refl t.says
 
 -- what was told is a front of the replies
-pub fed-front : (digest : List ℕ → List ℕ) (repository : Repository) (bytes piece : List ℕ) (a : Answer) (out : List ℕ) (after : Holding)
+pub fed-front : (digest : List ℕ → List ℕ) (repository : Repository) (bytes piece : List ℕ) (a : Answer) (out : List ℕ) (after : TenantState)
     → FedAs digest repository bytes piece a out after → IsFront (replies_to digest repository bytes piece) out
 fed-front digest repository bytes piece answer.Ok out after f = front-whole _ out f.1
 fed-front digest repository bytes piece (answer.Fault code) out after f = front-whole _ out f.2
@@ -322,26 +322,26 @@ ended-by : (digest : List ℕ → List ℕ) (repository : Repository) (bytes out
     → EndedAs digest repository bytes a out
 ended-by digest repository bytes out answer.Ok now tail stands told =
     let e = told ∙ unstopped digest out now tail now.is_done in
-    let same = ap (λ (x : Standing). finished digest x) stands in (
+    let same = ap (λ (x : StreamStatus). finished digest x) stands in (
       ap (λ (x : StreamEnd). x.fault) same ∙ well-ok digest out now tail _ (ap (λ (t : Told). t.answer) e),
       ap (λ (t : Told). t.reply) e ∙ sym (ap (λ (x : StreamEnd). x.reply) same),
     )
 ended-by digest repository bytes out (answer.Fault code) now tail stands told =
     let e = told ∙ unstopped digest out now tail now.is_done in
-    let same = ap (λ (x : Standing). finished digest x) stands in (
+    let same = ap (λ (x : StreamStatus). finished digest x) stands in (
       ap (λ (x : StreamEnd). x.fault) same ∙ well-fault digest out now tail code _ (ap (λ (t : Told). t.answer) e),
       ap (λ (t : Told). t.reply) e ∙ sym (ap (λ (x : StreamEnd). x.reply) same),
     )
 ended-by digest repository bytes out (answer.Memory count) now tail stands told =
     stopped-end digest out now tail count now.is_done told
 
-pub ended-as : (digest : List ℕ → List ℕ) (repository : Repository) (bytes out : List ℕ) (held after : Holding) (a : Answer)
+pub ended-as : (digest : List ℕ → List ℕ) (repository : Repository) (bytes out : List ℕ) (held after : TenantState) (a : Answer)
     → Stands digest repository bytes held
     → IsToldAlone digest End (Streaming repository bytes) (record { answer = a; reply = out }) after
     → EndedAs digest repository bytes a out
 ended-as digest repository bytes out held after a s t =
     ended-by digest repository bytes out a s.now s.kept s.stands
-    (subst (λ (x : Standing). record { answer = a; reply = out } ≡ told_by (ended digest (stop_told a) x)) s.stands t.says)
+    (subst (λ (x : StreamStatus). record { answer = a; reply = out } ≡ told_by (ended digest (stop_told a) x)) s.stands t.says)
 
 pub ended-front : (digest : List ℕ → List ℕ) (repository : Repository) (bytes : List ℕ) (a : Answer) (out : List ℕ)
     → EndedAs digest repository bytes a out → IsFront (end_in digest repository bytes).reply out
@@ -352,9 +352,9 @@ ended-front digest repository bytes (answer.Memory count) out e =
 
 -- ---- the steps of an import
 
-module _ (digest : List ℕ → List ℕ) (tenant : List ℕ) (s : Step) (a : Answer) (out out' : List ℕ) (before after : Holdings)
+module _ (digest : List ℕ → List ℕ) (tenant : List ℕ) (s : Step) (a : Answer) (out out' : List ℕ) (before after : TenantStates)
     (named : name_of s ≡ tenant) (none : out ≡ [])
-    (own : (name : List ℕ) → IsItsOwn digest name (held_of name before) ((s, told_in a out out') ∷ []) (held_of name after)) where
+    (own : (name : List ℕ) → IsIsolated digest name (held_of name before) ((s, told_in a out out') ∷ []) (held_of name after)) where
   pub feed-step : (repository : Repository) (bytes piece : List ℕ) → call_of s ≡ Feed piece → IsStreaming digest tenant repository bytes before
       → FedAs digest repository bytes piece a out' (held_of tenant after)
   feed-step repository bytes piece is streaming =

@@ -12,11 +12,11 @@ use Rattle.stream_lex.specs.Running.{more_of}
 use Rattle.stream_lex.proofs.Walks.{reading-append}
 use Rattle.stream_state.specs.declared.fault.Fault.{Fault}
 use Rattle.import_session.specs.Workspace.{opened}
-use Rattle.import_session.specs.Stream.{Running, Step, Standing, Runs, Refused, Outcome, begun, after_reply, carried, going_on, step, at_tail, tail_outcome, last_checkpoint}
+use Rattle.import_session.specs.Stream.{Running, Step, StreamStatus, Runs, Refused, Outcome, begun, after_reply, carried, going_on, step, at_tail, tail_outcome, last_checkpoint}
 use Rattle.tenant_stream.specs.Carrying.{outcome_after}
 use Rattle.tenant_stream.proofs.StreamLemmas.{carried-done}
 use Rattle.tenant_service.specs.Alone.{Stopped, Streaming, stop_at, stop_after, stream_of, feed_stop, added}
-use Rattle.tenant_service.specs.Holding.{Holding, Idle, Busy, LeadsTo}
+use Rattle.tenant_service.specs.TenantState.{TenantState, Idle, Busy, LeadsTo}
 use Rattle.tenant_service.specs.HeldObjects.{has_read_done}
 use Rattle.tenant_service.proofs.OwnLemmas.{stream-more, feed_stop-more}
 use Rattle.gitpool.specs.Import.{IsSettled, AsksForMore}
@@ -88,13 +88,13 @@ stream-first digest repository bytes more =
 -- ---- a stream that runs
 
 -- what is held of a stream of these bytes that runs
-pub record Stands (digest : List ℕ → List ℕ) (repository : Repository) (bytes : List ℕ) (held : Holding) : Type 0 where
+pub record Stands (digest : List ℕ → List ℕ) (repository : Repository) (bytes : List ℕ) (held : TenantState) : Type 0 where
   pub now : Running
   pub kept : Tail
   pub is : held ≡ Busy (Runs now kept)
   pub stands : (stream_of digest repository bytes).standing ≡ Runs now kept
 
-pub stands-so : (digest : List ℕ → List ℕ) (repository : Repository) (bytes : List ℕ) (held : Holding)
+pub stands-so : (digest : List ℕ → List ℕ) (repository : Repository) (bytes : List ℕ) (held : TenantState)
     → LeadsTo digest (Streaming repository bytes) held → Stands digest repository bytes held
 stands-so digest repository bytes (Idle r) leads = absurd leads
 stands-so digest repository bytes (Busy (Runs now tail)) leads = record { now = now; kept = tail; is = refl; stands = leads }
@@ -110,7 +110,7 @@ pub new-replies : (digest : List ℕ → List ℕ) (repository : Repository) →
 unfolding stream_of carried walk at_tail
 new-replies digest repository = refl
 
-pub new-running : (digest : List ℕ → List ℕ) (repository : Repository) (held : Holding)
+pub new-running : (digest : List ℕ → List ℕ) (repository : Repository) (held : TenantState)
     → LeadsTo digest (Streaming repository []) held → has_read_done held ≡ false
 new-running digest repository held leads =
     let s = stands-so digest repository [] held leads in
@@ -118,7 +118,7 @@ new-running digest repository held leads =
     let now : s.now ≡ begun (opened repository) = cc both in
     ap has_read_done s.is ∙ ap (λ (r : Running). r.is_done) now
 
-pub asks-for-more : (digest : List ℕ → List ℕ) (repository : Repository) (bytes : List ℕ) (held : Holding)
+pub asks-for-more : (digest : List ℕ → List ℕ) (repository : Repository) (bytes : List ℕ) (held : TenantState)
     → LeadsTo digest (Streaming repository bytes) held → has_read_done held ≡ false
     → AsksForMore (stream_of digest repository bytes).standing
 asks-for-more digest repository bytes held leads running =
@@ -127,7 +127,7 @@ asks-for-more digest repository bytes held leads running =
 
 -- ---- one piece more
 
-module _ (digest : List ℕ → List ℕ) (repository : Repository) (bytes piece : List ℕ) (held : Holding)
+module _ (digest : List ℕ → List ℕ) (repository : Repository) (bytes piece : List ℕ) (held : TenantState)
     (s : Stands digest repository bytes held) where
   abbrev before : List ℕ
   before = (stream_of digest repository bytes).replies
@@ -159,7 +159,7 @@ stopped-first digest now items tail count stopped is = by (leb count (length ite
         subst (λ (all : List Item). IsFront (carried digest now all tail).replies first.replies) (take-append-drop count items)
         (carried-first digest now (take count items) (drop count items) (Rest false []) tail)
 
-    at : (replies : List ℕ) (standing : Standing) → stop_at replies standing ≡ Some stopped → replies ≡ stopped.replies
+    at : (replies : List ℕ) (standing : StreamStatus) → stop_at replies standing ≡ Some stopped → replies ≡ stopped.replies
     at replies (Runs next kept) e = of next.is_done e
       where
         of : (b : Bool) → cond b None (Some (record { replies = replies; repository = last_checkpoint next.workspace })) ≡ Some stopped
@@ -174,7 +174,7 @@ stopped-first digest now items tail count stopped is = by (leb count (length ite
     by false e = cc e
 
 -- what a stop tells is a front of the replies to the piece
-pub stop-front : (digest : List ℕ → List ℕ) (repository : Repository) (bytes piece : List ℕ) (held : Holding) (count : ℕ) (stopped : Stopped)
+pub stop-front : (digest : List ℕ → List ℕ) (repository : Repository) (bytes piece : List ℕ) (held : TenantState) (count : ℕ) (stopped : Stopped)
     → Stands digest repository bytes held → feed_stop digest repository bytes piece count ≡ Some stopped
     → IsFront (replies_to digest repository bytes piece) (added (stream_of digest repository bytes).replies stopped.replies)
 stop-front digest repository bytes piece held count stopped s is =
@@ -199,7 +199,7 @@ stop-front digest repository bytes piece held count stopped s is =
 -- ---- no later byte counts
 
 -- after `done`
-pub settled-done : (digest : List ℕ → List ℕ) (repository : Repository) (bytes : List ℕ) (held : Holding)
+pub settled-done : (digest : List ℕ → List ℕ) (repository : Repository) (bytes : List ℕ) (held : TenantState)
     → LeadsTo digest (Streaming repository bytes) held → has_read_done held ≡ true → IsSettled digest repository bytes
 settled-done digest repository bytes held leads done more =
     goes more ∙ sym (goes []) ∙ ap (stream_of digest repository) (append-nil bytes)

@@ -4,12 +4,12 @@ use Rattle.std.specs.Io.KnownBytes.{Appends, IsAtEnd}
 use Rattle.git_model.specs.Limits.{reads_limit}
 use Rattle.git_model.specs.Repository.{Repository}
 use Rattle.git_objects.specs.Device.{Device, HasRead, HasFault, IsWell, AppendsFront, counted_on}
-use Rattle.import_session.specs.Stream.{Outcome, Standing, Runs, Refused, End, finished}
+use Rattle.import_session.specs.Stream.{Outcome, StreamStatus, Runs, Refused, End, finished}
 use Rattle.gitpool.specs.declared.import_fault.ImportFault.{ImportFault}
 use Rattle.gitpool.specs.declared.import_fault.ImportFault.TheVariants as fault
 use Rattle.gitpool.specs.Devices.{AreWell, HasReadFailed, HasWriteFailed}
 use Rattle.tenant_service.specs.Alone.{stream_of}
-use Rattle.tenant_service.specs.Holding.{empty_repository}
+use Rattle.tenant_service.specs.TenantState.{empty_repository}
 
 -- How a stream over a repository ends after these bytes.
 abbrev pub end_in : (List ℕ → List ℕ) → Repository → List ℕ → End
@@ -35,7 +35,7 @@ IsSettled digest repository bytes = (more : List ℕ)
     → stream_of digest repository (bytes ++ more) ≡ stream_of digest repository bytes
 
 -- A stream asks for more bytes: it was not refused, and did not read `done`.
-abbrev pub AsksForMore : Standing → Type 0
+abbrev pub AsksForMore : StreamStatus → Type 0
 AsksForMore (Runs now tail) = now.is_done ≡ false
 AsksForMore (Refused code repository) = ⊥
 

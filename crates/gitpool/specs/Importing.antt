@@ -10,7 +10,7 @@ use Rattle.tenant_refs.specs.TenantName.{is_tenant_name}
 use Rattle.tenant_service.specs.Alone.{Call, Open, Feed, End, Streaming, stream_of, added}
 use Rattle.tenant_service.specs.Copying.{HasTaken}
 use Rattle.tenant_service.specs.Headline.{Run, call_of}
-use Rattle.tenant_service.specs.Holding.{Holding, Idle, Busy, Holdings, LeadsTo, held_of}
+use Rattle.tenant_service.specs.TenantState.{TenantState, Idle, Busy, TenantStates, LeadsTo, held_of}
 use Rattle.tenant_service.specs.StepName.{name_of}
 use Rattle.gitpool.specs.declared.import_fault.ImportFault.{ImportFault}
 use Rattle.gitpool.specs.declared.import_fault.ImportFault.TheVariants as fault
@@ -26,7 +26,7 @@ pub record IsRunOf (tenant : List ℕ) (calls : List Call) (run : Run) : Type 0 
 
 -- A service took these calls of a tenant, and no other step. Every tenant was told what it is told
 -- in a repository of its own.
-abbrev pub HasTakenCalls : (List ℕ → List ℕ) → List ℕ → Holdings → Holdings → List Call → Type 0
+abbrev pub HasTakenCalls : (List ℕ → List ℕ) → List ℕ → TenantStates → TenantStates → List Call → Type 0
 HasTakenCalls digest tenant before after calls =
     HasTaken digest before after (λ run. IsRunOf tenant calls run)
 
@@ -36,7 +36,7 @@ stream_calls pieces ended = map Feed pieces ++ (if ended then End ∷ [] else []
 
 -- A service took the calls that feed these bytes to an open stream, and that end it if `ended` is
 -- true.
-pub record HasFed (digest : List ℕ → List ℕ) (tenant : List ℕ) (before after : Holdings)
+pub record HasFed (digest : List ℕ → List ℕ) (tenant : List ℕ) (before after : TenantStates)
     (ended : Bool) (bytes : List ℕ) : Type 0 where
   pub pieces : List (List ℕ)
   pub parts : flat_map (λ piece. piece) pieces ≡ bytes
@@ -44,7 +44,7 @@ pub record HasFed (digest : List ℕ → List ℕ) (tenant : List ℕ) (before a
 
 -- A service took the calls of an import of these bytes: it opened a stream, fed it, and ended it if
 -- `ended` is true.
-pub record HasImported (digest : List ℕ → List ℕ) (tenant : List ℕ) (before after : Holdings)
+pub record HasImported (digest : List ℕ → List ℕ) (tenant : List ℕ) (before after : TenantStates)
     (ended : Bool) (bytes : List ℕ) : Type 0 where
   pub pieces : List (List ℕ)
   pub parts : flat_map (λ piece. piece) pieces ≡ bytes
@@ -53,21 +53,21 @@ pub record HasImported (digest : List ℕ → List ℕ) (tenant : List ℕ) (bef
 -- ---- Open
 
 -- A tenant with a good name has this repository and no stream, so a stream can be opened.
-abbrev pub CanOpen : List ℕ → Holdings → Repository → Type 0
+abbrev pub CanOpen : List ℕ → TenantStates → Repository → Type 0
 CanOpen tenant all repository =
     (is_tenant_name tenant ≡ true) × (held_of tenant all ≡ Idle repository)
 
 -- Why no stream can be opened: the name is bad, or there is a stream already, running or dead.
-abbrev pub stream_refusal : Holding → Option ℕ
+abbrev pub stream_refusal : TenantState → Option ℕ
 stream_refusal (Idle repository) = None
 stream_refusal (Busy standing) = Some 31
 
-abbrev pub open_refusal : List ℕ → Holdings → Option ℕ
+abbrev pub open_refusal : List ℕ → TenantStates → Option ℕ
 open_refusal tenant all =
     if is_tenant_name tenant then stream_refusal (held_of tenant all) else Some 32
 
 -- The Open was refused, and nothing was read or written.
-pub record IsUnopened (digest : List ℕ → List ℕ) (tenant : List ℕ) (before after : Holdings)
+pub record IsUnopened (digest : List ℕ → List ℕ) (tenant : List ℕ) (before after : TenantStates)
     (code : ℕ) (reader reader' writer writer' : Device) (answer : Result Unit ImportFault)
     : Type 0 where
   pub answered : answer ≡ Err (fault.Stream code)
@@ -78,7 +78,7 @@ pub record IsUnopened (digest : List ℕ → List ℕ) (tenant : List ℕ) (befo
 -- ---- a piece
 
 -- A tenant has a running stream, which was opened over this repository and fed these bytes.
-abbrev pub IsStreaming : (List ℕ → List ℕ) → List ℕ → Repository → List ℕ → Holdings → Type 0
+abbrev pub IsStreaming : (List ℕ → List ℕ) → List ℕ → Repository → List ℕ → TenantStates → Type 0
 IsStreaming digest tenant repository bytes all = (is_tenant_name tenant ≡ true)
     × LeadsTo digest (Streaming repository bytes) (held_of tenant all)
 
@@ -89,7 +89,7 @@ replies_to digest repository bytes piece = added (stream_of digest repository by
 
 -- A piece was carried out, and its replies were written.
 pub record Passes (digest : List ℕ → List ℕ) (tenant : List ℕ) (repository : Repository)
-    (bytes piece : List ℕ) (writer : Device) (after : Holdings) (writer' : Device) : Type 0 where
+    (bytes piece : List ℕ) (writer : Device) (after : TenantStates) (writer' : Device) : Type 0 where
   pub streaming : IsStreaming digest tenant repository (bytes ++ piece) after
   pub written : Appends writer.known writer'.known (replies_to digest repository bytes piece)
   pub well : IsWell writer writer'
@@ -110,7 +110,7 @@ IsWrittenFront digest repository bytes piece writer writer' =
 
 -- What came of a piece, by the answer.
 abbrev pub PassesOn : (List ℕ → List ℕ) → List ℕ → Repository → List ℕ → List ℕ → Device
-    → Result Unit ImportFault → Holdings → Device → Type 0
+    → Result Unit ImportFault → TenantStates → Device → Type 0
 PassesOn digest tenant repository bytes piece writer (Ok u) after writer' =
     Passes digest tenant repository bytes piece writer after writer'
 PassesOn digest tenant repository bytes piece writer (Err (fault.Stream code)) after writer' =
@@ -145,7 +145,7 @@ EndsImport digest repository bytes writer (Err fault.Memory) writer' =
 
 -- A stream that was refused, or ran out of memory, is ended. If a device failed, it is left as it
 -- is.
-abbrev pub GivesUp : (List ℕ → List ℕ) → List ℕ → Holdings → Holdings → ImportFault → Type 0
+abbrev pub GivesUp : (List ℕ → List ℕ) → List ℕ → TenantStates → TenantStates → ImportFault → Type 0
 GivesUp digest tenant before after (fault.Stream code) =
     HasTakenCalls digest tenant before after (End ∷ [])
 GivesUp digest tenant before after fault.Device = after ≡ before
@@ -156,7 +156,7 @@ GivesUp digest tenant before after fault.Memory =
 
 -- All that counts was read, carried out and answered: the input ended, or `done` was read.
 pub record IsReadThrough (digest : List ℕ → List ℕ) (tenant : List ℕ) (repository : Repository)
-    (before : Holdings) (reader reader' writer : Device) (after : Holdings)
+    (before : TenantStates) (reader reader' writer : Device) (after : TenantStates)
     (writer' : Device) : Type 0 where
   pub bytes : List ℕ
   pub fed : HasFed digest tenant before after false bytes
@@ -168,12 +168,12 @@ pub record IsReadThrough (digest : List ℕ → List ℕ) (tenant : List ℕ) (r
   pub well : AreWell reader reader' writer writer'
 
 -- The stream was fed, and not ended.
-abbrev pub Fed : (List ℕ → List ℕ) → List ℕ → Holdings → Holdings → ServiceEffect
+abbrev pub Fed : (List ℕ → List ℕ) → List ℕ → TenantStates → TenantStates → ServiceEffect
 Fed digest tenant before after ended bytes = HasFed digest tenant before after false bytes
 
 -- What came of reading, by the answer.
-abbrev pub ReadsAll : (List ℕ → List ℕ) → List ℕ → Repository → Holdings → Device → Device
-    → Device → Result Unit ImportFault → Holdings → Device → Type 0
+abbrev pub ReadsAll : (List ℕ → List ℕ) → List ℕ → Repository → TenantStates → Device → Device
+    → Device → Result Unit ImportFault → TenantStates → Device → Type 0
 ReadsAll digest tenant repository before reader reader' writer (Ok u) after writer' =
     IsReadThrough digest tenant repository before reader reader' writer after writer'
 ReadsAll digest tenant repository before reader reader' writer (Err fault.Device) after writer' =

@@ -1,6 +1,6 @@
--- In reading order: the faults of an import, devices, one stream from a reader to a writer, and
--- frames of steps. tenant_service defines what a service is told and holds. The first lines
--- re-export that, and whatever else the clauses of public calls cite.
+-- In reading order: the faults of an import, devices, one stream from a reader to a writer, frames
+-- of steps, one query, and the line of a check. tenant_service defines what a service is told and
+-- holds. The first lines re-export that, and whatever else the clauses of public calls cite.
 pub use Rattle.git_model.specs.Content
 pub use Rattle.git_model.specs.Repository
 pub use Rattle.git_names.specs.Naming
@@ -15,7 +15,7 @@ pub use Rattle.pool_file_checks.specs.Saving
 pub use Rattle.pool_file.specs.Saves
 pub use Rattle.tenant_service.specs.Alone
 pub use Rattle.tenant_service.specs.Headline
-pub use Rattle.tenant_service.specs.Holding
+pub use Rattle.tenant_service.specs.TenantState
 pub use Rattle.tenant_service.specs.HeldObjects
 pub use Rattle.tenant_service.specs.HeldSteps
 pub use Rattle.tenant_service.specs.Soundness
@@ -29,3 +29,5 @@ pub mod Import
 pub mod Exports
 pub mod Importing
 pub mod Serving
+pub mod Asking
+pub mod Checking

@@ -7,8 +7,8 @@ use Rattle.git_objects.specs.Device.{Device, HasRead, HasFault, AppendsFront}
 use Rattle.service_steps.specs.declared.frame_fault.FrameFault.{FrameFault}
 use Rattle.service_steps.specs.declared.frame_fault.FrameFault.TheVariants as fault
 use Rattle.service_steps.specs.Frames.{frame_of, step_text, answer_text, IsGood, IsUnfinished, IsCutOff, IsBad}
-use Rattle.tenant_service.specs.Headline.{Run, IsItsOwn, IsRefused}
-use Rattle.tenant_service.specs.Holding.{Holdings, held_of}
+use Rattle.tenant_service.specs.Headline.{Run, IsIsolated, IsRefused}
+use Rattle.tenant_service.specs.TenantState.{TenantStates, held_of}
 use Rattle.gitpool.specs.Devices.{AreWell, HasReadFailed, HasWriteFailed}
 
 -- The frames of the steps of a run, and the frames of their answers.
@@ -20,12 +20,12 @@ answers_text run = flat_map (λ taken. answer_text taken.1.answer taken.1.reply)
 
 -- Good frames were read, and some bytes after them, and their steps were taken in turn. Every
 -- tenant was told what it is told in a repository of its own. At most 2^32 steps were taken.
-pub record Served (digest : List ℕ → List ℕ) (before after : Holdings) (reader reader' : Device)
+pub record Served (digest : List ℕ → List ℕ) (before after : TenantStates) (reader reader' : Device)
     : Type 0 where
   pub run : Run
   pub rest : List ℕ
   pub own : (tenant : List ℕ)
-      → IsItsOwn digest tenant (held_of tenant before) run (held_of tenant after)
+      → IsIsolated digest tenant (held_of tenant before) run (held_of tenant after)
   pub bad_names : AllByRecursion IsRefused run
   pub good : AllByRecursion (λ taken. IsGood (frame_of taken.0)) run
   pub read : HasRead reader reader' (steps_text run ++ rest)
@@ -48,7 +48,7 @@ pub record AppendsAsFar (writer writer' : Device) (bytes : List ℕ) : Type 0 wh
   pub whole : HasFault writer.faults writer'.faults ⊎ Appends writer.known writer'.known bytes
 
 -- What serving did, by its answer.
-abbrev pub Serves : (List ℕ → List ℕ) → Holdings → Holdings → Device → Device → Device → Device
+abbrev pub Serves : (List ℕ → List ℕ) → TenantStates → TenantStates → Device → Device → Device → Device
     → Result Unit FrameFault → Type 0
 Serves digest before after reader reader' writer writer' (Ok u) =
     (s : Served digest before after reader reader') × (s.rest ≡ []) × IsAtEnd reader'.known

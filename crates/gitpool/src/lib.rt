@@ -3,19 +3,28 @@
 //! A tenant is told what it would be told if nobody else were there: `Service::run` says so, for
 //! every list of steps of any tenants, however interleaved. `Service::save` writes all repositories
 //! to a pool file, and `Service::load` reads them. `import` carries one stream of a tenant from a
-//! reader to a writer, and `import_one` does so over an empty repository. `Line` is a command line
-//! of the program. `laws` has what is true of exports.
+//! reader to a writer, and `import_one` does so over an empty repository. `serve` answers frames of
+//! steps, `ask` one query, and `check` says how much is stored. `Line` is a command line of the
+//! program. `laws` has what is true of exports.
 //!
 //! A program that uses these calls needs no other crate of this repository: this one re-exports
 //! every type that their signatures name.
 #![tactic(auto)]
 
+mod ask_fault;
+mod asking;
+mod check_fault;
+mod checking;
 mod import_fault;
 mod importing;
 pub mod laws;
 mod serving;
 mod single_import;
 
+pub use ask_fault::AskFault;
+pub use asking::ask;
+pub use check_fault::CheckFault;
+pub use checking::check;
 pub use command_lines::Line;
 pub use content_pool::{Pool, Slot};
 pub use git_objects::{

@@ -3,12 +3,9 @@
 //! arguments it works on the repositories of a pool file.
 #![tactic(auto)]
 
-mod links;
-mod new_file;
 mod pools;
 mod run_fault;
 mod runs;
-mod steps;
 
 use crate::run_fault::RunFault;
 use clap::error::ErrorKind as UsageKind;

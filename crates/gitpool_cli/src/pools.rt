@@ -1,8 +1,8 @@
 //! Services in pool files: loaded as a run begins, saved at its end.
 
-use crate::new_file::NewFile;
 use crate::run_fault::RunFault;
 use gitpool::{Counted, Service, Sha1Naming};
+use lock_files::LockFile;
 use std::fs::File;
 use std::io::{BufReader, ErrorKind, Read};
 
@@ -52,7 +52,7 @@ fn load_of<R: Read>(
 pub fn save(
     rt: &HostRuntime,
     service: &Service<Sha1Naming>,
-    new: &NewFile,
+    new: &LockFile,
 ) -> Result<(), RunFault> {
     let outcome = save_as(rt, service, new);
     if outcome.is_err() {
@@ -61,8 +61,12 @@ pub fn save(
     outcome
 }
 
-fn save_as(rt: &HostRuntime, service: &Service<Sha1Naming>, new: &NewFile) -> Result<(), RunFault> {
+fn save_as(
+    rt: &HostRuntime,
+    service: &Service<Sha1Naming>,
+    new: &LockFile,
+) -> Result<(), RunFault> {
     let mut writer = Counted::new(new.file()?);
     service.save(&mut writer)?;
-    new.replace(rt)
+    Ok(new.replace(rt)?)
 }

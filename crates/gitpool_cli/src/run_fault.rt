@@ -1,6 +1,7 @@
 //! Why a run failed, with the number of the fault and the exit status.
 
-use gitpool::{DeviceFault, FrameFault, ImportFault, PoolFault};
+use gitpool::{AskFault, CheckFault, FrameFault, ImportFault, PoolFault};
+use lock_files::LockFault;
 use std::alloc::AllocError;
 use std::io::ErrorKind;
 use std::{fmt, io};
@@ -64,9 +65,22 @@ impl fmt::Display for RunFault {
     }
 }
 
-impl From<DeviceFault> for RunFault {
-    fn from(_failed: DeviceFault) -> RunFault {
-        RunFault::Device
+impl From<AskFault> for RunFault {
+    fn from(fault: AskFault) -> RunFault {
+        match fault {
+            AskFault::Step(code) => RunFault::Step(code),
+            AskFault::Device => RunFault::Device,
+            AskFault::Memory => RunFault::Memory,
+        }
+    }
+}
+
+impl From<CheckFault> for RunFault {
+    fn from(fault: CheckFault) -> RunFault {
+        match fault {
+            CheckFault::Device => RunFault::Device,
+            CheckFault::Memory => RunFault::Memory,
+        }
     }
 }
 
@@ -81,6 +95,15 @@ impl From<io::Error> for RunFault {
         match error.kind() {
             ErrorKind::OutOfMemory => RunFault::Memory,
             _ => RunFault::Device,
+        }
+    }
+}
+
+impl From<LockFault> for RunFault {
+    fn from(fault: LockFault) -> RunFault {
+        match fault {
+            LockFault::Device => RunFault::Device,
+            LockFault::Memory => RunFault::Memory,
         }
     }
 }

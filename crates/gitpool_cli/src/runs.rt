@@ -2,12 +2,10 @@
 //!
 //! One function owns the service of a run, and lends it to the functions of the subcommand.
 
-use crate::new_file::NewFile;
 use crate::pools::{Missing, load, save};
 use crate::run_fault::RunFault;
-use crate::steps;
-use gitpool::{Counted, Line, Service, Sha1Naming, Step, write_all};
-use std::alloc::{AllocError, Global};
+use gitpool::{Answer, Counted, Line, Service, Sha1Naming};
+use lock_files::LockFile;
 
 /// Carries out a command line. If several calls are refused, the first fault is answered;
 /// `RunFault` has the numbers.
@@ -34,7 +32,7 @@ fn run_to_save(
     pool: &str,
     missing: Missing,
 ) -> Result<(), RunFault> {
-    let new = NewFile::take(rt, pool)?;
+    let new = LockFile::take(rt, pool)?;
     load_and_save(rt, line, &new, missing)
 }
 
@@ -42,10 +40,10 @@ fn run_to_save(
 fn load_and_save(
     rt: &HostRuntime,
     line: Line<'_>,
-    new: &NewFile,
+    new: &LockFile,
     missing: Missing,
 ) -> Result<(), RunFault> {
-    match load(rt, new.pool(), missing) {
+    match load(rt, new.locked_path(), missing) {
         Ok(service) => carry_out_and_save(rt, service, line, new),
         Err(fault) => {
             new.remove(rt);
@@ -59,7 +57,7 @@ fn carry_out_and_save(
     rt: &HostRuntime,
     mut service: Service<Sha1Naming>,
     line: Line<'_>,
-    new: &NewFile,
+    new: &LockFile,
 ) -> Result<(), RunFault> {
     let outcome = carry_out(rt, &mut service, line);
     let saved = save(rt, &service, new);
@@ -76,9 +74,7 @@ fn carry_out(
         Line::Import { tenant, .. } => import(rt, service, tenant.as_bytes()),
         Line::Ask { tenant, query, .. } => ask(rt, service, tenant.as_bytes(), query.as_bytes()),
         Line::Check { .. } => check(rt, service),
-        Line::Copy { from, to, .. } => {
-            steps::outcome(service.copy_tenant(from.as_bytes(), to.as_bytes()))
-        }
+        Line::Copy { from, to, .. } => copy(service, from.as_bytes(), to.as_bytes()),
     }
 }
 
@@ -100,30 +96,28 @@ fn import(
     Ok(gitpool::import(rt.alloc(), service, tenant, &mut reader, &mut writer)?)
 }
 
+// Asks one query.
 fn ask(
     rt: &HostRuntime,
     service: &mut Service<Sha1Naming>,
     tenant: &[u8],
     query: &[u8],
 ) -> Result<(), RunFault> {
-    let mut out = Vec::new(rt.alloc());
     let mut writer = Counted::new(rt.stdout());
-    let step = Step::Ask { tenant, query };
-    steps::take(service, step, &mut out, &mut writer)
+    Ok(gitpool::ask(rt.alloc(), service, tenant, query, &mut writer)?)
 }
 
+// Prints how much is stored.
 fn check(rt: &HostRuntime, service: &Service<Sha1Naming>) -> Result<(), RunFault> {
-    let text = stored_text(rt.alloc(), service)?;
-    print(rt, &text)
-}
-
-fn stored_text(alloc: Global, service: &Service<Sha1Naming>) -> Result<String, AllocError> {
-    let (objects, bytes) = service.stored();
-    let tenants = service.tenants();
-    format!(in alloc; "objects {objects} bytes {bytes} tenants {tenants}\n")
-}
-
-fn print(rt: &HostRuntime, text: &str) -> Result<(), RunFault> {
     let mut writer = Counted::new(rt.stdout());
-    Ok(write_all(&mut writer, text.as_bytes())?)
+    Ok(gitpool::check(rt.alloc(), service, &mut writer)?)
+}
+
+// Copies one tenant.
+fn copy(service: &mut Service<Sha1Naming>, from: &[u8], to: &[u8]) -> Result<(), RunFault> {
+    match service.copy_tenant(from, to) {
+        Answer::Ok => Ok(()),
+        Answer::Fault(code) => Err(RunFault::Step(code)),
+        Answer::Memory(_) => Err(RunFault::Memory),
+    }
 }

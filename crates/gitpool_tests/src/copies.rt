@@ -6,7 +6,7 @@ use gitpool::Sha1Naming;
 use std::alloc::Global;
 
 // A blob, and a commit of it on `refs/heads/m`: with the tree, three objects of 6, 29 and 98 bytes.
-const STREAM: &[u8] = b"blob\n\
+pub const STREAM: &[u8] = b"blob\n\
     mark :1\n\
     data 6\n\
     hello\n\
@@ -17,7 +17,7 @@ const STREAM: &[u8] = b"blob\n\
     M 644 :1 f\n";
 
 // What `git show-ref` prints after `git fast-import` of it.
-const REFS: &[u8] = b"28139c25c808723300683a56bda158d153221c0e refs/heads/m\n";
+pub const REFS: &[u8] = b"28139c25c808723300683a56bda158d153221c0e refs/heads/m\n";
 
 const HEAD: &[u8] = b"option gitpool head refs/heads/m\n";
 

@@ -29,7 +29,7 @@ use Rattle.import_session.specs.Stream.{Running, Step, step, taken, is_finish}
 use Rattle.import_session.specs.Meaning.{after_act, blob_stored}
 use Rattle.stream_state.specs.Printing.{Shows}
 use Rattle.import_session.specs.Printing.{prints}
-use Rattle.import_session.specs.Session.{Own, workspace_in, CarriesOut, Reads, Takes}
+use Rattle.import_session.specs.Session.{StreamState, workspace_in, CarriesOut, Reads, Takes}
 use Rattle.import_session.proofs.CommitLemmas.{carries_refused, memory_or}
 use Rattle.import_session.proofs.HeldLemmas.{commit_same}
 
@@ -220,13 +220,13 @@ no_memory given done reads memory =
 
 -- a blob that was stored is marked
 pub blob_carried : (digest : List ℕ → List ℕ) (content : Content) (mark : Option ℕ) (id : List ℕ)
-    (own : Own) (before after : Marks) (p : Cells) (t : View) (q : Cells) (v : View) (refs : RefStore)
+    (state : StreamState) (before after : Marks) (p : Cells) (t : View) (q : Cells) (v : View) (refs : RefStore)
     (out : List ℕ) → room_for before mark ≡ Ok tt → IsStored digest content p t q v id
-    → after ≡ with_mark before mark id → FilesStand own p t
+    → after ≡ with_mark before mark id → FilesStand state p t
     → CarriesOut (blob_stored digest mark content
-    (workspace_in (record own { marks = before }) p t refs))
-    (workspace_in (record own { marks = after }) q v refs) out out (Ok tt)
-blob_carried digest content mark id own before after p t q v refs out room stored marked holds =
+    (workspace_in (record state { marks = before }) p t refs))
+    (workspace_in (record state { marks = after }) q v refs) out out (Ok tt)
+blob_carried digest content mark id state before after p t q v refs out room stored marked holds =
     let same = commit_same digest content (objects p t.entries) (objects q v.entries) stored.objects
-    own.commit holds.commit in
+    state.commit holds.commit in
     rw (room, stored.objects) (rw (marked, stored.name, stored.committed, same) refl, search rules)

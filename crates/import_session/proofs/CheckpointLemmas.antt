@@ -17,7 +17,7 @@ use Rattle.stream_state.specs.Tags.{PendingTags}
 use Rattle.import_session.specs.Workspace.{Workspace}
 use Rattle.stream_state.specs.Checkpoints.{by_head, by_tags}
 use Rattle.import_session.specs.Checkpoints.{saved_by, by_branches, kept_by, kept_lines, saved_refs, checkpointed, checkpoint}
-use Rattle.import_session.specs.Session.{Own, workspace_in, CarriesOut}
+use Rattle.import_session.specs.Session.{StreamState, workspace_in, CarriesOut}
 
 -- the branch at a place is saved after those before it
 pub saved_next : (w : Workspace) (store : RefStore) (branches : Branches) (place : ℕ) (ref : List ℕ)
@@ -59,24 +59,24 @@ few_saved : (b : Bool) (w left : Workspace) (out out' : List ℕ) → b ≡ true
     (Err fault.Limit)) left out out' (Ok tt)
 few_saved b w left out out' few same printed = rw few (same, printed)
 
-pub well_saved : (own : Own) (head : Option (List ℕ)) (tags : PendingTags) (pool : Cells)
+pub well_saved : (state : StreamState) (head : Option (List ℕ)) (tags : PendingTags) (pool : Cells)
     (table new : View) (refs saved left : RefStore) (out out' : List ℕ)
-    → let w = workspace_in own pool table refs in
-    saved ≡ by_tags (by_branches w refs own.branches) own.tags
+    → let w = workspace_in state pool table refs in
+    saved ≡ by_tags (by_branches w refs state.branches) state.tags
     → length (listed_refs saved) ≤ refs_limit
-    → left ≡ by_head saved own.head → head ≡ None → tags ≡ []
+    → left ≡ by_head saved state.head → head ≡ None → tags ≡ []
     → new ≡ record table { committed = length table.entries }
-    → out' ≡ out ++ kept_lines w own.branches
+    → out' ≡ out ++ kept_lines w state.branches
     → CarriesOut (checkpoint w)
-    (workspace_in (record own { head = head; tags = tags }) pool new left) out out' (Ok tt)
-well_saved own head tags pool table new refs saved left out out' is few headed none empty committed
+    (workspace_in (record state { head = head; tags = tags }) pool new left) out out' (Ok tt)
+well_saved state head tags pool table new refs saved left out out' is few headed none empty committed
     printed =
-    let w = workspace_in own pool table refs in
-    let same : left ≡ saved_refs w = headed ∙ ap (λ (s : RefStore). by_head s own.head) is in
-    few_saved _ w (workspace_in (record own { head = head; tags = tags }) pool new left) out out'
+    let w = workspace_in state pool table refs in
+    let same : left ≡ saved_refs w = headed ∙ ap (λ (s : RefStore). by_head s state.head) is in
+    few_saved _ w (workspace_in (record state { head = head; tags = tags }) pool new left) out out'
     (le-leb _ _ (subst (λ (s : RefStore). length (listed_refs s) ≤ refs_limit) same
     (subst (λ (s : RefStore). length (listed_refs s) ≤ refs_limit) (sym headed)
     (subst (λ (l : List (List ℕ × List ℕ)). length l ≤ refs_limit)
-    (sym (headed_refs saved own.head)) few))))
+    (sym (headed_refs saved state.head)) few))))
     (rw (same, none, empty, committed, length-objects pool table.entries) refl)
     printed

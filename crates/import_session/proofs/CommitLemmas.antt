@@ -18,14 +18,14 @@ use Rattle.open_commits.specs.Parents.{changed_to, started_from}
 use Rattle.open_commits.specs.OpenCommit.{Header, HeldCommit, OpenCommit, begun, begun_on, shown_in}
 use Rattle.stream_state.specs.declared.fault.Fault.{Fault}
 use Rattle.stream_state.specs.declared.fault.Fault.TheVariants as fault
-use Rattle.stream_state.specs.declared.said.Said.{Said}
+use Rattle.stream_state.specs.declared.command_header.CommandHeader.{CommandHeader}
 use Rattle.stream_state.specs.Faults.{and_then}
 use Rattle.import_session.specs.Faults.{changed_or}
 use Rattle.stream_state.specs.Branches.{Branches, branch_set, tip_for}
 use Rattle.import_session.specs.Workspace.{Effect, Workspace, quiet}
 use Rattle.import_session.specs.Changes.{changed_by, commit_changed}
 use Rattle.import_session.specs.Commits.{begun_from, commit_opened, header_said, opened_at, opened_with, started_or_cleared}
-use Rattle.import_session.specs.Session.{Own, workspace_in, CarriesOut, Leaves}
+use Rattle.import_session.specs.Session.{StreamState, workspace_in, CarriesOut, Leaves}
 use Rattle.import_session.specs.Sound.{IsSound}
 
 -- ---- a commit is looked up, and then the open commit changes
@@ -142,7 +142,7 @@ opened_by workspace stood first new branches (Err f) same set refused =
     λ other. rw (set, ← same, refused other) refl
 
 -- what the lines before the message said is done with
-pub without_said : (digest : List ℕ → List ℕ) (workspace : Workspace) (said : Option Said)
+pub without_said : (digest : List ℕ → List ℕ) (workspace : Workspace) (said : Option CommandHeader)
     → said ≡ None → IsSound digest workspace → IsSound digest (record workspace { said = said })
 without_said digest workspace said none sound = record {
   objects = sound.objects;
@@ -158,7 +158,7 @@ without_said digest workspace said none sound = record {
 }
 
 pub opened_refused : (workspace new : Workspace) (mark : Option ℕ) (message : List ℕ)
-    (held : Option Said) (said : Said) (header : Header) (e f : Fault) (out : List ℕ)
+    (held : Option CommandHeader) (said : CommandHeader) (header : Header) (e f : Fault) (out : List ℕ)
     → held ≡ Some said → f ≡ e → header_said mark said said.committer ≡ Ok header
     → (e ≢ fault.Memory → opened_with workspace message header ≡ Err e)
     → CarriesOut (commit_opened mark message held workspace) new out out (Err f)
@@ -166,19 +166,19 @@ opened_refused workspace new mark message held said header e f out held_is same 
     carries_refused (commit_opened mark message held workspace) new out out f
     (λ other. rw (held_is, told, same, refused (rw same at other)) refl)
 
-pub opened_well : (own left : Own) (pool : Cells) (table : View) (refs : RefStore)
-    (branches : Branches) (mark : Option ℕ) (message : List ℕ) (held spent : Option Said)
-    (said : Said) (header : Header) (next : HeldCommit) (out : List ℕ)
+pub opened_well : (state left : StreamState) (pool : Cells) (table : View) (refs : RefStore)
+    (branches : Branches) (mark : Option ℕ) (message : List ℕ) (held spent : Option CommandHeader)
+    (said : CommandHeader) (header : Header) (next : HeldCommit) (out : List ℕ)
     → held ≡ Some said → spent ≡ None → header_said mark said said.committer ≡ Ok header
-    → opened_with (workspace_in own pool table refs) message header
-    ≡ quiet (workspace_in (record own {
+    → opened_with (workspace_in state pool table refs) message header
+    ≡ quiet (workspace_in (record state {
       branches = branches;
       said = None;
       commit = Some next;
     }) pool table refs)
-    → left ≡ record own { branches = branches; said = spent; left = None }
-    → CarriesOut (commit_opened mark message held (workspace_in own pool table refs))
+    → left ≡ record state { branches = branches; said = spent; left = None }
+    → CarriesOut (commit_opened mark message held (workspace_in state pool table refs))
     (workspace_in (record left { commit = Some next }) pool table refs) out out (Ok tt)
-opened_well own left pool table refs branches mark message held spent said header next out held_is
+opened_well state left pool table refs branches mark message held spent said header next out held_is
     none told opens left_is =
     rw (held_is, told, opens) (rw (left_is, none) refl, search rules)

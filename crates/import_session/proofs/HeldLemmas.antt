@@ -12,11 +12,11 @@ use Rattle.tree_build.proofs.Growing.{branch_stays}
 use Rattle.open_commits.specs.OpenCommit.{HeldCommit, Stands, commit_in}
 use Rattle.stream_state.specs.declared.fault.Fault.{Fault}
 use Rattle.stream_state.specs.Storing.{stored_or, with_content}
-use Rattle.import_session.specs.Session.{Own}
+use Rattle.import_session.specs.Session.{StreamState}
 use Rattle.import_session.specs.Held.{HoldsFiles, KeepsFiles}
 
 -- a call that changes neither leaves them standing
-pub files_kept : (os : List Object) (old new : Own) → KeepsFiles old new → HoldsFiles os old
+pub files_kept : (os : List Object) (old new : StreamState) → KeepsFiles old new → HoldsFiles os old
     → HoldsFiles os new
 files_kept os old new keeps holds = record {
   commit = subst (λ (commit : Option HeldCommit). IfSome commit (Stands os)) (sym keeps.commit) holds.commit;
@@ -58,14 +58,14 @@ module _ (digest : List ℕ → List ℕ) (content : Content) (os more : List Ob
       ap (λ (m : FileMap). Some (record (commit_in os held) { files = m }))
       (branch_grown held.files stands).1
 
-  pub files_grown : (own : Own) → HoldsFiles os own → HoldsFiles more own
-  files_grown own holds = record {
-    commit = commit_grown own.commit holds.commit;
-    left = left_grown own.left holds.left;
+  pub files_grown : (state : StreamState) → HoldsFiles os state → HoldsFiles more state
+  files_grown state holds = record {
+    commit = commit_grown state.commit holds.commit;
+    left = left_grown state.left holds.left;
   }
 
 -- what stands in any case stands where a call was carried out
-pub still_held : {A : Type 0} (r : Result A Fault) (os : List Object) (old new : Own)
+pub still_held : {A : Type 0} (r : Result A Fault) (os : List Object) (old new : StreamState)
     → KeepsFiles old new → HoldsFiles os old → OnOk r (HoldsFiles os new)
 still_held (Ok value) os old new keeps holds = files_kept os old new keeps holds
 still_held (Err e) os old new keeps holds = tt

@@ -37,12 +37,12 @@ use Rattle.stream_grammar.proofs.WellFormedActs.{well_formed}
 use Rattle.stream_state.specs.declared.branches.Tip.{Tip}
 use Rattle.stream_state.specs.declared.branches.Tip.TheVariants.{Unborn, Deleted, At}
 use Rattle.stream_state.specs.declared.fault.Fault.{Fault}
-use Rattle.stream_state.specs.declared.said.Said.{Said}
+use Rattle.stream_state.specs.declared.command_header.CommandHeader.{CommandHeader}
 use Rattle.stream_state.specs.Faults.{and_then, text_first}
 use Rattle.import_session.specs.Faults.{changed_or}
 use Rattle.stream_state.specs.Branches.{Branches, branch_set, has_branch_room, head_in, ref_meant, with_branch, tip_commit, tip_for}
 use Rattle.stream_state.specs.Marks.{Marks, marked_name, referred_name, room_for, with_mark}
-use Rattle.stream_state.specs.Said.{said_of}
+use Rattle.stream_state.specs.CommandHeader.{said_of}
 use Rattle.import_session.specs.Workspace.{Workspace, Effect, opened, quiet}
 use Rattle.import_session.specs.CommitIshes.{commit_in, named_in, start_in, ref_in}
 use Rattle.import_session.specs.Resets.{alias_set, branch_placed, branch_reset, is_zeros, tip_from}
@@ -63,12 +63,12 @@ use Rattle.open_commits.specs.OpenCommit.{Header, OpenCommit as Opened, begun}
 use Rattle.open_commits.specs.Showing.{Shown, entry_shown}
 use Rattle.open_commits.proofs.FitCommits.{end_fits, entry_fits}
 use Rattle.open_commits.proofs.GoodCommits.{end_keeps as commit_end, entry_keeps}
-use Rattle.stream_state.specs.declared.said.Inline.{Inline}
+use Rattle.stream_state.specs.declared.command_header.Inline.{Inline}
 use Rattle.import_session.specs.Changes.{branch_entry_shown, changed_by, commit_changed, contents_stored, entry_line}
 use Rattle.import_session.specs.Commits.{begun_from, closed_at, closed_where, commit_opened, header_said, open_closed, opened_with}
 use Rattle.import_session.specs.Printing.{prints}
 use Rattle.import_session.proofs.SoundChanges.{IsReady, LeavesOpen, begun_open, changed_open, contents_open, open_grown}
-use Rattle.import_session.specs.Sound.{IsBranch, IsOpen, IsPending, IsSound, IsSoundRepository, IsTip, IsWellSaid}
+use Rattle.import_session.specs.Sound.{IsBranch, IsOpen, IsPending, IsSound, IsSoundRepository, IsTip, IsWellFormedHeader}
 use Rattle.stream_state.specs.Showing.{entry_shown as stored_entry_shown}
 use Rattle.import_session.specs.Stream.{Running, Step, commands_end, last_checkpoint, session_end, step, taken, unless_done_missing}
 use Rattle.import_session.proofs.SoundCommits.{IsCommitOf, commit_good, start_good, tip_commit_is}
@@ -209,8 +209,8 @@ meant_named workspace digest sound ref names =
 
 -- ---- what the open command says
 
-with_said : (digest : List ℕ → List ℕ) (workspace : Workspace) (said : Option Said)
-    → IsSound digest workspace → IfSome said IsWellSaid
+with_said : (digest : List ℕ → List ℕ) (workspace : Workspace) (said : Option CommandHeader)
+    → IsSound digest workspace → IfSome said IsWellFormedHeader
     → IsSound digest (record workspace { said = said })
 with_said digest workspace said sound well = record {
   objects = sound.objects;
@@ -225,14 +225,14 @@ with_said digest workspace said sound well = record {
   inline = sound.inline;
 }
 
-newly_said : (ref : List ℕ) → IsShortRefName ref → IsWellSaid (said_of ref)
+newly_said : (ref : List ℕ) → IsShortRefName ref → IsWellFormedHeader (said_of ref)
 newly_said ref name = record { ref = name; author = tt; committer = tt; encoding = tt; tagger = tt }
 
 -- ---- branches
 
 branches_keep : (digest : List ℕ → List ℕ) (workspace : Workspace) (branches : Branches)
-    (said : Option Said) → IsSound digest workspace
-    → All (IsBranch workspace.objects) branches → IfSome said IsWellSaid
+    (said : Option CommandHeader) → IsSound digest workspace
+    → All (IsBranch workspace.objects) branches → IfSome said IsWellFormedHeader
     → IsSound digest (record workspace { branches = branches; said = said })
 branches_keep digest workspace branches said sound good well = record {
   objects = sound.objects;
@@ -287,7 +287,7 @@ tip_good digest workspace sound ref from =
     (start_good digest workspace sound.objects ref from) (λ id stands. stands)))
 
 placed_at : (digest : List ℕ → List ℕ) (workspace : Workspace) → IsSound digest workspace
-    → (from : CommitIsh) (said : Option Said) → IfSome said IsWellSaid
+    → (from : CommitIsh) (said : Option CommandHeader) → IfSome said IsWellFormedHeader
     → IfOk (branch_placed from said workspace) (LeavesSound digest)
 placed_at digest workspace sound from None well = tt
 placed_at digest workspace sound from (Some said) well =
@@ -321,8 +321,8 @@ alias_keeps digest workspace sound mark commit =
 -- ---- tags
 
 more_said : (digest : List ℕ → List ℕ) (workspace : Workspace) → IsSound digest workspace
-    → (more : Said → Said) (said : Option Said) → IfSome said IsWellSaid
-    → ((said : Said) → IsWellSaid said → IsWellSaid (more said))
+    → (more : CommandHeader → CommandHeader) (said : Option CommandHeader) → IfSome said IsWellFormedHeader
+    → ((said : CommandHeader) → IsWellFormedHeader said → IsWellFormedHeader (more said))
     → IfOk (said_more more said workspace) (LeavesSound digest)
 more_said digest workspace sound more None well keeps = tt
 more_said digest workspace sound more (Some said) well keeps =
@@ -367,7 +367,7 @@ kind_tagged os target (Some kind.Blob) e = record { stands = e; no_tree = λ sam
 kind_tagged os target (Some kind.Tag) e = record { stands = e; no_tree = λ same. cc }
 
 -- the tag that is made
-abbrev tag_from : Said → List ℕ → List ℕ → Kind → Tag
+abbrev tag_from : CommandHeader → List ℕ → List ℕ → Kind → Tag
 tag_from said message target target_kind = record {
   target = target;
   kind = target_kind;
@@ -376,14 +376,14 @@ tag_from said message target target_kind = record {
   message = message;
 }
 
-ref_spelt : (said : Said) → is_tag_ref said.ref_name ≡ true
+ref_spelt : (said : CommandHeader) → is_tag_ref said.ref_name ≡ true
     → said.ref_name ≡ codes "refs/tags/" ++ drop (length (codes "refs/tags/")) said.ref_name
 ref_spelt said is =
     let begins = (begins_test said.ref_name (codes "refs/tags/")).0 is in
     begins.1 ∙ ap (λ (rest : List ℕ). codes "refs/tags/" ++ rest)
     (sym (ap (λ (ref : List ℕ). drop 10 ref) begins.1))
 
-tag_can : (said : Said) (message target : List ℕ) (target_kind : Kind) → IsWellSaid said
+tag_can : (said : CommandHeader) (message target : List ℕ) (target_kind : Kind) → IsWellFormedHeader said
     → is_tag_ref said.ref_name ≡ true → IsObjectName target → target_kind ≢ kind.Tree
     → CanWriteTag (tag_from said message target target_kind)
 tag_can said message target target_kind well is name no_tree =
@@ -395,7 +395,7 @@ tag_can said message target target_kind well is name no_tree =
     }
 
 tag_written : (digest : List ℕ → List ℕ) (os : List Object) → AreObjects digest os
-    → (said : Said) (message target : List ℕ) (target_kind : Kind) → IsWellSaid said
+    → (said : CommandHeader) (message target : List ℕ) (target_kind : Kind) → IsWellFormedHeader said
     → is_tag_ref said.ref_name ≡ true → IsTagged os target target_kind
     → CanWriteTag (tag_from said message target target_kind)
 tag_written digest os good said message target target_kind well is tagged =
@@ -403,7 +403,7 @@ tag_written digest os good said message target target_kind well is tagged =
     (there digest os good target target_kind tagged.stands).name tagged.no_tree
 
 -- it waits under its own name
-tag_held : (said : Said) (message target : List ℕ) (target_kind : Kind) → IsWellSaid said
+tag_held : (said : CommandHeader) (message target : List ℕ) (target_kind : Kind) → IsWellFormedHeader said
     → is_tag_ref said.ref_name ≡ true → CanWriteTag (tag_from said message target target_kind)
     → (os : List Object) (id : List ℕ)
     → object_named id os ≡ Some (tag_content said message target target_kind)
@@ -422,7 +422,7 @@ tag_held said message target target_kind well is can os id held = record {
 }
 
 tag_storable : (digest : List ℕ → List ℕ) (os : List Object) → AreObjects digest os
-    → (said : Said) (message target : List ℕ) (target_kind : Kind) → IsWellSaid said
+    → (said : CommandHeader) (message target : List ℕ) (target_kind : Kind) → IsWellFormedHeader said
     → is_tag_ref said.ref_name ≡ true → IsTagged os target target_kind
     → IsStorable os (tag_content said message target target_kind)
 tag_storable digest os good said message target target_kind well is tagged =
@@ -446,11 +446,11 @@ tag_storable digest os good said message target target_kind well is tagged =
     }
 
 -- what is tagged, where a tag is open
-record IsTaggedBy (os : List Object) (said : Said) (target : List ℕ × Kind) : Type 0 where
+record IsTaggedBy (os : List Object) (said : CommandHeader) (target : List ℕ × Kind) : Type 0 where
   is_open : is_tag_ref said.ref_name ≡ true
   is_tagged : IsTagged os target.0 target.1
 
-tagged_good : (workspace : Workspace) (mark : Option ℕ) (said : Said)
+tagged_good : (workspace : Workspace) (mark : Option ℕ) (said : CommandHeader)
     → IfOk (tagged mark said workspace) (IsTaggedBy workspace.objects said)
 tagged_good workspace mark said = let P : List ℕ × Kind → Type 0 = IsTaggedBy workspace.objects said in
     by_test (is_tag_ref said.ref_name)
@@ -466,8 +466,8 @@ tagged_good workspace mark said = let P : List ℕ × Kind → Type 0 = IsTagged
     (λ other. rw other tt)
 
 tag_keeps : (digest : List ℕ → List ℕ) → AnswersNames digest → (workspace : Workspace)
-    → IsSound digest workspace → (mark : Option ℕ) (message : List ℕ) (said : Option Said)
-    → IfSome said IsWellSaid
+    → IsSound digest workspace → (mark : Option ℕ) (message : List ℕ) (said : Option CommandHeader)
+    → IfSome said IsWellFormedHeader
     → IfOk (tag_stored digest mark message said workspace) (LeavesSound digest)
 tag_keeps digest names workspace sound mark message None well = tt
 tag_keeps digest names workspace sound mark message (Some said) well =
@@ -701,7 +701,7 @@ opened_keeps digest workspace sound message header ready =
       inline = sound.inline;
     }))
 
-header_can : (mark : Option ℕ) (said : Said) → IsWellSaid said → (committer : Option (List ℕ))
+header_can : (mark : Option ℕ) (said : CommandHeader) → IsWellFormedHeader said → (committer : Option (List ℕ))
     → IfSome committer IsWrittenIdent → IfOk (header_said mark said committer) IsReady
 header_can mark said well None can = tt
 header_can mark said well (Some committer) can = record {
@@ -710,7 +710,7 @@ header_can mark said well (Some committer) can = record {
 }
 
 commit_keeps : (digest : List ℕ → List ℕ) (workspace : Workspace) → IsSound digest workspace
-    → (mark : Option ℕ) (message : List ℕ) (said : Option Said) → IfSome said IsWellSaid
+    → (mark : Option ℕ) (message : List ℕ) (said : Option CommandHeader) → IfSome said IsWellFormedHeader
     → IfOk (commit_opened mark message said workspace) (LeavesSound digest)
 commit_keeps digest workspace sound mark message None well = tt
 commit_keeps digest workspace sound mark message (Some said) well =

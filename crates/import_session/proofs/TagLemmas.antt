@@ -11,17 +11,17 @@ use Rattle.tenant_tables.specs.View.{View}
 use Rattle.open_commits.specs.OpenCommit.{commit_in}
 use Rattle.stream_state.specs.declared.fault.Fault.{Fault}
 use Rattle.stream_state.specs.declared.fault.Fault.TheVariants as fault
-use Rattle.stream_state.specs.declared.said.Said.{Said}
+use Rattle.stream_state.specs.declared.command_header.CommandHeader.{CommandHeader}
 use Rattle.stream_state.specs.Marks.{Marks, with_mark}
 use Rattle.stream_state.specs.Tags.{PendingTags, tag_content}
 use Rattle.import_session.specs.Workspace.{Workspace, quiet}
 use Rattle.stream_state.specs.Storing.{with_content}
 use Rattle.import_session.specs.Tags.{tag_made, tag_of, tagged}
-use Rattle.import_session.specs.Session.{CarriesOut, Own, workspace_in}
+use Rattle.import_session.specs.Session.{CarriesOut, StreamState, workspace_in}
 use Rattle.import_session.proofs.ActLemmas.{first_refused, first_then}
 
 -- where its tag is stored
-abbrev stored_in : (List ℕ → List ℕ) → Option ℕ → List ℕ → Said → Workspace → List ℕ → Kind
+abbrev stored_in : (List ℕ → List ℕ) → Option ℕ → List ℕ → CommandHeader → Workspace → List ℕ → Kind
     → List Object → Workspace
 stored_in digest mark message said w target kind os = record w {
   objects = os;
@@ -30,7 +30,7 @@ stored_in digest mark message said w target kind os = record w {
   said = None;
 }
 
-pub tag_refused : (digest : List ℕ → List ℕ) (mark : Option ℕ) (message : List ℕ) (said : Said)
+pub tag_refused : (digest : List ℕ → List ℕ) (mark : Option ℕ) (message : List ℕ) (said : CommandHeader)
     (w new : Workspace) (out : List ℕ) (e : Fault)
     → (e ≢ fault.Memory → tagged mark said w ≡ Err e)
     → CarriesOut (tag_of digest mark message said w) new out out (Err e)
@@ -40,7 +40,7 @@ tag_refused digest mark message said w new out e refused =
     new out out e refused
 
 pub tag_not_stored : (digest : List ℕ → List ℕ) (mark : Option ℕ) (message : List ℕ)
-    (said : Said) (w new : Workspace) (out : List ℕ) (e : Fault) (target : List ℕ) (kind : Kind)
+    (said : CommandHeader) (w new : Workspace) (out : List ℕ) (e : Fault) (target : List ℕ) (kind : Kind)
     → tagged mark said w ≡ Ok (target, kind)
     → (e ≢ fault.Memory
     → with_content digest (tag_content said message target kind) w.objects ≡ Err e)
@@ -53,7 +53,7 @@ tag_not_stored digest mark message said w new out e target kind is refused =
     (λ os. quiet (stored_in digest mark message said w target kind os)) new out out e refused)
 
 pub tag_kept : (digest : List ℕ → List ℕ) (mark : Option ℕ) (message : List ℕ)
-    (said : Said) (w new : Workspace) (out : List ℕ) (target : List ℕ) (kind : Kind)
+    (said : CommandHeader) (w new : Workspace) (out : List ℕ) (target : List ℕ) (kind : Kind)
     (os : List Object)
     → tagged mark said w ≡ Ok (target, kind)
     → with_content digest (tag_content said message target kind) w.objects ≡ Ok os
@@ -68,16 +68,16 @@ tag_kept digest mark message said w new out target kind os is stored left =
     (left, search rules))
 
 -- what is left, by its parts
-pub tag_left : (own left : Own) (mark : Option ℕ) (ref id name : List ℕ) (marks : Marks)
+pub tag_left : (state left : StreamState) (mark : Option ℕ) (ref id name : List ℕ) (marks : Marks)
     (tags : PendingTags) (p : Cells) (t : View) (q : Cells) (v : View) (refs : RefStore)
-    → left ≡ record own { said = None } → marks ≡ with_mark left.marks mark id
+    → left ≡ record state { said = None } → marks ≡ with_mark left.marks mark id
     → tags ≡ left.tags ++ (ref, id) ∷ [] → id ≡ name → v.committed ≡ t.committed
-    → option_map (commit_in (objects q v.entries)) own.commit
-    ≡ option_map (commit_in (objects p t.entries)) own.commit
-    → record (workspace_in own p t refs) {
+    → option_map (commit_in (objects q v.entries)) state.commit
+    ≡ option_map (commit_in (objects p t.entries)) state.commit
+    → record (workspace_in state p t refs) {
       objects = objects q v.entries;
-      marks = with_mark own.marks mark name;
-      tags = own.tags ++ (ref, name) ∷ [];
+      marks = with_mark state.marks mark name;
+      tags = state.tags ++ (ref, name) ∷ [];
       said = None;
     } ≡ workspace_in (record left { marks = marks; tags = tags }) q v refs
-tag_left own left mark ref id name marks tags p t q v refs e m s n c h = rw (m, s, e, n, c, h) refl
+tag_left state left mark ref id name marks tags p t q v refs e m s n c h = rw (m, s, e, n, c, h) refl

@@ -13,7 +13,7 @@ use Rattle.open_commits.specs.Changes.{modified, deleted, copied_to, renamed_to,
 use Rattle.open_commits.specs.Showing.{entry_shown}
 use Rattle.stream_state.specs.declared.fault.Fault.{Fault}
 use Rattle.stream_state.specs.declared.fault.Fault.TheVariants as fault
-use Rattle.stream_state.specs.declared.said.Inline.{Inline}
+use Rattle.stream_state.specs.declared.command_header.Inline.{Inline}
 use Rattle.stream_state.specs.Faults.{and_then}
 use Rattle.import_session.specs.Faults.{changed_or}
 use Rattle.import_session.specs.Workspace.{Workspace, Effect, quiet}

@@ -13,10 +13,10 @@ use Rattle.open_commits.specs.Ends.{Closed, closed}
 use Rattle.stream_state.specs.declared.branches.Tip.TheVariants.{At}
 use Rattle.stream_state.specs.declared.fault.Fault.{Fault}
 use Rattle.stream_state.specs.declared.fault.Fault.TheVariants as fault
-use Rattle.stream_state.specs.declared.said.Said.{Said}
+use Rattle.stream_state.specs.declared.command_header.CommandHeader.{CommandHeader}
 use Rattle.stream_state.specs.Faults.{and_then}
 use Rattle.import_session.specs.Faults.{changed_or}
-use Rattle.stream_state.specs.Said.{said_of}
+use Rattle.stream_state.specs.CommandHeader.{said_of}
 use Rattle.import_session.specs.Workspace.{Workspace, Effect, quiet}
 use Rattle.stream_state.specs.Marks.{room_for, with_mark}
 use Rattle.stream_state.specs.Branches.{branch_set, with_branch, tip_commit, tip_for}
@@ -46,7 +46,7 @@ encoding_said encoding workspace =
 -- ---- its message
 
 -- The header that these lines give. One of them must name a committer.
-abbrev pub header_of : Option ℕ → Said → List ℕ → Header
+abbrev pub header_of : Option ℕ → CommandHeader → List ℕ → Header
 header_of mark said committer = record {
   ref = said.ref_name;
   mark = mark;
@@ -55,7 +55,7 @@ header_of mark said committer = record {
   encoding = said.encoding;
 }
 
-abbrev pub header_said : Option ℕ → Said → Option (List ℕ) → Result Header Fault
+abbrev pub header_said : Option ℕ → CommandHeader → Option (List ℕ) → Result Header Fault
 header_said mark said None = Err (fault.Text text_fault.UnknownCommand)
 header_said mark said (Some committer) = Ok (header_of mark said committer)
 
@@ -86,7 +86,7 @@ opened_with workspace message header =
     opened_at workspace (tip_commit workspace.branches header.ref) (begun header message)
 
 -- The message comes only after the commit has begun.
-abbrev pub commit_opened : Option ℕ → List ℕ → Option Said → Workspace → Result Effect Fault
+abbrev pub commit_opened : Option ℕ → List ℕ → Option CommandHeader → Workspace → Result Effect Fault
 commit_opened mark message None workspace = Err (fault.Text text_fault.UnknownCommand)
 commit_opened mark message (Some said) workspace =
     and_then (header_said mark said said.committer) (opened_with workspace message)

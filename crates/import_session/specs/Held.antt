@@ -6,18 +6,18 @@ use Rattle.tenant_tables.specs.Objects.{objects}
 use Rattle.tenant_tables.specs.View.{View}
 use Rattle.tree_build.specs.Branch.{IsBranch}
 use Rattle.open_commits.specs.OpenCommit.{Stands}
-use Rattle.import_session.specs.Session.{Own}
+use Rattle.import_session.specs.Session.{StreamState}
 
 -- Both are branches among the objects: each tree that they name is one of them.
-pub record HoldsFiles (os : List Object) (own : Own) : Type 0 where
-  pub commit : IfSome own.commit (Stands os)
-  pub left : IfSome own.left (IsBranch os)
+pub record HoldsFiles (os : List Object) (state : StreamState) : Type 0 where
+  pub commit : IfSome state.commit (Stands os)
+  pub left : IfSome state.left (IsBranch os)
 
 -- The same among those of a table over a pool.
-abbrev pub FilesStand : Own → Cells → View → Type 0
-FilesStand own pool table = HoldsFiles (objects pool table.entries) own
+abbrev pub FilesStand : StreamState → Cells → View → Type 0
+FilesStand state pool table = HoldsFiles (objects pool table.entries) state
 
 -- A call changes neither of them.
-pub record KeepsFiles (old new : Own) : Type 0 where
+pub record KeepsFiles (old new : StreamState) : Type 0 where
   pub commit : new.commit ≡ old.commit
   pub left : new.left ≡ old.left

@@ -7,9 +7,9 @@ use Rattle.stream_state.specs.declared.branches.Tip.{Tip}
 use Rattle.stream_state.specs.declared.branches.Tip.TheVariants.{Unborn, Deleted, At}
 use Rattle.stream_state.specs.declared.fault.Fault.{Fault}
 use Rattle.stream_state.specs.declared.fault.Fault.TheVariants as fault
-use Rattle.stream_state.specs.declared.said.Said.{Said}
+use Rattle.stream_state.specs.declared.command_header.CommandHeader.{CommandHeader}
 use Rattle.stream_state.specs.Faults.{and_then}
-use Rattle.stream_state.specs.Said.{said_of}
+use Rattle.stream_state.specs.CommandHeader.{said_of}
 use Rattle.import_session.specs.Workspace.{Workspace, Effect, quiet}
 use Rattle.stream_state.specs.Marks.{room_for, with_mark}
 use Rattle.stream_state.specs.Branches.{branch_set, with_branch}
@@ -36,7 +36,7 @@ tip_from workspace ref from =
     else and_then (start_in workspace ref from) (λ id. Ok (At id))
 
 -- It comes only while a reset is open.
-abbrev pub branch_placed : CommitIsh → Option Said → Workspace → Result Effect Fault
+abbrev pub branch_placed : CommitIsh → Option CommandHeader → Workspace → Result Effect Fault
 branch_placed from None workspace = Err (fault.Text text_fault.UnknownCommand)
 branch_placed from (Some said) workspace =
     and_then (tip_from workspace said.ref_name from) (λ tip. quiet (record workspace {

@@ -13,9 +13,9 @@ use Rattle.stream_grammar.specs.Commands.{Done, Parsing, top}
 use Rattle.stream_grammar.specs.Shown.{done_shown}
 use Rattle.stream_state.specs.declared.fault.Fault.{Fault}
 use Rattle.stream_state.specs.declared.fault.Fault.TheVariants as fault
-use Rattle.import_session.specs.declared.own.Own.{Own as LentOwn}
-use Rattle.stream_state.specs.declared.said.Said.{Said}
-use Rattle.stream_state.specs.declared.said.Inline.{Inline}
+use Rattle.import_session.specs.declared.state.StreamState.{StreamState as LentStreamState}
+use Rattle.stream_state.specs.declared.command_header.CommandHeader.{CommandHeader}
+use Rattle.stream_state.specs.declared.command_header.Inline.{Inline}
 use Rattle.tree_build.specs.Branch.{Branch}
 use Rattle.open_commits.specs.OpenCommit.{HeldCommit, commit_held, commit_in}
 use Rattle.stream_state.specs.Faults.{text_first}
@@ -27,11 +27,11 @@ use Rattle.import_session.specs.Stream.{Running, Step}
 
 -- What a stream has of its own apart from its objects. The files of the open commit are held as a
 -- branch, and so are the files that the last commit left for the next one.
-pub record Own : Type 0 where
+pub record StreamState : Type 0 where
   pub marks : Marks
   pub branches : Branches
   pub tags : PendingTags
-  pub said : Option Said
+  pub said : Option CommandHeader
   pub commit : Option HeldCommit
   pub left : Option Branch
   pub inline : Option Inline
@@ -40,23 +40,23 @@ pub record Own : Type 0 where
   pub needs_done : Bool
 
 -- The same, apart from where it is in memory.
-abbrev pub own_shown : LentOwn → Own
-own_shown own = record {
-  marks = own.marks.entries;
-  branches = own.branches;
-  tags = own.tags.items;
-  said = own.said;
-  commit = option_map commit_held own.commit;
-  left = own.left;
-  inline = own.inline;
-  head = own.head;
-  forces = own.forces;
-  needs_done = own.needs_done;
+abbrev pub state_shown : LentStreamState → StreamState
+state_shown state = record {
+  marks = state.marks.entries;
+  branches = state.branches;
+  tags = state.tags.items;
+  said = state.said;
+  commit = option_map commit_held state.commit;
+  left = state.left;
+  inline = state.inline;
+  head = state.head;
+  forces = state.forces;
+  needs_done = state.needs_done;
 }
 
 -- The state before the first item.
-abbrev pub nothing_own : Own
-nothing_own = record {
+abbrev pub empty_state : StreamState
+empty_state = record {
   marks = [];
   branches = [];
   tags = [];
@@ -72,31 +72,31 @@ nothing_own = record {
 -- What a session keeps between items.
 pub record Kept : Type 0 where
   pub parsing : Parsing
-  pub own : Own
+  pub state : StreamState
   pub is_done : Bool
 
 -- The workspace of a stream whose objects are in a table over a pool. The files of the open commit
 -- are those that its branch means among these objects.
-abbrev pub workspace_in : Own → Cells → View → RefStore → Workspace
-workspace_in own pool table refs = record {
+abbrev pub workspace_in : StreamState → Cells → View → RefStore → Workspace
+workspace_in state pool table refs = record {
   objects = objects pool table.entries;
   committed = table.committed;
   refs = refs;
-  marks = own.marks;
-  branches = own.branches;
-  tags = own.tags;
-  said = own.said;
-  commit = option_map (commit_in (objects pool table.entries)) own.commit;
-  inline = own.inline;
-  head = own.head;
-  forces = own.forces;
-  needs_done = own.needs_done;
+  marks = state.marks;
+  branches = state.branches;
+  tags = state.tags;
+  said = state.said;
+  commit = option_map (commit_in (objects pool table.entries)) state.commit;
+  inline = state.inline;
+  head = state.head;
+  forces = state.forces;
+  needs_done = state.needs_done;
 }
 
 -- The running stream that a session is part of.
 abbrev pub running_in : Kept → Cells → View → RefStore → Running
 running_in session pool table refs = record {
-  workspace = workspace_in session.own pool table refs;
+  workspace = workspace_in session.state pool table refs;
   parsing = session.parsing;
   is_done = session.is_done;
 }
@@ -130,7 +130,7 @@ Takes (Err refusal) new out out' (Err e) = e ≢ fault.Memory → e ≡ refusal
 
 -- A session before its first item.
 abbrev pub new_session : Kept
-new_session = record { parsing = Ok top; own = nothing_own; is_done = false }
+new_session = record { parsing = Ok top; state = empty_state; is_done = false }
 
 -- The repository of all objects in a table over a pool, with these refs.
 abbrev pub repository_in : Cells → View → RefStore → Repository

@@ -15,7 +15,7 @@ use Rattle.open_commits.specs.OpenCommit.{OpenCommit}
 use Rattle.open_commits.specs.OpenFiles.{HasFiles}
 use Rattle.stream_state.specs.declared.branches.Tip.{Tip}
 use Rattle.stream_state.specs.declared.branches.Tip.TheVariants.{Unborn, Deleted, At}
-use Rattle.stream_state.specs.declared.said.Said.{Said}
+use Rattle.stream_state.specs.declared.command_header.CommandHeader.{CommandHeader}
 use Rattle.import_session.specs.Workspace.{Workspace}
 
 -- A repository that a stream may open on, and that it leaves: its objects are good, all trees are
@@ -42,7 +42,7 @@ pub record IsPending (objects : List Object) (tag : List ℕ × List ℕ) : Type
   pub named : (own : List ℕ) × (tag.0 ≡ codes "refs/tags/" ++ own) × IsTagNamed objects tag.1 own
 
 -- What the lines of the open command have said can be written.
-pub record IsWellSaid (said : Said) : Type 0 where
+pub record IsWellFormedHeader (said : CommandHeader) : Type 0 where
   pub ref : IsShortRefName said.ref_name
   pub author : IfSome said.author IsWrittenIdent
   pub committer : IfSome said.committer IsWrittenIdent
@@ -69,6 +69,6 @@ pub record IsSound (digest : List ℕ → List ℕ) (workspace : Workspace) : Ty
   pub marks : All (λ mark. IsObjectName mark.1) workspace.marks
   pub branches : All (IsBranch workspace.objects) workspace.branches
   pub tags : All (IsPending workspace.objects) workspace.tags
-  pub said : IfSome workspace.said IsWellSaid
+  pub said : IfSome workspace.said IsWellFormedHeader
   pub commit : IfSome workspace.commit (IsOpen workspace.objects)
   pub inline : IfSome workspace.inline (λ file. IsPath file.path)

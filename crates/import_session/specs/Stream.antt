@@ -66,14 +66,14 @@ last_checkpoint workspace = record {
 
 -- The status of a stream. Either it runs, and a tail of bytes follows its items; or it was refused
 -- under a number, and only the repository at the last checkpoint is left.
-pub data Standing : Type 0 where
-  Runs : Running → Tail → Standing
-  Refused : ℕ → Repository → Standing
+pub data StreamStatus : Type 0 where
+  Runs : Running → Tail → StreamStatus
+  Refused : ℕ → Repository → StreamStatus
 
 -- What a stream printed so far, and its status.
 pub record Outcome : Type 0 where
   pub replies : List ℕ
-  pub standing : Standing
+  pub standing : StreamStatus
 
 abbrev pub after_reply : List ℕ → Outcome → Outcome
 after_reply reply later = record { replies = reply ++ later.replies; standing = later.standing }
@@ -150,7 +150,7 @@ running_end digest now (Rest skips bytes) = bytes_end digest now bytes
 running_end digest now (Failed fault) = ended_by (item_code fault) (last_checkpoint now.workspace)
 
 -- The end of a stream. After `done` no bytes are left over.
-abbrev pub finished : (List ℕ → List ℕ) → Standing → End
+abbrev pub finished : (List ℕ → List ℕ) → StreamStatus → End
 finished digest (Refused code repository) = ended_by code repository
 finished digest (Runs now tail) =
     if now.is_done then ended_well [] now.workspace else running_end digest now tail

@@ -7,9 +7,9 @@ use Rattle.stream_grammar.specs.declared.fault.Fault.TheVariants as text_fault
 use Rattle.stream_grammar.specs.Names.{CommitIsh}
 use Rattle.stream_state.specs.declared.fault.Fault.{Fault}
 use Rattle.stream_state.specs.declared.fault.Fault.TheVariants as fault
-use Rattle.stream_state.specs.declared.said.Said.{Said}
+use Rattle.stream_state.specs.declared.command_header.CommandHeader.{CommandHeader}
 use Rattle.stream_state.specs.Faults.{and_then}
-use Rattle.stream_state.specs.Said.{said_of}
+use Rattle.stream_state.specs.CommandHeader.{said_of}
 use Rattle.import_session.specs.Workspace.{Workspace, Effect, quiet}
 use Rattle.stream_state.specs.Marks.{room_for, with_mark}
 use Rattle.import_session.specs.CommitIshes.{named_in}
@@ -23,7 +23,7 @@ abbrev pub tag_begun : List ℕ → Workspace → Result Effect Fault
 tag_begun ref workspace = quiet (record workspace { said = Some (said_of ref) })
 
 -- A line adds to what the lines before it said. It comes only while a command is open.
-abbrev pub said_more : (Said → Said) → Option Said → Workspace → Result Effect Fault
+abbrev pub said_more : (CommandHeader → CommandHeader) → Option CommandHeader → Workspace → Result Effect Fault
 said_more more None workspace = Err (fault.Text text_fault.UnknownCommand)
 said_more more (Some said) workspace = quiet (record workspace { said = Some (more said) })
 
@@ -53,7 +53,7 @@ tag_made digest mark ref tag workspace =
 
 -- The tagged object and its kind. It is looked up at the data of the tag, and is not peeled. The
 -- limits on marks and on pending tags are judged after it.
-abbrev pub tagged : Option ℕ → Said → Workspace → Result (List ℕ × Kind) Fault
+abbrev pub tagged : Option ℕ → CommandHeader → Workspace → Result (List ℕ × Kind) Fault
 tagged mark said workspace =
     and_then (tag_is_open said.ref_name) (λ _.
     and_then (named_in workspace said.target) (λ target.
@@ -62,13 +62,13 @@ tagged mark said workspace =
     and_then (room_for_tag workspace.tags) (λ _. Ok (target, target_kind))))))
 
 -- Then the tag is stored.
-abbrev pub tag_of : (List ℕ → List ℕ) → Option ℕ → List ℕ → Said → Workspace → Result Effect Fault
+abbrev pub tag_of : (List ℕ → List ℕ) → Option ℕ → List ℕ → CommandHeader → Workspace → Result Effect Fault
 tag_of digest mark message said workspace =
     and_then (tagged mark said workspace) (λ target.
     tag_made digest mark said.ref_name (tag_content said message target.0 target.1) workspace)
 
 -- The data comes only while a tag is open.
-abbrev pub tag_stored : (List ℕ → List ℕ) → Option ℕ → List ℕ → Option Said → Workspace
+abbrev pub tag_stored : (List ℕ → List ℕ) → Option ℕ → List ℕ → Option CommandHeader → Workspace
     → Result Effect Fault
 tag_stored digest mark message None workspace = Err (fault.Text text_fault.UnknownCommand)
 tag_stored digest mark message (Some said) workspace = tag_of digest mark message said workspace

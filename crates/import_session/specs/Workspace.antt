@@ -3,8 +3,8 @@ use Rattle.std.specs.Prelude.{ℕ, Bool, false, List, [], length, Option, None, 
 use Rattle.git_model.specs.RefStore.{RefStore}
 use Rattle.git_model.specs.Repository.{Object, Repository}
 use Rattle.stream_state.specs.declared.fault.Fault.{Fault}
-use Rattle.stream_state.specs.declared.said.Said.{Said}
-use Rattle.stream_state.specs.declared.said.Inline.{Inline}
+use Rattle.stream_state.specs.declared.command_header.CommandHeader.{CommandHeader}
+use Rattle.stream_state.specs.declared.command_header.Inline.{Inline}
 use Rattle.open_commits.specs.OpenCommit.{OpenCommit}
 use Rattle.stream_state.specs.Marks.{Marks}
 use Rattle.stream_state.specs.Branches.{Branches}
@@ -22,7 +22,7 @@ pub record Workspace : Type 0 where
   pub marks : Marks
   pub branches : Branches
   pub tags : PendingTags
-  pub said : Option Said
+  pub said : Option CommandHeader
   pub commit : Option OpenCommit
   pub inline : Option Inline
   pub head : Option (List ℕ)

@@ -11,12 +11,12 @@ ghost use Rattle.import_session.specs.Meaning.{after_act, shown_by, stored_or_sh
 ghost use Rattle.import_session.specs.Lent.{IsUnchanged, Keeps};
 ghost use Rattle.import_session.specs.Held.{FilesStand};
 ghost use Rattle.import_session.specs.Sound.{IsSound};
-ghost use Rattle.import_session.specs.Session.{own_shown, workspace_in, CarriesOut, KeepsCommitted, Own as OwnShown};
+ghost use Rattle.import_session.specs.Session.{state_shown, workspace_in, CarriesOut, KeepsCommitted, StreamState as StreamStateShown};
 
 use crate::changes::{put_contents, show_entry};
 use crate::checkpoint::save;
-use crate::own::Own;
 use crate::resets::place;
+use crate::state::StreamState;
 use crate::tags::store_tag;
 use content_pool::Pool;
 use git_objects::{Kind, Name, Naming};
@@ -41,14 +41,14 @@ fn store_marked<N: Naming>(
     requires stands { StandsIn N.digest_of pool.old table.old.entries }
     requires room { HasRoom pool.old }
     ensures keeps { Keeps N.digest_of pool.old table.old pool.new table.new }
-    ensures done { (own : OwnShown) (refs : RefStore) (out : List ℕ)
-        → FilesStand own pool.old table.old → CarriesOut
+    ensures done { (state : StreamStateShown) (refs : RefStore) (out : List ℕ)
+        → FilesStand state pool.old table.old → CarriesOut
         (stored_or_shown N.digest_of (StoreBlob mark contents.now)
-        (workspace_in (record own { marks = marks.old.entries }) pool.old table.old refs))
-        (workspace_in (record own { marks = marks.new.entries }) pool.new table.new refs)
+        (workspace_in (record state { marks = marks.old.entries }) pool.old table.old refs))
+        (workspace_in (record state { marks = marks.new.entries }) pool.new table.new refs)
         out out result }
-    ensures held { (own : OwnShown) → FilesStand own pool.old table.old
-        → FilesStand own pool.new table.new }
+    ensures held { (state : StreamStateShown) → FilesStand state pool.old table.old
+        → FilesStand state pool.new table.new }
     ensures same { OnErr result (IsUnchanged pool.old table.old pool.new table.new) }
 {
     marks::make_room(marks, &mark)?;
@@ -63,29 +63,29 @@ fn show_or_store<N: Naming>(
     pool: &mut Pool<N>,
     table: &mut Table,
     refs: &Refs,
-    own: &mut Own,
+    state: &mut StreamState,
     act: &Act<'_>,
     out: &mut Vec<u8>,
 ) -> Result<(), Fault>
     requires stands { StandsIn N.digest_of pool.old table.old.entries }
     requires room { HasRoom pool.old }
-    requires held { FilesStand (own_shown own.old) pool.old table.old }
+    requires held { FilesStand (state_shown state.old) pool.old table.old }
     ensures keeps { Keeps N.digest_of pool.old table.old pool.new table.new }
     ensures done { IsSound N.digest_of
-        (workspace_in (own_shown own.old) pool.old table.old refs.now) → CarriesOut
+        (workspace_in (state_shown state.old) pool.old table.old refs.now) → CarriesOut
         (stored_or_shown N.digest_of (act_shown act.now)
-        (workspace_in (own_shown own.old) pool.old table.old refs.now))
-        (workspace_in (own_shown own.new) pool.new table.new refs.now)
+        (workspace_in (state_shown state.old) pool.old table.old refs.now))
+        (workspace_in (state_shown state.new) pool.new table.new refs.now)
         out.old.items out.new.items result }
     ensures same { OnErr result (IsUnchanged pool.old table.old pool.new table.new) }
     ensures printed { OnErr result (out.new.items ≡ out.old.items) }
-    ensures held { OnOk result (FilesStand (own_shown own.new) pool.new table.new) }
+    ensures held { OnOk result (FilesStand (state_shown state.new) pool.new table.new) }
 {
     match act {
         Act::StoreBlob { mark, contents } => {
-            store_marked(pool, table, &mut own.marks, *mark, contents)
+            store_marked(pool, table, &mut state.marks, *mark, contents)
         }
-        _ => show(pool, table, refs, own, act, out),
+        _ => show(pool, table, refs, state, act, out),
     }
 }
 
@@ -95,29 +95,29 @@ fn show<N: Naming>(
     pool: &Pool<N>,
     table: &Table,
     refs: &Refs,
-    own: &mut Own,
+    state: &mut StreamState,
     act: &Act<'_>,
     out: &mut Vec<u8>,
 ) -> Result<(), Fault>
     requires stands { StandsIn N.digest_of pool.now table.now.entries }
-    requires held { FilesStand (own_shown own.old) pool.now table.now }
+    requires held { FilesStand (state_shown state.old) pool.now table.now }
     ensures done { IsSound N.digest_of
-        (workspace_in (own_shown own.old) pool.now table.now refs.now) → CarriesOut
+        (workspace_in (state_shown state.old) pool.now table.now refs.now) → CarriesOut
         (shown_by (act_shown act.now)
-        (workspace_in (own_shown own.old) pool.now table.now refs.now))
-        (workspace_in (own_shown own.new) pool.now table.now refs.now)
+        (workspace_in (state_shown state.old) pool.now table.now refs.now))
+        (workspace_in (state_shown state.new) pool.now table.now refs.now)
         out.old.items out.new.items result }
     ensures printed { OnErr result (out.new.items ≡ out.old.items) }
-    ensures held { OnOk result (FilesStand (own_shown own.new) pool.now table.now) }
+    ensures held { OnOk result (FilesStand (state_shown state.new) pool.now table.now) }
 {
     match act {
-        Act::ShowMark(mark) => print_marked(&own.marks, *mark, out),
-        Act::ShowObject(object) => print_referred(pool, table, &own.marks, *object, out),
+        Act::ShowMark(mark) => print_marked(&state.marks, *mark, out),
+        Act::ShowObject(object) => print_referred(pool, table, &state.marks, *object, out),
         Act::ShowEntry { root, path } => {
-            print_stored(own.alloc, pool, table, &own.marks, *root, path, out)
+            print_stored(state.alloc, pool, table, &state.marks, *root, path, out)
         }
         Act::Progress(line) => Ok(print_line(line, out)?),
-        _ => place(pool, table, refs, own, act),
+        _ => place(pool, table, refs, state, act),
     }
 }
 
@@ -128,30 +128,30 @@ pub fn carry_out<N: Naming>(
     pool: &mut Pool<N>,
     table: &mut Table,
     refs: &mut Refs,
-    own: &mut Own,
+    state: &mut StreamState,
     act: &Act<'_>,
     out: &mut Vec<u8>,
 ) -> Result<(), Fault>
     requires stands { StandsIn N.digest_of pool.old table.old.entries }
     requires room { HasRoomBeside pool.old table.old.entries }
-    requires held { FilesStand (own_shown own.old) pool.old table.old }
+    requires held { FilesStand (state_shown state.old) pool.old table.old }
     ensures keeps { Keeps N.digest_of pool.old table.old pool.new table.new }
     ensures done { IsSound N.digest_of
-        (workspace_in (own_shown own.old) pool.old table.old refs.old) → CarriesOut
+        (workspace_in (state_shown state.old) pool.old table.old refs.old) → CarriesOut
         (after_act N.digest_of (act_shown act.now)
-        (workspace_in (own_shown own.old) pool.old table.old refs.old))
-        (workspace_in (own_shown own.new) pool.new table.new refs.new)
+        (workspace_in (state_shown state.old) pool.old table.old refs.old))
+        (workspace_in (state_shown state.new) pool.new table.new refs.new)
         out.old.items out.new.items result }
     ensures committed { OnErr result (KeepsCommitted pool.old table.old pool.new table.new) }
     ensures refs { OnErr result (refs.new ≡ refs.old) }
     ensures printed { OnErr result (out.new.items ≡ out.old.items) }
-    ensures held { OnOk result (FilesStand (own_shown own.new) pool.new table.new) }
+    ensures held { OnOk result (FilesStand (state_shown state.new) pool.new table.new) }
 {
     match act {
-        Act::StoreTag { mark, message } => store_tag(pool, table, refs, own, *mark, message),
-        Act::PutContents(bytes) => put_contents(pool, table, own, bytes),
-        Act::ShowBranchEntry(path) => show_entry(pool, table, own, path, out),
-        Act::Checkpoint | Act::Finish => save(pool, table, refs, own, out),
-        _ => show_or_store(pool, table, refs, own, act, out),
+        Act::StoreTag { mark, message } => store_tag(pool, table, refs, state, *mark, message),
+        Act::PutContents(bytes) => put_contents(pool, table, state, bytes),
+        Act::ShowBranchEntry(path) => show_entry(pool, table, state, path, out),
+        Act::Checkpoint | Act::Finish => save(pool, table, refs, state, out),
+        _ => show_or_store(pool, table, refs, state, act, out),
     }
 }

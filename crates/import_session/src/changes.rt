@@ -16,22 +16,22 @@ ghost use Rattle.import_session.specs.Lent.{Keeps};
 ghost use Rattle.import_session.specs.Commits.{contents_awaited};
 ghost use Rattle.import_session.specs.Changes.{branch_entry_shown, changed_by, commit_changed, contents_stored, moved_by};
 ghost use Rattle.import_session.specs.Meaning.{within_commit};
-ghost use Rattle.import_session.specs.Session.{own_shown, workspace_in, CarriesOut, KeepsCommitted, Leaves};
+ghost use Rattle.import_session.specs.Session.{state_shown, workspace_in, CarriesOut, KeepsCommitted, Leaves};
 ghost use Rattle.import_session.specs.Held.{FilesStand, KeepsFiles};
 ghost use Rattle.import_session.specs.Sound.{IsSound};
 
 use crate::commit_ishes::{commit_named, start_of};
 use crate::fault::fault_of;
-use crate::own::{Own, keep_open};
 use crate::print::print_entry;
+use crate::state::{StreamState, keep_open};
 use content_pool::Pool;
 use git_model::FileMode;
 use git_objects::Naming;
 use git_paths::Path;
 use open_commits::OpenCommit;
 use stream_grammar::{Act, CommitIsh};
+use stream_state::command_header::Inline;
 use stream_state::fault::Fault;
-use stream_state::said::Inline;
 use tenant_refs::Refs;
 use tenant_tables::Table;
 
@@ -50,20 +50,20 @@ fn start_from<N: Naming>(
     pool: &Pool<N>,
     table: &Table,
     refs: &Refs,
-    own: &Own,
+    state: &StreamState,
     commit: &mut OpenCommit,
     from: &CommitIsh<'_>,
 ) -> Result<(), Fault>
     requires stands { StandsIn N.digest_of pool.now table.now.entries }
     requires held { IsHeld (objects pool.now table.now.entries) commit.old }
-    ensures done { let workspace = workspace_in (own_shown own.now) pool.now table.now refs.now in
+    ensures done { let workspace = workspace_in (state_shown state.now) pool.now table.now refs.now in
         AreObjects N.digest_of workspace.objects → Leaves
         (changed_by workspace (StartFrom (said_shown from.now))
         (shown_in workspace.objects commit.old))
         (shown_in workspace.objects commit.new) result }
     ensures held { OnOk result (IsHeld (objects pool.now table.now.entries) commit.new) }
 {
-    let id = start_of(pool, table, refs, own, &commit.header.ref_name, from)?;
+    let id = start_of(pool, table, refs, state, &commit.header.ref_name, from)?;
     passed_on(commit.start_from(pool, table, id))
 }
 
@@ -72,20 +72,20 @@ fn merge<N: Naming>(
     pool: &Pool<N>,
     table: &Table,
     refs: &Refs,
-    own: &Own,
+    state: &StreamState,
     commit: &mut OpenCommit,
     other: &CommitIsh<'_>,
 ) -> Result<(), Fault>
     requires stands { StandsIn N.digest_of pool.now table.now.entries }
     requires held { IsHeld (objects pool.now table.now.entries) commit.old }
-    ensures done { let workspace = workspace_in (own_shown own.now) pool.now table.now refs.now in
+    ensures done { let workspace = workspace_in (state_shown state.now) pool.now table.now refs.now in
         AreObjects N.digest_of workspace.objects → Leaves
         (changed_by workspace (Merge (said_shown other.now))
         (shown_in workspace.objects commit.old))
         (shown_in workspace.objects commit.new) result }
     ensures held { OnOk result (IsHeld (objects pool.now table.now.entries) commit.new) }
 {
-    let id = commit_named(pool, table, refs, own, other)?;
+    let id = commit_named(pool, table, refs, state, other)?;
     passed_on(commit.merge(id))
 }
 
@@ -123,23 +123,23 @@ fn change_commit<N: Naming>(
     pool: &Pool<N>,
     table: &Table,
     refs: &Refs,
-    own: &Own,
+    state: &StreamState,
     commit: &mut OpenCommit,
     act: &Act<'_>,
 ) -> Result<(), Fault>
     requires stands { StandsIn N.digest_of pool.now table.now.entries }
     requires held { IsHeld (objects pool.now table.now.entries) commit.old }
-    ensures done { let workspace = workspace_in (own_shown own.now) pool.now table.now refs.now in
+    ensures done { let workspace = workspace_in (state_shown state.now) pool.now table.now refs.now in
         AreObjects N.digest_of workspace.objects → Leaves
         (changed_by workspace (act_shown act.now) (shown_in workspace.objects commit.old))
         (shown_in workspace.objects commit.new) result }
     ensures held { OnOk result (IsHeld (objects pool.now table.now.entries) commit.new) }
 {
     match act {
-        Act::StartFrom(from) => start_from(pool, table, refs, own, commit, from),
-        Act::Merge(other) => merge(pool, table, refs, own, commit, other),
+        Act::StartFrom(from) => start_from(pool, table, refs, state, commit, from),
+        Act::Merge(other) => merge(pool, table, refs, state, commit, other),
         Act::Modify { mode, object, path } => {
-            passed_on(commit.modify(pool, table, &own.marks, *mode, *object, path))
+            passed_on(commit.modify(pool, table, &state.marks, *mode, *object, path))
         }
         _ => move_files(pool, table, commit, act),
     }
@@ -150,35 +150,40 @@ fn change_open<N: Naming>(
     pool: &Pool<N>,
     table: &Table,
     refs: &Refs,
-    own: &mut Own,
+    state: &mut StreamState,
     act: &Act<'_>,
 ) -> Result<(), Fault>
     requires stands { StandsIn N.digest_of pool.now table.now.entries }
-    requires held { FilesStand (own_shown own.old) pool.now table.now }
+    requires held { FilesStand (state_shown state.old) pool.now table.now }
     ensures done { (out : List ℕ) → IsSound N.digest_of
-        (workspace_in (own_shown own.old) pool.now table.now refs.now) → CarriesOut
-        (let now = workspace_in (own_shown own.old) pool.now table.now refs.now in
+        (workspace_in (state_shown state.old) pool.now table.now refs.now) → CarriesOut
+        (let now = workspace_in (state_shown state.old) pool.now table.now refs.now in
         commit_changed (act_shown act.now) now.commit now)
-        (workspace_in (own_shown own.new) pool.now table.now refs.now) out out result }
-    ensures held { OnOk result (FilesStand (own_shown own.new) pool.now table.now) }
+        (workspace_in (state_shown state.new) pool.now table.now refs.now) out out result }
+    ensures held { OnOk result (FilesStand (state_shown state.new) pool.now table.now) }
 {
-    let Some(mut commit) = own.commit.take() else {
+    let Some(mut commit) = state.commit.take() else {
         return Err(Fault::Text(stream_grammar::Fault::UnknownCommand));
     };
-    let changed = change_commit(pool, table, refs, own, &mut commit, act);
-    keep_open(own, commit);
+    let changed = change_commit(pool, table, refs, state, &mut commit, act);
+    keep_open(state, commit);
     changed
 }
 
 // 'M' with 'inline': the next data is the contents of this file.
-fn await_contents(own: &mut Own, refs: &Refs, mode: FileMode, path: &Path) -> Result<(), Fault>
+fn await_contents(
+    state: &mut StreamState,
+    refs: &Refs,
+    mode: FileMode,
+    path: &Path,
+) -> Result<(), Fault>
     ensures done { (pool : Cells) (table : View) (out : List ℕ) → CarriesOut
-        (contents_awaited mode path.now (workspace_in (own_shown own.old) pool table refs.now))
-        (workspace_in (own_shown own.new) pool table refs.now) out out result }
-    ensures files { KeepsFiles (own_shown own.old) (own_shown own.new) }
+        (contents_awaited mode path.now (workspace_in (state_shown state.old) pool table refs.now))
+        (workspace_in (state_shown state.new) pool table refs.now) out out result }
+    ensures files { KeepsFiles (state_shown state.old) (state_shown state.new) }
 {
-    let path = path.copied(own.alloc)?;
-    own.inline = Some(Inline { mode, path });
+    let path = path.copied(state.alloc)?;
+    state.inline = Some(Inline { mode, path });
     Ok(())
 }
 
@@ -188,21 +193,21 @@ pub fn change<N: Naming>(
     pool: &Pool<N>,
     table: &Table,
     refs: &Refs,
-    own: &mut Own,
+    state: &mut StreamState,
     act: &Act<'_>,
 ) -> Result<(), Fault>
     requires stands { StandsIn N.digest_of pool.now table.now.entries }
-    requires held { FilesStand (own_shown own.old) pool.now table.now }
+    requires held { FilesStand (state_shown state.old) pool.now table.now }
     ensures done { (out : List ℕ) → IsSound N.digest_of
-        (workspace_in (own_shown own.old) pool.now table.now refs.now) → CarriesOut
+        (workspace_in (state_shown state.old) pool.now table.now refs.now) → CarriesOut
         (within_commit (act_shown act.now)
-        (workspace_in (own_shown own.old) pool.now table.now refs.now))
-        (workspace_in (own_shown own.new) pool.now table.now refs.now) out out result }
-    ensures held { OnOk result (FilesStand (own_shown own.new) pool.now table.now) }
+        (workspace_in (state_shown state.old) pool.now table.now refs.now))
+        (workspace_in (state_shown state.new) pool.now table.now refs.now) out out result }
+    ensures held { OnOk result (FilesStand (state_shown state.new) pool.now table.now) }
 {
     match act {
-        Act::ModifyInline { mode, path } => await_contents(own, refs, *mode, path),
-        _ => change_open(pool, table, refs, own, act),
+        Act::ModifyInline { mode, path } => await_contents(state, refs, *mode, path),
+        _ => change_open(pool, table, refs, state, act),
     }
 }
 
@@ -210,26 +215,26 @@ pub fn change<N: Naming>(
 pub fn put_contents<N: Naming>(
     pool: &mut Pool<N>,
     table: &mut Table,
-    own: &mut Own,
+    state: &mut StreamState,
     bytes: &[u8],
 ) -> Result<(), Fault>
     requires stands { StandsIn N.digest_of pool.old table.old.entries }
     requires room { HasRoomBeside pool.old table.old.entries }
-    requires held { FilesStand (own_shown own.old) pool.old table.old }
+    requires held { FilesStand (state_shown state.old) pool.old table.old }
     ensures keeps { Keeps N.digest_of pool.old table.old pool.new table.new }
     ensures done { (refs : RefStore) (out : List ℕ) → CarriesOut
-        (let old = workspace_in (own_shown own.old) pool.old table.old refs in
+        (let old = workspace_in (state_shown state.old) pool.old table.old refs in
         contents_stored N.digest_of bytes.now old.inline old.commit old)
-        (workspace_in (own_shown own.new) pool.new table.new refs) out out result }
+        (workspace_in (state_shown state.new) pool.new table.new refs) out out result }
     ensures committed { KeepsCommitted pool.old table.old pool.new table.new }
-    ensures held { OnOk result (FilesStand (own_shown own.new) pool.new table.new) }
+    ensures held { OnOk result (FilesStand (state_shown state.new) pool.new table.new) }
 {
-    let Some(inline) = own.inline.take() else {
+    let Some(inline) = state.inline.take() else {
         return Err(Fault::Text(stream_grammar::Fault::UnknownCommand));
     };
     // The files that the last commit left were taken when this one opened.
-    own.left = None;
-    let Some(commit) = &mut own.commit else {
+    state.left = None;
+    let Some(commit) = &mut state.commit else {
         return Err(Fault::Text(stream_grammar::Fault::UnknownCommand));
     };
     let _within = table.committed_len();
@@ -243,26 +248,26 @@ pub fn put_contents<N: Naming>(
 pub fn show_entry<N: Naming>(
     pool: &mut Pool<N>,
     table: &mut Table,
-    own: &mut Own,
+    state: &mut StreamState,
     path: &Path,
     out: &mut Vec<u8>,
 ) -> Result<(), Fault>
     requires stands { StandsIn N.digest_of pool.old table.old.entries }
     requires room { HasRoomBeside pool.old table.old.entries }
-    requires held { FilesStand (own_shown own.old) pool.old table.old }
+    requires held { FilesStand (state_shown state.old) pool.old table.old }
     ensures keeps { Keeps N.digest_of pool.old table.old pool.new table.new }
     ensures done { (refs : RefStore) → CarriesOut
-        (let old = workspace_in (own_shown own.old) pool.old table.old refs in
+        (let old = workspace_in (state_shown state.old) pool.old table.old refs in
         branch_entry_shown N.digest_of path.now old.commit old)
-        (workspace_in (own_shown own.new) pool.new table.new refs)
+        (workspace_in (state_shown state.new) pool.new table.new refs)
         out.old.items out.new.items result }
     ensures committed { KeepsCommitted pool.old table.old pool.new table.new }
     ensures printed { OnErr result (out.new.items ≡ out.old.items) }
-    ensures held { OnOk result (FilesStand (own_shown own.new) pool.new table.new) }
+    ensures held { OnOk result (FilesStand (state_shown state.new) pool.new table.new) }
 {
     // The files that the last commit left were taken when this one opened.
-    own.left = None;
-    let Some(commit) = &mut own.commit else {
+    state.left = None;
+    let Some(commit) = &mut state.commit else {
         return Err(Fault::Text(stream_grammar::Fault::UnknownCommand));
     };
     let _within = table.committed_len();

@@ -8,9 +8,9 @@ ghost use Rattle.tenant_tables.specs.StandsIn.{StandsIn};
 ghost use Rattle.stream_state.specs.Checkpoints.{by_tags};
 ghost use Rattle.import_session.specs.Checkpoints.{by_branches, checkpoint, kept_by, kept_lines, moves, saved_by};
 ghost use Rattle.import_session.specs.Held.{KeepsFiles};
-ghost use Rattle.import_session.specs.Session.{own_shown, workspace_in, CarriesOut};
+ghost use Rattle.import_session.specs.Session.{state_shown, workspace_in, CarriesOut};
 
-use crate::own::Own;
+use crate::state::StreamState;
 use content_pool::Pool;
 use git_objects::{Name, Naming};
 use stream_state::branches::Tip;
@@ -27,18 +27,18 @@ fn moves<N: Naming>(
     pool: &Pool<N>,
     table: &Table,
     refs: &Refs,
-    own: &Own,
+    state: &StreamState,
     ref_name: &RefName,
     tip: &Name,
 ) -> Result<bool, Fault>
     requires { StandsIn N.digest_of pool.now table.now.entries }
     ensures judged { AreObjects N.digest_of (objects pool.now table.now.entries)
         → IfOk result (λ yes. yes ≡ moves
-        (workspace_in (own_shown own.now) pool.now table.now refs.now) ref_name.now tip.now) }
+        (workspace_in (state_shown state.now) pool.now table.now refs.now) ref_name.now tip.now) }
     ensures refused { IfErr result (λ fault. fault ≡ Fault.Memory) }
 {
     match refs.get(ref_name.as_bytes()) {
-        Some(old) if !own.forces => is_fast_forward(own.alloc, pool, table, old, tip),
+        Some(old) if !state.forces => is_fast_forward(state.alloc, pool, table, old, tip),
         _ => Ok(true),
     }
 }
@@ -48,13 +48,13 @@ fn add_branch<N: Naming>(
     pool: &Pool<N>,
     table: &Table,
     refs: &Refs,
-    own: &Own,
+    state: &StreamState,
     branch: (&RefName, &Tip),
     saving: &mut Saving,
 ) -> Result<(), Fault>
     requires { StandsIn N.digest_of pool.now table.now.entries }
     ensures saved { AreObjects N.digest_of (objects pool.now table.now.entries) → OnOk result
-        (let workspace = workspace_in (own_shown own.now) pool.now table.now refs.now in
+        (let workspace = workspace_in (state_shown state.now) pool.now table.now refs.now in
         (with_changes refs.now saving.new.changes.items ≡ saved_by workspace
         (with_changes refs.now saving.old.changes.items) branch.entry.0.now branch.entry.1.now)
         × (saving.new.kept.items ≡ saving.old.kept.items
@@ -64,10 +64,10 @@ fn add_branch<N: Naming>(
     let (ref_name, tip) = branch;
     match tip {
         Tip::Unborn => Ok(()),
-        Tip::Deleted => add_change(own.alloc, ref_name, None, &mut saving.changes),
+        Tip::Deleted => add_change(state.alloc, ref_name, None, &mut saving.changes),
         Tip::At(tip) => {
-            if moves(pool, table, refs, own, ref_name, tip)? {
-                return add_change(own.alloc, ref_name, Some(*tip), &mut saving.changes);
+            if moves(pool, table, refs, state, ref_name, tip)? {
+                return add_change(state.alloc, ref_name, Some(*tip), &mut saving.changes);
             }
             Ok(print_kept(ref_name, &mut saving.kept)?)
         }
@@ -79,21 +79,21 @@ fn add_branches<N: Naming>(
     pool: &Pool<N>,
     table: &Table,
     refs: &Refs,
-    own: &Own,
+    state: &StreamState,
     saving: &mut Saving,
 ) -> Result<(), Fault>
     requires { StandsIn N.digest_of pool.now table.now.entries }
     ensures saved { AreObjects N.digest_of (objects pool.now table.now.entries) → OnOk result
-        (let workspace = workspace_in (own_shown own.now) pool.now table.now refs.now in
+        (let workspace = workspace_in (state_shown state.now) pool.now table.now refs.now in
         (with_changes refs.now saving.new.changes.items ≡ by_branches workspace
         (with_changes refs.now saving.old.changes.items) workspace.branches)
         × (saving.new.kept.items
         ≡ saving.old.kept.items ++ kept_lines workspace workspace.branches)) }
     ensures refused { IfErr result (λ fault. fault ≡ Fault.Memory) }
 {
-    for place in 0..own.branches.len() {
-        let branch = own.branches.at(place).unwrap();
-        add_branch(pool, table, refs, own, branch, saving)?;
+    for place in 0..state.branches.len() {
+        let branch = state.branches.at(place).unwrap();
+        add_branch(pool, table, refs, state, branch, saving)?;
     }
     Ok(())
 }
@@ -103,23 +103,23 @@ fn saving_of<N: Naming>(
     pool: &Pool<N>,
     table: &Table,
     refs: &Refs,
-    own: &Own,
+    state: &StreamState,
 ) -> Result<Saving, Fault>
     requires { StandsIn N.digest_of pool.now table.now.entries }
     ensures saved { AreObjects N.digest_of (objects pool.now table.now.entries)
         → IfOk result (λ saving.
-        let workspace = workspace_in (own_shown own.now) pool.now table.now refs.now in
+        let workspace = workspace_in (state_shown state.now) pool.now table.now refs.now in
         (with_changes refs.now saving.changes.items ≡ by_tags
         (by_branches workspace workspace.refs workspace.branches) workspace.tags)
         × (saving.kept.items ≡ kept_lines workspace workspace.branches)) }
     ensures refused { IfErr result (λ fault. fault ≡ Fault.Memory) }
 {
     let mut saving = Saving {
-        changes: Vec::new(own.alloc),
-        kept: Vec::new(own.alloc),
+        changes: Vec::new(state.alloc),
+        kept: Vec::new(state.alloc),
     };
-    add_branches(pool, table, refs, own, &mut saving)?;
-    add_tags(own.alloc, &own.tags, &mut saving.changes)?;
+    add_branches(pool, table, refs, state, &mut saving)?;
+    add_tags(state.alloc, &state.tags, &mut saving.changes)?;
     Ok(saving)
 }
 
@@ -129,23 +129,23 @@ pub fn save<N: Naming>(
     pool: &Pool<N>,
     table: &mut Table,
     refs: &mut Refs,
-    own: &mut Own,
+    state: &mut StreamState,
     out: &mut Vec<u8>,
 ) -> Result<(), Fault>
     requires { StandsIn N.digest_of pool.now table.old.entries }
     ensures entries { table.new.entries ≡ table.old.entries }
     ensures saved { AreObjects N.digest_of (objects pool.now table.old.entries) → CarriesOut
-        (checkpoint (workspace_in (own_shown own.old) pool.now table.old refs.old))
-        (workspace_in (own_shown own.new) pool.now table.new refs.new)
+        (checkpoint (workspace_in (state_shown state.old) pool.now table.old refs.old))
+        (workspace_in (state_shown state.new) pool.now table.new refs.new)
         out.old.items out.new.items result }
     ensures same { OnErr result ((table.new ≡ table.old) × (refs.new ≡ refs.old)) }
     ensures printed { OnErr result (out.new.items ≡ out.old.items) }
-    ensures files { KeepsFiles (own_shown own.old) (own_shown own.new) }
+    ensures files { KeepsFiles (state_shown state.old) (state_shown state.new) }
 {
-    let saving = saving_of(pool, table, refs, own)?;
+    let saving = saving_of(pool, table, refs, state)?;
     carry_out(saving, refs, out)?;
-    save_head(refs, own.head.take());
-    own.tags.clear();
+    save_head(refs, state.head.take());
+    state.tags.clear();
     table.commit();
     Ok(())
 }

@@ -13,9 +13,9 @@ ghost use Rattle.stream_grammar.specs.Names.{Expression};
 ghost use Rattle.stream_grammar.specs.Shown.{commit_shown};
 ghost use Rattle.stream_state.specs.Faults.{Gives};
 ghost use Rattle.import_session.specs.CommitIshes.{commit_in, is_branch, named_in, start_in};
-ghost use Rattle.import_session.specs.Session.{own_shown, workspace_in};
+ghost use Rattle.import_session.specs.Session.{state_shown, workspace_in};
 
-use crate::own::Own;
+use crate::state::StreamState;
 use content_pool::Pool;
 use git_objects::{Kind, Name, Naming};
 use stream_grammar::CommitIsh;
@@ -31,18 +31,18 @@ fn words_named<N: Naming>(
     pool: &Pool<N>,
     table: &Table,
     refs: &Refs,
-    own: &Own,
+    state: &StreamState,
     words: &[u8],
 ) -> Result<Name, Fault>
     requires { StandsIn N.digest_of pool.now table.now.entries }
     ensures { AreObjects N.digest_of (objects pool.now table.now.entries) → Gives result
-        (named_in (workspace_in (own_shown own.now) pool.now table.now refs.now)
+        (named_in (workspace_in (state_shown state.now) pool.now table.now refs.now)
         (Expression words.now)) }
 {
-    let name = meant(&own.head, refs, words);
-    match own.branches.tip_of(own.alloc, name)? {
+    let name = meant(&state.head, refs, words);
+    match state.branches.tip_of(state.alloc, name)? {
         Some(tip) => commit_at(tip),
-        None => resolve_words(own.alloc, pool, table, refs, words),
+        None => resolve_words(state.alloc, pool, table, refs, words),
     }
 }
 
@@ -58,17 +58,17 @@ pub fn named<N: Naming>(
     pool: &Pool<N>,
     table: &Table,
     refs: &Refs,
-    own: &Own,
+    state: &StreamState,
     commit: &CommitIsh<'_>,
 ) -> Result<Name, Fault>
     requires { StandsIn N.digest_of pool.now table.now.entries }
     ensures { AreObjects N.digest_of (objects pool.now table.now.entries) → Gives result
-        (named_in (workspace_in (own_shown own.now) pool.now table.now refs.now)
+        (named_in (workspace_in (state_shown state.now) pool.now table.now refs.now)
         (commit_shown commit.now)) }
 {
     match commit {
-        CommitIsh::Mark(mark) => marks::find(&own.marks, *mark),
-        CommitIsh::Expression(words) => words_named(pool, table, refs, own, words),
+        CommitIsh::Mark(mark) => marks::find(&state.marks, *mark),
+        CommitIsh::Expression(words) => words_named(pool, table, refs, state, words),
     }
 }
 
@@ -80,27 +80,27 @@ pub fn commit_named<N: Naming>(
     pool: &Pool<N>,
     table: &Table,
     refs: &Refs,
-    own: &Own,
+    state: &StreamState,
     commit: &CommitIsh<'_>,
 ) -> Result<Name, Fault>
     requires { StandsIn N.digest_of pool.now table.now.entries }
     ensures { AreObjects N.digest_of (objects pool.now table.now.entries) → Gives result
-        (commit_in (workspace_in (own_shown own.now) pool.now table.now refs.now)
+        (commit_in (workspace_in (state_shown state.now) pool.now table.now refs.now)
         (commit_shown commit.now)) }
 {
-    let id = named(pool, table, refs, own, commit)?;
-    peel_to(own.alloc, pool, table, Kind::Commit, id)
+    let id = named(pool, table, refs, state, commit)?;
+    peel_to(state.alloc, pool, table, Kind::Commit, id)
 }
 
 // Whether a commit-ish is the branch itself, perhaps as `HEAD`.
-fn is_branch(own: &Own, refs: &Refs, ref_name: &RefName, commit: &CommitIsh<'_>) -> bool
+fn is_branch(state: &StreamState, refs: &Refs, ref_name: &RefName, commit: &CommitIsh<'_>) -> bool
     ensures { (pool : Cells) (table : View) → result
-        ≡ is_branch (workspace_in (own_shown own.now) pool table refs.now) ref_name.now
+        ≡ is_branch (workspace_in (state_shown state.now) pool table refs.now) ref_name.now
         (commit_shown commit.now) }
 {
     match commit {
         CommitIsh::Mark(_) => false,
-        CommitIsh::Expression(words) => meant(&own.head, refs, words) == ref_name.as_bytes(),
+        CommitIsh::Expression(words) => meant(&state.head, refs, words) == ref_name.as_bytes(),
     }
 }
 
@@ -112,17 +112,17 @@ pub fn start_of<N: Naming>(
     pool: &Pool<N>,
     table: &Table,
     refs: &Refs,
-    own: &Own,
+    state: &StreamState,
     ref_name: &RefName,
     from: &CommitIsh<'_>,
 ) -> Result<Name, Fault>
     requires { StandsIn N.digest_of pool.now table.now.entries }
     ensures { AreObjects N.digest_of (objects pool.now table.now.entries) → Gives result
-        (start_in (workspace_in (own_shown own.now) pool.now table.now refs.now) ref_name.now
+        (start_in (workspace_in (state_shown state.now) pool.now table.now refs.now) ref_name.now
         (commit_shown from.now)) }
 {
-    if is_branch(own, refs, ref_name, from) {
+    if is_branch(state, refs, ref_name, from) {
         return Err(Fault::BranchFromItself);
     }
-    commit_named(pool, table, refs, own, from)
+    commit_named(pool, table, refs, state, from)
 }

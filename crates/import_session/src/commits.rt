@@ -13,34 +13,34 @@ ghost use Rattle.stream_state.specs.Branches.{branch_set, tip_commit, tip_for};
 ghost use Rattle.import_session.specs.Workspace.{quiet};
 ghost use Rattle.import_session.specs.Lent.{Keeps};
 ghost use Rattle.import_session.specs.Commits.{begun_from, closed_where, commit_closed, commit_opened, header_said, open_closed, opened_with, started_or_cleared, IsTipCommit};
-ghost use Rattle.import_session.specs.Session.{own_shown, workspace_in, CarriesOut, KeepsCommitted, Leaves};
+ghost use Rattle.import_session.specs.Session.{state_shown, workspace_in, CarriesOut, KeepsCommitted, Leaves};
 ghost use Rattle.import_session.specs.Held.{FilesStand, HoldsFiles, KeepsFiles};
 ghost use Rattle.import_session.specs.Sound.{IsSound};
 
 use crate::changes::passed_on;
 use crate::fault::fault_of;
-use crate::own::{Own, keep_open};
+use crate::state::{StreamState, keep_open};
 use content_pool::Pool;
 use git_objects::{Name, Naming};
 use open_commits::{Header, OpenCommit};
 use std::alloc::Global;
 use stream_grammar::Mark;
 use stream_state::branches::{Tip, tip_commit, tip_for};
+use stream_state::command_header::CommandHeader;
 use stream_state::encoding::bytes_of;
 use stream_state::fault::Fault;
 use stream_state::marks;
-use stream_state::said::Said;
 use tenant_refs::{RefName, Refs};
 use tenant_tables::Table;
 use tree_build::Files;
 
 // The header that the lines before the message give. One of them must name a committer.
-fn header_said(mark: Option<Mark>, said: Said) -> Result<Header, Fault>
+fn header_said(mark: Option<Mark>, said: CommandHeader) -> Result<Header, Fault>
     ensures { MatchResult result
         (λ header. header_said mark said said.committer ≡ Ok (header_shown header))
         (λ fault. header_said mark said said.committer ≡ Err fault) }
 {
-    let Said {
+    let CommandHeader {
         ref_name,
         author,
         committer,
@@ -61,13 +61,13 @@ fn header_said(mark: Option<Mark>, said: Said) -> Result<Header, Fault>
 }
 
 // Takes the files that the last commit left, or no files if it left none.
-fn take_files(own: &mut Own) -> Files
-    ensures branch { (os : List Object) → HoldsFiles os (own_shown own.old) → IsBranch os result }
-    ensures own { own_shown own.new ≡ record (own_shown own.old) { left = None } }
+fn take_files(state: &mut StreamState) -> Files
+    ensures branch { (os : List Object) → HoldsFiles os (state_shown state.old) → IsBranch os result }
+    ensures state { state_shown state.new ≡ record (state_shown state.old) { left = None } }
 {
-    match own.left.take() {
+    match state.left.take() {
         Some(files) => files,
-        None => Files::new(own.alloc),
+        None => Files::new(state.alloc),
     }
 }
 
@@ -119,17 +119,17 @@ fn begin<N: Naming>(
 }
 
 // Makes the branch one of the stream's, and returns the commit that it was at.
-fn place_tip(own: &mut Own, ref_name: &RefName) -> Result<Option<Name>, Fault>
-    ensures placed { let old = own_shown own.old in
+fn place_tip(state: &mut StreamState, ref_name: &RefName) -> Result<Option<Name>, Fault>
+    ensures placed { let old = state_shown state.old in
         let first = tip_commit old.branches ref_name.now in MatchResult result
-        (λ stood. (stood ≡ first) × (own_shown own.new ≡ record old { branches = own.new.branches })
-        × (branch_set old.branches ref_name.now (tip_for first) ≡ Ok own.new.branches))
+        (λ stood. (stood ≡ first) × (state_shown state.new ≡ record old { branches = state.new.branches })
+        × (branch_set old.branches ref_name.now (tip_for first) ≡ Ok state.new.branches))
         (λ fault. fault ≢ Fault.Memory
         → branch_set old.branches ref_name.now (tip_for first) ≡ Err fault) }
 {
-    let first = tip_commit(&own.branches, ref_name);
-    let branch = ref_name.try_clone(own.alloc)?;
-    own.branches.set(branch, tip_for(&first))?;
+    let first = tip_commit(&state.branches, ref_name);
+    let branch = ref_name.try_clone(state.alloc)?;
+    state.branches.set(branch, tip_for(&first))?;
     Ok(first)
 }
 
@@ -137,30 +137,30 @@ fn place_tip(own: &mut Own, ref_name: &RefName) -> Result<Option<Name>, Fault>
 fn open_with<N: Naming>(
     pool: &Pool<N>,
     table: &Table,
-    own: &mut Own,
+    state: &mut StreamState,
     header: Header,
     message: &[u8],
 ) -> Result<OpenCommit, Fault>
     requires stands { StandsIn N.digest_of pool.now table.now.entries }
-    requires held { FilesStand (own_shown own.old) pool.now table.now }
-    ensures opened { (refs : RefStore) → let old = own_shown own.old in
+    requires held { FilesStand (state_shown state.old) pool.now table.now }
+    ensures opened { (refs : RefStore) → let old = state_shown state.old in
         let workspace = workspace_in old pool.now table.now refs in
         IsSound N.digest_of workspace → MatchResult result
         (λ commit. opened_with workspace message.now (header_shown header)
         ≡ quiet (workspace_in (record old {
-          branches = own.new.branches;
+          branches = state.new.branches;
           said = None;
           commit = Some (commit_held commit);
         }) pool.now table.now refs))
         (λ fault. fault ≢ Fault.Memory
         → opened_with workspace message.now (header_shown header) ≡ Err fault) }
-    ensures own { OnOk result (own_shown own.new
-        ≡ record (own_shown own.old) { branches = own.new.branches; left = None }) }
+    ensures state { OnOk result (state_shown state.new
+        ≡ record (state_shown state.old) { branches = state.new.branches; left = None }) }
     ensures held { IfOk result (λ commit. IsHeld (objects pool.now table.now.entries) commit) }
 {
-    let alloc = own.alloc;
-    let first = place_tip(own, &header.ref_name)?;
-    let files = take_files(own);
+    let alloc = state.alloc;
+    let first = place_tip(state, &header.ref_name)?;
+    let files = take_files(state);
     begin(pool, table, alloc, header, message, first, files)
 }
 
@@ -169,25 +169,25 @@ pub fn open_commit<N: Naming>(
     pool: &Pool<N>,
     table: &Table,
     refs: &Refs,
-    own: &mut Own,
+    state: &mut StreamState,
     mark: Option<Mark>,
     message: &[u8],
 ) -> Result<(), Fault>
     requires stands { StandsIn N.digest_of pool.now table.now.entries }
-    requires held { FilesStand (own_shown own.old) pool.now table.now }
+    requires held { FilesStand (state_shown state.old) pool.now table.now }
     ensures done { (out : List ℕ) → IsSound N.digest_of
-        (workspace_in (own_shown own.old) pool.now table.now refs.now) → CarriesOut
-        (commit_opened mark message.now (own_shown own.old).said
-        (workspace_in (own_shown own.old) pool.now table.now refs.now))
-        (workspace_in (own_shown own.new) pool.now table.now refs.now) out out result }
-    ensures held { OnOk result (FilesStand (own_shown own.new) pool.now table.now) }
+        (workspace_in (state_shown state.old) pool.now table.now refs.now) → CarriesOut
+        (commit_opened mark message.now (state_shown state.old).said
+        (workspace_in (state_shown state.old) pool.now table.now refs.now))
+        (workspace_in (state_shown state.new) pool.now table.now refs.now) out out result }
+    ensures held { OnOk result (FilesStand (state_shown state.new) pool.now table.now) }
 {
-    let Some(said) = own.said.take() else {
+    let Some(said) = state.said.take() else {
         return Err(Fault::Text(stream_grammar::Fault::UnknownCommand));
     };
     let header = header_said(mark, said)?;
-    let commit = open_with(pool, table, own, header, message)?;
-    keep_open(own, commit);
+    let commit = open_with(pool, table, state, header, message)?;
+    keep_open(state, commit);
     Ok(())
 }
 
@@ -195,53 +195,57 @@ pub fn open_commit<N: Naming>(
 fn close_commit<N: Naming>(
     pool: &mut Pool<N>,
     table: &mut Table,
-    own: &mut Own,
+    state: &mut StreamState,
     commit: &mut OpenCommit,
 ) -> Result<(), Fault>
     requires stands { StandsIn N.digest_of pool.old table.old.entries }
     requires room { HasRoomBeside pool.old table.old.entries }
-    requires none { own.old.commit ≡ None }
+    requires none { state.old.commit ≡ None }
     requires held { IsHeld (objects pool.old table.old.entries) commit.old }
     ensures keeps { Keeps N.digest_of pool.old table.old pool.new table.new }
     ensures room { HasRoomBeside pool.new table.new.entries }
     ensures done { (refs : RefStore) → Leaves
-        (commit_closed N.digest_of (workspace_in (own_shown own.old) pool.old table.old refs)
+        (commit_closed N.digest_of (workspace_in (state_shown state.old) pool.old table.old refs)
         (shown_in (objects pool.old table.old.entries) commit.old))
-        (workspace_in (own_shown own.new) pool.new table.new refs) result }
-    ensures files { KeepsFiles (own_shown own.old) (own_shown own.new) }
+        (workspace_in (state_shown state.new) pool.new table.new refs) result }
+    ensures files { KeepsFiles (state_shown state.old) (state_shown state.new) }
     ensures held { OnOk result (IsHeld (objects pool.new table.new.entries) commit.new) }
     ensures committed { KeepsCommitted pool.old table.old pool.new table.new }
 {
     let _within = table.committed_len();
     let mark = commit.header.mark;
-    let branch = commit.header.ref_name.try_clone(own.alloc)?;
-    marks::make_room(&mut own.marks, &mark)?;
+    let branch = commit.header.ref_name.try_clone(state.alloc)?;
+    marks::make_room(&mut state.marks, &mark)?;
     let id = match commit.close(pool, table) {
         Ok(id) => id,
         Err(refusal) => return Err(fault_of(refusal)),
     };
-    marks::set(&mut own.marks, mark, id);
-    Ok(own.branches.place(branch, Tip::At(id))?)
+    marks::set(&mut state.marks, mark, id);
+    Ok(state.branches.place(branch, Tip::At(id))?)
 }
 
 // Ends the open commit, if there is one, and leaves its files for the next one.
-fn close<N: Naming>(pool: &mut Pool<N>, table: &mut Table, own: &mut Own) -> Result<(), Fault>
+fn close<N: Naming>(
+    pool: &mut Pool<N>,
+    table: &mut Table,
+    state: &mut StreamState,
+) -> Result<(), Fault>
     requires stands { StandsIn N.digest_of pool.old table.old.entries }
     requires room { HasRoomBeside pool.old table.old.entries }
-    requires held { FilesStand (own_shown own.old) pool.old table.old }
+    requires held { FilesStand (state_shown state.old) pool.old table.old }
     ensures keeps { Keeps N.digest_of pool.old table.old pool.new table.new }
     ensures room { HasRoomBeside pool.new table.new.entries }
     ensures done { (refs : RefStore) → Leaves
-        (let old = workspace_in (own_shown own.old) pool.old table.old refs in
+        (let old = workspace_in (state_shown state.old) pool.old table.old refs in
         open_closed N.digest_of old old.commit)
-        (workspace_in (own_shown own.new) pool.new table.new refs) result }
+        (workspace_in (state_shown state.new) pool.new table.new refs) result }
     ensures committed { KeepsCommitted pool.old table.old pool.new table.new }
-    ensures held { OnOk result (FilesStand (own_shown own.new) pool.new table.new) }
+    ensures held { OnOk result (FilesStand (state_shown state.new) pool.new table.new) }
 {
-    match own.commit.take() {
+    match state.commit.take() {
         Some(mut commit) => {
-            let closed = close_commit(pool, table, own, &mut commit);
-            own.left = Some(commit.into_files());
+            let closed = close_commit(pool, table, state, &mut commit);
+            state.left = Some(commit.into_files());
             closed
         }
         None => Ok(()),
@@ -259,21 +263,21 @@ pub fn close_where<N: Naming>(
     ends: bool,
     pool: &mut Pool<N>,
     table: &mut Table,
-    own: &mut Own,
+    state: &mut StreamState,
 ) -> Result<(), Fault>
     requires stands { StandsIn N.digest_of pool.old table.old.entries }
     requires room { HasRoomBeside pool.old table.old.entries }
-    requires held { FilesStand (own_shown own.old) pool.old table.old }
+    requires held { FilesStand (state_shown state.old) pool.old table.old }
     ensures keeps { Keeps N.digest_of pool.old table.old pool.new table.new }
     ensures room { HasRoomBeside pool.new table.new.entries }
     ensures done { (refs : RefStore) → Leaves (closed_where N.digest_of ends
-        (workspace_in (own_shown own.old) pool.old table.old refs))
-        (workspace_in (own_shown own.new) pool.new table.new refs) result }
+        (workspace_in (state_shown state.old) pool.old table.old refs))
+        (workspace_in (state_shown state.new) pool.new table.new refs) result }
     ensures committed { KeepsCommitted pool.old table.old pool.new table.new }
-    ensures held { OnOk result (FilesStand (own_shown own.new) pool.new table.new) }
+    ensures held { OnOk result (FilesStand (state_shown state.new) pool.new table.new) }
 {
     if !ends {
         return Ok(());
     }
-    close(pool, table, own)
+    close(pool, table, state)
 }

@@ -12,10 +12,10 @@ mod commits;
 mod fault;
 pub mod laws;
 mod lines;
-mod own;
 mod print;
 mod resets;
 mod session;
+mod state;
 mod tags;
 
 pub use session::Session;

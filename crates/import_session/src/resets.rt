@@ -10,11 +10,11 @@ ghost use Rattle.import_session.specs.Resets.{alias_set, branch_reset_to, is_zer
 ghost use Rattle.import_session.specs.Meaning.{placed_by};
 ghost use Rattle.import_session.specs.Held.{FilesStand, KeepsFiles};
 ghost use Rattle.import_session.specs.Sound.{IsSound};
-ghost use Rattle.import_session.specs.Session.{own_shown, workspace_in, CarriesOut};
+ghost use Rattle.import_session.specs.Session.{state_shown, workspace_in, CarriesOut};
 
 use crate::commit_ishes::{commit_named, start_of};
 use crate::commits::open_commit;
-use crate::own::{self, Own};
+use crate::state::{self, StreamState};
 use content_pool::Pool;
 use git_objects::Naming;
 use stream_grammar::{Act, CommitIsh, Mark};
@@ -40,19 +40,19 @@ fn tip_from<N: Naming>(
     pool: &Pool<N>,
     table: &Table,
     refs: &Refs,
-    own: &Own,
+    state: &StreamState,
     ref_name: &RefName,
     from: &CommitIsh<'_>,
 ) -> Result<Tip, Fault>
     requires { StandsIn N.digest_of pool.now table.now.entries }
     ensures { AreObjects N.digest_of (objects pool.now table.now.entries) → Gives result
-        (tip_from (workspace_in (own_shown own.now) pool.now table.now refs.now) ref_name.now
+        (tip_from (workspace_in (state_shown state.now) pool.now table.now refs.now) ref_name.now
         (commit_shown from.now)) }
 {
     if is_zeros(from) {
         return Ok(Tip::Deleted);
     }
-    let id = start_of(pool, table, refs, own, ref_name, from)?;
+    let id = start_of(pool, table, refs, state, ref_name, from)?;
     Ok(Tip::At(id))
 }
 
@@ -61,22 +61,22 @@ fn reset_to<N: Naming>(
     pool: &Pool<N>,
     table: &Table,
     refs: &Refs,
-    own: &mut Own,
+    state: &mut StreamState,
     from: &CommitIsh<'_>,
 ) -> Result<(), Fault>
     requires { StandsIn N.digest_of pool.now table.now.entries }
     ensures done { (out : List ℕ) → AreObjects N.digest_of (objects pool.now table.now.entries)
         → CarriesOut (branch_reset_to (commit_shown from.now)
-        (workspace_in (own_shown own.old) pool.now table.now refs.now))
-        (workspace_in (own_shown own.new) pool.now table.now refs.now) out out result }
-    ensures files { KeepsFiles (own_shown own.old) (own_shown own.new) }
+        (workspace_in (state_shown state.old) pool.now table.now refs.now))
+        (workspace_in (state_shown state.new) pool.now table.now refs.now) out out result }
+    ensures files { KeepsFiles (state_shown state.old) (state_shown state.new) }
 {
-    let branch = match own.said.take() {
+    let branch = match state.said.take() {
         Some(said) => said.into_ref(),
         None => return Err(Fault::Text(stream_grammar::Fault::UnknownCommand)),
     };
-    let tip = tip_from(pool, table, refs, own, &branch, from)?;
-    own.branches.place(branch, tip)?;
+    let tip = tip_from(pool, table, refs, state, &branch, from)?;
+    state.branches.place(branch, tip)?;
     Ok(())
 }
 
@@ -85,20 +85,20 @@ fn alias<N: Naming>(
     pool: &Pool<N>,
     table: &Table,
     refs: &Refs,
-    own: &mut Own,
+    state: &mut StreamState,
     mark: Mark,
     commit: &CommitIsh<'_>,
 ) -> Result<(), Fault>
     requires { StandsIn N.digest_of pool.now table.now.entries }
     ensures done { (out : List ℕ) → AreObjects N.digest_of (objects pool.now table.now.entries)
         → CarriesOut (alias_set mark (commit_shown commit.now)
-        (workspace_in (own_shown own.old) pool.now table.now refs.now))
-        (workspace_in (own_shown own.new) pool.now table.now refs.now) out out result }
-    ensures files { KeepsFiles (own_shown own.old) (own_shown own.new) }
+        (workspace_in (state_shown state.old) pool.now table.now refs.now))
+        (workspace_in (state_shown state.new) pool.now table.now refs.now) out out result }
+    ensures files { KeepsFiles (state_shown state.old) (state_shown state.new) }
 {
-    let id = commit_named(pool, table, refs, own, commit)?;
-    marks::make_room(&mut own.marks, &Some(mark))?;
-    marks::set(&mut own.marks, Some(mark), id);
+    let id = commit_named(pool, table, refs, state, commit)?;
+    marks::make_room(&mut state.marks, &Some(mark))?;
+    marks::set(&mut state.marks, Some(mark), id);
     Ok(())
 }
 
@@ -109,22 +109,22 @@ pub fn place<N: Naming>(
     pool: &Pool<N>,
     table: &Table,
     refs: &Refs,
-    own: &mut Own,
+    state: &mut StreamState,
     act: &Act<'_>,
 ) -> Result<(), Fault>
     requires stands { StandsIn N.digest_of pool.now table.now.entries }
-    requires held { FilesStand (own_shown own.old) pool.now table.now }
+    requires held { FilesStand (state_shown state.old) pool.now table.now }
     ensures done { (out : List ℕ) → IsSound N.digest_of
-        (workspace_in (own_shown own.old) pool.now table.now refs.now) → CarriesOut
+        (workspace_in (state_shown state.old) pool.now table.now refs.now) → CarriesOut
         (placed_by (act_shown act.now)
-        (workspace_in (own_shown own.old) pool.now table.now refs.now))
-        (workspace_in (own_shown own.new) pool.now table.now refs.now) out out result }
-    ensures held { OnOk result (FilesStand (own_shown own.new) pool.now table.now) }
+        (workspace_in (state_shown state.old) pool.now table.now refs.now))
+        (workspace_in (state_shown state.new) pool.now table.now refs.now) out out result }
+    ensures held { OnOk result (FilesStand (state_shown state.new) pool.now table.now) }
 {
     match act {
-        Act::ResetTo(from) => reset_to(pool, table, refs, own, from),
-        Act::SetMark { mark, commit } => alias(pool, table, refs, own, *mark, commit),
-        Act::OpenCommit { mark, message } => open_commit(pool, table, refs, own, *mark, message),
-        _ => own::set(pool, table, refs, own, act),
+        Act::ResetTo(from) => reset_to(pool, table, refs, state, from),
+        Act::SetMark { mark, commit } => alias(pool, table, refs, state, *mark, commit),
+        Act::OpenCommit { mark, message } => open_commit(pool, table, refs, state, *mark, message),
+        _ => state::set(pool, table, refs, state, act),
     }
 }

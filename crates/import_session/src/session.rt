@@ -16,14 +16,14 @@ ghost use Rattle.import_session.specs.Checkpoints.{checkpoint};
 ghost use Rattle.import_session.specs.Commits.{closed_where};
 ghost use Rattle.import_session.specs.Meaning.{after_act};
 ghost use Rattle.import_session.specs.Stream.{step, is_finish, session_end};
-ghost use Rattle.import_session.specs.Session.{own_shown, running_in, repository_in, last_in, new_session, workspace_in, Reads, Takes, CarriesOut};
+ghost use Rattle.import_session.specs.Session.{state_shown, running_in, repository_in, last_in, new_session, workspace_in, Reads, Takes, CarriesOut};
 ghost use Rattle.import_session.specs.Held.{FilesStand};
 ghost use Rattle.import_session.specs.Sound.{IsSound};
 
 use crate::acts::carry_out;
 use crate::checkpoint::save;
 use crate::commits::close_where;
-use crate::own::{Own, new_own};
+use crate::state::{StreamState, new_state};
 use content_pool::Pool;
 use git_objects::Naming;
 use std::alloc::Global;
@@ -42,21 +42,21 @@ use tenant_tables::Table;
 #[derive(Drop)]
 pub struct Session {
     parser: Parser,
-    own: Own,
+    state: StreamState,
     is_done: bool,
 }
 
 impl Model for Session {
     ghost use Rattle.std.specs.Coded.{codes};
     ghost use Rattle.tree_build.specs.ShapeCode.{branch_code};
-    ghost use Rattle.import_session.specs.Session.{Kept, own_shown};
+    ghost use Rattle.import_session.specs.Session.{Kept, state_shown};
 
     ghost Value = { Kept };
 
     ghost coded = { Prim.hlevel (codes, branch_code) };
 
     ghost view = { λ s.
-        record { parsing = s.parser; own = own_shown s.own; is_done = s.is_done } };
+        record { parsing = s.parser; state = state_shown s.state; is_done = s.is_done } };
 }
 
 fn is_finish(act: &Act<'_>) -> bool
@@ -88,27 +88,27 @@ fn carry_out_done<N: Naming>(
     pool: &mut Pool<N>,
     table: &mut Table,
     refs: &mut Refs,
-    own: &mut Own,
+    state: &mut StreamState,
     done: &Done<'_>,
     out: &mut Vec<u8>,
 ) -> Result<(), Fault>
     requires stands { StandsIn N.digest_of pool.old table.old.entries }
     requires room { HasRoomBeside pool.old table.old.entries }
-    requires held { FilesStand (own_shown own.old) pool.old table.old }
+    requires held { FilesStand (state_shown state.old) pool.old table.old }
     ensures keeps { Keeps N.digest_of pool.old table.old pool.new table.new }
-    ensures held { OnOk result (FilesStand (own_shown own.new) pool.new table.new) }
-    ensures carried { let now = workspace_in (own_shown own.old) pool.old table.old refs.old in
+    ensures held { OnOk result (FilesStand (state_shown state.new) pool.new table.new) }
+    ensures carried { let now = workspace_in (state_shown state.old) pool.old table.old refs.old in
         IsSound N.digest_of now → CarriesOut
         (and_then (closed_where N.digest_of done.now.ends_commit now)
         (after_act N.digest_of (act_shown done.now.act)))
-        (workspace_in (own_shown own.new) pool.new table.new refs.new)
+        (workspace_in (state_shown state.new) pool.new table.new refs.new)
         out.old.items out.new.items result }
     ensures last { OnErr result (last_in pool.new table.new refs.new
         ≡ last_in pool.old table.old refs.old) }
     ensures printed { OnErr result (out.new.items ≡ out.old.items) }
 {
-    close_where(done.ends_commit, pool, table, own)?;
-    carry_out(pool, table, refs, own, &done.act, out)
+    close_where(done.ends_commit, pool, table, state)?;
+    carry_out(pool, table, refs, state, &done.act, out)
 }
 
 // Ends the open commit if the end of the stream ends it, and then makes a checkpoint.
@@ -117,24 +117,24 @@ fn save_at_end<N: Naming>(
     pool: &mut Pool<N>,
     table: &mut Table,
     refs: &mut Refs,
-    own: &mut Own,
+    state: &mut StreamState,
     out: &mut Vec<u8>,
 ) -> Result<(), Fault>
     requires stands { StandsIn N.digest_of pool.old table.old.entries }
     requires room { HasRoomBeside pool.old table.old.entries }
-    requires held { FilesStand (own_shown own.old) pool.old table.old }
+    requires held { FilesStand (state_shown state.old) pool.old table.old }
     ensures keeps { Keeps N.digest_of pool.old table.old pool.new table.new }
-    ensures saved { let now = workspace_in (own_shown own.old) pool.old table.old refs.old in
+    ensures saved { let now = workspace_in (state_shown state.old) pool.old table.old refs.old in
         IsSound N.digest_of now → CarriesOut
         (and_then (closed_where N.digest_of ends now) checkpoint)
-        (workspace_in (own_shown own.new) pool.new table.new refs.new)
+        (workspace_in (state_shown state.new) pool.new table.new refs.new)
         out.old.items out.new.items result }
     ensures last { OnErr result (last_in pool.new table.new refs.new
         ≡ last_in pool.old table.old refs.old) }
     ensures printed { OnErr result (out.new.items ≡ out.old.items) }
 {
-    close_where(ends, pool, table, own)?;
-    save(pool, table, refs, own, out)
+    close_where(ends, pool, table, state)?;
+    save(pool, table, refs, state, out)
 }
 
 impl Session {
@@ -144,7 +144,7 @@ impl Session {
     {
         Session {
             parser: Parser::new(alloc),
-            own: new_own(alloc),
+            state: new_state(alloc),
             is_done: false,
         }
     }
@@ -187,11 +187,11 @@ impl Session {
     ) -> Result<(), Fault>
         requires stands { StandsIn N.digest_of pool.old table.old.entries }
         requires room { HasRoomBeside pool.old table.old.entries }
-        requires held { FilesStand self.old.own pool.old table.old }
+        requires held { FilesStand self.old.state pool.old table.old }
         ensures keeps { Keeps N.digest_of pool.old table.old pool.new table.new }
-        ensures held { OnOk result (FilesStand self.new.own pool.new table.new) }
+        ensures held { OnOk result (FilesStand self.new.state pool.new table.new) }
         ensures taken { IsSound N.digest_of
-            (workspace_in self.old.own pool.old table.old refs.old) → Takes
+            (workspace_in self.old.state pool.old table.old refs.old) → Takes
             (step N.digest_of (running_in self.old pool.old table.old refs.old)
             (item_of item.entry))
             (running_in self.new pool.new table.new refs.new) out.old.items out.new.items result }
@@ -206,7 +206,7 @@ impl Session {
             Ok(done) => done,
             Err(fault) => return Err(fault),
         };
-        let carried = carry_out_done(pool, table, refs, &mut self.own, &done, out);
+        let carried = carry_out_done(pool, table, refs, &mut self.state, &done, out);
         self.is_done = is_finished(&carried, &done.act);
         carried
     }
@@ -230,10 +230,10 @@ impl Session {
     ) -> Result<(), Fault>
         requires stands { StandsIn N.digest_of pool.old table.old.entries }
         requires room { HasRoomBeside pool.old table.old.entries }
-        requires held { FilesStand self.old.own pool.old table.old }
+        requires held { FilesStand self.old.state pool.old table.old }
         ensures keeps { Keeps N.digest_of pool.old table.old pool.new table.new }
         ensures ended { IsSound N.digest_of
-            (workspace_in self.old.own pool.old table.old refs.old) → CarriesOut
+            (workspace_in self.old.state pool.old table.old refs.old) → CarriesOut
             (session_end N.digest_of (running_in self.old pool.old table.old refs.old))
             (running_in self.new pool.new table.new refs.new).workspace out.old.items out.new.items
             result }
@@ -248,10 +248,10 @@ impl Session {
             Ok(ends) => ends,
             Err(text) => return Err(Fault::Text(text)),
         };
-        if self.own.needs_done {
+        if self.state.needs_done {
             return Err(Fault::DoneMissing);
         }
-        save_at_end(ends, pool, table, refs, &mut self.own, out)
+        save_at_end(ends, pool, table, refs, &mut self.state, out)
     }
 
     /// Gives up the stream: rolls its table back to the last checkpoint, and leaves the refs.

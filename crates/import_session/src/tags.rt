@@ -11,16 +11,16 @@ ghost use Rattle.stream_state.specs.Faults.{Gives};
 ghost use Rattle.import_session.specs.Tags.{tag_stored, tagged};
 ghost use Rattle.import_session.specs.Lent.{IsUnchanged, Keeps};
 ghost use Rattle.import_session.specs.Held.{FilesStand};
-ghost use Rattle.import_session.specs.Session.{own_shown, workspace_in, CarriesOut};
+ghost use Rattle.import_session.specs.Session.{state_shown, workspace_in, CarriesOut};
 
 use crate::commit_ishes::named;
-use crate::own::Own;
+use crate::state::StreamState;
 use content_pool::Pool;
 use git_objects::{Kind, Name, Naming};
 use stream_grammar::Mark;
+use stream_state::command_header::CommandHeader;
 use stream_state::fault::Fault;
 use stream_state::marks;
-use stream_state::said::Said;
 use stream_state::tags::{check_open, make_room, store_written, tagged_kind};
 use tenant_refs::Refs;
 use tenant_tables::Table;
@@ -30,23 +30,23 @@ fn tagged<N: Naming>(
     pool: &Pool<N>,
     table: &Table,
     refs: &Refs,
-    own: &mut Own,
-    said: &Said,
+    state: &mut StreamState,
+    said: &CommandHeader,
     mark: &Option<Mark>,
 ) -> Result<(Name, Kind), Fault>
     requires { StandsIn N.digest_of pool.now table.now.entries }
     ensures tagged { AreObjects N.digest_of (objects pool.now table.now.entries) → Gives result
         (tagged mark.now said.now
-        (workspace_in (own_shown own.old) pool.now table.now refs.now)) }
-    ensures mark { OnOk result (0 < spare own.new.marks) }
-    ensures tag { OnOk result (length own.new.tags.items < vec_capacity own.new.tags) }
-    ensures same { own_shown own.new ≡ own_shown own.old }
+        (workspace_in (state_shown state.old) pool.now table.now refs.now)) }
+    ensures mark { OnOk result (0 < spare state.new.marks) }
+    ensures tag { OnOk result (length state.new.tags.items < vec_capacity state.new.tags) }
+    ensures same { state_shown state.new ≡ state_shown state.old }
 {
     check_open(&said.ref_name)?;
-    let target = named(pool, table, refs, own, &said.target.lent())?;
+    let target = named(pool, table, refs, state, &said.target.lent())?;
     let kind = tagged_kind(pool, table, target)?;
-    marks::make_room(&mut own.marks, mark)?;
-    make_room(&mut own.tags)?;
+    marks::make_room(&mut state.marks, mark)?;
+    make_room(&mut state.tags)?;
     Ok((target, kind))
 }
 
@@ -55,27 +55,27 @@ pub fn store_tag<N: Naming>(
     pool: &mut Pool<N>,
     table: &mut Table,
     refs: &Refs,
-    own: &mut Own,
+    state: &mut StreamState,
     mark: Option<Mark>,
     message: &[u8],
 ) -> Result<(), Fault>
     requires stands { StandsIn N.digest_of pool.old table.old.entries }
     requires room { HasRoom pool.old }
-    requires held { FilesStand (own_shown own.old) pool.old table.old }
+    requires held { FilesStand (state_shown state.old) pool.old table.old }
     ensures keeps { Keeps N.digest_of pool.old table.old pool.new table.new }
     ensures done { (out : List ℕ) → AreObjects N.digest_of (objects pool.old table.old.entries)
-        → CarriesOut (tag_stored N.digest_of mark message.now (own_shown own.old).said
-        (workspace_in (own_shown own.old) pool.old table.old refs.now))
-        (workspace_in (own_shown own.new) pool.new table.new refs.now) out out result }
+        → CarriesOut (tag_stored N.digest_of mark message.now (state_shown state.old).said
+        (workspace_in (state_shown state.old) pool.old table.old refs.now))
+        (workspace_in (state_shown state.new) pool.new table.new refs.now) out out result }
     ensures same { OnErr result (IsUnchanged pool.old table.old pool.new table.new) }
-    ensures held { OnOk result (FilesStand (own_shown own.new) pool.new table.new) }
+    ensures held { OnOk result (FilesStand (state_shown state.new) pool.new table.new) }
 {
-    let Some(said) = own.said.take() else {
+    let Some(said) = state.said.take() else {
         return Err(Fault::Text(stream_grammar::Fault::UnknownCommand));
     };
-    let (target, kind) = tagged(pool, table, refs, own, &said, &mark)?;
-    let id = store_written(pool, table, own.alloc, &said, target, kind, message)?;
-    marks::set(&mut own.marks, mark, id);
-    own.tags.push((said.ref_name, id)).unwrap();
+    let (target, kind) = tagged(pool, table, refs, state, &said, &mark)?;
+    let id = store_written(pool, table, state.alloc, &said, target, kind, message)?;
+    marks::set(&mut state.marks, mark, id);
+    state.tags.push((said.ref_name, id)).unwrap();
     Ok(())
 }

@@ -3,7 +3,7 @@
 pub mod Faults
 pub mod Marks
 pub mod Branches
-pub mod Said
+pub mod CommandHeader
 pub mod Storing
 pub mod Tags
 pub mod Checkpoints

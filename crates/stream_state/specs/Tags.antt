@@ -2,7 +2,7 @@
 pub use Rattle.git_model.specs.Limits.{tag_limit}
 use Rattle.std.specs.Prelude.{ℕ, Bool, List, length, Option, None, Result, Ok}
 use Rattle.stream_state.specs.declared.fault.Fault.{Fault}
-use Rattle.stream_state.specs.declared.said.Said.{Said}
+use Rattle.stream_state.specs.declared.command_header.CommandHeader.{CommandHeader}
 use Rattle.std.specs.Prelude.{ℕ, Bool, nat_eq, nat_lt, if◌then◌else◌, List, length, drop, Option, None, Some, Result, Ok, Err, codes}
 use Rattle.std.specs.List.{starts_with}
 use Rattle.git_model.specs.declared.kind.Kind.{Kind}
@@ -36,7 +36,7 @@ tagged_kind (Some kind.Blob) = Ok kind.Blob
 tagged_kind (Some kind.Tag) = Ok kind.Tag
 
 -- The tag object that a tag makes. Its own name is its ref without `refs/tags/`.
-abbrev pub tag_content : Said → List ℕ → List ℕ → Kind → Content
+abbrev pub tag_content : CommandHeader → List ℕ → List ℕ → Kind → Content
 tag_content said message target target_kind = content_from kind.Tag (tag_contents (record {
   target = target;
   kind = target_kind;

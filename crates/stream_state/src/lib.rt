@@ -7,6 +7,7 @@
 
 pub mod branches;
 pub mod checkpoint;
+pub mod command_header;
 pub mod commit_ishes;
 pub mod encoding;
 pub mod entries;
@@ -15,6 +16,5 @@ pub mod head;
 pub mod marks;
 pub mod objects;
 pub mod print;
-pub mod said;
 pub mod tags;
 pub mod target;

@@ -13,9 +13,9 @@ ghost use Rattle.stream_state.specs.Tags.{room_for_tag, tag_content, tag_is_open
 ghost use Rattle.tenant_tables.specs.Lent.{Keeps};
 ghost use Rattle.stream_state.specs.Stored.{Stores};
 
+use crate::command_header::CommandHeader;
 use crate::fault::Fault;
 use crate::objects::{find_content, store};
-use crate::said::Said;
 use content_pool::Pool;
 use git_objects::{Kind, Name, Naming, TagParts, write_tag};
 use std::alloc::Global;
@@ -68,7 +68,7 @@ fn tagger_text(tagger: &Option<Ident>) -> Option<&[u8]>
 // The contents of the tag object.
 fn write(
     alloc: Global,
-    said: &Said,
+    said: &CommandHeader,
     target: Name,
     kind: Kind,
     message: &[u8],
@@ -106,7 +106,7 @@ pub fn store_written<N: Naming>(
     pool: &mut Pool<N>,
     table: &mut Table,
     alloc: Global,
-    said: &Said,
+    said: &CommandHeader,
     target: Name,
     kind: Kind,
     message: &[u8],

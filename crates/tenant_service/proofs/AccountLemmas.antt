@@ -27,7 +27,7 @@ use Rattle.tenant_service.specs.declared.tenant.Tenant.{Tenant}
 use Rattle.tenant_service.specs.Alone.{Call, Turn, turn}
 use Rattle.tenant_stream.specs.Carrying.{HasAmpleRoom}
 use Rattle.tenant_service.specs.Headline.{stop_told}
-use Rattle.tenant_service.specs.Holding.{Holding, Idle, Busy, empty_repository, held_of}
+use Rattle.tenant_service.specs.TenantState.{TenantState, Idle, Busy, empty_repository, held_of}
 use Rattle.tenant_service.specs.HeldSteps.{step_held}
 use Rattle.tenant_service.specs.Tenants.{Tenants, Stands, HoldsIn, kept_tail, held_in, holding_in, holdings, all_held, Accounts}
 use Rattle.tenant_service.specs.OneStep.{Takes, store, Serves}
@@ -38,9 +38,9 @@ held_in-other : (ph : Phase) (p q : Cells) (t : View) (r : RefStore) → objects
 held_in-other phase.Closed p q t r same = ap (λ (os : List Object). Idle (record { objects = os; refs = r })) same
 held_in-other (phase.Running stream) p q t r same =
     ap (λ (os : List Object). Busy (Runs (record {
-      workspace = record (workspace_in stream.session.own p t r) {
+      workspace = record (workspace_in stream.session.state p t r) {
         objects = os;
-        commit = option_map (commit_in os) stream.session.own.commit;
+        commit = option_map (commit_in os) stream.session.state.commit;
       };
       parsing = stream.session.parsing;
       is_done = stream.session.is_done;
@@ -231,8 +231,8 @@ serves-found digest name call p q es old new answer out out' h got stands leaves
     record {
       accounts = subst (λ (xs : Tenants). Accounts digest q xs) (sym f.set) c.accounts;
       own =
-          subst (λ (x : Holding). Takes (step_held digest call (stop_told answer) x) answer out out' (held_of name (holdings q (set_value (bytes_eq name) es new)))) (sym before)
-          (subst (λ (x : Holding). Takes (step_held digest call (stop_told answer) (holding_in p old)) answer out out' x) (sym after) takes);
+          subst (λ (x : TenantState). Takes (step_held digest call (stop_told answer) x) answer out out' (held_of name (holdings q (set_value (bytes_eq name) es new)))) (sym before)
+          (subst (λ (x : TenantState). Takes (step_held digest call (stop_told answer) (holding_in p old)) answer out out' x) (sym after) takes);
       others = λ other apart.
           ap (λ o. unwrap_or o (Idle empty_repository))
           (ap (λ (xs : Tenants). lookup (bytes_eq other) (holdings q xs)) f.set ∙ ap (lookup (bytes_eq other)) c.shown
@@ -271,23 +271,23 @@ serves-missing digest name call p es new answer out h none same is =
     (record {
       accounts = h;
       own =
-          subst (λ (x : Holding). Takes (step_held digest call (stop_told answer) x) answer out out x) (sym (held-missing p name es none))
+          subst (λ (x : TenantState). Takes (step_held digest call (stop_told answer) x) answer out out x) (sym (held-missing p name es none))
           (record {
-            answered = ap (λ (t : Turn Holding). t.answer) is;
-            printed = sym (append-nil out) ∙ ap (λ (t : Turn Holding). out ++ t.reply) (sym is);
-            leaves = ap (λ (t : Turn Holding). t.state) is;
+            answered = ap (λ (t : Turn TenantState). t.answer) is;
+            printed = sym (append-nil out) ∙ ap (λ (t : Turn TenantState). out ++ t.reply) (sym is);
+            leaves = ap (λ (t : Turn TenantState). t.state) is;
           });
       others = λ other apart. refl;
     })
 
 -- one that answers of what is held, and changes nothing
-pub serves-same : (digest : List ℕ → List ℕ) (name : List ℕ) (call : Call) (p : Cells) (es : Tenants) (held : Holding) (answer : Answer) (out out' : List ℕ)
+pub serves-same : (digest : List ℕ → List ℕ) (name : List ℕ) (call : Call) (p : Cells) (es : Tenants) (held : TenantState) (answer : Answer) (out out' : List ℕ)
     → Accounts digest p es → held_of name (holdings p es) ≡ held
     → Takes (step_held digest call (stop_told answer) held) answer out out' held
     → Serves digest name call (store p es) answer out out' (store p es)
 serves-same digest name call p es held answer out out' h is takes = record {
   accounts = h;
-  own = subst (λ (x : Holding). Takes (step_held digest call (stop_told answer) x) answer out out' x) (sym is) takes;
+  own = subst (λ (x : TenantState). Takes (step_held digest call (stop_told answer) x) answer out out' x) (sym is) takes;
   others = λ other apart. refl;
 }
 
@@ -310,9 +310,9 @@ serves-new digest name call p es new t answer out out' h named none same empty s
             omega arith;
       };
       own =
-          subst (λ (x : Holding). Takes (step_held digest call (stop_told answer) x) answer out out' (held_of name (holdings p (es ++ (name, t) ∷ []))))
+          subst (λ (x : TenantState). Takes (step_held digest call (stop_told answer) x) answer out out' (held_of name (holdings p (es ++ (name, t) ∷ []))))
           (sym (held-missing p name es none))
-          (subst (λ (x : Holding). Takes (step_held digest call (stop_told answer) (Idle empty_repository)) answer out out' x) (sym after) takes);
+          (subst (λ (x : TenantState). Takes (step_held digest call (stop_told answer) (Idle empty_repository)) answer out out' x) (sym after) takes);
       others = λ other apart.
           ap (λ o. unwrap_or o (Idle empty_repository))
           (ap (lookup (bytes_eq other)) (map-append (λ (e : List ℕ × Tenant). (e.0, holding_in p e.1)) es ((name, t) ∷ []))

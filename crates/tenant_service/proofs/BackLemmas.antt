@@ -16,7 +16,7 @@ use Rattle.pool_file_checks.specs.Repositories.{Named, contents_of, file_text}
 use Rattle.pool_file_checks.specs.Saving.{IsGood, IsTextOf}
 use Rattle.pool_file_checks.proofs.Members.{Has, has_map, from_map, has_flat_map, of_flat_map}
 use Rattle.pool_file_checks.proofs.Texts.{one_list}
-use Rattle.tenant_service.specs.Holding.{Holding, Holdings, Idle, Busy, empty_repository, held_of}
+use Rattle.tenant_service.specs.TenantState.{TenantState, TenantStates, Idle, Busy, empty_repository, held_of}
 use Rattle.tenant_service.specs.HeldObjects.{held_contents, held_objects, last_held}
 use Rattle.tenant_service.specs.Saved.{last_named, saved_of, repository_of, IsLoadedFrom}
 use Rattle.tenant_service.specs.Tenants.{Tenants, AreSound, holdings}
@@ -25,30 +25,30 @@ use Rattle.tenant_service.proofs.SavedLemmas.{LosesNothing, saved-repository, em
 use Rattle.tenant_service.proofs.SavableLemmas.{IsSavable, take-has, of-saved, can-save}
 
 -- The repository of every tenant at its last checkpoint is good.
-abbrev AreGood : (List ℕ → List ℕ) → Holdings → Type 0
+abbrev AreGood : (List ℕ → List ℕ) → TenantStates → Type 0
 AreGood digest all = (tenant : List ℕ) → IsGood digest (last_held (held_of tenant all))
 
-good-sound : (digest : List ℕ → List ℕ) (all : Holdings) → AreSound digest all → AreGood digest all
+good-sound : (digest : List ℕ → List ℕ) (all : TenantStates) → AreSound digest all → AreGood digest all
 good-sound digest all sound tenant =
     let last = last-sound digest (held_of tenant all) (sound tenant) in
     record { objects = last.objects; trees = last.trees; refs = last.refs }
 
 -- ---- each tenant's repository
 
-among : (P : List ℕ → Type 0) (all : Holdings) (e : List ℕ × Holding)
+among : (P : List ℕ → Type 0) (all : TenantStates) (e : List ℕ × TenantState)
     → AllByRecursion P (keys_of all) → Has all e → P e.0
 among P [] e each h = absurd h
-among P (x ∷ all) e each (inl same) = subst (λ (y : List ℕ × Holding). P y.0) same each.0
+among P (x ∷ all) e each (inl same) = subst (λ (y : List ℕ × TenantState). P y.0) same each.0
 among P (x ∷ all) e each (inr h) = among P all e each.1 h
 
-pub found-once : (all : Holdings) (e : List ℕ × Holding) → IsDistinct bytes_eq (keys_of all)
+pub found-once : (all : TenantStates) (e : List ℕ × TenantState) → IsDistinct bytes_eq (keys_of all)
     → Has all e → lookup (bytes_eq e.0) all ≡ Some e.1
 unfolding IsDistinct
 found-once [] e distinct h = absurd h
 found-once (x ∷ all) e distinct (inl same) =
     ap (λ (b : Bool). cond b (Some x.1) (lookup (bytes_eq e.0) all))
-    ((bytes_eq-Decides e.0 x.0).1 (ap (λ (y : List ℕ × Holding). y.0) (sym same)))
-    ∙ ap (λ (y : List ℕ × Holding). Some y.1) same
+    ((bytes_eq-Decides e.0 x.0).1 (ap (λ (y : List ℕ × TenantState). y.0) (sym same)))
+    ∙ ap (λ (y : List ℕ × TenantState). Some y.1) same
 found-once (x ∷ all) e distinct (inr h) = by (bytes_eq e.0 x.0) refl (found-once all e distinct.1 h)
   where
     by : (b : Bool) → bytes_eq e.0 x.0 ≡ b → lookup (bytes_eq e.0) all ≡ Some e.1
@@ -59,10 +59,10 @@ found-once (x ∷ all) e distinct (inr h) = by (bytes_eq e.0 x.0) refl (found-on
         (sym ((bytes_eq-Decides e.0 x.0).0 same))) ∙ apart))
     by false other found = found
 
-named_of : List ℕ × Holding → Named
+named_of : List ℕ × TenantState → Named
 named_of e = record { tenant = e.0; repository = last_held e.1 }
 
-good-named : (digest : List ℕ → List ℕ) (all : Holdings) → IsDistinct bytes_eq (keys_of all)
+good-named : (digest : List ℕ → List ℕ) (all : TenantStates) → IsDistinct bytes_eq (keys_of all)
     → AreGood digest all → (n : Named) → Has (last_named all) n → IsGood digest n.repository
 unfolding named_of
 good-named digest all distinct good n h =
@@ -70,9 +70,9 @@ good-named digest all distinct good n h =
     let held : held_of f.from.0 all ≡ f.from.1 =
     ap (λ o. unwrap_or o (Idle empty_repository)) (found-once all f.from distinct f.there) in
     subst (λ (m : Named). IsGood digest m.repository) f.is
-    (subst (λ (x : Holding). IsGood digest (last_held x)) held (good f.from.0))
+    (subst (λ (x : TenantState). IsGood digest (last_held x)) held (good f.from.0))
 
-name-named : (all : Holdings) → AllByRecursion (λ name. is_tenant_name name ≡ true) (keys_of all)
+name-named : (all : TenantStates) → AllByRecursion (λ name. is_tenant_name name ≡ true) (keys_of all)
     → (n : Named) → Has (last_named all) n → is_tenant_name n.tenant ≡ true
 unfolding named_of
 name-named all names n h =
@@ -82,17 +82,17 @@ name-named all names n h =
 
 -- ---- all contents that are saved are held
 
-last-objects : (held : Holding) (o : Object) → Has (last_held held).objects o
+last-objects : (held : TenantState) (o : Object) → Has (last_held held).objects o
     → Has (held_objects held) o
 last-objects (Idle repository) o h = h
 last-objects (Busy (Runs now tail)) o h =
     take-has now.workspace.committed now.workspace.objects o h
 last-objects (Busy (Refused code repository)) o h = h
 
-contents_held : List ℕ × Holding → List Content
+contents_held : List ℕ × TenantState → List Content
 contents_held e = map (λ o. o.content) (held_objects e.1)
 
-held-content : (all : Holdings) (n : Named) (c : Content) → Has (last_named all) n
+held-content : (all : TenantStates) (n : Named) (c : Content) → Has (last_named all) n
     → Has (map (λ o. o.content) n.repository.objects) c → Has (held_contents all) c
 unfolding named_of contents_held
 held-content all n c there h =
@@ -107,11 +107,11 @@ held-content all n c there h =
 
 -- ---- what is saved has a text, and comes back
 
-length-last : (all : Holdings) → length (last_named all) ≡ length all
+length-last : (all : TenantStates) → length (last_named all) ≡ length all
 length-last [] = refl
 length-last (e ∷ all) = ap (λ n. suc n) (length-last all)
 
-module _ (digest : List ℕ → List ℕ) (all : Holdings)
+module _ (digest : List ℕ → List ℕ) (all : TenantStates)
     (names : AllByRecursion (λ name. is_tenant_name name ≡ true) (keys_of all))
     (distinct : IsDistinct bytes_eq (keys_of all)) (sound : AreSound digest all) where
   good : AreGood digest all
@@ -146,7 +146,7 @@ module _ (digest : List ℕ → List ℕ) (all : Holdings)
 
   -- a service that was loaded from the text has what a restart leaves
   pub back-loaded : AnswersNames digest
-      → IsTextOf digest (saved_of all) (file_text digest (saved_of all)) → (loaded : Holdings)
+      → IsTextOf digest (saved_of all) (file_text digest (saved_of all)) → (loaded : TenantStates)
       → IsLoadedFrom digest (file_text digest (saved_of all)) loaded → (tenant : List ℕ)
       → held_of tenant loaded ≡ Idle (last_held (held_of tenant all))
   back-loaded answers text loaded from tenant =

@@ -26,9 +26,9 @@ use Rattle.service_steps.specs.declared.step.Step.{Step}
 use Rattle.service_steps.specs.declared.step.Step.TheVariants as step
 use Rattle.tenant_service.specs.Alone.{Call, Open, Feed, End, Ask, Restart, State, Closed, Streaming, Dead, last_alone, answered, asked, run_alone}
 use Rattle.tenant_service.specs.Copying.{has_nothing, held_refusal, copy_refusal, IsCall, GoesOn, IsFedAndEnded, IsImport, IsExport, IsCopyRun, HasTaken}
-use Rattle.tenant_service.specs.Headline.{Told, Run, concerns, call_of, stop_told, part_of, steps_of, left_alone, IsItsOwn}
+use Rattle.tenant_service.specs.Headline.{Told, Run, concerns, call_of, stop_told, part_of, steps_of, left_alone, IsIsolated}
 use Rattle.tenant_service.specs.StepName.{name_of}
-use Rattle.tenant_service.specs.Holding.{Holding, Holdings, Idle, Busy, LeadsTo, empty_repository, held_of}
+use Rattle.tenant_service.specs.TenantState.{TenantState, TenantStates, Idle, Busy, LeadsTo, empty_repository, held_of}
 use Rattle.tenant_service.specs.declared.tenant.Tenant.{Tenant}
 use Rattle.tenant_service.specs.Tenants.{Tenants, AreLed, holding_in, holdings}
 use Rattle.tenant_service.proofs.AccountLemmas.{held-found, held-missing}
@@ -37,8 +37,8 @@ use Rattle.tenant_service.proofs.RunLemmas.{apart-back, own-more, own-none}
 -- ---- steps in turn
 
 -- a run of steps after one more
-pub taken-first : (digest : List ℕ → List ℕ) (before between after : Holdings) (first : Step × Told) (Is Then : Run → Type 0)
-    → ((tenant : List ℕ) → IsItsOwn digest tenant (held_of tenant before) (first ∷ []) (held_of tenant between))
+pub taken-first : (digest : List ℕ → List ℕ) (before between after : TenantStates) (first : Step × Told) (Is Then : Run → Type 0)
+    → ((tenant : List ℕ) → IsIsolated digest tenant (held_of tenant before) (first ∷ []) (held_of tenant between))
     → ((run : Run) → Then run → Is (first ∷ run))
     → HasTaken digest between after Then → HasTaken digest before after Is
 taken-first digest before between after first Is Then own is later = record {
@@ -48,15 +48,15 @@ taken-first digest before between after first Is Then own is later = record {
 }
 
 -- a run of one step
-pub taken-one : (digest : List ℕ → List ℕ) (before after : Holdings) (first : Step × Told) (Is : Run → Type 0)
-    → ((tenant : List ℕ) → IsItsOwn digest tenant (held_of tenant before) (first ∷ []) (held_of tenant after))
+pub taken-one : (digest : List ℕ → List ℕ) (before after : TenantStates) (first : Step × Told) (Is : Run → Type 0)
+    → ((tenant : List ℕ) → IsIsolated digest tenant (held_of tenant before) (first ∷ []) (held_of tenant after))
     → Is (first ∷ []) → HasTaken digest before after Is
 taken-one digest before after first Is own is = record { run = first ∷ []; is = is; own = own }
 
 -- a run of two steps
-pub taken-two : (digest : List ℕ → List ℕ) (before between after : Holdings) (first second : Step × Told) (Is : Run → Type 0)
-    → ((tenant : List ℕ) → IsItsOwn digest tenant (held_of tenant before) (first ∷ []) (held_of tenant between))
-    → ((tenant : List ℕ) → IsItsOwn digest tenant (held_of tenant between) (second ∷ []) (held_of tenant after))
+pub taken-two : (digest : List ℕ → List ℕ) (before between after : TenantStates) (first second : Step × Told) (Is : Run → Type 0)
+    → ((tenant : List ℕ) → IsIsolated digest tenant (held_of tenant before) (first ∷ []) (held_of tenant between))
+    → ((tenant : List ℕ) → IsIsolated digest tenant (held_of tenant between) (second ∷ []) (held_of tenant after))
     → Is (first ∷ second ∷ []) → HasTaken digest before after Is
 taken-two digest before between after first second Is own then is = record {
   run = first ∷ second ∷ [];
@@ -67,7 +67,7 @@ taken-two digest before between after first second Is own then is = record {
 -- ---- what the steps leave of other tenants
 
 -- a repository and a stream of its own lead to one thing
-leads-one : (digest : List ℕ → List ℕ) (state : State) (a b : Holding) → LeadsTo digest state a → LeadsTo digest state b → a ≡ b
+leads-one : (digest : List ℕ → List ℕ) (state : State) (a b : TenantState) → LeadsTo digest state a → LeadsTo digest state b → a ≡ b
 leads-one digest (Closed r) (Idle a) (Idle b) h k = ap Idle (sym h ∙ k)
 leads-one digest (Closed r) (Idle a) (Busy b) h k = absurd k
 leads-one digest (Closed r) (Busy a) b h k = absurd h
@@ -163,7 +163,7 @@ export-leaves tenant from to (asked ∷ later) told apart h = (
 )
 
 -- of every other tenant a copy leaves what was held
-pub others-held : (digest : List ℕ → List ℕ) (before after : Holdings) (from to : List ℕ) (told : Answer)
+pub others-held : (digest : List ℕ → List ℕ) (before after : TenantStates) (from to : List ℕ) (told : Answer)
     → AreLed digest before → HasTaken digest before after (λ run. IsExport from to run told)
     → (tenant : List ℕ) → bytes_eq tenant to ≡ false → held_of tenant after ≡ held_of tenant before
 others-held digest before after from to told led taken tenant apart =
@@ -184,7 +184,7 @@ goes-on a later told so ok h = subst (λ (x : Answer). GoesOn x later told so) (
 -- ---- refusals before the steps
 
 -- no steps were taken
-pub taken-none : (digest : List ℕ → List ℕ) (before : Holdings) (refusal : ServiceFault) (from to : List ℕ) (refused : Option ServiceFault) (told : Answer)
+pub taken-none : (digest : List ℕ → List ℕ) (before : TenantStates) (refusal : ServiceFault) (from to : List ℕ) (refused : Option ServiceFault) (told : Answer)
     → refused ≡ Some refusal → told ≡ answer.Fault (code_of refusal) → HasTaken digest before before (λ run. IsCopyRun refused from to run told)
 taken-none digest before refusal from to refused told is says = record {
   run = [];
@@ -192,7 +192,7 @@ taken-none digest before refusal from to refused told is says = record {
   own = λ tenant. own-none digest tenant (held_of tenant before);
 }
 
-pub taken-all : (digest : List ℕ → List ℕ) (before after : Holdings) (from to : List ℕ) (refused : Option ServiceFault) (told : Answer)
+pub taken-all : (digest : List ℕ → List ℕ) (before after : TenantStates) (from to : List ℕ) (refused : Option ServiceFault) (told : Answer)
     → refused ≡ None → HasTaken digest before after (λ run. IsExport from to run told) → HasTaken digest before after (λ run. IsCopyRun refused from to run told)
 taken-all digest before after from to refused told is taken = record {
   run = taken.run;
@@ -225,7 +225,7 @@ entry-decides pool table refs some =
     (ne_eqb (length (objects pool table.entries)) 0 (λ none. some (sym (length-objects pool table.entries) ∙ none))))
 
 -- good names leave it to what is held
-named-decides : (from to : List ℕ) (all : Holdings) → is_tenant_name from ≡ true → is_tenant_name to ≡ true
+named-decides : (from to : List ℕ) (all : TenantStates) → is_tenant_name from ≡ true → is_tenant_name to ≡ true
     → held_refusal (held_of to all) ≡ copy_refusal from to all
 named-decides from to all first second =
     sym (ap (λ (x : Bool). cond (x && is_tenant_name to) (held_refusal (held_of to all)) (Some fault.BadTenantName)) first

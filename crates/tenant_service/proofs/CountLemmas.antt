@@ -21,8 +21,8 @@ use Rattle.tenant_tables.specs.View.{held}
 use Rattle.pool_file_checks.proofs.Members.{Has}
 use Rattle.import_session.specs.Stream.{Runs, Refused}
 use Rattle.tenant_service.specs.declared.tenant.Tenant.{Tenant}
-use Rattle.tenant_service.specs.Holding.{Holding, Holdings, Idle, Busy, empty_repository}
-use Rattle.tenant_service.specs.Soundness.{IsSoundHolding}
+use Rattle.tenant_service.specs.TenantState.{TenantState, TenantStates, Idle, Busy, empty_repository}
+use Rattle.tenant_service.specs.Soundness.{IsSoundTenantState}
 use Rattle.tenant_service.specs.HeldObjects.{held_objects, tenants_with}
 use Rattle.tenant_service.specs.Tenants.{Tenants, Stands, Accounts, AreSound, CountsTenants, all_held, holding_in, holdings}
 use Rattle.tenant_service.proofs.BackLemmas.{found-once}
@@ -116,14 +116,14 @@ once-among digest os good c = count-member digest os (named-all digest os os goo
 
 -- ---- tenants
 
-objects-sound : (digest : List ℕ → List ℕ) (h : Holding) → IsSoundHolding digest h
+objects-sound : (digest : List ℕ → List ℕ) (h : TenantState) → IsSoundTenantState digest h
     → AreObjects digest (held_objects h)
 objects-sound digest (Idle repository) sound = sound.objects
 objects-sound digest (Busy (Runs now tail)) sound = sound.objects
 objects-sound digest (Busy (Refused code repository)) sound = sound.objects
 
 of-one : (digest : List ℕ → List ℕ) (p : Cells) (t : Tenant)
-    → ((s : ℕ) → held t.table.entries s ≤ holds p s) → IsSoundHolding digest (holding_in p t)
+    → ((s : ℕ) → held t.table.entries s ≤ holds p s) → IsSoundTenantState digest (holding_in p t)
     → (c : Content) → over p c (held t.table.entries)
     ≡ cond (is_member same_content (contents (held_objects (holding_in p t))) c) 1 0
 of-one digest p t counted sound c =
@@ -135,7 +135,7 @@ of-one digest p t counted sound c =
 
 of-all : (digest : List ℕ → List ℕ) (p : Cells) (es : Tenants)
     → AllByRecursion (λ e. Stands digest p e.1) es
-    → AllByRecursion (λ e. IsSoundHolding digest (holding_in p e.1)) es
+    → AllByRecursion (λ e. IsSoundTenantState digest (holding_in p e.1)) es
     → (c : Content) → over p c (all_held es) ≡ tenants_with c (holdings p es)
 of-all digest p [] stands sound c = over-none p c
 of-all digest p (e ∷ es) stands sound c =
@@ -146,29 +146,29 @@ of-all digest p (e ∷ es) stands sound c =
     ∙ over-sum p c (held e.1.table.entries) (all_held es)
     ∙ (λ i. one i + rest i)
     ∙ sym (sum_by-cons
-    (λ (x : List ℕ × Holding). cond (is_member same_content (contents (held_objects x.1)) c) 1 0)
+    (λ (x : List ℕ × TenantState). cond (is_member same_content (contents (held_objects x.1)) c) 1 0)
     (e.0, holding_in p e.1) (holdings p es))
 
-sound-each : (digest : List ℕ → List ℕ) (all : Holdings) → IsDistinct bytes_eq (keys_of all)
-    → AreSound digest all → (e : List ℕ × Holding) → Has all e → IsSoundHolding digest e.1
+sound-each : (digest : List ℕ → List ℕ) (all : TenantStates) → IsDistinct bytes_eq (keys_of all)
+    → AreSound digest all → (e : List ℕ × TenantState) → Has all e → IsSoundTenantState digest e.1
 sound-each digest all distinct sound e h =
-    subst (λ (x : Holding). IsSoundHolding digest x)
+    subst (λ (x : TenantState). IsSoundTenantState digest x)
     (ap (λ o. unwrap_or o (Idle empty_repository)) (found-once all e distinct h)) (sound e.0)
 
 sound-all : (digest : List ℕ → List ℕ) (p : Cells) (es : Tenants)
-    → ((e : List ℕ × Holding) → Has (holdings p es) e → IsSoundHolding digest e.1)
-    → AllByRecursion (λ e. IsSoundHolding digest (holding_in p e.1)) es
+    → ((e : List ℕ × TenantState) → Has (holdings p es) e → IsSoundTenantState digest e.1)
+    → AllByRecursion (λ e. IsSoundTenantState digest (holding_in p e.1)) es
 sound-all digest p [] each = tt
 sound-all digest p (e ∷ es) each =
     (each (e.0, holding_in p e.1) (inl refl), sound-all digest p es (λ x h. each x (inr h)))
 
 -- the pool holds a content as often as there are tenants that have it
-pub counts-tenants : (digest : List ℕ → List ℕ) (p : Cells) (es : Tenants) (all : Holdings)
+pub counts-tenants : (digest : List ℕ → List ℕ) (p : Cells) (es : Tenants) (all : TenantStates)
     → Accounts digest p es → AreSound digest (holdings p es) → holdings p es ≡ all
     → IsDistinct bytes_eq (keys_of all) → CountsTenants p all
 counts-tenants digest p es all h sound is distinct =
-    subst (λ (x : Holdings). CountsTenants p x) is
+    subst (λ (x : TenantStates). CountsTenants p x) is
     (λ c. holds-over p c ∙ over-same p c (holds p) (all_held es) h.counts
     ∙ of-all digest p es h.stands
     (sound-all digest p es (sound-each digest (holdings p es)
-    (subst (λ (x : Holdings). IsDistinct bytes_eq (keys_of x)) (sym is) distinct) sound)) c)
+    (subst (λ (x : TenantStates). IsDistinct bytes_eq (keys_of x)) (sym is) distinct) sound)) c)

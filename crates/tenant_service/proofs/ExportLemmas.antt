@@ -4,7 +4,7 @@ use Rattle.std.proofs.Math.Seq.{drop-nil}
 use Rattle.git_model.specs.Repository.{Repository}
 use Rattle.stream_lex.specs.Items.{Tail}
 use Rattle.export_text.specs.Export.{export_text}
-use Rattle.import_session.specs.Stream.{End as StreamEnd, Outcome, Running, Standing, Runs, Refused, finished, last_checkpoint}
+use Rattle.import_session.specs.Stream.{End as StreamEnd, Outcome, Running, StreamStatus, Runs, Refused, finished, last_checkpoint}
 use Rattle.service_steps.specs.declared.answer.Answer.TheVariants as answer
 use Rattle.tenant_service.specs.Alone.{Call, Open, Feed, End, Turn, State, Closed, Streaming, turn, stream_of, closed, end_answer, ended, ended_well, fed_by, run_alone, unless_out_of_memory}
 use Rattle.export_laws.specs.Copies.{CanBeCopied}
@@ -13,7 +13,7 @@ use Rattle.export_laws.proofs.EndImported.{export-imported}
 use Rattle.git_names.specs.Naming.{AnswersNames}
 use Rattle.import_session.specs.Sound.{IsSoundRepository}
 use Rattle.tenant_service.specs.Headline.{Told, left_alone, told_alone, told_by}
-use Rattle.tenant_service.specs.Holding.{empty_repository}
+use Rattle.tenant_service.specs.TenantState.{empty_repository}
 use Rattle.tenant_service.specs.Copies.{Takes, import_steps, told_ok}
 
 -- A text that prints nothing and ends well, over an empty repository.
@@ -27,7 +27,7 @@ pub record EndsWell (digest : List ℕ → List ℕ) (text : List ℕ) (left : R
 
 -- what ends well was not refused
 ends-well : (digest : List ℕ → List ℕ) (text : List ℕ) (left : Repository) (replies : List ℕ)
-    (standing : Standing)
+    (standing : StreamStatus)
     → stream_of digest empty_repository text ≡ record { replies = replies; standing = standing }
     → replies ≡ []
     → finished digest standing ≡ record { fault = None; reply = []; repository = left }

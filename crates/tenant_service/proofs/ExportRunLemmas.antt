@@ -27,9 +27,9 @@ use Rattle.export_laws.specs.Ends.{IsImported}
 use Rattle.export_laws.proofs.EndImported.{export-imported}
 use Rattle.git_names.specs.Naming.{AnswersNames}
 use Rattle.tenant_service.specs.Copying.{GoesOn, IsCall, IsFedAndEnded, IsImport, IsExport, HasTaken, copy_refusal, first_refusal, has_nothing, held_refusal}
-use Rattle.tenant_service.specs.Headline.{Told, Run, IsItsOwn, call_of, concerns, left_alone, part_of, steps_of, stop_told, told_alone, told_by, told_to}
+use Rattle.tenant_service.specs.Headline.{Told, Run, IsIsolated, call_of, concerns, left_alone, part_of, steps_of, stop_told, told_alone, told_by, told_to}
 use Rattle.tenant_service.specs.StepName.{name_of}
-use Rattle.tenant_service.specs.Holding.{Holding, Holdings, Idle, Busy, LeadsTo, empty_repository, held_of}
+use Rattle.tenant_service.specs.TenantState.{TenantState, TenantStates, Idle, Busy, LeadsTo, empty_repository, held_of}
 use Rattle.tenant_service.specs.HeldObjects.{last_held}
 use Rattle.tenant_service.specs.Copies.{CopiesAs, HoldsCopy}
 use Rattle.tenant_service.proofs.ExportLemmas.{EndsWell, end-turn, export-ends, feed-turn}
@@ -77,7 +77,7 @@ concerned tenant step.Restart named good = refl
 
 -- What a repository and a stream of its own make of a run, and lead to.
 record Goes (digest : List ℕ → List ℕ) (tenant : List ℕ) (state : State) (run : Run)
-    (after : Holding) : Type 0 where
+    (after : TenantState) : Type 0 where
   told : told_to tenant run ≡ told_alone digest state (steps_of tenant run)
   left : LeadsTo digest (left_alone digest state (steps_of tenant run)) after
 
@@ -98,7 +98,7 @@ module _ (digest : List ℕ → List ℕ) (state : State) (call : Call) (stop : 
 -- one step of the tenant, and the rest of the run
 module _ (digest : List ℕ → List ℕ) (tenant : List ℕ) (good : is_tenant_name tenant ≡ true)
     (call : Call) (taken : Step × Told) (is : IsCall tenant call taken.0) (stop : Option ℕ)
-    (stops : stop_told taken.1.answer ≡ stop) (state : State) (run : Run) (after : Holding) where
+    (stops : stop_told taken.1.answer ≡ stop) (state : State) (run : Run) (after : TenantState) where
   first-part : part_of tenant (taken ∷ run) ≡ taken ∷ part_of tenant run
   first-part =
       ap (λ (b : Bool). cond b (taken ∷ part_of tenant run) (part_of tenant run))
@@ -155,7 +155,7 @@ query-leaves digest query stop state = by stop
 
 -- whatever tenant it is of
 after-query : (digest : List ℕ → List ℕ) (tenant query : List ℕ) (taken : Step × Told)
-    → call_of taken.0 ≡ Ask query → (state : State) (run : Run) (after : Holding)
+    → call_of taken.0 ≡ Ask query → (state : State) (run : Run) (after : TenantState)
     → Goes digest tenant state (taken ∷ run) after → Goes digest tenant state run after
 after-query digest tenant query taken is state run after g =
     by (concerns tenant taken.0) g.told g.left
@@ -193,13 +193,13 @@ after-query digest tenant query taken is state run after g =
 -- ---- the import of an export, step by step
 
 -- a repository of its own without a stream leads to itself held
-held-copy : (digest : List ℕ → List ℕ) (repository left : Repository) (held : Holding)
+held-copy : (digest : List ℕ → List ℕ) (repository left : Repository) (held : TenantState)
     → LeadsTo digest (Closed left) held → IsCopyOf repository left → HoldsCopy repository held
 held-copy digest repository left (Idle kept) leads copy = subst (IsCopyOf repository) leads copy
 held-copy digest repository left (Busy standing) leads copy = absurd leads
 
 module _ (digest : List ℕ → List ℕ) (repository : Repository) (i : IsImported digest repository)
-    (to : List ℕ) (good : is_tenant_name to ≡ true) (after : Holding) where
+    (to : List ℕ) (good : is_tenant_name to ≡ true) (after : TenantState) where
   well : EndsWell digest (export_text repository) i.left
   well = export-ends digest repository i
 
@@ -304,12 +304,12 @@ module _ (digest : List ℕ → List ℕ) (repository : Repository) (i : IsImpor
 -- ---- a copy that was not refused before its steps
 
 -- Both names are good, and the second tenant has nothing.
-pub record MayTake (from to : List ℕ) (held : Holding) : Type 0 where
+pub record MayTake (from to : List ℕ) (held : TenantState) : Type 0 where
   pub good_from : is_tenant_name from ≡ true
   pub good_to : is_tenant_name to ≡ true
   pub nothing : held ≡ Idle empty_repository
 
-not-refused : (held : Holding) → held_refusal held ≡ None → held ≡ Idle empty_repository
+not-refused : (held : TenantState) → held_refusal held ≡ None → held ≡ Idle empty_repository
 not-refused (Idle repository) h = by (has_nothing repository) refl h
   where
     by : (b : Bool) → has_nothing repository ≡ b → cond b None (Some fault.TenantNotEmpty) ≡ None
@@ -318,7 +318,7 @@ not-refused (Idle repository) h = by (has_nothing repository) refl h
     by false is h = cc
 not-refused (Busy standing) h = cc
 
-pub may-take : (from to : List ℕ) (all : Holdings) → copy_refusal from to all ≡ None → MayTake from to (held_of to all)
+pub may-take : (from to : List ℕ) (all : TenantStates) → copy_refusal from to all ≡ None → MayTake from to (held_of to all)
 may-take from to all h = by (is_tenant_name from && is_tenant_name to) refl h
   where
     by : (b : Bool) → (is_tenant_name from && is_tenant_name to) ≡ b
@@ -330,7 +330,7 @@ may-take from to all h = by (is_tenant_name from && is_tenant_name to) refl h
 
 -- ---- the steps of a copy
 
-module _ (digest : List ℕ → List ℕ) (before after : Holdings) (from to : List ℕ) (told : Answer)
+module _ (digest : List ℕ → List ℕ) (before after : TenantStates) (from to : List ℕ) (told : Answer)
     (state : State) (leads : LeadsTo digest state (held_of from before))
     (last : last_alone digest state ≡ last_held (held_of from before))
     (few : is_exportable (last_held (held_of from before)) ≡ true)
@@ -350,7 +350,7 @@ module _ (digest : List ℕ → List ℕ) (before after : Holdings) (from to : L
   starts = subst (LeadsTo digest (Closed empty_repository)) (sym may.nothing) refl
 
   copied-by : (run : Run) → IsExport from to run told
-      → ((tenant : List ℕ) → IsItsOwn digest tenant (held_of tenant before) run (held_of tenant after))
+      → ((tenant : List ℕ) → IsIsolated digest tenant (held_of tenant before) run (held_of tenant after))
       → CopiesAs told repository (held_of to after)
   copied-by [] h own = absurd h
   copied-by (asked ∷ run) h own = by asked.1.answer refl h.1
@@ -389,7 +389,7 @@ module _ (digest : List ℕ → List ℕ) (before after : Holdings) (from to : L
 
 -- The steps of a copy that is not refused before them are answered Ok, or run out of memory; and
 -- after Ok a copy of the first tenant's repository at its last checkpoint is held of the second.
-pub copied : (digest : List ℕ → List ℕ) → AnswersNames digest → (before after : Holdings)
+pub copied : (digest : List ℕ → List ℕ) → AnswersNames digest → (before after : TenantStates)
     (from to : List ℕ) (told : Answer) → AreLed digest before → AreSound digest before
     → HasTaken digest before after (λ run. IsExport from to run told)
     → copy_refusal from to before ≡ None → CanBeCopied (last_held (held_of from before))

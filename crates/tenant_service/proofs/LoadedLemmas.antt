@@ -25,8 +25,8 @@ use Rattle.pool_file.specs.declared.tenant.Tenant.{Tenant as Loaded}
 use Rattle.tenant_service.specs.declared.tenant.Tenant.{Tenant}
 use Rattle.tenant_service.specs.Alone.{Closed}
 use Rattle.tenant_service.specs.Entries.{entry_of, AreAll}
-use Rattle.tenant_service.specs.Holding.{Holding, Idle, LeadsTo, empty_repository}
-use Rattle.tenant_service.specs.Soundness.{IsSoundHolding}
+use Rattle.tenant_service.specs.TenantState.{TenantState, Idle, LeadsTo, empty_repository}
+use Rattle.tenant_service.specs.Soundness.{IsSoundTenantState}
 use Rattle.tenant_service.specs.Saved.{repository_of, HasJust, LoadsAs, LoadsText, LoadsEach}
 use Rattle.tenant_service.specs.Tenants.{Tenants, Stands, Accounts, IsService, holding_in, holdings, all_held}
 
@@ -59,7 +59,7 @@ idle-or (Some r) = refl
 pub has-loaded : (p : Cells) (ts : List Loaded) → HasJust (said p ts) (holdings p (map entry_of ts))
 unfolding said
 has-loaded p ts tenant =
-    ap (λ (o : Option Holding). unwrap_or o (Idle empty_repository)) (lookup-loaded p tenant ts)
+    ap (λ (o : Option TenantState). unwrap_or o (Idle empty_repository)) (lookup-loaded p tenant ts)
     ∙ idle-or (lookup (bytes_eq tenant) (repositories (map (named_in p) ts)))
 
 -- ---- a service
@@ -120,11 +120,11 @@ module _ (digest : List ℕ → List ℕ) (p : Cells) (ts : List Loaded)
     led = λ tenant.
         let r : Repository = repository_of tenant (said p ts) in (
           Closed r,
-          subst (λ (held : Holding). LeadsTo digest (Closed r) held)
+          subst (λ (held : TenantState). LeadsTo digest (Closed r) held)
               (sym (has-loaded p ts tenant)) refl,
         );
     sound = λ tenant.
-        subst (λ (held : Holding). IsSoundHolding digest held) (sym (has-loaded p ts tenant))
+        subst (λ (held : TenantState). IsSoundTenantState digest held) (sym (has-loaded p ts tenant))
         (sound-or digest p tenant ts all.each);
   }
 

@@ -11,14 +11,14 @@ use Rattle.stream_lex.specs.Running.{more_of}
 use Rattle.stream_lex.proofs.Walks.{reading-append}
 use Rattle.stream_state.specs.declared.fault.Fault.{Fault}
 use Rattle.import_session.specs.Workspace.{opened}
-use Rattle.import_session.specs.Stream.{Running, Step, Standing, Runs, Refused, Outcome, begun, after_reply, carried, going_on, step, at_tail, last_checkpoint}
+use Rattle.import_session.specs.Stream.{Running, Step, StreamStatus, Runs, Refused, Outcome, begun, after_reply, carried, going_on, step, at_tail, last_checkpoint}
 use Rattle.tenant_stream.specs.Carrying.{outcome_after}
 use Rattle.answers.specs.declared.fault.Fault.{Fault as Refusal}
 use Rattle.answers.specs.Answers.{answer_to}
 use Rattle.service_steps.specs.declared.answer.Answer.TheVariants as answer
 use Rattle.tenant_service.specs.Alone.{Call, Open, Feed, End, Ask, Restart, State, Closed, Streaming, Dead, Turn, turn, Stopped, stop_at, stop_after, stream_of, last_of, feed_stop, open_alone, feed_alone, added, fed_by, fed, fed_well, fed_until, ended, closed, last_alone, answered, asked, run_alone}
 use Rattle.tenant_service.specs.Headline.{told_by}
-use Rattle.tenant_service.specs.Holding.{Holding, Idle, Busy, LeadsTo}
+use Rattle.tenant_service.specs.TenantState.{TenantState, Idle, Busy, LeadsTo}
 use Rattle.tenant_service.specs.HeldObjects.{last_held}
 use Rattle.tenant_service.specs.HeldSteps.{standing_answer, gone_on, held_until, open_held, feed_held, fed_held, step_held}
 use Rattle.tenant_stream.proofs.StreamLemmas.{carried-done, carried-tail}
@@ -73,7 +73,7 @@ carried-more digest s now (item ∷ items) later tail end kept replies h =
         let first = carried digest st.running items tail in
         let standing : first.standing ≡ Runs now kept = ap (λ (o : Outcome). o.standing) e in
         let rest : carried digest st.running items tail ≡ record { replies = first.replies; standing = Runs now kept } =
-        ap (λ (x : Standing). record { replies = first.replies; standing = x }) standing in
+        ap (λ (x : StreamStatus). record { replies = first.replies; standing = x }) standing in
         let all : st.reply ++ first.replies ≡ replies = ap (λ (o : Outcome). o.replies) e in
         ap (after_reply st.reply) (onwards st.running first.replies rest)
         ∙ ap (λ (rs : List ℕ). record { replies = rs; standing = (carried digest now later end).standing })
@@ -96,7 +96,7 @@ carried-kept digest s now (item ∷ items) tail kept replies h running =
     by onwards (Ok st) e =
         let first = carried digest st.running items tail in
         let standing : first.standing ≡ Runs now kept = ap (λ (o : Outcome). o.standing) e in
-        onwards st.running first.replies (ap (λ (x : Standing). record { replies = first.replies; standing = x }) standing)
+        onwards st.running first.replies (ap (λ (x : StreamStatus). record { replies = first.replies; standing = x }) standing)
     by onwards (Err fault) e =
         let st : _ ≡ Runs now kept = ap (λ (o : Outcome). o.standing) e in
         cc st
@@ -113,7 +113,7 @@ standing-so_far : (digest : List ℕ → List ℕ) (repository : Repository) (by
     ≡ record { replies = (stream_of digest repository bytes).replies; standing = Runs now kept }
 unfolding stream_of
 standing-so_far digest repository bytes now kept h =
-    ap (λ (x : Standing). record { replies = (carried digest (begun (opened repository)) (reading false bytes).items (reading false bytes).tail).replies; standing = x }) h
+    ap (λ (x : StreamStatus). record { replies = (carried digest (begun (opened repository)) (reading false bytes).items (reading false bytes).tail).replies; standing = x }) h
 
 -- a stream goes on from where it stands
 pub stream-more : (digest : List ℕ → List ℕ) (repository : Repository) (bytes piece : List ℕ) (now : Running) (kept : Tail)
@@ -143,7 +143,7 @@ stream-more digest repository bytes piece now kept h =
 abbrev after_replies : List ℕ → Stopped → Stopped
 after_replies replies stopped = record { replies = replies ++ stopped.replies; repository = stopped.repository }
 
-stop_at-after : (replies rs : List ℕ) (standing : Standing) → stop_at (replies ++ rs) standing ≡ option_map (after_replies replies) (stop_at rs standing)
+stop_at-after : (replies rs : List ℕ) (standing : StreamStatus) → stop_at (replies ++ rs) standing ≡ option_map (after_replies replies) (stop_at rs standing)
 stop_at-after replies rs (Runs now tail) = by now.is_done
   where
     by : (b : Bool) → cond b None (Some (record { replies = replies ++ rs; repository = last_checkpoint now.workspace }))
@@ -222,7 +222,7 @@ feed_stop-more digest repository bytes piece count now kept h =
 -- ---- one call
 
 -- a call on a repository of its own and the same call on what is held tell the same, and lead to the same
-pub record Meets (digest : List ℕ → List ℕ) (alone : Turn State) (held : Turn Holding) : Type 0 where
+pub record Meets (digest : List ℕ → List ℕ) (alone : Turn State) (held : Turn TenantState) : Type 0 where
   pub told : told_by alone ≡ told_by held
   pub leads : LeadsTo digest alone.state held.state
 
@@ -235,7 +235,7 @@ fed-goes digest repository all before later is =
     adds : drop (length before) (before ++ later.replies) ≡ later.replies
     adds = drop-append_seam before later.replies
 
-    by : (x : Standing) → later.standing ≡ x
+    by : (x : StreamStatus) → later.standing ≡ x
         → Meets digest (fed_by repository all (drop (length before) (before ++ later.replies)) x) (turn (standing_answer x) later.replies (Busy x))
     by (Runs now tail) stands = record {
       told = ap (λ (rs : List ℕ). record { answer = answer.Ok; reply = rs }) adds;
@@ -288,7 +288,7 @@ opened-leads digest (Some zero) repository = record { told = refl; leads = refl 
 opened-leads digest (Some (suc count)) repository = record { told = refl; leads = refl }
 
 -- what leads to what is held leads to its last checkpoint
-pub last-leads : (digest : List ℕ → List ℕ) (state : State) (held : Holding) → LeadsTo digest state held → last_alone digest state ≡ last_held held
+pub last-leads : (digest : List ℕ → List ℕ) (state : State) (held : TenantState) → LeadsTo digest state held → last_alone digest state ≡ last_held held
 last-leads digest (Closed r) (Idle r') h = h
 last-leads digest (Streaming r bytes) (Busy (Runs now tail)) h = ap last_of h
 last-leads digest (Dead code r) (Busy standing) h = sym (ap last_of h)
@@ -298,24 +298,24 @@ last-leads digest (Streaming r bytes) (Busy (Refused _ _)) h = elim h [ ]
 last-leads digest (Dead code r) (Idle r') h = elim h [ ]
 
 -- a query, by its answer
-answered-meets : (digest : List ℕ → List ℕ) (result : Result (List ℕ) Refusal) (state : State) (held : Holding) → LeadsTo digest state held
+answered-meets : (digest : List ℕ → List ℕ) (result : Result (List ℕ) Refusal) (state : State) (held : TenantState) → LeadsTo digest state held
     → Meets digest (answered result state) (answered result held)
 answered-meets digest (Ok text) state held h = record { told = refl; leads = h }
 answered-meets digest (Err refusal) state held h = record { told = refl; leads = h }
 
-asked-leads : (digest : List ℕ → List ℕ) (query : List ℕ) (stop : Option ℕ) (r : Repository) (state : State) (held : Holding) → LeadsTo digest state held
+asked-leads : (digest : List ℕ → List ℕ) (query : List ℕ) (stop : Option ℕ) (r : Repository) (state : State) (held : TenantState) → LeadsTo digest state held
     → Meets digest (asked query stop r state) (asked query stop r held)
 asked-leads digest query None r state held h = answered-meets digest (answer_to r query) state held h
 asked-leads digest query (Some zero) r state held h = record { told = refl; leads = h }
 asked-leads digest query (Some (suc count)) r state held h = answered-meets digest (answer_to r query) state held h
 
-asked-meets : (digest : List ℕ → List ℕ) (query : List ℕ) (stop : Option ℕ) (state : State) (held : Holding) → LeadsTo digest state held
+asked-meets : (digest : List ℕ → List ℕ) (query : List ℕ) (stop : Option ℕ) (state : State) (held : TenantState) → LeadsTo digest state held
     → Meets digest (asked query stop (last_alone digest state) state) (asked query stop (last_held held) held)
 asked-meets digest query stop state held h =
     subst (λ (r : Repository). Meets digest (asked query stop (last_alone digest state) state) (asked query stop r held)) (last-leads digest state held h)
     (asked-leads digest query stop (last_alone digest state) state held h)
 
-pub meets : (digest : List ℕ → List ℕ) (call : Call) (stop : Option ℕ) (state : State) (held : Holding) → LeadsTo digest state held
+pub meets : (digest : List ℕ → List ℕ) (call : Call) (stop : Option ℕ) (state : State) (held : TenantState) → LeadsTo digest state held
     → Meets digest (run_alone digest call stop state) (step_held digest call stop held)
 meets digest Open stop (Closed r) (Idle r') h = subst (λ (x : Repository). Meets digest (open_alone stop (Closed r)) (open_held stop (Idle x))) h (opened-leads digest stop r)
 meets digest Open stop (Streaming r bytes) (Busy (Runs now tail)) h = record { told = refl; leads = h }
@@ -323,12 +323,12 @@ meets digest Open stop (Dead code r) (Busy standing) h = record { told = refl; l
 meets digest (Feed piece) stop (Closed r) (Idle r') h = record { told = refl; leads = h }
 meets digest (Feed piece) stop (Streaming r bytes) (Busy (Runs now tail)) h = fed-meets digest r bytes piece stop now tail h
 meets digest (Feed piece) stop (Dead code r) (Busy standing) h =
-    subst (λ (x : Standing). Meets digest (feed_alone digest piece stop (Dead code r)) (feed_held digest piece stop (Busy x))) (sym h) (record { told = refl; leads = refl })
+    subst (λ (x : StreamStatus). Meets digest (feed_alone digest piece stop (Dead code r)) (feed_held digest piece stop (Busy x))) (sym h) (record { told = refl; leads = refl })
 meets digest End stop (Closed r) (Idle r') h = record { told = refl; leads = h }
 meets digest End stop (Streaming r bytes) (Busy (Runs now tail)) h =
-    subst (λ (x : Standing). Meets digest (closed Closed (ended digest stop x)) (closed Idle (ended digest stop (Runs now tail)))) (sym h) (ended-leads digest (ended digest stop (Runs now tail)))
+    subst (λ (x : StreamStatus). Meets digest (closed Closed (ended digest stop x)) (closed Idle (ended digest stop (Runs now tail)))) (sym h) (ended-leads digest (ended digest stop (Runs now tail)))
 meets digest End stop (Dead code r) (Busy standing) h =
-    subst (λ (x : Standing). Meets digest (closed Closed (ended digest stop (Refused code r))) (closed Idle (ended digest stop x))) (sym h) (ended-leads digest (ended digest stop (Refused code r)))
+    subst (λ (x : StreamStatus). Meets digest (closed Closed (ended digest stop (Refused code r))) (closed Idle (ended digest stop x))) (sym h) (ended-leads digest (ended digest stop (Refused code r)))
 meets digest (Ask query) stop state held h = asked-meets digest query stop state held h
 meets digest Restart stop state held h = record { told = refl; leads = last-leads digest state held h }
 meets digest Open stop (Closed r) (Busy standing) h = elim h [ ]

@@ -7,7 +7,7 @@ use Rattle.indexmap.specs.Layout.{set_value_at}
 use Rattle.content_pool.specs.Pool.{Cells}
 use Rattle.tenant_tables.specs.StandsIn.{LeavesOthers}
 use Rattle.tenant_service.specs.declared.tenant.Tenant.{Tenant}
-use Rattle.tenant_service.specs.Holding.{Holding, Holdings, Idle}
+use Rattle.tenant_service.specs.TenantState.{TenantState, TenantStates, Idle}
 use Rattle.tenant_service.specs.HeldObjects.{last_held}
 use Rattle.tenant_service.specs.Tenants.{Tenants, Stands, Accounts, holding_in, holdings}
 use Rattle.tenant_service.specs.OneStep.{restarted, first_restarted, restarted_at}
@@ -49,10 +49,10 @@ stands-placed digest p es i old h got =
     let all = subst (λ (xs : Tenants). AllByRecursion (λ e. Stands digest p e.1) xs) f.is h.stands in
     (all_parts _ f.front ((f.name, old) ∷ f.back) all).1.0
 
-at_length : (front back : Holdings) (name : List ℕ) (h : Holding)
+at_length : (front back : TenantStates) (name : List ℕ) (h : TenantState)
     → restarted_at (length front) (front ++ (name, h) ∷ back) ≡ front ++ (name, Idle (last_held h)) ∷ back
 at_length [] back name h = refl
-at_length (e ∷ front) back name h = ap (λ (xs : Holdings). e ∷ xs) (at_length front back name h)
+at_length (e ∷ front) back name h = ap (λ (xs : TenantStates). e ∷ xs) (at_length front back name h)
 
 -- that tenant restarted
 pub record RestartedAt (digest : List ℕ → List ℕ) (p q : Cells) (es : Tenants) (i : ℕ) (new : Tenant) : Type 0 where
@@ -73,7 +73,7 @@ restarted-placed digest p q es i old new h got stands leaves own =
       accounts = subst (λ (xs : Tenants). Accounts digest q xs) (sym f.set) c.accounts;
       closed =
           ap (holdings q) f.set ∙ c.shown
-          ∙ ap (λ (x : Holding). holdings p f.front ++ (f.name, x) ∷ holdings p f.back) own
+          ∙ ap (λ (x : TenantState). holdings p f.front ++ (f.name, x) ∷ holdings p f.back) own
           ∙ sym (at_length (holdings p f.front) (holdings p f.back) f.name (holding_in p old))
           ∙ ap (λ (n : ℕ). restarted_at n (holdings p f.front ++ (f.name, holding_in p old) ∷ holdings p f.back)) count
           ∙ ap (restarted_at i) (sym shown);
@@ -85,19 +85,19 @@ length-set_at (e ∷ es) zero new = refl
 length-set_at (e ∷ es) (suc i) new = ap (λ (n : ℕ). suc n) (length-set_at es i new)
 
 -- one more
-next-restarted : (i : ℕ) (all : Holdings) → restarted_at i (first_restarted i all) ≡ first_restarted (suc i) all
+next-restarted : (i : ℕ) (all : TenantStates) → restarted_at i (first_restarted i all) ≡ first_restarted (suc i) all
 next-restarted zero [] = refl
 next-restarted zero (e ∷ all) = refl
 next-restarted (suc i) [] = refl
-next-restarted (suc i) (e ∷ all) = ap (λ (xs : Holdings). (e.0, Idle (last_held e.1)) ∷ xs) (next-restarted i all)
+next-restarted (suc i) (e ∷ all) = ap (λ (xs : TenantStates). (e.0, Idle (last_held e.1)) ∷ xs) (next-restarted i all)
 
-pub one-more : (i : ℕ) (all : Holdings) → restarted_at i (first_restarted i all) ≡ first_restarted (i + 1) all
+pub one-more : (i : ℕ) (all : TenantStates) → restarted_at i (first_restarted i all) ≡ first_restarted (i + 1) all
 one-more i all = next-restarted i all ∙ ap (λ (n : ℕ). first_restarted n all) (sym (add-one i))
 
 -- all of them
-pub all-restarted : (all : Holdings) → first_restarted (length all) all ≡ restarted all
+pub all-restarted : (all : TenantStates) → first_restarted (length all) all ≡ restarted all
 all-restarted [] = refl
-all-restarted (e ∷ all) = ap (λ (xs : Holdings). (e.0, Idle (last_held e.1)) ∷ xs) (all-restarted all)
+all-restarted (e ∷ all) = ap (λ (xs : TenantStates). (e.0, Idle (last_held e.1)) ∷ xs) (all-restarted all)
 
 pub all-tenants : (p : Cells) (es : Tenants) (n : ℕ) → n ≡ length es → first_restarted n (holdings p es) ≡ restarted (holdings p es)
 all-tenants p es n is =

@@ -15,8 +15,8 @@ use Rattle.service_steps.specs.declared.reply.Reply.{Reply}
 use Rattle.service_steps.specs.declared.step.Step.{Step}
 use Rattle.service_steps.specs.declared.step.Step.TheVariants as step
 use Rattle.tenant_service.specs.Alone.{Call, State, Closed, Turn, added, run_alone}
-use Rattle.tenant_service.specs.Headline.{Told, told_by, told_in, Run, concerns, call_of, stop_told, part_of, steps_of, told_to, told_alone, left_alone, IsItsOwn, IsRefused, told_by_reply, told_since, run_of}
-use Rattle.tenant_service.specs.Holding.{Holding, Holdings, Idle, LeadsTo, empty_repository, held_of}
+use Rattle.tenant_service.specs.Headline.{Told, told_by, told_in, Run, concerns, call_of, stop_told, part_of, steps_of, told_to, told_alone, left_alone, IsIsolated, IsRefused, told_by_reply, told_since, run_of}
+use Rattle.tenant_service.specs.TenantState.{TenantState, TenantStates, Idle, LeadsTo, empty_repository, held_of}
 use Rattle.tenant_service.specs.HeldObjects.{last_held}
 use Rattle.tenant_service.specs.HeldSteps.{step_held}
 use Rattle.tenant_service.specs.Tenants.{Tenants, Accounts, AreLed, holdings}
@@ -27,9 +27,9 @@ use Rattle.tenant_service.proofs.AccountLemmas.{all_whole}
 -- ---- one step
 
 -- a step that concerns a tenant is its own call
-pub own-call : (digest : List ℕ → List ℕ) (tenant : List ℕ) (s : Step) (answer : Answer) (out out' : List ℕ) (before after : Holding)
+pub own-call : (digest : List ℕ → List ℕ) (tenant : List ℕ) (s : Step) (answer : Answer) (out out' : List ℕ) (before after : TenantState)
     → concerns tenant s ≡ true → Takes (step_held digest (call_of s) (stop_told answer) before) answer out out' after
-    → IsItsOwn digest tenant before ((s, told_in answer out out') ∷ []) after
+    → IsIsolated digest tenant before ((s, told_in answer out out') ∷ []) after
 unfolding told_alone left_alone
 own-call digest tenant s answer out out' before after concerned takes = record {
   told = λ state leads.
@@ -40,11 +40,11 @@ own-call digest tenant s answer out out' before after concerned takes = record {
   left = λ state leads.
       subst (λ (b : Bool). LeadsTo digest (left_alone digest state (map (λ (x : Step × Told). (call_of x.0, stop_told x.1.answer)) (cond b ((s, told_in answer out out') ∷ []) []))) after)
       (sym concerned)
-      (subst (λ (h : Holding). LeadsTo digest (run_alone digest (call_of s) (stop_told answer) state).state h) takes.leaves
+      (subst (λ (h : TenantState). LeadsTo digest (run_alone digest (call_of s) (stop_told answer) state).state h) takes.leaves
       (meets digest (call_of s) (stop_told answer) state before leads).leads);
 }
   where
-    t : Turn Holding
+    t : Turn TenantState
     t = step_held digest (call_of s) (stop_told answer) before
 
     adds : added out out' ≡ t.reply
@@ -57,9 +57,9 @@ own-call digest tenant s answer out out' before after concerned takes = record {
         ∙ sym (meets digest (call_of s) (stop_told answer) state before leads).told
 
 -- one that does not concern it leaves it as it was
-pub own-other : (digest : List ℕ → List ℕ) (tenant : List ℕ) (s : Step) (told : Told) (before after : Holding)
+pub own-other : (digest : List ℕ → List ℕ) (tenant : List ℕ) (s : Step) (told : Told) (before after : TenantState)
     → concerns tenant s ≡ false → after ≡ before
-    → IsItsOwn digest tenant before ((s, told) ∷ []) after
+    → IsIsolated digest tenant before ((s, told) ∷ []) after
 unfolding told_alone left_alone
 own-other digest tenant s told before after apart same = record {
   told = λ state leads.
@@ -68,7 +68,7 @@ own-other digest tenant s told before after apart same = record {
   left = λ state leads.
       subst (λ (b : Bool). LeadsTo digest (left_alone digest state (map (λ (x : Step × Told). (call_of x.0, stop_told x.1.answer)) (cond b ((s, told) ∷ []) []))) after)
       (sym apart)
-      (subst (λ (h : Holding). LeadsTo digest state h) (sym same) leads);
+      (subst (λ (h : TenantState). LeadsTo digest state h) (sym same) leads);
 }
 
 -- ---- more steps
@@ -97,9 +97,9 @@ told_to-more tenant first later =
     ∙ map-append (λ (x : Step × Told). x.1) (part_of tenant first) (part_of tenant later)
 
 -- a run and further steps
-pub own-more : (digest : List ℕ → List ℕ) (tenant : List ℕ) (before between after : Holding) (first later : Run)
-    → IsItsOwn digest tenant before first between → IsItsOwn digest tenant between later after
-    → IsItsOwn digest tenant before (first ++ later) after
+pub own-more : (digest : List ℕ → List ℕ) (tenant : List ℕ) (before between after : TenantState) (first later : Run)
+    → IsIsolated digest tenant before first between → IsIsolated digest tenant between later after
+    → IsIsolated digest tenant before (first ++ later) after
 own-more digest tenant before between after first later h k = record {
   told = λ state leads.
       told_to-more tenant first later
@@ -112,7 +112,7 @@ own-more digest tenant before between after first later h k = record {
 }
 
 -- no steps
-pub own-none : (digest : List ℕ → List ℕ) (tenant : List ℕ) (held : Holding) → IsItsOwn digest tenant held [] held
+pub own-none : (digest : List ℕ → List ℕ) (tenant : List ℕ) (held : TenantState) → IsIsolated digest tenant held [] held
 unfolding told_alone left_alone
 own-none digest tenant held = record { told = λ state leads. refl; left = λ state leads. leads }
 
@@ -130,13 +130,13 @@ own-named : (digest : List ℕ → List ℕ) (tenant : List ℕ) (s : Step) (giv
     (answer : Answer) (out out' : List ℕ)
     → (concerns tenant s ≡ (b && bytes_eq given tenant))
     → Calls digest b given (call_of s) (store p es) answer out out' (store q new)
-    → IsItsOwn digest tenant (held_of tenant (holdings p es)) ((s, told_in answer out out') ∷ []) (held_of tenant (holdings q new))
+    → IsIsolated digest tenant (held_of tenant (holdings p es)) ((s, told_in answer out out') ∷ []) (held_of tenant (holdings q new))
 own-named digest tenant s given false p q es new answer out out' which h =
     own-other digest tenant s (told_in answer out out') _ _ which (ap (held_of tenant) h.same)
 own-named digest tenant s given true p q es new answer out out' which h = by (bytes_eq given tenant) refl
   where
     by : (x : Bool) → bytes_eq given tenant ≡ x
-        → IsItsOwn digest tenant (held_of tenant (holdings p es)) ((s, told_in answer out out') ∷ []) (held_of tenant (holdings q new))
+        → IsIsolated digest tenant (held_of tenant (holdings p es)) ((s, told_in answer out out') ∷ []) (held_of tenant (holdings q new))
     by true here =
         let same : given ≡ tenant = (bytes_eq-Decides given tenant).0 here in
         own-call digest tenant s answer out out' _ _ (which ∙ here)
@@ -144,7 +144,7 @@ own-named digest tenant s given true p q es new answer out out' which h = by (by
     by false apart =
         own-other digest tenant s (told_in answer out out') _ _ (which ∙ apart) (h.others tenant (apart-back given tenant apart))
 
-pub held-restarted : (tenant : List ℕ) (all : Holdings) → held_of tenant (restarted all) ≡ Idle (last_held (held_of tenant all))
+pub held-restarted : (tenant : List ℕ) (all : TenantStates) → held_of tenant (restarted all) ≡ Idle (last_held (held_of tenant all))
 held-restarted tenant [] = refl
 held-restarted tenant (e ∷ all) = by (bytes_eq tenant e.0) (held-restarted tenant all)
   where
@@ -156,7 +156,7 @@ held-restarted tenant (e ∷ all) = by (bytes_eq tenant e.0) (held-restarted ten
 
 pub own-step : (digest : List ℕ → List ℕ) (s : Step) (p q : Cells) (es new : Tenants) (answer : Answer) (out out' : List ℕ)
     → Steps digest s (store p es) answer out out' (store q new) → (tenant : List ℕ)
-    → IsItsOwn digest tenant (held_of tenant (holdings p es)) ((s, told_in answer out out') ∷ []) (held_of tenant (holdings q new))
+    → IsIsolated digest tenant (held_of tenant (holdings p es)) ((s, told_in answer out out') ∷ []) (held_of tenant (holdings q new))
 unfolding concerns
 own-step digest (step.Open given) p q es new answer out out' h tenant = own-named digest tenant (step.Open given) given.now (is_tenant_name given.now) p q es new answer out out' refl h
 own-step digest (step.Feed given bytes) p q es new answer out out' h tenant = own-named digest tenant (step.Feed given bytes) given.now (is_tenant_name given.now) p q es new answer out out' refl h
@@ -213,14 +213,14 @@ pub appended-none : (old : List Reply) → old ≡ old ++ drop (length old) old
 appended-none old = sym (ap (λ (rs : List Reply). old ++ rs) (drop-length old) ∙ append-nil old)
 
 -- a run goes on by one step, which is every tenant's own
-pub run-goes_on : (digest : List ℕ → List ℕ) (tenant : List ℕ) (before between after : Holding) (steps : List Step) (old all new : List Reply) (r : Reply) (told : Told)
+pub run-goes_on : (digest : List ℕ → List ℕ) (tenant : List ℕ) (before between after : TenantState) (steps : List Step) (old all new : List Reply) (r : Reply) (told : Told)
     (i : ℕ) (d : Step)
     → length all ≡ length old + i → i < length steps → new ≡ all ++ r ∷ [] → told ≡ told_by_reply r
-    → IsItsOwn digest tenant before (run_of steps (told_since old all)) between
-    → IsItsOwn digest tenant between ((get_or steps i d, told) ∷ []) after
-    → IsItsOwn digest tenant before (run_of steps (told_since old new)) after
+    → IsIsolated digest tenant before (run_of steps (told_since old all)) between
+    → IsIsolated digest tenant between ((get_or steps i d, told) ∷ []) after
+    → IsIsolated digest tenant before (run_of steps (told_since old new)) after
 run-goes_on digest tenant before between after steps old all new r told i d count within is says h k =
-    subst (λ (run : Run). IsItsOwn digest tenant before run after)
+    subst (λ (run : Run). IsIsolated digest tenant before run after)
     (sym (ap (λ (rs : List Reply). run_of steps (told_since old rs)) is ∙ run-more steps old all r i d count within
     ∙ ap (λ (t : Told). run_of steps (told_since old all) ++ (get_or steps i d, t) ∷ []) (sym says)))
     (own-more digest tenant before between after (run_of steps (told_since old all)) ((get_or steps i d, told) ∷ []) h k)
@@ -256,8 +256,8 @@ stepped digest step.Restart p es answer out out' q new c = c.accounts
 pub led-nil : (digest : List ℕ → List ℕ) → AreLed digest []
 led-nil digest tenant = (Closed empty_repository, refl)
 
-pub led-on : (digest : List ℕ → List ℕ) (before after : Holdings) (run : Run)
-    → ((tenant : List ℕ) → IsItsOwn digest tenant (held_of tenant before) run (held_of tenant after))
+pub led-on : (digest : List ℕ → List ℕ) (before after : TenantStates) (run : Run)
+    → ((tenant : List ℕ) → IsIsolated digest tenant (held_of tenant before) run (held_of tenant after))
     → AreLed digest before → AreLed digest after
 led-on digest before after run own led tenant =
     let l = led tenant in (left_alone digest l.0 (steps_of tenant run), (own tenant).left l.0 l.1)

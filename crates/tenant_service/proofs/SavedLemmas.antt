@@ -21,7 +21,7 @@ use Rattle.pool_file_checks.proofs.Rising.{rising_sorted}
 use Rattle.pool_file_checks.proofs.Found.{find_has}
 use Rattle.pool_file.specs.Listing.{listed_by}
 use Rattle.pool_file.specs.Worth.{is_worth_saving}
-use Rattle.tenant_service.specs.Holding.{Holding, Holdings, Idle, empty_repository, held_of}
+use Rattle.tenant_service.specs.TenantState.{TenantState, TenantStates, Idle, empty_repository, held_of}
 use Rattle.tenant_service.specs.HeldObjects.{last_held}
 use Rattle.tenant_service.specs.Saved.{last_named, saved_of, repository_of}
 
@@ -186,12 +186,12 @@ worth-repository q (n ∷ ns) distinct loses =
 
 -- ---- of a service
 
-last-or : (o : Option Holding)
+last-or : (o : Option TenantState)
     → unwrap_or (option_map last_held o) empty_repository ≡ last_held (unwrap_or o (Idle empty_repository))
 last-or None = refl
 last-or (Some held) = refl
 
-lookup-last : (q : List ℕ) (all : Holdings) → lookup (bytes_eq q) (repositories (last_named all))
+lookup-last : (q : List ℕ) (all : TenantStates) → lookup (bytes_eq q) (repositories (last_named all))
     ≡ option_map last_held (lookup (bytes_eq q) all)
 lookup-last q [] = refl
 lookup-last q (e ∷ es) = by (bytes_eq q e.0) (lookup-last q es)
@@ -203,18 +203,18 @@ lookup-last q (e ∷ es) = by (bytes_eq q e.0) (lookup-last q es)
     by true rest = refl
     by false rest = rest
 
-last-repository : (q : List ℕ) (all : Holdings)
+last-repository : (q : List ℕ) (all : TenantStates)
     → repository_of q (last_named all) ≡ last_held (held_of q all)
 last-repository q all =
     ap (λ (o : Option Repository). unwrap_or o empty_repository) (lookup-last q all)
     ∙ last-or (lookup (bytes_eq q) all)
 
-keys-last : (all : Holdings) → map (λ n. n.tenant) (last_named all) ≡ keys_of all
+keys-last : (all : TenantStates) → map (λ n. n.tenant) (last_named all) ≡ keys_of all
 keys-last [] = refl
 keys-last (e ∷ es) = ap (λ (names : List (List ℕ)). e.0 ∷ names) (keys-last es)
 
 -- where no tenant loses anything, what is saved is what is held at the last checkpoint
-pub saved-repository : (q : List ℕ) (all : Holdings) → IsDistinct bytes_eq (keys_of all)
+pub saved-repository : (q : List ℕ) (all : TenantStates) → IsDistinct bytes_eq (keys_of all)
     → LosesNothing (last_named all) → repository_of q (saved_of all) ≡ last_held (held_of q all)
 saved-repository q all distinct loses =
     listed-repository q (filter is_worth_saving (last_named all))

@@ -11,7 +11,7 @@ use Rattle.content_pool.specs.Pool.{Cells}
 use Rattle.tenant_tables.specs.View.{View}
 use Rattle.stream_lex.specs.Items.{Item, Tail, Rest}
 use Rattle.stream_lex.specs.Running.{more_of}
-use Rattle.import_session.specs.Stream.{Running, Outcome, Standing, Runs, Refused, carried, last_checkpoint}
+use Rattle.import_session.specs.Stream.{Running, Outcome, StreamStatus, Runs, Refused, carried, last_checkpoint}
 use Rattle.import_session.specs.Sound.{IsSound, IsSoundRepository}
 use Rattle.import_session.proofs.SoundLemmas.{empty_is_sound, new_is_sound, checkpoint_is_sound}
 use Rattle.answers.specs.declared.fault.Fault.{Fault as Refusal}
@@ -20,14 +20,14 @@ use Rattle.service_steps.specs.declared.answer.Answer.{Answer}
 use Rattle.service_steps.specs.declared.step.Step.{Step}
 use Rattle.service_steps.specs.declared.step.Step.TheVariants as step
 use Rattle.tenant_stream.specs.Carrying.{Between, outcome_after, stream_in}
-use Rattle.tenant_stream.specs.Soundness.{IsSoundStanding}
+use Rattle.tenant_stream.specs.Soundness.{IsSoundStreamStatus}
 use Rattle.tenant_stream.proofs.SoundLemmas.{carried_sound, finished_sound}
 use Rattle.tenant_service.specs.declared.tenant.Phase.{Phase}
 use Rattle.tenant_service.specs.declared.tenant.Phase.TheVariants as phase
 use Rattle.tenant_service.specs.declared.tenant.Tenant.{Tenant}
 use Rattle.tenant_service.specs.Alone.{Call, Open, Feed, End, Ask, Restart, Turn, Stopped, answered, asked, ended, ended_well, stop_at, stop_after, unless_out_of_memory}
-use Rattle.tenant_service.specs.Holding.{Holding, Holdings, Idle, Busy, held_of}
-use Rattle.tenant_service.specs.Soundness.{IsSoundHolding}
+use Rattle.tenant_service.specs.TenantState.{TenantState, TenantStates, Idle, Busy, held_of}
+use Rattle.tenant_service.specs.Soundness.{IsSoundTenantState}
 use Rattle.tenant_service.specs.HeldSteps.{end_held, fed_held, feed_held, gone_on, held_until, open_held, step_held}
 use Rattle.tenant_service.specs.HeldObjects.{last_held}
 use Rattle.tenant_service.specs.Tenants.{Tenants, AreSound, held_in, holding_in, holdings}
@@ -42,8 +42,8 @@ abbrev IsSoundStop : (List ℕ → List ℕ) → Option Stopped → Type 0
 IsSoundStop digest None = Unit {0}
 IsSoundStop digest (Some stopped) = IsSoundRepository digest stopped.repository
 
-stop_at-sound : (digest : List ℕ → List ℕ) (replies : List ℕ) (standing : Standing)
-    → IsSoundStanding digest standing → IsSoundStop digest (stop_at replies standing)
+stop_at-sound : (digest : List ℕ → List ℕ) (replies : List ℕ) (standing : StreamStatus)
+    → IsSoundStreamStatus digest standing → IsSoundStop digest (stop_at replies standing)
 stop_at-sound digest replies (Refused code repository) sound = tt
 stop_at-sound digest replies (Runs now tail) sound = by now.is_done
   where
@@ -52,14 +52,14 @@ stop_at-sound digest replies (Runs now tail) sound = by now.is_done
     by true = tt
     by false = checkpoint_is_sound digest now.workspace sound
 
-until-sound : (digest : List ℕ → List ℕ) (count : ℕ) (stop : Option Stopped) (well : Turn Holding)
-    → IsSoundStop digest stop → IsSoundHolding digest well.state
-    → IsSoundHolding digest (held_until count stop well).state
+until-sound : (digest : List ℕ → List ℕ) (count : ℕ) (stop : Option Stopped) (well : Turn TenantState)
+    → IsSoundStop digest stop → IsSoundTenantState digest well.state
+    → IsSoundTenantState digest (held_until count stop well).state
 until-sound digest count None well stopped sound = sound
 until-sound digest count (Some stop) well stopped sound = stopped
 
-open-sound : (digest : List ℕ → List ℕ) (stop : Option ℕ) (held : Holding)
-    → IsSoundHolding digest held → IsSoundHolding digest (open_held stop held).state
+open-sound : (digest : List ℕ → List ℕ) (stop : Option ℕ) (held : TenantState)
+    → IsSoundTenantState digest held → IsSoundTenantState digest (open_held stop held).state
 open-sound digest None (Idle repository) sound = new_is_sound digest repository sound
 open-sound digest (Some zero) (Idle repository) sound = sound
 open-sound digest (Some (suc count)) (Idle repository) sound = new_is_sound digest repository sound
@@ -72,20 +72,20 @@ unless-sound digest None left well stopped sound = sound
 unless-sound digest (Some zero) left well stopped sound = stopped
 unless-sound digest (Some (suc count)) left well stopped sound = sound
 
-pub last-sound : (digest : List ℕ → List ℕ) (held : Holding) → IsSoundHolding digest held
+pub last-sound : (digest : List ℕ → List ℕ) (held : TenantState) → IsSoundTenantState digest held
     → IsSoundRepository digest (last_held held)
 last-sound digest (Idle repository) sound = sound
 last-sound digest (Busy (Runs now tail)) sound = checkpoint_is_sound digest now.workspace sound
 last-sound digest (Busy (Refused code repository)) sound = sound
 
-answered-sound : (digest : List ℕ → List ℕ) (result : Result (List ℕ) Refusal) (held : Holding)
-    → IsSoundHolding digest held → IsSoundHolding digest (answered result held).state
+answered-sound : (digest : List ℕ → List ℕ) (result : Result (List ℕ) Refusal) (held : TenantState)
+    → IsSoundTenantState digest held → IsSoundTenantState digest (answered result held).state
 answered-sound digest (Ok text) held sound = sound
 answered-sound digest (Err refusal) held sound = sound
 
 asked-sound : (digest : List ℕ → List ℕ) (query : List ℕ) (stop : Option ℕ)
-    (repository : Repository) (held : Holding) → IsSoundHolding digest held
-    → IsSoundHolding digest (asked query stop repository held).state
+    (repository : Repository) (held : TenantState) → IsSoundTenantState digest held
+    → IsSoundTenantState digest (asked query stop repository held).state
 asked-sound digest query None repository held sound =
     answered-sound digest (answer_to repository query) held sound
 asked-sound digest query (Some zero) repository held sound = sound
@@ -108,27 +108,27 @@ module _ (digest : List ℕ → List ℕ) (names : AnswersNames digest) where
 
   fed-sound : (piece : List ℕ) (stop : Option ℕ) (now : Running) (tail : Tail)
       → IsSound digest now.workspace
-      → IsSoundHolding digest (fed_held digest piece stop now tail).state
+      → IsSoundTenantState digest (fed_held digest piece stop now tail).state
   fed-sound piece stop now tail sound = by stop
     where
-      well : IsSoundStanding digest (outcome_after digest now tail piece).standing
+      well : IsSoundStreamStatus digest (outcome_after digest now tail piece).standing
       well = carried_sound digest names now (more_of tail piece).items (more_of tail piece).tail
           sound
 
-      by : (stop : Option ℕ) → IsSoundHolding digest (fed_held digest piece stop now tail).state
+      by : (stop : Option ℕ) → IsSoundTenantState digest (fed_held digest piece stop now tail).state
       by None = well
       by (Some count) =
           until-sound digest count (stop_after digest now (more_of tail piece).items count)
           (gone_on (outcome_after digest now tail piece))
           (stop_after-sound now (more_of tail piece).items count sound) well
 
-  feed-sound : (piece : List ℕ) (stop : Option ℕ) (held : Holding) → IsSoundHolding digest held
-      → IsSoundHolding digest (feed_held digest piece stop held).state
+  feed-sound : (piece : List ℕ) (stop : Option ℕ) (held : TenantState) → IsSoundTenantState digest held
+      → IsSoundTenantState digest (feed_held digest piece stop held).state
   feed-sound piece stop (Idle repository) sound = sound
   feed-sound piece stop (Busy (Runs now tail)) sound = fed-sound piece stop now tail sound
   feed-sound piece stop (Busy (Refused code repository)) sound = sound
 
-  ended-sound : (stop : Option ℕ) (standing : Standing) → IsSoundStanding digest standing
+  ended-sound : (stop : Option ℕ) (standing : StreamStatus) → IsSoundStreamStatus digest standing
       → IsSoundRepository digest (ended digest stop standing).state
   ended-sound stop (Refused code repository) sound = sound
   ended-sound stop (Runs now tail) sound = by now.is_done
@@ -143,14 +143,14 @@ module _ (digest : List ℕ → List ℕ) (names : AnswersNames digest) where
       by false = unless-sound digest stop (last_checkpoint now.workspace)
           (ended_well digest (Runs now tail)) (checkpoint_is_sound digest now.workspace sound) well
 
-  end-sound : (stop : Option ℕ) (held : Holding) → IsSoundHolding digest held
-      → IsSoundHolding digest (end_held digest stop held).state
+  end-sound : (stop : Option ℕ) (held : TenantState) → IsSoundTenantState digest held
+      → IsSoundTenantState digest (end_held digest stop held).state
   end-sound stop (Idle repository) sound = sound
   end-sound stop (Busy standing) sound = ended-sound stop standing sound
 
   -- each call leaves it sound
-  call-sound : (call : Call) (stop : Option ℕ) (held : Holding) → IsSoundHolding digest held
-      → IsSoundHolding digest (step_held digest call stop held).state
+  call-sound : (call : Call) (stop : Option ℕ) (held : TenantState) → IsSoundTenantState digest held
+      → IsSoundTenantState digest (step_held digest call stop held).state
   call-sound Open stop held sound = open-sound digest stop held sound
   call-sound (Feed piece) stop held sound = feed-sound piece stop held sound
   call-sound End stop held sound = end-sound stop held sound
@@ -158,12 +158,12 @@ module _ (digest : List ℕ → List ℕ) (names : AnswersNames digest) where
       asked-sound digest query stop (last_held held) held sound
   call-sound Restart stop held sound = last-sound digest held sound
 
-  takes-sound : (call : Call) (stop : Option ℕ) (before : Holding) (answer : Answer)
-      (out out' : List ℕ) (after : Holding)
+  takes-sound : (call : Call) (stop : Option ℕ) (before : TenantState) (answer : Answer)
+      (out out' : List ℕ) (after : TenantState)
       → Takes (step_held digest call stop before) answer out out' after
-      → IsSoundHolding digest before → IsSoundHolding digest after
+      → IsSoundTenantState digest before → IsSoundTenantState digest after
   takes-sound call stop before answer out out' after takes sound =
-      subst (λ (held : Holding). IsSoundHolding digest held) takes.leaves
+      subst (λ (held : TenantState). IsSoundTenantState digest held) takes.leaves
       (call-sound call stop before sound)
 
   -- ---- all tenants
@@ -173,18 +173,18 @@ module _ (digest : List ℕ → List ℕ) (names : AnswersNames digest) where
       → Calls digest b name call (store p es) answer out out' (store q new)
       → AreSound digest (holdings p es) → AreSound digest (holdings q new)
   calls-sound false name call p es answer out out' q new h sound =
-      subst (λ (all : Holdings). AreSound digest all) (sym h.same) sound
+      subst (λ (all : TenantStates). AreSound digest all) (sym h.same) sound
   calls-sound true name call p es answer out out' q new h sound = λ tenant.
       by tenant (bytes_eq tenant name) refl
     where
       by : (tenant : List ℕ) (b : Bool) → bytes_eq tenant name ≡ b
-          → IsSoundHolding digest (held_of tenant (holdings q new))
+          → IsSoundTenantState digest (held_of tenant (holdings q new))
       by tenant true here =
-          subst (λ (n : List ℕ). IsSoundHolding digest (held_of n (holdings q new)))
+          subst (λ (n : List ℕ). IsSoundTenantState digest (held_of n (holdings q new)))
           (sym ((bytes_eq-Decides tenant name).0 here))
           (takes-sound call _ _ answer out out' _ h.own (sound name))
       by tenant false apart =
-          subst (λ (held : Holding). IsSoundHolding digest held) (sym (h.others tenant apart))
+          subst (λ (held : TenantState). IsSoundTenantState digest held) (sym (h.others tenant apart))
           (sound tenant)
 
   -- each step leaves all sound
@@ -200,23 +200,23 @@ module _ (digest : List ℕ → List ℕ) (names : AnswersNames digest) where
   sound-on (step.Ask given query) p es answer out out' q new h sound =
       calls-sound _ _ _ p es answer out out' q new h sound
   sound-on step.Restart p es answer out out' q new h sound = λ tenant.
-      subst (λ (held : Holding). IsSoundHolding digest held)
+      subst (λ (held : TenantState). IsSoundTenantState digest held)
       (sym (ap (held_of tenant) h.closed ∙ held-restarted tenant (holdings p es)))
       (last-sound digest (held_of tenant (holdings p es)) (sound tenant))
 
 -- a stream that runs
 pub sound-running : (digest : List ℕ → List ℕ) (ph : Phase) (s : Between) (p : Cells) (t : View)
-    (r : RefStore) → ph ≡ phase.Running s → IsSoundHolding digest (held_in ph p t r)
+    (r : RefStore) → ph ≡ phase.Running s → IsSoundTenantState digest (held_in ph p t r)
     → IsSound digest (stream_in s p t r).workspace
 sound-running digest ph s p t r is sound =
-    subst (λ (x : Phase). IsSoundHolding digest (held_in x p t r)) is sound
+    subst (λ (x : Phase). IsSoundTenantState digest (held_in x p t r)) is sound
 
 -- one that is there
 pub sound-found : (digest : List ℕ → List ℕ) (p : Cells) (name : List ℕ) (es : Tenants)
     (t : Tenant) → AreSound digest (holdings p es) → lookup (bytes_eq name) es ≡ Some t
-    → IsSoundHolding digest (holding_in p t)
+    → IsSoundTenantState digest (holding_in p t)
 sound-found digest p name es t sound got =
-    subst (λ (held : Holding). IsSoundHolding digest held) (held-found p name es t got)
+    subst (λ (held : TenantState). IsSoundTenantState digest held) (held-found p name es t got)
     (sound name)
 
 -- nobody

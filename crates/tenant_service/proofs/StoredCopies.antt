@@ -15,7 +15,7 @@ use Rattle.import_session.specs.Stream.{Runs, Refused}
 use Rattle.service_steps.specs.declared.answer.Answer.{Answer}
 use Rattle.service_steps.specs.declared.answer.Answer.TheVariants as answer
 use Rattle.tenant_service.specs.Copies.{CopiesAs, HoldsCopy, StoresAs}
-use Rattle.tenant_service.specs.Holding.{Holding, Holdings, Idle, Busy, empty_repository, held_of}
+use Rattle.tenant_service.specs.TenantState.{TenantState, TenantStates, Idle, Busy, empty_repository, held_of}
 use Rattle.tenant_service.specs.HeldObjects.{held_contents, held_objects, last_held}
 use Rattle.tenant_service.proofs.BackLemmas.{found-once}
 
@@ -80,7 +80,7 @@ has-front (suc n) (o ∷ os) c (inl e) = inl e
 has-front (suc n) (o ∷ os) c (inr h) = inr (has-front n os c h)
 
 -- the last checkpoint has no content that is not held
-last-in : (held : Holding) (c : Content) → Has (contents (last_held held).objects) c
+last-in : (held : TenantState) (c : Content) → Has (contents (last_held held).objects) c
     → Has (contents (held_objects held)) c
 last-in (Idle repository) c h = h
 last-in (Busy (Runs now tail)) c h = has-front now.workspace.committed now.workspace.objects c h
@@ -88,7 +88,7 @@ last-in (Busy (Refused code repository)) c h = h
 
 -- ---- contents of all tenants, by their names
 
-in-held : (all : Holdings) (name : List ℕ) (c : Content)
+in-held : (all : TenantStates) (name : List ℕ) (c : Content)
     → Has (contents (held_objects (held_of name all))) c → Has (held_contents all) c
 in-held [] name c h = absurd h
 in-held (x ∷ all) name c h = by (in-held all name c) (bytes_eq name x.0) h
@@ -99,30 +99,30 @@ in-held (x ∷ all) name c h = by (in-held all name c) (bytes_eq name x.0) h
     by rest true first = has_left (contents (held_objects x.1)) (held_contents all) c first
     by rest false later = has_right (contents (held_objects x.1)) (held_contents all) c (rest later)
 
-record IsHeld (all : Holdings) (c : Content) : Type 0 where
+record IsHeld (all : TenantStates) (c : Content) : Type 0 where
   name : List ℕ
   has : Has (contents (held_objects (held_of name all))) c
 
-of-held : (all : Holdings) → IsDistinct bytes_eq (keys_of all) → (c : Content)
+of-held : (all : TenantStates) → IsDistinct bytes_eq (keys_of all) → (c : Content)
     → Has (held_contents all) c → IsHeld all c
 of-held all once c h =
-    let o = of_flat_map (λ (e : List ℕ × Holding). contents (held_objects e.1)) all c h in
+    let o = of_flat_map (λ (e : List ℕ × TenantState). contents (held_objects e.1)) all c h in
     let held : held_of o.of.0 all ≡ o.of.1 =
     ap (λ m. unwrap_or m (Idle empty_repository)) (found-once all o.of once o.there) in
     record {
       name = o.of.0;
-      has = subst (λ (x : Holding). Has (contents (held_objects x)) c) (sym held) o.has;
+      has = subst (λ (x : TenantState). Has (contents (held_objects x)) c) (sym held) o.has;
     }
 
 -- ---- before a copy and after it
 
-module _ (before after : Holdings) (from to : List ℕ)
+module _ (before after : TenantStates) (from to : List ℕ)
     (once : IsDistinct bytes_eq (keys_of before)) (once' : IsDistinct bytes_eq (keys_of after))
     (others : (tenant : List ℕ) → bytes_eq tenant to ≡ false
     → held_of tenant after ≡ held_of tenant before)
     (nothing : held_of to before ≡ Idle empty_repository)
     (copy : HoldsCopy (last_held (held_of from before)) (held_of to after)) where
-  copied-in : (held : Holding) → HoldsCopy (last_held (held_of from before)) held → (c : Content)
+  copied-in : (held : TenantState) → HoldsCopy (last_held (held_of from before)) held → (c : Content)
       → Has (contents (held_objects held)) c → Has (held_contents before) c
   copied-in (Idle left) is c h =
       let n = has-named left.objects is.only.distinct c h in
@@ -142,7 +142,7 @@ module _ (before after : Holdings) (from to : List ℕ)
           ((bytes_eq-Decides name to).0 same) has)
       by name false other has =
           in-held before name c
-          (subst (λ (x : Holding). Has (contents (held_objects x)) c) (others name other) has)
+          (subst (λ (x : TenantState). Has (contents (held_objects x)) c) (others name other) has)
 
   back : (c : Content) → Has (held_contents before) c → Has (held_contents after) c
   back c h = let f = of-held before once c h in by f.name (bytes_eq f.name to) refl f.has
@@ -150,11 +150,11 @@ module _ (before after : Holdings) (from to : List ℕ)
       by : (name : List ℕ) (b : Bool) → bytes_eq name to ≡ b
           → Has (contents (held_objects (held_of name before))) c → Has (held_contents after) c
       by name true same has =
-          absurd (subst (λ (x : Holding). Has (contents (held_objects x)) c)
+          absurd (subst (λ (x : TenantState). Has (contents (held_objects x)) c)
           (ap (λ (n : List ℕ). held_of n before) ((bytes_eq-Decides name to).0 same) ∙ nothing) has)
       by name false other has =
           in-held after name c
-          (subst (λ (x : Holding). Has (contents (held_objects x)) c) (sym (others name other)) has)
+          (subst (λ (x : TenantState). Has (contents (held_objects x)) c) (sym (others name other)) has)
 
   pub stored-same : stored_sizes (held_contents after) ≡ stored_sizes (held_contents before)
   stored-same =
@@ -163,7 +163,7 @@ module _ (before after : Holdings) (from to : List ℕ)
       (λ c h. contained _ c (back c (has_contained _ c h)))
 
 -- a copy, by its answer
-pub stored-by : (told : Answer) (before after : Holdings) (from to : List ℕ)
+pub stored-by : (told : Answer) (before after : TenantStates) (from to : List ℕ)
     → IsDistinct bytes_eq (keys_of before) → IsDistinct bytes_eq (keys_of after)
     → ((tenant : List ℕ) → bytes_eq tenant to ≡ false → held_of tenant after ≡ held_of tenant before)
     → held_of to before ≡ Idle empty_repository

@@ -21,7 +21,7 @@ use Rattle.tenant_tables.proofs.TableLemmas.{length-objects}
 use Rattle.tenant_service.specs.declared.tenant.Phase.{Phase}
 use Rattle.tenant_service.specs.declared.tenant.Phase.TheVariants as phase
 use Rattle.tenant_service.specs.declared.tenant.Tenant.{Tenant}
-use Rattle.tenant_service.specs.Holding.{Holding, Holdings, Idle, empty_repository, held_of}
+use Rattle.tenant_service.specs.TenantState.{TenantState, TenantStates, Idle, empty_repository, held_of}
 use Rattle.tenant_service.specs.HeldObjects.{held_objects, held_contents, has_commit}
 use Rattle.tenant_service.specs.Tenants.{Tenants, Stands, IsSettled, Accounts, held_in, holding_in, holdings, all_held, has_committed, Shows}
 use Rattle.tenant_service.proofs.TenantLemmas.{all_committed}
@@ -159,13 +159,13 @@ shows phase.Closed p t r settled = record { all = refl; committed = all_committe
 shows (phase.Running stream) p t r settled = record { all = refl; committed = refl; saved = refl }
 shows (phase.Dead code) p t r settled = record { all = refl; committed = all_committed p t settled; saved = refl }
 
-pub shows-found : (digest : List ℕ → List ℕ) (p : Cells) (name : List ℕ) (es : Tenants) (t : Tenant) (shown : Holdings) → Accounts digest p es
+pub shows-found : (digest : List ℕ → List ℕ) (p : Cells) (name : List ℕ) (es : Tenants) (t : Tenant) (shown : TenantStates) → Accounts digest p es
     → lookup (bytes_eq name) es ≡ Some t → holdings p es ≡ shown → Shows (held_of name shown) p t.table t.refs
 shows-found digest p name es t shown h got is =
-    subst (λ (x : Holding). Shows x p t.table t.refs) (sym (sym (ap (held_of name) is) ∙ held-found p name es t got))
+    subst (λ (x : TenantState). Shows x p t.table t.refs) (sym (sym (ap (held_of name) is) ∙ held-found p name es t got))
     (shows t.phase p t.table t.refs (stands-found digest p name es t h got).settled)
 
-pub unseen-missing : (p : Cells) (name : List ℕ) (es : Tenants) (shown : Holdings) → lookup (bytes_eq name) es ≡ None → holdings p es ≡ shown
+pub unseen-missing : (p : Cells) (name : List ℕ) (es : Tenants) (shown : TenantStates) → lookup (bytes_eq name) es ≡ None → holdings p es ≡ shown
     → held_of name shown ≡ Idle empty_repository
 unseen-missing p name es shown none is = sym (ap (held_of name) is) ∙ held-missing p name es none
 

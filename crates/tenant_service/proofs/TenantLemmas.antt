@@ -10,7 +10,7 @@ use Rattle.tenant_tables.proofs.TableLemmas.{length-objects, objects-take}
 use Rattle.stream_lex.specs.Items.{Tail, Rest}
 use Rattle.stream_lex.specs.Running.{more_of, extended}
 use Rattle.stream_grammar.specs.Commands.{top}
-use Rattle.import_session.specs.Session.{nothing_own, repository_in, workspace_in}
+use Rattle.import_session.specs.Session.{empty_state, repository_in, workspace_in}
 use Rattle.import_session.specs.Stream.{Running, Runs, Refused, Outcome, End, finished, running_end, last_checkpoint, ended_well as import_ended}
 use Rattle.answers.specs.declared.fault.Fault.{Fault as Refusal}
 use Rattle.answers.specs.declared.fault.Fault.TheVariants as refusal
@@ -24,7 +24,7 @@ use Rattle.tenant_service.specs.declared.tenant.Phase.TheVariants as phase
 use Rattle.tenant_service.specs.Alone.{Open, Ask, End as EndCall, Turn, turn, Stopped, answered, asked, unless_out_of_memory, ended, ended_well, end_answer, closed}
 use Rattle.tenant_stream.specs.Carrying.{outcome_after, Between, new_stream, stream_in, Carries, Feeds, Stays, IsEnd, StopsAtEnd}
 use Rattle.tenant_service.specs.Headline.{stop_told}
-use Rattle.tenant_service.specs.Holding.{Holding, Idle, Busy, empty_repository}
+use Rattle.tenant_service.specs.TenantState.{TenantState, Idle, Busy, empty_repository}
 use Rattle.tenant_service.specs.HeldObjects.{last_held}
 use Rattle.tenant_service.specs.HeldSteps.{step_held, fed_held, held_until, gone_on, standing_answer, end_held}
 use Rattle.tenant_service.specs.Tenants.{held_in, standing_in, kept_tail, IsSettled}
@@ -66,7 +66,7 @@ took-opened digest phase.Closed pool table refs stream closed settled new = reco
   leaves =
       rw new
       (ap (λ (n : ℕ). Busy (Runs (record {
-        workspace = record (workspace_in nothing_own pool table refs) { committed = n };
+        workspace = record (workspace_in empty_state pool table refs) { committed = n };
         parsing = Ok top;
         is_done = false;
       }) (Rest false []))) (length-objects pool table.entries ∙ sym settled));
@@ -228,12 +228,12 @@ saved_is ph pool table refs settled =
     (objects-take pool table.committed table.entries)
 
 -- a query that was answered
-told : (defined : Result (List ℕ) Refusal) (held : Holding) (out out' : List ℕ) → Prints defined out out' (Ok tt)
+told : (defined : Result (List ℕ) Refusal) (held : TenantState) (out out' : List ℕ) → Prints defined out out' (Ok tt)
     → Takes (answered defined held) answer.Ok out out' held
 told (Ok text) held out out' printed = record { answered = refl; printed = printed; leaves = refl }
 told (Err e) held out out' printed = elim printed [ ]
 
-pub took-told : (digest : List ℕ → List ℕ) (query : List ℕ) (r : Repository) (held : Holding) (out out' : List ℕ) → r ≡ last_held held
+pub took-told : (digest : List ℕ → List ℕ) (query : List ℕ) (r : Repository) (held : TenantState) (out out' : List ℕ) → r ≡ last_held held
     → Prints (answer_to r query) out out' (Ok tt)
     → Takes (step_held digest (Ask query) None held) answer.Ok out out' held
 took-told digest query r held out out' is printed =
@@ -241,7 +241,7 @@ took-told digest query r held out out' is printed =
     (told (answer_to r query) held out out' printed)
 
 -- and one that was refused
-refused : (defined : Result (List ℕ) Refusal) (held : Holding) (out out' : List ℕ) (e : Refusal) → e ≢ refusal.Memory
+refused : (defined : Result (List ℕ) Refusal) (held : TenantState) (out out' : List ℕ) (e : Refusal) → e ≢ refusal.Memory
     → Prints defined out out' (Err e) → out' ≡ out
     → Takes (answered defined held) (answer.Fault (code_of e)) out out' held
 refused (Ok text) held out out' e other printed same = absurd (other printed)
@@ -251,7 +251,7 @@ refused (Err e') held out out' e other printed same = record {
   leaves = refl;
 }
 
-refused_by : (defined : Result (List ℕ) Refusal) (held : Holding) (out out' : List ℕ) (e : Refusal)
+refused_by : (defined : Result (List ℕ) Refusal) (held : TenantState) (out out' : List ℕ) (e : Refusal)
     → Prints defined out out' (Err e) → out' ≡ out
     → Takes (unless_out_of_memory (stop_told (refusal_told e)) held (answered defined held)) (refusal_told e) out out' held
 refused_by defined held out out' refusal.Memory printed same =
@@ -263,7 +263,7 @@ refused_by defined held out out' refusal.Limit printed same = refused defined he
 refused_by defined held out out' refusal.UnknownQuery printed same = refused defined held out out' refusal.UnknownQuery (λ e. cc) printed same
 refused_by defined held out out' refusal.MalformedQuery printed same = refused defined held out out' refusal.MalformedQuery (λ e. cc) printed same
 
-pub took-refused_query : (digest : List ℕ → List ℕ) (query : List ℕ) (r : Repository) (held : Holding) (out out' : List ℕ) (e : Refusal) → r ≡ last_held held
+pub took-refused_query : (digest : List ℕ → List ℕ) (query : List ℕ) (r : Repository) (held : TenantState) (out out' : List ℕ) (e : Refusal) → r ≡ last_held held
     → Prints (answer_to r query) out out' (Err e) → out' ≡ out
     → Takes (step_held digest (Ask query) (stop_told (refusal_told e)) held) (refusal_told e) out out' held
 took-refused_query digest query r held out out' e is printed same =

@@ -4,7 +4,7 @@ use Rattle.git_model.specs.Repository.{Repository}
 use Rattle.stream_lex.specs.Items.{Item, Rest}
 use Rattle.stream_lex.specs.Reading.{reading}
 use Rattle.import_session.specs.Workspace.{opened}
-use Rattle.import_session.specs.Stream.{Running, Standing, Runs, Refused, Outcome, begun, carried, last_checkpoint, finished}
+use Rattle.import_session.specs.Stream.{Running, StreamStatus, Runs, Refused, Outcome, begun, carried, last_checkpoint, finished}
 use Rattle.answers.specs.declared.fault.Fault.{Fault}
 use Rattle.answers.specs.Faults.{code_of}
 use Rattle.answers.specs.Answers.{answer_to}
@@ -51,7 +51,7 @@ stream_of digest repository bytes =
     carried digest (begun (opened repository)) all.items all.tail
 
 -- The repository at the last checkpoint.
-abbrev pub last_of : Standing → Repository
+abbrev pub last_of : StreamStatus → Repository
 last_of (Runs now tail) = last_checkpoint now.workspace
 last_of (Refused code repository) = repository
 
@@ -64,7 +64,7 @@ pub record Stopped : Type 0 where
   pub replies : List ℕ
   pub repository : Repository
 
-abbrev pub stop_at : List ℕ → Standing → Option Stopped
+abbrev pub stop_at : List ℕ → StreamStatus → Option Stopped
 stop_at replies (Runs now tail) =
     if now.is_done then None
     else Some (record { replies = replies; repository = last_checkpoint now.workspace })
@@ -88,7 +88,7 @@ open_alone stop (Dead code repository) = refused_under 31 (Dead code repository)
 
 -- Feed prints what all bytes print beyond what was printed before. A fault in them makes the stream
 -- dead under the fault's number.
-abbrev pub fed_by : Repository → List ℕ → List ℕ → Standing → Turn State
+abbrev pub fed_by : Repository → List ℕ → List ℕ → StreamStatus → Turn State
 fed_by repository bytes reply (Runs now tail) = turn answer.Ok reply (Streaming repository bytes)
 fed_by repository bytes reply (Refused code left) = turn (answer.Fault code) reply (Dead code left)
 
@@ -127,12 +127,12 @@ abbrev pub end_answer : Option ℕ → Answer
 end_answer None = answer.Ok
 end_answer (Some code) = answer.Fault code
 
-abbrev pub ended_well : (List ℕ → List ℕ) → Standing → Turn Repository
+abbrev pub ended_well : (List ℕ → List ℕ) → StreamStatus → Turn Repository
 ended_well digest standing =
     let end = finished digest standing in turn (end_answer end.fault) end.reply end.repository
 
 -- After `done`, and after a refusal, an end needs no memory.
-abbrev pub ended : (List ℕ → List ℕ) → Option ℕ → Standing → Turn Repository
+abbrev pub ended : (List ℕ → List ℕ) → Option ℕ → StreamStatus → Turn Repository
 ended digest stop (Refused code repository) = ended_well digest (Refused code repository)
 ended digest stop (Runs now tail) =
     if now.is_done then ended_well digest (Runs now tail)

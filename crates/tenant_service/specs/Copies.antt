@@ -7,7 +7,7 @@ use Rattle.service_steps.specs.declared.answer.Answer.TheVariants as answer
 use Rattle.export_laws.specs.Copies.{IsCopyOf}
 use Rattle.tenant_service.specs.Alone.{Call, Open, Feed, End, Closed}
 use Rattle.tenant_service.specs.Headline.{Told, told_alone, left_alone}
-use Rattle.tenant_service.specs.Holding.{Holding, Holdings, Idle, Busy, empty_repository}
+use Rattle.tenant_service.specs.TenantState.{TenantState, TenantStates, Idle, Busy, empty_repository}
 use Rattle.tenant_service.specs.HeldObjects.{held_contents}
 
 -- The steps that import a text in one Feed, and no step runs out of memory.
@@ -28,18 +28,18 @@ pub record Takes (digest : List ℕ → List ℕ) (text : List ℕ) (repository 
   pub copy : IsCopyOf repository left
 
 -- The service holds a copy of a repository for a tenant, and no stream.
-abbrev pub HoldsCopy : Repository → Holding → Type 0
+abbrev pub HoldsCopy : Repository → TenantState → Type 0
 HoldsCopy repository (Idle left) = IsCopyOf repository left
 HoldsCopy repository (Busy standing) = ⊥
 
 -- The answer is Ok, and then the other tenant has a copy; or memory ran out. It is no fault.
-abbrev pub CopiesAs : Answer → Repository → Holding → Type 0
+abbrev pub CopiesAs : Answer → Repository → TenantState → Type 0
 CopiesAs answer.Ok repository held = HoldsCopy repository held
 CopiesAs (answer.Memory items) repository held = Unit {0}
 CopiesAs (answer.Fault code) repository held = ⊥
 
 -- After Ok the tenants have no other contents than before, so nothing more is stored.
-abbrev pub StoresAs : Answer → Holdings → Holdings → Type 0
+abbrev pub StoresAs : Answer → TenantStates → TenantStates → Type 0
 StoresAs answer.Ok before after =
     stored_sizes (held_contents after) ≡ stored_sizes (held_contents before)
 StoresAs (answer.Memory items) before after = Unit {0}

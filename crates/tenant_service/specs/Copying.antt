@@ -12,8 +12,8 @@ use Rattle.service_steps.specs.declared.fault.ServiceFault.TheVariants as fault
 use Rattle.service_steps.specs.declared.step.Step.{Step}
 use Rattle.service_steps.specs.Faults.{code_of}
 use Rattle.tenant_service.specs.Alone.{Call, Open, Feed, End, Ask}
-use Rattle.tenant_service.specs.Headline.{Run, IsItsOwn, call_of}
-use Rattle.tenant_service.specs.Holding.{Holding, Idle, Busy, Holdings, held_of}
+use Rattle.tenant_service.specs.Headline.{Run, IsIsolated, call_of}
+use Rattle.tenant_service.specs.TenantState.{TenantState, Idle, Busy, TenantStates, held_of}
 use Rattle.tenant_service.specs.StepName.{name_of}
 
 -- A repository has no object and no ref, and HEAD names the ref that it names at first.
@@ -22,13 +22,13 @@ has_nothing repository = (length repository.objects == 0)
     && (length (listed_refs repository.refs) == 0) && bytes_eq repository.refs.head first_head
 
 -- Why a tenant takes no copy: it has a stream, running or dead, or its repository is not empty.
-abbrev pub held_refusal : Holding → Option ServiceFault
+abbrev pub held_refusal : TenantState → Option ServiceFault
 held_refusal (Idle repository) =
     if has_nothing repository then None else Some fault.TenantNotEmpty
 held_refusal (Busy standing) = Some fault.StreamIsOpen
 
 -- Why a copy is refused before its first step, if it is.
-abbrev pub copy_refusal : List ℕ → List ℕ → Holdings → Option ServiceFault
+abbrev pub copy_refusal : List ℕ → List ℕ → TenantStates → Option ServiceFault
 copy_refusal from to all =
     if is_tenant_name from && is_tenant_name to then held_refusal (held_of to all)
     else Some fault.BadTenantName
@@ -74,9 +74,9 @@ IsCopyRun None from to run told = IsExport from to run told
 
 -- A run with the property `Is` was taken, and every tenant was told what it is told in a repository
 -- of its own.
-pub record HasTaken (digest : List ℕ → List ℕ) (before after : Holdings) (Is : Run → Type 0)
+pub record HasTaken (digest : List ℕ → List ℕ) (before after : TenantStates) (Is : Run → Type 0)
     : Type 0 where
   pub run : Run
   pub is : Is run
   pub own : (tenant : List ℕ)
-      → IsItsOwn digest tenant (held_of tenant before) run (held_of tenant after)
+      → IsIsolated digest tenant (held_of tenant before) run (held_of tenant after)

@@ -9,7 +9,7 @@ use Rattle.service_steps.specs.declared.reply.Reply.{Reply}
 use Rattle.service_steps.specs.declared.step.Step.{Step}
 use Rattle.service_steps.specs.declared.step.Step.TheVariants as step
 use Rattle.tenant_service.specs.Alone.{Call, Open, Feed, End, Ask, Restart, Turn, State, added, run_alone}
-use Rattle.tenant_service.specs.Holding.{Holding, LeadsTo}
+use Rattle.tenant_service.specs.TenantState.{TenantState, LeadsTo}
 
 -- What a step was told: an answer, and the bytes of the reply.
 pub record Told : Type 0 where
@@ -80,8 +80,8 @@ left_alone digest state (own ∷ later) =
 -- The headline, for one tenant: whatever repository and stream of its own led to what is held of it
 -- before the run, it was told what it is told alone, given only its own steps; and that repository
 -- and stream afterwards lead to what is held of it after the run.
-pub record IsItsOwn (digest : List ℕ → List ℕ) (tenant : List ℕ) (before : Holding) (run : Run)
-    (after : Holding) : Type 0 where
+pub record IsIsolated (digest : List ℕ → List ℕ) (tenant : List ℕ) (before : TenantState) (run : Run)
+    (after : TenantState) : Type 0 where
   pub told : (state : State) → LeadsTo digest state before
       → told_to tenant run ≡ told_alone digest state (steps_of tenant run)
   pub left : (state : State) → LeadsTo digest state before

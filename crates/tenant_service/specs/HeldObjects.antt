@@ -7,40 +7,40 @@ use Rattle.std.specs.FinMap as map
 use Rattle.git_model.specs.RefStore.{RefMap}
 use Rattle.git_model.specs.Content.{Content, same_content}
 use Rattle.git_model.specs.Repository.{Repository, Object}
-use Rattle.import_session.specs.Stream.{Standing, Runs, Refused}
+use Rattle.import_session.specs.Stream.{StreamStatus, Runs, Refused}
 use Rattle.tenant_service.specs.Alone.{last_of}
-use Rattle.tenant_service.specs.Holding.{Holding, Idle, Busy, Holdings}
+use Rattle.tenant_service.specs.TenantState.{TenantState, Idle, Busy, TenantStates}
 
 -- The objects of a tenant, those of its running stream so far included.
-abbrev pub standing_objects : Standing → List Object
+abbrev pub standing_objects : StreamStatus → List Object
 standing_objects (Runs now tail) = now.workspace.objects
 standing_objects (Refused code repository) = repository.objects
 
-abbrev pub held_objects : Holding → List Object
+abbrev pub held_objects : TenantState → List Object
 held_objects (Idle repository) = repository.objects
 held_objects (Busy standing) = standing_objects standing
 
 -- The repository at the last checkpoint.
-abbrev pub last_held : Holding → Repository
+abbrev pub last_held : TenantState → Repository
 last_held (Idle repository) = repository
 last_held (Busy standing) = last_of standing
 
 -- Whether a stream runs that has read `done`, so that no later byte counts.
-abbrev pub has_read_done : Holding → Bool
+abbrev pub has_read_done : TenantState → Bool
 has_read_done (Idle repository) = false
 has_read_done (Busy (Runs now tail)) = now.is_done
 has_read_done (Busy (Refused code repository)) = false
 
 -- Whether the repository at the last checkpoint has an object.
-abbrev pub has_commit : Holding → Bool
+abbrev pub has_commit : TenantState → Bool
 has_commit held = nat_lt 0 (length (last_held held).objects)
 
 -- The contents of all objects of all tenants.
-abbrev pub held_contents : Holdings → List Content
+abbrev pub held_contents : TenantStates → List Content
 held_contents all = flat_map (λ e. map (λ o. o.content) (held_objects e.1)) all
 
 -- How many tenants have an object with this content.
-abbrev pub tenants_with : Content → Holdings → ℕ
+abbrev pub tenants_with : Content → TenantStates → ℕ
 tenants_with c all =
     count_by (λ e. is_member same_content (map (λ o. o.content) (held_objects e.1)) c) all
 

@@ -4,52 +4,52 @@ use Rattle.std.specs.Prelude.{ℕ, false, List, [], Option, None, Some}
 use Rattle.stream_lex.specs.Items.{Tail, Rest}
 use Rattle.stream_lex.specs.Running.{more_of}
 use Rattle.import_session.specs.Workspace.{opened}
-use Rattle.import_session.specs.Stream.{Running, Standing, Runs, Refused, Outcome, begun}
+use Rattle.import_session.specs.Stream.{Running, StreamStatus, Runs, Refused, Outcome, begun}
 use Rattle.tenant_stream.specs.Carrying.{outcome_after}
 use Rattle.service_steps.specs.declared.answer.Answer.{Answer}
 use Rattle.service_steps.specs.declared.answer.Answer.TheVariants as answer
 use Rattle.tenant_service.specs.Alone.{Call, Open, Feed, End, Ask, Restart, Turn, turn, refused_under, unless_out_of_memory, Stopped, stop_after, ended, closed, asked}
-use Rattle.tenant_service.specs.Holding.{Holding, Idle, Busy}
+use Rattle.tenant_service.specs.TenantState.{TenantState, Idle, Busy}
 use Rattle.tenant_service.specs.HeldObjects.{last_held}
 
 -- What a stream answers to more bytes: it prints their replies, and stands as they leave it.
-abbrev pub standing_answer : Standing → Answer
+abbrev pub standing_answer : StreamStatus → Answer
 standing_answer (Runs now tail) = answer.Ok
 standing_answer (Refused code repository) = answer.Fault code
 
-abbrev pub gone_on : Outcome → Turn Holding
+abbrev pub gone_on : Outcome → Turn TenantState
 gone_on later = turn (standing_answer later.standing) later.replies (Busy later.standing)
 
 -- If there is a stop after so many of the items, the stream is dead under 90.
-abbrev pub held_until : ℕ → Option Stopped → Turn Holding → Turn Holding
+abbrev pub held_until : ℕ → Option Stopped → Turn TenantState → Turn TenantState
 held_until count (Some stopped) well =
     turn (answer.Memory count) stopped.replies (Busy (Refused 90 stopped.repository))
 held_until count None well = well
 
-abbrev pub fed_held : (List ℕ → List ℕ) → List ℕ → Option ℕ → Running → Tail → Turn Holding
+abbrev pub fed_held : (List ℕ → List ℕ) → List ℕ → Option ℕ → Running → Tail → Turn TenantState
 fed_held digest piece None now tail = gone_on (outcome_after digest now tail piece)
 fed_held digest piece (Some count) now tail =
     held_until count (stop_after digest now (more_of tail piece).items count)
     (gone_on (outcome_after digest now tail piece))
 
 -- What each call does to what is held.
-abbrev pub open_held : Option ℕ → Holding → Turn Holding
+abbrev pub open_held : Option ℕ → TenantState → Turn TenantState
 open_held stop (Idle repository) =
     unless_out_of_memory stop (Idle repository)
     (turn answer.Ok [] (Busy (Runs (begun (opened repository)) (Rest false []))))
 open_held stop (Busy standing) = refused_under 31 (Busy standing)
 
-abbrev pub feed_held : (List ℕ → List ℕ) → List ℕ → Option ℕ → Holding → Turn Holding
+abbrev pub feed_held : (List ℕ → List ℕ) → List ℕ → Option ℕ → TenantState → Turn TenantState
 feed_held digest piece stop (Idle repository) = refused_under 30 (Idle repository)
 feed_held digest piece stop (Busy (Runs now tail)) = fed_held digest piece stop now tail
 feed_held digest piece stop (Busy (Refused code repository)) =
     refused_under code (Busy (Refused code repository))
 
-abbrev pub end_held : (List ℕ → List ℕ) → Option ℕ → Holding → Turn Holding
+abbrev pub end_held : (List ℕ → List ℕ) → Option ℕ → TenantState → Turn TenantState
 end_held digest stop (Idle repository) = refused_under 30 (Idle repository)
 end_held digest stop (Busy standing) = closed Idle (ended digest stop standing)
 
-abbrev pub step_held : (List ℕ → List ℕ) → Call → Option ℕ → Holding → Turn Holding
+abbrev pub step_held : (List ℕ → List ℕ) → Call → Option ℕ → TenantState → Turn TenantState
 step_held digest Open stop held = open_held stop held
 step_held digest (Feed piece) stop held = feed_held digest piece stop held
 step_held digest End stop held = end_held digest stop held

@@ -4,7 +4,7 @@
 -- step does to them, and how a save and a load see them.
 pub mod Alone
 pub mod Headline
-pub mod Holding
+pub mod TenantState
 pub mod HeldObjects
 pub mod HeldSteps
 pub mod Soundness

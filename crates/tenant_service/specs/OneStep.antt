@@ -6,7 +6,7 @@ use Rattle.content_pool.specs.Pool.{Cells}
 use Rattle.tenant_refs.specs.TenantName.{is_tenant_name}
 use Rattle.stream_lex.specs.Items.{Tail}
 use Rattle.stream_lex.specs.Running.{more_of}
-use Rattle.import_session.specs.Stream.{Running, Standing, Runs, Refused, last_checkpoint}
+use Rattle.import_session.specs.Stream.{Running, StreamStatus, Runs, Refused, last_checkpoint}
 use Rattle.answers.specs.declared.fault.Fault.{Fault}
 use Rattle.answers.specs.declared.fault.Fault.TheVariants as fault
 use Rattle.answers.specs.Faults.{code_of}
@@ -19,14 +19,14 @@ use Rattle.tenant_stream.specs.declared.stop.Stop.TheVariants as stop
 use Rattle.tenant_stream.specs.Carrying.{outcome_after}
 use Rattle.tenant_service.specs.Alone.{Call, Turn, stop_after}
 use Rattle.tenant_service.specs.Headline.{call_of, stop_told}
-use Rattle.tenant_service.specs.Holding.{Holding, Idle, Holdings, held_of}
+use Rattle.tenant_service.specs.TenantState.{TenantState, Idle, TenantStates, held_of}
 use Rattle.tenant_service.specs.HeldObjects.{last_held}
 use Rattle.tenant_service.specs.HeldSteps.{step_held}
 use Rattle.tenant_service.specs.StepName.{name_of}
 use Rattle.tenant_service.specs.Tenants.{Tenants, Accounts, holdings}
 
 -- A call was answered and printed as a turn says, and left what it says.
-pub record Takes (t : Turn Holding) (answer : Answer) (out out' : List ℕ) (left : Holding)
+pub record Takes (t : Turn TenantState) (answer : Answer) (out out' : List ℕ) (left : TenantState)
     : Type 0 where
   pub answered : t.answer ≡ answer
   pub printed : out' ≡ out ++ t.reply
@@ -34,7 +34,7 @@ pub record Takes (t : Turn Holding) (answer : Answer) (out out' : List ℕ) (lef
 
 -- What bytes did to a stream: it printed their replies, and stands as they left it.
 pub record GoesTo (digest : List ℕ → List ℕ) (now : Running) (tail : Tail) (piece : List ℕ)
-    (out out' : List ℕ) (left : Standing) : Type 0 where
+    (out out' : List ℕ) (left : StreamStatus) : Type 0 where
   pub replies : List ℕ
   pub outcome : outcome_after digest now tail piece ≡ record { replies = replies; standing = left }
   pub printed : out' ≡ out ++ replies
@@ -76,7 +76,7 @@ abbrev pub store : Cells → Tenants → Store
 store pool tenants = record { pool = pool; tenants = tenants }
 
 -- What is held of a tenant then.
-abbrev pub held_in_store : List ℕ → Store → Holding
+abbrev pub held_in_store : List ℕ → Store → TenantState
 held_in_store name s = held_of name (holdings s.pool s.tenants)
 
 -- A call of the tenant of this name was answered and printed as `step_held` says, and it changed no
@@ -106,7 +106,7 @@ Calls digest false name call before answer out out' after =
     Refuses digest before answer out out' after
 
 -- A restart goes back to the last checkpoint of every tenant.
-abbrev pub restarted : Holdings → Holdings
+abbrev pub restarted : TenantStates → TenantStates
 restarted all = map (λ e. (e.0, Idle (last_held e.1))) all
 
 pub record Restarts (digest : List ℕ → List ℕ) (before : Store) (answer : Answer)
@@ -124,12 +124,12 @@ Steps digest s before answer out out' after =
     Calls digest (is_tenant_name (name_of s)) (name_of s) (call_of s) before answer out out' after
 
 -- The first so many tenants are restarted, or only the one at a position.
-abbrev pub first_restarted : ℕ → Holdings → Holdings
+abbrev pub first_restarted : ℕ → TenantStates → TenantStates
 first_restarted zero all = all
 first_restarted (suc n) [] = []
 first_restarted (suc n) (e ∷ all) = (e.0, Idle (last_held e.1)) ∷ first_restarted n all
 
-abbrev pub restarted_at : ℕ → Holdings → Holdings
+abbrev pub restarted_at : ℕ → TenantStates → TenantStates
 restarted_at n [] = []
 restarted_at zero (e ∷ all) = (e.0, Idle (last_held e.1)) ∷ all
 restarted_at (suc n) (e ∷ all) = e ∷ restarted_at n all

@@ -11,15 +11,15 @@ use Rattle.pool_file_checks.specs.Saving.{IsTextOf}
 use Rattle.pool_file_checks.specs.Judging.{IsRefused}
 use Rattle.pool_file.specs.Loading.{AreRead}
 use Rattle.pool_file.specs.Worth.{worth_saving}
-use Rattle.tenant_service.specs.Holding.{Holdings, Idle, empty_repository, held_of}
+use Rattle.tenant_service.specs.TenantState.{TenantStates, Idle, empty_repository, held_of}
 use Rattle.tenant_service.specs.HeldObjects.{last_held}
 
 -- The repository of each tenant at its last checkpoint, under the tenant's name.
-abbrev pub last_named : Holdings → List Named
+abbrev pub last_named : TenantStates → List Named
 last_named all = map (λ e. record { tenant = e.0; repository = last_held e.1 }) all
 
 -- Those that are saved: each has an object, or a HEAD other than the first.
-abbrev pub saved_of : Holdings → List Named
+abbrev pub saved_of : TenantStates → List Named
 saved_of all = worth_saving (last_named all)
 
 -- The repository of a tenant among some, or an empty one if it has none there.
@@ -28,17 +28,17 @@ repository_of tenant all =
     unwrap_or (lookup (bytes_eq tenant) (map (λ n. (n.tenant, n.repository)) all)) empty_repository
 
 -- The service holds just these repositories, an empty one of every other tenant, and no stream.
-abbrev pub HasJust : List Named → Holdings → Type 0
+abbrev pub HasJust : List Named → TenantStates → Type 0
 HasJust all held = (tenant : List ℕ) → held_of tenant held ≡ Idle (repository_of tenant all)
 
 -- All of the bytes are read as some repositories, and the service holds just these.
-pub record IsReadFrom (digest : List ℕ → List ℕ) (bytes : List ℕ) (held : Holdings) : Type 0 where
+pub record IsReadFrom (digest : List ℕ → List ℕ) (bytes : List ℕ) (held : TenantStates) : Type 0 where
   pub all : List Named
   pub read : AreRead digest bytes all
   pub has : HasJust all held
 
 -- The bytes are a text of some repositories, and the service holds just these.
-pub record IsLoadedFrom (digest : List ℕ → List ℕ) (bytes : List ℕ) (held : Holdings)
+pub record IsLoadedFrom (digest : List ℕ → List ℕ) (bytes : List ℕ) (held : TenantStates)
     : Type 0 where
   pub all : List Named
   pub text : IsTextOf digest all bytes
@@ -46,7 +46,7 @@ pub record IsLoadedFrom (digest : List ℕ → List ℕ) (bytes : List ℕ) (hel
 
 -- The answer if the reader has these bytes, and the bytes that it has afterwards. Any answer may be
 -- replaced by a fault of a device or a lack of memory.
-abbrev pub LoadsAs : (List ℕ → List ℕ) → Option (List ℕ) → Result Holdings Fault
+abbrev pub LoadsAs : (List ℕ → List ℕ) → Option (List ℕ) → Result TenantStates Fault
     → Option (List ℕ) → Type 0
 LoadsAs digest None r new = Unit {0}
 LoadsAs digest (Some bytes) (Ok held) new = IsReadFrom digest bytes held × (new ≡ Some [])
@@ -55,20 +55,20 @@ LoadsAs digest (Some bytes) (Err fault.Device) new = Unit {0}
 LoadsAs digest (Some bytes) (Err fault.Memory) new = Unit {0}
 
 -- If the answer is a service, the bytes are a text of what it has.
-abbrev pub LoadsText : (List ℕ → List ℕ) → Option (List ℕ) → Result Holdings Fault → Type 0
+abbrev pub LoadsText : (List ℕ → List ℕ) → Option (List ℕ) → Result TenantStates Fault → Type 0
 LoadsText digest None r = Unit {0}
 LoadsText digest (Some bytes) (Ok held) = IsLoadedFrom digest bytes held
 LoadsText digest (Some bytes) (Err e) = Unit {0}
 
 -- The answer is a service that has these repositories, unless device or memory fails.
-abbrev pub IsAnswer : List Named → Result Holdings Fault → Type 0
+abbrev pub IsAnswer : List Named → Result TenantStates Fault → Type 0
 IsAnswer all (Ok held) = HasJust all held
 IsAnswer all (Err (fault.Refused r)) = ⊥
 IsAnswer all (Err fault.Device) = Unit {0}
 IsAnswer all (Err fault.Memory) = Unit {0}
 
 -- If the bytes are a text of some repositories, the answer is a service that has just these.
-abbrev pub LoadsEach : (List ℕ → List ℕ) → Option (List ℕ) → Result Holdings Fault → Type 0
+abbrev pub LoadsEach : (List ℕ → List ℕ) → Option (List ℕ) → Result TenantStates Fault → Type 0
 LoadsEach digest None r = Unit {0}
 LoadsEach digest (Some bytes) r =
     (all : List Named) → IsTextOf digest all bytes → IsAnswer all r

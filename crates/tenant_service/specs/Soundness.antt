@@ -2,10 +2,10 @@
 -- premise.
 use Rattle.std.specs.Prelude.{ℕ, List}
 use Rattle.import_session.specs.Sound.{IsSoundRepository}
-use Rattle.tenant_stream.specs.Soundness.{IsSoundStanding}
-use Rattle.tenant_service.specs.Holding.{Holding, Idle, Busy}
+use Rattle.tenant_stream.specs.Soundness.{IsSoundStreamStatus}
+use Rattle.tenant_service.specs.TenantState.{TenantState, Idle, Busy}
 
 -- What is held is sound: a sound repository, or a stream that is sound as it stands.
-abbrev pub IsSoundHolding : (List ℕ → List ℕ) → Holding → Type 0
-IsSoundHolding digest (Idle repository) = IsSoundRepository digest repository
-IsSoundHolding digest (Busy standing) = IsSoundStanding digest standing
+abbrev pub IsSoundTenantState : (List ℕ → List ℕ) → TenantState → Type 0
+IsSoundTenantState digest (Idle repository) = IsSoundRepository digest repository
+IsSoundTenantState digest (Busy standing) = IsSoundStreamStatus digest standing

@@ -15,14 +15,14 @@ use Rattle.revisions.specs.FirstParents.{IsFirstParentChain}
 use Rattle.stream_lex.specs.Items.{Tail, Rest}
 use Rattle.import_session.specs.Held.{HoldsFiles}
 use Rattle.import_session.specs.Session.{repository_in}
-use Rattle.import_session.specs.Stream.{Standing, Runs, Refused}
+use Rattle.import_session.specs.Stream.{StreamStatus, Runs, Refused}
 use Rattle.tenant_service.specs.declared.tenant.Phase.{Phase}
 use Rattle.tenant_service.specs.declared.tenant.Phase.TheVariants as phase
 use Rattle.tenant_service.specs.declared.tenant.Tenant.{Tenant}
 use Rattle.tenant_service.specs.Alone.{State}
 use Rattle.tenant_stream.specs.Carrying.{Between, stream_in}
-use Rattle.tenant_service.specs.Holding.{Holding, Idle, Busy, Holdings, LeadsTo, held_of}
-use Rattle.tenant_service.specs.Soundness.{IsSoundHolding}
+use Rattle.tenant_service.specs.TenantState.{TenantState, Idle, Busy, TenantStates, LeadsTo, held_of}
+use Rattle.tenant_service.specs.Soundness.{IsSoundTenantState}
 use Rattle.tenant_service.specs.HeldObjects.{held_objects, last_held, tenants_with}
 
 -- After `done` no bytes are kept.
@@ -30,16 +30,16 @@ unfoldable pub kept_tail : Between → Tail
 kept_tail stream = if stream.session.is_done then Rest false [] else stream.tail
 
 -- How a stream stands whose objects are in a table over a pool.
-abbrev pub standing_in : Between → Cells → View → RefStore → Standing
+abbrev pub standing_in : Between → Cells → View → RefStore → StreamStatus
 standing_in stream pool table refs = Runs (stream_in stream pool table refs) (kept_tail stream)
 
 -- What is held of a tenant.
-abbrev pub held_in : Phase → Cells → View → RefStore → Holding
+abbrev pub held_in : Phase → Cells → View → RefStore → TenantState
 held_in phase.Closed pool table refs = Idle (repository_in pool table refs)
 held_in (phase.Running stream) pool table refs = Busy (standing_in stream pool table refs)
 held_in (phase.Dead code) pool table refs = Busy (Refused code (repository_in pool table refs))
 
-abbrev pub holding_in : Cells → Tenant → Holding
+abbrev pub holding_in : Cells → Tenant → TenantState
 holding_in pool tenant = held_in tenant.phase pool tenant.table tenant.refs
 
 -- If no stream runs, all objects are committed.
@@ -51,7 +51,7 @@ IsSettled (phase.Dead code) table = table.committed ≡ length table.entries
 -- If a stream runs, the files that it holds of its commits are among these objects.
 abbrev pub HoldsIn : List Object → Phase → Type 0
 HoldsIn objects phase.Closed = Unit {0}
-HoldsIn objects (phase.Running stream) = HoldsFiles objects stream.session.own
+HoldsIn objects (phase.Running stream) = HoldsFiles objects stream.session.state
 HoldsIn objects (phase.Dead code) = Unit {0}
 
 -- A tenant's table stands in the pool. The files that its stream holds are among its objects, and
@@ -78,7 +78,7 @@ pub record Accounts (digest : List ℕ → List ℕ) (pool : Cells) (tenants : T
   pub counts : (s : ℕ) → holds pool s ≡ all_held tenants s
 
 -- What is held of each tenant.
-abbrev pub holdings : Cells → Tenants → Holdings
+abbrev pub holdings : Cells → Tenants → TenantStates
 holdings pool tenants = map (λ e. (e.0, holding_in pool e.1)) tenants
 
 -- Whether a table has a committed object.
@@ -87,7 +87,7 @@ has_committed table = nat_lt 0 (length (take table.committed table.entries))
 
 -- A pool, a table and refs show what is held of a tenant: its objects in order, how many of them
 -- stood at the last checkpoint, and the refs and objects of that checkpoint.
-pub record Shows (held : Holding) (pool : Cells) (table : View) (refs : RefStore) : Type 0 where
+pub record Shows (held : TenantState) (pool : Cells) (table : View) (refs : RefStore) : Type 0 where
   pub all : objects pool table.entries ≡ held_objects held
   pub committed : take table.committed (objects pool table.entries) ≡ (last_held held).objects
   pub saved : refs ≡ (last_held held).refs
@@ -99,16 +99,16 @@ holds_of pool c =
 
 -- A pool counts tenants: it holds each content as often as there are tenants that have an object
 -- with it. No table holds a content twice, so this is also how often the tables hold it.
-abbrev pub CountsTenants : Cells → Holdings → Type 0
+abbrev pub CountsTenants : Cells → TenantStates → Type 0
 CountsTenants pool all = (c : Content) → holds_of pool c ≡ tenants_with c all
 
 -- For every tenant there is a state of its own that leads to what is held of it.
-abbrev pub AreLed : (List ℕ → List ℕ) → Holdings → Type 0
+abbrev pub AreLed : (List ℕ → List ℕ) → TenantStates → Type 0
 AreLed digest all = (tenant : List ℕ) → (state : State) × LeadsTo digest state (held_of tenant all)
 
 -- What is held of every tenant is sound.
-abbrev pub AreSound : (List ℕ → List ℕ) → Holdings → Type 0
-AreSound digest all = (tenant : List ℕ) → IsSoundHolding digest (held_of tenant all)
+abbrev pub AreSound : (List ℕ → List ℕ) → TenantStates → Type 0
+AreSound digest all = (tenant : List ℕ) → IsSoundTenantState digest (held_of tenant all)
 
 -- What is always true of a service.
 pub record IsService (digest : List ℕ → List ℕ) (pool : Cells) (tenants : Tenants) : Type 0 where

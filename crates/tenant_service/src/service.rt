@@ -31,9 +31,9 @@ ghost use Rattle.tenant_refs.specs.TenantName.{is_tenant_name};
 ghost use Rattle.tenant_service.specs.Alone.{added, Restart, State};
 ghost use Rattle.tenant_service.specs.Copies.{CopiesAs, StoresAs};
 ghost use Rattle.tenant_service.specs.Copying.{HasTaken, IsCopyRun, copy_refusal};
-ghost use Rattle.tenant_service.specs.Headline.{IsItsOwn, IsRefused, told_in, told_since, run_of};
-ghost use Rattle.tenant_service.specs.Holding.{Holdings, LeadsTo, Idle, empty_repository, held_of};
-ghost use Rattle.tenant_service.specs.Soundness.{IsSoundHolding};
+ghost use Rattle.tenant_service.specs.Headline.{IsIsolated, IsRefused, told_in, told_since, run_of};
+ghost use Rattle.tenant_service.specs.TenantState.{TenantStates, LeadsTo, Idle, empty_repository, held_of};
+ghost use Rattle.tenant_service.specs.Soundness.{IsSoundTenantState};
 ghost use Rattle.tenant_service.specs.HeldObjects.{held_contents, has_commit, has_read_done as read_done, last_held};
 ghost use Rattle.tenant_service.specs.HeldSteps.{step_held};
 ghost use Rattle.tenant_service.specs.Saved.{saved_of, IsLoadedFrom, LoadsAs, LoadsText, LoadsEach};
@@ -66,13 +66,13 @@ pub struct Service<N: Naming> {
 }
 
 impl<N: Naming> Model for Service<N> {
-    ghost use Rattle.tenant_service.specs.Holding.{Holdings};
+    ghost use Rattle.tenant_service.specs.TenantState.{TenantStates};
     ghost use Rattle.std.specs.Coded.{codes};
     ghost use Rattle.tenant_service.specs.HeldObjects.{ref_map_code};
     ghost use Rattle.file_maps.specs.FileMap.{file_map_code};
     ghost use Rattle.tenant_service.specs.Tenants.{IsService, holdings};
 
-    ghost Value = { Holdings };
+    ghost Value = { TenantStates };
 
     ghost coded = { Prim.hlevel (codes, ref_map_code, file_map_code) };
 
@@ -106,7 +106,7 @@ impl<N: Naming> Service<N> {
     /// The objects of every tenant are good, and each running stream is sound. This is a fact for
     /// proofs: a call does nothing.
     pub fn is_sound(&self)
-        ensures { (tenant : List ℕ) → IsSoundHolding N.digest_of (held_of tenant self.now) }
+        ensures { (tenant : List ℕ) → IsSoundTenantState N.digest_of (held_of tenant self.now) }
     {
         let _pool = &self.pool;
     }
@@ -123,7 +123,7 @@ impl<N: Naming> Service<N> {
     pub fn comes_back(&self)
         ensures text { IsTextOf N.digest_of (saved_of self.now)
             (file_text N.digest_of (saved_of self.now)) }
-        ensures same { (loaded : Holdings)
+        ensures same { (loaded : TenantStates)
             → IsLoadedFrom N.digest_of (file_text N.digest_of (saved_of self.now)) loaded
             → (tenant : List ℕ) → held_of tenant loaded
             ≡ (step_held N.digest_of Restart None (held_of tenant self.now)).state }
@@ -225,7 +225,7 @@ impl<N: Naming> Service<N> {
     /// whole items of the call took effect: `out` has their replies, the tenant is at its last
     /// checkpoint, and its stream is dead under 90.
     pub fn step(&mut self, step: Step<'_>, out: &mut Vec<u8>) -> Answer
-        ensures own { (tenant : List ℕ) → IsItsOwn N.digest_of tenant (held_of tenant self.old)
+        ensures own { (tenant : List ℕ) → IsIsolated N.digest_of tenant (held_of tenant self.old)
             ((step.entry, told_in result out.old.items out.new.items) ∷ [])
             (held_of tenant self.new) }
         ensures appended { out.new.items
@@ -241,7 +241,7 @@ impl<N: Naming> Service<N> {
     /// `Memory` (90): there was no room for a further reply. The steps that have a reply were
     /// taken, and no others.
     pub fn run(&mut self, steps: &[Step<'_>], replies: &mut Vec<Reply>) -> Result<(), Memory>
-        ensures own { (tenant : List ℕ) → IsItsOwn N.digest_of tenant (held_of tenant self.old)
+        ensures own { (tenant : List ℕ) → IsIsolated N.digest_of tenant (held_of tenant self.old)
             (run_of steps.now (told_since replies.old.items replies.new.items))
             (held_of tenant self.new) }
         ensures appended { replies.new.items

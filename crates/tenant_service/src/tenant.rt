@@ -12,8 +12,8 @@ ghost use Rattle.import_session.specs.Sound.{IsSound};
 ghost use Rattle.tenant_service.specs.Alone.{Open, Feed, End, Ask, Restart};
 ghost use Rattle.tenant_stream.specs.Carrying.{HasAmpleRoom, stream_in};
 ghost use Rattle.tenant_service.specs.Headline.{stop_told};
-ghost use Rattle.tenant_service.specs.Holding.{Idle, empty_repository};
-ghost use Rattle.tenant_service.specs.Soundness.{IsSoundHolding};
+ghost use Rattle.tenant_service.specs.TenantState.{Idle, empty_repository};
+ghost use Rattle.tenant_service.specs.Soundness.{IsSoundTenantState};
 ghost use Rattle.tenant_service.specs.HeldSteps.{step_held};
 ghost use Rattle.tenant_service.specs.HeldObjects.{has_read_done, last_held};
 ghost use Rattle.tenant_service.specs.Tenants.{held_in, holding_in, kept_tail, Stands, IsSettled};
@@ -123,12 +123,12 @@ fn feed_stream<N: Naming>(
 ) -> Result<(), Stop>
     requires stands { StandsIn N.digest_of pool.old table.old.entries }
     requires room { HasAmpleRoom pool.old }
-    requires held { FilesStand stream.old.session.own pool.old table.old }
+    requires held { FilesStand stream.old.session.state pool.old table.old }
     requires sound { IsSound N.digest_of
         (stream_in stream.old pool.old table.old refs.old).workspace }
     ensures stands { StandsIn N.digest_of pool.new table.new.entries }
     ensures others { LeavesOthers pool.old table.old.entries pool.new table.new.entries }
-    ensures held { OnOk result (FilesStand stream.new.session.own pool.new table.new) }
+    ensures held { OnOk result (FilesStand stream.new.session.state pool.new table.new) }
     ensures fed { Fed N.digest_of
         (stream_in stream.old pool.old table.old refs.old) (kept_tail stream.old) piece.now
         out.old.items result out.new.items
@@ -149,7 +149,7 @@ pub fn feed<N: Naming>(
 ) -> Answer
     requires stands { Stands N.digest_of pool.old tenant.old }
     requires room { HasAmpleRoom pool.old }
-    requires sound { IsSoundHolding N.digest_of (holding_in pool.old tenant.old) }
+    requires sound { IsSoundTenantState N.digest_of (holding_in pool.old tenant.old) }
     ensures stands { Stands N.digest_of pool.new tenant.new }
     ensures others { LeavesOthers pool.old tenant.old.table.entries
         pool.new tenant.new.table.entries }
@@ -201,7 +201,7 @@ pub fn has_read_done(tenant: &Tenant) -> bool
 pub fn end<N: Naming>(pool: &mut Pool<N>, tenant: &mut Tenant, out: &mut Vec<u8>) -> Answer
     requires stands { Stands N.digest_of pool.old tenant.old }
     requires room { HasAmpleRoom pool.old }
-    requires sound { IsSoundHolding N.digest_of (holding_in pool.old tenant.old) }
+    requires sound { IsSoundTenantState N.digest_of (holding_in pool.old tenant.old) }
     ensures stands { Stands N.digest_of pool.new tenant.new }
     ensures others { LeavesOthers pool.old tenant.old.table.entries
         pool.new tenant.new.table.entries }
@@ -247,7 +247,7 @@ pub fn ask<N: Naming>(
     out: &mut Vec<u8>,
 ) -> Answer
     requires stands { Stands N.digest_of pool.now tenant.old }
-    requires sound { IsSoundHolding N.digest_of (holding_in pool.now tenant.old) }
+    requires sound { IsSoundTenantState N.digest_of (holding_in pool.now tenant.old) }
     ensures stands { Stands N.digest_of pool.now tenant.new }
     ensures table { tenant.new.table ≡ tenant.old.table }
     ensures held { holding_in pool.now tenant.new ≡ holding_in pool.now tenant.old }

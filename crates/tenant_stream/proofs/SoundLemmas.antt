@@ -8,13 +8,13 @@ use Rattle.tenant_tables.specs.View.{View}
 use Rattle.stream_lex.specs.Items.{Item, Tail, Rest, Failed}
 use Rattle.stream_state.specs.declared.fault.Fault.{Fault}
 use Rattle.import_session.specs.Workspace.{Effect}
-use Rattle.import_session.specs.Stream.{Running, Step, Outcome, Standing, Runs, Refused, at_tail, carried, end_left, ended_well, finished, going_on, last_checkpoint, running_end, session_end, step, tail_outcome}
+use Rattle.import_session.specs.Stream.{Running, Step, Outcome, StreamStatus, Runs, Refused, at_tail, carried, end_left, ended_well, finished, going_on, last_checkpoint, running_end, session_end, step, tail_outcome}
 use Rattle.import_session.specs.Sound.{IsSound, IsSoundRepository}
 use Rattle.import_session.proofs.SoundLemmas.{item_keeps, end_keeps, checkpoint_is_sound}
 use Rattle.tenant_stream.specs.declared.stop.Stop.{Stop}
 use Rattle.tenant_stream.specs.declared.stop.Stop.TheVariants as stop
 use Rattle.tenant_stream.specs.Carrying.{Between, Advances, Carries, Ends, EndsAs, stream_in}
-use Rattle.tenant_stream.specs.Soundness.{IsSoundStanding, LeavesSound}
+use Rattle.tenant_stream.specs.Soundness.{IsSoundStreamStatus, LeavesSound}
 
 -- what a value of the code stands for is what its stream stands for
 pub sound_as : (digest : List ℕ → List ℕ) (inside stream : Between) (pool : Cells) (table : View)
@@ -27,16 +27,16 @@ sound_as digest inside stream pool table refs same =
 
 tail_sound : (digest : List ℕ → List ℕ) (now : Running) (tail : Tail)
     → IsSound digest now.workspace
-    → IsSoundStanding digest (tail_outcome now tail).standing
+    → IsSoundStreamStatus digest (tail_outcome now tail).standing
 tail_sound digest now (Rest skips bytes) sound = sound
 tail_sound digest now (Failed fault) sound = checkpoint_is_sound digest now.workspace sound
 
 at_tail_sound : (digest : List ℕ → List ℕ) (now : Running) (tail : Tail)
-    → IsSound digest now.workspace → IsSoundStanding digest (at_tail now tail).standing
+    → IsSound digest now.workspace → IsSoundStreamStatus digest (at_tail now tail).standing
 unfolding at_tail
 at_tail_sound digest now tail sound = by now.is_done
   where
-    by : (b : Bool) → IsSoundStanding digest (cond b
+    by : (b : Bool) → IsSoundStreamStatus digest (cond b
         (record { replies = []; standing = Runs now (Rest false []) })
         (tail_outcome now tail)).standing
     by true = sound
@@ -58,7 +58,7 @@ module _ (digest : List ℕ → List ℕ) (names : AnswersNames digest) where
   -- a sound stream stands soundly after any items
   pub carried_sound : (now : Running) (items : List Item) (tail : Tail)
       → IsSound digest now.workspace
-      → IsSoundStanding digest (carried digest now items tail).standing
+      → IsSoundStreamStatus digest (carried digest now items tail).standing
   unfolding carried
   carried_sound now [] tail sound = at_tail_sound digest now tail sound
   carried_sound now (item ∷ items) tail sound =
@@ -66,8 +66,8 @@ module _ (digest : List ℕ → List ℕ) (names : AnswersNames digest) where
     where
       by : (r : Result Step Fault) → step digest now item ≡ r
           → ((next : Running) → IsSound digest next.workspace
-          → IsSoundStanding digest (carried digest next items tail).standing)
-          → IsSoundStanding digest
+          → IsSoundStreamStatus digest (carried digest next items tail).standing)
+          → IsSoundStreamStatus digest
           (going_on now r (λ next. carried digest next items tail)).standing
       by (Ok s) was later = later s.running (item_keeps digest names now item s sound was)
       by (Err fault) was later = checkpoint_is_sound digest now.workspace sound
@@ -76,7 +76,7 @@ module _ (digest : List ℕ → List ℕ) (names : AnswersNames digest) where
       (next : Running) (new : Tail) → Advances digest now old items replies next new
       → IsSound digest now.workspace → IsSound digest next.workspace
   advances_sound now old items replies next new adv sound =
-      subst (λ (s : Standing). IsSoundStanding digest s)
+      subst (λ (s : StreamStatus). IsSoundStreamStatus digest s)
       (ap (λ (o : Outcome). o.standing) (adv.carries [] (Rest false []))
       ∙ rest_stands digest next)
       (carried_sound now (items ++ []) (Rest false []) sound)
@@ -121,7 +121,7 @@ module _ (digest : List ℕ → List ℕ) (names : AnswersNames digest) where
       checkpoint_is_sound digest now.workspace sound
   running_sound now (Failed fault) sound = checkpoint_is_sound digest now.workspace sound
 
-  pub finished_sound : (standing : Standing) → IsSoundStanding digest standing
+  pub finished_sound : (standing : StreamStatus) → IsSoundStreamStatus digest standing
       → IsSoundRepository digest (finished digest standing).repository
   finished_sound (Refused code repository) sound = sound
   finished_sound (Runs now tail) sound = by now.is_done

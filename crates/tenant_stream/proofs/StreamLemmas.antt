@@ -4,7 +4,7 @@ use Rattle.stream_lex.specs.Items.{Item, Tail, Rest, Failed, Reading, after_item
 use Rattle.stream_lex.specs.Reading.{reading}
 use Rattle.stream_lex.specs.Running.{more_of, extended}
 use Rattle.stream_state.specs.declared.fault.Fault.{Fault}
-use Rattle.import_session.specs.Stream.{Running, Step, Standing, Runs, after_reply, carried, going_on, step, taken, at_tail, tail_outcome}
+use Rattle.import_session.specs.Stream.{Running, Step, StreamStatus, Runs, after_reply, carried, going_on, step, taken, at_tail, tail_outcome}
 use Rattle.tenant_stream.specs.Carrying.{IsDrained, outcome_after}
 
 -- after `done` nothing is carried out
@@ -87,7 +87,7 @@ standing-drained digest next rest drained = by next.is_done refl rest drained
     by false running (Failed fault) none = absurd none
 
 -- the replies of two parts
-pub replies-after : (replies : List ℕ) (standing : Standing)
+pub replies-after : (replies : List ℕ) (standing : StreamStatus)
     → after_reply replies (record { replies = []; standing = standing }) ≡ record
     { replies = replies; standing = standing }
 replies-after replies standing = ap (λ (all : List ℕ). record

@@ -1,15 +1,15 @@
 -- Sound streams: what they leave.
 use Rattle.std.specs.Prelude.{ℕ, List, Result, Ok, Err}
 use Rattle.import_session.specs.Workspace.{Workspace}
-use Rattle.import_session.specs.Stream.{Standing, Runs, Refused, last_checkpoint}
+use Rattle.import_session.specs.Stream.{StreamStatus, Runs, Refused, last_checkpoint}
 use Rattle.import_session.specs.Sound.{IsSound, IsSoundRepository}
 use Rattle.tenant_stream.specs.declared.stop.Stop.{Stop}
 
 -- A running stream is sound if its workspace is. A refused stream is sound if the repository that
 -- it left is.
-abbrev pub IsSoundStanding : (List ℕ → List ℕ) → Standing → Type 0
-IsSoundStanding digest (Runs now tail) = IsSound digest now.workspace
-IsSoundStanding digest (Refused code repository) = IsSoundRepository digest repository
+abbrev pub IsSoundStreamStatus : (List ℕ → List ℕ) → StreamStatus → Type 0
+IsSoundStreamStatus digest (Runs now tail) = IsSound digest now.workspace
+IsSoundStreamStatus digest (Refused code repository) = IsSoundRepository digest repository
 
 -- What a piece leaves of a sound stream: a sound one, or a sound repository at the last checkpoint.
 abbrev pub LeavesSound : (List ℕ → List ℕ) → Result Unit Stop → Workspace → Type 0

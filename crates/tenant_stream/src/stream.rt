@@ -35,10 +35,10 @@ fn carry<N: Naming>(
 ) -> Result<(), Stop>
     requires stands { StandsIn N.digest_of pool.old table.old.entries }
     requires room { HasAmpleRoom pool.old }
-    requires held { FilesStand session.old.own pool.old table.old }
+    requires held { FilesStand session.old.state pool.old table.old }
     requires running { session.old.is_done ≡ false }
     ensures keeps { Keeps N.digest_of pool.old table.old pool.new table.new }
-    ensures held { OnOk result (FilesStand session.new.own pool.new table.new) }
+    ensures held { OnOk result (FilesStand session.new.state pool.new table.new) }
     ensures carries { let now = running_in session.old pool.old table.old refs.old in
         IsSound N.digest_of now.workspace
         → Carries N.digest_of now lexer.old.tail out.old.items result
@@ -84,7 +84,7 @@ fn end<N: Naming>(
 ) -> Result<(), Stop>
     requires stands { StandsIn N.digest_of pool.old table.old.entries }
     requires room { HasAmpleRoom pool.old }
-    requires held { FilesStand session.old.own pool.old table.old }
+    requires held { FilesStand session.old.state pool.old table.old }
     ensures keeps { Keeps N.digest_of pool.old table.old pool.new table.new }
     ensures ended { let now = running_in session.old pool.old table.old refs.old in
         IsSound N.digest_of now.workspace
@@ -158,9 +158,9 @@ impl Stream {
     ) -> Result<(), Stop>
         requires stands { StandsIn N.digest_of pool.old table.old.entries }
         requires room { HasAmpleRoom pool.old }
-        requires held { FilesStand self.old.session.own pool.old table.old }
+        requires held { FilesStand self.old.session.state pool.old table.old }
         ensures keeps { Keeps N.digest_of pool.old table.old pool.new table.new }
-        ensures held { OnOk result (FilesStand self.new.session.own pool.new table.new) }
+        ensures held { OnOk result (FilesStand self.new.session.state pool.new table.new) }
         ensures feeds { let now = stream_in self.old pool.old table.old refs.old in
             IsSound N.digest_of now.workspace
             → Feeds N.digest_of self.old.session.is_done now self.old.tail piece.now out.old.items
@@ -194,7 +194,7 @@ impl Stream {
     ) -> Result<(), Stop>
         requires stands { StandsIn N.digest_of pool.old table.old.entries }
         requires room { HasAmpleRoom pool.old }
-        requires held { FilesStand self.session.own pool.old table.old }
+        requires held { FilesStand self.session.state pool.old table.old }
         ensures keeps { Keeps N.digest_of pool.old table.old pool.new table.new }
         ensures ended { let now = stream_in self pool.old table.old refs.old in
             IsSound N.digest_of now.workspace

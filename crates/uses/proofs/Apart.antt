@@ -6,13 +6,13 @@ use Rattle.import_session.specs.Stream.{Runs, Refused}
 use Rattle.service_steps.specs.declared.step.Step.{Step}
 use Rattle.service_steps.specs.declared.step.Step.TheVariants as step
 use Rattle.tenant_service.specs.Alone.{State, Restart, Closed, Streaming, Dead}
-use Rattle.tenant_service.specs.Headline.{Told, concerns, call_of, stop_told, steps_of, left_alone, IsItsOwn}
-use Rattle.tenant_service.specs.Holding.{Holding, Idle, Busy, LeadsTo}
+use Rattle.tenant_service.specs.Headline.{Told, concerns, call_of, stop_told, steps_of, left_alone, IsIsolated}
+use Rattle.tenant_service.specs.TenantState.{TenantState, Idle, Busy, LeadsTo}
 use Rattle.tenant_service.specs.StepName.{name_of}
 use Rattle.tenant_service.proofs.RunLemmas.{apart-back}
 
 -- a repository and a stream of its own lead to one thing
-pub leads-one : (digest : List ℕ → List ℕ) (state : State) (a b : Holding)
+pub leads-one : (digest : List ℕ → List ℕ) (state : State) (a b : TenantState)
     → LeadsTo digest state a → LeadsTo digest state b → a ≡ b
 leads-one digest (Closed r) (Idle a) (Idle b) h k = ap Idle (sym h ∙ k)
 leads-one digest (Closed r) (Idle a) (Busy b) h k = absurd k
@@ -51,9 +51,9 @@ call-apart other tenant step.Restart named calls apart = absurd (calls refl)
 
 -- so what led to what was held of the other leads to what is held of it then
 pub leads-on : (digest : List ℕ → List ℕ) (other tenant : List ℕ) (s : Step) (told : Told)
-    (before after : Holding) (state : State)
+    (before after : TenantState) (state : State)
     → name_of s ≡ tenant → (call_of s ≡ Restart → ⊥) → bytes_eq other tenant ≡ false
-    → IsItsOwn digest other before ((s, told) ∷ []) after
+    → IsIsolated digest other before ((s, told) ∷ []) after
     → LeadsTo digest state before → LeadsTo digest state after
 unfolding left_alone
 leads-on digest other tenant s told before after state named calls apart own leads =

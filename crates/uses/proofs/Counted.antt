@@ -7,25 +7,25 @@ use Rattle.revisions.specs.Logs.{range_log}
 use Rattle.import_session.specs.Sound.{IsSoundRepository}
 use Rattle.import_session.specs.Stream.{Runs, Refused}
 use Rattle.import_session.proofs.SoundLemmas.{checkpoint_is_sound}
-use Rattle.tenant_service.specs.Holding.{Holding, Idle, Busy}
+use Rattle.tenant_service.specs.TenantState.{TenantState, Idle, Busy}
 use Rattle.tenant_service.specs.HeldObjects.{last_held}
-use Rattle.tenant_service.specs.Soundness.{IsSoundHolding}
+use Rattle.tenant_service.specs.Soundness.{IsSoundTenantState}
 use Rattle.tenant_service.specs.Tenants.{Shows}
 use Rattle.tenant_tables.specs.Objects.{objects}
 use Rattle.tenant_tables.specs.View.{View}
 use Rattle.tenant_tables.proofs.TableLemmas.{objects-take}
 
 -- a repository at its last checkpoint is sound
-last-sound : (digest : List ℕ → List ℕ) (held : Holding)
-    → IsSoundHolding digest held → IsSoundRepository digest (last_held held)
+last-sound : (digest : List ℕ → List ℕ) (held : TenantState)
+    → IsSoundTenantState digest held → IsSoundRepository digest (last_held held)
 last-sound digest (Idle repository) sound = sound
 last-sound digest (Busy (Runs now tail)) sound = checkpoint_is_sound digest now.workspace sound
 last-sound digest (Busy (Refused code repository)) sound = sound
 
 -- what is said of the committed objects of the table is said of those of the last checkpoint
-pub logged : (digest : List ℕ → List ℕ) (held : Holding) (pool : Cells) (table : View) (refs : RefStore)
+pub logged : (digest : List ℕ → List ℕ) (held : TenantState) (pool : Cells) (table : View) (refs : RefStore)
     (text : List ℕ) (ids : List (List ℕ))
-    → Shows held pool table refs → IsSoundHolding digest held
+    → Shows held pool table refs → IsSoundTenantState digest held
     → (AreObjects digest (objects pool (take table.committed table.entries))
     → range_log (objects pool (take table.committed table.entries)) refs text ≡ Ok ids)
     → range_log (last_held held).objects (last_held held).refs text ≡ Ok ids

@@ -2,7 +2,7 @@
 
 ghost use Rattle.std.specs.Prelude.{◌≡◌, ℕ, List, false};
 ghost use Rattle.std.specs.Str.{bytes_eq};
-ghost use Rattle.tenant_service.specs.Holding.{held_of};
+ghost use Rattle.tenant_service.specs.TenantState.{held_of};
 
 use gitpool::{Answer, Naming, Service, Step};
 

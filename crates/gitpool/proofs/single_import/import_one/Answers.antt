@@ -1,5 +1,5 @@
 use Rattle.std.proofs.Common.{refl}
-use Rattle.tenant_service.specs.Holding.{empty_repository}
+use Rattle.tenant_service.specs.TenantState.{empty_repository}
 use Rattle.gitpool.proofs.ExportLemmas.{takes-export}
 use Rattle.gitpool.proofs.ImportLemmas.{imports-effect, new-can-open}
 use Rattle.gitpool.proofs.single_import.import_one.Goals as goal

@@ -4,7 +4,7 @@ use Rattle.tenant_tables.proofs.RoomLemmas.{has_room}
 use Rattle.stream_state.specs.declared.fault.Fault.{Fault}
 use Rattle.import_session.specs.Workspace.{Effect}
 use Rattle.import_session.specs.Meaning.{after_act}
-use Rattle.import_session.specs.Session.{own_shown, workspace_in, CarriesOut}
+use Rattle.import_session.specs.Session.{state_shown, workspace_in, CarriesOut}
 use Rattle.import_session.proofs.ActLemmas.{saves}
 use Rattle.import_session.proofs.Defaults.{after_act_next}
 use Rattle.import_session.proofs.LastLemmas.{in_any_case, unchanged_committed}
@@ -49,10 +49,10 @@ returns-in-ShowBranchEntry-clause-committed g c =
 pub returns-in-Checkpoint-clause-done : goal.returns-in-Checkpoint-clause-done
 returns-in-Checkpoint-clause-done g c sound =
     subst (λ (r : Result Effect Fault). CarriesOut r
-    (workspace_in (own_shown c.save.new.own) c.args.pool.now c.save.new.table c.save.new.refs)
+    (workspace_in (state_shown c.save.new.state) c.args.pool.now c.save.new.table c.save.new.refs)
     c.args.out.now.items c.save.new.out.items c.save.result)
     (sym (saves g.N.Naming.digest_of c.args.act.now
-    (workspace_in (own_shown c.args.own.now) c.args.pool.now c.args.table.now c.args.refs.now)
+    (workspace_in (state_shown c.args.state.now) c.args.pool.now c.args.table.now c.args.refs.now)
     c.in-Checkpoint.is))
     (c.save.ensures.saved sound.objects)
 
@@ -68,7 +68,7 @@ returns-in_default-clause-committed g c =
 
 pub returns-in_default-clause-done : goal.returns-in_default-clause-done
 returns-in_default-clause-done g c sound =
-    rw (after_act_next g.N.Naming.digest_of c.args.act.now (workspace_in (own_shown c.args.own.now) c.args.pool.now c.args.table.now c.args.refs.now)
+    rw (after_act_next g.N.Naming.digest_of c.args.act.now (workspace_in (state_shown c.args.state.now) c.args.pool.now c.args.table.now c.args.refs.now)
     c.in_default.not-StoreTag c.in_default.not-PutContents c.in_default.not-ShowBranchEntry
     c.in_default.not-Checkpoint c.in_default.not-Finish)
     (c.show_or_store.ensures.done sound)

@@ -10,16 +10,16 @@ use Rattle.import_session.proofs.acts.store_marked.Goals as goal
 
 pub returns-clause-done : goal.returns-clause-done
 unfolding stored_or_shown
-returns-clause-done g c own refs out holds =
+returns-clause-done g c state refs out holds =
     blob_carried g.N.Naming.digest_of (content_from kind.Blob c.args.contents.now) c.args.mark
-    c.in_ok-id.id own c.args.marks.now.entries c.set.new.marks.entries c.args.pool.now
+    c.in_ok-id.id state c.args.marks.now.entries c.set.new.marks.entries c.args.pool.now
     c.args.table.now c.store.new.pool c.store.new.table refs out c.in_ok-make_room.ensures.room
     c.in_ok-id.ensures.stores
     (c.set.ensures ∙ ap (λ (marks : Marks). with_mark marks c.args.mark c.in_ok-id.id)
     c.make_room.ensures.same) holds
 
 pub returns-clause-held : goal.returns-clause-held
-returns-clause-held g c own holds =
+returns-clause-held g c state holds =
     files_grown g.N.Naming.digest_of (content_from kind.Blob c.args.contents.now)
     (objects c.args.pool.now c.args.table.now.entries)
-    (objects c.store.new.pool c.store.new.table.entries) c.in_ok-id.ensures.stores.objects own holds
+    (objects c.store.new.pool c.store.new.table.entries) c.in_ok-id.ensures.stores.objects state holds

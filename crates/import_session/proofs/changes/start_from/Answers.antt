@@ -5,7 +5,7 @@ use Rattle.open_commits.specs.Parents.{started_from}
 use Rattle.tenant_tables.specs.Objects.{objects}
 use Rattle.import_session.specs.Changes.{changed_by}
 use Rattle.import_session.specs.CommitIshes.{start_in}
-use Rattle.import_session.specs.Session.{own_shown, workspace_in}
+use Rattle.import_session.specs.Session.{state_shown, workspace_in}
 use Rattle.import_session.proofs.CommitLemmas.{changed_then, held_left, named_refused}
 use Rattle.import_session.proofs.SoundCommits.{IsCommitOf, start_good}
 use Rattle.import_session.proofs.changes.start_from.Goals as goal
@@ -13,7 +13,7 @@ use Rattle.import_session.proofs.changes.start_from.Goals as goal
 pub returns-in_err-id-clause-done : goal.returns-in_err-id-clause-done
 unfolding changed_by
 returns-in_err-id-clause-done g c good =
-    let workspace = workspace_in (own_shown c.args.own.now) c.args.pool.now c.args.table.now c.args.refs.now in
+    let workspace = workspace_in (state_shown c.args.state.now) c.args.pool.now c.args.table.now c.args.refs.now in
     let failed = err_from_is_err_and c.from_residual.result c.from_residual.ensures.1 in
     rw failed.1 (named_refused (start_in workspace c.args.commit.now.header.ref_name (said_shown c.args.from.now)) _
     c.in_err-id.field-0.0 failed.0 failed.2 (c.in_err-id.ensures good))
@@ -21,7 +21,7 @@ returns-in_err-id-clause-done g c good =
 pub returns-clause-done : goal.returns-clause-done
 unfolding changed_by
 returns-clause-done g c good =
-    let workspace = workspace_in (own_shown c.args.own.now) c.args.pool.now c.args.table.now c.args.refs.now in
+    let workspace = workspace_in (state_shown c.args.state.now) c.args.pool.now c.args.table.now c.args.refs.now in
     let start = start_in workspace c.args.commit.now.header.ref_name (said_shown c.args.from.now) in
     let kind = IfOk-at_ok (IsCommitOf workspace.objects) {r = start} (c.in_ok-id.ensures good)
     (start_good g.N.Naming.digest_of workspace good c.args.commit.now.header.ref_name (said_shown c.args.from.now)) in

@@ -1,7 +1,7 @@
 use Rattle.std.proofs.Common.{◌++◌, List, ℕ, sym, ap, ◌∙◌}
 use Rattle.git_model.specs.RefStore.{RefStore}
 use Rattle.import_session.specs.Checkpoints.{saved_by, kept_by}
-use Rattle.import_session.specs.Session.{own_shown, workspace_in}
+use Rattle.import_session.specs.Session.{state_shown, workspace_in}
 use Rattle.import_session.specs.Workspace.{Workspace}
 use Rattle.import_session.proofs.CheckpointLemmas.{saved_next, kept_next}
 use Rattle.import_session.proofs.checkpoint.add_branches.Goals as goal
@@ -9,7 +9,7 @@ use Rattle.import_session.proofs.checkpoint.add_branches.Goals as goal
 pub loop-place-preserved : goal.loop-place-preserved
 loop-place-preserved g c good =
     let workspace : Workspace =
-    workspace_in (own_shown c.args.own.now) c.args.pool.now c.args.table.now c.args.refs.now in
+    workspace_in (state_shown c.args.state.now) c.args.pool.now c.args.table.now c.args.refs.now in
     let step = c.in_ok-add_branch.ensures.saved good in
     let before = c.loop-place.invariant good in (
       step.0

@@ -3,15 +3,15 @@ use Rattle.git_model.specs.GoodRepository.{AreObjects}
 use Rattle.tenant_refs.specs.Changes.{with_changes}
 use Rattle.tenant_tables.specs.Objects.{objects}
 use Rattle.import_session.specs.Checkpoints.{by_branches, kept_lines}
-use Rattle.import_session.specs.Session.{own_shown, workspace_in}
+use Rattle.import_session.specs.Session.{state_shown, workspace_in}
 use Rattle.import_session.proofs.checkpoint.add_branches.Given as goal
 
 -- those before the place were added
 abbrev pub invariant-loop-place : goal.invariant-loop-place
 invariant-loop-place g l =
-    let workspace = workspace_in (own_shown l.own) l.pool l.table l.refs in
+    let workspace = workspace_in (state_shown l.state) l.pool l.table l.refs in
     AreObjects g.N.Naming.digest_of (objects l.pool l.table.entries)
     → (with_changes l.refs l.saving.changes.items ≡ by_branches workspace
-    (with_changes l.refs l.fn.saving.changes.items) (take l.place l.own.branches))
+    (with_changes l.refs l.fn.saving.changes.items) (take l.place l.state.branches))
     × (l.saving.kept.items
-    ≡ l.fn.saving.kept.items ++ kept_lines workspace (take l.place l.own.branches))
+    ≡ l.fn.saving.kept.items ++ kept_lines workspace (take l.place l.state.branches))

@@ -1,6 +1,6 @@
 use Rattle.std.proofs.Common.{List, ℕ, Option, ap, ◌∙◌, ◌++◌}
 use Rattle.stream_state.specs.Checkpoints.{by_head}
-use Rattle.import_session.specs.Session.{own_shown}
+use Rattle.import_session.specs.Session.{state_shown}
 use Rattle.import_session.proofs.CheckpointLemmas.{well_saved}
 use Rattle.import_session.proofs.checkpoint.save.Goals as goal
 
@@ -8,7 +8,7 @@ pub returns-clause-saved : goal.returns-clause-saved
 returns-clause-saved g c good =
     let saving = c.in_ok-saving.ensures.saved good in
     let done = c.in_ok-carry_out.ensures.done in
-    well_saved (own_shown c.args.own.now) c.take.new.self c.clear.new.self.items c.args.pool.now
+    well_saved (state_shown c.args.state.now) c.take.new.self c.clear.new.self.items c.args.pool.now
     c.args.table.now c.commit.new.self c.args.refs.now c.carry_out.new.refs c.save_head.new.refs
     c.args.out.now.items c.carry_out.new.out.items
     (done.0 ∙ saving.0) done.1

@@ -5,15 +5,15 @@ use Rattle.stream_state.specs.Faults.{and_then}
 use Rattle.import_session.specs.Workspace.{quiet}
 use Rattle.stream_state.specs.Marks.{room_for, with_mark}
 use Rattle.import_session.specs.CommitIshes.{commit_in}
-use Rattle.import_session.specs.Session.{own_shown, workspace_in}
+use Rattle.import_session.specs.Session.{state_shown, workspace_in}
 use Rattle.import_session.proofs.ActLemmas.{first_refused, first_then}
 use Rattle.import_session.proofs.resets.alias.Goals as goal
 
 pub returns-in_err-make_room-clause-done : goal.returns-in_err-make_room-clause-done
 returns-in_err-make_room-clause-done g c out good =
-    let w = workspace_in (own_shown c.args.own.now) c.args.pool.now c.args.table.now
+    let w = workspace_in (state_shown c.args.state.now) c.args.pool.now c.args.table.now
     c.args.refs.now in
-    let left = workspace_in (own_shown (record c.args.own.now { marks = c.make_room.new.marks }))
+    let left = workspace_in (state_shown (record c.args.state.now { marks = c.make_room.new.marks }))
     c.args.pool.now c.args.table.now c.args.refs.now in
     let p = err_from_is_err_and c.from_residual-in_err-make_room.result
     c.from_residual-in_err-make_room.ensures.1 in

@@ -5,13 +5,13 @@ use Rattle.stream_state.specs.declared.branches.Tip.{Tip}
 use Rattle.import_session.specs.Workspace.{quiet}
 use Rattle.stream_state.specs.Branches.{with_branch}
 use Rattle.import_session.specs.Resets.{tip_from}
-use Rattle.import_session.specs.Session.{own_shown, workspace_in}
+use Rattle.import_session.specs.Session.{state_shown, workspace_in}
 use Rattle.import_session.proofs.ActLemmas.{first_refused}
 use Rattle.import_session.proofs.resets.reset_to.Goals as goal
 
 pub returns-in_err-tip-clause-done : goal.returns-in_err-tip-clause-done
 returns-in_err-tip-clause-done g c out good =
-    let w = workspace_in (own_shown c.args.own.now) c.args.pool.now c.args.table.now
+    let w = workspace_in (state_shown c.args.state.now) c.args.pool.now c.args.table.now
     c.args.refs.now in
     let ref = c.in-Some.said.ref_name in
     let p = err_from_is_err_and c.from_residual.result c.from_residual.ensures.1 in

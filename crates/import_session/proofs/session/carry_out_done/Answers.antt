@@ -3,7 +3,7 @@ use Rattle.std.proofs.lemmas.Result.{err_from_is_err_and}
 use Rattle.stream_grammar.specs.Shown.{act_shown}
 use Rattle.import_session.specs.Commits.{closed_where}
 use Rattle.import_session.specs.Meaning.{after_act}
-use Rattle.import_session.specs.Session.{own_shown, workspace_in}
+use Rattle.import_session.specs.Session.{state_shown, workspace_in}
 use Rattle.import_session.proofs.ActLemmas.{first_refused, first_then}
 use Rattle.import_session.proofs.LastLemmas.{in_any_case, last_kept}
 use Rattle.import_session.proofs.LentLemmas.{Keeps-then}
@@ -13,9 +13,9 @@ use Rattle.import_session.proofs.session.carry_out_done.Goals as goal
 pub returns-in_err-close_where-clause-carried : goal.returns-in_err-close_where-clause-carried
 returns-in_err-close_where-clause-carried g c sound =
     let digest = g.N.Naming.digest_of in
-    let now = workspace_in (own_shown c.args.own.now) c.args.pool.now c.args.table.now
+    let now = workspace_in (state_shown c.args.state.now) c.args.pool.now c.args.table.now
     c.args.refs.now in
-    let left = workspace_in (own_shown c.close_where.new.own) c.close_where.new.pool
+    let left = workspace_in (state_shown c.close_where.new.state) c.close_where.new.pool
     c.close_where.new.table c.args.refs.now in
     let p = err_from_is_err_and c.from_residual.result c.from_residual.ensures.1 in
     rw (p.1, p.2)
@@ -36,9 +36,9 @@ pub returns-clause-carried : goal.returns-clause-carried
 returns-clause-carried g c sound =
     let digest = g.N.Naming.digest_of in
     let ends = c.args.done.now.ends_commit in
-    let now = workspace_in (own_shown c.args.own.now) c.args.pool.now c.args.table.now
+    let now = workspace_in (state_shown c.args.state.now) c.args.pool.now c.args.table.now
     c.args.refs.now in
-    let left = workspace_in (own_shown c.close_where.new.own) c.close_where.new.pool
+    let left = workspace_in (state_shown c.close_where.new.state) c.close_where.new.pool
     c.close_where.new.table c.args.refs.now in
     let ended : closed_where digest ends now ≡ Ok left =
     c.in_ok-close_where.ensures.done c.args.refs.now in

@@ -2,7 +2,7 @@ use Rattle.std.proofs.Common.{◌≡◌, refl, Ok}
 use Rattle.std.proofs.lemmas.Result.{err_from_is_err_and, on_err_weaker}
 use Rattle.import_session.specs.Checkpoints.{checkpoint}
 use Rattle.import_session.specs.Commits.{closed_where}
-use Rattle.import_session.specs.Session.{own_shown, workspace_in}
+use Rattle.import_session.specs.Session.{state_shown, workspace_in}
 use Rattle.import_session.proofs.ActLemmas.{first_refused, first_then}
 use Rattle.import_session.proofs.LastLemmas.{in_any_case, last_kept, same_entries, unchanged_committed}
 use Rattle.import_session.proofs.SoundLemmas.{ended_sound}
@@ -11,9 +11,9 @@ use Rattle.import_session.proofs.session.save_at_end.Goals as goal
 pub returns-in_err-close_where-clause-saved : goal.returns-in_err-close_where-clause-saved
 returns-in_err-close_where-clause-saved g c sound =
     let digest = g.N.Naming.digest_of in
-    let now = workspace_in (own_shown c.args.own.now) c.args.pool.now c.args.table.now
+    let now = workspace_in (state_shown c.args.state.now) c.args.pool.now c.args.table.now
     c.args.refs.now in
-    let left = workspace_in (own_shown c.close_where.new.own) c.close_where.new.pool
+    let left = workspace_in (state_shown c.close_where.new.state) c.close_where.new.pool
     c.close_where.new.table c.args.refs.now in
     let p = err_from_is_err_and c.from_residual.result c.from_residual.ensures.1 in
     rw (p.1, p.2)
@@ -32,9 +32,9 @@ returns-clause-keeps g c =
 pub returns-clause-saved : goal.returns-clause-saved
 returns-clause-saved g c sound =
     let digest = g.N.Naming.digest_of in
-    let now = workspace_in (own_shown c.args.own.now) c.args.pool.now c.args.table.now
+    let now = workspace_in (state_shown c.args.state.now) c.args.pool.now c.args.table.now
     c.args.refs.now in
-    let left = workspace_in (own_shown c.close_where.new.own) c.close_where.new.pool
+    let left = workspace_in (state_shown c.close_where.new.state) c.close_where.new.pool
     c.close_where.new.table c.args.refs.now in
     let ended : closed_where digest c.args.ends now ≡ Ok left =
     c.in_ok-close_where.ensures.done c.args.refs.now in

@@ -7,7 +7,7 @@ use Rattle.tenant_tables.specs.declared.sight.Sight.TheVariants.{Committed}
 use Rattle.tenant_tables.specs.Objects.{objects}
 use Rattle.revisions.specs.FirstParents.{IsFirstParentChain}
 use Rattle.tenant_service.specs.declared.tenant.Tenant.{Tenant}
-use Rattle.tenant_service.specs.Soundness.{IsSoundHolding}
+use Rattle.tenant_service.specs.Soundness.{IsSoundTenantState}
 use Rattle.tenant_service.specs.Tenants.{Stands, IsSettled, holding_in}
 use Rattle.tenant_service.proofs.SoundLemmas.{last-sound}
 use Rattle.tenant_service.proofs.TenantLemmas.{saved_is, took-told, took-refused_query}
@@ -15,14 +15,14 @@ use Rattle.tenant_service.proofs.tenant.ask.Goals as goal
 
 -- the objects of the last checkpoint are good
 good-saved : (digest : List ℕ → List ℕ) (pool : Cells) (t : Tenant) → IsSettled t.phase t.table
-    → IsSoundHolding digest (holding_in pool t) → AreObjects digest (objects pool (take t.table.committed t.table.entries))
+    → IsSoundTenantState digest (holding_in pool t) → AreObjects digest (objects pool (take t.table.committed t.table.entries))
 good-saved digest pool t settled sound =
     subst (λ (os : List Object). AreObjects digest os)
     (sym (ap (λ (r : Repository). r.objects) (saved_is t.phase pool t.table t.refs settled))) (last-sound digest (holding_in pool t) sound).objects
 
 -- an answer changes the chain alone
 stands-with : (digest : List ℕ → List ℕ) (pool : Cells) (t : Tenant) (chain : List (List ℕ)) → Stands digest pool t
-    → IsSoundHolding digest (holding_in pool t)
+    → IsSoundTenantState digest (holding_in pool t)
     → (AreObjects digest (objects pool (in_sight Committed t.table)) → IsFirstParentChain (objects pool (in_sight Committed t.table)) t.chain
     → IsFirstParentChain (objects pool (in_sight Committed t.table)) chain)
     → Stands digest pool (record { table = t.table; refs = t.refs; phase = t.phase; chain = chain })

@@ -1,7 +1,7 @@
 use Rattle.std.proofs.Common.{sym, subst}
 use Rattle.tenant_service.specs.Alone.{Ask}
 use Rattle.tenant_service.specs.Headline.{stop_told}
-use Rattle.tenant_service.specs.Holding.{Holding}
+use Rattle.tenant_service.specs.TenantState.{TenantState}
 use Rattle.tenant_service.specs.HeldSteps.{step_held}
 use Rattle.tenant_service.specs.OneStep.{Takes}
 use Rattle.tenant_service.specs.Tenants.{holding_in}
@@ -21,7 +21,7 @@ returns-in-Some g c =
     (serves-found g.N.Naming.digest_of c.args.name.now (Ask c.args.query.now) c.args.pool.now c.args.pool.now c.args.tenants.now.entries
     c.in-Some.tenant.now c.ask.new.tenant c.ask.result c.args.out.now.items c.ask.new.out.items c.requires.accounts (sym c.in-Some.ensures.value)
     c.ask.ensures.stands (leaves-same c.args.pool.now c.in-Some.tenant.now.table c.ask.new.tenant.table c.ask.ensures.table)
-    (subst (λ (held : Holding). Takes (step_held g.N.Naming.digest_of (Ask c.args.query.now) (stop_told c.ask.result)
+    (subst (λ (held : TenantState). Takes (step_held g.N.Naming.digest_of (Ask c.args.query.now) (stop_told c.ask.result)
     (holding_in c.args.pool.now c.in-Some.tenant.now)) c.ask.result c.args.out.now.items c.ask.new.out.items held) (sym c.ask.ensures.held)
     c.ask.ensures.own))
 

@@ -1,7 +1,7 @@
 use Rattle.std.proofs.Common.{refl, sym, ap, []}
 use Rattle.service_steps.specs.declared.answer.Answer.{Answer}
 use Rattle.tenant_service.specs.Alone.{End, turn}
-use Rattle.tenant_service.specs.Holding.{Idle, empty_repository}
+use Rattle.tenant_service.specs.TenantState.{Idle, empty_repository}
 use Rattle.tenant_service.proofs.AccountLemmas.{stands-found, serves-found, serves-missing}
 use Rattle.tenant_service.proofs.SoundLemmas.{sound-found}
 use Rattle.tenant_service.proofs.tenants.end_one.Goals as goal

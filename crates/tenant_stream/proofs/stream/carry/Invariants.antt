@@ -12,7 +12,7 @@ use Rattle.tenant_stream.proofs.stream.carry.Given as goal
 abbrev pub invariant-items : goal.invariant-items
 invariant-items g l = record {
   keeps : Keeps g.N.Naming.digest_of l.fn.pool l.fn.table l.pool l.table;
-  held : FilesStand l.session.own l.pool l.table;
+  held : FilesStand l.session.state l.pool l.table;
   items : List Item;
   reads : ReadsOn l.fn.lexer.tail items l.lexer.tail;
   counted : length items ≡ l.count;

@@ -38,6 +38,6 @@ returns-clause-ended g c sound =
     ends_well g.N.Naming.digest_of
     (running_in c.args.session.now c.args.pool.now c.args.table.now c.args.refs.now)
     c.args.lexer.now.tail
-    (workspace_in c.finish.new.self.own c.finish.new.pool c.finish.new.table c.finish.new.refs)
+    (workspace_in c.finish.new.self.state c.finish.new.pool c.finish.new.table c.finish.new.refs)
     c.args.out.now.items c.finish.new.out.items (sym c.is_done.ensures ∙ c.if-is_done.false)
     (sym c.in_default.is ∙ c.end.ensures) (c.in_default-finish.ensures.ended sound)

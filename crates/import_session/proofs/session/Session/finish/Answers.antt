@@ -7,14 +7,14 @@ use Rattle.import_session.proofs.session.Session.finish.Goals as goal
 
 pub save_at_end-requires-clause-held : goal.save_at_end-requires-clause-held
 save_at_end-requires-clause-held g c =
-    subst (λ (k : Kept). FilesStand k.own c.args.pool.now c.args.table.now) (sym c.self.view_is)
+    subst (λ (k : Kept). FilesStand k.state c.args.pool.now c.args.table.now) (sym c.self.view_is)
     c.requires.held
 
 pub returns-clause-ended : goal.returns-clause-ended
 unfolding session_end
 returns-clause-ended g c sound =
     let here = subst (λ (k : Kept). IsSound g.N.Naming.digest_of
-    (workspace_in k.own c.args.pool.now c.args.table.now c.args.refs.now)) (sym c.self.view_is)
+    (workspace_in k.state c.args.pool.now c.args.table.now c.args.refs.now)) (sym c.self.view_is)
     sound in
     let saved = c.save_at_end.ensures.saved here in
     search rules

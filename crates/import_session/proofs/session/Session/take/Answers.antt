@@ -5,13 +5,13 @@ use Rattle.stream_state.specs.declared.fault.Fault.{Fault}
 use Rattle.import_session.specs.Stream.{Step, step, taken}
 use Rattle.import_session.specs.Sound.{IsSound}
 use Rattle.import_session.specs.Held.{FilesStand}
-use Rattle.import_session.specs.Session.{Kept, Takes, own_shown, running_in, workspace_in}
+use Rattle.import_session.specs.Session.{Kept, Takes, state_shown, running_in, workspace_in}
 use Rattle.import_session.proofs.ActLemmas.{done_step, step_over, step_running, no_act, item_answered, no_memory}
 use Rattle.import_session.proofs.session.Session.take.Goals as goal
 
 pub carry_out_done-carried-requires-clause-held : goal.carry_out_done-carried-requires-clause-held
 carry_out_done-carried-requires-clause-held g c =
-    subst (λ (k : Kept). FilesStand k.own c.args.pool.now c.args.table.now) (sym c.self.view_is)
+    subst (λ (k : Kept). FilesStand k.state c.args.pool.now c.args.table.now) (sym c.self.view_is)
     c.requires.held
 
 pub returns-then-is_done-clause-taken : goal.returns-then-is_done-clause-taken
@@ -26,7 +26,7 @@ returns-in-Err-clause-taken g c sound =
     let item = item_of c.args.item in
     let kept : Kept = record {
       parsing = c.self.inside.parser;
-      own = own_shown c.self.inside.own;
+      state = state_shown c.self.inside.state;
       is_done = c.self.inside.is_done;
     } in
     let now = running_in kept c.args.pool.now c.args.table.now c.args.refs.now in
@@ -34,7 +34,7 @@ returns-in-Err-clause-taken g c sound =
     ap (λ (k : Kept). k.is_done) c.self.view_is ∙ sym c.is_done.ensures ∙ c.if-is_done.false in
     let next_kept : Kept = record {
       parsing = c.take.new.self;
-      own = own_shown c.self.inside.own;
+      state = state_shown c.self.inside.state;
       is_done = c.self.inside.is_done;
     } in
     let next = running_in next_kept c.args.pool.now c.args.table.now c.args.refs.now in
@@ -57,24 +57,24 @@ returns-clause-taken g c sound =
     let item = item_of c.args.item in
     let kept : Kept = record {
       parsing = c.self.inside.parser;
-      own = own_shown c.self.inside.own;
+      state = state_shown c.self.inside.state;
       is_done = c.self.inside.is_done;
     } in
     let now = running_in kept c.args.pool.now c.args.table.now c.args.refs.now in
     let here = subst (λ (k : Kept). IsSound digest
-    (workspace_in k.own c.args.pool.now c.args.table.now c.args.refs.now)) (sym c.self.view_is)
+    (workspace_in k.state c.args.pool.now c.args.table.now c.args.refs.now)) (sym c.self.view_is)
     sound in
     let running : c.self.inside.is_done ≡ false =
     ap (λ (k : Kept). k.is_done) c.self.view_is ∙ sym c.is_done.ensures ∙ c.if-is_done.false in
     let left = c.carry_out_done-carried.new in
     let next_kept : Kept = record {
       parsing = c.take.new.self;
-      own = own_shown left.own;
+      state = state_shown left.state;
       is_done = c.is_finished-self-inside.result;
     } in
     let next = running_in next_kept left.pool left.table left.refs in
     let by = done_by c.self.inside.parser item in
-    let new = workspace_in (own_shown left.own) left.pool left.table left.refs in
+    let new = workspace_in (state_shown left.state) left.pool left.table left.refs in
     let parsing = c.take.ensures.leaves (no_memory _ _ c.in-Ok.ensures) in
     let result = c.carry_out_done-carried.result in
     subst

@@ -1,5 +1,5 @@
 use Rattle.std.proofs.Common.{ap, sym, ◌∙◌}
-use Rattle.tenant_service.specs.Holding.{Holdings, held_of}
+use Rattle.tenant_service.specs.TenantState.{TenantStates, held_of}
 use Rattle.tenant_service.specs.HeldObjects.{has_read_done}
 use Rattle.tenant_service.proofs.AccountLemmas.{bad-missing, held-found}
 use Rattle.tenant_service.proofs.StoredLemmas.{unseen-missing}
@@ -22,4 +22,4 @@ returns-in-Some g c =
     c.has_read_done.ensures c.self.inside.pool
     ∙ ap has_read_done (sym (held-found c.self.inside.pool c.args.tenant.now c.self.inside.tenants.entries c.in-Some.tenant.now
     (rw c.in-Ok.ensures.1 at (sym c.in-Some.ensures.value))))
-    ∙ ap (λ (all : Holdings). has_read_done (held_of c.args.tenant.now all)) c.self.view_is
+    ∙ ap (λ (all : TenantStates). has_read_done (held_of c.args.tenant.now all)) c.self.view_is

@@ -1,15 +1,15 @@
 use Rattle.std.proofs.Common.{◌≡◌, ◌<◌, ◌++◌, ◌∷◌, [], ℕ, List, length, drop, ap, ◌∙◌, subst, sym, arith}
 use Rattle.std.proofs.lemmas.List.{length-append}
 use Rattle.service_steps.specs.declared.reply.Reply.{Reply}
-use Rattle.tenant_service.specs.Headline.{IsItsOwn, told_in, told_by_reply, Run}
-use Rattle.tenant_service.specs.Holding.{held_of}
+use Rattle.tenant_service.specs.Headline.{IsIsolated, told_in, told_by_reply, Run}
+use Rattle.tenant_service.specs.TenantState.{held_of}
 use Rattle.tenant_service.proofs.RunLemmas.{own-none, run-none, run-goes_on, bad-none, bad-goes_on, appended-none, appended-more}
 use Rattle.tenant_service.proofs.service.Service.run.Goals as goal
 
 pub loop-step-init : goal.loop-step-init
 loop-step-init g c = record {
   own = λ tenant.
-      subst (λ (run : Run). IsItsOwn g.N.Naming.digest_of tenant (held_of tenant c.args.self.now) run (held_of tenant c.args.self.now))
+      subst (λ (run : Run). IsIsolated g.N.Naming.digest_of tenant (held_of tenant c.args.self.now) run (held_of tenant c.args.self.now))
       (sym (run-none c.args.steps.now c.args.replies.now.items)) (own-none g.N.Naming.digest_of tenant (held_of tenant c.args.self.now));
   appended = appended-none c.args.replies.now.items;
   count = omega arith;

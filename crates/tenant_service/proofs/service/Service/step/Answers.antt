@@ -1,6 +1,6 @@
 use Rattle.std.proofs.Common.{◌∷◌, [], subst}
-use Rattle.tenant_service.specs.Headline.{IsItsOwn, told_in}
-use Rattle.tenant_service.specs.Holding.{Holdings, held_of}
+use Rattle.tenant_service.specs.Headline.{IsIsolated, told_in}
+use Rattle.tenant_service.specs.TenantState.{TenantStates, held_of}
 use Rattle.tenant_service.specs.Tenants.{holdings}
 use Rattle.tenant_service.proofs.RunLemmas.{own-step, stepped, led-on}
 use Rattle.tenant_service.proofs.SoundLemmas.{sound-on}
@@ -8,7 +8,7 @@ use Rattle.tenant_service.proofs.service.Service.step.Goals as goal
 
 pub returns-clause-own : goal.returns-clause-own
 returns-clause-own g c = λ tenant.
-    subst (λ (before : Holdings). IsItsOwn g.N.Naming.digest_of tenant (held_of tenant before)
+    subst (λ (before : TenantStates). IsIsolated g.N.Naming.digest_of tenant (held_of tenant before)
     ((c.args.step, told_in c.take_step.result c.args.out.now.items c.take_step.new.out.items) ∷ [])
     (held_of tenant (holdings c.take_step.new.pool c.take_step.new.tenants.entries)))
     c.self.view_is

@@ -1,7 +1,7 @@
 use Rattle.std.proofs.Common.{ap, sym, ◌∙◌}
 use Rattle.content_pool.specs.LiveContents.{stored_sizes}
 use Rattle.content_pool.proofs.StoredLemmas.{stored_sizes-ListsLive}
-use Rattle.tenant_service.specs.Holding.{Holdings}
+use Rattle.tenant_service.specs.TenantState.{TenantStates}
 use Rattle.tenant_service.specs.HeldObjects.{held_contents}
 use Rattle.tenant_service.specs.Tenants.{holdings}
 use Rattle.tenant_service.proofs.AccountLemmas.{bad-missing, stands-found}
@@ -28,7 +28,7 @@ pub returns-clause-pool : goal.returns-clause-pool
 returns-clause-pool g c =
     stored_sizes-ListsLive c.self.inside.pool (held_contents (holdings c.self.inside.pool c.self.inside.tenants.entries))
     (lists-live g.N.Naming.digest_of c.self.inside.pool c.self.inside.tenants.entries c.self.invariant.accounts)
-    ∙ ap (λ (all : Holdings). stored_sizes (held_contents all)) c.self.view_is
+    ∙ ap (λ (all : TenantStates). stored_sizes (held_contents all)) c.self.view_is
 
 pub returns-clause-stands : goal.returns-clause-stands
 returns-clause-stands g c =

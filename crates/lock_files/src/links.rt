@@ -1,6 +1,6 @@
-//! Pool files that are named by a symbolic link: symlink(7).
+//! Files that are named by a symbolic link: symlink(7).
 
-use crate::run_fault::RunFault;
+use crate::lock_fault::LockFault;
 use std::fs;
 use std::io::ErrorKind;
 use std::path::{Path, PathBuf};
@@ -13,7 +13,7 @@ const LINKS_LIMIT: u8 = 40;
 ///
 /// `Device` (68) if a link cannot be read, or if there are more than 40 in a chain, as in a circle.
 /// `Memory` (90) if memory ran out.
-pub fn followed(rt: &HostRuntime, path: &str) -> Result<String, RunFault> {
+pub(crate) fn followed(rt: &HostRuntime, path: &str) -> Result<String, LockFault> {
     let mut path = Path::new(path).to_path_buf(rt.alloc())?;
     for _ in 0..LINKS_LIMIT {
         if !is_link(rt, path.as_path())? {
@@ -22,21 +22,21 @@ pub fn followed(rt: &HostRuntime, path: &str) -> Result<String, RunFault> {
         path = target(rt, path.as_path())?;
     }
     if is_link(rt, path.as_path())? {
-        return Err(RunFault::Device);
+        return Err(LockFault::Device);
     }
     Ok(path.into_string())
 }
 
-fn is_link(rt: &HostRuntime, path: Path<'_>) -> Result<bool, RunFault> {
+fn is_link(rt: &HostRuntime, path: Path<'_>) -> Result<bool, LockFault> {
     match fs::symlink_metadata(rt, path) {
         Ok(found) => Ok(found.is_symlink()),
         Err(error) if error.kind() == ErrorKind::NotFound => Ok(false),
-        Err(error) => Err(RunFault::from(error)),
+        Err(error) => Err(LockFault::from(error)),
     }
 }
 
 // The target of a link is relative to the folder of the link, unless it begins at the root.
-fn target(rt: &HostRuntime, link: Path<'_>) -> Result<PathBuf, RunFault> {
+fn target(rt: &HostRuntime, link: Path<'_>) -> Result<PathBuf, LockFault> {
     let said = link.read_link(rt)?;
     match link.parent() {
         Some(folder) => Ok(folder.join(rt.alloc(), said.as_path())?),

@@ -5,17 +5,17 @@ use Rattle.std.specs.Map.{lookup}
 use Rattle.std.specs.Str.{bytes_eq}
 use Rattle.git_model.specs.RefStore.{no_refs}
 use Rattle.git_model.specs.Repository.{Repository}
-use Rattle.import_session.specs.Stream.{Standing, Runs, Refused}
+use Rattle.import_session.specs.Stream.{StreamStatus, Runs, Refused}
 use Rattle.tenant_service.specs.Alone.{State, Closed, Streaming, Dead, stream_of}
 
 -- Without a stream the service holds a tenant's repository; with one, how the stream stands.
-pub data Holding : Type 0 where
-  Idle : Repository → Holding
-  Busy : Standing → Holding
+pub data TenantState : Type 0 where
+  Idle : Repository → TenantState
+  Busy : StreamStatus → TenantState
 
 -- A state of its own leads to what is held: to the same repository, or to how the stream of all
 -- bytes since Open stands.
-abbrev pub LeadsTo : (List ℕ → List ℕ) → State → Holding → Type 0
+abbrev pub LeadsTo : (List ℕ → List ℕ) → State → TenantState → Type 0
 LeadsTo digest (Closed repository) (Idle held) = repository ≡ held
 LeadsTo digest (Streaming repository bytes) (Busy (Runs now tail)) =
     (stream_of digest repository bytes).standing ≡ Runs now tail
@@ -27,8 +27,8 @@ abbrev pub empty_repository : Repository
 empty_repository = record { objects = []; refs = no_refs }
 
 -- What is held of each tenant, by its name; of one that was never seen, an empty repository.
-abbrev pub Holdings : Type 0
-Holdings = List (List ℕ × Holding)
+abbrev pub TenantStates : Type 0
+TenantStates = List (List ℕ × TenantState)
 
-abbrev pub held_of : List ℕ → Holdings → Holding
+abbrev pub held_of : List ℕ → TenantStates → TenantState
 held_of tenant all = unwrap_or (lookup (bytes_eq tenant) all) (Idle empty_repository)

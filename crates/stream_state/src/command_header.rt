@@ -2,7 +2,7 @@
 //! "reset".
 
 ghost use Rattle.std.specs.Prelude.{◌≡◌};
-ghost use Rattle.stream_state.specs.Said.{said_of};
+ghost use Rattle.stream_state.specs.CommandHeader.{said_of};
 ghost use Rattle.std.specs.Prelude.{◌≡◌, Some, IfErr, OnOk};
 ghost use Rattle.stream_grammar.specs.Shown.{commit_shown};
 
@@ -17,7 +17,7 @@ use tenant_refs::RefName;
 
 /// What the lines of the open command have said.
 #[derive(Drop)]
-pub struct Said {
+pub struct CommandHeader {
     /// The ref that it names.
     pub ref_name: RefName,
     /// Who wrote a commit; if absent, its committer did.
@@ -32,7 +32,7 @@ pub struct Said {
     pub tagger: Option<Ident>,
 }
 
-impl Said {
+impl CommandHeader {
     /// The ref that it names. The rest is dropped.
     pub fn into_ref(self) -> RefName
         ensures { result ≡ self.ref_name }
@@ -51,10 +51,10 @@ pub struct Inline {
 }
 
 /// A command that has named its ref and nothing else yet.
-pub fn said_of(alloc: Global, ref_name: RefName) -> Said
+pub fn said_of(alloc: Global, ref_name: RefName) -> CommandHeader
     ensures { result ≡ said_of ref_name }
 {
-    Said {
+    CommandHeader {
         ref_name,
         author: None,
         committer: None,

@@ -1,0 +1,146 @@
+-- One query of a tenant: what it is told, and that it changes nothing.
+use Rattle.std.proofs.Common.{◌≡◌, ℕ, zero, suc, Bool, true, false, not, cond, List, [], ◌∷◌, map, Option, None, Some, Result, Ok, Err, refl, sym, ap, subst, ◌∙◌}
+use Rattle.std.specs.Io.KnownBytes.{Appends}
+use Rattle.git_model.specs.Repository.{Repository}
+use Rattle.git_objects.specs.Device.{Device, HasFault, IsWell, AppendsFront}
+use Rattle.import_session.specs.Stream.{Runs, Refused}
+use Rattle.service_steps.specs.declared.answer.Answer.{Answer}
+use Rattle.service_steps.specs.declared.answer.Answer.TheVariants as answer
+use Rattle.service_steps.specs.declared.step.Step.{Step}
+use Rattle.tenant_refs.specs.TenantName.{is_tenant_name}
+use Rattle.tenant_service.specs.Alone.{Call, Ask, State, Closed, Streaming, Dead, added, answered, asked, last_alone, run_alone}
+use Rattle.tenant_service.specs.Headline.{Told, told_in, IsIsolated, IsRefused, has_bad_name, concerns, call_of, stop_told, steps_of, left_alone}
+use Rattle.tenant_service.specs.TenantState.{TenantState, Idle, Busy, TenantStates, LeadsTo, held_of}
+use Rattle.tenant_service.specs.StepName.{name_of}
+use Rattle.gitpool.specs.declared.ask_fault.AskFault.{AskFault}
+use Rattle.gitpool.specs.declared.ask_fault.AskFault.TheVariants as fault
+use Rattle.gitpool.specs.Asking.{as_asked, IsAsked, Asks}
+use Rattle.gitpool.proofs.StepLemmas.{called-alone}
+
+-- ---- what a query leaves
+
+-- a repository and a stream of its own lead to one thing
+leads-one : (digest : List ℕ → List ℕ) (state : State) (a b : TenantState) → LeadsTo digest state a → LeadsTo digest state b → a ≡ b
+leads-one digest (Closed r) (Idle a) (Idle b) h k = ap Idle (sym h ∙ k)
+leads-one digest (Closed r) (Idle a) (Busy b) h k = absurd k
+leads-one digest (Closed r) (Busy a) b h k = absurd h
+leads-one digest (Streaming r bytes) (Idle a) b h k = absurd h
+leads-one digest (Streaming r bytes) (Busy (Runs now tail)) (Idle b) h k = absurd k
+leads-one digest (Streaming r bytes) (Busy (Runs now tail)) (Busy (Runs now' tail')) h k = ap Busy (sym h ∙ k)
+leads-one digest (Streaming r bytes) (Busy (Runs now tail)) (Busy (Refused code left)) h k = absurd k
+leads-one digest (Streaming r bytes) (Busy (Refused code left)) b h k = absurd h
+leads-one digest (Dead code r) (Idle a) b h k = absurd h
+leads-one digest (Dead code r) (Busy a) (Idle b) h k = absurd k
+leads-one digest (Dead code r) (Busy a) (Busy b) h k = ap Busy (h ∙ sym k)
+
+ask-leaves : (digest : List ℕ → List ℕ) (query : List ℕ) (stop : Option ℕ) (state : State) → (run_alone digest (Ask query) stop state).state ≡ state
+ask-leaves digest query stop state = by stop
+  where
+    told : (r : Result (List ℕ) _) → (answered r state).state ≡ state
+    told (Ok text) = refl
+    told (Err refusal) = refl
+
+    by : (o : Option ℕ) → (asked query o (last_alone digest state) state).state ≡ state
+    by None = told _
+    by (Some zero) = refl
+    by (Some (suc n)) = told _
+
+one-left : (digest : List ℕ → List ℕ) (name query : List ℕ) (s : Step) (told : Told) (state : State) → call_of s ≡ Ask query
+    → left_alone digest state (steps_of name ((s, told) ∷ [])) ≡ state
+unfolding left_alone
+one-left digest name query s told state is = by (concerns name s)
+  where
+    by : (b : Bool) → left_alone digest state (map (λ (x : Step × Told). (call_of x.0, stop_told x.1.answer)) (cond b ((s, told) ∷ []) [])) ≡ state
+    by false = refl
+    by true =
+        ap (λ (c : Call). (run_alone digest c (stop_told told.answer) state).state) is
+        ∙ ask-leaves digest query (stop_told told.answer) state
+
+-- ---- what it is told
+
+-- without an answer there is no reply
+no-reply : (query : List ℕ) (stop : Option ℕ) (r : Repository) (state : State) (a : Answer) → (a ≡ answer.Ok → ⊥)
+    → (asked query stop r state).answer ≡ a → (asked query stop r state).reply ≡ []
+no-reply query stop r state a other = by stop
+  where
+    told : (x : Result (List ℕ) _) → (answered x state).answer ≡ a → (answered x state).reply ≡ []
+    told (Ok text) e = absurd (other (sym e))
+    told (Err refusal) e = refl
+
+    by : (o : Option ℕ) → (asked query o r state).answer ≡ a → (asked query o r state).reply ≡ []
+    by None e = told _ e
+    by (Some zero) e = refl
+    by (Some (suc n)) e = told _ e
+
+pub asked-ok : (a : Answer) (u : Unit {0}) → Ok u ≡ as_asked a → a ≡ answer.Ok
+asked-ok answer.Ok u e = refl
+asked-ok (answer.Fault code) u e = cc e
+asked-ok (answer.Memory items) u e = cc e
+
+-- an Ask with no bytes before its reply
+module _ (digest : List ℕ → List ℕ) (tenant query : List ℕ) (s : Step) (a : Answer) (out out' : List ℕ) (before after : TenantStates)
+    (named : name_of s ≡ tenant) (is : call_of s ≡ Ask query) (bad : has_bad_name s ≡ not (is_tenant_name tenant)) (none : out ≡ [])
+    (own : (name : List ℕ) → IsIsolated digest name (held_of name before) ((s, told_in a out out') ∷ []) (held_of name after))
+    (refused : IsRefused (s, told_in a out out')) where
+  -- every tenant has what it had
+  pub ask-keeps : (name : List ℕ) (state : State) → LeadsTo digest state (held_of name before) → held_of name after ≡ held_of name before
+  ask-keeps name state leads =
+      leads-one digest state (held_of name after) (held_of name before)
+      (subst (λ (x : State). LeadsTo digest x (held_of name after)) (one-left digest name query s (told_in a out out') state is)
+      ((own name).left state leads)) leads
+
+  pub ask-bad : is_tenant_name tenant ≡ false → a ≡ answer.Fault 32
+  ask-bad wrong = ap (λ (t : Told). t.answer) (refused (bad ∙ ap not wrong))
+
+  pub ask-not-ok : is_tenant_name tenant ≡ false → a ≡ answer.Ok → ⊥
+  ask-not-ok wrong ok = let no : answer.Ok ≡ answer.Fault 32 = sym ok ∙ ask-bad wrong in cc no
+
+  ask-silent : (state : State) → LeadsTo digest state (held_of tenant before) → (a ≡ answer.Ok → ⊥) → out' ≡ []
+  ask-silent state leads other = by (is_tenant_name tenant) refl
+    where
+      by : (b : Bool) → is_tenant_name tenant ≡ b → out' ≡ []
+      by true good =
+          let t = called-alone digest tenant s (Ask query) a out out' before after state named is none own good leads in
+          ap (λ (x : Told). x.reply) t.says
+          ∙ no-reply query (stop_told a) (last_alone digest state) state a other (sym (ap (λ (x : Told). x.answer) t.says))
+      by false wrong =
+          ap (λ (l : List ℕ). added l out') (sym none)
+          ∙ ap (λ (t : Told). t.reply) (refused (bad ∙ ap not wrong))
+
+  is-asked : (a' : Answer) (reply : List ℕ) → a ≡ a' → out' ≡ reply → IsAsked digest tenant query before after a' reply
+  is-asked a' reply answers replies = record {
+    step = s;
+    is = (named, is);
+    own = λ name.
+        subst (λ (t : Told). IsIsolated digest name (held_of name before) ((s, t) ∷ []) (held_of name after))
+        (ap (λ (l : List ℕ). told_in a l out') none ∙ ap (λ (x : Answer). told_in x [] out') answers ∙ ap (λ (l : List ℕ). told_in a' [] l) replies)
+        (own name);
+  }
+
+  -- it was refused, or memory ran out
+  pub asks-refused : (state : State) (writer : Device) (e : AskFault) → LeadsTo digest state (held_of tenant before) → Err e ≡ as_asked a
+      → Asks digest tenant query before after writer writer (Err e)
+  asks-refused state writer e leads told = by a refl told
+    where
+      so : (x y : AskFault) → x ≡ y → Asks digest tenant query before after writer writer (Err y) → Asks digest tenant query before after writer writer (Err x)
+      so x y same asks = subst (λ (z : AskFault). Asks digest tenant query before after writer writer (Err z)) (sym same) asks
+
+      by : (a' : Answer) → a ≡ a' → Err e ≡ as_asked a' → Asks digest tenant query before after writer writer (Err e)
+      by answer.Ok answers told = cc told
+      by (answer.Fault code) answers told =
+          let same : e ≡ fault.Step code = cc told in
+          so e (fault.Step code) same
+          (is-asked (answer.Fault code) [] answers (ask-silent state leads (λ ok. let no : answer.Fault code ≡ answer.Ok = sym answers ∙ ok in cc no)), refl)
+      by (answer.Memory items) answers told =
+          let same : e ≡ fault.Memory = cc told in
+          so e fault.Memory same
+          (items, is-asked (answer.Memory items) [] answers (ask-silent state leads (λ ok. let no : answer.Memory items ≡ answer.Ok = sym answers ∙ ok in cc no)), refl)
+
+  -- a write failed
+  pub asks-unwritten : (writer writer' : Device) → a ≡ answer.Ok → AppendsFront writer.known writer'.known out' → HasFault writer.faults writer'.faults
+      → Asks digest tenant query before after writer writer' (Err fault.Device)
+  asks-unwritten writer writer' ok front failed = (out', is-asked answer.Ok out' ok refl, front, failed)
+
+  pub asks-well : (writer writer' : Device) (u : Unit {0}) → a ≡ answer.Ok → Appends writer.known writer'.known out' → IsWell writer writer'
+      → Asks digest tenant query before after writer writer' (Ok u)
+  asks-well writer writer' u ok written well = (out', is-asked answer.Ok out' ok refl, written, well)
