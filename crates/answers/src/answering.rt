@@ -3,7 +3,7 @@
 ghost use Rattle.std.specs.Prelude.{◌≡◌, Ok, length, take, OnErr};
 ghost use Rattle.git_model.specs.GoodRepository.{AreObjects};
 ghost use Rattle.tenant_tables.specs.Objects.{objects};
-ghost use Rattle.tenant_tables.specs.StandsIn.{StandsIn};
+ghost use Rattle.tenant_tables.specs.IsBackedBy.{IsBackedBy};
 ghost use Rattle.tenant_tables.specs.View.{in_sight};
 ghost use Rattle.tenant_tables.specs.declared.sight.Sight.TheVariants.{Committed};
 ghost use Rattle.revisions.specs.FirstParents.{IsFirstParentChain};
@@ -22,7 +22,7 @@ use crate::ref_printing::append_refs;
 use content_pool::Pool;
 use export_text::append_export;
 use git_objects::{Kind, Name, Naming};
-use revisions::{Expression, FirstParentChain, Range, peel, resolve_expression, resolve_range};
+use revisions::{Expression, FirstParentCache, Range, peel, resolve_expression, resolve_range};
 use std::alloc::Global;
 use tenant_refs::Refs;
 use tenant_tables::{Objects, Sight, Table};
@@ -32,7 +32,7 @@ fn resolve<N: Naming>(
     alloc: Global,
     objects: &Objects<'_, N>,
     refs: &Refs,
-    chain: &mut FirstParentChain,
+    chain: &mut FirstParentCache,
     of: &Expression<'_>,
 ) -> Result<Name, Fault>
     ensures found { AreObjects N.digest_of objects.now → IsFirstParentChain objects.now chain.old
@@ -49,7 +49,7 @@ fn tell_prefix<N: Naming>(
     alloc: Global,
     objects: &Objects<'_, N>,
     refs: &Refs,
-    chain: &mut FirstParentChain,
+    chain: &mut FirstParentCache,
     of: &Expression<'_>,
     out: &mut Vec<u8>,
 ) -> Result<(), Fault>
@@ -71,7 +71,7 @@ fn tell_tree<N: Naming>(
     alloc: Global,
     objects: &Objects<'_, N>,
     refs: &Refs,
-    chain: &mut FirstParentChain,
+    chain: &mut FirstParentCache,
     of: &Expression<'_>,
     out: &mut Vec<u8>,
 ) -> Result<(), Fault>
@@ -93,7 +93,7 @@ fn tell_log<N: Naming>(
     alloc: Global,
     objects: &Objects<'_, N>,
     refs: &Refs,
-    chain: &mut FirstParentChain,
+    chain: &mut FirstParentCache,
     range: &Range<Expression<'_>>,
     out: &mut Vec<u8>,
 ) -> Result<(), Fault>
@@ -114,7 +114,7 @@ fn tell_name<N: Naming>(
     alloc: Global,
     objects: &Objects<'_, N>,
     refs: &Refs,
-    chain: &mut FirstParentChain,
+    chain: &mut FirstParentCache,
     of: &Expression<'_>,
     out: &mut Vec<u8>,
 ) -> Result<(), Fault>
@@ -135,7 +135,7 @@ fn tell_object<N: Naming>(
     alloc: Global,
     objects: &Objects<'_, N>,
     refs: &Refs,
-    chain: &mut FirstParentChain,
+    chain: &mut FirstParentCache,
     of: &Expression<'_>,
     out: &mut Vec<u8>,
 ) -> Result<(), Fault>
@@ -174,7 +174,7 @@ fn tell<N: Naming>(
     alloc: Global,
     objects: &Objects<'_, N>,
     refs: &Refs,
-    chain: &mut FirstParentChain,
+    chain: &mut FirstParentCache,
     query: &Query<'_>,
     out: &mut Vec<u8>,
 ) -> Result<(), Fault>
@@ -203,7 +203,7 @@ fn tell_or_nothing<N: Naming>(
     alloc: Global,
     objects: &Objects<'_, N>,
     refs: &Refs,
-    chain: &mut FirstParentChain,
+    chain: &mut FirstParentCache,
     query: &Query<'_>,
     out: &mut Vec<u8>,
 ) -> Result<(), Fault>
@@ -229,11 +229,11 @@ fn tell_committed<N: Naming>(
     pool: &Pool<N>,
     table: &Table,
     refs: &Refs,
-    chain: &mut FirstParentChain,
+    chain: &mut FirstParentCache,
     query: &Query<'_>,
     out: &mut Vec<u8>,
 ) -> Result<(), Fault>
-    requires { StandsIn N.digest_of pool.now table.now.entries }
+    requires { IsBackedBy N.digest_of pool.now table.now.entries }
     ensures told { let os = objects pool.now (in_sight Committed table.now) in
         AreObjects N.digest_of os → IsFirstParentChain os chain.old → Prints
         (told (record { objects = os; refs = refs.now }) query.now)
@@ -277,14 +277,14 @@ pub fn answer<N: Naming>(
     query: &[u8],
     out: &mut Vec<u8>,
 ) -> Result<(), Fault>
-    requires { StandsIn N.digest_of pool.now table.now.entries }
+    requires { IsBackedBy N.digest_of pool.now table.now.entries }
     ensures told { let os = objects pool.now (in_sight Committed table.now) in
         AreObjects N.digest_of os → Prints
         (answer_to (record { objects = os; refs = refs.now }) query.now)
         out.old.items out.new.items result }
     ensures same { OnErr result (out.new.items ≡ out.old.items) }
 {
-    let mut chain = FirstParentChain::new(alloc);
+    let mut chain = FirstParentCache::new(alloc);
     let answered = answer_along(alloc, pool, table, refs, &mut chain, query, out);
     drop(chain);
     answered
@@ -301,11 +301,11 @@ pub fn answer_along<N: Naming>(
     pool: &Pool<N>,
     table: &Table,
     refs: &Refs,
-    chain: &mut FirstParentChain,
+    chain: &mut FirstParentCache,
     query: &[u8],
     out: &mut Vec<u8>,
 ) -> Result<(), Fault>
-    requires { StandsIn N.digest_of pool.now table.now.entries }
+    requires { IsBackedBy N.digest_of pool.now table.now.entries }
     ensures told { let os = objects pool.now (in_sight Committed table.now) in
         AreObjects N.digest_of os → IsFirstParentChain os chain.old → Prints
         (answer_to (record { objects = os; refs = refs.now }) query.now)

@@ -51,8 +51,8 @@ gitpool = record {
 }
 
 -- A command that reads what the shape says, and has no subcommand.
-abbrev pub Reads : Command → Shape → Type 0
-Reads command shape = (app_of command ≡ record { top = shape; subs = [] })
+abbrev pub ReadsWords : Command → Shape → Type 0
+ReadsWords command shape = (app_of command ≡ record { top = shape; subs = [] })
     × ((out-Command command).has_globals ≡ false)
 
 -- The shape of a command with one argument more.

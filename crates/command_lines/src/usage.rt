@@ -7,7 +7,7 @@
 //! unchanged.
 ghost use Rattle.std.specs.Prelude.{◌≡◌, IfOk, codes, false, []};
 ghost use Rattle.clap.specs.Words.{App, Shape, app_of, rule_of, with_subcommand};
-ghost use Rattle.command_lines.specs.Usage.{Reads, alone, argument, ask_usage, check_usage};
+ghost use Rattle.command_lines.specs.Usage.{ReadsWords, alone, argument, ask_usage, check_usage};
 ghost use Rattle.command_lines.specs.Usage.{copy_usage, gitpool, import_usage, pool_option};
 ghost use Rattle.command_lines.specs.Usage.{serve_usage, subcommand, taking};
 
@@ -32,7 +32,7 @@ fn pool<'a>(alloc: Global) -> Arg<'a>
 }
 
 fn subcommand<'a>(alloc: Global, name: &'a str, about: &'a str) -> Command<'a>
-    ensures { Reads result (subcommand name.entry.now []) }
+    ensures { ReadsWords result (subcommand name.entry.now []) }
 {
     Command::new(alloc, name).about(about)
 }
@@ -45,8 +45,8 @@ fn with_word<'a>(
     shown: &'a str,
     help: &'a str,
 ) -> Result<Command<'a>, AllocError>
-    ensures { (shape : Shape) → IfOk command.entry (λ c. Reads c shape)
-        → IfOk result (λ c. Reads c (taking shape (argument id.entry.now))) }
+    ensures { (shape : Shape) → IfOk command.entry (λ c. ReadsWords c shape)
+        → IfOk result (λ c. ReadsWords c (taking shape (argument id.entry.now))) }
 {
     command?.arg(argument(alloc, id, shown, help))
 }
@@ -55,8 +55,8 @@ fn with_tenant<'a>(
     alloc: Global,
     command: Result<Command<'a>, AllocError>,
 ) -> Result<Command<'a>, AllocError>
-    ensures { (shape : Shape) → IfOk command.entry (λ c. Reads c shape)
-        → IfOk result (λ c. Reads c (taking shape (argument (codes "tenant")))) }
+    ensures { (shape : Shape) → IfOk command.entry (λ c. ReadsWords c shape)
+        → IfOk result (λ c. ReadsWords c (taking shape (argument (codes "tenant")))) }
 {
     with_word(alloc, command, "tenant", "TENANT", "The tenant's name")
 }
@@ -66,21 +66,21 @@ fn with_pool<'a>(
     alloc: Global,
     command: Result<Command<'a>, AllocError>,
 ) -> Result<Command<'a>, AllocError>
-    ensures { (shape : Shape) → IfOk command.entry (λ c. Reads c shape)
-        → IfOk result (λ c. Reads c (taking shape pool_option)) }
+    ensures { (shape : Shape) → IfOk command.entry (λ c. ReadsWords c shape)
+        → IfOk result (λ c. ReadsWords c (taking shape pool_option)) }
 {
     command?.arg(pool(alloc))
 }
 
 fn serve<'a>(alloc: Global) -> Result<Command<'a>, AllocError>
-    ensures { IfOk result (λ c. Reads c serve_usage) }
+    ensures { IfOk result (λ c. ReadsWords c serve_usage) }
 {
     let about = "Answer frames of steps from standard input on standard output";
     with_pool(alloc, Ok(subcommand(alloc, "serve", about)))
 }
 
 fn import<'a>(alloc: Global) -> Result<Command<'a>, AllocError>
-    ensures { IfOk result (λ c. Reads c import_usage) }
+    ensures { IfOk result (λ c. ReadsWords c import_usage) }
 {
     let about = "Import a stream of git-fast-import(1) from standard input";
     let command = with_tenant(alloc, Ok(subcommand(alloc, "import", about)));
@@ -88,7 +88,7 @@ fn import<'a>(alloc: Global) -> Result<Command<'a>, AllocError>
 }
 
 fn ask<'a>(alloc: Global) -> Result<Command<'a>, AllocError>
-    ensures { IfOk result (λ c. Reads c ask_usage) }
+    ensures { IfOk result (λ c. ReadsWords c ask_usage) }
 {
     let command = Ok(subcommand(alloc, "ask", "Print the answer to a query"));
     let command = with_tenant(alloc, command);
@@ -97,14 +97,14 @@ fn ask<'a>(alloc: Global) -> Result<Command<'a>, AllocError>
 }
 
 fn check<'a>(alloc: Global) -> Result<Command<'a>, AllocError>
-    ensures { IfOk result (λ c. Reads c check_usage) }
+    ensures { IfOk result (λ c. ReadsWords c check_usage) }
 {
     let about = "Check the pool file and count what it has";
     with_pool(alloc, Ok(subcommand(alloc, "check", about)))
 }
 
 fn copy<'a>(alloc: Global) -> Result<Command<'a>, AllocError>
-    ensures { IfOk result (λ c. Reads c copy_usage) }
+    ensures { IfOk result (λ c. ReadsWords c copy_usage) }
 {
     let about = "Copy a tenant's repository to an empty tenant";
     let command = Ok(subcommand(alloc, "copy", about));
@@ -136,7 +136,7 @@ fn with<'a>(
     subcommand: Result<Command<'a>, AllocError>,
 ) -> Result<Command<'a>, AllocError>
     ensures { (app : App) → (usage : Shape) → IfOk program.entry (λ c. app_of c ≡ app)
-        → IfOk subcommand.entry (λ s. Reads s usage)
+        → IfOk subcommand.entry (λ s. ReadsWords s usage)
         → IfOk result (λ c. app_of c ≡ with_subcommand app usage) }
 {
     program?.subcommand(subcommand?)

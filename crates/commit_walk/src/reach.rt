@@ -5,7 +5,7 @@ ghost use Rattle.git_model.specs.References.{object_at, parents_of};
 ghost use Rattle.git_model.specs.GoodRepository.{AreObjects};
 ghost use Rattle.git_model.specs.Reach.{reaches};
 ghost use Rattle.tenant_tables.specs.Objects.{objects};
-ghost use Rattle.tenant_tables.specs.StandsIn.{StandsIn};
+ghost use Rattle.tenant_tables.specs.IsBackedBy.{IsBackedBy};
 ghost use Rattle.commit_walk.specs.Marks.{is_marked, Marks, IsReached};
 
 use crate::commits::{commit_place, parents_at};
@@ -29,7 +29,7 @@ pub fn reaches<N: Naming>(
     tip: &Name,
     old: &Name,
 ) -> Result<bool, Memory>
-    requires { StandsIn N.digest_of pool.now table.now.entries }
+    requires { IsBackedBy N.digest_of pool.now table.now.entries }
     ensures { let os = objects pool.now table.now.entries in
         AreObjects N.digest_of os → IfOk result (λ yes. yes ≡ reaches os tip.now old.now) }
 {

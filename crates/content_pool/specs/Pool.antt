@@ -34,8 +34,8 @@ abbrev pub CanHold : Cells → ℕ → Type 0
 CanHold p s = holds p s < 2 ^ 64 - 1
 
 -- One more hold of any slot can be counted.
-abbrev pub HasRoom : Cells → Type 0
-HasRoom p = (s : ℕ) → CanHold p s
+abbrev pub HasHoldsLeft : Cells → Type 0
+HasHoldsLeft p = (s : ℕ) → CanHold p s
 
 -- Nothing is held.
 abbrev pub IsVacant : Cells → Type 0

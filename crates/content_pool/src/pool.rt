@@ -13,7 +13,7 @@ ghost use Rattle.slab.specs.Slab.{values};
 ghost use Rattle.git_model.specs.ObjectName.{object_name};
 ghost use Rattle.git_model.specs.Content.{content_from};
 ghost use Rattle.content_pool.specs.Pool.{cell, content_of, holds, content, IsLive, CanHold};
-ghost use Rattle.content_pool.specs.Pool.{HasRoom, IsVacant, IsAbsent, HoldsEachOnce, Puts};
+ghost use Rattle.content_pool.specs.Pool.{HasHoldsLeft, IsVacant, IsAbsent, HoldsEachOnce, Puts};
 ghost use Rattle.content_pool.specs.Pool.{Releases};
 ghost use Rattle.content_pool.specs.Index.{AllStored, Stores, StoresNone};
 ghost use Rattle.content_pool.specs.LiveContents.{live_contents, stored_sizes, ListsLive};
@@ -117,7 +117,7 @@ impl<N: Naming> Pool<N> {
     /// caller makes sure that no content is held 2^64 - 1 times already. `Memory` (90) if there is
     /// no room; nothing has changed then.
     pub fn put(&mut self, kind: Kind, bytes: &[u8]) -> Result<(Slot, Name), Memory>
-        requires { HasRoom self.old }
+        requires { HasHoldsLeft self.old }
         ensures name { IfOk result (λ r. r.1 ≡ object_name N.digest_of kind bytes.now) }
         ensures puts { IfOk result (λ r. Puts self.old self.new r.0 (content_from kind bytes.now)) }
         ensures once { HoldsEachOnce self.new }
@@ -132,7 +132,7 @@ impl<N: Naming> Pool<N> {
     /// hashed only once. `Memory` (90) if there is no room; nothing has changed then.
     pub fn put_named(&mut self, id: Name, kind: Kind, bytes: &[u8]) -> Result<Slot, Memory>
         requires named { id ≡ object_name N.digest_of kind bytes.now }
-        requires room { HasRoom self.old }
+        requires room { HasHoldsLeft self.old }
         ensures puts { IfOk result
             (λ slot. Puts self.old self.new slot (content_from kind bytes.now)) }
         ensures once { HoldsEachOnce self.new }
@@ -152,7 +152,7 @@ impl<N: Naming> Pool<N> {
     /// nothing has changed then, and the vector is freed.
     pub fn put_owned(&mut self, id: Name, kind: Kind, bytes: Vec<u8>) -> Result<Slot, Memory>
         requires named { id ≡ object_name N.digest_of kind bytes.items }
-        requires room { HasRoom self.old }
+        requires room { HasHoldsLeft self.old }
         ensures puts { IfOk result
             (λ slot. Puts self.old self.new slot (content_from kind bytes.items)) }
         ensures once { HoldsEachOnce self.new }

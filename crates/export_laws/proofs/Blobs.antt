@@ -6,9 +6,11 @@ use Rattle.git_model.specs.GoodRepository.{AreObjects}
 use Rattle.git_model.specs.Reach.{is_referred_to}
 use Rattle.git_model.specs.Repository.{Object, Repository, with_object}
 use Rattle.tenant_tables.specs.Adding.{store_fault}
-use Rattle.stream_grammar.specs.Acts.{Wait, StoreBlob}
+use Rattle.stream_grammar.specs.Acts.{Wait, Object as ObjectAct}
+use Rattle.stream_grammar.specs.Acts.{Blob}
 use Rattle.stream_state.specs.Marks.{room_for, with_mark}
-use Rattle.import_session.specs.Meaning.{after_act, placed_by, set_by, shown_by, stored_or_shown}
+use Rattle.import_session.specs.Meaning.{after_act}
+use Rattle.import_session.specs.Objects.{object_stored}
 use Rattle.import_session.specs.Workspace.{Workspace, quiet}
 use Rattle.export_text.specs.ExportActs.{number_of}
 use Rattle.export_laws.specs.Leaving.{nothing}
@@ -21,7 +23,7 @@ use Rattle.export_laws.proofs.Storing.{IsStored, stored}
 
 -- the command is not whole yet
 pub waits : (digest : List ℕ → List ℕ) (w : Workspace) → after_act digest Wait w ≡ quiet w
-unfolding after_act stored_or_shown shown_by placed_by set_by
+unfolding after_act
 waits digest w = refl
 
 -- a blob that is not refused
@@ -29,11 +31,11 @@ pub blob-stored : (digest : List ℕ → List ℕ) (w : Workspace) (mark : ℕ) 
     → id ≡ name_by digest (content_from kind.Blob bytes)
     → room_for w.marks (Some mark) ≡ Ok tt
     → store_fault id (content_from kind.Blob bytes) w.objects ≡ None
-    → after_act digest (StoreBlob (Some mark) bytes) w ≡ quiet (record w {
+    → after_act digest (ObjectAct (Blob (Some mark) bytes)) w ≡ quiet (record w {
       objects = with_object id (content_from kind.Blob bytes) w.objects;
       marks = with_mark w.marks (Some mark) id;
     })
-unfolding after_act stored_or_shown
+unfolding after_act object_stored
 blob-stored digest w mark id bytes named room unrefused =
     rw (room, ← named, unrefused) refl
 
@@ -70,7 +72,7 @@ module _ (digest : List ℕ → List ℕ) (repository : Repository) (good : AreO
     leaves = λ head.
         asked digest Wait _ _ _ _ (waits digest _)
         (asked digest Wait _ _ _ _ (waits digest _)
-        (asked digest (StoreBlob (Some mark) bytes) [] _ _ _
+        (asked digest (ObjectAct (Blob (Some mark) bytes)) [] _ _ _
         (blob-stored digest _ mark id bytes what.is.named has-room now.unrefused) (nothing _)));
     tells =
         told-next repository first rest o told next is what.named all now.of now.kept now.named refl

@@ -20,10 +20,10 @@ running workspace parsing =
     record { workspace = workspace; parsing = parsing; is_done = false }
 
 -- How it stands after its items, where nothing was printed.
-abbrev pub standing : Workspace → Parsing → Bool → List ℕ → Outcome
-standing workspace parsing skips bytes = record {
+abbrev pub status : Workspace → Parsing → Bool → List ℕ → Outcome
+status workspace parsing skips bytes = record {
   replies = [];
-  standing = Runs (running workspace parsing) (Rest skips bytes);
+  status = Runs (running workspace parsing) (Rest skips bytes);
 }
 
 module _ (digest : List ℕ → List ℕ) where
@@ -57,7 +57,7 @@ module _ (digest : List ℕ → List ℕ) where
   first-given (Err e) later done acts ends is end = cc
 
   no-items : (w : Workspace) (p : Parsing) (skips : Bool) (bytes : List ℕ)
-      → carried digest (running w p) [] (Rest skips bytes) ≡ standing w p skips bytes
+      → carried digest (running w p) [] (Rest skips bytes) ≡ status w p skips bytes
   unfolding carried at_tail
   no-items w p skips bytes = refl
 
@@ -88,9 +88,9 @@ module _ (digest : List ℕ → List ℕ) where
       → (items : List Item) (p : Parsing) (ends skips : Bool) (bytes : List ℕ) → GoOn acts
       → (commands p items).given ≡ acts → end_of (commands p items).rest ≡ Ok ends
       → carried digest (running before p) items (Rest skips bytes)
-      ≡ standing left (commands p items).rest skips bytes
+      ≡ status left (commands p items).rest skips bytes
   carried-out (nothing w) [] p ends skips bytes goes is end =
-      no-items w p skips bytes ∙ ap (λ (q : Parsing). standing w q skips bytes) (sym (none-rest p))
+      no-items w p skips bytes ∙ ap (λ (q : Parsing). status w q skips bytes) (sym (none-rest p))
   carried-out (nothing w) (item ∷ items) p ends skips bytes goes is end =
       absurd (nothing-given (done_by p item) (commands (after p item) items) ends
       (ap (λ (c : Commands). c.given) (sym (next-asked p item items)) ∙ is)
@@ -104,5 +104,5 @@ module _ (digest : List ℕ → List ℕ) where
       one-item before next p item items (Rest skips bytes)
       (one-step before ready next p item done one.gives closes acts goes.0)
       ∙ carried-out more items (after p item) ends skips bytes goes.1 one.then_acts one.ends_so
-      ∙ ap (λ (q : Parsing). standing left q skips bytes)
+      ∙ ap (λ (q : Parsing). status left q skips bytes)
       (sym (ap (λ (c : Commands). c.rest) (next-asked p item items) ∙ one.same_rest))

@@ -14,7 +14,7 @@ use Rattle.file_maps.specs.StoredFiles.{stored_map}
 use Rattle.file_maps.proofs.Apart.{all-weaker}
 use Rattle.export_text.specs.Limits.{CanExport, Fits, FitsPath}
 use Rattle.import_session.specs.Sound.{IsSoundRepository}
-use Rattle.export_laws.specs.Copies.{FitsStream, HasPathOfBytes}
+use Rattle.export_laws.specs.Copies.{FitsStream}
 use Rattle.export_laws.proofs.OpenTrees.{files-good}
 
 from-places : (P : Object → Type 0) (os : List Object)
@@ -26,24 +26,19 @@ from-places P (o ∷ os) h = (
 )
 
 -- the files of a branch have paths within the limits
-paths-fit : (files : Listed) → AllByRecursion IsFile files → AllByRecursion HasPathOfBytes files
-    → AllByRecursion FitsPath files
-paths-fit [] good bytes = tt
-paths-fit (f ∷ files) good bytes = (
-  record { bytes = bytes.0; limits = good.0.limits },
-  paths-fit files good.1 bytes.1,
-)
+paths-fit : (files : Listed) → AllByRecursion IsFile files → AllByRecursion FitsPath files
+paths-fit [] good = tt
+paths-fit (f ∷ files) good = (good.0.limits, paths-fit files good.1)
 
 module _ (digest : List ℕ → List ℕ) (repository : Repository)
     (sound : IsSoundRepository digest repository)
-    (fits : All (λ o. FitsStream repository.objects o.content.kind o.content.bytes)
-    repository.objects) where
+    (fits : All (λ o. FitsStream o.content.kind o.content.bytes) repository.objects) where
   abbrev os : List Object
   os = repository.objects
 
   fits-by-kind : (k : Kind) (bytes : List ℕ)
       → AllByRecursion (λ (x : Reference). kind_named x.id os ≡ Some x.kind) (references_of k bytes)
-      → FitsStream os k bytes → Fits os k bytes
+      → FitsStream k bytes → Fits os k bytes
   fits-by-kind kind.Blob bytes named fit = fit
   fits-by-kind kind.Tree bytes named fit = tt
   fits-by-kind kind.Commit bytes named fit =
@@ -55,8 +50,7 @@ module _ (digest : List ℕ → List ℕ) (repository : Repository)
         encoding = fit.encoding;
         message = fit.message;
         paths = All-from_recursion FitsPath files
-            (paths-fit files (files-good digest os sound.objects sound.trees tree named.0).each
-            (recursion_from_All HasPathOfBytes files fit.paths));
+            (paths-fit files (files-good digest os sound.objects sound.trees tree named.0).each);
       }
   fits-by-kind kind.Tag bytes named fit = fit
 
@@ -68,7 +62,7 @@ module _ (digest : List ℕ → List ℕ) (repository : Repository)
       (λ x h. h.kind) (references_in (object_at i os).content)
       (recursion_from_All (StandsBefore os i) (references_in (object_at i os).content)
       (sound.objects.connected i lt)))
-      (at_place (λ (o : Object). FitsStream os o.content.kind o.content.bytes) os i fits lt)
+      (at_place (λ (o : Object). FitsStream o.content.kind o.content.bytes) os i fits lt)
 
   pub can-export : CanExport repository
   can-export = record {

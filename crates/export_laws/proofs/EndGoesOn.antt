@@ -15,11 +15,13 @@ use Rattle.git_model.specs.TagReading.{tag_read}
 use Rattle.file_maps.specs.FileMap.{listed}
 use Rattle.file_maps.specs.StoredFiles.{stored_map}
 use Rattle.file_maps.proofs.Listing.{all-append}
-use Rattle.stream_grammar.specs.Acts.{Act, Author, BeginCommit, BeginTag, Committer, Encoding, OpenCommit, StoreTag, TagTarget, Tagger, Wait}
+use Rattle.stream_grammar.specs.Acts.{Act, Wait, Object as ObjectAct, Commit as CommitAct}
+use Rattle.stream_grammar.specs.Acts.{BeginTag, TagTarget, Tag as TagCommand}
+use Rattle.stream_grammar.specs.Acts.{Begin, Author, Committer, Message}
 use Rattle.stream_grammar.specs.Commands.{Done}
 use Rattle.stream_grammar.specs.Names.{Marked}
 use Rattle.import_session.specs.Stream.{is_finish}
-use Rattle.export_text.specs.ExportActs.{act_of_file, acts_of, acts_of_object, acts_of_ref, all_ref_acts, asks, asks_if, commit_acts, ends, export_acts, file_acts, fresh_acts, head_acts, head_acts_of, merges, number_of, object_acts, opening_acts, parent_acts, ref_acts, removal_acts, saving_acts, tag_acts, wait_if}
+use Rattle.export_text.specs.ExportActs.{act_of_file, acts_of, acts_of_object, acts_of_ref, all_ref_acts, asks, asks_if, commit_acts, encoding_act, ends, export_acts, file_acts, fresh_acts, head_acts, head_acts_of, merges, number_of, object_acts, opening_acts, parent_acts, ref_acts, removal_acts, saving_acts, tag_acts, tagger_act, wait_if}
 use Rattle.export_text.specs.ExportItems.{scratch}
 use Rattle.export_text.specs.Reached.{extra_tag_refs, reached_objects, tag_ref}
 use Rattle.export_laws.proofs.EndCarried.{GoOn}
@@ -62,14 +64,14 @@ files-go os tree = (refl, each-goes (act_of_file os) (λ f. refl) (listed (store
 head-goes : (c : Commit) → GoOn (head_acts_of c)
 head-goes c =
     both-go (fresh_acts c.parents)
-    (asks (BeginCommit scratch) ∷ asks Wait ∷ asks (Author c.author) ∷ asks (Committer c.committer) ∷ asks_if Encoding c.encoding)
+    (asks (CommitAct (Begin scratch)) ∷ asks Wait ∷ asks (CommitAct (Author c.author)) ∷ asks (CommitAct (Committer c.committer)) ∷ asks_if encoding_act c.encoding)
     (fresh-goes c.parents)
-    (refl, (refl, (refl, (refl, if-goes Encoding (λ text. refl) c.encoding))))
+    (refl, (refl, (refl, (refl, if-goes encoding_act (λ text. refl) c.encoding))))
 
 commit-goes : (os : List Object) (id : List ℕ) (c : Commit) → GoOn (commit_acts os id c)
 commit-goes os id c =
     let head = head_acts_of c in
-    let opens = asks (OpenCommit (Some (number_of os id)) c.message) ∷ [] in
+    let opens = asks (CommitAct (Message (Some (number_of os id)) c.message)) ∷ [] in
     let parents = parent_acts os c.parents in
     let files = file_acts os c.tree in
     both-go (head ++ opens ++ parents ++ files) (ends ∷ [])
@@ -79,13 +81,13 @@ commit-goes os id c =
 
 tag-goes : (os : List Object) (mark : Option ℕ) (t : Tag) → GoOn (tag_acts os mark t)
 tag-goes os mark t =
-    let begins = asks (BeginTag (tag_ref t.name)) ∷ wait_if mark in
-    let target = asks (TagTarget (Marked (number_of os t.target))) ∷ [] in
-    let tagger = asks_if Tagger t.tagger in
-    let last = asks (StoreTag mark t.message) ∷ [] in
+    let begins = asks (ObjectAct (BeginTag (tag_ref t.name))) ∷ wait_if mark in
+    let target = asks (ObjectAct (TagTarget (Marked (number_of os t.target)))) ∷ [] in
+    let tagger = asks_if tagger_act t.tagger in
+    let last = asks (ObjectAct (TagCommand mark t.message)) ∷ [] in
     both-go (begins ++ target ++ tagger) last
     (both-go (begins ++ target) tagger
-    (both-go begins target (refl, wait-goes mark) (refl, tt)) (if-goes Tagger (λ text. refl) t.tagger))
+    (both-go begins target (refl, wait-goes mark) (refl, tt)) (if-goes tagger_act (λ text. refl) t.tagger))
     (refl, tt)
 
 kind-goes : (os : List Object) (id : List ℕ) (k : Kind) (bytes : List ℕ) → GoOn (acts_of os id k bytes)

@@ -21,7 +21,7 @@ use Rattle.export_laws.specs.Leaving.{Leaves}
 use Rattle.export_laws.specs.Told.{AreOf}
 use Rattle.export_laws.specs.Whole.{AreSaved, HasReached, acts_to_saved, nothing_there}
 use Rattle.export_laws.proofs.Acts.{both}
-use Rattle.export_laws.proofs.EndCarried.{carried-out, standing}
+use Rattle.export_laws.proofs.EndCarried.{carried-out, status}
 use Rattle.export_laws.proofs.EndFits.{can-export}
 use Rattle.export_laws.proofs.EndGoesOn.{export-goes}
 use Rattle.export_laws.proofs.EndLast.{finished-well}
@@ -30,8 +30,7 @@ use Rattle.export_laws.proofs.WholeTold.{are-saved}
 
 module _ (digest : List ℕ → List ℕ) (names : AnswersNames digest) (repository : Repository)
     (sound : IsSoundRepository digest repository)
-    (fits : All (λ o. FitsStream repository.objects o.content.kind o.content.bytes)
-    repository.objects)
+    (fits : All (λ o. FitsStream o.content.kind o.content.bytes) repository.objects)
     (few_tags : length (reached_tags repository) ≤ tag_limit)
     (exportable : is_exportable repository ≡ true) where
   can : CanExport repository
@@ -58,7 +57,7 @@ module _ (digest : List ℕ → List ℕ) (names : AnswersNames digest) (reposit
   rest = (commands (Ok top) (export_items repository)).rest
 
   -- the text is read as its items, and they are carried out as their acts
-  stands : imported digest (export_text repository) ≡ standing refs.last rest false []
+  stands : imported digest (export_text repository) ≡ status refs.last rest false []
   stands =
       ap (λ (read : Reading). carried digest (begun (opened nothing_there)) read.items read.tail)
       (read-back digest repository sound.objects can)
@@ -73,7 +72,7 @@ module _ (digest : List ℕ → List ℕ) (names : AnswersNames digest) (reposit
     left = left;
     prints = ap (λ (o : Outcome). o.replies) stands;
     ends =
-        ap (λ (o : Outcome). finished digest o.standing) stands
+        ap (λ (o : Outcome). finished digest o.status) stands
         ∙ finished-well digest refs.last refs.done rest asks.end refs.needs_done refs.ends
         (refs.committed ∙ sym (ap (λ (l : List Object). length l) refs.objects));
     copy = record {

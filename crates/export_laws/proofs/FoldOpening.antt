@@ -9,8 +9,10 @@ use Rattle.git_model.specs.RefStore.{RefStore, first_head}
 use Rattle.git_model.specs.Repository.{Repository}
 use Rattle.git_model.proofs.Places.{nothing_named}
 use Rattle.stream_grammar.specs.declared.feature.Feature.TheVariants as feature
-use Rattle.stream_grammar.specs.Acts.{Require, SetHead}
-use Rattle.import_session.specs.Meaning.{after_act, placed_by, set_by, shown_by, stored_or_shown}
+use Rattle.stream_grammar.specs.declared.act.ControlCommand.TheVariants as control
+use Rattle.stream_grammar.specs.Acts.{Control}
+use Rattle.import_session.specs.Meaning.{after_act}
+use Rattle.import_session.specs.Controls.{controlled}
 use Rattle.import_session.specs.Workspace.{Workspace, opened, quiet}
 use Rattle.export_text.specs.ExportActs.{head_acts, opening_acts}
 use Rattle.export_laws.specs.Leaving.{Leaves, nothing}
@@ -29,14 +31,14 @@ head-named head name = elim (cases_Bool (bytes_eq head first_head)) [
 ]
 
 module _ (digest : List ℕ → List ℕ) where
-  forces : after_act digest (Require feature.Force) (opened nothing_there)
+  forces : after_act digest (Control (control.Feature feature.Force)) (opened nothing_there)
       ≡ quiet (workspace_of None nothing_told)
-  unfolding after_act stored_or_shown shown_by placed_by set_by
+  unfolding after_act controlled
   forces = refl
 
   sets-head : (ref : List ℕ) (workspace : Workspace) → bytes_eq ref (codes "HEAD") ≡ false
-      → after_act digest (SetHead ref) workspace ≡ quiet (record workspace { head = Some ref })
-  unfolding after_act stored_or_shown shown_by placed_by set_by
+      → after_act digest (Control (control.Head ref)) workspace ≡ quiet (record workspace { head = Some ref })
+  unfolding after_act controlled
   sets-head ref workspace other = rw other refl
 
   heads : (head : List ℕ) → IsShortRefName head
@@ -45,7 +47,7 @@ module _ (digest : List ℕ → List ℕ) where
   unfolding head_acts head_told
   heads head name = elim (cases_Bool (bytes_eq head first_head)) [
     | inl yea ↦ rw yea (nothing (workspace_of None nothing_told))
-    | inr nay ↦ rw nay (asked digest (SetHead head) [] _ _ _
+    | inr nay ↦ rw nay (asked digest (Control (control.Head head)) [] _ _ _
         (sets-head head (workspace_of None nothing_told) (named-apart head name)) (nothing _))
   ]
 
@@ -54,7 +56,7 @@ module _ (digest : List ℕ → List ℕ) where
       → Leaves digest (opening_acts store) (opened nothing_there)
       (workspace_of (head_told store.head) nothing_told)
   opening-leaves store name =
-      asked digest (Require feature.Force) (head_acts store.head) _ _ _ forces (heads store.head name)
+      asked digest (Control (control.Feature feature.Force)) (head_acts store.head) _ _ _ forces (heads store.head name)
 
 head-well : (head : List ℕ) → IsShortRefName head → AreWell (head_acts head)
 unfolding head_acts

@@ -7,11 +7,14 @@ use Rattle.std.proofs.lemmas.Slice.Eq.{bytes_eq-Decides}
 use Rattle.git_model.specs.GoodRepository.{refs_limit}
 use Rattle.git_model.specs.RefStore.{RefMap, RefStore, first_head, listed_refs, no_refs}
 use Rattle.git_model.specs.Repository.{Repository}
-use Rattle.stream_grammar.specs.Acts.{Checkpoint, Reset}
+use Rattle.stream_grammar.specs.declared.act.ControlCommand.TheVariants as control
+use Rattle.stream_grammar.specs.Acts.{Ref, Control}
+use Rattle.stream_grammar.specs.Acts.{Reset}
 use Rattle.stream_state.specs.declared.branches.Tip.TheVariants.{Unborn}
 use Rattle.stream_state.specs.Checkpoints.{by_head, fit}
 use Rattle.import_session.specs.Checkpoints.{checkpointed, saved_refs}
 use Rattle.import_session.specs.Meaning.{after_act}
+use Rattle.import_session.specs.Controls.{controlled}
 use Rattle.stream_state.specs.Tags.{PendingTags}
 use Rattle.stream_state.specs.CommandHeader.{said_of}
 use Rattle.import_session.specs.Workspace.{Workspace, quiet}
@@ -41,8 +44,8 @@ given_up head told = record (workspace_of head told) {
 
 saves : (digest : List ℕ → List ℕ) (head : Option (List ℕ)) (told : Told)
     → fit (saved_refs (given_up head told)) ≡ true
-    → after_act digest Checkpoint (given_up head told) ≡ quiet (checkpointed (given_up head told))
-unfolding after_act
+    → after_act digest (Control control.Checkpoint) (given_up head told) ≡ quiet (checkpointed (given_up head told))
+unfolding after_act controlled
 saves digest head told few = rw few refl
 
 -- HEAD is that of the repository
@@ -75,8 +78,8 @@ module _ (digest : List ℕ → List ℕ) (repository : Repository) (told : Told
 
   pub saving-leaves : Leaves digest saving_acts (workspace_of head told) saved
   saving-leaves =
-      asked digest (Reset scratch) _ _ _ _ (resets digest (workspace_of head told) all.branches)
-      (asked digest Checkpoint [] _ _ _ (saves digest head told few-saved) (nothing _))
+      asked digest (Ref (Reset scratch)) _ _ _ _ (resets digest (workspace_of head told) all.branches)
+      (asked digest (Control control.Checkpoint) [] _ _ _ (saves digest head told few-saved) (nothing _))
 
   pub all-saved : IsSaved repository told saved
   all-saved = record {

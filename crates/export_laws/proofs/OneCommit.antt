@@ -1,10 +1,10 @@
 -- The repository of one commit is sound, and fits into a stream.
-use Rattle.std.proofs.Common.{◌≡◌, ◌≢◌, ℕ, suc, ◌+◌, ◌<◌, ◌≤◌, Bool, true, false, cond, filter, List, [], ◌∷◌, ◌++◌, length, All, Option, None, Some, refl, sym, ap, ◌∙◌, subst, inl, inr, arith, codes, le-leb, length-append}
+use Rattle.std.proofs.Common.{◌≡◌, ◌≢◌, ℕ, suc, ◌+◌, ◌≤◌, Bool, true, false, cond, filter, List, [], ◌∷◌, ◌++◌, length, All, Option, None, Some, refl, sym, ap, ◌∙◌, subst, inl, inr, arith, codes, le-leb, length-append}
 use Rattle.std.specs.Prelude.{is_some, map}
 use Rattle.std.specs.FinMap as finmap
 use Rattle.std.specs.Fmt.{digits}
 use Rattle.std.specs.FinMap.{get-empty, len-empty, len-entries, len-insert}
-use Rattle.std.specs.List.{AllByRecursion, flat_map}
+use Rattle.std.specs.List.{AllByRecursion}
 use Rattle.std.specs.Ordering.{nat_cmp}
 use Rattle.std.specs.Cmp.Lexicographic.{slice_cmp}
 use Rattle.std.specs.Option.{option_map}
@@ -39,16 +39,9 @@ use Rattle.git_model.proofs.Places.{first_named, first_place, later_named, later
 use Rattle.git_model.proofs.TreeReadings.{tree_back}
 use Rattle.git_names.specs.Naming.{AnswersNames, tail_digest}
 use Rattle.tenant_tables.specs.Sums.{FitsAfter, HasFiles, IsTreeText}
-use Rattle.file_maps.specs.declared.entry.Entry.{Entry}
-use Rattle.file_maps.specs.Edits.{with_files}
-use Rattle.file_maps.specs.FileMap.{Listed, Path, listed}
-use Rattle.file_maps.specs.StoredFiles.{listed_by, listed_within, stored_files, stored_map}
-use Rattle.file_maps.specs.StoredTree.{HasTree, file_from}
-use Rattle.file_maps.proofs.ListedOrder.{listed-with}
-use Rattle.file_maps.proofs.StoredFiles.{entries-at}
 use Rattle.export_text.specs.Reached.{each_once, is_tag, reached_tags, ref_of_tag, tag_refs}
 use Rattle.import_session.specs.Sound.{IsSoundRepository}
-use Rattle.export_laws.specs.Copies.{CanBeCopied, CommitFits, FitsStream, HasPathOfBytes}
+use Rattle.export_laws.specs.Copies.{CanBeCopied, CommitFits, FitsStream}
 use Rattle.export_laws.proofs.RefsHeld.{target-set}
 use Rattle.export_laws.specs.OneCommit.{AreNamedApart, author, blob, commit, entry, first_commit, one_commit, tree}
 
@@ -296,40 +289,13 @@ module _ (digest : List ℕ → List ℕ) (names : AnswersNames digest)
         },
       )
 
-  has_tree : HasTree os t.id (entry digest ∷ [])
-  has_tree = record { content = second-named b t (c ∷ []) apart.tree_and_blob; entries = can_tree }
-
-  abbrev file : Path × Entry
-  file = file_from (entry digest)
-
-  files_stored : stored_files os t.id ≡ file ∷ []
-  unfolding listed_within
-  files_stored =
-      ap (λ (es : List TreeEntry). flat_map (λ e. listed_by e.mode e (listed_within os 2 e.id)) es)
-      (entries-at os t.id (entry digest ∷ []) has_tree)
-
-  files_listed : listed (stored_map os t.id) ≡ file ∷ []
-  files_listed =
-      ap (λ (files : Listed). listed (with_files finmap.empty files)) files_stored
-      ∙ listed-with (file ∷ []) (tt, tt)
-
-  path_bytes : HasPathOfBytes file
-  path_bytes =
-      All-cons (All (λ byte. byte < 256)) (codes "hello") []
-      (All-from_recursion (λ byte. byte < 256) (codes "hello") (
-        omega arith,
-        (omega arith, (omega arith, (omega arith, (omega arith, tt)))),
-      )) (All-nil (All (λ byte. byte < 256)))
-
-  commit_fits : CommitFits os (commit_read c.content.bytes)
+  commit_fits : CommitFits (commit_read c.content.bytes)
   commit_fits =
-      subst (CommitFits os) (sym commit_says) (record {
+      subst CommitFits (sym commit_says) (record {
         author = omega arith;
         committer = omega arith;
         encoding = tt;
         message = omega arith;
-        paths = subst (All HasPathOfBytes) (sym files_listed)
-            (All-cons HasPathOfBytes file [] path_bytes (All-nil HasPathOfBytes));
       })
 
   -- ---- the refs
@@ -364,7 +330,7 @@ module _ (digest : List ℕ → List ℕ) (names : AnswersNames digest)
   pub can-be-copied : CanBeCopied (one_commit digest)
   can-be-copied = record {
     fits = All-from_recursion
-        (λ (o : Object). FitsStream os o.content.kind o.content.bytes) os
+        (λ (o : Object). FitsStream o.content.kind o.content.bytes) os
         (omega arith, (tt, (commit_fits, tt)));
     few_refs = le-leb _ 65535 (omega (arith, refs_listed, tag_refs_none));
     few_tags = let none = ap (λ (os : List Object). length os) tags in omega (arith, none);

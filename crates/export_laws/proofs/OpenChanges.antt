@@ -15,7 +15,8 @@ use Rattle.git_model.proofs.Peelings.{is_of_kind}
 use Rattle.file_maps.specs.declared.entry.Entry.{Entry}
 use Rattle.file_maps.specs.Edits.{moved, put_at, put_fault}
 use Rattle.file_maps.specs.FileMap.{FileMap, Listed, Path}
-use Rattle.stream_grammar.specs.Acts.{DeleteAll, Modify}
+use Rattle.stream_grammar.specs.Acts.{Change}
+use Rattle.stream_grammar.specs.Acts.{Modify, DeleteAll}
 use Rattle.open_commits.specs.declared.fault.Fault.{Fault as CommitFault}
 use Rattle.open_commits.specs.declared.fault.Fault.TheVariants as commit_fault
 use Rattle.open_commits.specs.Changes.{blob_of, entry_of, file_put, held_as, modified}
@@ -23,11 +24,11 @@ use Rattle.open_commits.specs.Changes.{marked_name as name_by_mark}
 use Rattle.open_commits.specs.Faults.{and_then as commit_then, or_fault}
 use Rattle.open_commits.specs.OpenCommit.{OpenCommit}
 use Rattle.open_commits.specs.Parents.{changed_to}
-use Rattle.import_session.specs.Changes.{changed_by, moved_by}
+use Rattle.import_session.specs.Changes.{files_changed}
 use Rattle.stream_state.specs.Faults.{and_then}
 use Rattle.import_session.specs.Faults.{changed_or}
 use Rattle.stream_state.specs.Marks.{found_mark, marked_name, Marks}
-use Rattle.import_session.specs.Meaning.{after_act, placed_by, said_of_commit, said_of_tag, set_by, shown_by, stored_or_shown, within_commit}
+use Rattle.import_session.specs.Meaning.{after_act}
 use Rattle.import_session.specs.Workspace.{Workspace, quiet}
 use Rattle.export_text.specs.ExportActs.{act_of_file, asks, dataref, number_of}
 use Rattle.export_laws.specs.Leaving.{Leaves, nothing}
@@ -107,9 +108,9 @@ modifies os w mode.Symlink id path commit next no_tree blob put =
 
 file-told : (digest : List ℕ → List ℕ) (os : List Object) (w : Workspace) (f : Path × Entry)
     (commit next : OpenCommit) → MayTell os w f → file_put f.0 f.1 commit ≡ Ok next
-    → after_act digest (Modify f.1.mode (dataref os f.1.mode f.1.name) f.0) (with_open w commit)
+    → after_act digest (Change (Modify f.1.mode (dataref os f.1.mode f.1.name) f.0)) (with_open w commit)
     ≡ quiet (with_open w next)
-unfolding after_act stored_or_shown shown_by placed_by set_by said_of_tag said_of_commit within_commit changed_by
+unfolding after_act files_changed
 file-told digest os w f commit next may put =
     ap (λ (r : Result OpenCommit CommitFault). and_then (changed_or r) (λ next. quiet (with_open w next)))
     (modifies os w f.1.mode f.1.name f.0 commit next may.no_tree may.blob put)
@@ -117,9 +118,9 @@ file-told digest os w f commit next may put =
 -- ---- all of them
 
 deletes-all : (digest : List ℕ → List ℕ) (w : Workspace) (commit : OpenCommit)
-    → after_act digest DeleteAll (with_open w commit)
+    → after_act digest (Change DeleteAll) (with_open w commit)
     ≡ quiet (with_open w (record commit { files = finmap.empty }))
-unfolding after_act stored_or_shown shown_by placed_by set_by said_of_tag said_of_commit within_commit changed_by moved_by
+unfolding after_act files_changed
 deletes-all digest w commit = refl
 
 module _ (digest : List ℕ → List ℕ) (os : List Object) (w : Workspace) (commit : OpenCommit) where
@@ -138,6 +139,6 @@ module _ (digest : List ℕ → List ℕ) (os : List Object) (w : Workspace) (co
 
   pub changes-told : (files : Listed) (left : FileMap) → Puts files finmap.empty left
       → AllByRecursion (MayTell os w) files
-      → Leaves digest (asks DeleteAll ∷ map (act_of_file os) files) (with_open w commit) (with_map left)
+      → Leaves digest (asks (Change DeleteAll) ∷ map (act_of_file os) files) (with_open w commit) (with_map left)
   changes-told files left puts may =
       asked digest _ _ _ _ _ (deletes-all digest w commit) (files-told puts may)

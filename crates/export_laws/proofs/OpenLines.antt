@@ -6,7 +6,9 @@ use Rattle.git_model.specs.Repository.{Object}
 use Rattle.tenant_tables.specs.Sums.{TreesFit}
 use Rattle.file_maps.specs.FileMap.{FileMap}
 use Rattle.file_maps.specs.StoredFiles.{commit_map}
-use Rattle.stream_grammar.specs.Acts.{Author, BeginCommit, Committer, Encoding, OpenCommit, Reset, Wait}
+use Rattle.stream_grammar.specs.Acts.{Wait, Commit as CommitAct, Ref}
+use Rattle.stream_grammar.specs.Acts.{Begin, Author, Committer, Encoding, Message}
+use Rattle.stream_grammar.specs.Acts.{Reset}
 use Rattle.stream_grammar.specs.Names.{Expression}
 use Rattle.open_commits.specs.OpenCommit.{Header, OpenCommit as Open, begun}
 use Rattle.stream_state.specs.declared.branches.Tip.{Tip}
@@ -14,14 +16,15 @@ use Rattle.stream_state.specs.declared.branches.Tip.TheVariants.{Unborn, Deleted
 use Rattle.stream_state.specs.declared.fault.Fault.{Fault}
 use Rattle.stream_state.specs.declared.command_header.CommandHeader.{CommandHeader}
 use Rattle.stream_state.specs.Branches.{branch_set, has_branch_room, ref_meant, tip_commit, tip_for, Branches}
-use Rattle.import_session.specs.Commits.{begun_from}
+use Rattle.import_session.specs.Commits.{begun_from, commit_said}
 use Rattle.stream_state.specs.Faults.{and_then}
 use Rattle.import_session.specs.Faults.{changed_or}
-use Rattle.import_session.specs.Meaning.{after_act, placed_by, said_of_commit, said_of_tag, set_by, shown_by, stored_or_shown}
-use Rattle.import_session.specs.Sound.{IsBranch}
+use Rattle.import_session.specs.Meaning.{after_act}
+use Rattle.import_session.specs.Refs.{ref_set}
+use Rattle.import_session.specs.Sound.{IsStreamBranch}
 use Rattle.stream_state.specs.CommandHeader.{said_of}
 use Rattle.import_session.specs.Workspace.{Workspace, quiet}
-use Rattle.export_text.specs.ExportActs.{asks, asks_if}
+use Rattle.export_text.specs.ExportActs.{asks, asks_if, encoding_act}
 use Rattle.export_text.specs.ExportItems.{scratch}
 use Rattle.export_laws.specs.Leaving.{Leaves, nothing}
 use Rattle.export_laws.specs.Told.{IsScratchAlone}
@@ -39,9 +42,9 @@ scratch-set branches (inr found) tip = rw found.1 refl
 
 -- a reset leaves it unborn
 pub resets : (digest : List ℕ → List ℕ) (w : Workspace) → IsScratchAlone w.branches
-    → after_act digest (Reset scratch) w
+    → after_act digest (Ref (Reset scratch)) w
     ≡ quiet (record w { branches = (scratch, Unborn) ∷ []; said = Some (said_of scratch) })
-unfolding after_act stored_or_shown shown_by placed_by set_by ref_meant
+unfolding after_act ref_set ref_meant
 resets digest w alone =
     ap (λ (r : Result Branches Fault). and_then r (λ branches.
     quiet (record w { branches = branches; said = Some (said_of scratch) })))
@@ -63,31 +66,31 @@ said_by author committer encoding = record {
 }
 
 begins : (digest : List ℕ → List ℕ) (w : Workspace)
-    → after_act digest (BeginCommit scratch) w ≡ quiet (with_said w (said_of scratch))
-unfolding after_act stored_or_shown shown_by placed_by set_by said_of_tag said_of_commit ref_meant
+    → after_act digest (CommitAct (Begin scratch)) w ≡ quiet (with_said w (said_of scratch))
+unfolding after_act commit_said ref_meant
 begins digest w = refl
 
 authors : (digest : List ℕ → List ℕ) (w : Workspace) (said : CommandHeader) (ident : List ℕ)
-    → after_act digest (Author ident) (with_said w said)
+    → after_act digest (CommitAct (Author ident)) (with_said w said)
     ≡ quiet (with_said w (record said { author = Some ident }))
-unfolding after_act stored_or_shown shown_by placed_by set_by said_of_tag said_of_commit
+unfolding after_act commit_said
 authors digest w said ident = refl
 
 committers : (digest : List ℕ → List ℕ) (w : Workspace) (said : CommandHeader) (ident : List ℕ)
-    → after_act digest (Committer ident) (with_said w said)
+    → after_act digest (CommitAct (Committer ident)) (with_said w said)
     ≡ quiet (with_said w (record said { committer = Some ident }))
-unfolding after_act stored_or_shown shown_by placed_by set_by said_of_tag said_of_commit
+unfolding after_act commit_said
 committers digest w said ident = refl
 
 encodings : (digest : List ℕ → List ℕ) (w : Workspace) (said : CommandHeader) (text : List ℕ)
-    → after_act digest (Encoding text) (with_said w said)
+    → after_act digest (CommitAct (Encoding text)) (with_said w said)
     ≡ quiet (with_said w (record said { encoding = Some text }))
-unfolding after_act stored_or_shown shown_by placed_by set_by said_of_tag said_of_commit
+unfolding after_act commit_said
 encodings digest w said text = refl
 
 encoding-said : (digest : List ℕ → List ℕ) (w : Workspace) (author committer : List ℕ)
     (encoding : Option (List ℕ))
-    → Leaves digest (asks_if Encoding encoding) (with_said w (said_by author committer None))
+    → Leaves digest (asks_if encoding_act encoding) (with_said w (said_by author committer None))
     (with_said w (said_by author committer encoding))
 encoding-said digest w author committer None = nothing _
 encoding-said digest w author committer (Some text) =
@@ -96,8 +99,8 @@ encoding-said digest w author committer (Some text) =
 lines-said : (digest : List ℕ → List ℕ) (w : Workspace) (author committer : List ℕ)
     (encoding : Option (List ℕ))
     → Leaves digest
-    (asks (BeginCommit scratch) ∷ asks Wait ∷ asks (Author author) ∷ asks (Committer committer)
-    ∷ asks_if Encoding encoding) w (with_said w (said_by author committer encoding))
+    (asks (CommitAct (Begin scratch)) ∷ asks Wait ∷ asks (CommitAct (Author author)) ∷ asks (CommitAct (Committer committer))
+    ∷ asks_if encoding_act encoding) w (with_said w (said_by author committer encoding))
 lines-said digest w author committer encoding =
     asked digest _ _ _ _ _ (begins digest w)
     (asked digest _ _ _ _ _ (waits digest _)
@@ -119,13 +122,13 @@ header_by mark author committer encoding = record {
 opens : (digest : List ℕ → List ℕ) (w : Workspace) → IsScratchAlone w.branches
     → (mark : Option ℕ) (message author committer : List ℕ) (encoding : Option (List ℕ)) (opening : Open)
     → begun_from w.objects (tip_commit w.branches scratch) (begun (header_by mark author committer encoding) message) ≡ Ok opening
-    → after_act digest (OpenCommit mark message) (with_said w (said_by author committer encoding))
+    → after_act digest (CommitAct (Message mark message)) (with_said w (said_by author committer encoding))
     ≡ quiet (record w {
       branches = (scratch, tip_for (tip_commit w.branches scratch)) ∷ [];
       said = None;
       commit = Some opening;
     })
-unfolding after_act stored_or_shown shown_by placed_by
+unfolding after_act commit_said
 opens digest w alone mark message author committer encoding opening is =
     let tip = tip_for (tip_commit w.branches scratch) in
     let new = begun (header_by mark author committer encoding) message in
@@ -141,8 +144,8 @@ pub opened : (digest : List ℕ → List ℕ) (w : Workspace) → IsScratchAlone
     → (mark : Option ℕ) (message author committer : List ℕ) (encoding : Option (List ℕ)) (opening : Open)
     → begun_from w.objects (tip_commit w.branches scratch) (begun (header_by mark author committer encoding) message) ≡ Ok opening
     → Leaves digest
-    ((asks (BeginCommit scratch) ∷ asks Wait ∷ asks (Author author) ∷ asks (Committer committer)
-    ∷ asks_if Encoding encoding) ++ asks (OpenCommit mark message) ∷ []) w
+    ((asks (CommitAct (Begin scratch)) ∷ asks Wait ∷ asks (CommitAct (Author author)) ∷ asks (CommitAct (Committer committer))
+    ∷ asks_if encoding_act encoding) ++ asks (CommitAct (Message mark message)) ∷ []) w
     (record w {
       branches = (scratch, tip_for (tip_commit w.branches scratch)) ∷ [];
       said = None;
@@ -164,7 +167,7 @@ pub record Begins (objects : List Object) (branches : Branches) (header : Header
 
 module _ (digest : List ℕ → List ℕ) (objects : List Object) (good : AreObjects digest objects)
     (fit : TreesFit [] objects) (header : Header) (message : List ℕ) where
-  begins-at : (tip : Tip) → IsBranch objects (scratch, tip)
+  begins-at : (tip : Tip) → IsStreamBranch objects (scratch, tip)
       → Begins objects ((scratch, tip) ∷ []) header message
   begins-at Unborn is = record { parents = []; files = (begun header message).files; are = refl }
   begins-at Deleted is = record { parents = []; files = (begun header message).files; are = refl }
@@ -174,11 +177,11 @@ module _ (digest : List ℕ → List ℕ) (objects : List Object) (good : AreObj
     are = ap changed_or (started digest objects good fit id is.tip (begun header message));
   }
 
-  pub begins-with : (branches : Branches) → IsScratchAlone branches → All (IsBranch objects) branches
+  pub begins-with : (branches : Branches) → IsScratchAlone branches → All (IsStreamBranch objects) branches
       → Begins objects branches header message
   begins-with branches (inl none) are =
       subst (λ (b : Branches). Begins objects b header message) (sym none)
       (record { parents = []; files = (begun header message).files; are = refl })
   begins-with branches (inr found) are =
       subst (λ (b : Branches). Begins objects b header message) (sym found.1)
-      (begins-at found.0 (All-head (IsBranch objects) (scratch, found.0) [] (rw found.1 at are)))
+      (begins-at found.0 (All-head (IsStreamBranch objects) (scratch, found.0) [] (rw found.1 at are)))

@@ -14,17 +14,18 @@ use Rattle.revisions.specs.declared.fault.Fault.TheVariants as revision_fault
 use Rattle.revisions.specs.Faults.{or_fault}
 use Rattle.revisions.specs.Resolution.{peeled}
 use Rattle.file_maps.specs.StoredFiles.{commit_map}
-use Rattle.stream_grammar.specs.Acts.{Merge, StartFrom}
+use Rattle.stream_grammar.specs.Acts.{Commit as CommitAct}
+use Rattle.stream_grammar.specs.Acts.{From, Merge}
 use Rattle.stream_grammar.specs.Names.{Marked}
 use Rattle.open_commits.specs.OpenCommit.{OpenCommit}
 use Rattle.open_commits.specs.Parents.{merged, started_from}
 use Rattle.stream_state.specs.declared.fault.Fault.{Fault}
-use Rattle.import_session.specs.Changes.{changed_by}
+use Rattle.import_session.specs.Commits.{commit_said}
 use Rattle.import_session.specs.CommitIshes.{commit_in}
 use Rattle.stream_state.specs.Faults.{and_then, resolved_or}
 use Rattle.import_session.specs.Faults.{changed_or}
 use Rattle.stream_state.specs.Marks.{marked_name}
-use Rattle.import_session.specs.Meaning.{after_act, placed_by, said_of_commit, said_of_tag, set_by, shown_by, stored_or_shown, within_commit}
+use Rattle.import_session.specs.Meaning.{after_act}
 use Rattle.import_session.specs.Workspace.{Workspace, quiet}
 use Rattle.export_text.specs.ExportActs.{merges, number_of, parent_acts}
 use Rattle.export_laws.specs.Leaving.{Leaves, nothing}
@@ -64,9 +65,9 @@ commit-meant os w id told =
 starts : (digest : List ℕ → List ℕ) (os : List Object) (w : Workspace) (id : List ℕ)
     (commit next : OpenCommit) → IsToldAs os w id kind.Commit
     → started_from w.objects id commit ≡ Ok next
-    → after_act digest (StartFrom (Marked (number_of os id))) (with_open w commit)
+    → after_act digest (CommitAct (From (Marked (number_of os id)))) (with_open w commit)
     ≡ quiet (with_open w next)
-unfolding after_act stored_or_shown shown_by placed_by set_by said_of_tag said_of_commit within_commit changed_by
+unfolding after_act commit_said
 starts digest os w id commit next told is =
     ap (λ (r : Result (List ℕ) Fault). and_then (and_then r (λ id. changed_or (started_from w.objects id commit)))
     (λ next. quiet (with_open w next))) (commit-meant os (with_open w commit) id (record { is = told.is; mark = told.mark }))
@@ -78,9 +79,9 @@ merge-done id commit few = rw (lt-ltb (length commit.parents) parents_limit few)
 
 merging : (digest : List ℕ → List ℕ) (os : List Object) (w : Workspace) (id : List ℕ)
     (commit next : OpenCommit) → IsToldAs os w id kind.Commit → merged id commit ≡ Ok next
-    → after_act digest (Merge (Marked (number_of os id))) (with_open w commit)
+    → after_act digest (CommitAct (Merge (Marked (number_of os id)))) (with_open w commit)
     ≡ quiet (with_open w next)
-unfolding after_act stored_or_shown shown_by placed_by set_by said_of_tag said_of_commit within_commit changed_by
+unfolding after_act commit_said
 merging digest os w id commit next told is =
     ap (λ (r : Result (List ℕ) Fault). and_then (and_then r (λ id. changed_or (merged id commit)))
     (λ next. quiet (with_open w next))) (commit-meant os (with_open w commit) id (record { is = told.is; mark = told.mark }))

@@ -15,7 +15,7 @@ use Rattle.git_model.proofs.Growing.{prefix_is}
 use Rattle.git_model.proofs.TreeReadings.{tree_back}
 use Rattle.file_maps.specs.declared.entry.Entry.{Entry}
 use Rattle.file_maps.specs.FileMap.{Listed, Path}
-use Rattle.file_maps.specs.HeldFiles.{IsHeld}
+use Rattle.file_maps.specs.HeldFiles.{IsFileHeld}
 use Rattle.file_maps.specs.StoredFiles.{stored_files}
 use Rattle.file_maps.specs.StoredTree.{HasTree, Lists, ListsTree, nothing, first_file, first_directory}
 use Rattle.file_maps.specs.Trees.{tree_content}
@@ -114,9 +114,9 @@ module _ (digest : List ℕ → List ℕ) (repository : Repository) (good : AreO
         (listed-longer tree (stored_files first tree) (files-of digest first first-good tree k).listed))
 
     files-held : (tree : List ℕ) → kind_named tree first ≡ Some kind.Tree
-        → AllByRecursion (IsHeld first) (stored_files repository.objects tree)
+        → AllByRecursion (IsFileHeld first) (stored_files repository.objects tree)
     files-held tree k =
-        subst (AllByRecursion (IsHeld first)) (sym (same-files tree k))
+        subst (AllByRecursion (IsFileHeld first)) (sym (same-files tree k))
         (stored-held digest first first-good tree k)
 
     pub files-tellable : (tree : List ℕ) → kind_named tree first ≡ Some kind.Tree
@@ -125,7 +125,7 @@ module _ (digest : List ℕ → List ℕ) (repository : Repository) (good : AreO
         → AllByRecursion (IsTellable repository first) (stored_files repository.objects tree)
     files-tellable tree k whole reached =
         let fs = stored_files repository.objects tree in
-        all-weaker (λ (f : Path × Entry). IsSound f × (IsHeld first f × ReachesFile f))
+        all-weaker (λ (f : Path × Entry). IsSound f × (IsFileHeld first f × ReachesFile f))
         (IsTellable repository first)
         (λ f h. record {
           no_tree = h.0.mode;
@@ -133,6 +133,6 @@ module _ (digest : List ℕ → List ℕ) (repository : Repository) (good : AreO
           reached = h.1.1;
         })
         fs
-        (all-both IsSound (λ (f : Path × Entry). IsHeld first f × ReachesFile f) fs
+        (all-both IsSound (λ (f : Path × Entry). IsFileHeld first f × ReachesFile f) fs
         (tree-sound repository.objects tree fs (files-of digest repository.objects good tree whole).listed)
-        (all-both (IsHeld first) ReachesFile fs (files-held tree k) (files-reached tree whole reached)))
+        (all-both (IsFileHeld first) ReachesFile fs (files-held tree k) (files-reached tree whole reached)))

@@ -17,7 +17,8 @@ use Rattle.tenant_tables.specs.Sums.{TreesFit}
 use Rattle.file_maps.specs.FileMap.{FileMap, Listed, listed}
 use Rattle.file_maps.specs.StoredFiles.{commit_map, stored_files, stored_map}
 use Rattle.file_maps.proofs.Apart.{all-weaker}
-use Rattle.stream_grammar.specs.Acts.{Author, BeginCommit, Committer, Encoding, OpenCommit, Wait}
+use Rattle.stream_grammar.specs.Acts.{Wait, Commit as CommitAct}
+use Rattle.stream_grammar.specs.Acts.{Begin, Author, Committer, Message}
 use Rattle.stream_grammar.specs.Commands.{Done}
 use Rattle.open_commits.specs.OpenCommit.{Header, OpenCommit as Open}
 use Rattle.stream_state.specs.declared.branches.Tip.{Tip}
@@ -26,7 +27,7 @@ use Rattle.stream_state.specs.Branches.{tip_commit, tip_for}
 use Rattle.import_session.specs.Sound.{IsSound}
 use Rattle.stream_state.specs.CommandHeader.{said_of}
 use Rattle.import_session.specs.Workspace.{Workspace}
-use Rattle.export_text.specs.ExportActs.{asks, asks_if, file_acts, fresh_acts, head_acts_of, number_of, parent_acts}
+use Rattle.export_text.specs.ExportActs.{asks, asks_if, encoding_act, file_acts, fresh_acts, head_acts_of, number_of, parent_acts}
 use Rattle.export_text.specs.ExportItems.{scratch}
 use Rattle.export_laws.specs.Commits.{commit_told, header_told, workspace_with}
 use Rattle.export_laws.specs.Leaving.{Leaves, nothing}
@@ -42,7 +43,7 @@ use Rattle.export_laws.proofs.OpenTrees.{files-good, files-listed, started}
 
 -- The acts of a commit before its end.
 abbrev pub acts_before_end : List Object → List ℕ → Commit → List Done
-acts_before_end os id c = head_acts_of c ++ asks (OpenCommit (Some (number_of os id)) c.message) ∷ []
+acts_before_end os id c = head_acts_of c ++ asks (CommitAct (Message (Some (number_of os id)) c.message)) ∷ []
     ++ parent_acts os c.parents ++ file_acts os c.tree
 
 -- What was told stays, but that the branch of commits stands so, and nothing is said.
@@ -163,12 +164,12 @@ module _ (digest : List ℕ → List ℕ) (repository : Repository) (good : AreO
   workspace_at head tip = workspace_of head (at_tip told tip)
 
   abbrev lines : List Done
-  lines = asks (BeginCommit scratch) ∷ asks Wait
-      ∷ asks (Author c.author) ∷ asks (Committer c.committer)
-      ∷ asks_if Encoding c.encoding
+  lines = asks (CommitAct (Begin scratch)) ∷ asks Wait
+      ∷ asks (CommitAct (Author c.author)) ∷ asks (CommitAct (Committer c.committer))
+      ∷ asks_if encoding_act c.encoding
 
   abbrev open_act : List Done
-  open_act = asks (OpenCommit (Some mark) c.message) ∷ []
+  open_act = asks (CommitAct (Message (Some mark) c.message)) ∷ []
 
   abbrev reset_at : Option (List ℕ) → Workspace
   reset_at head = record (workspace_of head told) {

@@ -4,14 +4,15 @@ use Rattle.std.specs.Str.{bytes_eq}
 use Rattle.std.proofs.lemmas.Bool.{cases_Bool, lt-ltb}
 use Rattle.git_model.specs.declared.kind.Kind.TheVariants as kind
 use Rattle.git_model.specs.Repository.{Object}
-use Rattle.stream_grammar.specs.Acts.{Reset, ResetTo, Wait}
+use Rattle.stream_grammar.specs.Acts.{Wait, Ref}
+use Rattle.stream_grammar.specs.Acts.{Reset, ResetFrom}
 use Rattle.stream_grammar.specs.Names.{CommitIsh, Marked, Expression}
 use Rattle.stream_state.specs.declared.branches.Tip.{Tip}
 use Rattle.stream_state.specs.declared.branches.Tip.TheVariants.{Unborn, Deleted, At}
 use Rattle.stream_state.specs.declared.command_header.CommandHeader.{CommandHeader}
 use Rattle.stream_state.specs.Branches.{branch_limit, has_branch_room, ref_meant, tip_of, with_branch, Branches}
-use Rattle.import_session.specs.Meaning.{after_act, placed_by, set_by, shown_by, stored_or_shown}
-use Rattle.import_session.specs.Resets.{is_zeros, tip_from}
+use Rattle.import_session.specs.Meaning.{after_act}
+use Rattle.import_session.specs.Refs.{is_zeros, ref_set, tip_from}
 use Rattle.stream_state.specs.Tags.{PendingTags}
 use Rattle.stream_state.specs.CommandHeader.{said_of}
 use Rattle.import_session.specs.Workspace.{Workspace, quiet}
@@ -61,16 +62,16 @@ has-room branches ref few = elim (cases_Bool (is_some (tip_of branches ref))) [
 
 begins : (digest : List ℕ → List ℕ) (w : Workspace) (ref : List ℕ)
     → bytes_eq ref (codes "HEAD") ≡ false → has_branch_room w.branches ref ≡ true
-    → after_act digest (Reset ref) w
+    → after_act digest (Ref (Reset ref)) w
     ≡ quiet (record w { branches = with_branch w.branches ref Unborn; said = Some (said_of ref) })
-unfolding after_act stored_or_shown shown_by placed_by set_by ref_meant
+unfolding after_act ref_set ref_meant
 begins digest w ref name room = rw (name, room) refl
 
 places : (digest : List ℕ → List ℕ) (w : Workspace) (ref : List ℕ) (to : CommitIsh) (tip : Tip)
     → tip_from (record w { said = Some (said_of ref) }) ref to ≡ Ok tip
-    → after_act digest (ResetTo to) (record w { said = Some (said_of ref) })
+    → after_act digest (Ref (ResetFrom to)) (record w { said = Some (said_of ref) })
     ≡ quiet (record w { branches = with_branch w.branches ref tip; said = None })
-unfolding after_act stored_or_shown shown_by placed_by
+unfolding after_act ref_set
 places digest w ref to tip is = rw is refl
 
 pub reset-leaves : (digest : List ℕ → List ℕ) (saved : Workspace) (branches : Branches)
@@ -80,9 +81,9 @@ pub reset-leaves : (digest : List ℕ → List ℕ) (saved : Workspace) (branche
     → Leaves digest (reset_acts ref to) (state saved branches tags said)
     (state saved (placed branches ref tip) tags None)
 reset-leaves digest saved branches tags said ref to tip name few is =
-    asked digest (Reset ref) _ _ _ _
+    asked digest (Ref (Reset ref)) _ _ _ _
     (begins digest (state saved branches tags said) ref name (has-room branches ref few))
-    (asked digest (ResetTo to) _ _ _ _
+    (asked digest (Ref (ResetFrom to)) _ _ _ _
     (places digest (state saved (with_branch branches ref Unborn) tags None) ref to tip is)
     (asked digest Wait _ _ _ _ (waits digest _) (nothing _)))
 

@@ -22,11 +22,13 @@ use Rattle.tenant_tables.specs.Sums.{TreesFit}
 use Rattle.file_maps.specs.FileMap.{IsFile, Listed, listed}
 use Rattle.file_maps.specs.StoredFiles.{stored_map}
 use Rattle.file_maps.proofs.Listing.{all-append}
-use Rattle.stream_grammar.specs.Acts.{Act, Encoding, OpenCommit, StoreTag, TagTarget, Tagger}
+use Rattle.stream_grammar.specs.Acts.{Act, Object as ObjectAct, Commit as CommitAct}
+use Rattle.stream_grammar.specs.Acts.{TagTarget, Tag as TagCommand}
+use Rattle.stream_grammar.specs.Acts.{Message}
 use Rattle.stream_grammar.specs.Commands.{Done}
 use Rattle.stream_grammar.specs.Names.{Marked}
 use Rattle.stream_grammar.specs.WellFormed.{IsReferred, IsWellFormed, NamesShortRef}
-use Rattle.export_text.specs.ExportActs.{act_of_file, acts_of, acts_of_object, asks, asks_if, commit_acts, dataref, file_acts, fresh_acts, head_acts_of, merges, number_of, parent_acts, tag_acts, wait_if}
+use Rattle.export_text.specs.ExportActs.{act_of_file, acts_of, acts_of_object, asks, asks_if, commit_acts, dataref, encoding_act, file_acts, fresh_acts, head_acts_of, merges, number_of, parent_acts, tag_acts, tagger_act, wait_if}
 use Rattle.export_text.specs.ExportItems.{scratch}
 use Rattle.export_text.specs.Reached.{tag_ref}
 use Rattle.export_text.proofs.ExportAsked.{commit-writable, tag-writable}
@@ -84,7 +86,7 @@ module _ (os : List Object) where
   head-well : (c : Commit) → CanWriteCommit c → AreWell (head_acts_of c)
   head-well c can =
       both-well (fresh_acts c.parents) _ (fresh-well c.parents)
-      (scratch-well, (tt, (can.author, (can.committer, if-well Encoding c.encoding can.encoding))))
+      (scratch-well, (tt, (can.author, (can.committer, if-well encoding_act c.encoding can.encoding))))
 
   commit-well : (id : List ℕ) (c : Commit) → CanWriteCommit c
       → AllByRecursion IsFile (listed (stored_map os c.tree)) → AreWell (commit_acts os id c)
@@ -92,7 +94,7 @@ module _ (os : List Object) where
       both-well _ _
       (both-well _ (file_acts os c.tree)
       (both-well _ (parent_acts os c.parents)
-      (both-well (head_acts_of c) (asks (OpenCommit (Some (number_of os id)) c.message) ∷ [])
+      (both-well (head_acts_of c) (asks (CommitAct (Message (Some (number_of os id)) c.message)) ∷ [])
       (head-well c can) (tt, tt)) (parents-well c.parents))
       (tt, files-well (listed (stored_map os c.tree)) are)) (tt, tt)
 
@@ -106,10 +108,10 @@ pub tag-well : (os : List Object) (mark : Option ℕ) (t : Tag) → CanWriteTag 
     → length (tag_ref t.name) ≤ 1024 → AreWell (tag_acts os mark t)
 tag-well os mark t can short = (
   record { name = record { name = can.name; short = short }; tag = (t.name, refl) },
-  both-well _ (asks (StoreTag mark t.message) ∷ [])
-      (both-well _ (asks_if Tagger t.tagger)
-      (both-well (wait_if mark) (asks (TagTarget (Marked (number_of os t.target))) ∷ [])
-      (wait-well mark) (tt, tt)) (if-well Tagger t.tagger can.tagger)) (tt, tt),
+  both-well _ (asks (ObjectAct (TagCommand mark t.message)) ∷ [])
+      (both-well _ (asks_if tagger_act t.tagger)
+      (both-well (wait_if mark) (asks (ObjectAct (TagTarget (Marked (number_of os t.target)))) ∷ [])
+      (wait-well mark) (tt, tt)) (if-well tagger_act t.tagger can.tagger)) (tt, tt),
 )
 
 -- ---- an object that stands next

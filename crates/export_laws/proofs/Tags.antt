@@ -8,16 +8,18 @@ use Rattle.git_model.specs.References.{kind_named}
 use Rattle.git_model.specs.Repository.{with_object}
 use Rattle.git_model.specs.Tag.{Tag, tag_contents}
 use Rattle.tenant_tables.specs.Adding.{store_fault}
-use Rattle.stream_grammar.specs.Acts.{BeginTag, StoreTag, TagTarget, Tagger}
+use Rattle.stream_grammar.specs.Acts.{Object as ObjectAct}
+use Rattle.stream_grammar.specs.Acts.{BeginTag, TagTarget, Tagger, Tag as TagCommand}
 use Rattle.stream_grammar.specs.Commands.{Done}
 use Rattle.stream_grammar.specs.Names.{Marked}
 use Rattle.stream_state.specs.declared.command_header.CommandHeader.{CommandHeader}
 use Rattle.stream_state.specs.Marks.{marked_name, room_for, with_mark}
-use Rattle.import_session.specs.Meaning.{after_act, placed_by, said_of_tag, set_by, shown_by, stored_or_shown}
+use Rattle.import_session.specs.Meaning.{after_act}
+use Rattle.import_session.specs.Objects.{object_stored}
 use Rattle.stream_state.specs.Tags.{room_for_tag, tag_limit, tagged_kind}
 use Rattle.stream_state.specs.CommandHeader.{said_of}
 use Rattle.import_session.specs.Workspace.{Workspace, quiet}
-use Rattle.export_text.specs.ExportActs.{asks, asks_if, wait_if}
+use Rattle.export_text.specs.ExportActs.{asks, asks_if, tagger_act, wait_if}
 use Rattle.export_text.specs.Reached.{tag_ref}
 use Rattle.export_laws.specs.Leaving.{Leaves, nothing}
 use Rattle.export_laws.proofs.Acts.{asked}
@@ -32,20 +34,20 @@ abbrev said_target : List ℕ → ℕ → Option (List ℕ) → CommandHeader
 said_target ref n tagger = record (said_of ref) { target = Marked n; tagger = tagger }
 
 begins : (digest : List ℕ → List ℕ) (w : Workspace) (ref : List ℕ)
-    → after_act digest (BeginTag ref) w ≡ quiet (with_said w (said_of ref))
-unfolding after_act stored_or_shown shown_by placed_by set_by said_of_tag
+    → after_act digest (ObjectAct (BeginTag ref)) w ≡ quiet (with_said w (said_of ref))
+unfolding after_act object_stored
 begins digest w ref = refl
 
 targets : (digest : List ℕ → List ℕ) (w : Workspace) (ref : List ℕ) (n : ℕ)
-    → after_act digest (TagTarget (Marked n)) (with_said w (said_of ref))
+    → after_act digest (ObjectAct (TagTarget (Marked n))) (with_said w (said_of ref))
     ≡ quiet (with_said w (said_target ref n None))
-unfolding after_act stored_or_shown shown_by placed_by set_by said_of_tag
+unfolding after_act object_stored
 targets digest w ref n = refl
 
 taggers : (digest : List ℕ → List ℕ) (w : Workspace) (ref : List ℕ) (n : ℕ) (ident : List ℕ)
-    → after_act digest (Tagger ident) (with_said w (said_target ref n None))
+    → after_act digest (ObjectAct (Tagger ident)) (with_said w (said_target ref n None))
     ≡ quiet (with_said w (said_target ref n (Some ident)))
-unfolding after_act stored_or_shown shown_by placed_by set_by said_of_tag
+unfolding after_act object_stored
 taggers digest w ref n ident = refl
 
 -- ---- its data
@@ -79,9 +81,9 @@ tagged_in digest w mark t =
 
 tag-stored : (digest : List ℕ → List ℕ) (w : Workspace) (mark : Option ℕ) (t : Tag) (n : ℕ)
     → MayTag digest w mark t n
-    → after_act digest (StoreTag mark t.message) (with_said w (said_target (tag_ref t.name) n t.tagger))
+    → after_act digest (ObjectAct (TagCommand mark t.message)) (with_said w (said_target (tag_ref t.name) n t.tagger))
     ≡ quiet (tagged_in digest w mark t)
-unfolding after_act
+unfolding after_act object_stored
 tag-stored digest w mark t n may =
     let few : room_for_tag w.tags ≡ Ok tt = room_there in
     rw (may.target, may.kind_is, no_tree t.kind may.no_tree, may.marks, few, may.unrefused) refl
@@ -92,25 +94,25 @@ tag-stored digest w mark t n may =
 -- ---- all of them
 
 abbrev acts_for : ℕ → Option ℕ → Tag → List Done
-acts_for n mark t = asks (BeginTag (tag_ref t.name)) ∷ wait_if mark
-    ++ asks (TagTarget (Marked n)) ∷ []
-    ++ asks_if Tagger t.tagger ++ asks (StoreTag mark t.message) ∷ []
+acts_for n mark t = asks (ObjectAct (BeginTag (tag_ref t.name))) ∷ wait_if mark
+    ++ asks (ObjectAct (TagTarget (Marked n))) ∷ []
+    ++ asks_if tagger_act t.tagger ++ asks (ObjectAct (TagCommand mark t.message)) ∷ []
 
 module _ (digest : List ℕ → List ℕ) (w : Workspace) (n : ℕ) where
   from-target : (mark : Option ℕ) (t : Tag) → MayTag digest w mark t n → (tagger : Option (List ℕ))
       → t.tagger ≡ tagger
-      → Leaves digest (asks (TagTarget (Marked n)) ∷ [] ++ asks_if Tagger tagger ++ asks (StoreTag mark t.message) ∷ [])
+      → Leaves digest (asks (ObjectAct (TagTarget (Marked n))) ∷ [] ++ asks_if tagger_act tagger ++ asks (ObjectAct (TagCommand mark t.message)) ∷ [])
       (with_said w (said_of (tag_ref t.name))) (tagged_in digest w mark t)
   from-target mark t may None is =
       asked digest _ _ _ _ _ (targets digest w (tag_ref t.name) n)
       (asked digest _ _ _ _ _
-      (subst (λ (tagger : Option (List ℕ)). after_act digest (StoreTag mark t.message) (with_said w (said_target (tag_ref t.name) n tagger)) ≡ quiet (tagged_in digest w mark t))
+      (subst (λ (tagger : Option (List ℕ)). after_act digest (ObjectAct (TagCommand mark t.message)) (with_said w (said_target (tag_ref t.name) n tagger)) ≡ quiet (tagged_in digest w mark t))
       is (tag-stored digest w mark t n may)) (nothing _))
   from-target mark t may (Some ident) is =
       asked digest _ _ _ _ _ (targets digest w (tag_ref t.name) n)
       (asked digest _ _ _ _ _ (taggers digest w (tag_ref t.name) n ident)
       (asked digest _ _ _ _ _
-      (subst (λ (tagger : Option (List ℕ)). after_act digest (StoreTag mark t.message) (with_said w (said_target (tag_ref t.name) n tagger)) ≡ quiet (tagged_in digest w mark t))
+      (subst (λ (tagger : Option (List ℕ)). after_act digest (ObjectAct (TagCommand mark t.message)) (with_said w (said_target (tag_ref t.name) n tagger)) ≡ quiet (tagged_in digest w mark t))
       is (tag-stored digest w mark t n may)) (nothing _)))
 
   -- the acts of a tag, with or without a mark

@@ -4,12 +4,8 @@ use Rattle.git_model.specs.declared.kind.Kind.{Kind}
 use Rattle.git_model.specs.declared.kind.Kind.TheVariants as kind
 use Rattle.git_model.specs.Commit.{Commit}
 use Rattle.git_model.specs.CommitReading.{commit_read}
-use Rattle.git_model.specs.Repository.{Object, Repository}
+use Rattle.git_model.specs.Repository.{Repository}
 use Rattle.git_model.specs.TagReading.{tag_read}
-use Rattle.git_paths.specs.Paths.{AreOfBytes}
-use Rattle.file_maps.specs.declared.entry.Entry.{Entry}
-use Rattle.file_maps.specs.FileMap.{Path, listed}
-use Rattle.file_maps.specs.StoredFiles.{stored_map}
 use Rattle.stream_lex.specs.Headers.{largest_data}
 use Rattle.export_text.specs.Limits.{FitsLine, FitsTag}
 use Rattle.export_text.specs.Reached.{is_exportable, reached_tags}
@@ -17,32 +13,26 @@ use Rattle.stream_state.specs.Tags.{tag_limit}
 use Rattle.export_laws.specs.Told.{AreOf}
 use Rattle.export_laws.specs.Whole.{HasReached}
 
--- The path of a file is made of bytes.
-abbrev pub HasPathOfBytes : Path × Entry → Type 0
-HasPathOfBytes f = AreOfBytes f.0
-
 -- The lines of a commit and its message fit into a stream.
-pub record CommitFits (os : List Object) (c : Commit) : Type 0 where
+pub record CommitFits (c : Commit) : Type 0 where
   pub author : FitsLine (codes "author ") c.author
   pub committer : FitsLine (codes "committer ") c.committer
   pub encoding : IfSome c.encoding (FitsLine (codes "encoding "))
   pub message : length c.message ≤ largest_data
-  pub paths : All HasPathOfBytes (listed (stored_map os c.tree))
 
 -- An object fits into a stream. A tree is written by the commits that have it, and a sound
 -- repository has no path or ref name that is too long.
-abbrev pub FitsStream : List Object → Kind → List ℕ → Type 0
-FitsStream os kind.Blob bytes = length bytes ≤ largest_data
-FitsStream os kind.Tree bytes = Unit {0}
-FitsStream os kind.Commit bytes = CommitFits os (commit_read bytes)
-FitsStream os kind.Tag bytes = FitsTag (tag_read bytes)
+abbrev pub FitsStream : Kind → List ℕ → Type 0
+FitsStream kind.Blob bytes = length bytes ≤ largest_data
+FitsStream kind.Tree bytes = Unit {0}
+FitsStream kind.Commit bytes = CommitFits (commit_read bytes)
+FitsStream kind.Tag bytes = FitsTag (tag_read bytes)
 
 -- What the limits ask of a repository that is to be copied: each line and each data of its export
 -- fits into a stream, its refs are few enough for an export, and they reach no more tags than may
 -- wait for one checkpoint.
 pub record CanBeCopied (repository : Repository) : Type 0 where
-  pub fits : All (λ o. FitsStream repository.objects o.content.kind o.content.bytes)
-      repository.objects
+  pub fits : All (λ o. FitsStream o.content.kind o.content.bytes) repository.objects
   pub few_refs : is_exportable repository ≡ true
   pub few_tags : length (reached_tags repository) ≤ tag_limit
 

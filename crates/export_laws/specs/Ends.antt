@@ -48,6 +48,6 @@ imported digest text =
 pub record IsImported (digest : List ℕ → List ℕ) (repository : Repository) : Type 0 where
   pub left : Repository
   pub prints : (imported digest (export_text repository)).replies ≡ []
-  pub ends : finished digest (imported digest (export_text repository)).standing
+  pub ends : finished digest (imported digest (export_text repository)).status
       ≡ record { fault = None; reply = []; repository = left }
   pub copy : IsCopyOf repository left

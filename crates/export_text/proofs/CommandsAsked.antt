@@ -24,7 +24,13 @@ use Rattle.stream_grammar.specs.declared.stage.Opened.{Opened}
 use Rattle.stream_grammar.specs.declared.stage.Opened.TheVariants as opened
 use Rattle.stream_grammar.specs.Texts.{read}
 use Rattle.stream_grammar.specs.Names.{CommitIsh, Marked, Expression, ref_of}
-use Rattle.stream_grammar.specs.Acts.{Act, Wait, BeginCommit, Author, Committer, Encoding, Merge, DeleteAll, BeginTag, TagTarget, Tagger, StoreTag, Reset, ResetTo, Checkpoint, Effect, brings}
+use Rattle.stream_grammar.specs.declared.act.ControlCommand.TheVariants as control
+use Rattle.stream_grammar.specs.Acts.{Act, Wait, Object as ObjectAct, Commit as CommitAct, Change}
+use Rattle.stream_grammar.specs.Acts.{Ref, Control, Effect, brings}
+use Rattle.stream_grammar.specs.Acts.{BeginTag, TagTarget, Tagger, Tag as TagCommand}
+use Rattle.stream_grammar.specs.Acts.{Begin, Author, Committer, Encoding, Merge}
+use Rattle.stream_grammar.specs.Acts.{DeleteAll}
+use Rattle.stream_grammar.specs.Acts.{Reset, ResetFrom}
 use Rattle.stream_grammar.specs.Grammar.{Term, Stands, Ends, fit, perhaps, once, any_number, changes}
 use Rattle.stream_grammar.specs.Lines.{from_act, line_effect}
 use Rattle.stream_grammar.specs.Parts.{part_by_word, part_of_line}
@@ -33,7 +39,7 @@ use Rattle.stream_grammar.proofs.Printed.{mark_of-decimal, dataref_of-decimal, d
 use Rattle.stream_grammar.proofs.Refs.{ref_of-Ok}
 use Rattle.export_text.specs.Reached.{tag_ref}
 use Rattle.export_text.specs.ExportItems.{mark_text, marked, line_if, blob_items, scratch, fresh_branch, parent_items, dataref_text, item_of_file, commit_items, tag_items}
-use Rattle.export_text.specs.ExportActs.{asks, number_of, asks_if, blob_acts, fresh_acts, merges, parent_acts, dataref, act_of_file, commit_acts, tag_acts, saving_acts, reset_acts, removal_acts}
+use Rattle.export_text.specs.ExportActs.{asks, number_of, encoding_act, tagger_act, asks_if, blob_acts, fresh_acts, merges, parent_acts, dataref, act_of_file, commit_acts, tag_acts, saving_acts, reset_acts, removal_acts}
 use Rattle.export_text.specs.Export.{saving_items, removal_items}
 use Rattle.export_text.proofs.WrittenWords.{mark-spaceless, name-spaceless, name-other, commit_ish-mark, commit_ish-none, ident-read, encoding-read}
 use Rattle.export_text.proofs.Asking.{Asks, AsksAlone, Gives, idle, under_way, nothing-asked, then-more, and-then, inside, data-inside, blank-inside, begins}
@@ -148,28 +154,28 @@ effect mark act = record { mark = mark; act = act }
 
 module _ (ref : List ℕ) (is : ref_of ref ≡ Ok ref) where
   reset-begins : (late : Bool)
-      → Gives (idle late) (Line (codes "reset " ++ ref)) (asks (Reset ref)) (under_way opened.Reset None reset_left)
+      → Gives (idle late) (Line (codes "reset " ++ ref)) (asks (Ref (Reset ref))) (under_way opened.Reset None reset_left)
   reset-begins late =
-      begins (idle late) (codes "reset " ++ ref) part.Reset reset_left (Reset ref) (is-reset ref)
-      refl refl refl refl (ap (λ (r : Result (List ℕ) Fault). read r (λ x. Ok (Reset x))) is)
+      begins (idle late) (codes "reset " ++ ref) part.Reset reset_left (Ref (Reset ref)) (is-reset ref)
+      refl refl refl refl (ap (λ (r : Result (List ℕ) Fault). read r (λ x. Ok (Ref (Reset x)))) is)
 
 -- A checkpoint after a reset.
 pub saving-asked : AsksAlone saving_items saving_acts
 saving-asked late = (
   true,
   then-more (reset-begins scratch scratch-read late)
-      (then-more (begins (under_way opened.Reset None reset_left) (codes "checkpoint") part.Checkpoint [] Checkpoint is-checkpoint refl refl refl refl refl)
+      (then-more (begins (under_way opened.Reset None reset_left) (codes "checkpoint") part.Checkpoint [] (Control control.Checkpoint) is-checkpoint refl refl refl refl refl)
       (nothing-asked (idle true))),
 )
 
 -- A ref is set to what a text says.
 pub reset-asked : (ref to : List ℕ) (commit : CommitIsh) → IsShortRefName ref
-    → line_effect opened.Reset None part.From (codes "from " ++ to) ≡ brings None (ResetTo commit)
+    → line_effect opened.Reset None part.From (codes "from " ++ to) ≡ brings None (Ref (ResetFrom commit))
     → AsksAlone (Line (codes "reset " ++ ref) ∷ Line (codes "from " ++ to) ∷ Blank ∷ []) (reset_acts ref commit)
 reset-asked ref to commit is says late = (
   true,
   then-more (reset-begins ref (ref_of-Ok ref (inl is.name) is.short) late)
-      (then-more (inside (under_way opened.Reset None reset_left) (codes "from " ++ to) part.From blank_left (effect None (ResetTo commit)) (is-from to) refl says)
+      (then-more (inside (under_way opened.Reset None reset_left) (codes "from " ++ to) part.From blank_left (effect None (Ref (ResetFrom commit))) (is-from to) refl says)
       (then-more (blank-inside (under_way opened.Reset None blank_left) [] refl) (nothing-asked (idle true)))),
 )
 
@@ -183,6 +189,13 @@ removal-asked ref is =
 pub record CanWriteFile (f : Path × Entry) : Type 0 where
   pub path : CanWritePath f.0
   pub name : IsObjectName f.1.name
+
+-- What a line of a header brings, whose text is read.
+header-says : {A : Type 0} (act : A → Act) (mark : Option ℕ) {reading : Result A Fault} {value : A}
+    → reading ≡ Ok value
+    → read (read reading (λ value. Ok (act value))) (λ act. brings mark act) ≡ brings mark (act value)
+header-says {A} act mark is =
+    ap (λ (r : Result A Fault). read (read r (λ value. Ok (act value))) (λ act. brings mark act)) is
 
 -- ---- marks
 
@@ -209,9 +222,9 @@ module _ (os : List Object) (few : length os ≤ objects_limit) where
 
   merge-says : (now : Opened) (mark : Option ℕ) (id : List ℕ)
       → line_effect now mark part.Merge (codes "merge " ++ mark_text os id)
-      ≡ brings mark (Merge (Marked (number_of os id)))
+      ≡ brings mark (CommitAct (Merge (Marked (number_of os id))))
   merge-says now mark id =
-      ap (λ (c : Result CommitIsh Fault). read c (λ c. brings mark (Merge c)))
+      header-says (λ c. CommitAct (Merge c)) mark
       (commit_ish-mark (number_of os id) (some id) (fits id))
 
   pub commit-set : (ref id : List ℕ) → IsShortRefName ref
@@ -233,15 +246,15 @@ module _ (os : List Object) (few : length os ≤ objects_limit) where
   -- ---- commits
 
   ident-says : (now : Opened) (mark : Option ℕ) (ident : List ℕ) → IsWrittenIdent ident
-      → line_effect now mark part.Author (codes "author " ++ ident) ≡ brings mark (Author ident)
+      → line_effect now mark part.Author (codes "author " ++ ident) ≡ brings mark (CommitAct (Author ident))
   ident-says now mark ident is =
-      ap (λ (i : Result (List ℕ) Fault). read i (λ i. brings mark (Author i))) (ident-read ident is)
+      header-says (λ i. CommitAct (Author i)) mark (ident-read ident is)
 
   committer-says : (now : Opened) (mark : Option ℕ) (ident : List ℕ) → IsWrittenIdent ident
       → line_effect now mark part.Committer (codes "committer " ++ ident)
-      ≡ brings mark (Committer ident)
+      ≡ brings mark (CommitAct (Committer ident))
   committer-says now mark ident is =
-      ap (λ (i : Result (List ℕ) Fault). read i (λ i. brings mark (Committer i))) (ident-read ident is)
+      header-says (λ i. CommitAct (Committer i)) mark (ident-read ident is)
 
   -- The lines up to a commit's message, where it may stand.
   record Ready (now : Open) (items : List Item) (acts : List Done) (mark : Option ℕ) : Type 0 where
@@ -250,7 +263,7 @@ module _ (os : List Object) (few : length os ≤ objects_limit) where
     asked : Asks now items acts (under_way opened.Commit mark left)
 
   encoding-ready : (mark : Option ℕ) (encoding : Option (List ℕ)) → IfSome encoding IsEncoding
-      → Ready (under_way opened.Commit mark encoding_left) (line_if (codes "encoding ") encoding) (asks_if Encoding encoding) mark
+      → Ready (under_way opened.Commit mark encoding_left) (line_if (codes "encoding ") encoding) (asks_if encoding_act encoding) mark
   encoding-ready mark None is = record {
     left = encoding_left;
     stands = refl;
@@ -259,8 +272,8 @@ module _ (os : List Object) (few : length os ≤ objects_limit) where
   encoding-ready mark (Some text) is = record {
     left = message_left;
     stands = refl;
-    asked = then-more (inside (under_way opened.Commit mark encoding_left) (codes "encoding " ++ text) part.Encoding message_left (effect mark (Encoding text)) (is-encoding text) refl
-        (ap (λ (i : Result (List ℕ) Fault). read i (λ i. brings mark (Encoding i))) (encoding-read text is)))
+    asked = then-more (inside (under_way opened.Commit mark encoding_left) (codes "encoding " ++ text) part.Encoding message_left (effect mark (CommitAct (Encoding text))) (is-encoding text) refl
+        (header-says encoding_act mark (encoding-read text is)))
         (nothing-asked (under_way opened.Commit mark message_left));
   }
 
@@ -274,7 +287,7 @@ module _ (os : List Object) (few : length os ≤ objects_limit) where
         ∷ line_if (codes "encoding ") c.encoding
 
     abbrev header_acts : List Done
-    header_acts = asks Wait ∷ asks (Author c.author) ∷ asks (Committer c.committer) ∷ asks_if Encoding c.encoding
+    header_acts = asks Wait ∷ asks (CommitAct (Author c.author)) ∷ asks (CommitAct (Committer c.committer)) ∷ asks_if encoding_act c.encoding
 
     header-ready : Ready (under_way opened.Commit None commit_left) header_items header_acts the_mark
     header-ready = let ready = encoding-ready the_mark c.encoding can.encoding in record {
@@ -282,20 +295,20 @@ module _ (os : List Object) (few : length os ≤ objects_limit) where
       stands = ready.stands;
       asked =
           then-more (inside (under_way opened.Commit None commit_left) (codes "mark " ++ mark_text os id) part.Mark author_left (effect the_mark Wait) (is-mark (mark_text os id)) refl (mark-says opened.Commit None id))
-          (then-more (inside (under_way opened.Commit the_mark author_left) (codes "author " ++ c.author) part.Author committer_left (effect the_mark (Author c.author)) (is-author c.author) refl (ident-says opened.Commit the_mark c.author can.author))
-          (then-more (inside (under_way opened.Commit the_mark committer_left) (codes "committer " ++ c.committer) part.Committer encoding_left (effect the_mark (Committer c.committer)) (is-committer c.committer) refl (committer-says opened.Commit the_mark c.committer can.committer))
+          (then-more (inside (under_way opened.Commit the_mark author_left) (codes "author " ++ c.author) part.Author committer_left (effect the_mark (CommitAct (Author c.author))) (is-author c.author) refl (ident-says opened.Commit the_mark c.author can.author))
+          (then-more (inside (under_way opened.Commit the_mark committer_left) (codes "committer " ++ c.committer) part.Committer encoding_left (effect the_mark (CommitAct (Committer c.committer))) (is-committer c.committer) refl (committer-says opened.Commit the_mark c.committer can.committer))
           ready.asked));
     }
 
     commit-line : (now : Open) → fit part.Commit now.left ≡ Ends
         → is_commit now.opened ≡ false
-        → Gives now (Line (codes "commit " ++ scratch)) (asks (BeginCommit scratch)) (under_way opened.Commit None commit_left)
+        → Gives now (Line (codes "commit " ++ scratch)) (asks (CommitAct (Begin scratch))) (under_way opened.Commit None commit_left)
     commit-line now none outside =
-        begins now (codes "commit " ++ scratch) part.Commit commit_left (BeginCommit scratch) (is-commit scratch) none refl refl outside
-        (ap (λ (r : Result (List ℕ) Fault). read r (λ x. Ok (BeginCommit x))) scratch-read)
+        begins now (codes "commit " ++ scratch) part.Commit commit_left (CommitAct (Begin scratch)) (is-commit scratch) none refl refl outside
+        (ap (λ (r : Result (List ℕ) Fault). read r (λ x. Ok (CommitAct (Begin x)))) scratch-read)
 
     head-ready : (late : Bool) (parents : List (List ℕ))
-        → Ready (idle late) (fresh_branch parents ++ Line (codes "commit " ++ scratch) ∷ header_items) (fresh_acts parents ++ asks (BeginCommit scratch) ∷ header_acts) the_mark
+        → Ready (idle late) (fresh_branch parents ++ Line (codes "commit " ++ scratch) ∷ header_items) (fresh_acts parents ++ asks (CommitAct (Begin scratch)) ∷ header_acts) the_mark
     head-ready late [] = let ready = header-ready in record {
       left = ready.left;
       stands = ready.stands;
@@ -318,7 +331,7 @@ module _ (os : List Object) (few : length os ≤ objects_limit) where
       → Asks (under_way opened.Changes None merges_left) (map (marked os (codes "merge ")) ids) (map (merges os) ids) (under_way opened.Changes None merges_left)
   merges-asked [] = nothing-asked (under_way opened.Changes None merges_left)
   merges-asked (id ∷ ids) =
-      then-more (inside (under_way opened.Changes None merges_left) (codes "merge " ++ mark_text os id) part.Merge merges_left (effect None (Merge (Marked (number_of os id)))) (is-merge (mark_text os id)) refl (merge-says opened.Changes None id))
+      then-more (inside (under_way opened.Changes None merges_left) (codes "merge " ++ mark_text os id) part.Merge merges_left (effect None (CommitAct (Merge (Marked (number_of os id))))) (is-merge (mark_text os id)) refl (merge-says opened.Changes None id))
       (merges-asked ids)
 
   parents-asked : (ids : List (List ℕ)) → Dropping (parent_items os ids) (parent_acts os ids)
@@ -370,7 +383,7 @@ module _ (os : List Object) (few : length os ≤ objects_limit) where
         and-then (and-then (and-then (and-then head.asked
             (then-more (data-inside (under_way opened.Commit (Some (number_of os id)) head.left) c.message from_left head.stands) (nothing-asked (under_way opened.Changes None from_left))))
             parents.asked)
-            (then-more (inside (under_way opened.Changes None parents.left) (codes "deleteall") part.DeleteAll changes_left (effect None DeleteAll) is-deleteall parents.stands refl)
+            (then-more (inside (under_way opened.Changes None parents.left) (codes "deleteall") part.DeleteAll changes_left (effect None (Change DeleteAll)) is-deleteall parents.stands refl)
             (files-asked (listed (stored_map os c.tree)) files)))
             (then-more (blank-inside (under_way opened.Changes None changes_left) [] refl) (nothing-asked (idle true))),
       )
@@ -383,7 +396,7 @@ module _ (os : List Object) (few : length os ≤ objects_limit) where
     asked : Asks (under_way opened.Tag mark tagger_left) items acts (under_way opened.Tag mark left)
 
   tagger-asked : (mark : Option ℕ) (tagger : Option (List ℕ)) → IfSome tagger IsWrittenIdent
-      → Tagging mark (line_if (codes "tagger ") tagger) (asks_if Tagger tagger)
+      → Tagging mark (line_if (codes "tagger ") tagger) (asks_if tagger_act tagger)
   tagger-asked mark None is = record {
     left = tagger_left;
     stands = refl;
@@ -392,8 +405,8 @@ module _ (os : List Object) (few : length os ≤ objects_limit) where
   tagger-asked mark (Some ident) is = record {
     left = tag_data_left;
     stands = refl;
-    asked = then-more (inside (under_way opened.Tag mark tagger_left) (codes "tagger " ++ ident) part.Tagger tag_data_left (effect mark (Tagger ident)) (is-tagger ident) refl
-        (ap (λ (i : Result (List ℕ) Fault). read i (λ i. brings mark (Tagger i))) (ident-read ident is)))
+    asked = then-more (inside (under_way opened.Tag mark tagger_left) (codes "tagger " ++ ident) part.Tagger tag_data_left (effect mark (ObjectAct (Tagger ident))) (is-tagger ident) refl
+        (header-says tagger_act mark (ident-read ident is)))
         (nothing-asked (under_way opened.Tag mark tag_data_left));
   }
 
@@ -401,7 +414,7 @@ module _ (os : List Object) (few : length os ≤ objects_limit) where
       → Asks now front acts (under_way opened.Tag mark left) → fit part.From left ≡ Stands tagger_left
       → CanWriteTag t
       → Asks now (front ++ marked os (codes "from ") t.target ∷ [] ++ line_if (codes "tagger ") t.tagger ++ Data t.message ∷ [])
-      (acts ++ asks (TagTarget (Marked (number_of os t.target))) ∷ [] ++ asks_if Tagger t.tagger ++ asks (StoreTag mark t.message) ∷ []) (idle true)
+      (acts ++ asks (ObjectAct (TagTarget (Marked (number_of os t.target)))) ∷ [] ++ asks_if tagger_act t.tagger ++ asks (ObjectAct (TagCommand mark t.message)) ∷ []) (idle true)
   target-asked now front acts mark left t begun stands can =
       let tagger = tagger-asked mark t.tagger can.tagger in
       and-then (and-then (and-then begun
@@ -411,16 +424,16 @@ module _ (os : List Object) (few : length os ≤ objects_limit) where
       (then-more (data-inside (under_way opened.Tag mark tagger.left) t.message [] tagger.stands) (nothing-asked (idle true)))
 
   tag-line : (late : Bool) (name : List ℕ) → IsShortRefName (tag_ref name)
-      → Gives (idle late) (Line (codes "tag " ++ name)) (asks (BeginTag (tag_ref name))) (under_way opened.Tag None (perhaps part.Mark ∷ target_left))
+      → Gives (idle late) (Line (codes "tag " ++ name)) (asks (ObjectAct (BeginTag (tag_ref name)))) (under_way opened.Tag None (perhaps part.Mark ∷ target_left))
   tag-line late name is =
-      begins (idle late) (codes "tag " ++ name) part.Tag (perhaps part.Mark ∷ target_left) (BeginTag (tag_ref name)) (is-tag name) refl refl refl refl
-      (ap (λ (r : Result (List ℕ) Fault). read r (λ x. Ok (BeginTag x))) (ref_of-Ok (tag_ref name) (inl is.name) is.short))
+      begins (idle late) (codes "tag " ++ name) part.Tag (perhaps part.Mark ∷ target_left) (ObjectAct (BeginTag (tag_ref name))) (is-tag name) refl refl refl refl
+      (ap (λ (r : Result (List ℕ) Fault). read r (λ x. Ok (ObjectAct (BeginTag x)))) (ref_of-Ok (tag_ref name) (inl is.name) is.short))
 
   pub tag-asked : (id : List ℕ) (t : Tag) → CanWriteTag t → length (tag_ref t.name) ≤ 1024
       → AsksAlone (tag_items os (Some id) t) (tag_acts os (Some (number_of os id)) t)
   tag-asked id t can short late = (
     true,
-    target-asked (idle late) (Line (codes "tag " ++ t.name) ∷ marked os (codes "mark ") id ∷ []) (asks (BeginTag (tag_ref t.name)) ∷ asks Wait ∷ []) (Some (number_of os id)) target_left t
+    target-asked (idle late) (Line (codes "tag " ++ t.name) ∷ marked os (codes "mark ") id ∷ []) (asks (ObjectAct (BeginTag (tag_ref t.name))) ∷ asks Wait ∷ []) (Some (number_of os id)) target_left t
         (then-more (tag-line late t.name (record { name = can.name; short = short }))
         (then-more (inside (under_way opened.Tag None (perhaps part.Mark ∷ target_left)) (codes "mark " ++ mark_text os id) part.Mark target_left (effect (Some (number_of os id)) Wait) (is-mark (mark_text os id)) refl (mark-says opened.Tag None id))
         (nothing-asked (under_way opened.Tag (Some (number_of os id)) target_left)))) refl can,
@@ -430,7 +443,7 @@ module _ (os : List Object) (few : length os ≤ objects_limit) where
       → AsksAlone (tag_items os None t) (tag_acts os None t)
   tag-again t can short late = (
     true,
-    target-asked (idle late) (Line (codes "tag " ++ t.name) ∷ []) (asks (BeginTag (tag_ref t.name)) ∷ []) None (perhaps part.Mark ∷ target_left) t
+    target-asked (idle late) (Line (codes "tag " ++ t.name) ∷ []) (asks (ObjectAct (BeginTag (tag_ref t.name))) ∷ []) None (perhaps part.Mark ∷ target_left) t
         (then-more (tag-line late t.name (record { name = can.name; short = short }))
         (nothing-asked (under_way opened.Tag None (perhaps part.Mark ∷ target_left)))) refl can,
   )

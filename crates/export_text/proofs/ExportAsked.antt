@@ -172,7 +172,7 @@ files-three : (files : Listed) → AllByRecursion IsSound files → AllByRecursi
 files-three [] sound paths fit = tt
 files-three (f ∷ files) sound paths fit = (
   record {
-    path = record { components = paths.0; bytes = fit.0.bytes; limits = fit.0.limits };
+    path = record { components = paths.0; limits = fit.0 };
     name = sound.0.name;
   },
   files-three files sound.1 paths.1 fit.1,

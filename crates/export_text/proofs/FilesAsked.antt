@@ -5,7 +5,7 @@ use Rattle.git_model.specs.declared.file_mode.FileMode.{FileMode}
 use Rattle.git_model.specs.declared.file_mode.FileMode.TheVariants as mode
 use Rattle.git_model.specs.Modes.{six_digits}
 use Rattle.git_paths.specs.declared.fault.Fault.{Fault as PathFault}
-use Rattle.git_paths.specs.Paths.{IsPath, AreOfBytes, IsWithinLimits, joined}
+use Rattle.git_paths.specs.Paths.{IsPath, IsWithinLimits, joined}
 use Rattle.git_paths.specs.Quoting.{quoted}
 use Rattle.git_paths.proofs.Printed.{printed_is_read}
 use Rattle.stream_lex.specs.Items.{Line}
@@ -15,7 +15,8 @@ use Rattle.stream_grammar.specs.declared.part.Part.TheVariants as part
 use Rattle.stream_grammar.specs.declared.stage.Opened.TheVariants as opened
 use Rattle.stream_grammar.specs.Texts.{read, required, first_word, after_space, dataref_of}
 use Rattle.stream_grammar.specs.Changes.{Path, mode_of, path_read, path_of, object_and_path, modified}
-use Rattle.stream_grammar.specs.Acts.{Act, Modify, Effect, brings}
+use Rattle.stream_grammar.specs.Acts.{Act, Change, Effect, brings}
+use Rattle.stream_grammar.specs.Acts.{Modify}
 use Rattle.stream_grammar.specs.Grammar.{Term, Stands, fit, is_empty}
 use Rattle.stream_grammar.specs.Parts.{part_by_word, part_of_line, with_inline}
 use Rattle.export_text.specs.ExportActs.{asks}
@@ -31,7 +32,6 @@ pub record Refers (word : List ℕ) (object : DataRef) : Type 0 where
 -- A path can be written.
 pub record CanWritePath (path : Path) : Type 0 where
   pub components : IsPath path
-  pub bytes : AreOfBytes path
   pub limits : IsWithinLimits path
 
 abbrev rest_of : List ℕ → Path → List ℕ
@@ -40,7 +40,7 @@ rest_of word path = word ++ 32 ∷ quoted (joined path)
 path-read : (path : Path) → CanWritePath path → path_of (quoted (joined path)) ≡ Ok path
 path-read path can =
     ap (λ (r : Result (Path × List ℕ) PathFault). read (path_read r) (λ found. Ok found.0))
-    (printed_is_read path can.components can.bytes can.limits)
+    (printed_is_read path can.components can.limits)
 
 -- What follows where a path, an object and a mode were read.
 with_path : DataRef → Path → Result (DataRef × Path) Fault
@@ -132,11 +132,11 @@ file-line mode.Directory word path =
 pub file-asked : (m : FileMode) (word : List ℕ) (object : DataRef) (path : Path) (left : List Term)
     → Refers word object → CanWritePath path → fit part.Modify left ≡ Stands left
     → is_empty left ≡ false
-    → Gives (under_way opened.Changes None left) (Line (file_line m word path)) (asks (Modify m object path)) (under_way opened.Changes None left)
+    → Gives (under_way opened.Changes None left) (Line (file_line m word path)) (asks (Change (Modify m object path))) (under_way opened.Changes None left)
 file-asked m word object path left refers can fits some =
-    subst (λ (t : List ℕ). Gives (under_way opened.Changes None left) (Line t) (asks (Modify m object path)) (under_way opened.Changes None left))
+    subst (λ (t : List ℕ). Gives (under_way opened.Changes None left) (Line t) (asks (Change (Modify m object path))) (under_way opened.Changes None left))
     (sym (file-line m word path))
-    (subst (λ (b : Bool). Gives (under_way opened.Changes None left) (Line (line_of m word path)) (record { ends_commit = b; act = Modify m object path }) (under_way opened.Changes None left)) some
-    (inside (under_way opened.Changes None left) (line_of m word path) part.Modify left (record { mark = None; act = Modify m object path })
+    (subst (λ (b : Bool). Gives (under_way opened.Changes None left) (Line (line_of m word path)) (record { ends_commit = b; act = Change (Modify m object path) }) (under_way opened.Changes None left)) some
+    (inside (under_way opened.Changes None left) (line_of m word path) part.Modify left (record { mark = None; act = Change (Modify m object path) })
     (file-part m word path refers.no_space refers.no_inline) fits
-    (ap (λ (f : Result (FileMode × DataRef × Path) Fault). read {B = Effect} (read {B = Act} f (λ f. Ok (Modify f.0 f.1 f.2))) (λ act. brings None act)) (file-read m word object path refers can))))
+    (ap (λ (f : Result (FileMode × DataRef × Path) Fault). read {B = Effect} (read {B = Act} f (λ f. Ok (Change (Modify f.0 f.1 f.2)))) (λ act. brings None act)) (file-read m word object path refers can))))

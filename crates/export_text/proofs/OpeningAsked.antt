@@ -10,7 +10,8 @@ use Rattle.stream_grammar.specs.declared.part.Part.{Part}
 use Rattle.stream_grammar.specs.declared.part.Part.TheVariants as part
 use Rattle.stream_grammar.specs.Texts.{read}
 use Rattle.stream_grammar.specs.Features.{feature_of, in_time, setting_of}
-use Rattle.stream_grammar.specs.Acts.{Act, Require, SetHead}
+use Rattle.stream_grammar.specs.declared.act.ControlCommand.TheVariants as control
+use Rattle.stream_grammar.specs.Acts.{Act, Control}
 use Rattle.stream_grammar.specs.Grammar.{fit}
 use Rattle.stream_grammar.specs.Lines.{first_line_act}
 use Rattle.stream_grammar.specs.Parts.{part_by_word, part_of_line}
@@ -22,15 +23,15 @@ use Rattle.export_text.proofs.WrittenWords.{head-read}
 use Rattle.export_text.proofs.Asking.{Asks, idle, nothing-asked, then-more}
 
 force-step : step (idle false) (Line (codes "feature force"))
-    ≡ Ok (record { done = asks (Require feature.Force); next = idle false })
+    ≡ Ok (record { done = asks (Control (control.Feature feature.Force)); next = idle false })
 unfolding step part_by_word feature_of in_time
 force-step = refl
 
 option-said : (head : List ℕ) → IsShortRefName head
-    → first_line_act false part.Setting (codes "option gitpool head " ++ head) ≡ Ok (SetHead head)
+    → first_line_act false part.Setting (codes "option gitpool head " ++ head) ≡ Ok (Control (control.Head head))
 unfolding setting_of in_time
 option-said head is =
-    ap (λ (r : Result (List ℕ) Fault). read {B = Act} r (λ ref. Ok (SetHead ref))) (head-read head is.name is.short)
+    ap (λ (r : Result (List ℕ) Fault). read {B = Act} r (λ ref. Ok (Control (control.Head ref)))) (head-read head is.name is.short)
 
 option-part : (head : List ℕ) → part_of_line (codes "option gitpool head " ++ head) ≡ part.Setting
 unfolding part_by_word
@@ -38,7 +39,7 @@ option-part head = refl
 
 option-step : (head : List ℕ) → IsShortRefName head
     → step (idle false) (Line (codes "option gitpool head " ++ head))
-    ≡ Ok (record { done = asks (SetHead head); next = idle false })
+    ≡ Ok (record { done = asks (Control (control.Head head)); next = idle false })
 unfolding step
 option-step head is =
     ap (λ (q : Part). step_by (idle false) q (Line (codes "option gitpool head " ++ head)) (fit q [])) (option-part head)

@@ -20,8 +20,13 @@ use Rattle.stream_grammar.specs.declared.data_ref.DataRef.{DataRef}
 use Rattle.stream_grammar.specs.declared.data_ref.DataRef.TheVariants as data_ref
 use Rattle.stream_grammar.specs.declared.feature.Feature.TheVariants as feature
 use Rattle.stream_grammar.specs.Names.{CommitIsh, Marked, Expression}
-use Rattle.stream_grammar.specs.Acts.{Act, Wait, StoreBlob, BeginCommit, Author, Committer, Encoding, OpenCommit, StartFrom, Merge}
-use Rattle.stream_grammar.specs.Acts.{Modify, DeleteAll, BeginTag, TagTarget, Tagger, StoreTag, Reset, ResetTo, Checkpoint, Require, SetHead}
+use Rattle.stream_grammar.specs.declared.act.ControlCommand.TheVariants as control
+use Rattle.stream_grammar.specs.Acts.{Act, Wait, Object as ObjectAct, Commit as CommitAct, Change}
+use Rattle.stream_grammar.specs.Acts.{Ref, Control}
+use Rattle.stream_grammar.specs.Acts.{Blob, BeginTag, TagTarget, Tagger, Tag as TagCommand}
+use Rattle.stream_grammar.specs.Acts.{Begin, Author, Committer, Encoding, Message, From, Merge}
+use Rattle.stream_grammar.specs.Acts.{Modify, DeleteAll}
+use Rattle.stream_grammar.specs.Acts.{Reset, ResetFrom}
 use Rattle.stream_grammar.specs.Commands.{Done, commands, end_of, top}
 use Rattle.export_text.specs.Reached.{tag_ref, reached_objects, extra_tag_refs}
 use Rattle.export_text.specs.ExportItems.{scratch}
@@ -40,44 +45,52 @@ ends = record { ends_commit = true; act = Wait }
 abbrev pub number_of : List Object → List ℕ → ℕ
 number_of os id = place_of id os + 1
 
+-- A commit may have an encoding, and a tag a tagger.
+abbrev pub encoding_act : List ℕ → Act
+encoding_act text = CommitAct (Encoding text)
+
+abbrev pub tagger_act : List ℕ → Act
+tagger_act ident = ObjectAct (Tagger ident)
+
 abbrev pub asks_if : (List ℕ → Act) → Option (List ℕ) → List Done
 asks_if act None = []
 asks_if act (Some text) = asks (act text) ∷ []
 
 abbrev pub blob_acts : List Object → List ℕ → List ℕ → List Done
 blob_acts os id bytes =
-    asks Wait ∷ asks Wait ∷ asks (StoreBlob (Some (number_of os id)) bytes) ∷ []
+    asks Wait ∷ asks Wait ∷ asks (ObjectAct (Blob (Some (number_of os id)) bytes)) ∷ []
 
 abbrev pub fresh_acts : List (List ℕ) → List Done
-fresh_acts [] = asks (Reset scratch) ∷ []
+fresh_acts [] = asks (Ref (Reset scratch)) ∷ []
 fresh_acts (first ∷ others) = []
 
 abbrev pub merges : List Object → List ℕ → Done
-merges os id = asks (Merge (Marked (number_of os id)))
+merges os id = asks (CommitAct (Merge (Marked (number_of os id))))
 
 abbrev pub parent_acts : List Object → List (List ℕ) → List Done
 parent_acts os [] = []
 parent_acts os (first ∷ others) =
-    asks (StartFrom (Marked (number_of os first))) ∷ map (merges os) others
+    asks (CommitAct (From (Marked (number_of os first)))) ∷ map (merges os) others
 
 abbrev pub dataref : List Object → FileMode → List ℕ → DataRef
 dataref os mode.Gitlink id = data_ref.Name id
 dataref os file id = data_ref.Mark (number_of os id)
 
 abbrev pub act_of_file : List Object → Path × Entry → Done
-act_of_file os f = asks (Modify f.1.mode (dataref os f.1.mode f.1.name) f.0)
+act_of_file os f = asks (Change (Modify f.1.mode (dataref os f.1.mode f.1.name) f.0))
 
 abbrev pub file_acts : List Object → List ℕ → List Done
-file_acts os tree = asks DeleteAll ∷ map (act_of_file os) (listed (stored_map os tree))
+file_acts os tree = asks (Change DeleteAll) ∷ map (act_of_file os) (listed (stored_map os tree))
 
 abbrev pub head_acts_of : Commit → List Done
 head_acts_of c = fresh_acts c.parents
-    ++ asks (BeginCommit scratch) ∷ asks Wait
-    ∷ asks (Author c.author) ∷ asks (Committer c.committer)
-    ∷ asks_if Encoding c.encoding
+    ++ asks (CommitAct (Begin scratch)) ∷ asks Wait
+    ∷ asks (CommitAct (Author c.author)) ∷ asks (CommitAct (Committer c.committer))
+    ∷ asks_if encoding_act c.encoding
 
 abbrev pub commit_acts : List Object → List ℕ → Commit → List Done
-commit_acts os id c = head_acts_of c ++ asks (OpenCommit (Some (number_of os id)) c.message) ∷ []
+commit_acts os id c = head_acts_of c
+    ++ asks (CommitAct (Message (Some (number_of os id)) c.message)) ∷ []
     ++ parent_acts os c.parents ++ file_acts os c.tree ++ ends ∷ []
 
 abbrev pub wait_if : Option ℕ → List Done
@@ -85,9 +98,9 @@ wait_if None = []
 wait_if (Some mark) = asks Wait ∷ []
 
 abbrev pub tag_acts : List Object → Option ℕ → Tag → List Done
-tag_acts os mark t = asks (BeginTag (tag_ref t.name)) ∷ wait_if mark
-    ++ asks (TagTarget (Marked (number_of os t.target))) ∷ []
-    ++ asks_if Tagger t.tagger ++ asks (StoreTag mark t.message) ∷ []
+tag_acts os mark t = asks (ObjectAct (BeginTag (tag_ref t.name))) ∷ wait_if mark
+    ++ asks (ObjectAct (TagTarget (Marked (number_of os t.target)))) ∷ []
+    ++ asks_if tagger_act t.tagger ++ asks (ObjectAct (TagCommand mark t.message)) ∷ []
 
 abbrev pub acts_of : List Object → List ℕ → Kind → List ℕ → List Done
 acts_of os id kind.Blob bytes = blob_acts os id bytes
@@ -101,20 +114,20 @@ acts_of_object os o = acts_of os o.id o.content.kind o.content.bytes
 -- ---- all of them, as in Export
 
 unfoldable pub head_acts : List ℕ → List Done
-head_acts head = if bytes_eq head first_head then [] else asks (SetHead head) ∷ []
+head_acts head = if bytes_eq head first_head then [] else asks (Control (control.Head head)) ∷ []
 
 abbrev pub opening_acts : RefStore → List Done
-opening_acts store = asks (Require feature.Force) ∷ head_acts store.head
+opening_acts store = asks (Control (control.Feature feature.Force)) ∷ head_acts store.head
 
 abbrev pub object_acts : Repository → List Done
 object_acts repository = flat_map (acts_of_object repository.objects) (reached_objects repository)
 
 abbrev pub saving_acts : List Done
-saving_acts = asks (Reset scratch) ∷ asks Checkpoint ∷ []
+saving_acts = asks (Ref (Reset scratch)) ∷ asks (Control control.Checkpoint) ∷ []
 
 -- A reset, its `from`, and a blank line.
 abbrev pub reset_acts : List ℕ → CommitIsh → List Done
-reset_acts ref to = asks (Reset ref) ∷ asks (ResetTo to) ∷ asks Wait ∷ []
+reset_acts ref to = asks (Ref (Reset ref)) ∷ asks (Ref (ResetFrom to)) ∷ asks Wait ∷ []
 
 abbrev pub removal_acts : List ℕ → List Done
 removal_acts ref = reset_acts ref (Expression (replicate 40 48))

@@ -9,7 +9,7 @@ use Rattle.git_model.specs.TagReading.{tag_read}
 use Rattle.git_model.specs.RefStore.{target_of}
 use Rattle.git_model.specs.Repository.{Object, Repository}
 use Rattle.git_model.specs.GoodRepository.{IsShortRefName}
-use Rattle.git_paths.specs.Paths.{AreOfBytes, IsWithinLimits}
+use Rattle.git_paths.specs.Paths.{IsWithinLimits}
 use Rattle.file_maps.specs.declared.entry.Entry.{Entry}
 use Rattle.file_maps.specs.FileMap.{Path, listed}
 use Rattle.file_maps.specs.StoredFiles.{stored_map}
@@ -19,10 +19,9 @@ use Rattle.stream_lex.specs.Headers.{largest_data, longest_line}
 abbrev pub FitsLine : List ℕ → List ℕ → Type 0
 FitsLine word text = length (word ++ text) ≤ longest_line
 
--- A path is made of bytes, and within the limits of paths.
-pub record FitsPath (f : Path × Entry) : Type 0 where
-  pub bytes : AreOfBytes f.0
-  pub limits : IsWithinLimits f.0
+-- The path of a file is within the limits of paths.
+abbrev pub FitsPath : Path × Entry → Type 0
+FitsPath f = IsWithinLimits f.0
 
 pub record FitsCommit (os : List Object) (c : Commit) : Type 0 where
   pub author : FitsLine (codes "author ") c.author

@@ -26,7 +26,7 @@ use Rattle.file_maps.specs.FileMap.{Path, Listed, FileMap, AreFiles, IsFile, lis
 use Rattle.file_maps.specs.Below.{group_trees}
 use Rattle.file_maps.specs.Edits.{files_at}
 use Rattle.file_maps.specs.GoodTrees.{StayGood}
-use Rattle.file_maps.specs.HeldFiles.{IsHeld}
+use Rattle.file_maps.specs.HeldFiles.{IsFileHeld}
 use Rattle.file_maps.specs.Storable.{AreStorable, files_summary}
 use Rattle.file_maps.specs.StoredFiles.{stored_files}
 use Rattle.file_maps.specs.StoredTree.{ListsTree}
@@ -251,7 +251,7 @@ module _ (digest : List ℕ → List ℕ) (names : AnswersNames digest) (os : Li
 
 pub nested-fit : (digest : List ℕ → List ℕ) → AnswersNames digest → (os : List Object)
     → AreObjects digest os → TreesFit [] os
-    → (m : FileMap) → AreFiles (listed m) → All (IsHeld os) (listed m)
+    → (m : FileMap) → AreFiles (listed m) → All (IsFileHeld os) (listed m)
     → (path : Path) → trees_fault digest (nested_trees digest (files_at m path)) os ≡ None
     → TreesFit [] (with_trees digest (nested_trees digest (files_at m path)) os)
 nested-fit digest names os good fits m are held path none =

@@ -13,7 +13,7 @@ use Rattle.git_model.specs.GoodRepository.{StandsBefore, AreObjects}
 use Rattle.git_model.proofs.TreeReadings.{tree_back}
 use Rattle.file_maps.specs.declared.entry.Entry.{Entry}
 use Rattle.file_maps.specs.FileMap.{Path, Listed}
-use Rattle.file_maps.specs.HeldFiles.{IsHeld}
+use Rattle.file_maps.specs.HeldFiles.{IsFileHeld}
 use Rattle.file_maps.specs.StoredFiles.{stored_files}
 use Rattle.file_maps.specs.StoredTree.{HasTree, Lists, nothing, first_file, first_directory}
 use Rattle.file_maps.specs.Trees.{tree_content}
@@ -54,17 +54,17 @@ module _ (digest : List ℕ → List ℕ) (os : List Object) (good : AreObjects 
       (tree_back es h.entries) (refers-before digest os good id (tree_content es) h.content))
 
   lists-held : {es : List TreeEntry} {fs : Listed} → Lists os es fs → AllByRecursion (Refers os) es
-      → AllByRecursion (IsHeld os) fs
+      → AllByRecursion (IsFileHeld os) fs
   lists-held nothing h = tt
   lists-held (first_file e es files ne l) h = (h.0, lists-held l h.1)
   lists-held (first_directory e es inside below files is has sub l) h =
-      all-append (IsHeld os) _ files
-      (all-map (λ (g : Path × Entry). (e.name ∷ g.0, g.1)) (IsHeld os) below
+      all-append (IsFileHeld os) _ files
+      (all-map (λ (g : Path × Entry). (e.name ∷ g.0, g.1)) (IsFileHeld os) below
       (lists-held sub (tree-refers e.id inside has)))
       (lists-held l h.1)
 
   pub stored-held : (id : List ℕ) → kind_named id os ≡ Some kind.Tree
-      → AllByRecursion (IsHeld os) (stored_files os id)
+      → AllByRecursion (IsFileHeld os) (stored_files os id)
   stored-held id k =
       let t = (files-of digest os good id k).listed in
       lists-held t.lists (tree-refers id t.direct t.tree)

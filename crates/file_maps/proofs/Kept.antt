@@ -19,7 +19,7 @@ use Rattle.tenant_tables.specs.declared.summary.Summary.{Summary}
 use Rattle.tenant_tables.specs.declared.table.TheConstants.{CONTENTS_LIMIT, OBJECTS_LIMIT}
 use Rattle.tenant_tables.specs.View.{View, Entries, entry_named, summary_of}
 use Rattle.tenant_tables.specs.Objects.{objects}
-use Rattle.tenant_tables.specs.StandsIn.{StandsIn}
+use Rattle.tenant_tables.specs.IsBackedBy.{IsBackedBy}
 use Rattle.tenant_tables.specs.Adding.{store_fault, Adds}
 use Rattle.tenant_tables.specs.Trees.{FitsTree, SummedAfter, IsSummed}
 use Rattle.tenant_tables.proofs.HoldLemmas.{object_named-objects}
@@ -60,7 +60,7 @@ found_same id c d os none is =
     by false false false h = cc h
 
 module _ (digest : List ℕ → List ℕ) (p q : Cells) (old new : View) (c : Content) (s : Summary) where
-  same_tree : (i : ℕ) (key : List ℕ) (e : Entry) (t : Summary) → StandsIn digest p old.entries
+  same_tree : (i : ℕ) (key : List ℕ) (e : Entry) (t : Summary) → IsBackedBy digest p old.entries
       → c.kind ≡ kind.Tree → FitsTree old.entries c.bytes s
       → slice_get old.entries i ≡ Some (key, e) → e.summary ≡ Some t
       → same_content c (content p e.slot) ≡ true → Some t ≡ Some s
@@ -71,7 +71,7 @@ module _ (digest : List ℕ → List ℕ) (p q : Cells) (old new : View) (c : Co
       SummedAfter-same i old.entries (content p e.slot) (Some t) (Some s) there
       (there.0, subst (λ (b : List ℕ). FitsTree old.entries b s) bytes fits)
 
-  pub summaries-kept : StandsIn digest p old.entries → c.kind ≡ kind.Tree
+  pub summaries-kept : IsBackedBy digest p old.entries → c.kind ≡ kind.Tree
       → FitsTree old.entries c.bytes s
       → store_fault (name_by digest c) c (objects p old.entries) ≡ None
       → Adds digest c (Some s) p old q new

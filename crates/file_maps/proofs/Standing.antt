@@ -21,7 +21,7 @@ use Rattle.tenant_tables.specs.declared.entry.Entry.{Entry}
 use Rattle.tenant_tables.specs.declared.summary.Summary.{Summary}
 use Rattle.tenant_tables.specs.View.{Entries, entry_named, slot_of, summary_of}
 use Rattle.tenant_tables.specs.Objects.{objects}
-use Rattle.tenant_tables.specs.StandsIn.{StandsIn}
+use Rattle.tenant_tables.specs.IsBackedBy.{IsBackedBy}
 use Rattle.tenant_tables.specs.Trees as table
 use Rattle.tenant_tables.specs.Trees.{IsSummed, SummedAfter, IsTreeOf, DirectoryStands}
 use Rattle.tenant_tables.proofs.AddLemmas.{found_some}
@@ -156,7 +156,7 @@ pub record IsPlaced (pool : Cells) (entries : Entries) (id : List ℕ) (es : Lis
   pub directories : AllByRecursion (DirectoryStands (take (position_of id entries) entries)) es
   pub sums : s ≡ table.tree_summary (take (position_of id entries) entries) es
 
-module _ (digest : List ℕ → List ℕ) (pool : Cells) (entries : Entries) (stands : StandsIn digest pool entries) where
+module _ (digest : List ℕ → List ℕ) (pool : Cells) (entries : Entries) (stands : IsBackedBy digest pool entries) where
   -- the content of an entry and its summary
   summed_at : (id : List ℕ) (e : Entry) → lookup (bytes_eq id) entries ≡ Some e
       → SummedAfter (take (position_of id entries) entries) (content pool e.slot) e.summary

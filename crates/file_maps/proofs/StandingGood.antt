@@ -17,7 +17,7 @@ use Rattle.tenant_tables.specs.declared.summary.Summary.{Summary}
 use Rattle.tenant_tables.specs.declared.table.TheConstants.{CONTENTS_LIMIT}
 use Rattle.tenant_tables.specs.View.{Entries, summary_of, entry_named}
 use Rattle.tenant_tables.specs.Objects.{objects}
-use Rattle.tenant_tables.specs.StandsIn.{StandsIn}
+use Rattle.tenant_tables.specs.IsBackedBy.{IsBackedBy}
 use Rattle.tenant_tables.specs.Trees.{DirectoryStands}
 use Rattle.tenant_tables.proofs.HoldLemmas.{object_named-objects}
 use Rattle.file_maps.specs.FileMap.{Listed}
@@ -49,7 +49,7 @@ with_files None h = absurd h
 with_files (Some s) h = (s, refl, h)
 
 module _ (digest : List ℕ → List ℕ) (pool : Cells) (entries : Entries)
-    (stands : StandsIn digest pool entries) where
+    (stands : IsBackedBy digest pool entries) where
   -- what holds of each entry's content holds of each object
   pub object_all : (P : List ℕ → Content → Type 0)
       → AllByRecursion (λ e. P e.0 (content pool e.1.slot)) entries → (id : List ℕ) (c : Content)

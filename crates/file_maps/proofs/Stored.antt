@@ -13,17 +13,17 @@ use Rattle.tenant_tables.specs.declared.fault.Fault.TheVariants as table
 use Rattle.tenant_tables.specs.declared.summary.Summary.{Summary}
 use Rattle.tenant_tables.specs.View.{View}
 use Rattle.tenant_tables.specs.Objects.{objects}
-use Rattle.tenant_tables.specs.StandsIn.{StandsIn, LeavesOthers}
+use Rattle.tenant_tables.specs.IsBackedBy.{IsBackedBy, PreservesOthers}
 use Rattle.tenant_tables.specs.Adding.{store_fault, Adds, Answers}
 use Rattle.tenant_tables.specs.Trees.{FitsTree}
-use Rattle.tenant_tables.proofs.TableLemmas.{LeavesOthers-refl, LeavesOthers-then}
+use Rattle.tenant_tables.proofs.TableLemmas.{PreservesOthers-refl, PreservesOthers-then}
 use Rattle.tenant_tables.proofs.RoomLemmas.{room-after}
 use Rattle.file_maps.specs.declared.fault.Fault.{Fault}
 use Rattle.file_maps.specs.declared.fault.Fault.TheVariants as fault
 use Rattle.file_maps.specs.FileMap.{Listed, IsFile}
 use Rattle.file_maps.specs.Trees.{tree_content, tree_name, depth_of}
 use Rattle.file_maps.specs.Storing.{with_trees, trees_fault, or_later, as_fault, AddsTrees}
-use Rattle.file_maps.specs.Storing.{AddsSome, HasRoomBeside}
+use Rattle.file_maps.specs.Storing.{AddsSome, HasHoldsLeftBeside}
 use Rattle.file_maps.specs.Storable.{longest_of}
 use Rattle.file_maps.proofs.Kept.{summaries-kept}
 
@@ -62,12 +62,12 @@ module _ (digest : List ℕ → List ℕ) where
 
   -- ---- calls one after another
 
-  pub adds-none : (p : Cells) (v : View) → StandsIn digest p v.entries → HasRoomBeside p v.entries
+  pub adds-none : (p : Cells) (v : View) → IsBackedBy digest p v.entries → HasHoldsLeftBeside p v.entries
       → AddsTrees digest p v p v []
   adds-none p v stands room = record {
     stands = stands;
     room = room;
-    others = LeavesOthers-refl p v.entries;
+    others = PreservesOthers-refl p v.entries;
     objects = refl;
     committed = refl;
     kept = λ id s h. h;
@@ -78,7 +78,7 @@ module _ (digest : List ℕ → List ℕ) where
   adds-then p q r u v w a b first second = record {
     stands = second.stands;
     room = second.room;
-    others = LeavesOthers-then p q r u.entries v.entries w.entries first.others second.others;
+    others = PreservesOthers-then p q r u.entries v.entries w.entries first.others second.others;
     objects =
         second.objects ∙ ap (with_trees digest b) first.objects
         ∙ sym (with_trees-append a b (objects p u.entries));
@@ -131,8 +131,8 @@ module _ (digest : List ℕ → List ℕ) where
 
   pub adds-one : (p q : Cells) (u v : View) (es : List TreeEntry) (bytes : List ℕ) (s : Summary)
       → bytes ≡ tree_contents es
-      → StandsIn digest p u.entries → HasRoomBeside p u.entries → FitsTree u.entries bytes s
-      → StandsIn digest q v.entries → LeavesOthers p u.entries q v.entries
+      → IsBackedBy digest p u.entries → HasHoldsLeftBeside p u.entries → FitsTree u.entries bytes s
+      → IsBackedBy digest q v.entries → PreservesOthers p u.entries q v.entries
       → store_fault (name_by digest (content_from kind.Tree bytes)) (content_from kind.Tree bytes) (objects p u.entries) ≡ None
       → Adds digest (content_from kind.Tree bytes) (Some s) p u q v
       → AddsTrees digest p u q v (es ∷ [])
@@ -167,7 +167,7 @@ module _ (digest : List ℕ → List ℕ) where
   pub refused-one : (p q : Cells) (u v : View) (es : List TreeEntry) (bytes : List ℕ)
       (e : TableFault) (id : List ℕ)
       → bytes ≡ tree_contents es
-      → StandsIn digest p u.entries → HasRoomBeside p u.entries
+      → IsBackedBy digest p u.entries → HasHoldsLeftBeside p u.entries
       → Answers {name = List ℕ} (Err e) id (store_fault (name_by digest (content_from kind.Tree bytes)) (content_from kind.Tree bytes) (objects p u.entries))
       → (v ≡ u) × (q ≡ p) → (f : Fault) → f ≡ as_fault e → AddsSome digest p u q v (es ∷ []) f
   refused-one p q u v es bytes e id is stands room answer same f named = record {

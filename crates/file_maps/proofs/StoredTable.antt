@@ -8,7 +8,7 @@ use Rattle.content_pool.specs.Pool.{Cells}
 use Rattle.tenant_tables.specs.declared.summary.Summary.{Summary}
 use Rattle.tenant_tables.specs.View.{Entries, summary_of}
 use Rattle.tenant_tables.specs.Objects.{objects}
-use Rattle.tenant_tables.specs.StandsIn.{StandsIn}
+use Rattle.tenant_tables.specs.IsBackedBy.{IsBackedBy}
 use Rattle.tenant_tables.specs.Trees.{DirectoryStands}
 use Rattle.tenant_tables.proofs.SummaryLemmas.{some_of}
 use Rattle.tenant_tables.proofs.TableLemmas.{length-objects}
@@ -24,7 +24,7 @@ use Rattle.file_maps.proofs.StoredAgain.{stored-already}
 use Rattle.file_maps.proofs.StoredFiles.{RanksBelow, tree-within}
 
 module _ (digest : List ℕ → List ℕ) (pool : Cells) (entries : Entries)
-    (stands : StandsIn digest pool entries) where
+    (stands : IsBackedBy digest pool entries) where
   -- what stands below a tree stands before it
   falls : (id : List ℕ) (es : List TreeEntry) → HasTree (objects pool entries) id es
       → RanksBelow (λ k. position_of k entries) (position_of id entries) es

@@ -6,27 +6,27 @@ use Rattle.git_model.specs.Tree.{TreeEntry}
 use Rattle.content_pool.specs.Pool.{Cells}
 use Rattle.tenant_tables.specs.View.{View}
 use Rattle.tenant_tables.specs.Objects.{objects}
-use Rattle.tenant_tables.specs.StandsIn.{StandsIn}
-use Rattle.tenant_tables.proofs.TableLemmas.{LeavesOthers-refl}
+use Rattle.tenant_tables.specs.IsBackedBy.{IsBackedBy}
+use Rattle.tenant_tables.proofs.TableLemmas.{PreservesOthers-refl}
 use Rattle.file_maps.specs.FileMap.{Listed}
 use Rattle.file_maps.specs.Trees.{depth_of, tree_name, entries_within}
 use Rattle.file_maps.specs.Below.{group_trees}
 use Rattle.file_maps.specs.StoredTree.{ListsTree}
-use Rattle.file_maps.specs.Storing.{AddsTrees, HasRoomBeside, trees_fault}
+use Rattle.file_maps.specs.Storing.{AddsTrees, HasHoldsLeftBeside, trees_fault}
 use Rattle.file_maps.proofs.Listing.{tree-sound}
 use Rattle.file_maps.proofs.StandingGood.{trees-good}
 use Rattle.file_maps.proofs.StoredAgain.{Held, entries-again, trees-held, kept-all, unrefused-all}
 
 module _ (digest : List ℕ → List ℕ) (p : Cells) (v : View)
-    (stands : StandsIn digest p v.entries) where
-  pub adds-held : HasRoomBeside p v.entries → (trees : List (List TreeEntry))
+    (stands : IsBackedBy digest p v.entries) where
+  pub adds-held : HasHoldsLeftBeside p v.entries → (trees : List (List TreeEntry))
       → AllByRecursion
       (Held digest (objects p v.entries) (trees-good digest p v.entries stands)) trees
       → AddsTrees digest p v p v trees
   adds-held room trees held = record {
     stands = stands;
     room = room;
-    others = LeavesOthers-refl p v.entries;
+    others = PreservesOthers-refl p v.entries;
     objects = sym
         (kept-all digest (objects p v.entries) (trees-good digest p v.entries stands) trees held);
     committed = refl;
@@ -45,7 +45,7 @@ module _ (digest : List ℕ → List ℕ) (p : Cells) (v : View)
       trees-held digest (objects p v.entries) (trees-good digest p v.entries stands) id
       (((d ∷ q), x) ∷ fs) t n deep
 
-  pub adds-unopened : HasRoomBeside p v.entries → (id c : List ℕ) (fs : Listed)
+  pub adds-unopened : HasHoldsLeftBeside p v.entries → (id c : List ℕ) (fs : Listed)
       → ListsTree (objects p v.entries) id fs → fs ≢ [] → (n : ℕ) → depth_of fs ≤ n
       → AddsTrees digest p v p v (group_trees digest n (c, fs)) ×
       (trees_fault digest (group_trees digest n (c, fs)) (objects p v.entries) ≡ None)

@@ -11,7 +11,7 @@ use Rattle.file_maps.specs.FileMap.{Path, Listed, FileMap, listed, AreFiles}
 use Rattle.file_maps.specs.Edits.{files_at, is_root}
 use Rattle.file_maps.specs.Trees.{Groups, grouped, file_of, direct, depth_of, entries_within}
 use Rattle.file_maps.specs.Trees.{tree_entries, tree_id, tree_name, entry_or, entry_at}
-use Rattle.file_maps.specs.ByComponent.{IsTreeOf, what}
+use Rattle.file_maps.specs.ByComponent.{IsTreeByComponent, what}
 use Rattle.file_maps.proofs.Apart.{all-map, all-weaker}
 use Rattle.file_maps.proofs.Fits.{File, grouped-all, depth_each, groups-are}
 use Rattle.file_maps.proofs.Written.{no_pairs, names_differ, tree_order}
@@ -180,7 +180,7 @@ module _ (digest : List ℕ → List ℕ) (m : FileMap) (top : Path) (are : AreF
       let rise = rise-cut top (listed m) are in
       (names_differ digest n (depth_of fs) (grouped fs) groups rise, tree_order digest n (depth_of fs) (grouped fs) groups rise)
 
-  pub tree-of : IsTreeOf digest m top (tree_entries digest fs)
+  pub tree-of : IsTreeByComponent digest m top (tree_entries digest fs)
   tree-of =
       let well = well-by (depth_of fs) refl (file_of fs) refl in record {
         entries = λ t. (

@@ -26,7 +26,7 @@ use Rattle.tenant_tables.proofs.StoredGood.{Grows, Holds, there, stored_good}
 use Rattle.file_maps.specs.declared.entry.Entry.{Entry}
 use Rattle.file_maps.specs.FileMap.{Path, Listed, FileMap, AreFiles, IsFile, listed}
 use Rattle.file_maps.specs.Edits.{files_at}
-use Rattle.file_maps.specs.HeldFiles.{IsHeld}
+use Rattle.file_maps.specs.HeldFiles.{IsFileHeld}
 use Rattle.file_maps.specs.Below.{group_trees}
 use Rattle.file_maps.specs.Trees.{Groups, add_file, depth_of, entries_within, file_of, grouped, nested_trees, tree_content, tree_id, tree_name, trees_within}
 use Rattle.file_maps.specs.GoodTrees.{StayGood}
@@ -58,8 +58,8 @@ kind_grown os new grows id k held =
     subst (λ (objects : List Object). kind_named id objects ≡ Some k) (sym grows.are)
     (kind_longer os grows.more id k held)
 
-held_grown : (os new : List Object) → Grows os new → (f : Path × Entry) → IsHeld os f
-    → IsHeld new f
+held_grown : (os new : List Object) → Grows os new → (f : Path × Entry) → IsFileHeld os f
+    → IsFileHeld new f
 held_grown os new grows f held other =
     kind_grown os new grows f.1.name (kind_of_mode f.1.mode) (held other)
 
@@ -211,12 +211,12 @@ record AreAdded (digest : List ℕ → List ℕ) (os new : List Object) (es : Li
 -- what is to be shown of files with fewer components
 abbrev AddsTree : (List ℕ → List ℕ) → ℕ → Listed → Type 0
 AddsTree digest deep files = (os : List Object) → AreObjects digest os
-    → AllByRecursion (IsHeld os) files
+    → AllByRecursion (IsFileHeld os) files
     → trees_fault digest (trees_within digest deep files) os ≡ None
     → Holds digest os (with_trees digest (trees_within digest deep files) os)
     (tree_content (entries_within digest deep files))
 
-refers_to_file : (os : List Object) (c : Bytes) (e : Entry) (files : Listed) → IsHeld os ([], e)
+refers_to_file : (os : List Object) (c : Bytes) (e : Entry) (files : Listed) → IsFileHeld os ([], e)
     → e.mode ≢ mode.Directory → IsObjectName e.name
     → Refers os (record { mode = e.mode; name = c; id = e.name })
 refers_to_file os c e files held file name =
@@ -237,7 +237,7 @@ groups_added : (digest : List ℕ → List ℕ) → AnswersNames digest → (n b
     → ((files : Listed) → AreStorable files → depth_of files ≤ n → AddsTree digest n files)
     → (groups : Groups) → AllByRecursion (IsGroup bound) groups
     → (os : List Object) → AreObjects digest os
-    → AllByRecursion (λ g. AllByRecursion (IsHeld os) g.1) groups
+    → AllByRecursion (λ g. AllByRecursion (IsFileHeld os) g.1) groups
     → trees_fault digest (flat_map (group_trees digest n) groups) os ≡ None
     → AreAdded digest os (with_trees digest (flat_map (group_trees digest n) groups) os)
     (map (direct_of digest n) groups)
@@ -266,8 +266,8 @@ groups_added digest names n bound le below ((c, ((d ∷ q, e) ∷ files)) ∷ gr
     let deep : suc (depth_of inside) ≤ bound = are.0.depth in
     let holds = below inside are.0.storable (omega arith) os good held.0 parts.0 in
     let rest = groups_added digest names n bound le below groups are.1 mid holds.good
-    (all-weaker (λ g. AllByRecursion (IsHeld os) g.1) (λ g. AllByRecursion (IsHeld mid) g.1)
-    (λ g h. all-weaker (IsHeld os) (IsHeld mid) (held_grown os mid holds.grows) g.1 h) groups held.1)
+    (all-weaker (λ g. AllByRecursion (IsFileHeld os) g.1) (λ g. AllByRecursion (IsFileHeld mid) g.1)
+    (λ g h. all-weaker (IsFileHeld os) (IsFileHeld mid) (held_grown os mid holds.grows) g.1 h) groups held.1)
     parts.1 in
     let some : 0 < n = omega arith in
     subst (λ (objects : List Object). AreAdded digest os objects (map (direct_of digest n) ((c, inside) ∷ groups)))
@@ -302,7 +302,7 @@ trees_added digest names (suc n) files storable le os good held none =
     let mid = with_trees digest a os in
     let are = groups-are files storable in
     let added = groups_added digest names n (depth_of files) le (trees_added digest names n) groups are os
-    good (grouped-all (IsHeld os) files held) parts.0 in
+    good (grouped-all (IsFileHeld os) files held) parts.0 in
     let rise = groups-rise files
     (all-weaker IsFile (λ f. IsPath f.0) (λ f k. k.path) files storable.each) storable.in_order
     storable.apart in
@@ -338,7 +338,7 @@ no_files digest names os good (suc n) files is none = absurd (omega arith)
 
 pub below_path : (digest : List ℕ → List ℕ) → AnswersNames digest → (os : List Object)
     → AreObjects digest os → (m : FileMap) → AreFiles (listed m) → (path : Path)
-    → AllByRecursion (IsHeld os) (files_at m path)
+    → AllByRecursion (IsFileHeld os) (files_at m path)
     → trees_fault digest (nested_trees digest (files_at m path)) os ≡ None
     → Holds digest os (with_trees digest (nested_trees digest (files_at m path)) os)
     (tree_content (entries_within digest (depth_of (files_at m path)) (files_at m path)))
@@ -349,7 +349,7 @@ below_path digest names os good m are path held none =
   where
     by_kind : (files : Listed) → Pairs InTurn files → (o : Option Entry) → file_of files ≡ o
         → (file_of files ≡ None → AreStorable files)
-        → AllByRecursion (IsHeld os) files
+        → AllByRecursion (IsFileHeld os) files
         → trees_fault digest (nested_trees digest files) os ≡ None
         → Holds digest os (with_trees digest (nested_trees digest files) os)
         (tree_content (entries_within digest (depth_of files) files))
@@ -359,13 +359,13 @@ below_path digest names os good m are path held none =
         no_files digest names os good (depth_of files) files (root_alone files turns e is) none
 
 pub nested_added : (digest : List ℕ → List ℕ) → AnswersNames digest → (os : List Object)
-    → AreObjects digest os → (m : FileMap) → AreFiles (listed m) → All (IsHeld os) (listed m)
+    → AreObjects digest os → (m : FileMap) → AreFiles (listed m) → All (IsFileHeld os) (listed m)
     → (path : Path) → trees_fault digest (nested_trees digest (files_at m path)) os ≡ None
     → StayGood digest os (with_trees digest (nested_trees digest (files_at m path)) os)
     (tree_id digest (files_at m path))
 nested_added digest names os good m are held path none =
     let holds = below_path digest names os good m are path
-    (cut-all (IsHeld os) path (listed m) (recursion_from_All (IsHeld os) (listed m) held)) none in
+    (cut-all (IsFileHeld os) path (listed m) (recursion_from_All (IsFileHeld os) (listed m) held)) none in
     record {
       good = holds.good;
       more = holds.grows.more;

@@ -4,12 +4,12 @@ use Rattle.std.proofs.Common.{ap, ◌∙◌, subst}
 use Rattle.std.proofs.lemmas.List.{append-nil}
 use Rattle.git_model.specs.Tree.{TreeEntry}
 use Rattle.content_pool.specs.Pool.{Cells}
-use Rattle.tenant_tables.proofs.TableLemmas.{StandsIn-nil}
+use Rattle.tenant_tables.proofs.TableLemmas.{IsBackedBy-nil}
 use Rattle.tenant_tables.specs.View.{View, Entries}
 use Rattle.tenant_tables.specs.Objects.{objects}
 use Rattle.file_maps.specs.declared.fault.Fault.{Fault}
 use Rattle.file_maps.specs.Storing.{trees_fault, AddsTrees, StoresTrees}
-use Rattle.tenant_tables.specs.StandsIn.{StandsIn}
+use Rattle.tenant_tables.specs.IsBackedBy.{IsBackedBy}
 use Rattle.file_maps.proofs.Stored.{adds-then, unrefused-then, some-then}
 
 module _ (digest : List ℕ → List ℕ) (deep : ℕ) where
@@ -30,5 +30,5 @@ module _ (digest : List ℕ → List ℕ) (deep : ℕ) where
       (is ∙ ap (λ (t : List (List TreeEntry)). a ++ t) (sym (append-nil (es ∷ []))))
 
 pub stands-none : (digest : List ℕ → List ℕ) (p : Cells) (es : Entries) → es ≡ []
-    → StandsIn digest p es
-stands-none digest p es none = subst (StandsIn digest p) (sym none) (StandsIn-nil digest p)
+    → IsBackedBy digest p es
+stands-none digest p es none = subst (IsBackedBy digest p) (sym none) (IsBackedBy-nil digest p)

@@ -22,7 +22,8 @@ abbrev pub what : TreeEntry → Entry
 what t = record { mode = t.mode; name = t.id }
 
 -- The tree of a path lists what stands one component below it: each name once, in Git's order.
-pub record IsTreeOf (digest : List ℕ → List ℕ) (m : FileMap) (top : Path) (es : List TreeEntry)
+pub record IsTreeByComponent (digest : List ℕ → List ℕ) (m : FileMap) (top : Path)
+    (es : List TreeEntry)
     : Type 0 where
   pub entries : (t : TreeEntry)
       → Contains es t ↔ (entry_at digest m (top ++ t.name ∷ []) ≡ Some (what t))

@@ -9,5 +9,5 @@ use Rattle.file_maps.specs.FileMap.{Path}
 
 -- A file's object is there, of the kind that its mode asks for. A gitlink's object is a commit of
 -- another repository, and need not be there.
-abbrev pub IsHeld : List Object → Path × Entry → Type 0
-IsHeld os f = f.1.mode ≢ mode.Gitlink → kind_named f.1.name os ≡ Some (kind_of_mode f.1.mode)
+abbrev pub IsFileHeld : List Object → Path × Entry → Type 0
+IsFileHeld os f = f.1.mode ≢ mode.Gitlink → kind_named f.1.name os ≡ Some (kind_of_mode f.1.mode)

@@ -9,8 +9,8 @@ use Rattle.tenant_tables.specs.declared.fault.Fault.TheVariants as table
 use Rattle.tenant_tables.specs.declared.summary.Summary.{Summary}
 use Rattle.tenant_tables.specs.View.{View, summary_of}
 use Rattle.tenant_tables.specs.Objects.{objects}
-use Rattle.tenant_tables.specs.StandsIn.{StandsIn, LeavesOthers}
-pub use Rattle.tenant_tables.specs.Room.{HasRoomBeside}
+use Rattle.tenant_tables.specs.IsBackedBy.{IsBackedBy, PreservesOthers}
+pub use Rattle.tenant_tables.specs.Room.{HasHoldsLeftBeside}
 use Rattle.tenant_tables.specs.Adding.{store_fault}
 use Rattle.file_maps.specs.declared.fault.Fault.{Fault}
 use Rattle.file_maps.specs.declared.fault.Fault.TheVariants as fault
@@ -43,9 +43,9 @@ trees_fault digest (es ∷ trees) os =
 -- summaries that were there.
 pub record AddsTrees (digest : List ℕ → List ℕ) (before : Cells) (old : View) (after : Cells)
     (new : View) (trees : List (List TreeEntry)) : Type 0 where
-  pub stands : StandsIn digest after new.entries
-  pub room : HasRoomBeside after new.entries
-  pub others : LeavesOthers before old.entries after new.entries
+  pub stands : IsBackedBy digest after new.entries
+  pub room : HasHoldsLeftBeside after new.entries
+  pub others : PreservesOthers before old.entries after new.entries
   pub objects : objects after new.entries ≡ with_trees digest trees (objects before old.entries)
   pub committed : new.committed ≡ old.committed
   pub kept : (id : List ℕ) (s : Summary) → summary_of id old.entries ≡ Some s

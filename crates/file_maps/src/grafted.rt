@@ -3,7 +3,7 @@
 ghost use Rattle.std.specs.Prelude.{◌≡◌, Some, IsSome, IfOk, IfErr};
 ghost use Rattle.git_objects.specs.Parts.{entries_of};
 ghost use Rattle.tenant_tables.specs.Objects.{objects};
-ghost use Rattle.tenant_tables.specs.StandsIn.{StandsIn};
+ghost use Rattle.tenant_tables.specs.IsBackedBy.{IsBackedBy};
 ghost use Rattle.tenant_tables.specs.View.{summary_of};
 ghost use Rattle.file_maps.specs.StoredTree.{HasTree};
 ghost use Rattle.file_maps.specs.Grafts.{tree_fault, is_small};
@@ -20,7 +20,7 @@ use tenant_tables::{Summary, Table};
 ///
 /// The pool is the one that the table stands in.
 pub fn tree_summary<N: Naming>(_pool: &Pool<N>, table: &Table, id: &Name) -> Result<Summary, Fault>
-    requires { StandsIn N.digest_of _pool.now table.now.entries }
+    requires { IsBackedBy N.digest_of _pool.now table.now.entries }
     ensures tree { IfOk result (λ s. summary_of id.now table.now.entries ≡ Some s) }
     ensures refusal { IfErr result
         (λ e. tree_fault (objects _pool.now table.now.entries) id.now ≡ Some e) }
@@ -50,7 +50,7 @@ pub fn read_entries<'a, N: Naming>(
     table: &Table,
     id: &Name,
 ) -> Result<Vec<TreeEntry<'a>>, Memory>
-    requires stands { StandsIn N.digest_of pool.now table.now.entries }
+    requires stands { IsBackedBy N.digest_of pool.now table.now.entries }
     requires tree { IsSome (summary_of id.now table.now.entries) }
     ensures { IfOk result (λ es.
         HasTree (objects pool.now table.now.entries) id.now (entries_of es.items)) }

@@ -13,13 +13,13 @@ ghost use Rattle.git_names.specs.Naming.{AnswersNames};
 ghost use Rattle.content_pool.specs.Pool.{Cells};
 ghost use Rattle.tenant_tables.specs.View.{Entries, summary_of};
 ghost use Rattle.tenant_tables.specs.Objects.{objects};
-ghost use Rattle.tenant_tables.specs.StandsIn.{StandsIn};
+ghost use Rattle.tenant_tables.specs.IsBackedBy.{IsBackedBy};
 ghost use Rattle.tenant_tables.specs.Sums.{IsWithin, TreesFit};
 ghost use Rattle.file_maps.specs.FileMap.{FileMap, Path, Listed, AreFiles, listed};
-ghost use Rattle.file_maps.specs.HeldFiles.{IsHeld};
+ghost use Rattle.file_maps.specs.HeldFiles.{IsFileHeld};
 ghost use Rattle.file_maps.specs.Edits.{files_at, with_files};
 ghost use Rattle.file_maps.specs.Trees.{grouped, nested_trees, tree_entries, tree_id};
-ghost use Rattle.file_maps.specs.ByComponent.{AreByDirectory, IsByFirstComponent, IsTreeOf};
+ghost use Rattle.file_maps.specs.ByComponent.{AreByDirectory, IsByFirstComponent, IsTreeByComponent};
 ghost use Rattle.file_maps.specs.StoredTree.{HasTree, ListsTree, AreFilesOf};
 ghost use Rattle.file_maps.specs.Storable.{files_summary};
 ghost use Rattle.file_maps.specs.Storing.{trees_fault, with_trees};
@@ -38,7 +38,7 @@ pub fn files_by_component()
 /// at which something is one component further, and no other entry.
 pub fn trees_by_component()
     ensures { (digest : List ℕ → List ℕ) (m : FileMap) (top : Path) → AreFiles (listed m)
-        → IsTreeOf digest m top (tree_entries digest (files_at m top)) }
+        → IsTreeByComponent digest m top (tree_entries digest (files_at m top)) }
 {}
 
 /// The trees of the files at or below any path are that of the path and those of all directories
@@ -60,13 +60,13 @@ pub fn stored_trees_stay()
 /// The trees of a table that stands in its pool are good.
 pub fn table_trees_are_good()
     ensures { (digest : List ℕ → List ℕ) (pool : Cells) (entries : Entries)
-        → StandsIn digest pool entries → AreTreesGood digest (objects pool entries) }
+        → IsBackedBy digest pool entries → AreTreesGood digest (objects pool entries) }
 {}
 
 /// So the files of each of them, as `stored_files` reads them, make the same tree again.
 pub fn table_trees_stay()
     ensures { (digest : List ℕ → List ℕ) (pool : Cells) (entries : Entries)
-        → StandsIn digest pool entries
+        → IsBackedBy digest pool entries
         → (id : List ℕ) (es : List TreeEntry) → HasTree (objects pool entries) id es
         → IsStoredAlready digest (objects pool entries) id
         (stored_files (objects pool entries) id) }
@@ -76,7 +76,7 @@ pub fn table_trees_stay()
 /// the most components of a path, and the most bytes of a path.
 pub fn table_summaries_are_of_files()
     ensures { (digest : List ℕ → List ℕ) (pool : Cells) (entries : Entries)
-        → StandsIn digest pool entries
+        → IsBackedBy digest pool entries
         → (id : List ℕ) (files : Listed) → ListsTree (objects pool entries) id files
         → summary_of id entries ≡ Some (files_summary files) }
 {}
@@ -142,7 +142,7 @@ pub fn an_empty_repository_is_good()
 pub fn trees_keep_objects_good()
     ensures { (digest : List ℕ → List ℕ) → AnswersNames digest
         → (os : List Object) → AreObjects digest os
-        → (m : FileMap) → AreFiles (listed m) → All (IsHeld os) (listed m)
+        → (m : FileMap) → AreFiles (listed m) → All (IsFileHeld os) (listed m)
         → (path : Path) → trees_fault digest (nested_trees digest (files_at m path)) os ≡ None
         → StayGood digest os (with_trees digest (nested_trees digest (files_at m path)) os)
         (tree_id digest (files_at m path)) }
@@ -153,7 +153,7 @@ pub fn trees_keep_objects_good()
 pub fn trees_keep_fitting()
     ensures { (digest : List ℕ → List ℕ) → AnswersNames digest
         → (os : List Object) → AreObjects digest os → TreesFit [] os
-        → (m : FileMap) → AreFiles (listed m) → All (IsHeld os) (listed m)
+        → (m : FileMap) → AreFiles (listed m) → All (IsFileHeld os) (listed m)
         → (path : Path) → trees_fault digest (nested_trees digest (files_at m path)) os ≡ None
         → TreesFit [] (with_trees digest (nested_trees digest (files_at m path)) os) }
 {}

@@ -4,11 +4,11 @@ ghost use Rattle.std.specs.Prelude.{◌≡◌, [], ◌∷◌, Some, OnOk, OnErr}
 ghost use Rattle.git_objects.specs.Parts.{entries_of};
 ghost use Rattle.git_model.specs.ObjectName.{IsObjectName};
 ghost use Rattle.git_model.specs.Tree.{tree_contents};
-ghost use Rattle.tenant_tables.specs.StandsIn.{StandsIn};
+ghost use Rattle.tenant_tables.specs.IsBackedBy.{IsBackedBy};
 ghost use Rattle.tenant_tables.specs.Trees.{FitsTree};
 ghost use Rattle.tenant_tables.specs.View.{summary_of};
 ghost use Rattle.file_maps.specs.Trees.{tree_name};
-ghost use Rattle.file_maps.specs.Storing.{StoresTrees, HasRoomBeside, as_fault};
+ghost use Rattle.file_maps.specs.Storing.{StoresTrees, HasHoldsLeftBeside, as_fault};
 
 use crate::fault::Fault;
 use crate::naming::contents_of;
@@ -43,8 +43,8 @@ pub fn add_entries<N: Naming>(
     entries: &[TreeEntry<'_>],
     summary: Summary,
 ) -> Result<Name, Fault>
-    requires stands { StandsIn N.digest_of pool.old table.old.entries }
-    requires room { HasRoomBeside pool.old table.old.entries }
+    requires stands { IsBackedBy N.digest_of pool.old table.old.entries }
+    requires room { HasHoldsLeftBeside pool.old table.old.entries }
     requires fits { FitsTree table.old.entries (tree_contents (entries_of entries.now)) summary }
     ensures stores { StoresTrees result N.digest_of pool.old table.old pool.new table.new
         (entries_of entries.now ∷ []) (tree_name N.digest_of (entries_of entries.now)) }

@@ -10,7 +10,7 @@ ghost use Rattle.git_names.specs.Ident.{Answers, IsFaultOf};
 
 use crate::ident_fault::IdentFault;
 use crate::ident_text::{after_person, is_date, seconds_of};
-use crate::memory::Memory;
+use git_model::Memory;
 use std::alloc::Global;
 use std::marker::Model;
 

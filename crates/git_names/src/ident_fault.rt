@@ -3,7 +3,7 @@
 ghost use Rattle.std.specs.Prelude.{◌≡◌};
 ghost use Rattle.git_names.specs.declared.ident_fault.IdentFault.TheVariants.{Memory as OutOfMemory};
 
-use crate::memory;
+use git_model::Memory;
 use std::alloc::AllocError;
 use thiserror::Error;
 
@@ -36,10 +36,10 @@ impl IdentFault {
     }
 }
 
-impl From<memory::Memory> for IdentFault {
+impl From<Memory> for IdentFault {
     ghost from_gives = { λ _ e. e ≡ OutOfMemory };
 
-    fn from(_e: memory::Memory) -> IdentFault {
+    fn from(_e: Memory) -> IdentFault {
         IdentFault::Memory
     }
 }

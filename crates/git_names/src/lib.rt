@@ -8,7 +8,6 @@
 mod ident;
 mod ident_fault;
 mod ident_text;
-mod memory;
 mod name;
 mod naming;
 mod object_name;
@@ -19,10 +18,9 @@ mod sha1_naming;
 mod tail_naming;
 mod text;
 
-pub use git_model::Kind;
+pub use git_model::{Kind, Memory};
 pub use ident::{Ident, is_written_ident};
 pub use ident_fault::IdentFault;
-pub use memory::Memory;
 pub use name::{Name, has_twenty_bytes};
 pub use naming::Naming;
 pub use object_name::{kind_word, name_of};

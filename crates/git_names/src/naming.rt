@@ -3,7 +3,7 @@
 ghost use Rattle.std.specs.Prelude.{◌≡◌, ℕ, List, ◌++◌, IfOk};
 ghost use Rattle.git_names.specs.Naming.{AnswersNames};
 
-use crate::memory::Memory;
+use git_model::Memory;
 use std::alloc::Global;
 
 /// A digest that gives objects their names: a function of the bytes, the same at every call.

@@ -4,10 +4,9 @@ ghost use Rattle.std.specs.Prelude.{◌≡◌, ◌++◌, ◌∷◌, [], codes, d
 ghost use Rattle.git_model.specs.Kind.{kind_word};
 ghost use Rattle.git_model.specs.ObjectName.{object_name};
 
-use crate::memory::Memory;
 use crate::name::Name;
 use crate::naming::Naming;
-use git_model::Kind;
+use git_model::{Kind, Memory};
 use itoa::Buffer;
 use std::alloc::Global;
 

@@ -8,10 +8,10 @@ ghost use Rattle.git_model.specs.Limits.{ref_name_limit};
 ghost use Rattle.git_names.specs.declared.ref_name_fault.RefNameFault.TheVariants.{BadRefName, Limit};
 ghost use Rattle.git_names.specs.StoredName.{NamesRef};
 
-use crate::memory::Memory;
 use crate::ref_name_fault::RefNameFault;
 use crate::ref_text::is_ref_name;
 use crate::text::Text;
+use git_model::Memory;
 use std::alloc::Global;
 use std::marker::Model;
 

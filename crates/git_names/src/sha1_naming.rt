@@ -4,8 +4,8 @@ ghost use Rattle.std.specs.Prelude.{◌++◌};
 ghost use Rattle.sha1.specs.Sha1.{sha1};
 ghost use Rattle.git_names.specs.Digests.{sha1_answers_names};
 
-use crate::memory::Memory;
 use crate::naming::Naming;
+use git_model::Memory;
 use sha1::Sha1;
 use std::alloc::Global;
 

@@ -1,9 +1,12 @@
 pub use Rattle.byte_devices.proofs.KnownBytes
 pub mod Fronts
 pub mod Splits
+pub mod NameFronts
 pub mod TreeFronts
 pub mod Kept
+pub mod Comparisons
 pub mod TreeOrder
+pub mod TreeGrowth
 pub mod TreeReads
 pub mod Lines
 pub mod CommitFronts

@@ -17,12 +17,12 @@ use Rattle.git_model.specs.declared.file_mode.FileMode.TheVariants as mode
 use Rattle.git_model.specs.Tree.{TreeEntry, IsEntryName, CanWriteEntry, CanWriteTree, slash_of, order_key, tree_cmp}
 use Rattle.git_objects.specs.TreeParts.{AreInOrder, HasTwin}
 
-tree_total : IsTotalOrder tree_cmp
+pub tree_total : IsTotalOrder tree_cmp
 tree_total = on_texts order_key
 
 -- a mode is that of a directory, and a slash goes after the name, or it is another, and nothing
 -- does
-slash_cases : (m : FileMode)
+pub slash_cases : (m : FileMode)
     → ((m ≡ mode.Directory) × (slash_of m ≡ codes "/")) ⊎ ((m ≢ mode.Directory) × (slash_of m ≡ []))
 slash_cases mode.Regular = inr ((λ e. cc), refl)
 slash_cases mode.Executable = inr ((λ e. cc), refl)
@@ -58,14 +58,14 @@ same_names a b p q e = elim (slash_cases a.mode) [
   ]
 ]
 
-compare_alike : (a b : TreeEntry) → order_key a ≡ order_key b → tree_cmp a b ≡ Equal
+pub compare_alike : (a b : TreeEntry) → order_key a ≡ order_key b → tree_cmp a b ≡ Equal
 compare_alike a b e =
     ap (λ k. slice_cmp nat_cmp k (order_key b)) e ∙ tied_itself nat_list_cmp_total (order_key b)
 
 not_less : (o : Ordering) → o ≡ Less → is_lt (ordering_reverse o) ≡ false
 not_less o e = rw e refl
 
-less_from : (o : Ordering) → true ≡ is_lt o → o ≡ Less
+pub less_from : (o : Ordering) → true ≡ is_lt o → o ≡ Less
 less_from Less e = refl
 less_from Equal e = cc
 less_from Greater e = cc
@@ -85,7 +85,7 @@ each_later es h (suc n) i j d e within =
     tree_total.trans (get_or es i d) (get_or es k d) (get_or es j d)
     (each_later es h n i k d refl near) last
 
-before : (es : List TreeEntry) → AreInOrder es → (i j : ℕ) (d : TreeEntry) → i < j → j < length es
+pub before : (es : List TreeEntry) → AreInOrder es → (i j : ℕ) (d : TreeEntry) → i < j → j < length es
     → tree_cmp (get_or es i d) (get_or es j d) ≡ Less
 before es h i j d lt within = each_later es h (j - 1 - i) i j d (omega arith) within
 
@@ -177,7 +177,7 @@ element [] k h = absurd (omega (arith, h))
 element (x ∷ xs) k h = x
 
 module _ {X : Type 0} (f : X → TreeEntry) where
-  shown_at : (xs : List X) (k : ℕ) (d : X) (e : TreeEntry) → k < length xs
+  pub shown_at : (xs : List X) (k : ℕ) (d : X) (e : TreeEntry) → k < length xs
       → get_or (map f xs) k e ≡ f (get_or xs k d)
   shown_at xs k d e within = get_or-map f xs k d e within
 

@@ -48,6 +48,5 @@ pub fn append_listing(
     let digits = id.to_hex();
     let kind = kind_word(kind_of_mode(mode));
     append_parts(&[six_digits(mode), b" ", kind, b" ", &digits, b"\t"], out)?;
-    quote_into(path, out)?;
-    Ok(())
+    quote_into(path, out)
 }

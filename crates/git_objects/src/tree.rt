@@ -1,19 +1,21 @@
 //! The contents of trees: "tree object" in gitglossary(7).
 
-ghost use Rattle.std.specs.Prelude.{◌≡◌, ◌≢◌, ◌↔◌, List, ◌++◌, length, take, All, IfSome, IfOk, IsNone, IsSomeAnd, OnOk, OnErr, IsTrue, ⊤};
+ghost use Rattle.std.specs.Prelude.{◌≡◌, ◌≢◌, ◌↔◌, List, [], ◌∷◌, ◌++◌, length, take, All, IfSome, IfOk, IsNone, IsSomeAnd, position, OnOk, OnErr, IsTrue, ⊤};
 ghost use Rattle.std.specs.Option.{option_map};
 ghost use Rattle.git_model.specs.Tree.{TreeEntry as Entry, IsEntryName, CanWriteEntry, CanWriteTree, entry_text, tree_contents};
 ghost use Rattle.git_model.specs.TreeReading.{tree_read};
 ghost use Rattle.git_objects.specs.Parts.{entry_of, entries_of};
 ghost use Rattle.git_objects.specs.Fronts.{IsFront};
-ghost use Rattle.git_objects.specs.TreeParts.{mode_text, name_text, AreInOrder, HasTwin};
+ghost use Rattle.git_objects.specs.TreeParts.{mode_text, name_text, ends_name, IsReserved, AreInOrder, HasTwin, CanFollow};
 
-use crate::front::split_at_byte;
-use crate::mode::{mode_digits, read_mode};
-use crate::tree_entry::{TreeEntry, is_entry_name};
+use crate::mode::mode_digits;
+use crate::tree_entry::TreeEntry;
 use git_model::FileMode;
 use git_names::{Memory, Name};
 use std::alloc::Global;
+
+// No entry has fewer bytes: a mode of five digits, a space, a name, a NUL, and an object's name.
+const LEAST_TEXT: usize = 28;
 
 fn append_entry(entry: &TreeEntry<'_>, contents: &mut Vec<u8>) -> Result<(), Memory>
     ensures written { OnOk result (contents.new.items ≡ contents.old.items
@@ -61,21 +63,52 @@ pub fn write_tree(entries: &[TreeEntry<'_>], contents: &mut Vec<u8>) -> Result<(
 fn take_mode(contents: &[u8]) -> Option<(FileMode, &[u8])>
     ensures { IsFront (λ _. ⊤) mode_text contents.now (option_map (λ x. (x.0, x.1.now)) result) }
 {
-    let (digits, rest) = split_at_byte(contents, b' ')?;
-    let mode = read_mode(digits)?;
-    Some((mode, rest))
+    if let Some(rest) = contents.strip_prefix(b"100644 ") {
+        return Some((FileMode::Regular, rest));
+    }
+    if let Some(rest) = contents.strip_prefix(b"40000 ") {
+        return Some((FileMode::Directory, rest));
+    }
+    if let Some(rest) = contents.strip_prefix(b"100755 ") {
+        return Some((FileMode::Executable, rest));
+    }
+    if let Some(rest) = contents.strip_prefix(b"120000 ") {
+        return Some((FileMode::Symlink, rest));
+    }
+    let rest = contents.strip_prefix(b"160000 ")?;
+    Some((FileMode::Gitlink, rest))
+}
+
+// The place of the first NUL or slash, where a name ends.
+fn end_of_name(contents: &[u8]) -> Option<usize>
+    ensures { result ≡ position ends_name contents.now }
+{
+    contents.iter().position(|byte| *byte == 0 || *byte == b'/')
+}
+
+// Whether a name is empty, `.` or `..`, which no entry is named.
+fn is_reserved(name: &[u8]) -> bool
+    ensures { IsTrue result ↔ IsReserved name.now }
+{
+    match name {
+        b"" | b"." | b".." => true,
+        _ => false,
+    }
 }
 
 fn take_name(contents: &[u8]) -> Option<(&[u8], &[u8])>
     ensures { IsFront IsEntryName name_text contents.now
         (option_map (λ x. (x.0.now, x.1.now)) result) }
 {
-    let (name, rest) = split_at_byte(contents, 0)?;
-    if is_entry_name(name) {
-        Some((name, rest))
-    } else {
-        None
+    let end = end_of_name(contents)?;
+    if contents[end] != 0 {
+        return None;
     }
+    let name = contents.split_at(end).0;
+    if is_reserved(name) {
+        return None;
+    }
+    Some((name, contents.split_at(end + 1).1))
 }
 
 fn take_entry(contents: &[u8]) -> Option<(TreeEntry<'_>, &[u8])>
@@ -95,8 +128,21 @@ fn take_entry(contents: &[u8]) -> Option<(TreeEntry<'_>, &[u8])>
     Some((TreeEntry { mode, name, id }, rest))
 }
 
-// A file with the directory's name need not be next to the directory, since only a directory's name
-// is compared with a slash after it. The entries are in order, so a binary search finds the file.
+// Whether an entry comes after all of these, which are in order.
+fn comes_after(entries: &[TreeEntry<'_>], entry: &TreeEntry<'_>) -> bool
+    ensures { AreInOrder (entries_of entries.now)
+        → (IsTrue result ↔ AreInOrder (entries_of entries.now ++ entry_of entry.now ∷ [])) }
+{
+    match entries.last() {
+        Some(last) => last.order(entry).is_lt(),
+        None => true,
+    }
+}
+
+// A file with the directory's name comes before the directory, but other entries can stand between
+// the two, since only a directory's name is compared with a slash after it. Mostly the last entry
+// comes before such a file, so there is none. Else a binary search finds it: a walk back to it
+// could be long for each of many directories.
 fn has_twin(entries: &[TreeEntry<'_>], entry: &TreeEntry<'_>) -> bool
     ensures { AreInOrder (entries_of entries.now)
         → (IsTrue result ↔ HasTwin (entries_of entries.now) (entry_of entry.now)) }
@@ -108,51 +154,19 @@ fn has_twin(entries: &[TreeEntry<'_>], entry: &TreeEntry<'_>) -> bool
         id,
     };
     match mode {
-        FileMode::Directory => entries.binary_search_by(|other| other.order(&file)).is_ok(),
+        FileMode::Directory if !comes_after(entries, &file) => {
+            entries.binary_search_by(|other| other.order(&file)).is_ok()
+        }
         _ => false,
     }
 }
 
-fn are_in_order(entries: &[TreeEntry<'_>]) -> bool
-    ensures { IsTrue result ↔ AreInOrder (entries_of entries.now) }
+// Whether an entry can stand after all of these, which make a tree.
+fn can_follow(entries: &[TreeEntry<'_>], entry: &TreeEntry<'_>) -> bool
+    ensures { AreInOrder (entries_of entries.now)
+        → (IsTrue result ↔ CanFollow (entries_of entries.now) (entry_of entry.now)) }
 {
-    entries.is_sorted_by(|entry, next| entry.order(next).is_lt())
-}
-
-fn is_tree(entries: &[TreeEntry<'_>]) -> bool
-    ensures { All CanWriteEntry (entries_of entries.now)
-        → (IsTrue result ↔ CanWriteTree (entries_of entries.now)) }
-{
-    if !are_in_order(entries) {
-        return false;
-    }
-    for entry in entries {
-        if has_twin(entries, entry) {
-            return false;
-        }
-    }
-    true
-}
-
-fn take_entries(alloc: Global, contents: &[u8]) -> Result<Option<Vec<TreeEntry<'_>>>, Memory>
-    ensures found { IfOk result (λ r. IfSome r
-        (λ es. All CanWriteEntry (entries_of es.items)
-        × (contents.now ≡ tree_contents (entries_of es.items)))) }
-    ensures only { (es : List Entry) → All CanWriteEntry es → contents.now ≡ tree_contents es
-        → IfOk result (λ r. IsSomeAnd r (λ v. entries_of v.items ≡ es)) }
-{
-    let mut entries = Vec::new(alloc);
-    let mut rest = contents;
-    while !rest.is_empty() {
-        let Some((entry, after)) = take_entry(rest) else {
-            return Ok(None);
-        };
-        if entries.push(entry).is_err() {
-            return Err(Memory);
-        }
-        rest = after;
-    }
-    Ok(Some(entries))
+    comes_after(entries, entry) && !has_twin(entries, entry)
 }
 
 /// Reads the contents of a tree: "tree object" in gitglossary(7). The entries are in order, and
@@ -173,12 +187,21 @@ pub fn read_tree(alloc: Global, contents: &[u8]) -> Result<Option<Vec<TreeEntry<
     ensures exact { IfOk result (λ r. IsNone r → (es : List Entry) → CanWriteTree es
         → contents.now ≢ tree_contents es) }
 {
-    let Some(entries) = take_entries(alloc, contents)? else {
-        return Ok(None);
+    let Ok(mut entries) = Vec::with_capacity(alloc, contents.len() / LEAST_TEXT) else {
+        return Err(Memory);
     };
-    if is_tree(&entries) {
-        Ok(Some(entries))
-    } else {
-        Ok(None)
+    let mut rest = contents;
+    while !rest.is_empty() {
+        let Some((entry, after)) = take_entry(rest) else {
+            return Ok(None);
+        };
+        if !can_follow(&entries, &entry) {
+            return Ok(None);
+        }
+        if entries.push(entry).is_err() {
+            return Err(Memory);
+        }
+        rest = after;
     }
+    Ok(Some(entries))
 }

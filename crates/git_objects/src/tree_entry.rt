@@ -1,6 +1,8 @@
 //! A direct entry of a tree, and the order in which Git lists entries.
 
-ghost use Rattle.std.specs.Prelude.{◌≡◌, ◌↔◌, IsTrue};
+ghost use Rattle.std.specs.Prelude.{◌≡◌, ◌↔◌, ◌++◌, min, length, slice_get, IsTrue};
+ghost use Rattle.std.specs.Ordering.{nat_cmp};
+ghost use Rattle.std.specs.Cmp.Lexicographic.{slice_cmp};
 ghost use Rattle.git_model.specs.Tree.{IsEntryName, slash_of, tree_cmp};
 ghost use Rattle.git_objects.specs.Parts.{entry_of};
 
@@ -37,14 +39,47 @@ fn slash_of(mode: FileMode) -> &'static [u8]
     }
 }
 
+// The byte that an entry is compared by after the front of its name: the next byte of the name, or
+// the slash after a directory's name.
+fn next_byte(rest: &[u8], mode: FileMode) -> Option<u8>
+    ensures { result ≡ slice_get (rest.now ++ slash_of mode) 0 }
+{
+    match rest {
+        [first, ..] => Some(*first),
+        _ => match mode {
+            FileMode::Directory => Some(b'/'),
+            _ => None,
+        },
+    }
+}
+
+// How entries compare of whose names the same front was taken, as long as the shorter name.
+fn order_of_rests(rest: &[u8], mode: FileMode, other: &[u8], other_mode: FileMode) -> Ordering
+    requires { min (length rest.now) (length other.now) ≡ 0 }
+    ensures { result ≡ slice_cmp nat_cmp (rest.now ++ slash_of mode)
+        (other.now ++ slash_of other_mode) }
+{
+    let found = next_byte(rest, mode).cmp(&next_byte(other, other_mode));
+    if found.is_ne() {
+        return found;
+    }
+    let own_len = rest.len() + slash_of(mode).len();
+    let other_len = other.len() + slash_of(other_mode).len();
+    own_len.cmp(&other_len)
+}
+
 impl TreeEntry<'_> {
     /// Git's order of tree entries: by the bytes of their names, a directory compared as if its
     /// name ended in a slash. Takes no memory.
     pub fn order(&self, other: &TreeEntry<'_>) -> Ordering
         ensures { result ≡ tree_cmp (entry_of self.now) (entry_of other.now) }
     {
-        let own = self.name.iter().chain(slash_of(self.mode).iter());
-        let others = other.name.iter().chain(slash_of(other.mode).iter());
-        own.cmp(others)
+        let common = self.name.len().min(other.name.len());
+        let (own, others) = (self.name.split_at(common), other.name.split_at(common));
+        let found = own.0.cmp(others.0);
+        if found.is_ne() {
+            return found;
+        }
+        order_of_rests(own.1, self.mode, others.1, other.mode)
     }
 }

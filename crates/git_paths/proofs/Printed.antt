@@ -1,13 +1,12 @@
 -- What is printed is read again.
-use Rattle.std.proofs.Common.{◌≡◌, ◌≢◌, ℕ, ◌+◌, ◌/◌, ◌%◌, ◌<◌, Bool, true, false, ◌||◌, eqb, ltb, leb, List, [], ◌∷◌, ◌++◌, All, Option, Some, None, Ok, refl, sym, ap, ◌∙◌, subst, lit<, arith}
-use Rattle.std.specs.Prelude.{find}
+use Rattle.std.proofs.Common.{◌≡◌, ◌≢◌, ◌⊎◌, inl, inr, ℕ, ◌+◌, ◌/◌, ◌%◌, ◌<◌, Bool, true, false, ◌||◌, eqb, ltb, leb, List, [], ◌∷◌, ◌++◌, Option, Some, None, Ok, refl, sym, ap, ◌∙◌, subst, arith}
+use Rattle.std.specs.Prelude.{◌&&◌, find}
 use Rattle.std.specs.List.{list_any, flat_map, AllByRecursion}
 use Rattle.std.specs.Option.{option_map}
 use Rattle.std.proofs.Math.Nat.{div-div-eq-div-mul}
-use Rattle.std.proofs.lemmas.Bool.{eqb-true, eqb-false}
-use Rattle.std.proofs.lemmas.List.Elements.{All-nil, All-cons, All-head, All-tail, All-append, recursion_from_All}
+use Rattle.std.proofs.lemmas.Bool.{eqb-true, eqb-false, ltb-true}
 use Rattle.git_paths.specs.declared.place.Place.TheVariants.{Last}
-use Rattle.git_paths.specs.Paths.{AreOfBytes, IsPath, IsWithinLimits, joined}
+use Rattle.git_paths.specs.Paths.{IsPath, IsWithinLimits, joined}
 use Rattle.git_paths.specs.Quoting.{letters, byte_of_letter, letter_of_byte, is_special, escape_by, escape, quoted, octal_value, IsOctal, Quotes, nothing, itself, letter, octal}
 use Rattle.git_paths.specs.Written.{IsUnquoted, Writes, unquoted_last, quoted_last}
 use Rattle.git_paths.specs.Reading.{path_at}
@@ -53,10 +52,31 @@ or_false false b h = (refl, h)
 
 plain_byte : (b : ℕ) → is_special b ≡ false → (b ≢ 34) × (b ≢ 92)
 plain_byte b h =
-    let low = (or_false (eqb b 34 || eqb b 92 || ltb b 32) (leb 127 b) h).0 in
+    let low = (or_false (eqb b 34 || eqb b 92 || ltb b 32) (leb 127 b && ltb b 256) h).0 in
     let both = (or_false (eqb b 34 || eqb b 92) (ltb b 32) low).0 in
     let each = or_false (eqb b 34) (eqb b 92) both in
     (eqb-false b 34 each.0, eqb-false b 92 each.1)
+
+or_true : (a b : Bool) → (a || b) ≡ true → (a ≡ true) ⊎ (b ≡ true)
+or_true true b h = inl refl
+or_true false b h = inr h
+
+second_true : (a b : Bool) → (a && b) ≡ true → b ≡ true
+second_true true b h = h
+second_true false b h = absurd cc
+
+-- what is special is a byte
+special_byte : (b : ℕ) → is_special b ≡ true → b < 256
+special_byte b h = elim (or_true (eqb b 34 || eqb b 92 || ltb b 32) (leb 127 b && ltb b 256) h) [
+  | inl low ↦ elim (or_true (eqb b 34 || eqb b 92) (ltb b 32) low) [
+    | inl mark ↦ elim (or_true (eqb b 34) (eqb b 92) mark) [
+      | inl quote ↦ (let is = eqb-true b 34 quote in omega (arith, is))
+      | inr backslash ↦ (let is = eqb-true b 92 backslash in omega (arith, is))
+    ]
+    | inr control ↦ (let lt = ltb-true b 32 control in omega (arith, lt))
+  ]
+  | inr high ↦ ltb-true b 256 (second_true (leb 127 b) (ltb b 256) high)
+]
 
 digits_of : (b : ℕ) → b < 256
     → (octal_value (48 + b / 64) (48 + b / 8 % 8) (48 + b % 8) ≡ b) × (b / 64 < 8)
@@ -75,25 +95,24 @@ octal_means b inside bytes lt q =
     (λ (n : ℕ). Quotes (92 ∷ (48 + b / 64) ∷ (48 + b / 8 % 8) ∷ (48 + b % 8) ∷ inside) (n ∷ bytes)) d.0
     (octal (48 + b / 64) (48 + b / 8 % 8) (48 + b % 8) inside bytes x y z (omega (arith, d.0)) q)
 
-escape_by_means : (b : ℕ) (inside bytes : List ℕ) → b < 256 → Quotes inside bytes → (o : Option ℕ)
+escape_by_means : (b : ℕ) (inside bytes : List ℕ) → Quotes inside bytes → (o : Option ℕ)
     → letter_of_byte b ≡ o → Quotes (escape_by b o ++ inside) (b ∷ bytes)
-escape_by_means b inside bytes lt q (Some l) is =
+escape_by_means b inside bytes q (Some l) is =
     letter l b inside bytes (byte_of_letter-letter_of_byte b l is) q
-escape_by_means b inside bytes lt q None is =
+escape_by_means b inside bytes q None is =
     by_cases (is_special b)
-    (λ yea. rw yea (octal_means b inside bytes lt q))
+    (λ yea. rw yea (octal_means b inside bytes (special_byte b yea) q))
     (λ nay. let p = plain_byte b nay in rw nay (itself b inside bytes p.0 p.1 q))
 
-escape_means : (b : ℕ) (inside bytes : List ℕ) → b < 256 → Quotes inside bytes
+escape_means : (b : ℕ) (inside bytes : List ℕ) → Quotes inside bytes
     → Quotes (escape b ++ inside) (b ∷ bytes)
 unfolding escape
-escape_means b inside bytes lt q = escape_by_means b inside bytes lt q (letter_of_byte b) refl
+escape_means b inside bytes q = escape_by_means b inside bytes q (letter_of_byte b) refl
 
-Quotes-printed : (bytes : List ℕ) → AllByRecursion (λ b. b < 256) bytes
-    → Quotes (flat_map escape bytes) bytes
-Quotes-printed [] h = nothing
-Quotes-printed (b ∷ bytes) h =
-    escape_means b (flat_map escape bytes) bytes h.0 (Quotes-printed bytes h.1)
+Quotes-printed : (bytes : List ℕ) → Quotes (flat_map escape bytes) bytes
+Quotes-printed [] = nothing
+Quotes-printed (b ∷ bytes) =
+    escape_means b (flat_map escape bytes) bytes (Quotes-printed bytes)
 
 -- ---- the printed bytes are written as the last path
 
@@ -102,27 +121,15 @@ first_plain [] h = tt
 first_plain (b ∷ bytes) h =
     (plain_byte b (or_false (is_special b) (list_any is_special bytes) h).0).0
 
-pub Writes-quoted : (bytes : List ℕ) → All (λ b. b < 256) bytes
-    → Writes Last (quoted bytes) bytes []
+pub Writes-quoted : (bytes : List ℕ) → Writes Last (quoted bytes) bytes []
 unfolding quoted
-Writes-quoted bytes are_bytes =
+Writes-quoted bytes =
     by_cases (list_any is_special bytes)
-    (λ yea. rw yea (quoted_last (flat_map escape bytes) bytes (Quotes-printed bytes (recursion_from_All (λ b. b < 256) bytes are_bytes))))
+    (λ yea. rw yea (quoted_last (flat_map escape bytes) bytes (Quotes-printed bytes)))
     (λ nay. rw nay (unquoted_last bytes (first_plain bytes nay)))
 
--- the bytes of a path are bytes
-pub joined_bytes : (path : List (List ℕ)) → AreOfBytes path → All (λ b. b < 256) (joined path)
-joined_bytes [] h = All-nil (λ b. b < 256)
-joined_bytes (name ∷ []) h = All-head (All (λ b. b < 256)) name [] h
-joined_bytes (name ∷ next ∷ path) h =
-    All-append (λ b. b < 256) name (47 ∷ joined (next ∷ path))
-    (All-head (All (λ b. b < 256)) name (next ∷ path) h)
-    (All-cons (λ b. b < 256) 47 (joined (next ∷ path)) (lit< tt)
-    (joined_bytes (next ∷ path) (All-tail (All (λ b. b < 256)) name (next ∷ path) h)))
-
 -- a path that is printed is read as the same path
-pub printed_is_read : (path : List (List ℕ)) → IsPath path → AreOfBytes path → IsWithinLimits path
+pub printed_is_read : (path : List (List ℕ)) → IsPath path → IsWithinLimits path
     → path_at Last (quoted (joined path)) ≡ Ok (path, [])
-printed_is_read path is bytes limits =
-    path_at-Writes Last (quoted (joined path)) path [] is limits
-    (Writes-quoted (joined path) (joined_bytes path bytes))
+printed_is_read path is limits =
+    path_at-Writes Last (quoted (joined path)) path [] is limits (Writes-quoted (joined path))

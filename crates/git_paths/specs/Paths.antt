@@ -1,6 +1,6 @@
 -- Paths: git-fast-import(1), `M`, on the canonical form of a path.
 -- A path is the list of its components from the root down, each a list of bytes; the root has none.
-use Rattle.std.specs.Prelude.{ℕ, ◌<◌, ◌≤◌, Bool, ◌&&◌, not, ◌==◌, nat_le, if◌then◌else◌, List, [], ◌∷◌, ◌++◌, length, All, Option, Some, None, codes}
+use Rattle.std.specs.Prelude.{ℕ, ◌≤◌, Bool, ◌&&◌, not, ◌==◌, nat_le, if◌then◌else◌, List, [], ◌∷◌, ◌++◌, length, All, Option, Some, None, codes}
 use Rattle.std.specs.List.{join_with_byte, slice_split, list_any, list_all}
 use Rattle.std.specs.Str.{bytes_eq}
 use Rattle.git_model.specs.Limits.{path_bytes_limit, path_components_limit}
@@ -14,10 +14,6 @@ IsComponent name = IsEntryName name
 -- A list is a path if each of its elements is a component.
 abbrev pub IsPath : List (List ℕ) → Type 0
 IsPath path = All IsComponent path
-
--- Each component of a path consists of bytes.
-abbrev pub AreOfBytes : List (List ℕ) → Type 0
-AreOfBytes path = All (All (λ b. b < 256)) path
 
 -- the bytes of a path: its components with `/` between them
 abbrev pub joined : List (List ℕ) → List ℕ

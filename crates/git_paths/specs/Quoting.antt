@@ -1,5 +1,5 @@
 -- Quoted paths: git-config(1), core.quotePath, and git-fast-import(1), on C-style quoting.
-use Rattle.std.specs.Prelude.{◌≡◌, ◌≢◌, ℕ, ◌+◌, ◌*◌, ◌/◌, ◌%◌, ◌-◌, ◌<◌, ◌≤◌, Bool, ◌||◌, ◌==◌, nat_lt, nat_le, if◌then◌else◌, List, [], ◌∷◌, ◌++◌, find, Option, Some, None}
+use Rattle.std.specs.Prelude.{◌≡◌, ◌≢◌, ℕ, ◌+◌, ◌*◌, ◌/◌, ◌%◌, ◌-◌, ◌<◌, ◌≤◌, Bool, ◌&&◌, ◌||◌, ◌==◌, nat_lt, nat_le, if◌then◌else◌, List, [], ◌∷◌, ◌++◌, find, Option, Some, None}
 use Rattle.std.specs.List.{flat_map, list_any}
 use Rattle.std.specs.Option.{option_map}
 
@@ -19,9 +19,10 @@ letter_of_byte byte = option_map (λ e. e.0) (find (λ e. e.1 == byte) letters)
 
 -- ---- printing
 
--- A quote, a backslash, a byte below 0x20 and one from 0x7f on are not printed as they are.
+-- A quote, a backslash, a byte below 0x20 and one from 0x7f to 0xff are not printed as they are. A
+-- number above 0xff is no byte: it stands for itself here, as it does where quotes are read.
 abbrev pub is_special : ℕ → Bool
-is_special b = b == 34 || b == 92 || nat_lt b 32 || nat_le 127 b
+is_special b = b == 34 || b == 92 || nat_lt b 32 || nat_le 127 b && nat_lt b 256
 
 -- a byte between the quotes: itself, its letter, or three octal digits
 abbrev pub escape_by : ℕ → Option ℕ → List ℕ

@@ -4,13 +4,12 @@
 
 ghost use Rattle.std.specs.Prelude.{◌≡◌, List, ℕ, [], Ok};
 ghost use Rattle.git_paths.specs.declared.place.Place.TheVariants.{Last};
-ghost use Rattle.git_paths.specs.Paths.{AreOfBytes, IsPath, IsWithinLimits, joined};
+ghost use Rattle.git_paths.specs.Paths.{IsPath, IsWithinLimits, joined};
 ghost use Rattle.git_paths.specs.Quoting.{quoted};
 ghost use Rattle.git_paths.specs.Reading.{path_at};
 
 /// A printed path within the limits, as the last part of its line, is read back as the same path.
 pub fn printed_is_read()
-    ensures { (path : List (List ℕ)) → IsPath path → AreOfBytes path
-        → IsWithinLimits path
+    ensures { (path : List (List ℕ)) → IsPath path → IsWithinLimits path
         → path_at Last (quoted (joined path)) ≡ Ok (path, []) }
 {}

@@ -16,6 +16,7 @@ mod unquoting;
 
 pub use components::Components;
 pub use fault::Fault;
+pub use git_model::Memory;
 pub use judging::is_component;
 pub use path::Path;
 pub use place::Place;

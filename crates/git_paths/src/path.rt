@@ -18,7 +18,8 @@ use crate::place::Place;
 use crate::prefixes::{bytes_after, join_bytes};
 use crate::printing::quote_into;
 use crate::reading::read_bytes;
-use std::alloc::{AllocError, Global};
+use git_model::Memory;
+use std::alloc::Global;
 use std::marker::Model;
 
 /// A path of a tree, such as `a/b`, or the root.
@@ -120,9 +121,8 @@ impl Path {
     /// Appends the path to `out`, in quotes if a byte needs them: git-config(1), core.quotePath.
     /// The root appends nothing.
     ///
-    /// `AllocError` (90) if `out` cannot grow; its bytes are then unchanged. `Fault::from` turns
-    /// the error into `Fault::Memory`, whose `code` is 90.
-    pub fn quote_into(&self, out: &mut Vec<u8>) -> Result<(), AllocError>
+    /// `Memory` (90) if `out` cannot grow; its bytes are then unchanged.
+    pub fn quote_into(&self, out: &mut Vec<u8>) -> Result<(), Memory>
         ensures ok { OnOk result (out.new.items ≡ out.old.items ++ quoted (joined self.now)) }
         ensures err { OnErr result (out.new.items ≡ out.old.items) }
     {
@@ -132,9 +132,9 @@ impl Path {
     /// Reads a path that is never quoted: gitrevisions(7), `<rev>:<path>`. The empty text is the
     /// root. There are no limits on the path.
     ///
-    /// `None` if a component is empty, `.` or `..` or contains NUL. `AllocError` (90) if there is
-    /// no memory for the bytes.
-    pub fn from_canonical(alloc: Global, bytes: &[u8]) -> Result<Option<Path>, AllocError>
+    /// `None` if a component is empty, `.` or `..` or contains NUL. `Memory` (90) if there is no
+    /// memory for the bytes.
+    pub fn from_canonical(alloc: Global, bytes: &[u8]) -> Result<Option<Path>, Memory>
         // A path that is answered has these bytes.
         ensures found { IfOk result (λ o. IfSome o (λ path. IsPath path
             × (joined path ≡ bytes.now))) }
@@ -148,7 +148,7 @@ impl Path {
     }
 
     #[tactic(auto, unfolding(crate::specs::Reading::canonical_path))]
-    fn canonical_of(alloc: Global, bytes: &[u8]) -> Result<Option<Path>, AllocError>
+    fn canonical_of(alloc: Global, bytes: &[u8]) -> Result<Option<Path>, Memory>
         ensures exact { IfOk result (λ o. o ≡ canonical_path bytes.now) }
         ensures path { IfOk result (λ o. IfSome o IsPath) }
     {
@@ -183,8 +183,8 @@ impl Path {
 
     /// This path followed by more components. There are no limits on the path.
     ///
-    /// `AllocError` (90) if there is no memory for the bytes.
-    pub fn join(&self, alloc: Global, rest: &Components<'_>) -> Result<Path, AllocError>
+    /// `Memory` (90) if there is no memory for the bytes.
+    pub fn join(&self, alloc: Global, rest: &Components<'_>) -> Result<Path, Memory>
         ensures { IfOk result (λ path. path ≡ self.now ++ rest.now) }
     {
         Ok(Path::of(join_bytes(alloc, self.as_bytes(), rest.as_bytes())?))
@@ -192,16 +192,16 @@ impl Path {
 
     /// This path followed by one more component. There are no limits on the path.
     ///
-    /// `AllocError` (90) if there is no memory for the bytes.
-    pub fn child(&self, alloc: Global, name: &[u8]) -> Result<Path, AllocError>
+    /// `Memory` (90) if there is no memory for the bytes.
+    pub fn child(&self, alloc: Global, name: &[u8]) -> Result<Path, Memory>
         requires { IsComponent name.now }
         ensures { IfOk result (λ path. path ≡ self.now ++ name.now ∷ []) }
     {
         self.join(alloc, &Components::of(name))
     }
 
-    /// A copy of the path. `AllocError` (90) if there is no memory for its bytes.
-    pub fn copied(&self, alloc: Global) -> Result<Path, AllocError>
+    /// A copy of the path. `Memory` (90) if there is no memory for its bytes.
+    pub fn copied(&self, alloc: Global) -> Result<Path, Memory>
         ensures { IfOk result (λ path. path ≡ self.now) }
     {
         Ok(Path {

@@ -4,7 +4,8 @@ ghost use Rattle.std.specs.Prelude.{◌≡◌, ◌++◌, IfOk, is_some};
 ghost use Rattle.std.specs.Option.{option_map};
 ghost use Rattle.git_paths.specs.Paths.{IsPath, components_of, strip_prefix, joined_both};
 
-use std::alloc::{AllocError, Global};
+use git_model::Memory;
+use std::alloc::Global;
 
 /// The bytes of a path after its prefix `top` and the slash between them.
 pub(crate) fn bytes_after<'a>(top: &[u8], bytes: &'a [u8]) -> Option<&'a [u8]>
@@ -24,7 +25,7 @@ pub(crate) fn bytes_after<'a>(top: &[u8], bytes: &'a [u8]) -> Option<&'a [u8]>
 }
 
 /// The bytes of one path followed by another.
-pub(crate) fn join_bytes(alloc: Global, top: &[u8], rest: &[u8]) -> Result<Vec<u8>, AllocError>
+pub(crate) fn join_bytes(alloc: Global, top: &[u8], rest: &[u8]) -> Result<Vec<u8>, Memory>
     ensures { IfOk result (λ v. v.items ≡ joined_both top.now rest.now) }
 {
     let mut bytes = Vec::from_slice(alloc, top)?;

@@ -6,7 +6,7 @@ ghost use Rattle.std.specs.Prelude.{◌≡◌, [], ◌∷◌, ◌++◌, take, ve
 ghost use Rattle.std.specs.List.{flat_map};
 ghost use Rattle.git_paths.specs.Quoting.{letter_of_byte, is_special, escape, in_quotes, quoted};
 
-use std::alloc::AllocError;
+use git_model::Memory;
 
 #[tactic(auto, unfolding(crate::specs::Quoting::letter_of_byte))]
 fn letter_of(byte: u8) -> Option<u8>
@@ -33,21 +33,21 @@ fn must_quote(byte: u8) -> bool
 }
 
 #[tactic(auto, unfolding(crate::specs::Quoting::escape))]
-fn escape_into(byte: u8, out: &mut Vec<u8>) -> Result<(), AllocError>
+fn escape_into(byte: u8, out: &mut Vec<u8>) -> Result<(), Memory>
     ensures ok { OnOk result (out.new.items ≡ out.old.items ++ escape byte) }
     ensures err { OnErr result (out.new.items ≡ out.old.items) }
 {
     if let Some(letter) = letter_of(byte) {
-        return out.extend_from_slice(&[b'\\', letter]);
+        return Ok(out.extend_from_slice(&[b'\\', letter])?);
     }
     if must_quote(byte) {
         let digits = [b'0' + byte / 64, b'0' + byte / 8 % 8, b'0' + byte % 8];
-        return out.extend_from_slice(&[b'\\', digits[0], digits[1], digits[2]]);
+        return Ok(out.extend_from_slice(&[b'\\', digits[0], digits[1], digits[2]])?);
     }
-    out.extend_from_slice(&[byte])
+    Ok(out.push(byte)?)
 }
 
-fn write_quoted(bytes: &[u8], out: &mut Vec<u8>) -> Result<(), AllocError>
+fn write_quoted(bytes: &[u8], out: &mut Vec<u8>) -> Result<(), Memory>
     ensures ok { OnOk result (out.new.items ≡ out.old.items ++ in_quotes bytes.now) }
     ensures err { OnErr result (take (vec_len out.old) out.new.items ≡ out.old.items) }
 {
@@ -65,15 +65,14 @@ fn write_quoted(bytes: &[u8], out: &mut Vec<u8>) -> Result<(), AllocError>
 /// one from 0x7f on. Each of these is then written as a backslash and its letter or three octal
 /// digits.
 ///
-/// `AllocError` (90) if `out` cannot grow; its bytes are then unchanged. `Fault::from` turns the
-/// error into `Fault::Memory`, whose `code` is 90.
+/// `Memory` (90) if `out` cannot grow; its bytes are then unchanged.
 #[tactic(auto, unfolding(crate::specs::Quoting::quoted))]
-pub fn quote_into(bytes: &[u8], out: &mut Vec<u8>) -> Result<(), AllocError>
+pub fn quote_into(bytes: &[u8], out: &mut Vec<u8>) -> Result<(), Memory>
     ensures ok { OnOk result (out.new.items ≡ out.old.items ++ quoted bytes.now) }
     ensures err { OnErr result (out.new.items ≡ out.old.items) }
 {
     if !bytes.iter().any(|byte| must_quote(*byte)) {
-        return out.extend_from_slice(bytes);
+        return Ok(out.extend_from_slice(bytes)?);
     }
     let before = out.len();
     let written = write_quoted(bytes, out);

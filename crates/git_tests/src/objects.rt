@@ -13,6 +13,23 @@ const THREE: &[u8; 90] =
 // The last two of them: `.` is less than the slash with which a directory's name is compared.
 const FILE_FIRST: &[u8] = b"100644 a.txt\0oooooooooooooooooooo40000 a\0oooooooooooooooooooo";
 
+// A file `a` and a directory `a`, with three entries between them and one after them.
+const FAR_TWIN: &[u8] = b"100644 a\0oooooooooooooooooooo\
+40000 a-\0oooooooooooooooooooo\
+100644 a-b\0oooooooooooooooooooo\
+100755 a.txt\0oooooooooooooooooooo\
+40000 a\0oooooooooooooooooooo\
+100644 a0\0oooooooooooooooooooo";
+
+// A directory between files whose names go on with a byte that is less than a slash and with one
+// that is more.
+const BETWEEN: &[u8] = b"100644 a.txt\0oooooooooooooooooooo\
+40000 a\0oooooooooooooooooooo\
+100644 a0\0oooooooooooooooooooo";
+
+// A directory after a file whose name goes on with a byte that is more than a slash.
+const DIRECTORY_LAST: &[u8] = b"100644 a0\0oooooooooooooooooooo40000 a\0oooooooooooooooooooo";
+
 // Which texts are trees.
 const TREES: &[(&[u8], bool)] = &[
     (b"40000 x\0oooooooooooooooooooo", true),
@@ -23,6 +40,22 @@ const TREES: &[(&[u8], bool)] = &[
         true,
     ),
     (FILE_FIRST, true),
+    (FAR_TWIN, false),
+    (DIRECTORY_LAST, false),
+    (BETWEEN, true),
+    (
+        b"40000 a\0oooooooooooooooooooo100644 a.txt\0oooooooooooooooooooo",
+        false,
+    ),
+    (
+        b"100644 b\0oooooooooooooooooooo100644 b\0oooooooooooooooooooo",
+        false,
+    ),
+    (b"100644 a/b\0oooooooooooooooooooo", false),
+    (b"100644 ..\0oooooooooooooooooooo", false),
+    (b"100644 ...\0oooooooooooooooooooo", true),
+    (b"100644 \0oooooooooooooooooooo", false),
+    (b"100644 a\0ooooooooooooooooooo", false),
 ];
 
 const TAGS: &[(&[u8], bool)] = &[

@@ -1,6 +1,6 @@
 //! Paths are read, printed, split and joined, and compared with bytes that were derived by hand.
 
-use git_paths::{Path, Place, is_component, quote_into};
+use git_paths::{Memory, Path, Place, is_component, quote_into};
 use std::alloc::{AllocError, Global};
 
 // Quoted paths and their bytes, which are printed in that form.
@@ -226,7 +226,7 @@ fn is_split(path: &Path) -> bool {
     }
 }
 
-fn has_bytes(path: Result<Path, AllocError>, bytes: &[u8]) -> bool {
+fn has_bytes(path: Result<Path, Memory>, bytes: &[u8]) -> bool {
     match path {
         Ok(path) => path.as_bytes() == bytes,
         Err(_) => false,
@@ -323,6 +323,11 @@ fn a_path_of_an_expression_is_never_quoted(rt: HostRuntime) {
     assert!(rt; is_canonical(rt.alloc(), b"\"a\"") == Some(true));
     assert!(rt; is_canonical(rt.alloc(), b"a/") == Some(false));
     assert!(rt; is_name_printed(rt.alloc()));
+}
+
+#[test]
+fn out_of_memory_is_90(rt: HostRuntime) {
+    assert!(rt; Memory.code() == 90);
 }
 
 #[test]

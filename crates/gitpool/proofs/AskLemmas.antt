@@ -9,8 +9,8 @@ use Rattle.service_steps.specs.declared.answer.Answer.TheVariants as answer
 use Rattle.service_steps.specs.declared.step.Step.{Step}
 use Rattle.tenant_refs.specs.TenantName.{is_tenant_name}
 use Rattle.tenant_service.specs.Alone.{Call, Ask, State, Closed, Streaming, Dead, added, answered, asked, last_alone, run_alone}
-use Rattle.tenant_service.specs.Headline.{Told, told_in, IsIsolated, IsRefused, has_bad_name, concerns, call_of, stop_told, steps_of, left_alone}
-use Rattle.tenant_service.specs.TenantState.{TenantState, Idle, Busy, TenantStates, LeadsTo, held_of}
+use Rattle.tenant_service.specs.Headline.{Response, response_in, IsIsolated, IsRefused, has_bad_name, concerns, call_of, stop_told, steps_of, left_alone}
+use Rattle.tenant_service.specs.TenantState.{TenantState, Idle, Busy, TenantStates, Represents, held_of}
 use Rattle.tenant_service.specs.StepName.{name_of}
 use Rattle.gitpool.specs.declared.ask_fault.AskFault.{AskFault}
 use Rattle.gitpool.specs.declared.ask_fault.AskFault.TheVariants as fault
@@ -20,7 +20,7 @@ use Rattle.gitpool.proofs.StepLemmas.{called-alone}
 -- ---- what a query leaves
 
 -- a repository and a stream of its own lead to one thing
-leads-one : (digest : List ℕ → List ℕ) (state : State) (a b : TenantState) → LeadsTo digest state a → LeadsTo digest state b → a ≡ b
+leads-one : (digest : List ℕ → List ℕ) (state : State) (a b : TenantState) → Represents digest state a → Represents digest state b → a ≡ b
 leads-one digest (Closed r) (Idle a) (Idle b) h k = ap Idle (sym h ∙ k)
 leads-one digest (Closed r) (Idle a) (Busy b) h k = absurd k
 leads-one digest (Closed r) (Busy a) b h k = absurd h
@@ -45,12 +45,12 @@ ask-leaves digest query stop state = by stop
     by (Some zero) = refl
     by (Some (suc n)) = told _
 
-one-left : (digest : List ℕ → List ℕ) (name query : List ℕ) (s : Step) (told : Told) (state : State) → call_of s ≡ Ask query
+one-left : (digest : List ℕ → List ℕ) (name query : List ℕ) (s : Step) (told : Response) (state : State) → call_of s ≡ Ask query
     → left_alone digest state (steps_of name ((s, told) ∷ [])) ≡ state
 unfolding left_alone
 one-left digest name query s told state is = by (concerns name s)
   where
-    by : (b : Bool) → left_alone digest state (map (λ (x : Step × Told). (call_of x.0, stop_told x.1.answer)) (cond b ((s, told) ∷ []) [])) ≡ state
+    by : (b : Bool) → left_alone digest state (map (λ (x : Step × Response). (call_of x.0, stop_told x.1.answer)) (cond b ((s, told) ∷ []) [])) ≡ state
     by false = refl
     by true =
         ap (λ (c : Call). (run_alone digest c (stop_told told.answer) state).state) is
@@ -80,45 +80,45 @@ asked-ok (answer.Memory items) u e = cc e
 -- an Ask with no bytes before its reply
 module _ (digest : List ℕ → List ℕ) (tenant query : List ℕ) (s : Step) (a : Answer) (out out' : List ℕ) (before after : TenantStates)
     (named : name_of s ≡ tenant) (is : call_of s ≡ Ask query) (bad : has_bad_name s ≡ not (is_tenant_name tenant)) (none : out ≡ [])
-    (own : (name : List ℕ) → IsIsolated digest name (held_of name before) ((s, told_in a out out') ∷ []) (held_of name after))
-    (refused : IsRefused (s, told_in a out out')) where
+    (own : (name : List ℕ) → IsIsolated digest name (held_of name before) ((s, response_in a out out') ∷ []) (held_of name after))
+    (refused : IsRefused (s, response_in a out out')) where
   -- every tenant has what it had
-  pub ask-keeps : (name : List ℕ) (state : State) → LeadsTo digest state (held_of name before) → held_of name after ≡ held_of name before
+  pub ask-keeps : (name : List ℕ) (state : State) → Represents digest state (held_of name before) → held_of name after ≡ held_of name before
   ask-keeps name state leads =
       leads-one digest state (held_of name after) (held_of name before)
-      (subst (λ (x : State). LeadsTo digest x (held_of name after)) (one-left digest name query s (told_in a out out') state is)
+      (subst (λ (x : State). Represents digest x (held_of name after)) (one-left digest name query s (response_in a out out') state is)
       ((own name).left state leads)) leads
 
   pub ask-bad : is_tenant_name tenant ≡ false → a ≡ answer.Fault 32
-  ask-bad wrong = ap (λ (t : Told). t.answer) (refused (bad ∙ ap not wrong))
+  ask-bad wrong = ap (λ (t : Response). t.answer) (refused (bad ∙ ap not wrong))
 
   pub ask-not-ok : is_tenant_name tenant ≡ false → a ≡ answer.Ok → ⊥
   ask-not-ok wrong ok = let no : answer.Ok ≡ answer.Fault 32 = sym ok ∙ ask-bad wrong in cc no
 
-  ask-silent : (state : State) → LeadsTo digest state (held_of tenant before) → (a ≡ answer.Ok → ⊥) → out' ≡ []
+  ask-silent : (state : State) → Represents digest state (held_of tenant before) → (a ≡ answer.Ok → ⊥) → out' ≡ []
   ask-silent state leads other = by (is_tenant_name tenant) refl
     where
       by : (b : Bool) → is_tenant_name tenant ≡ b → out' ≡ []
       by true good =
           let t = called-alone digest tenant s (Ask query) a out out' before after state named is none own good leads in
-          ap (λ (x : Told). x.reply) t.says
-          ∙ no-reply query (stop_told a) (last_alone digest state) state a other (sym (ap (λ (x : Told). x.answer) t.says))
+          ap (λ (x : Response). x.reply) t.says
+          ∙ no-reply query (stop_told a) (last_alone digest state) state a other (sym (ap (λ (x : Response). x.answer) t.says))
       by false wrong =
           ap (λ (l : List ℕ). added l out') (sym none)
-          ∙ ap (λ (t : Told). t.reply) (refused (bad ∙ ap not wrong))
+          ∙ ap (λ (t : Response). t.reply) (refused (bad ∙ ap not wrong))
 
   is-asked : (a' : Answer) (reply : List ℕ) → a ≡ a' → out' ≡ reply → IsAsked digest tenant query before after a' reply
   is-asked a' reply answers replies = record {
     step = s;
     is = (named, is);
     own = λ name.
-        subst (λ (t : Told). IsIsolated digest name (held_of name before) ((s, t) ∷ []) (held_of name after))
-        (ap (λ (l : List ℕ). told_in a l out') none ∙ ap (λ (x : Answer). told_in x [] out') answers ∙ ap (λ (l : List ℕ). told_in a' [] l) replies)
+        subst (λ (t : Response). IsIsolated digest name (held_of name before) ((s, t) ∷ []) (held_of name after))
+        (ap (λ (l : List ℕ). response_in a l out') none ∙ ap (λ (x : Answer). response_in x [] out') answers ∙ ap (λ (l : List ℕ). response_in a' [] l) replies)
         (own name);
   }
 
   -- it was refused, or memory ran out
-  pub asks-refused : (state : State) (writer : Device) (e : AskFault) → LeadsTo digest state (held_of tenant before) → Err e ≡ as_asked a
+  pub asks-refused : (state : State) (writer : Device) (e : AskFault) → Represents digest state (held_of tenant before) → Err e ≡ as_asked a
       → Asks digest tenant query before after writer writer (Err e)
   asks-refused state writer e leads told = by a refl told
     where

@@ -75,11 +75,11 @@ module _ (digest : List ℕ → List ℕ) (names : AnswersNames digest) (reposit
 
   end-is : (bytes : List ℕ) → outcome_of digest bytes ≡ outcome_of digest text
       → end_of digest bytes ≡ record { fault = None; reply = []; repository = imported.left }
-  end-is bytes same = ap (λ (o : Outcome). finished digest o.standing) (same ∙ well.runs) ∙ well.ends
+  end-is bytes same = ap (λ (o : Outcome). finished digest o.status) (same ∙ well.runs) ∙ well.ends
 
   printed-is : (bytes : List ℕ) → outcome_of digest bytes ≡ outcome_of digest text → printed_by digest empty_repository bytes ≡ []
   printed-is bytes same =
-      ap (λ (o : Outcome). o.replies ++ (finished digest o.standing).reply) (same ∙ well.runs)
+      ap (λ (o : Outcome). o.replies ++ (finished digest o.status).reply) (same ∙ well.runs)
       ∙ ap (λ (e : End). e.reply) well.ends
 
   copied : IsCopyOf repository (end_of digest text).repository

@@ -72,7 +72,7 @@ so_far_new digest tenant repository held r w fits streaming = record {
 module _ (digest : List ℕ → List ℕ) (tenant : List ℕ) (repository : Repository) (before now : TenantStates) (r0 r w0 w : Device) (count : ℕ)
     (s : SoFar digest tenant repository before now r0 r w0 w count) where
   -- it asks for more
-  asks_so_far : AsksForMore (stream_of digest repository s.bytes).standing
+  asks_so_far : AsksForMore (stream_of digest repository s.bytes).status
   asks_so_far = asks-for-more digest repository s.bytes (held_of tenant now) s.streaming.1 s.running
 
   -- one call more, whatever it gave

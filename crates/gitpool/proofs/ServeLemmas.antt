@@ -15,7 +15,7 @@ use Rattle.service_steps.specs.Reading.{HasReadWell, ReadsStep}
 use Rattle.service_steps.proofs.ReadLemmas.{well_none, well_more}
 use Rattle.service_steps.proofs.FrameLemmas.{none_read}
 use Rattle.service_steps.proofs.WriteLemmas.{front_of_later}
-use Rattle.tenant_service.specs.Headline.{Told, told_in, Run, IsIsolated, IsRefused}
+use Rattle.tenant_service.specs.Headline.{Response, response_in, Run, IsIsolated, IsRefused}
 use Rattle.tenant_service.specs.TenantState.{TenantStates, held_of}
 use Rattle.gitpool.specs.Serving.{steps_text, answers_text, Served, AreAnswered, Serves}
 use Rattle.tenant_service.proofs.AccountLemmas.{all_whole}
@@ -105,11 +105,11 @@ fails_at digest before after r0 r w0 w count r' fault.Memory s few read = (
 )
 
 -- One text more.
-more_text : (text : Step × Told → List ℕ) (run : Run) (one : Step × Told) → flat_map text (run ++ one ∷ []) ≡ flat_map text run ++ text one
+more_text : (text : Step × Response → List ℕ) (run : Run) (one : Step × Response) → flat_map text (run ++ one ∷ []) ≡ flat_map text run ++ text one
 more_text text run one = flat_map-append text run (one ∷ []) ∙ ap (λ (l : List ℕ). flat_map text run ++ l) (append-nil (text one))
 
 -- A step was read and taken: the run so far with it.
-pub record Taken (digest : List ℕ → List ℕ) (before after : TenantStates) (r0 r : Device) (run : Run) (told : Told) : Type 0 where
+pub record Taken (digest : List ℕ → List ℕ) (before after : TenantStates) (r0 r : Device) (run : Run) (told : Response) : Type 0 where
   pub step : Step
   pub own : (tenant : List ℕ) → IsIsolated digest tenant (held_of tenant before) (run ++ (step, told) ∷ []) (held_of tenant after)
   pub bad_names : AllByRecursion IsRefused (run ++ (step, told) ∷ [])
@@ -117,7 +117,7 @@ pub record Taken (digest : List ℕ → List ℕ) (before after : TenantStates) 
   pub read : HasReadWell r0 r (steps_text (run ++ (step, told) ∷ []))
 
 taken : (digest : List ℕ → List ℕ) (before between after : TenantStates) (r0 r w0 w : Device) (count : ℕ) (r' : Device) (step : Step)
-    (told : Told) (s : SoFar digest before between r0 r w0 w count) → ReadsStep r (Ok (Some step)) r'
+    (told : Response) (s : SoFar digest before between r0 r w0 w count) → ReadsStep r (Ok (Some step)) r'
     → ((tenant : List ℕ) → IsIsolated digest tenant (held_of tenant between) ((step, told) ∷ []) (held_of tenant after))
     → IsRefused (step, told) → Taken digest before after r0 r' s.run told
 taken digest before between after r0 r w0 w count r' step told s read own bad = record {
@@ -125,28 +125,28 @@ taken digest before between after r0 r w0 w count r' step told s read own bad = 
   own = λ tenant. own-more digest tenant (held_of tenant before) (held_of tenant between) (held_of tenant after) s.run ((step, told) ∷ [])
       (s.own tenant) (own tenant);
   bad_names = all_whole IsRefused s.run ((step, told) ∷ []) s.bad_names (bad, tt);
-  good = all_whole (λ (t : Step × Told). IsGood (frame_of t.0)) s.run ((step, told) ∷ []) s.good (read.0, tt);
-  read = subst (λ (l : List ℕ). HasReadWell r0 r' l) (sym (more_text (λ (t : Step × Told). step_text t.0) s.run (step, told)))
+  good = all_whole (λ (t : Step × Response). IsGood (frame_of t.0)) s.run ((step, told) ∷ []) s.good (read.0, tt);
+  read = subst (λ (l : List ℕ). HasReadWell r0 r' l) (sym (more_text (λ (t : Step × Response). step_text t.0) s.run (step, told)))
       (well_more r0 r r' (steps_text s.run) (step_text step) s.read read.1);
 }
 
 -- The reply of a call that began with no bytes.
-abbrev pub told_whole : Answer → List ℕ → Told
+abbrev pub told_whole : Answer → List ℕ → Response
 told_whole answer out = record { answer = answer; reply = out }
 
 pub taken_by : (digest : List ℕ → List ℕ) (before between after : TenantStates) (r0 r w0 w : Device) (count : ℕ) (r' : Device) (step : Step)
     (answer : Answer) (out out' : List ℕ) (s : SoFar digest before between r0 r w0 w count) → ReadsStep r (Ok (Some step)) r' → out ≡ []
-    → ((tenant : List ℕ) → IsIsolated digest tenant (held_of tenant between) ((step, told_in answer out out') ∷ []) (held_of tenant after))
-    → IsRefused (step, told_in answer out out') → Taken digest before after r0 r' s.run (told_whole answer out')
+    → ((tenant : List ℕ) → IsIsolated digest tenant (held_of tenant between) ((step, response_in answer out out') ∷ []) (held_of tenant after))
+    → IsRefused (step, response_in answer out out') → Taken digest before after r0 r' s.run (told_whole answer out')
 taken_by digest before between after r0 r w0 w count r' step answer out out' s read none own bad =
-    let says : told_in answer out out' ≡ told_whole answer out' = ap (λ (l : List ℕ). told_in answer l out') none in
+    let says : response_in answer out out' ≡ told_whole answer out' = ap (λ (l : List ℕ). response_in answer l out') none in
     taken digest before between after r0 r w0 w count r' step (told_whole answer out') s read
-    (λ tenant. subst (λ (told : Told). IsIsolated digest tenant (held_of tenant between) ((step, told) ∷ []) (held_of tenant after)) says (own tenant))
-    (subst (λ (told : Told). IsRefused (step, told)) says bad)
+    (λ tenant. subst (λ (told : Response). IsIsolated digest tenant (held_of tenant between) ((step, told) ∷ []) (held_of tenant after)) says (own tenant))
+    (subst (λ (told : Response). IsRefused (step, told)) says bad)
 
 -- Its answer was written.
 pub so_far_more : (digest : List ℕ → List ℕ) (before between after : TenantStates) (r0 r w0 w : Device) (count : ℕ) (r' w' : Device)
-    (told : Told) (s : SoFar digest before between r0 r w0 w count) → Taken digest before after r0 r' s.run told
+    (told : Response) (s : SoFar digest before between r0 r w0 w count) → Taken digest before after r0 r' s.run told
     → Appends w.known w'.known (answer_text told.answer told.reply) → IsWell w w'
     → SoFar digest before after r0 r' w0 w' (count + 1)
 so_far_more digest before between after r0 r w0 w count r' w' told s t written well = record {
@@ -156,7 +156,7 @@ so_far_more digest before between after r0 r w0 w count r' w' told s t written w
   good = t.good;
   read = t.read;
   written = subst (λ (l : List ℕ). Appends w0.known w'.known l)
-      (sym (more_text (λ (x : Step × Told). answer_text x.1.answer x.1.reply) s.run (t.step, told)))
+      (sym (more_text (λ (x : Step × Response). answer_text x.1.answer x.1.reply) s.run (t.step, told)))
       (Appends-trans w0.known w.known w'.known (answers_text s.run) (answer_text told.answer told.reply) s.written written);
   well = well ∙ s.well;
   as_many = let l = length-append s.run ((t.step, told) ∷ []) in let n = s.as_many in omega (arith, l, n);
@@ -164,7 +164,7 @@ so_far_more digest before between after r0 r w0 w count r' w' told s t written w
 
 -- It was not.
 pub write_fails : (digest : List ℕ → List ℕ) (before between after : TenantStates) (r0 r w0 w : Device) (count : ℕ) (r' w' : Device)
-    (told : Told) (s : SoFar digest before between r0 r w0 w count) → count < 2 ^ 32 → Taken digest before after r0 r' s.run told
+    (told : Response) (s : SoFar digest before between r0 r w0 w count) → count < 2 ^ 32 → Taken digest before after r0 r' s.run told
     → AppendsFront w.known w'.known (answer_text told.answer told.reply) → HasFault w.faults w'.faults
     → Serves digest before after r0 r' w0 w' (Err fault.Device)
 write_fails digest before between after r0 r w0 w count r' w' told s few t front failed =
@@ -181,7 +181,7 @@ write_fails digest before between after r0 r w0 w count r' w' told s few t front
       none_read,
       record {
         front = subst (λ (l : List ℕ). AppendsFront w0.known w'.known l)
-            (sym (more_text (λ (x : Step × Told). answer_text x.1.answer x.1.reply) s.run (t.step, told)))
+            (sym (more_text (λ (x : Step × Response). answer_text x.1.answer x.1.reply) s.run (t.step, told)))
             (front_of_later w0.known w.known w'.known (answers_text s.run) (answer_text told.answer told.reply) s.written front);
         whole = inl blame;
       },

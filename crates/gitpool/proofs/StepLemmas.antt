@@ -13,10 +13,10 @@ use Rattle.service_steps.specs.declared.answer.Answer.TheVariants as answer
 use Rattle.service_steps.specs.declared.step.Step.{Step}
 use Rattle.service_steps.specs.declared.step.Step.TheVariants as step
 use Rattle.tenant_refs.specs.TenantName.{is_tenant_name}
-use Rattle.tenant_service.specs.Alone.{Call, Open, Feed, End, State, Closed, Streaming, Dead, Turn, Stopped, run_alone, open_alone, fed_by, fed_until, fed_well, feed_stop, stream_of, added, ended, ended_well, end_answer, unless_out_of_memory}
-use Rattle.tenant_service.specs.Headline.{Told, told_in, IsIsolated, IsRefused, has_bad_name, concerns, call_of, stop_told, part_of, steps_of, told_by, told_alone, left_alone}
+use Rattle.tenant_service.specs.Alone.{Call, Open, Feed, End, State, Closed, Streaming, Dead, StepResult, Stopped, run_alone, open_alone, fed_by, fed_until, fed_well, feed_stop, stream_of, added, ended, ended_well, end_answer, unless_out_of_memory}
+use Rattle.tenant_service.specs.Headline.{Response, response_in, IsIsolated, IsRefused, has_bad_name, concerns, call_of, stop_told, part_of, steps_of, response_of, told_alone, left_alone}
 use Rattle.tenant_service.specs.StepName.{name_of}
-use Rattle.tenant_service.specs.TenantState.{TenantState, Idle, Busy, TenantStates, LeadsTo, held_of}
+use Rattle.tenant_service.specs.TenantState.{TenantState, Idle, Busy, TenantStates, Represents, held_of}
 use Rattle.tenant_service.proofs.AccountLemmas.{all_whole}
 use Rattle.tenant_service.proofs.RunLemmas.{own-more, own-none}
 use Rattle.gitpool.specs.Import.{end_in}
@@ -25,7 +25,7 @@ use Rattle.gitpool.proofs.StreamLemmas.{IsFront, Stands, stands-so, front-whole,
 
 -- ---- which calls
 
-pub calls-one : (digest : List ℕ → List ℕ) (tenant : List ℕ) (before after : TenantStates) (s : Step) (told : Told) (call : Call)
+pub calls-one : (digest : List ℕ → List ℕ) (tenant : List ℕ) (before after : TenantStates) (s : Step) (told : Response) (call : Call)
     → name_of s ≡ tenant → call_of s ≡ call
     → ((name : List ℕ) → IsIsolated digest name (held_of name before) ((s, told) ∷ []) (held_of name after))
     → HasTakenCalls digest tenant before after (call ∷ [])
@@ -41,9 +41,9 @@ pub calls-more : (digest : List ℕ → List ℕ) (tenant : List ℕ) (before be
 calls-more digest tenant before between after first later f l = record {
   run = f.run ++ l.run;
   is = record {
-    named = all_whole (λ (taken : Step × Told). name_of taken.0 ≡ tenant) f.run l.run f.is.named l.is.named;
-    are = map-append (λ (taken : Step × Told). call_of taken.0) f.run l.run
-        ∙ ap (λ (cs : List Call). cs ++ map (λ (taken : Step × Told). call_of taken.0) l.run) f.is.are
+    named = all_whole (λ (taken : Step × Response). name_of taken.0 ≡ tenant) f.run l.run f.is.named l.is.named;
+    are = map-append (λ (taken : Step × Response). call_of taken.0) f.run l.run
+        ∙ ap (λ (cs : List Call). cs ++ map (λ (taken : Step × Response). call_of taken.0) l.run) f.is.are
         ∙ ap (λ (cs : List Call). first ++ cs) l.is.are;
   };
   own = λ name. own-more digest name (held_of name before) (held_of name between) (held_of name after) f.run l.run (f.own name) (l.own name);
@@ -116,17 +116,17 @@ concerned tenant (step.Ask given query) named good = named-here given.now tenant
 concerned tenant step.Restart named good = refl
 
 -- a step was told what it is told in a repository of its own
-pub record IsToldAlone (digest : List ℕ → List ℕ) (call : Call) (state : State) (told : Told) (after : TenantState) : Type 0 where
-  pub says : told ≡ told_by (run_alone digest call (stop_told told.answer) state)
-  pub left : LeadsTo digest (run_alone digest call (stop_told told.answer) state).state after
+pub record IsToldAlone (digest : List ℕ → List ℕ) (call : Call) (state : State) (told : Response) (after : TenantState) : Type 0 where
+  pub says : told ≡ response_of (run_alone digest call (stop_told told.answer) state)
+  pub left : Represents digest (run_alone digest call (stop_told told.answer) state).state after
 
-pub told-alone : (digest : List ℕ → List ℕ) (tenant : List ℕ) (s : Step) (told : Told) (state : State) (before after : TenantState)
+pub told-alone : (digest : List ℕ → List ℕ) (tenant : List ℕ) (s : Step) (told : Response) (state : State) (before after : TenantState)
     → is_tenant_name tenant ≡ true → name_of s ≡ tenant → IsIsolated digest tenant before ((s, told) ∷ []) after
-    → LeadsTo digest state before → IsToldAlone digest (call_of s) state told after
+    → Represents digest state before → IsToldAlone digest (call_of s) state told after
 unfolding told_alone left_alone
 told-alone digest tenant s told state before after good named own leads = record {
   says = cc both;
-  left = subst (λ (st : State). LeadsTo digest st after) (ap (left_alone digest state) steps) (own.left state leads);
+  left = subst (λ (st : State). Represents digest st after) (ap (left_alone digest state) steps) (own.left state leads);
 }
   where
     stop : Option ℕ
@@ -136,30 +136,30 @@ told-alone digest tenant s told state before after good named own leads = record
     part = ap (λ (b : Bool). cond b ((s, told) ∷ []) []) (concerned tenant s named good)
 
     steps : steps_of tenant ((s, told) ∷ []) ≡ (call_of s, stop) ∷ []
-    steps = ap (map (λ (x : Step × Told). (call_of x.0, stop_told x.1.answer))) part
+    steps = ap (map (λ (x : Step × Response). (call_of x.0, stop_told x.1.answer))) part
 
-    both : told ∷ [] ≡ told_by (run_alone digest (call_of s) stop state) ∷ []
-    both = sym (ap (map (λ (x : Step × Told). x.1)) part) ∙ own.told state leads ∙ ap (told_alone digest state) steps
+    both : told ∷ [] ≡ response_of (run_alone digest (call_of s) stop state) ∷ []
+    both = sym (ap (map (λ (x : Step × Response). x.1)) part) ∙ own.told state leads ∙ ap (told_alone digest state) steps
 
 -- a call that began with no bytes
 pub called-alone : (digest : List ℕ → List ℕ) (tenant : List ℕ) (s : Step) (call : Call) (a : Answer) (out out' : List ℕ) (before after : TenantStates)
     (state : State) → name_of s ≡ tenant → call_of s ≡ call → out ≡ []
-    → ((name : List ℕ) → IsIsolated digest name (held_of name before) ((s, told_in a out out') ∷ []) (held_of name after))
-    → is_tenant_name tenant ≡ true → LeadsTo digest state (held_of tenant before)
+    → ((name : List ℕ) → IsIsolated digest name (held_of name before) ((s, response_in a out out') ∷ []) (held_of name after))
+    → is_tenant_name tenant ≡ true → Represents digest state (held_of tenant before)
     → IsToldAlone digest call state (record { answer = a; reply = out' }) (held_of tenant after)
 called-alone digest tenant s call a out out' before after state named is none own good leads =
     subst (λ (c : Call). IsToldAlone digest c state (record { answer = a; reply = out' }) (held_of tenant after)) is
-    (subst (λ (t : Told). IsToldAlone digest (call_of s) state t (held_of tenant after)) (ap (λ (l : List ℕ). told_in a l out') none)
-    (told-alone digest tenant s (told_in a out out') state (held_of tenant before) (held_of tenant after) good named (own tenant) leads))
+    (subst (λ (t : Response). IsToldAlone digest (call_of s) state t (held_of tenant after)) (ap (λ (l : List ℕ). response_in a l out') none)
+    (told-alone digest tenant s (response_in a out out') state (held_of tenant before) (held_of tenant after) good named (own tenant) leads))
 
 -- ---- Open
 
 -- it was opened
-pub opened-so : (digest : List ℕ → List ℕ) (repository : Repository) (told : Told) (after : TenantState)
+pub opened-so : (digest : List ℕ → List ℕ) (repository : Repository) (told : Response) (after : TenantState)
     → told.answer ≡ answer.Ok → IsToldAlone digest Open (Closed repository) told after
-    → LeadsTo digest (Streaming repository []) after
+    → Represents digest (Streaming repository []) after
 opened-so digest repository told after ok t =
-    subst (λ (a : Answer). LeadsTo digest (open_alone (stop_told a) (Closed repository)).state after) ok t.left
+    subst (λ (a : Answer). Represents digest (open_alone (stop_told a) (Closed repository)).state after) ok t.left
 
 open-reply : (stop : Option ℕ) (state : State) → (open_alone stop state).reply ≡ []
 open-reply None (Closed r) = refl
@@ -169,36 +169,36 @@ open-reply stop (Streaming r bytes) = refl
 open-reply stop (Dead code r) = refl
 
 -- no number refuses it where there is no stream
-pub open-unrefused : (digest : List ℕ → List ℕ) (repository : Repository) (told : Told) (after : TenantState) (code : ℕ)
+pub open-unrefused : (digest : List ℕ → List ℕ) (repository : Repository) (told : Response) (after : TenantState) (code : ℕ)
     → told.answer ≡ answer.Fault code → IsToldAlone digest Open (Closed repository) told after → ⊥
 open-unrefused digest repository told after code is t =
-    let says : answer.Fault code ≡ answer.Ok = sym is ∙ ap (λ (x : Told). x.answer) t.says
+    let says : answer.Fault code ≡ answer.Ok = sym is ∙ ap (λ (x : Response). x.answer) t.says
     ∙ ap (λ (a : Answer). (open_alone (stop_told a) (Closed repository)).answer) is in
     cc says
 
 -- a bad name, or a stream that is there
-busy-refused : (digest : List ℕ → List ℕ) (state : State) (standing : StreamStatus) (stop : Option ℕ)
-    → LeadsTo digest state (Busy standing) → (open_alone stop state).answer ≡ answer.Fault 31
-busy-refused digest (Closed r) standing stop leads = absurd leads
-busy-refused digest (Streaming r bytes) standing stop leads = refl
-busy-refused digest (Dead code r) standing stop leads = refl
+busy-refused : (digest : List ℕ → List ℕ) (state : State) (status : StreamStatus) (stop : Option ℕ)
+    → Represents digest state (Busy status) → (open_alone stop state).answer ≡ answer.Fault 31
+busy-refused digest (Closed r) status stop leads = absurd leads
+busy-refused digest (Streaming r bytes) status stop leads = refl
+busy-refused digest (Dead code r) status stop leads = refl
 
-pub open-refused : (digest : List ℕ → List ℕ) (tenant : List ℕ) (before : TenantStates) (after : TenantState) (s : Step) (told : Told) (state : State)
+pub open-refused : (digest : List ℕ → List ℕ) (tenant : List ℕ) (before : TenantStates) (after : TenantState) (s : Step) (told : Response) (state : State)
     (code : ℕ)
     → name_of s ≡ tenant → call_of s ≡ Open → has_bad_name s ≡ not (is_tenant_name tenant)
     → IsIsolated digest tenant (held_of tenant before) ((s, told) ∷ []) after → IsRefused (s, told)
-    → LeadsTo digest state (held_of tenant before) → open_refusal tenant before ≡ Some code → told.answer ≡ answer.Fault code
+    → Represents digest state (held_of tenant before) → open_refusal tenant before ≡ Some code → told.answer ≡ answer.Fault code
 open-refused digest tenant before after s told state code named is bad own refused leads refusal =
     by (is_tenant_name tenant) refl
   where
     of : (h : TenantState) → held_of tenant before ≡ h → is_tenant_name tenant ≡ true → stream_refusal h ≡ Some code → told.answer ≡ answer.Fault code
     of (Idle r) held good e = cc e
-    of (Busy standing) held good e =
+    of (Busy status) held good e =
         let t = told-alone digest tenant s told state (held_of tenant before) after good named own leads in
         let number : 31 ≡ code = cc e in
-        ap (λ (x : Told). x.answer) t.says
+        ap (λ (x : Response). x.answer) t.says
         ∙ ap (λ (c : Call). (run_alone digest c (stop_told told.answer) state).answer) is
-        ∙ busy-refused digest state standing (stop_told told.answer) (subst (LeadsTo digest state) held leads)
+        ∙ busy-refused digest state status (stop_told told.answer) (subst (Represents digest state) held leads)
         ∙ ap answer.Fault number
 
     by : (b : Bool) → is_tenant_name tenant ≡ b → told.answer ≡ answer.Fault code
@@ -208,7 +208,7 @@ open-refused digest tenant before after s told state code named is bad own refus
     by false bad' =
         let number : ◌≡◌ {A = Option ℕ} (Some 32) (Some code) = sym (ap (λ (b : Bool). cond b (stream_refusal (held_of tenant before)) (Some 32)) bad') ∙ refusal in
         let same : 32 ≡ code = cc number in
-        ap (λ (x : Told). x.answer) (refused (bad ∙ ap not bad'))
+        ap (λ (x : Response). x.answer) (refused (bad ∙ ap not bad'))
         ∙ ap answer.Fault same
 
 -- ---- Feed
@@ -216,55 +216,55 @@ open-refused digest tenant before after s told state code named is bad own refus
 -- what came of a piece: the replies to it were told, or a front of them where memory ran out
 abbrev pub FedAs : (List ℕ → List ℕ) → Repository → List ℕ → List ℕ → Answer → List ℕ → TenantState → Type 0
 FedAs digest repository bytes piece answer.Ok out after =
-    LeadsTo digest (Streaming repository (bytes ++ piece)) after × (out ≡ replies_to digest repository bytes piece)
+    Represents digest (Streaming repository (bytes ++ piece)) after × (out ≡ replies_to digest repository bytes piece)
 FedAs digest repository bytes piece (answer.Fault code) out after =
-    (left : Repository) × ((stream_of digest repository (bytes ++ piece)).standing ≡ Refused code left)
+    (left : Repository) × ((stream_of digest repository (bytes ++ piece)).status ≡ Refused code left)
     × (out ≡ replies_to digest repository bytes piece)
 FedAs digest repository bytes piece (answer.Memory count) out after = IsFront (replies_to digest repository bytes piece) out
 
 module _ (digest : List ℕ → List ℕ) (repository : Repository) (bytes piece out : List ℕ) (after : TenantState) where
-  abbrev says : Answer → List ℕ → Told
+  abbrev says : Answer → List ℕ → Response
   says a r = record { answer = a; reply = r }
 
-  abbrev ends : StreamStatus → Turn State
+  abbrev ends : StreamStatus → StepResult State
   ends x = fed_by repository (bytes ++ piece) (replies_to digest repository bytes piece) x
 
-  by-ok : (x : StreamStatus) → says answer.Ok out ≡ told_by (ends x) → LeadsTo digest (ends x).state after
-      → LeadsTo digest (Streaming repository (bytes ++ piece)) after × (out ≡ replies_to digest repository bytes piece)
-  by-ok (Runs now tail) told left = (left, ap (λ (t : Told). t.reply) told)
+  by-ok : (x : StreamStatus) → says answer.Ok out ≡ response_of (ends x) → Represents digest (ends x).state after
+      → Represents digest (Streaming repository (bytes ++ piece)) after × (out ≡ replies_to digest repository bytes piece)
+  by-ok (Runs now tail) told left = (left, ap (λ (t : Response). t.reply) told)
   by-ok (Refused code r) told left =
-      let none : answer.Ok ≡ answer.Fault code = ap (λ (t : Told). t.answer) told in cc none
+      let none : answer.Ok ≡ answer.Fault code = ap (λ (t : Response). t.answer) told in cc none
 
-  by-fault : (code : ℕ) (x : StreamStatus) → (stream_of digest repository (bytes ++ piece)).standing ≡ x → says (answer.Fault code) out ≡ told_by (ends x)
-      → (left : Repository) × ((stream_of digest repository (bytes ++ piece)).standing ≡ Refused code left)
+  by-fault : (code : ℕ) (x : StreamStatus) → (stream_of digest repository (bytes ++ piece)).status ≡ x → says (answer.Fault code) out ≡ response_of (ends x)
+      → (left : Repository) × ((stream_of digest repository (bytes ++ piece)).status ≡ Refused code left)
       × (out ≡ replies_to digest repository bytes piece)
   by-fault code (Runs now tail) is told =
-      let none : answer.Fault code ≡ answer.Ok = ap (λ (t : Told). t.answer) told in cc none
+      let none : answer.Fault code ≡ answer.Ok = ap (λ (t : Response). t.answer) told in cc none
   by-fault code (Refused number r) is told =
-      let both : answer.Fault code ≡ answer.Fault number = ap (λ (t : Told). t.answer) told in
+      let both : answer.Fault code ≡ answer.Fault number = ap (λ (t : Response). t.answer) told in
       let same : code ≡ number = cc both in
-      (r, is ∙ ap (λ (c : ℕ). Refused c r) (sym same), ap (λ (t : Told). t.reply) told)
+      (r, is ∙ ap (λ (c : ℕ). Refused c r) (sym same), ap (λ (t : Response). t.reply) told)
 
-  not-memory : (count : ℕ) (x : StreamStatus) → says (answer.Memory count) out ≡ told_by (ends x) → ⊥
+  not-memory : (count : ℕ) (x : StreamStatus) → says (answer.Memory count) out ≡ response_of (ends x) → ⊥
   not-memory count (Runs now tail) told =
-      let none : answer.Memory count ≡ answer.Ok = ap (λ (t : Told). t.answer) told in cc none
+      let none : answer.Memory count ≡ answer.Ok = ap (λ (t : Response). t.answer) told in cc none
   not-memory count (Refused code r) told =
-      let none : answer.Memory count ≡ answer.Fault code = ap (λ (t : Told). t.answer) told in cc none
+      let none : answer.Memory count ≡ answer.Fault code = ap (λ (t : Response). t.answer) told in cc none
 
   by-memory : (held : TenantState) (count : ℕ) (stop : Option Stopped) → Stands digest repository bytes held
       → feed_stop digest repository bytes piece count ≡ stop
-      → says (answer.Memory count) out ≡ told_by (fed_until (stream_of digest repository bytes).replies count stop (fed_well digest repository bytes piece))
+      → says (answer.Memory count) out ≡ response_of (fed_until (stream_of digest repository bytes).replies count stop (fed_well digest repository bytes piece))
       → IsFront (replies_to digest repository bytes piece) out
-  by-memory held count None s is told = absurd (not-memory count (stream_of digest repository (bytes ++ piece)).standing told)
+  by-memory held count None s is told = absurd (not-memory count (stream_of digest repository (bytes ++ piece)).status told)
   by-memory held count (Some stopped) s is told =
-      subst (IsFront (replies_to digest repository bytes piece)) (sym (ap (λ (t : Told). t.reply) told))
+      subst (IsFront (replies_to digest repository bytes piece)) (sym (ap (λ (t : Response). t.reply) told))
       (stop-front digest repository bytes piece held count stopped s is)
 
   pub fed-as : (held : TenantState) (a : Answer) → Stands digest repository bytes held
       → IsToldAlone digest (Feed piece) (Streaming repository bytes) (says a out) after
       → FedAs digest repository bytes piece a out after
-  fed-as held answer.Ok s t = by-ok (stream_of digest repository (bytes ++ piece)).standing t.says t.left
-  fed-as held (answer.Fault code) s t = by-fault code (stream_of digest repository (bytes ++ piece)).standing refl t.says
+  fed-as held answer.Ok s t = by-ok (stream_of digest repository (bytes ++ piece)).status t.says t.left
+  fed-as held (answer.Fault code) s t = by-fault code (stream_of digest repository (bytes ++ piece)).status refl t.says
   fed-as held (answer.Memory count) s t = by-memory held count (feed_stop digest repository bytes piece count) s refl t.says
 
 -- what was told is a front of the replies
@@ -287,7 +287,7 @@ module _ (digest : List ℕ → List ℕ) (out : List ℕ) (now : Running) (tail
   abbrev its : StreamEnd
   its = finished digest (Runs now tail)
 
-  abbrev told-as : Answer → Told
+  abbrev told-as : Answer → Response
   told-as a = record { answer = a; reply = out }
 
   well-ok : (f : Option ℕ) → answer.Ok ≡ end_answer f → f ≡ None
@@ -302,35 +302,35 @@ module _ (digest : List ℕ → List ℕ) (out : List ℕ) (now : Running) (tail
   well-memory count None e = cc e
   well-memory count (Some number) e = cc e
 
-  abbrev alone : Bool → Option ℕ → Turn Repository
+  abbrev alone : Bool → Option ℕ → StepResult Repository
   alone b stop = cond b (ended_well digest (Runs now tail)) (unless_out_of_memory stop (last_checkpoint now.workspace) (ended_well digest (Runs now tail)))
 
   -- without a stop it ended well
-  unstopped : (b : Bool) → told_by (alone b None) ≡ told_by (ended_well digest (Runs now tail))
+  unstopped : (b : Bool) → response_of (alone b None) ≡ response_of (ended_well digest (Runs now tail))
   unstopped true = refl
   unstopped false = refl
 
-  stopped-end : (count : ℕ) (b : Bool) → told-as (answer.Memory count) ≡ told_by (alone b (Some count)) → out ≡ []
-  stopped-end count true e = absurd (well-memory count its.fault (ap (λ (t : Told). t.answer) e))
-  stopped-end zero false e = ap (λ (t : Told). t.reply) e
-  stopped-end (suc count) false e = absurd (well-memory (suc count) its.fault (ap (λ (t : Told). t.answer) e))
+  stopped-end : (count : ℕ) (b : Bool) → told-as (answer.Memory count) ≡ response_of (alone b (Some count)) → out ≡ []
+  stopped-end count true e = absurd (well-memory count its.fault (ap (λ (t : Response). t.answer) e))
+  stopped-end zero false e = ap (λ (t : Response). t.reply) e
+  stopped-end (suc count) false e = absurd (well-memory (suc count) its.fault (ap (λ (t : Response). t.answer) e))
 
 -- by the answer
 ended-by : (digest : List ℕ → List ℕ) (repository : Repository) (bytes out : List ℕ) (a : Answer) (now : Running) (tail : Tail)
-    → (stream_of digest repository bytes).standing ≡ Runs now tail
-    → record { answer = a; reply = out } ≡ told_by (ended digest (stop_told a) (Runs now tail))
+    → (stream_of digest repository bytes).status ≡ Runs now tail
+    → record { answer = a; reply = out } ≡ response_of (ended digest (stop_told a) (Runs now tail))
     → EndedAs digest repository bytes a out
 ended-by digest repository bytes out answer.Ok now tail stands told =
     let e = told ∙ unstopped digest out now tail now.is_done in
     let same = ap (λ (x : StreamStatus). finished digest x) stands in (
-      ap (λ (x : StreamEnd). x.fault) same ∙ well-ok digest out now tail _ (ap (λ (t : Told). t.answer) e),
-      ap (λ (t : Told). t.reply) e ∙ sym (ap (λ (x : StreamEnd). x.reply) same),
+      ap (λ (x : StreamEnd). x.fault) same ∙ well-ok digest out now tail _ (ap (λ (t : Response). t.answer) e),
+      ap (λ (t : Response). t.reply) e ∙ sym (ap (λ (x : StreamEnd). x.reply) same),
     )
 ended-by digest repository bytes out (answer.Fault code) now tail stands told =
     let e = told ∙ unstopped digest out now tail now.is_done in
     let same = ap (λ (x : StreamStatus). finished digest x) stands in (
-      ap (λ (x : StreamEnd). x.fault) same ∙ well-fault digest out now tail code _ (ap (λ (t : Told). t.answer) e),
-      ap (λ (t : Told). t.reply) e ∙ sym (ap (λ (x : StreamEnd). x.reply) same),
+      ap (λ (x : StreamEnd). x.fault) same ∙ well-fault digest out now tail code _ (ap (λ (t : Response). t.answer) e),
+      ap (λ (t : Response). t.reply) e ∙ sym (ap (λ (x : StreamEnd). x.reply) same),
     )
 ended-by digest repository bytes out (answer.Memory count) now tail stands told =
     stopped-end digest out now tail count now.is_done told
@@ -341,7 +341,7 @@ pub ended-as : (digest : List ℕ → List ℕ) (repository : Repository) (bytes
     → EndedAs digest repository bytes a out
 ended-as digest repository bytes out held after a s t =
     ended-by digest repository bytes out a s.now s.kept s.stands
-    (subst (λ (x : StreamStatus). record { answer = a; reply = out } ≡ told_by (ended digest (stop_told a) x)) s.stands t.says)
+    (subst (λ (x : StreamStatus). record { answer = a; reply = out } ≡ response_of (ended digest (stop_told a) x)) s.stands t.says)
 
 pub ended-front : (digest : List ℕ → List ℕ) (repository : Repository) (bytes : List ℕ) (a : Answer) (out : List ℕ)
     → EndedAs digest repository bytes a out → IsFront (end_in digest repository bytes).reply out
@@ -354,7 +354,7 @@ ended-front digest repository bytes (answer.Memory count) out e =
 
 module _ (digest : List ℕ → List ℕ) (tenant : List ℕ) (s : Step) (a : Answer) (out out' : List ℕ) (before after : TenantStates)
     (named : name_of s ≡ tenant) (none : out ≡ [])
-    (own : (name : List ℕ) → IsIsolated digest name (held_of name before) ((s, told_in a out out') ∷ []) (held_of name after)) where
+    (own : (name : List ℕ) → IsIsolated digest name (held_of name before) ((s, response_in a out out') ∷ []) (held_of name after)) where
   pub feed-step : (repository : Repository) (bytes piece : List ℕ) → call_of s ≡ Feed piece → IsStreaming digest tenant repository bytes before
       → FedAs digest repository bytes piece a out' (held_of tenant after)
   feed-step repository bytes piece is streaming =
@@ -373,7 +373,7 @@ module _ (digest : List ℕ → List ℕ) (tenant : List ℕ) (s : Step) (a : An
       → IsToldAlone digest Open (Closed repository) (record { answer = a; reply = out' }) (held_of tenant after)
   open-told repository is can =
       called-alone digest tenant s Open a out out' before after (Closed repository) named is none own can.0
-      (subst (LeadsTo digest (Closed repository)) (sym can.1) refl)
+      (subst (Represents digest (Closed repository)) (sym can.1) refl)
 
   pub open-step : (repository : Repository) → call_of s ≡ Open → CanOpen tenant before repository → a ≡ answer.Ok
       → IsStreaming digest tenant repository [] after
@@ -381,17 +381,17 @@ module _ (digest : List ℕ → List ℕ) (tenant : List ℕ) (s : Step) (a : An
       (can.0, opened-so digest repository (record { answer = a; reply = out' }) (held_of tenant after) ok (open-told repository is can))
 
   -- whatever came of it, it prints nothing
-  pub open-silent : (state : State) → call_of s ≡ Open → has_bad_name s ≡ not (is_tenant_name tenant) → IsRefused (s, told_in a out out')
-      → LeadsTo digest state (held_of tenant before) → out' ≡ []
+  pub open-silent : (state : State) → call_of s ≡ Open → has_bad_name s ≡ not (is_tenant_name tenant) → IsRefused (s, response_in a out out')
+      → Represents digest state (held_of tenant before) → out' ≡ []
   open-silent state is bad refused leads = by (is_tenant_name tenant) refl
     where
       by : (b : Bool) → is_tenant_name tenant ≡ b → out' ≡ []
       by true good =
-          ap (λ (t : Told). t.reply) (called-alone digest tenant s Open a out out' before after state named is none own good leads).says
+          ap (λ (t : Response). t.reply) (called-alone digest tenant s Open a out out' before after state named is none own good leads).says
           ∙ open-reply (stop_told a) state
       by false bad' =
           ap (λ (l : List ℕ). added l out') (sym none)
-          ∙ ap (λ (t : Told). t.reply) (refused (bad ∙ ap not bad'))
+          ∙ ap (λ (t : Response). t.reply) (refused (bad ∙ ap not bad'))
 
   pub open-not-refused : (repository : Repository) (code : ℕ) → call_of s ≡ Open → CanOpen tenant before repository → a ≡ answer.Fault code → ⊥
   open-not-refused repository code is can refused =

@@ -16,7 +16,7 @@ use Rattle.import_session.specs.Stream.{Running, Step, StreamStatus, Runs, Refus
 use Rattle.tenant_stream.specs.Carrying.{outcome_after}
 use Rattle.tenant_stream.proofs.StreamLemmas.{carried-done}
 use Rattle.tenant_service.specs.Alone.{Stopped, Streaming, stop_at, stop_after, stream_of, feed_stop, added}
-use Rattle.tenant_service.specs.TenantState.{TenantState, Idle, Busy, LeadsTo}
+use Rattle.tenant_service.specs.TenantState.{TenantState, Idle, Busy, Represents}
 use Rattle.tenant_service.specs.HeldObjects.{has_read_done}
 use Rattle.tenant_service.proofs.OwnLemmas.{stream-more, feed_stop-more}
 use Rattle.gitpool.specs.Import.{IsSettled, AsksForMore}
@@ -51,7 +51,7 @@ at-tail-first : (now : Running) (tail : Tail) (whole : List ℕ) → IsFront who
 unfolding at_tail
 at-tail-first now tail whole = by now.is_done tail
   where
-    by : (b : Bool) (t : Tail) → IsFront whole (cond b (record { replies = []; standing = Runs now (Rest false []) }) (tail_outcome now t)).replies
+    by : (b : Bool) (t : Tail) → IsFront whole (cond b (record { replies = []; status = Runs now (Rest false []) }) (tail_outcome now t)).replies
     by true t = nothing-first whole
     by false (Rest skips bytes) = nothing-first whole
     by false (Failed f) = nothing-first whole
@@ -92,35 +92,35 @@ pub record Stands (digest : List ℕ → List ℕ) (repository : Repository) (by
   pub now : Running
   pub kept : Tail
   pub is : held ≡ Busy (Runs now kept)
-  pub stands : (stream_of digest repository bytes).standing ≡ Runs now kept
+  pub stands : (stream_of digest repository bytes).status ≡ Runs now kept
 
 pub stands-so : (digest : List ℕ → List ℕ) (repository : Repository) (bytes : List ℕ) (held : TenantState)
-    → LeadsTo digest (Streaming repository bytes) held → Stands digest repository bytes held
+    → Represents digest (Streaming repository bytes) held → Stands digest repository bytes held
 stands-so digest repository bytes (Idle r) leads = absurd leads
 stands-so digest repository bytes (Busy (Runs now tail)) leads = record { now = now; kept = tail; is = refl; stands = leads }
 stands-so digest repository bytes (Busy (Refused code r)) leads = absurd leads
 
 -- before its first byte
-new-standing : (digest : List ℕ → List ℕ) (repository : Repository)
-    → (stream_of digest repository []).standing ≡ Runs (begun (opened repository)) (Rest false [])
+new-status : (digest : List ℕ → List ℕ) (repository : Repository)
+    → (stream_of digest repository []).status ≡ Runs (begun (opened repository)) (Rest false [])
 unfolding stream_of carried walk at_tail
-new-standing digest repository = refl
+new-status digest repository = refl
 
 pub new-replies : (digest : List ℕ → List ℕ) (repository : Repository) → (stream_of digest repository []).replies ≡ []
 unfolding stream_of carried walk at_tail
 new-replies digest repository = refl
 
 pub new-running : (digest : List ℕ → List ℕ) (repository : Repository) (held : TenantState)
-    → LeadsTo digest (Streaming repository []) held → has_read_done held ≡ false
+    → Represents digest (Streaming repository []) held → has_read_done held ≡ false
 new-running digest repository held leads =
     let s = stands-so digest repository [] held leads in
-    let both : Runs s.now s.kept ≡ Runs (begun (opened repository)) (Rest false []) = sym s.stands ∙ new-standing digest repository in
+    let both : Runs s.now s.kept ≡ Runs (begun (opened repository)) (Rest false []) = sym s.stands ∙ new-status digest repository in
     let now : s.now ≡ begun (opened repository) = cc both in
     ap has_read_done s.is ∙ ap (λ (r : Running). r.is_done) now
 
 pub asks-for-more : (digest : List ℕ → List ℕ) (repository : Repository) (bytes : List ℕ) (held : TenantState)
-    → LeadsTo digest (Streaming repository bytes) held → has_read_done held ≡ false
-    → AsksForMore (stream_of digest repository bytes).standing
+    → Represents digest (Streaming repository bytes) held → has_read_done held ≡ false
+    → AsksForMore (stream_of digest repository bytes).status
 asks-for-more digest repository bytes held leads running =
     let s = stands-so digest repository bytes held leads in
     subst AsksForMore (sym s.stands) (sym (ap has_read_done s.is) ∙ running)
@@ -159,7 +159,7 @@ stopped-first digest now items tail count stopped is = by (leb count (length ite
         subst (λ (all : List Item). IsFront (carried digest now all tail).replies first.replies) (take-append-drop count items)
         (carried-first digest now (take count items) (drop count items) (Rest false []) tail)
 
-    at : (replies : List ℕ) (standing : StreamStatus) → stop_at replies standing ≡ Some stopped → replies ≡ stopped.replies
+    at : (replies : List ℕ) (status : StreamStatus) → stop_at replies status ≡ Some stopped → replies ≡ stopped.replies
     at replies (Runs next kept) e = of next.is_done e
       where
         of : (b : Bool) → cond b None (Some (record { replies = replies; repository = last_checkpoint next.workspace })) ≡ Some stopped
@@ -168,9 +168,9 @@ stopped-first digest now items tail count stopped is = by (leb count (length ite
         of false e = cc e
     at replies (Refused code r) e = cc e
 
-    by : (b : Bool) → cond b (stop_at first.replies first.standing) None ≡ Some stopped
+    by : (b : Bool) → cond b (stop_at first.replies first.status) None ≡ Some stopped
         → IsFront (carried digest now items tail).replies stopped.replies
-    by true e = subst (IsFront (carried digest now items tail).replies) (at first.replies first.standing e) front
+    by true e = subst (IsFront (carried digest now items tail).replies) (at first.replies first.status e) front
     by false e = cc e
 
 -- what a stop tells is a front of the replies to the piece
@@ -200,7 +200,7 @@ stop-front digest repository bytes piece held count stopped s is =
 
 -- after `done`
 pub settled-done : (digest : List ℕ → List ℕ) (repository : Repository) (bytes : List ℕ) (held : TenantState)
-    → LeadsTo digest (Streaming repository bytes) held → has_read_done held ≡ true → IsSettled digest repository bytes
+    → Represents digest (Streaming repository bytes) held → has_read_done held ≡ true → IsSettled digest repository bytes
 settled-done digest repository bytes held leads done more =
     goes more ∙ sym (goes []) ∙ ap (stream_of digest repository) (append-nil bytes)
   where
@@ -208,7 +208,7 @@ settled-done digest repository bytes held leads done more =
     s = stands-so digest repository bytes held leads
 
     goes : (more : List ℕ) → stream_of digest repository (bytes ++ more)
-        ≡ after_reply (stream_of digest repository bytes).replies (record { replies = []; standing = Runs s.now (Rest false []) })
+        ≡ after_reply (stream_of digest repository bytes).replies (record { replies = []; status = Runs s.now (Rest false []) })
     goes more =
         stream-more digest repository bytes more s.now s.kept s.stands
         ∙ ap (after_reply (stream_of digest repository bytes).replies)
@@ -216,30 +216,30 @@ settled-done digest repository bytes held leads done more =
 
 -- after a refusal
 carried-refused : (digest : List ℕ → List ℕ) (now : Running) (items : List Item) (tail : Tail) (more : List ℕ) (code : ℕ) (left : Repository)
-    → (carried digest now items tail).standing ≡ Refused code left
+    → (carried digest now items tail).status ≡ Refused code left
     → carried digest now (items ++ (more_of tail more).items) (more_of tail more).tail ≡ carried digest now items tail
 unfolding carried at_tail
 carried-refused digest now [] (Failed f) more code left refused = refl
 carried-refused digest now [] (Rest skips bytes) more code left refused = by now.is_done refused
   where
     by : (b : Bool)
-        → (cond b (record { replies = []; standing = Runs now (Rest false []) }) (tail_outcome now (Rest skips bytes))).standing ≡ Refused code left
+        → (cond b (record { replies = []; status = Runs now (Rest false []) }) (tail_outcome now (Rest skips bytes))).status ≡ Refused code left
         → carried digest now ([] ++ (more_of (Rest skips bytes) more).items) (more_of (Rest skips bytes) more).tail ≡ carried digest now [] (Rest skips bytes)
     by true e = cc e
     by false e = cc e
 carried-refused digest now (item ∷ items) tail more code left refused =
     by (λ next. carried-refused digest next items tail more code left) (step digest now item) refused
   where
-    by : ((next : Running) → (carried digest next items tail).standing ≡ Refused code left
+    by : ((next : Running) → (carried digest next items tail).status ≡ Refused code left
         → carried digest next (items ++ (more_of tail more).items) (more_of tail more).tail ≡ carried digest next items tail)
-        → (taken : Result Step Fault) → (going_on now taken (λ next. carried digest next items tail)).standing ≡ Refused code left
+        → (taken : Result Step Fault) → (going_on now taken (λ next. carried digest next items tail)).status ≡ Refused code left
         → going_on now taken (λ next. carried digest next (items ++ (more_of tail more).items) (more_of tail more).tail)
         ≡ going_on now taken (λ next. carried digest next items tail)
     by rest (Ok s) e = ap (after_reply s.reply) (rest s.running e)
     by rest (Err f) e = refl
 
 pub settled-refused : (digest : List ℕ → List ℕ) (repository : Repository) (bytes : List ℕ) (code : ℕ) (left : Repository)
-    → (stream_of digest repository bytes).standing ≡ Refused code left → IsSettled digest repository bytes
+    → (stream_of digest repository bytes).status ≡ Refused code left → IsSettled digest repository bytes
 unfolding stream_of
 settled-refused digest repository bytes code left refused more =
     ap (λ (r : Reading). carried digest (begun (opened repository)) r.items r.tail) (reading-append bytes more false)

@@ -3,7 +3,7 @@ use Rattle.std.specs.Prelude.{◌≡◌, ℕ, List, ◌++◌, count_by, codes, d
 use Rattle.std.specs.Io.KnownBytes.{Appends}
 use Rattle.git_objects.specs.Device.{Device, HasFault, IsWell, AppendsFront}
 use Rattle.content_pool.specs.LiveContents.{stored_sizes}
-use Rattle.tenant_service.specs.HeldObjects.{held_contents, has_commit}
+use Rattle.tenant_service.specs.HeldObjects.{held_contents, has_committed_object}
 use Rattle.tenant_service.specs.TenantState.{TenantStates}
 use Rattle.gitpool.specs.declared.check_fault.CheckFault.{CheckFault}
 use Rattle.gitpool.specs.declared.check_fault.CheckFault.TheVariants as fault
@@ -22,7 +22,7 @@ check_text stored tenants = codes "objects " ++ decimal stored.0 ++ codes " byte
 -- The line of a service.
 abbrev pub stored_text : TenantStates → List ℕ
 stored_text all =
-    check_text (stored_sizes (held_contents all)) (count_by (λ e. has_commit e.1) all)
+    check_text (stored_sizes (held_contents all)) (count_by (λ e. has_committed_object e.1) all)
 
 -- What a check did, by its answer. Exactly this line was written, or a prefix of it if a write
 -- failed. If memory ran out, nothing was written.

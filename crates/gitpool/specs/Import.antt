@@ -13,7 +13,7 @@ use Rattle.tenant_service.specs.TenantState.{empty_repository}
 
 -- How a stream over a repository ends after these bytes.
 abbrev pub end_in : (List ℕ → List ℕ) → Repository → List ℕ → End
-end_in digest repository bytes = finished digest (stream_of digest repository bytes).standing
+end_in digest repository bytes = finished digest (stream_of digest repository bytes).status
 
 -- The number of the fault at its end; `None` if it ends well.
 abbrev pub end_fault : (List ℕ → List ℕ) → Repository → List ℕ → Option ℕ
@@ -75,7 +75,7 @@ abbrev pub IsDevice : (List ℕ → List ℕ) → Repository → List ℕ → De
     → Type 0
 IsDevice digest repository bytes reader reader' writer writer' =
     HasWriteFailed reader reader' writer writer'
-    ⊎ (AsksForMore (stream_of digest repository bytes).standing
+    ⊎ (AsksForMore (stream_of digest repository bytes).status
     × (HasReadFailed reader reader' writer writer' ⊎ IsEndless reader reader' writer writer' bytes))
 
 -- The import was given up after these bytes. A prefix of the replies was written, and all of them

@@ -10,7 +10,7 @@ use Rattle.tenant_refs.specs.TenantName.{is_tenant_name}
 use Rattle.tenant_service.specs.Alone.{Call, Open, Feed, End, Streaming, stream_of, added}
 use Rattle.tenant_service.specs.Copying.{HasTaken}
 use Rattle.tenant_service.specs.Headline.{Run, call_of}
-use Rattle.tenant_service.specs.TenantState.{TenantState, Idle, Busy, TenantStates, LeadsTo, held_of}
+use Rattle.tenant_service.specs.TenantState.{TenantState, Idle, Busy, TenantStates, Represents, held_of}
 use Rattle.tenant_service.specs.StepName.{name_of}
 use Rattle.gitpool.specs.declared.import_fault.ImportFault.{ImportFault}
 use Rattle.gitpool.specs.declared.import_fault.ImportFault.TheVariants as fault
@@ -26,7 +26,8 @@ pub record IsRunOf (tenant : List ℕ) (calls : List Call) (run : Run) : Type 0 
 
 -- A service took these calls of a tenant, and no other step. Every tenant was told what it is told
 -- in a repository of its own.
-abbrev pub HasTakenCalls : (List ℕ → List ℕ) → List ℕ → TenantStates → TenantStates → List Call → Type 0
+abbrev pub HasTakenCalls : (List ℕ → List ℕ) → List ℕ → TenantStates → TenantStates → List Call
+    → Type 0
 HasTakenCalls digest tenant before after calls =
     HasTaken digest before after (λ run. IsRunOf tenant calls run)
 
@@ -60,7 +61,7 @@ CanOpen tenant all repository =
 -- Why no stream can be opened: the name is bad, or there is a stream already, running or dead.
 abbrev pub stream_refusal : TenantState → Option ℕ
 stream_refusal (Idle repository) = None
-stream_refusal (Busy standing) = Some 31
+stream_refusal (Busy status) = Some 31
 
 abbrev pub open_refusal : List ℕ → TenantStates → Option ℕ
 open_refusal tenant all =
@@ -80,7 +81,7 @@ pub record IsUnopened (digest : List ℕ → List ℕ) (tenant : List ℕ) (befo
 -- A tenant has a running stream, which was opened over this repository and fed these bytes.
 abbrev pub IsStreaming : (List ℕ → List ℕ) → List ℕ → Repository → List ℕ → TenantStates → Type 0
 IsStreaming digest tenant repository bytes all = (is_tenant_name tenant ≡ true)
-    × LeadsTo digest (Streaming repository bytes) (held_of tenant all)
+    × Represents digest (Streaming repository bytes) (held_of tenant all)
 
 -- What a piece prints after the bytes before it.
 abbrev pub replies_to : (List ℕ → List ℕ) → Repository → List ℕ → List ℕ → List ℕ
@@ -89,7 +90,8 @@ replies_to digest repository bytes piece = added (stream_of digest repository by
 
 -- A piece was carried out, and its replies were written.
 pub record Passes (digest : List ℕ → List ℕ) (tenant : List ℕ) (repository : Repository)
-    (bytes piece : List ℕ) (writer : Device) (after : TenantStates) (writer' : Device) : Type 0 where
+    (bytes piece : List ℕ) (writer : Device) (after : TenantStates)
+    (writer' : Device) : Type 0 where
   pub streaming : IsStreaming digest tenant repository (bytes ++ piece) after
   pub written : Appends writer.known writer'.known (replies_to digest repository bytes piece)
   pub well : IsWell writer writer'
@@ -98,7 +100,7 @@ pub record Passes (digest : List ℕ → List ℕ) (tenant : List ℕ) (reposito
 pub record IsRefusedWith (digest : List ℕ → List ℕ) (repository : Repository)
     (bytes piece : List ℕ) (code : ℕ) (writer writer' : Device) : Type 0 where
   pub left : Repository
-  pub refused : (stream_of digest repository (bytes ++ piece)).standing ≡ Refused code left
+  pub refused : (stream_of digest repository (bytes ++ piece)).status ≡ Refused code left
   pub written : Appends writer.known writer'.known (replies_to digest repository bytes piece)
   pub well : IsWell writer writer'
 

@@ -6,7 +6,7 @@ pub use Rattle.git_model.specs.Repository
 pub use Rattle.git_names.specs.Naming
 pub use Rattle.git_objects.specs.Device
 pub use Rattle.content_pool.specs.LiveContents
-pub use Rattle.tenant_tables.specs.StandsIn
+pub use Rattle.tenant_tables.specs.IsBackedBy
 pub use Rattle.import_session.specs.Sound
 pub use Rattle.export_laws.specs.Copies as Copied
 pub use Rattle.pool_file_checks.specs.Judging

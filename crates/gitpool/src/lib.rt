@@ -32,7 +32,7 @@ pub use git_objects::{
 };
 pub use import_fault::ImportFault;
 pub use importing::import;
-pub use pool_file_format::{Fault as PoolFault, Refusal, Running, Starting};
+pub use pool_file_format::{DigestState, Fault as PoolFault, Refusal, StreamingDigest};
 pub use service_steps::{Answer, FrameFault, Reply, ServiceFault, Step};
 pub use serving::serve;
 pub use single_import::import_one;

@@ -1,7 +1,7 @@
 //! Services that are loaded from a pool file and saved to one.
 
 use byte_devices::FailingReader;
-use gitpool::{Counted, Naming, PoolFault, Service, Starting, TailNaming};
+use gitpool::{Counted, Naming, PoolFault, Service, StreamingDigest, TailNaming};
 use std::alloc::Global;
 use std::io::Read;
 
@@ -68,7 +68,11 @@ const REFUSED: &[(&[u8], u16)] = &[
 ];
 
 /// Whether saving the service writes this file.
-pub fn is_saved_as<N: Naming + Starting>(alloc: Global, service: &Service<N>, file: &[u8]) -> bool {
+pub fn is_saved_as<N: Naming + StreamingDigest>(
+    alloc: Global,
+    service: &Service<N>,
+    file: &[u8],
+) -> bool {
     let mut writer = Counted::new(Vec::new(alloc));
     let is_saved = service.save(&mut writer).is_ok();
     let written = writer.into_inner();
@@ -76,7 +80,7 @@ pub fn is_saved_as<N: Naming + Starting>(alloc: Global, service: &Service<N>, fi
 }
 
 /// The fault of loading a service from a reader, `None` if it is loaded; and the number of calls.
-pub fn refusal_of<N: Naming + Starting, R: Read + Drop>(
+pub fn refusal_of<N: Naming + StreamingDigest, R: Read + Drop>(
     alloc: Global,
     naming: N,
     reader: R,

@@ -11,8 +11,6 @@ use Rattle.content_pool.specs.Pool.{Cells}
 use Rattle.tenant_tables.specs.Objects.{objects}
 use Rattle.tenant_tables.specs.View.{View}
 use Rattle.stream_lex.specs.Items.{Item}
-use Rattle.stream_grammar.specs.declared.act.Act.{Act as LentAct}
-use Rattle.stream_grammar.specs.declared.act.Act.TheVariants as lent
 use Rattle.stream_grammar.specs.declared.fault.Fault.{Fault as TextFault}
 use Rattle.stream_grammar.specs.declared.act.Done.{Done as LentDone}
 use Rattle.stream_grammar.specs.declared.fault.Fault.TheVariants as text_fault
@@ -23,13 +21,13 @@ use Rattle.stream_state.specs.Marks.{Marks, room_for, with_mark}
 use Rattle.import_session.specs.Workspace.{Workspace, Effect}
 use Rattle.stream_state.specs.Stored.{IsStored}
 use Rattle.import_session.specs.Held.{FilesStand}
-use Rattle.import_session.specs.Checkpoints.{checkpoint}
 use Rattle.import_session.specs.Commits.{closed_where}
 use Rattle.import_session.specs.Stream.{Running, Step, step, taken, is_finish}
-use Rattle.import_session.specs.Meaning.{after_act, blob_stored}
+use Rattle.import_session.specs.Meaning.{after_act}
+use Rattle.import_session.specs.Objects.{blob_stored}
 use Rattle.stream_state.specs.Printing.{Shows}
 use Rattle.import_session.specs.Printing.{prints}
-use Rattle.import_session.specs.Session.{StreamState, workspace_in, CarriesOut, Reads, Takes}
+use Rattle.import_session.specs.Session.{StreamState, workspace_in, CarriesOut, ReadsItem, Takes}
 use Rattle.import_session.proofs.CommitLemmas.{carries_refused, memory_or}
 use Rattle.import_session.proofs.HeldLemmas.{commit_same}
 
@@ -60,14 +58,6 @@ named_carried (Ok name) line w out out' result shown = line_carried
     (line name) w out out' result shown
 named_carried (Err refusal) line w out out' result shown = line_carried
     (Err refusal) w out out' result shown
-
--- what saves is a checkpoint
-pub saves : (digest : List ℕ → List ℕ) (act : LentAct) (w : Workspace)
-    → (act ≡ lent.Checkpoint) ⊎ (act ≡ lent.Finish)
-    → after_act digest (act_shown act) w ≡ checkpoint w
-unfolding after_act
-saves digest act w (inl is) = rw is refl
-saves digest act w (inr is) = rw is refl
 
 -- what a session that runs takes
 pub step_running : (digest : List ℕ → List ℕ) (now : Running) (item : Item) → now.is_done ≡ false
@@ -115,7 +105,7 @@ takes_refused (Err refusal) next out out' e refused = λ other. let is = refused
 
 pub no_act : (k : Result Done TextFault) (later : Done → Result Step Fault) (next : Running)
     (out out' : List ℕ) (e : Fault)
-    → Reads (Err e) k → Takes (and_then (text_first k) later) next out out' (Err e)
+    → ReadsItem (Err e) k → Takes (and_then (text_first k) later) next out out' (Err e)
 no_act k later next out out' e reads =
     takes_refused (and_then (text_first k) later) next out out' e (λ other. rw (reads other) refl)
 
@@ -148,7 +138,7 @@ effect_refused (Err refusal) p b new next out out' e carried = carried
 item_refused : (digest : List ℕ → List ℕ) (w : Workspace) (p : Parsing)
     (k : Result Done TextFault) (done : LentDone) (new : Workspace) (next : Running)
     (out out' : List ℕ) (e : Fault)
-    → Reads (Ok done) k
+    → ReadsItem (Ok done) k
     → CarriesOut (done_effect digest w (done_shown done)) new out out' (Err e)
     → Takes (and_then (text_first k) (done_step digest w p)) next out out' (Err e)
 item_refused digest w p k done new next out out' e reads carried =
@@ -176,7 +166,7 @@ effect_taken (Err refusal) p b new out out' u carried = absurd carried
 item_taken : (digest : List ℕ → List ℕ) (w : Workspace) (p : Parsing)
     (k : Result Done TextFault) (done : LentDone) (new : Workspace)
     (out out' : List ℕ) (u : Unit {0})
-    → Reads (Ok done) k
+    → ReadsItem (Ok done) k
     → CarriesOut (done_effect digest w (done_shown done)) new out out' (Ok u)
     → Takes (and_then (text_first k) (done_step digest w p))
     (record { workspace = new; parsing = p; is_done = is_finish (act_shown done.act) })
@@ -195,7 +185,7 @@ item_taken digest w p k done new out out' u reads carried =
 pub item_answered : (digest : List ℕ → List ℕ) (w : Workspace) (p : Parsing)
     (k : Result Done TextFault) (done : LentDone) (new : Workspace) (b : Bool)
     (out out' : List ℕ) (result : Result Unit Fault)
-    → Reads (Ok done) k
+    → ReadsItem (Ok done) k
     → CarriesOut (done_effect digest w (done_shown done)) new out out' result
     → OnOk result (b ≡ is_finish (act_shown done.act))
     → Takes (and_then (text_first k) (done_step digest w p))
@@ -208,7 +198,7 @@ item_answered digest w p k done new b out out' (Err e) reads carried finished =
 
 -- what was given was no want of memory
 pub no_memory : (given : Result LentDone TextFault) (done : LentDone)
-    → ((by : Result Done TextFault) → Answers given by → Reads (Ok done) by)
+    → ((by : Result Done TextFault) → Answers given by → ReadsItem (Ok done) by)
     → given ≢ Err text_fault.Memory
 no_memory given done reads memory =
     let refused : Err text_fault.Memory ≡ Ok (done_shown done) = reads (Err text_fault.Memory)

@@ -1,21 +1,22 @@
 -- What changes of the open commit, and its message, leave of a workspace.
-use Rattle.std.proofs.Common.{◌≡◌, ◌≢◌, ◌⊎◌, inl, inr, ℕ, List, [], ◌∷◌, Option, None, Some, Result, Ok, Err, refl, ap, rules}
+use Rattle.std.proofs.Common.{◌≡◌, ◌≢◌, ◌⊎◌, inl, inr, ℕ, List, [], ◌∷◌, Option, None, Some, Result, Ok, Err, refl, sym, ap, subst, ◌∙◌, rules}
 use Rattle.std.specs.Prelude.{MatchResult, OnOk}
+use Rattle.std.specs.Option.{option_map}
 use Rattle.git_model.specs.RefStore.{RefStore}
 use Rattle.git_model.specs.Repository.{Object}
 use Rattle.content_pool.specs.Pool.{Cells}
+use Rattle.tenant_tables.specs.Objects.{objects}
 use Rattle.tenant_tables.specs.View.{View}
 use Rattle.file_maps.specs.declared.fault.Fault.{Fault as FilesFault}
 use Rattle.file_maps.specs.Edits.{put_fault}
 use Rattle.file_maps.specs.FileMap.{FileMap}
 use Rattle.file_maps.specs.StoredFiles.{commit_map, stored_files, tree_of_commit}
-use Rattle.stream_grammar.specs.Acts.{Act}
 use Rattle.open_commits.specs.declared.fault.Fault.{Fault as CommitFault}
 use Rattle.open_commits.specs.declared.fault.Fault.TheVariants as commit_fault
 use Rattle.open_commits.specs.declared.open_commit.OpenCommit.{OpenCommit as LentCommit}
 use Rattle.open_commits.specs.Calls.{Changes}
 use Rattle.open_commits.specs.Parents.{changed_to, started_from}
-use Rattle.open_commits.specs.OpenCommit.{Header, HeldCommit, OpenCommit, begun, begun_on, shown_in}
+use Rattle.open_commits.specs.OpenCommit.{Header, HeldCommit, IsCommitHeld, OpenCommit, begun, begun_on, commit_held, commit_in, shown_in}
 use Rattle.stream_state.specs.declared.fault.Fault.{Fault}
 use Rattle.stream_state.specs.declared.fault.Fault.TheVariants as fault
 use Rattle.stream_state.specs.declared.command_header.CommandHeader.{CommandHeader}
@@ -23,10 +24,12 @@ use Rattle.stream_state.specs.Faults.{and_then}
 use Rattle.import_session.specs.Faults.{changed_or}
 use Rattle.stream_state.specs.Branches.{Branches, branch_set, tip_for}
 use Rattle.import_session.specs.Workspace.{Effect, Workspace, quiet}
-use Rattle.import_session.specs.Changes.{changed_by, commit_changed}
+use Rattle.import_session.specs.Lines.{in_commit, now_open}
+use Rattle.import_session.specs.Held.{HoldsFiles}
 use Rattle.import_session.specs.Commits.{begun_from, commit_opened, header_said, opened_at, opened_with, started_or_cleared}
 use Rattle.import_session.specs.Session.{StreamState, workspace_in, CarriesOut, Leaves}
 use Rattle.import_session.specs.Sound.{IsSound}
+use Rattle.import_session.proofs.HeldLemmas.{files_kept}
 
 -- ---- a commit is looked up, and then the open commit changes
 
@@ -73,26 +76,50 @@ carries_refused (Ok effect) new out out' f refused = by_memory (memory_or f)
     by_memory (inr other) = let never = refused other in cc
 carries_refused (Err refusal) new out out' f refused = λ other. let is = refused other in cc
 
--- ---- the open commit lies aside while it changes
-
-pub changed_aside : (workspace : Workspace) (aside : Option OpenCommit) (act : Act)
-    (commit : OpenCommit)
-    → changed_by (record workspace { commit = aside }) act commit
-    ≡ changed_by workspace act commit
-unfolding changed_by
-changed_aside workspace aside act commit = refl
+-- ---- the open commit changes
 
 -- what a change leaves
-pub changed_open : (workspace : Workspace) (act : Act) (held : Option OpenCommit)
-    (commit next : OpenCommit) (out : List ℕ) (result : Result Unit Fault) → held ≡ Some commit
-    → Leaves (changed_by workspace act commit) next result
-    → CarriesOut (commit_changed act held workspace) (record workspace { commit = Some next }) out
-    out result
-changed_open workspace act held commit next out (Ok u) held_is is =
+changed_open : (workspace : Workspace) (change : OpenCommit → Result OpenCommit Fault)
+    (commit next : OpenCommit) (out : List ℕ) (result : Result Unit Fault)
+    → workspace.commit ≡ Some commit → Leaves (change commit) next result
+    → CarriesOut (in_commit change workspace) (record workspace { commit = Some next }) out out result
+changed_open workspace change commit next out (Ok u) held_is is =
     rw (held_is, is) (refl, search rules)
-changed_open workspace act held commit next out (Err f) held_is refused =
-    carries_refused (commit_changed act held workspace) (record workspace { commit = Some next })
+changed_open workspace change commit next out (Err f) held_is refused =
+    carries_refused (in_commit change workspace) (record workspace { commit = Some next })
     out out f (λ other. rw (held_is, refused other) refl)
+
+-- the same of a session that takes its commit out, and puts it back when it was changed
+pub put_back : (state left : StreamState) (p : Cells) (t : View) (refs : RefStore)
+    (change : OpenCommit → Result OpenCommit Fault) (held : Option LentCommit)
+    (commit next : LentCommit) (out : List ℕ) (result : Result Unit Fault)
+    → held ≡ Some commit → state.commit ≡ option_map commit_held held
+    → left ≡ record state { commit = Some (commit_held next) }
+    → Leaves (change (shown_in (objects p t.entries) commit)) (shown_in (objects p t.entries) next)
+    result
+    → CarriesOut (in_commit change (workspace_in state p t refs)) (workspace_in left p t refs) out
+    out result
+put_back state left p t refs change held commit next out result is commit_is left_is changed =
+    subst (λ (s : StreamState). CarriesOut (in_commit change (workspace_in state p t refs))
+    (workspace_in s p t refs) out out result) (sym left_is)
+    (changed_open (workspace_in state p t refs) change (shown_in (objects p t.entries) commit)
+    (shown_in (objects p t.entries) next) out result
+    (ap (λ (c : Option HeldCommit). option_map (commit_in (objects p t.entries)) c)
+    (commit_is ∙ ap (λ (c : Option LentCommit). option_map commit_held c) is)) changed)
+
+-- its files are held where the change was carried out
+pub held_back : (os : List Object) (state left : StreamState) (next : LentCommit)
+    (r : Result Unit CommitFault) → left ≡ record state { commit = Some (commit_held next) }
+    → HoldsFiles os state → (r ≢ Err commit_fault.Memory → IsCommitHeld os next)
+    → OnOk (changed_or r) (HoldsFiles os left)
+held_back os state left next (Ok u) left_is holds stands =
+    files_kept os (record state { commit = Some (commit_held next) }) left
+    (record {
+      commit = ap (λ (s : StreamState). s.commit) left_is;
+      left = ap (λ (s : StreamState). s.left) left_is;
+    })
+    (record { commit = stands (λ is. absurd (cc is)); left = holds.left })
+held_back os state left next (Err e) left_is holds stands = tt
 
 -- ---- a commit opens
 
@@ -159,17 +186,17 @@ without_said digest workspace said none sound = record {
 
 pub opened_refused : (workspace new : Workspace) (mark : Option ℕ) (message : List ℕ)
     (held : Option CommandHeader) (said : CommandHeader) (header : Header) (e f : Fault) (out : List ℕ)
-    → held ≡ Some said → f ≡ e → header_said mark said said.committer ≡ Ok header
+    → held ≡ Some said → f ≡ e → header_said mark said ≡ Ok header
     → (e ≢ fault.Memory → opened_with workspace message header ≡ Err e)
-    → CarriesOut (commit_opened mark message held workspace) new out out (Err f)
+    → CarriesOut (and_then (now_open held) (λ said. commit_opened mark message said workspace)) new out out (Err f)
 opened_refused workspace new mark message held said header e f out held_is same told refused =
-    carries_refused (commit_opened mark message held workspace) new out out f
+    carries_refused (and_then (now_open held) (λ said. commit_opened mark message said workspace)) new out out f
     (λ other. rw (held_is, told, same, refused (rw same at other)) refl)
 
 pub opened_well : (state left : StreamState) (pool : Cells) (table : View) (refs : RefStore)
     (branches : Branches) (mark : Option ℕ) (message : List ℕ) (held spent : Option CommandHeader)
     (said : CommandHeader) (header : Header) (next : HeldCommit) (out : List ℕ)
-    → held ≡ Some said → spent ≡ None → header_said mark said said.committer ≡ Ok header
+    → held ≡ Some said → spent ≡ None → header_said mark said ≡ Ok header
     → opened_with (workspace_in state pool table refs) message header
     ≡ quiet (workspace_in (record state {
       branches = branches;
@@ -177,7 +204,8 @@ pub opened_well : (state left : StreamState) (pool : Cells) (table : View) (refs
       commit = Some next;
     }) pool table refs)
     → left ≡ record state { branches = branches; said = spent; left = None }
-    → CarriesOut (commit_opened mark message held (workspace_in state pool table refs))
+    → CarriesOut (and_then (now_open held) (λ said.
+    commit_opened mark message said (workspace_in state pool table refs)))
     (workspace_in (record left { commit = Some next }) pool table refs) out out (Ok tt)
 opened_well state left pool table refs branches mark message held spent said header next out held_is
     none told opens left_is =

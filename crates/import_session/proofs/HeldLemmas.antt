@@ -13,10 +13,10 @@ use Rattle.open_commits.specs.OpenCommit.{HeldCommit, Stands, commit_in}
 use Rattle.stream_state.specs.declared.fault.Fault.{Fault}
 use Rattle.stream_state.specs.Storing.{stored_or, with_content}
 use Rattle.import_session.specs.Session.{StreamState}
-use Rattle.import_session.specs.Held.{HoldsFiles, KeepsFiles}
+use Rattle.import_session.specs.Held.{HoldsFiles, KeepsBranchFiles}
 
 -- a call that changes neither leaves them standing
-pub files_kept : (os : List Object) (old new : StreamState) → KeepsFiles old new → HoldsFiles os old
+pub files_kept : (os : List Object) (old new : StreamState) → KeepsBranchFiles old new → HoldsFiles os old
     → HoldsFiles os new
 files_kept os old new keeps holds = record {
   commit = subst (λ (commit : Option HeldCommit). IfSome commit (Stands os)) (sym keeps.commit) holds.commit;
@@ -66,6 +66,6 @@ module _ (digest : List ℕ → List ℕ) (content : Content) (os more : List Ob
 
 -- what stands in any case stands where a call was carried out
 pub still_held : {A : Type 0} (r : Result A Fault) (os : List Object) (old new : StreamState)
-    → KeepsFiles old new → HoldsFiles os old → OnOk r (HoldsFiles os new)
+    → KeepsBranchFiles old new → HoldsFiles os old → OnOk r (HoldsFiles os new)
 still_held (Ok value) os old new keeps holds = files_kept os old new keeps holds
 still_held (Err e) os old new keeps holds = tt

@@ -4,7 +4,6 @@ mod CommittedLemmas
 mod LastLemmas
 mod TagLemmas
 mod CommitLemmas
-mod Defaults
 mod HeldLemmas
 pub mod LentLemmas
 pub mod SoundObjects
@@ -13,3 +12,5 @@ pub mod SoundCommits
 pub mod SoundRefs
 pub mod SoundChanges
 pub mod SoundLemmas
+pub mod FittingLemmas
+pub mod KnownLemmas

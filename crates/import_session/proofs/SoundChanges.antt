@@ -14,8 +14,8 @@ use Rattle.git_model.specs.Repository.{Object}
 use Rattle.git_names.specs.Naming.{AnswersNames}
 use Rattle.git_paths.specs.Order.{path_cmp}
 use Rattle.git_paths.specs.Paths.{IsPath}
-use Rattle.stream_grammar.specs.Acts.{Act, StartFrom, Merge, Modify, Delete, Copy, Rename, DeleteAll}
-use Rattle.stream_grammar.specs.WellFormed.{IsWellFormed}
+use Rattle.stream_grammar.specs.Names.{CommitIsh}
+use Rattle.stream_grammar.specs.WellFormed.{IsReferred}
 use Rattle.stream_grammar.specs.declared.data_ref.DataRef.{DataRef}
 use Rattle.file_maps.specs.declared.entry.Entry.{Entry}
 use Rattle.file_maps.specs.declared.fault.Fault.{Fault as FilesFault}
@@ -26,7 +26,7 @@ use Rattle.file_maps.proofs.Maps.{empty-of}
 use Rattle.tenant_tables.proofs.StoredGood.{Grows}
 use Rattle.open_commits.specs.declared.fault.Fault.{Fault as CommitFault}
 use Rattle.open_commits.specs.Faults.{and_then as commit_then}
-use Rattle.open_commits.specs.Changes.{Left, Marks, blob_of, blob_put, contents_put, copied_to, entry_of, file_put, link_of, modified, renamed_to, tree_of}
+use Rattle.open_commits.specs.Changes.{Left, Marks, all_deleted, blob_of, blob_put, contents_put, copied_to, deleted, entry_of, file_put, link_of, modified, renamed_to, tree_of}
 use Rattle.open_commits.specs.Storing.{stored}
 use Rattle.open_commits.specs.GoodCommits.{GrowGood, IsGoodCommit, IsGoodHeader}
 use Rattle.open_commits.specs.OpenCommit.{Header, OpenCommit, begun}
@@ -37,9 +37,8 @@ use Rattle.open_commits.proofs.GoodFiles.{contents_has, copied_has, deleted_has,
 use Rattle.open_commits.proofs.StoredCommits.{stored_commit}
 use Rattle.import_session.specs.Faults.{changed_or}
 use Rattle.import_session.specs.Workspace.{Workspace}
-use Rattle.import_session.specs.Changes.{changed_by, moved_by}
 use Rattle.import_session.specs.CommitIshes.{commit_in, start_in}
-use Rattle.import_session.specs.Commits.{begun_from}
+use Rattle.import_session.specs.Commits.{begun_from, commit_merged, commit_started}
 use Rattle.import_session.specs.Sound.{IsOpen}
 use Rattle.import_session.proofs.SoundCommits.{IsCommitOf, commit_good, start_good}
 use Rattle.import_session.proofs.SoundObjects.{by_test, then_good}
@@ -173,55 +172,70 @@ merged_ref id commit ref =
     (λ few. rw few ref)
     (λ many. rw many tt)
 
-moved_open : (os : List Object) (act : Act) → IsWellFormed act → (commit : OpenCommit)
-    → IsOpen os commit → IfOk (moved_by act commit) (IsOpen os)
-unfolding moved_by
-moved_open os (Delete path) well commit is =
-    record {
-      ref = is.ref;
-      good = delete_keeps os commit is.good is.files path;
-      files = deleted_has commit is.files path;
-    }
-moved_open os (Copy source path) well commit is =
+-- ---- each change
+
+pub deleted_open : (os : List Object) (commit : OpenCommit) → IsOpen os commit → (path : Path)
+    → IsOpen os (deleted path commit)
+deleted_open os commit is path = record {
+  ref = is.ref;
+  good = delete_keeps os commit is.good is.files path;
+  files = deleted_has commit is.files path;
+}
+
+pub cleared_open : (os : List Object) (commit : OpenCommit) → IsOpen os commit
+    → IsOpen os (all_deleted commit)
+cleared_open os commit is =
+    record { ref = is.ref; good = all_deleted_keeps os commit is.good; files = no_files }
+
+pub copied_open : (os : List Object) (commit : OpenCommit) → IsOpen os commit
+    → (source path : Path) → IsPath path → IfOk (changed_or (copied_to source path commit)) (IsOpen os)
+copied_open os commit is source path well =
     stays_open os (copied_to source path commit)
     (changed_ref commit (copied commit.files source path)
     (move_fault (moved path (files_at commit.files source)) (copied commit.files source path)) is.ref)
-    (copied_has commit is.files source path well.1.components)
+    (copied_has commit is.files source path well)
     (λ next e. copy_keeps os commit next is.good is.files source path e)
-moved_open os (Rename source path) well commit is =
+
+pub renamed_open : (os : List Object) (commit : OpenCommit) → IsOpen os commit
+    → (source path : Path) → IsPath path
+    → IfOk (changed_or (renamed_to source path commit)) (IsOpen os)
+renamed_open os commit is source path well =
     stays_open os (renamed_to source path commit)
     (changed_ref commit (renamed commit.files source path)
     (move_fault (moved path (files_at commit.files source)) (renamed commit.files source path)) is.ref)
-    (renamed_has commit is.files source path well.1.components)
+    (renamed_has commit is.files source path well)
     (λ next e. rename_keeps os commit next is.good is.files source path e)
-moved_open os DeleteAll well commit is =
-    record { ref = is.ref; good = all_deleted_keeps os commit is.good; files = no_files }
-moved_open os _ well commit is = tt
 
-pub changed_open : (digest : List ℕ → List ℕ) (workspace : Workspace)
-    → AreObjects digest workspace.objects → (act : Act) → IsWellFormed act → (commit : OpenCommit)
+pub modified_open : (digest : List ℕ → List ℕ) (os : List Object) → AreObjects digest os
+    → (marks : Marks) (file_mode : FileMode) (object : DataRef) → IsReferred object → (path : Path)
+    → IsPath path → (commit : OpenCommit) → IsOpen os commit
+    → IfOk (changed_or (modified os marks file_mode object path commit)) (IsOpen os)
+modified_open digest os good marks file_mode object referred path well commit is =
+    stays_open os (modified os marks file_mode object path commit)
+    (modified_ref os marks file_mode object path commit is.ref)
+    (modified_has digest os good commit is.files marks file_mode object referred path well)
+    (λ next e. change_keeps digest os good commit next is.good is.files marks file_mode object path e)
+
+pub commit_started_open : (digest : List ℕ → List ℕ) (workspace : Workspace)
+    → AreObjects digest workspace.objects → (from : CommitIsh) (commit : OpenCommit)
     → IsOpen workspace.objects commit
-    → IfOk (changed_by workspace act commit) (IsOpen workspace.objects)
-unfolding changed_by
-changed_open digest workspace good (StartFrom from) well commit is =
+    → IfOk (commit_started workspace from commit) (IsOpen workspace.objects)
+commit_started_open digest workspace good from commit is =
     then_good (IsCommitOf workspace.objects) (IsOpen workspace.objects)
     (start_in workspace commit.header.ref from) _
     (start_good digest workspace good commit.header.ref from)
     (λ id k. started_open digest workspace.objects good commit is id k)
-changed_open digest workspace good (Merge merge) well commit is =
-    then_good (IsCommitOf workspace.objects) (IsOpen workspace.objects) (commit_in workspace merge) _
-    (commit_good digest workspace good merge)
+
+pub commit_merged_open : (digest : List ℕ → List ℕ) (workspace : Workspace)
+    → AreObjects digest workspace.objects → (other : CommitIsh) (commit : OpenCommit)
+    → IsOpen workspace.objects commit
+    → IfOk (commit_merged workspace other commit) (IsOpen workspace.objects)
+commit_merged_open digest workspace good other commit is =
+    then_good (IsCommitOf workspace.objects) (IsOpen workspace.objects) (commit_in workspace other) _
+    (commit_good digest workspace good other)
     (λ id k. stays_open workspace.objects (merged id commit) (merged_ref id commit is.ref)
     (merged_has id commit is.files)
     (λ next e. merge_keeps workspace.objects commit next is.good id k e))
-changed_open digest workspace good (Modify file_mode object path) well commit is =
-    stays_open workspace.objects (modified workspace.objects workspace.marks file_mode object path commit)
-    (modified_ref workspace.objects workspace.marks file_mode object path commit is.ref)
-    (modified_has digest workspace.objects good commit is.files workspace.marks file_mode object well.0
-    path well.1.components)
-    (λ next e. change_keeps digest workspace.objects good commit next is.good is.files workspace.marks
-    file_mode object path e)
-changed_open digest workspace good act well commit is = moved_open workspace.objects act well commit is
 
 -- ---- contents that come with their file
 

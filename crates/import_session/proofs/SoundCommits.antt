@@ -23,7 +23,7 @@ use Rattle.import_session.specs.Workspace.{Workspace}
 use Rattle.stream_state.specs.Branches.{commit_at, tip_of, tip_commit}
 use Rattle.import_session.specs.CommitIshes.{commit_in, is_branch, named_in, start_in}
 use Rattle.import_session.specs.Commits.{IsTipCommit}
-use Rattle.import_session.specs.Sound.{IsBranch, IsSound, IsTip}
+use Rattle.import_session.specs.Sound.{IsStreamBranch, IsSound, IsTip}
 use Rattle.import_session.proofs.SoundObjects.{by_test, then_any}
 
 -- a commit is there
@@ -92,5 +92,5 @@ pub tip_commit_is : (digest : List ℕ → List ℕ) (workspace : Workspace) →
 tip_commit_is digest workspace sound ref =
     tip_is workspace.objects (tip_of workspace.branches ref)
     (lookup_has (IsTip workspace.objects) (bytes_eq ref) workspace.branches
-    (All-weaker (IsBranch workspace.objects) (λ branch. IsTip workspace.objects branch.1)
+    (All-weaker (IsStreamBranch workspace.objects) (λ branch. IsTip workspace.objects branch.1)
     (λ branch is. is.tip) workspace.branches sound.branches))

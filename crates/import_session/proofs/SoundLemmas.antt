@@ -29,10 +29,18 @@ use Rattle.stream_lex.specs.Items.{Item}
 use Rattle.stream_grammar.specs.declared.fault.Fault.{Fault as TextFault}
 use Rattle.stream_grammar.specs.declared.feature.Feature.{Feature}
 use Rattle.stream_grammar.specs.declared.feature.Feature.TheVariants as feature
-use Rattle.stream_grammar.specs.Acts.{Act, Wait, BeginCommit, Author, Committer, Encoding, OpenCommit, ModifyInline, PutContents, ShowBranchEntry, StoreBlob, BeginTag, TagTarget, Tagger, StoreTag, Reset, ResetTo, SetMark, Checkpoint, Progress, ShowMark, ShowObject, Finish, Require, SetHead, ShowEntry}
+use Rattle.stream_grammar.specs.declared.act.ControlCommand.TheVariants as control
+use Rattle.stream_grammar.specs.declared.act.ControlCommand.{ControlCommand}
+use Rattle.stream_grammar.specs.Acts.{ObjectCommand, Blob, BeginTag, TagTarget, Tagger}
+use Rattle.stream_grammar.specs.Acts.{CommitCommand, Begin, Author, Committer, Encoding, Message, From, Merge}
+use Rattle.stream_grammar.specs.Acts.{FileChange, Modify, ModifyInline, InlineData, Delete, Copy, Rename, DeleteAll}
+use Rattle.stream_grammar.specs.Acts.{RefCommand, Reset, ResetFrom, Alias}
+use Rattle.stream_grammar.specs.Acts.{ReplyCommand, GetMark, CatBlob, Ls, LsInCommit, Progress}
+use Rattle.stream_grammar.specs.Acts.{Act, Wait, Commit, Change, Ref, Reply, Control}
+use Rattle.stream_grammar.specs.Acts as acts
 use Rattle.stream_grammar.specs.Commands.{Done, done_by, end_of}
 use Rattle.stream_grammar.specs.Names.{CommitIsh}
-use Rattle.stream_grammar.specs.WellFormed.{NamesShortRef, IsWellFormed}
+use Rattle.stream_grammar.specs.WellFormed.{NamesShortRef, IsWellFormed, IsWellFormedChange, IsWellFormedCommit, IsWellFormedControl, IsWellFormedObject, IsWellFormedRef}
 use Rattle.stream_grammar.proofs.WellFormedActs.{well_formed}
 use Rattle.stream_state.specs.declared.branches.Tip.{Tip}
 use Rattle.stream_state.specs.declared.branches.Tip.TheVariants.{Unborn, Deleted, At}
@@ -45,18 +53,21 @@ use Rattle.stream_state.specs.Marks.{Marks, marked_name, referred_name, room_for
 use Rattle.stream_state.specs.CommandHeader.{said_of}
 use Rattle.import_session.specs.Workspace.{Workspace, Effect, opened, quiet}
 use Rattle.import_session.specs.CommitIshes.{commit_in, named_in, start_in, ref_in}
-use Rattle.import_session.specs.Resets.{alias_set, branch_placed, branch_reset, is_zeros, tip_from}
+use Rattle.import_session.specs.Lines.{in_commit, in_header, now_open}
+use Rattle.import_session.specs.Refs.{alias_set, branch_placed, branch_unborn, is_zeros, ref_set, tip_from}
 use Rattle.stream_state.specs.Storing.{with_content}
 use Rattle.stream_state.specs.Tags.{is_tag_ref, room_for_tag, tag_content, tagged_kind}
-use Rattle.import_session.specs.Tags.{said_more, tag_made, tag_stored, tagged, tagger_said, target_said}
+use Rattle.import_session.specs.Objects.{blob_stored, object_stored}
+use Rattle.import_session.specs.Tags.{tag_made, tag_stored, tagged}
 use Rattle.stream_state.specs.Checkpoints.{fit}
 use Rattle.import_session.specs.Checkpoints.{checkpoint, saved_refs}
 use Rattle.stream_state.specs.Printing.{shown_object}
-use Rattle.import_session.specs.Meaning.{after_act, blob_stored, feature_set, head_set, placed_by, said_of_commit, said_of_tag, set_by, shown_by, stored_or_shown, within_commit}
+use Rattle.import_session.specs.Controls.{controlled, feature_set, head_set}
+use Rattle.import_session.specs.Meaning.{after_act}
 use Rattle.git_paths.specs.Paths.{IsPath}
 use Rattle.file_maps.specs.FileMap.{Path}
 use Rattle.open_commits.specs.declared.fault.Fault.{Fault as CommitFault}
-use Rattle.open_commits.specs.Changes.{contents_put}
+use Rattle.open_commits.specs.Changes.{all_deleted, contents_put, copied_to, deleted, renamed_to}
 use Rattle.open_commits.specs.Ends.{Closed, closed}
 use Rattle.open_commits.specs.GoodCommits.{GrowGood, HoldsCommit}
 use Rattle.open_commits.specs.OpenCommit.{Header, OpenCommit as Opened, begun}
@@ -64,11 +75,12 @@ use Rattle.open_commits.specs.Showing.{Shown, entry_shown}
 use Rattle.open_commits.proofs.FitCommits.{end_fits, entry_fits}
 use Rattle.open_commits.proofs.GoodCommits.{end_keeps as commit_end, entry_keeps}
 use Rattle.stream_state.specs.declared.command_header.Inline.{Inline}
-use Rattle.import_session.specs.Changes.{branch_entry_shown, changed_by, commit_changed, contents_stored, entry_line}
-use Rattle.import_session.specs.Commits.{begun_from, closed_at, closed_where, commit_opened, header_said, open_closed, opened_with}
+use Rattle.import_session.specs.Changes.{file_stored, files_changed}
+use Rattle.import_session.specs.Replies.{branch_entry_shown, entry_line, replied}
+use Rattle.import_session.specs.Commits.{begun_from, closed_at, closed_where, commit_merged, commit_opened, commit_said, commit_started, header_of, header_said, open_closed, opened_with}
 use Rattle.import_session.specs.Printing.{prints}
-use Rattle.import_session.proofs.SoundChanges.{IsReady, LeavesOpen, begun_open, changed_open, contents_open, open_grown}
-use Rattle.import_session.specs.Sound.{IsBranch, IsOpen, IsPending, IsSound, IsSoundRepository, IsTip, IsWellFormedHeader}
+use Rattle.import_session.proofs.SoundChanges.{IsReady, LeavesOpen, begun_open, cleared_open, commit_merged_open, commit_started_open, contents_open, copied_open, deleted_open, modified_open, open_grown, renamed_open}
+use Rattle.import_session.specs.Sound.{IsStreamBranch, IsOpen, IsPending, IsSound, IsSoundRepository, IsTip, IsWellFormedHeader}
 use Rattle.stream_state.specs.Showing.{entry_shown as stored_entry_shown}
 use Rattle.import_session.specs.Stream.{Running, Step, commands_end, last_checkpoint, session_end, step, taken, unless_done_missing}
 use Rattle.import_session.proofs.SoundCommits.{IsCommitOf, commit_good, start_good, tip_commit_is}
@@ -136,9 +148,9 @@ tip_longer os new grows (At id) stands =
     (kind_longer os grows.more id kind.Commit stands)
 
 branches_longer : (os new : List Object) → Grows os new → (branches : Branches)
-    → All (IsBranch os) branches → All (IsBranch new) branches
+    → All (IsStreamBranch os) branches → All (IsStreamBranch new) branches
 branches_longer os new grows branches =
-    All-weaker (IsBranch os) (IsBranch new)
+    All-weaker (IsStreamBranch os) (IsStreamBranch new)
     (λ branch is. record { name = is.name; tip = tip_longer os new grows branch.1 is.tip }) branches
 
 marks_with : (marks : Marks) (mark : Option ℕ) (id : List ℕ)
@@ -232,7 +244,7 @@ newly_said ref name = record { ref = name; author = tt; committer = tt; encoding
 
 branches_keep : (digest : List ℕ → List ℕ) (workspace : Workspace) (branches : Branches)
     (said : Option CommandHeader) → IsSound digest workspace
-    → All (IsBranch workspace.objects) branches → IfSome said IsWellFormedHeader
+    → All (IsStreamBranch workspace.objects) branches → IfSome said IsWellFormedHeader
     → IsSound digest (record workspace { branches = branches; said = said })
 branches_keep digest workspace branches said sound good well = record {
   objects = sound.objects;
@@ -248,15 +260,15 @@ branches_keep digest workspace branches said sound good well = record {
 }
 
 branch_keeps : (os : List Object) (branches : Branches) (ref : List ℕ) (tip : Tip)
-    → All (IsBranch os) branches → IsBranch os (ref, tip)
-    → All (IsBranch os) (with_branch branches ref tip)
+    → All (IsStreamBranch os) branches → IsStreamBranch os (ref, tip)
+    → All (IsStreamBranch os) (with_branch branches ref tip)
 branch_keeps os branches ref tip good new =
-    entry_set bytes_eq (IsBranch os) branches ref tip good
+    entry_set bytes_eq (IsStreamBranch os) branches ref tip good
     (λ old is. record { name = is.name; tip = new.tip }) new
 
 branch_set_keeps : (os : List Object) (branches : Branches) (ref : List ℕ) (tip : Tip)
-    → All (IsBranch os) branches → IsBranch os (ref, tip)
-    → IfOk (branch_set branches ref tip) (All (IsBranch os))
+    → All (IsStreamBranch os) branches → IsStreamBranch os (ref, tip)
+    → IfOk (branch_set branches ref tip) (All (IsStreamBranch os))
 branch_set_keeps os branches ref tip good new =
     by_test (has_branch_room branches ref)
     (λ room. rw room (branch_keeps os branches ref tip good new))
@@ -264,11 +276,11 @@ branch_set_keeps os branches ref tip good new =
 
 reset_keeps : (digest : List ℕ → List ℕ) (workspace : Workspace) → IsSound digest workspace
     → (ref : List ℕ) → NamesShortRef ref
-    → IfOk (branch_reset ref workspace) (LeavesSound digest)
+    → IfOk (branch_unborn (ref_in workspace ref) workspace) (LeavesSound digest)
 reset_keeps digest workspace sound ref names =
     let meant = ref_meant workspace.head workspace.refs ref in
     let name = meant_named workspace digest sound ref names in
-    then_good (All (IsBranch workspace.objects)) (LeavesSound digest)
+    then_good (All (IsStreamBranch workspace.objects)) (LeavesSound digest)
     (branch_set workspace.branches meant Unborn) _
     (branch_set_keeps workspace.objects workspace.branches meant Unborn sound.branches
     (record { name = name; tip = tt }))
@@ -288,7 +300,8 @@ tip_good digest workspace sound ref from =
 
 placed_at : (digest : List ℕ → List ℕ) (workspace : Workspace) → IsSound digest workspace
     → (from : CommitIsh) (said : Option CommandHeader) → IfSome said IsWellFormedHeader
-    → IfOk (branch_placed from said workspace) (LeavesSound digest)
+    → IfOk (and_then (now_open said) (λ said. branch_placed from said workspace))
+    (LeavesSound digest)
 placed_at digest workspace sound from None well = tt
 placed_at digest workspace sound from (Some said) well =
     then_good (IsTip workspace.objects) (LeavesSound digest) (tip_from workspace said.ref_name from) _
@@ -320,38 +333,17 @@ alias_keeps digest workspace sound mark commit =
 
 -- ---- tags
 
-more_said : (digest : List ℕ → List ℕ) (workspace : Workspace) → IsSound digest workspace
-    → (more : CommandHeader → CommandHeader) (said : Option CommandHeader) → IfSome said IsWellFormedHeader
+header_keeps : (digest : List ℕ → List ℕ) (workspace : Workspace) → IsSound digest workspace
+    → (more : CommandHeader → CommandHeader)
     → ((said : CommandHeader) → IsWellFormedHeader said → IsWellFormedHeader (more said))
-    → IfOk (said_more more said workspace) (LeavesSound digest)
-more_said digest workspace sound more None well keeps = tt
-more_said digest workspace sound more (Some said) well keeps =
-    with_said digest workspace (Some (more said)) sound (keeps said well)
-
-target_keeps : (digest : List ℕ → List ℕ) (workspace : Workspace) → IsSound digest workspace
-    → (target : CommitIsh) → IfOk (target_said target workspace) (LeavesSound digest)
-target_keeps digest workspace sound target =
-    more_said digest workspace sound (λ said. record said { target = target }) workspace.said
-    sound.said (λ said well. record {
-      ref = well.ref;
-      author = well.author;
-      committer = well.committer;
-      encoding = well.encoding;
-      tagger = well.tagger;
-    })
-
-tagger_keeps : (digest : List ℕ → List ℕ) (workspace : Workspace) → IsSound digest workspace
-    → (ident : List ℕ) → IsWrittenIdent ident
-    → IfOk (tagger_said ident workspace) (LeavesSound digest)
-tagger_keeps digest workspace sound ident written =
-    more_said digest workspace sound (λ said. record said { tagger = Some ident }) workspace.said
-    sound.said (λ said well. record {
-      ref = well.ref;
-      author = well.author;
-      committer = well.committer;
-      encoding = well.encoding;
-      tagger = written;
-    })
+    → IfOk (in_header more workspace) (LeavesSound digest)
+header_keeps digest workspace sound more keeps = by_said workspace.said sound.said
+  where
+    by_said : (said : Option CommandHeader) → IfSome said IsWellFormedHeader
+        → IfOk (and_then (now_open said) (λ said.
+        quiet (record workspace { said = Some (more said) }))) (LeavesSound digest)
+    by_said None well = tt
+    by_said (Some said) well = with_said digest workspace (Some (more said)) sound (keeps said well)
 
 -- what is tagged is there, and is no tree
 pub record IsTagged (os : List Object) (target : List ℕ) (target_kind : Kind) : Type 0 where
@@ -468,7 +460,8 @@ tagged_good workspace mark said = let P : List ℕ × Kind → Type 0 = IsTagged
 tag_keeps : (digest : List ℕ → List ℕ) → AnswersNames digest → (workspace : Workspace)
     → IsSound digest workspace → (mark : Option ℕ) (message : List ℕ) (said : Option CommandHeader)
     → IfSome said IsWellFormedHeader
-    → IfOk (tag_stored digest mark message said workspace) (LeavesSound digest)
+    → IfOk (and_then (now_open said) (λ said. tag_stored digest mark message said workspace))
+    (LeavesSound digest)
 tag_keeps digest names workspace sound mark message None well = tt
 tag_keeps digest names workspace sound mark message (Some said) well =
     then_good (IsTaggedBy workspace.objects said) (LeavesSound digest) (tagged mark said workspace) _
@@ -581,93 +574,6 @@ head_keeps digest workspace sound ref name =
       inline = sound.inline;
     }))
 
--- the lines of a commit
-commit_lines : (digest : List ℕ → List ℕ) (workspace : Workspace) → IsSound digest workspace
-    → (act : Act) → IsWellFormed act → IfOk (said_of_commit act workspace) (LeavesSound digest)
-unfolding said_of_commit within_commit
-commit_lines digest workspace sound (BeginCommit ref) well =
-    with_said digest workspace (Some (said_of (ref_in workspace ref))) sound
-    (newly_said (ref_in workspace ref) (meant_named workspace digest sound ref well))
-commit_lines digest workspace sound (Author ident) well =
-    more_said digest workspace sound (λ said. record said { author = Some ident }) workspace.said
-    sound.said (λ said is. record {
-      ref = is.ref;
-      author = well;
-      committer = is.committer;
-      encoding = is.encoding;
-      tagger = is.tagger;
-    })
-commit_lines digest workspace sound (Committer ident) well =
-    more_said digest workspace sound (λ said. record said { committer = Some ident }) workspace.said
-    sound.said (λ said is. record {
-      ref = is.ref;
-      author = is.author;
-      committer = well;
-      encoding = is.encoding;
-      tagger = is.tagger;
-    })
-commit_lines digest workspace sound (Encoding encoding) well =
-    more_said digest workspace sound (λ said. record said { encoding = Some encoding })
-    workspace.said sound.said (λ said is. record {
-      ref = is.ref;
-      author = is.author;
-      committer = is.committer;
-      encoding = well;
-      tagger = is.tagger;
-    })
-commit_lines digest workspace sound (ModifyInline file_mode path) well = record {
-  objects = sound.objects;
-  trees = sound.trees;
-  refs = sound.refs;
-  next_head = sound.next_head;
-  marks = sound.marks;
-  branches = sound.branches;
-  tags = sound.tags;
-  said = sound.said;
-  commit = sound.commit;
-  inline = well.1.components;
-}
-commit_lines digest workspace sound act well =
-    by_commit act well workspace.commit sound.commit
-  where
-    by_commit : (act : Act) → IsWellFormed act → (commit : Option Opened)
-        → IfSome commit (IsOpen workspace.objects)
-        → IfOk (commit_changed act commit workspace) (LeavesSound digest)
-    by_commit act well None is = tt
-    by_commit act well (Some commit) is =
-        then_good (IsOpen workspace.objects) (LeavesSound digest) (changed_by workspace act commit) _
-        (changed_open digest workspace sound.objects act well commit is)
-        (λ next good. record {
-          objects = sound.objects;
-          trees = sound.trees;
-          refs = sound.refs;
-          next_head = sound.next_head;
-          marks = sound.marks;
-          branches = sound.branches;
-          tags = sound.tags;
-          said = sound.said;
-          commit = good;
-          inline = sound.inline;
-        })
-
-tag_lines : (digest : List ℕ → List ℕ) (workspace : Workspace) → IsSound digest workspace
-    → (act : Act) → IsWellFormed act → IfOk (said_of_tag act workspace) (LeavesSound digest)
-unfolding said_of_tag
-tag_lines digest workspace sound (BeginTag ref) well =
-    with_said digest workspace (Some (said_of ref)) sound (newly_said ref well.name)
-tag_lines digest workspace sound (TagTarget target) well = target_keeps digest workspace sound target
-tag_lines digest workspace sound (Tagger ident) well = tagger_keeps digest workspace sound ident well
-tag_lines digest workspace sound act well = commit_lines digest workspace sound act well
-
-set_keeps : (digest : List ℕ → List ℕ) (workspace : Workspace) → IsSound digest workspace
-    → (act : Act) → IsWellFormed act → IfOk (set_by act workspace) (LeavesSound digest)
-unfolding set_by
-set_keeps digest workspace sound Wait well = sound
-set_keeps digest workspace sound (Reset ref) well = reset_keeps digest workspace sound ref well
-set_keeps digest workspace sound (Require wanted) well = feature_keeps digest workspace sound wanted
-set_keeps digest workspace sound (SetHead ref) well = head_keeps digest workspace sound ref well
-set_keeps digest workspace sound act well = tag_lines digest workspace sound act well
-
 -- a commit opens
 first_tip : (os : List Object) (first : Option (List ℕ)) → IfSome first (IsCommitOf os)
     → IsTip os (tip_for first)
@@ -681,7 +587,7 @@ opened_keeps digest workspace sound message header ready =
     let os = workspace.objects in
     let first = tip_commit workspace.branches header.ref in
     let is = tip_commit_is digest workspace sound header.ref in
-    then_good (All (IsBranch os)) (LeavesSound digest)
+    then_good (All (IsStreamBranch os)) (LeavesSound digest)
     (branch_set workspace.branches header.ref (tip_for first)) _
     (branch_set_keeps os workspace.branches header.ref (tip_for first) sound.branches
     (record { name = ready.ref; tip = first_tip os first is }))
@@ -702,7 +608,8 @@ opened_keeps digest workspace sound message header ready =
     }))
 
 header_can : (mark : Option ℕ) (said : CommandHeader) → IsWellFormedHeader said → (committer : Option (List ℕ))
-    → IfSome committer IsWrittenIdent → IfOk (header_said mark said committer) IsReady
+    → IfSome committer IsWrittenIdent
+    → IfOk (and_then (now_open committer) (λ committer. Ok (header_of mark said committer))) IsReady
 header_can mark said well None can = tt
 header_can mark said well (Some committer) can = record {
   ref = well.ref;
@@ -711,38 +618,13 @@ header_can mark said well (Some committer) can = record {
 
 commit_keeps : (digest : List ℕ → List ℕ) (workspace : Workspace) → IsSound digest workspace
     → (mark : Option ℕ) (message : List ℕ) (said : Option CommandHeader) → IfSome said IsWellFormedHeader
-    → IfOk (commit_opened mark message said workspace) (LeavesSound digest)
+    → IfOk (and_then (now_open said) (λ said. commit_opened mark message said workspace))
+    (LeavesSound digest)
 commit_keeps digest workspace sound mark message None well = tt
 commit_keeps digest workspace sound mark message (Some said) well =
-    then_good IsReady (LeavesSound digest) (header_said mark said said.committer) _
+    then_good IsReady (LeavesSound digest) (header_said mark said) _
     (header_can mark said well said.committer well.committer)
     (λ header ready. opened_keeps digest workspace sound message header ready)
-
-placed_keeps : (digest : List ℕ → List ℕ) (workspace : Workspace) → IsSound digest workspace
-    → (act : Act) → IsWellFormed act → IfOk (placed_by act workspace) (LeavesSound digest)
-unfolding placed_by
-placed_keeps digest workspace sound (ResetTo from) well =
-    placed_at digest workspace sound from workspace.said sound.said
-placed_keeps digest workspace sound (SetMark mark commit) well =
-    alias_keeps digest workspace sound mark commit
-placed_keeps digest workspace sound (OpenCommit mark message) well =
-    commit_keeps digest workspace sound mark message workspace.said sound.said
-placed_keeps digest workspace sound act well = set_keeps digest workspace sound act well
-
-shown_keeps : (digest : List ℕ → List ℕ) (workspace : Workspace) → IsSound digest workspace
-    → (act : Act) → IsWellFormed act → IfOk (shown_by act workspace) (LeavesSound digest)
-unfolding shown_by
-shown_keeps digest workspace sound (ShowMark mark) well =
-    then_any (LeavesSound digest) (marked_name workspace.marks mark) _ (λ id. sound)
-shown_keeps digest workspace sound (ShowObject object) well =
-    then_any (LeavesSound digest) (referred_name workspace.marks object) _ (λ id.
-    then_any (LeavesSound digest) (shown_object id (object_named id workspace.objects))
-    (λ line. prints workspace line) (λ line. sound))
-shown_keeps digest workspace sound (ShowEntry root path) well =
-    then_any (LeavesSound digest) (stored_entry_shown workspace.objects workspace.marks root path)
-    (λ line. prints workspace line) (λ line. sound)
-shown_keeps digest workspace sound (Progress line) well = sound
-shown_keeps digest workspace sound act well = placed_keeps digest workspace sound act well
 
 -- what grew
 grown_by : (digest : List ℕ → List ℕ) (os new : List Object) → GrowGood digest os new → Grows os new
@@ -752,7 +634,8 @@ contents_sound : (digest : List ℕ → List ℕ) → AnswersNames digest → (w
     → IsSound digest workspace → (bytes : List ℕ) (inline : Option Inline)
     → IfSome inline (λ file. IsPath file.path) → (commit : Option Opened)
     → IfSome commit (IsOpen workspace.objects)
-    → IfOk (contents_stored digest bytes inline commit workspace) (LeavesSound digest)
+    → IfOk (and_then (now_open inline) (λ file. and_then (now_open commit) (λ commit.
+    file_stored digest bytes file commit workspace))) (LeavesSound digest)
 contents_sound digest names workspace sound bytes None of_tree commit is = tt
 contents_sound digest names workspace sound bytes (Some file) of_tree None is = tt
 contents_sound digest names workspace sound bytes (Some file) of_tree (Some commit) is =
@@ -781,7 +664,8 @@ contents_sound digest names workspace sound bytes (Some file) of_tree (Some comm
 entry_sound : (digest : List ℕ → List ℕ) → AnswersNames digest → (workspace : Workspace)
     → IsSound digest workspace → (path : Path) (commit : Option Opened)
     → IfSome commit (IsOpen workspace.objects)
-    → IfOk (branch_entry_shown digest path commit workspace) (LeavesSound digest)
+    → IfOk (and_then (now_open commit) (λ commit. branch_entry_shown digest path commit workspace))
+    (LeavesSound digest)
 entry_sound digest names workspace sound path None is = tt
 entry_sound digest names workspace sound path (Some commit) is =
     by_shown (entry_shown digest workspace.objects commit.files path)
@@ -815,22 +699,192 @@ entry_sound digest names workspace sound path (Some commit) is =
           inline = sound.inline;
         }
 
+-- the open commit changes
+commit_changed : (digest : List ℕ → List ℕ) (workspace : Workspace) → IsSound digest workspace
+    → (change : Opened → Result Opened Fault)
+    → ((commit : Opened) → IsOpen workspace.objects commit
+    → IfOk (change commit) (IsOpen workspace.objects))
+    → IfOk (in_commit change workspace) (LeavesSound digest)
+commit_changed digest workspace sound change keeps = by_commit workspace.commit sound.commit
+  where
+    by_commit : (commit : Option Opened) → IfSome commit (IsOpen workspace.objects)
+        → IfOk (and_then (now_open commit) (λ commit. and_then (change commit) (λ next.
+        quiet (record workspace { commit = Some next })))) (LeavesSound digest)
+    by_commit None is = tt
+    by_commit (Some commit) is =
+        then_good (IsOpen workspace.objects) (LeavesSound digest) (change commit) _ (keeps commit is)
+        (λ next good. record {
+          objects = sound.objects;
+          trees = sound.trees;
+          refs = sound.refs;
+          next_head = sound.next_head;
+          marks = sound.marks;
+          branches = sound.branches;
+          tags = sound.tags;
+          said = sound.said;
+          commit = good;
+          inline = sound.inline;
+        })
+
+-- ---- the groups of commands
+
+object_keeps : (digest : List ℕ → List ℕ) → AnswersNames digest → (workspace : Workspace)
+    → IsSound digest workspace → (command : ObjectCommand) → IsWellFormedObject command
+    → IfOk (object_stored digest command workspace) (LeavesSound digest)
+unfolding object_stored
+object_keeps digest names workspace sound (Blob mark bytes) well =
+    blob_keeps digest names workspace sound mark bytes
+object_keeps digest names workspace sound (BeginTag ref) well =
+    with_said digest workspace (Some (said_of ref)) sound (newly_said ref well.name)
+object_keeps digest names workspace sound (TagTarget target) well =
+    header_keeps digest workspace sound (λ said. record said { target = target }) (λ said is. record {
+      ref = is.ref;
+      author = is.author;
+      committer = is.committer;
+      encoding = is.encoding;
+      tagger = is.tagger;
+    })
+object_keeps digest names workspace sound (Tagger ident) well =
+    header_keeps digest workspace sound (λ said. record said { tagger = Some ident }) (λ said is. record {
+      ref = is.ref;
+      author = is.author;
+      committer = is.committer;
+      encoding = is.encoding;
+      tagger = well;
+    })
+object_keeps digest names workspace sound (acts.Tag mark message) well =
+    tag_keeps digest names workspace sound mark message workspace.said sound.said
+
+commit_command_keeps : (digest : List ℕ → List ℕ) (workspace : Workspace)
+    → IsSound digest workspace → (command : CommitCommand) → IsWellFormedCommit command
+    → IfOk (commit_said command workspace) (LeavesSound digest)
+unfolding commit_said
+commit_command_keeps digest workspace sound (Begin ref) well =
+    with_said digest workspace (Some (said_of (ref_in workspace ref))) sound
+    (newly_said (ref_in workspace ref) (meant_named workspace digest sound ref well))
+commit_command_keeps digest workspace sound (Author ident) well =
+    header_keeps digest workspace sound (λ said. record said { author = Some ident }) (λ said is. record {
+      ref = is.ref;
+      author = well;
+      committer = is.committer;
+      encoding = is.encoding;
+      tagger = is.tagger;
+    })
+commit_command_keeps digest workspace sound (Committer ident) well =
+    header_keeps digest workspace sound (λ said. record said { committer = Some ident }) (λ said is. record {
+      ref = is.ref;
+      author = is.author;
+      committer = well;
+      encoding = is.encoding;
+      tagger = is.tagger;
+    })
+commit_command_keeps digest workspace sound (Encoding encoding) well =
+    header_keeps digest workspace sound (λ said. record said { encoding = Some encoding }) (λ said is. record {
+      ref = is.ref;
+      author = is.author;
+      committer = is.committer;
+      encoding = well;
+      tagger = is.tagger;
+    })
+commit_command_keeps digest workspace sound (Message mark message) well =
+    commit_keeps digest workspace sound mark message workspace.said sound.said
+commit_command_keeps digest workspace sound (From from) well =
+    commit_changed digest workspace sound (commit_started workspace from)
+    (commit_started_open digest workspace sound.objects from)
+commit_command_keeps digest workspace sound (Merge other) well =
+    commit_changed digest workspace sound (commit_merged workspace other)
+    (commit_merged_open digest workspace sound.objects other)
+
+change_keeps : (digest : List ℕ → List ℕ) → AnswersNames digest → (workspace : Workspace)
+    → IsSound digest workspace → (change : FileChange) → IsWellFormedChange change
+    → IfOk (files_changed digest change workspace) (LeavesSound digest)
+unfolding files_changed
+change_keeps digest names workspace sound (Modify file_mode object path) well =
+    commit_changed digest workspace sound _
+    (modified_open digest workspace.objects sound.objects workspace.marks file_mode object well.0 path
+    well.1.components)
+change_keeps digest names workspace sound (ModifyInline file_mode path) well = record {
+  objects = sound.objects;
+  trees = sound.trees;
+  refs = sound.refs;
+  next_head = sound.next_head;
+  marks = sound.marks;
+  branches = sound.branches;
+  tags = sound.tags;
+  said = sound.said;
+  commit = sound.commit;
+  inline = well.1.components;
+}
+change_keeps digest names workspace sound (InlineData bytes) well =
+    contents_sound digest names workspace sound bytes workspace.inline sound.inline workspace.commit
+    sound.commit
+change_keeps digest names workspace sound (Delete path) well =
+    commit_changed digest workspace sound (λ commit. Ok (deleted path commit))
+    (λ commit is. deleted_open workspace.objects commit is path)
+change_keeps digest names workspace sound (Copy source path) well =
+    commit_changed digest workspace sound (λ commit. changed_or (copied_to source path commit))
+    (λ commit is. copied_open workspace.objects commit is source path well.1.components)
+change_keeps digest names workspace sound (Rename source path) well =
+    commit_changed digest workspace sound (λ commit. changed_or (renamed_to source path commit))
+    (λ commit is. renamed_open workspace.objects commit is source path well.1.components)
+change_keeps digest names workspace sound DeleteAll well =
+    commit_changed digest workspace sound (λ commit. Ok (all_deleted commit))
+    (cleared_open workspace.objects)
+
+ref_keeps : (digest : List ℕ → List ℕ) (workspace : Workspace) → IsSound digest workspace
+    → (command : RefCommand) → IsWellFormedRef command
+    → IfOk (ref_set command workspace) (LeavesSound digest)
+unfolding ref_set
+ref_keeps digest workspace sound (Reset ref) well = reset_keeps digest workspace sound ref well
+ref_keeps digest workspace sound (ResetFrom from) well =
+    placed_at digest workspace sound from workspace.said sound.said
+ref_keeps digest workspace sound (Alias mark commit) well =
+    alias_keeps digest workspace sound mark commit
+
+reply_keeps : (digest : List ℕ → List ℕ) → AnswersNames digest → (workspace : Workspace)
+    → IsSound digest workspace → (command : ReplyCommand)
+    → IfOk (replied digest command workspace) (LeavesSound digest)
+unfolding replied
+reply_keeps digest names workspace sound (GetMark mark) =
+    then_any (LeavesSound digest) (marked_name workspace.marks mark) _ (λ id. sound)
+reply_keeps digest names workspace sound (CatBlob object) =
+    then_any (LeavesSound digest) (referred_name workspace.marks object) _ (λ id.
+    then_any (LeavesSound digest) (shown_object id (object_named id workspace.objects))
+    (λ line. prints workspace line) (λ line. sound))
+reply_keeps digest names workspace sound (Ls root path) =
+    then_any (LeavesSound digest) (stored_entry_shown workspace.objects workspace.marks root path)
+    (λ line. prints workspace line) (λ line. sound)
+reply_keeps digest names workspace sound (LsInCommit path) =
+    entry_sound digest names workspace sound path workspace.commit sound.commit
+reply_keeps digest names workspace sound (Progress line) = sound
+
+control_keeps : (digest : List ℕ → List ℕ) (workspace : Workspace) → IsSound digest workspace
+    → (command : ControlCommand) → IsWellFormedControl command
+    → IfOk (controlled command workspace) (LeavesSound digest)
+unfolding controlled
+control_keeps digest workspace sound control.Checkpoint well = checkpoint_keeps digest workspace sound
+control_keeps digest workspace sound control.Done well = checkpoint_keeps digest workspace sound
+control_keeps digest workspace sound (control.Feature wanted) well =
+    feature_keeps digest workspace sound wanted
+control_keeps digest workspace sound (control.Head ref) well =
+    head_keeps digest workspace sound ref well
+
 pub act_keeps : (digest : List ℕ → List ℕ) → AnswersNames digest → (workspace : Workspace)
     → IsSound digest workspace → (act : Act) → IsWellFormed act
     → IfOk (after_act digest act workspace) (LeavesSound digest)
-unfolding after_act stored_or_shown shown_by
-act_keeps digest names workspace sound (StoreBlob mark bytes) well =
-    blob_keeps digest names workspace sound mark bytes
-act_keeps digest names workspace sound (StoreTag mark message) well =
-    tag_keeps digest names workspace sound mark message workspace.said sound.said
-act_keeps digest names workspace sound (PutContents bytes) well =
-    contents_sound digest names workspace sound bytes workspace.inline sound.inline workspace.commit
-    sound.commit
-act_keeps digest names workspace sound (ShowBranchEntry path) well =
-    entry_sound digest names workspace sound path workspace.commit sound.commit
-act_keeps digest names workspace sound Checkpoint well = checkpoint_keeps digest workspace sound
-act_keeps digest names workspace sound Finish well = checkpoint_keeps digest workspace sound
-act_keeps digest names workspace sound act well = shown_keeps digest workspace sound act well
+unfolding after_act
+act_keeps digest names workspace sound Wait well = sound
+act_keeps digest names workspace sound (acts.Object command) well =
+    object_keeps digest names workspace sound command well
+act_keeps digest names workspace sound (Commit command) well =
+    commit_command_keeps digest workspace sound command well
+act_keeps digest names workspace sound (Change change) well =
+    change_keeps digest names workspace sound change well
+act_keeps digest names workspace sound (Ref command) well = ref_keeps digest workspace sound command well
+act_keeps digest names workspace sound (Reply command) well =
+    reply_keeps digest names workspace sound command
+act_keeps digest names workspace sound (Control command) well =
+    control_keeps digest workspace sound command well
 
 -- ---- the end of a commit
 

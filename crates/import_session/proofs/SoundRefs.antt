@@ -24,7 +24,7 @@ use Rattle.stream_state.specs.Tags.{PendingTags}
 use Rattle.import_session.specs.Workspace.{Workspace}
 use Rattle.stream_state.specs.Checkpoints.{by_head, by_tags, fit}
 use Rattle.import_session.specs.Checkpoints.{by_branches, moves, saved_by, saved_refs}
-use Rattle.import_session.specs.Sound.{IsBranch, IsPending, IsSound, IsTip}
+use Rattle.import_session.specs.Sound.{IsStreamBranch, IsPending, IsSound, IsTip}
 
 -- ---- more objects
 
@@ -130,14 +130,14 @@ saved_good workspace store ref (At id) good name stands =
     (record { name = name; target = inl stands })
 
 branches_good : (workspace : Workspace) (branches : Branches) (store : RefStore)
-    → AreGood workspace.objects store → All (IsBranch workspace.objects) branches
+    → AreGood workspace.objects store → All (IsStreamBranch workspace.objects) branches
     → AreGood workspace.objects (by_branches workspace store branches)
 branches_good workspace [] store good each = good
 branches_good workspace (branch ∷ branches) store good each =
-    let first = All-head (IsBranch workspace.objects) branch branches each in
+    let first = All-head (IsStreamBranch workspace.objects) branch branches each in
     branches_good workspace branches (saved_by workspace store branch.0 branch.1)
     (saved_good workspace store branch.0 branch.1 good first.name first.tip)
-    (All-tail (IsBranch workspace.objects) branch branches each)
+    (All-tail (IsStreamBranch workspace.objects) branch branches each)
 
 tags_good : (os : List Object) (tags : PendingTags) (store : RefStore) → AreGood os store
     → All (IsPending os) tags → AreGood os (by_tags store tags)

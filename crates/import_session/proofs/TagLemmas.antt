@@ -16,7 +16,7 @@ use Rattle.stream_state.specs.Marks.{Marks, with_mark}
 use Rattle.stream_state.specs.Tags.{PendingTags, tag_content}
 use Rattle.import_session.specs.Workspace.{Workspace, quiet}
 use Rattle.stream_state.specs.Storing.{with_content}
-use Rattle.import_session.specs.Tags.{tag_made, tag_of, tagged}
+use Rattle.import_session.specs.Tags.{tag_made, tag_stored, tagged}
 use Rattle.import_session.specs.Session.{CarriesOut, StreamState, workspace_in}
 use Rattle.import_session.proofs.ActLemmas.{first_refused, first_then}
 
@@ -33,7 +33,7 @@ stored_in digest mark message said w target kind os = record w {
 pub tag_refused : (digest : List ℕ → List ℕ) (mark : Option ℕ) (message : List ℕ) (said : CommandHeader)
     (w new : Workspace) (out : List ℕ) (e : Fault)
     → (e ≢ fault.Memory → tagged mark said w ≡ Err e)
-    → CarriesOut (tag_of digest mark message said w) new out out (Err e)
+    → CarriesOut (tag_stored digest mark message said w) new out out (Err e)
 tag_refused digest mark message said w new out e refused =
     first_refused (tagged mark said w) (λ target.
     tag_made digest mark said.ref_name (tag_content said message target.0 target.1) w)
@@ -44,7 +44,7 @@ pub tag_not_stored : (digest : List ℕ → List ℕ) (mark : Option ℕ) (messa
     → tagged mark said w ≡ Ok (target, kind)
     → (e ≢ fault.Memory
     → with_content digest (tag_content said message target kind) w.objects ≡ Err e)
-    → CarriesOut (tag_of digest mark message said w) new out out (Err e)
+    → CarriesOut (tag_stored digest mark message said w) new out out (Err e)
 tag_not_stored digest mark message said w new out e target kind is refused =
     first_then (tagged mark said w) (target, kind) (λ target.
     tag_made digest mark said.ref_name (tag_content said message target.0 target.1) w)
@@ -58,7 +58,7 @@ pub tag_kept : (digest : List ℕ → List ℕ) (mark : Option ℕ) (message : L
     → tagged mark said w ≡ Ok (target, kind)
     → with_content digest (tag_content said message target kind) w.objects ≡ Ok os
     → stored_in digest mark message said w target kind os ≡ new
-    → CarriesOut (tag_of digest mark message said w) new out out (Ok tt)
+    → CarriesOut (tag_stored digest mark message said w) new out out (Ok tt)
 tag_kept digest mark message said w new out target kind os is stored left =
     first_then (tagged mark said w) (target, kind) (λ target.
     tag_made digest mark said.ref_name (tag_content said message target.0 target.1) w)

@@ -1,18 +1,16 @@
 -- Commits from their first line to their end: git-fast-import(1), "commit".
-use Rattle.std.specs.Prelude.{◌≡◌, ℕ, Bool, true, false, List, Option, None, Some, IfSome, Result, Ok, Err}
-use Rattle.git_model.specs.declared.file_mode.FileMode.{FileMode}
+use Rattle.std.specs.Prelude.{◌≡◌, ℕ, Bool, true, false, List, Option, None, Some, IfSome, Result, Ok}
 use Rattle.git_model.specs.declared.kind.Kind.TheVariants as kind
 use Rattle.git_model.specs.References.{kind_named}
 use Rattle.git_model.specs.Repository.{Object}
-use Rattle.file_maps.specs.FileMap.{Path}
-use Rattle.stream_grammar.specs.declared.fault.Fault.TheVariants as text_fault
+use Rattle.stream_grammar.specs.Acts.{CommitCommand, Begin, Author, Committer, Encoding, Message, From, Merge}
+use Rattle.stream_grammar.specs.Names.{CommitIsh}
 use Rattle.open_commits.specs.OpenCommit.{Header, OpenCommit, begun}
 use Rattle.open_commits.specs.Changes.{all_deleted}
-use Rattle.open_commits.specs.Parents.{started_from}
+use Rattle.open_commits.specs.Parents.{started_from, merged}
 use Rattle.open_commits.specs.Ends.{Closed, closed}
 use Rattle.stream_state.specs.declared.branches.Tip.TheVariants.{At}
 use Rattle.stream_state.specs.declared.fault.Fault.{Fault}
-use Rattle.stream_state.specs.declared.fault.Fault.TheVariants as fault
 use Rattle.stream_state.specs.declared.command_header.CommandHeader.{CommandHeader}
 use Rattle.stream_state.specs.Faults.{and_then}
 use Rattle.import_session.specs.Faults.{changed_or}
@@ -20,28 +18,8 @@ use Rattle.stream_state.specs.CommandHeader.{said_of}
 use Rattle.import_session.specs.Workspace.{Workspace, Effect, quiet}
 use Rattle.stream_state.specs.Marks.{room_for, with_mark}
 use Rattle.stream_state.specs.Branches.{branch_set, with_branch, tip_commit, tip_for}
-use Rattle.import_session.specs.CommitIshes.{ref_in}
-use Rattle.import_session.specs.Tags.{said_more}
-
--- ---- its lines before the message
-
--- 'commit': names its branch.
-abbrev pub commit_begun : List ℕ → Workspace → Result Effect Fault
-commit_begun ref workspace =
-    quiet (record workspace { said = Some (said_of (ref_in workspace ref)) })
-
--- 'author', 'committer' and 'encoding'.
-abbrev pub author_said : List ℕ → Workspace → Result Effect Fault
-author_said ident workspace =
-    said_more (λ said. record said { author = Some ident }) workspace.said workspace
-
-abbrev pub committer_said : List ℕ → Workspace → Result Effect Fault
-committer_said ident workspace =
-    said_more (λ said. record said { committer = Some ident }) workspace.said workspace
-
-abbrev pub encoding_said : List ℕ → Workspace → Result Effect Fault
-encoding_said encoding workspace =
-    said_more (λ said. record said { encoding = Some encoding }) workspace.said workspace
+use Rattle.import_session.specs.Lines.{in_commit, in_header, now_open}
+use Rattle.import_session.specs.CommitIshes.{ref_in, commit_in, start_in}
 
 -- ---- its message
 
@@ -55,9 +33,9 @@ header_of mark said committer = record {
   encoding = said.encoding;
 }
 
-abbrev pub header_said : Option ℕ → CommandHeader → Option (List ℕ) → Result Header Fault
-header_said mark said None = Err (fault.Text text_fault.UnknownCommand)
-header_said mark said (Some committer) = Ok (header_of mark said committer)
+abbrev pub header_said : Option ℕ → CommandHeader → Result Header Fault
+header_said mark said =
+    and_then (now_open said.committer) (λ committer. Ok (header_of mark said committer))
 
 -- That commit is the first parent.
 abbrev pub begun_from : List Object → Option (List ℕ) → OpenCommit → Result OpenCommit Fault
@@ -85,16 +63,41 @@ abbrev pub opened_with : Workspace → List ℕ → Header → Result Effect Fau
 opened_with workspace message header =
     opened_at workspace (tip_commit workspace.branches header.ref) (begun header message)
 
--- The message comes only after the commit has begun.
-abbrev pub commit_opened : Option ℕ → List ℕ → Option CommandHeader → Workspace → Result Effect Fault
-commit_opened mark message None workspace = Err (fault.Text text_fault.UnknownCommand)
-commit_opened mark message (Some said) workspace =
-    and_then (header_said mark said said.committer) (opened_with workspace message)
+abbrev pub commit_opened : Option ℕ → List ℕ → CommandHeader → Workspace → Result Effect Fault
+commit_opened mark message said workspace =
+    and_then (header_said mark said) (opened_with workspace message)
 
--- 'M' with 'inline': the next data is the contents of this file.
-abbrev pub contents_awaited : FileMode → Path → Workspace → Result Effect Fault
-contents_awaited mode path workspace =
-    quiet (record workspace { inline = Some (record { mode = mode; path = path }) })
+-- ---- its lines
+
+-- 'from': the first parent, whose files are those of the commit then.
+abbrev pub commit_started : Workspace → CommitIsh → OpenCommit → Result OpenCommit Fault
+commit_started workspace from commit =
+    and_then (start_in workspace commit.header.ref from) (λ id.
+    changed_or (started_from workspace.objects id commit))
+
+-- 'merge': one more parent.
+abbrev pub commit_merged : Workspace → CommitIsh → OpenCommit → Result OpenCommit Fault
+commit_merged workspace other commit =
+    and_then (commit_in workspace other) (λ id. changed_or (merged id commit))
+
+-- What a line of a commit leaves, up to its changes.
+unfoldable pub commit_said : CommitCommand → Workspace → Result Effect Fault
+-- 'commit': names its branch.
+commit_said (Begin ref) workspace =
+    quiet (record workspace { said = Some (said_of (ref_in workspace ref)) })
+-- 'author', 'committer' and 'encoding'.
+commit_said (Author ident) workspace =
+    in_header (λ said. record said { author = Some ident }) workspace
+commit_said (Committer ident) workspace =
+    in_header (λ said. record said { committer = Some ident }) workspace
+commit_said (Encoding encoding) workspace =
+    in_header (λ said. record said { encoding = Some encoding }) workspace
+-- 'data': the commit opens with this message.
+commit_said (Message mark message) workspace =
+    and_then (now_open workspace.said) (λ said. commit_opened mark message said workspace)
+-- 'from' and 'merge'.
+commit_said (From from) workspace = in_commit (commit_started workspace from) workspace
+commit_said (Merge other) workspace = in_commit (commit_merged workspace other) workspace
 
 -- ---- its end
 

@@ -18,6 +18,6 @@ abbrev pub FilesStand : StreamState → Cells → View → Type 0
 FilesStand state pool table = HoldsFiles (objects pool table.entries) state
 
 -- A call changes neither of them.
-pub record KeepsFiles (old new : StreamState) : Type 0 where
+pub record KeepsBranchFiles (old new : StreamState) : Type 0 where
   pub commit : new.commit ≡ old.commit
   pub left : new.left ≡ old.left

@@ -70,7 +70,7 @@ empty_state = record {
 }
 
 -- What a session keeps between items.
-pub record Kept : Type 0 where
+pub record SessionView : Type 0 where
   pub parsing : Parsing
   pub state : StreamState
   pub is_done : Bool
@@ -94,7 +94,7 @@ workspace_in state pool table refs = record {
 }
 
 -- The running stream that a session is part of.
-abbrev pub running_in : Kept → Cells → View → RefStore → Running
+abbrev pub running_in : SessionView → Cells → View → RefStore → Running
 running_in session pool table refs = record {
   workspace = workspace_in session.state pool table refs;
   parsing = session.parsing;
@@ -111,9 +111,9 @@ CarriesOut (Err refusal) new out out' (Ok u) = ⊥
 CarriesOut (Err refusal) new out out' (Err e) = e ≢ fault.Memory → e ≡ refusal
 
 -- What the grammar gave for an item, or its fault. `Memory` may take the place of either.
-abbrev pub Reads : Result LentDone Fault → Result Done TextFault → Type 0
-Reads (Ok done) given = given ≡ Ok (done_shown done)
-Reads (Err e) given = e ≢ fault.Memory → text_first given ≡ Err e
+abbrev pub ReadsItem : Result LentDone Fault → Result Done TextFault → Type 0
+ReadsItem (Ok done) given = given ≡ Ok (done_shown done)
+ReadsItem (Err e) given = e ≢ fault.Memory → text_first given ≡ Err e
 
 -- A call left what is wanted, or answered the refusal that is wanted. `Memory` may take the place
 -- of either.
@@ -129,7 +129,7 @@ Takes (Err refusal) new out out' (Ok u) = ⊥
 Takes (Err refusal) new out out' (Err e) = e ≢ fault.Memory → e ≡ refusal
 
 -- A session before its first item.
-abbrev pub new_session : Kept
+abbrev pub new_session : SessionView
 new_session = record { parsing = Ok top; state = empty_state; is_done = false }
 
 -- The repository of all objects in a table over a pool, with these refs.

@@ -32,7 +32,7 @@ IsTip objects Deleted = Unit {0}
 IsTip objects (At id) = kind_named id objects ≡ Some kind.Commit
 
 -- The name of a branch is one that a checkpoint may set as a ref.
-pub record IsBranch (objects : List Object) (branch : List ℕ × Tip) : Type 0 where
+pub record IsStreamBranch (objects : List Object) (branch : List ℕ × Tip) : Type 0 where
   pub name : IsShortRefName branch.0
   pub tip : IsTip objects branch.1
 
@@ -67,7 +67,7 @@ pub record IsSound (digest : List ℕ → List ℕ) (workspace : Workspace) : Ty
   pub refs : AreRefs (take workspace.committed workspace.objects) workspace.refs
   pub next_head : IfSome workspace.head IsShortRefName
   pub marks : All (λ mark. IsObjectName mark.1) workspace.marks
-  pub branches : All (IsBranch workspace.objects) workspace.branches
+  pub branches : All (IsStreamBranch workspace.objects) workspace.branches
   pub tags : All (IsPending workspace.objects) workspace.tags
   pub said : IfSome workspace.said IsWellFormedHeader
   pub commit : IfSome workspace.commit (IsOpen workspace.objects)

@@ -3,7 +3,8 @@ use Rattle.std.specs.Prelude.{ℕ, Bool, true, false, if◌then◌else◌, List,
 use Rattle.git_model.specs.Repository.{Repository}
 use Rattle.stream_lex.specs.Items.{Item, Tail, Rest, Failed}
 use Rattle.stream_lex.specs.Faults.{code_of as item_code}
-use Rattle.stream_grammar.specs.Acts.{Act, Finish}
+use Rattle.stream_grammar.specs.declared.act.ControlCommand.TheVariants as control
+use Rattle.stream_grammar.specs.Acts.{Act, Control}
 use Rattle.stream_grammar.specs.Commands.{Parsing, top, done_by, after, end_of}
 use Rattle.stream_state.specs.declared.fault.Fault.{Fault}
 use Rattle.stream_state.specs.declared.fault.Fault.TheVariants as fault
@@ -29,7 +30,7 @@ pub record Step : Type 0 where
   pub reply : List ℕ
 
 abbrev pub is_finish : Act → Bool
-is_finish Finish = true
+is_finish (Control control.Done) = true
 is_finish _ = false
 
 -- What the act of an item leaves of a running stream.
@@ -73,25 +74,25 @@ pub data StreamStatus : Type 0 where
 -- What a stream printed so far, and its status.
 pub record Outcome : Type 0 where
   pub replies : List ℕ
-  pub standing : StreamStatus
+  pub status : StreamStatus
 
 abbrev pub after_reply : List ℕ → Outcome → Outcome
-after_reply reply later = record { replies = reply ++ later.replies; standing = later.standing }
+after_reply reply later = record { replies = reply ++ later.replies; status = later.status }
 
 abbrev pub refused : ℕ → Workspace → Outcome
 refused code workspace =
-    record { replies = []; standing = Refused code (last_checkpoint workspace) }
+    record { replies = []; status = Refused code (last_checkpoint workspace) }
 
 -- A fault of the bytes refuses the stream.
 abbrev pub tail_outcome : Running → Tail → Outcome
 tail_outcome now (Rest skips bytes) =
-    record { replies = []; standing = Runs now (Rest skips bytes) }
+    record { replies = []; status = Runs now (Rest skips bytes) }
 tail_outcome now (Failed fault) = refused (item_code fault) now.workspace
 
 -- After `done` bytes are ignored, and none are kept.
 unfoldable pub at_tail : Running → Tail → Outcome
 at_tail now tail =
-    if now.is_done then record { replies = []; standing = Runs now (Rest false []) }
+    if now.is_done then record { replies = []; status = Runs now (Rest false []) }
     else tail_outcome now tail
 
 abbrev pub going_on : Running → Result Step Fault → (Running → Outcome) → Outcome

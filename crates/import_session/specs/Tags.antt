@@ -1,43 +1,16 @@
--- Tags: git-fast-import(1), "tag".
-use Rattle.std.specs.Prelude.{ℕ, List, [], ◌∷◌, ◌++◌, Option, None, Some, Result, Ok, Err}
+-- What storing a tag does: git-fast-import(1), "tag".
+use Rattle.std.specs.Prelude.{ℕ, List, [], ◌∷◌, ◌++◌, Option, None, Result, Ok}
 use Rattle.git_model.specs.declared.kind.Kind.{Kind}
 use Rattle.git_model.specs.Content.{Content, name_by}
 use Rattle.git_model.specs.References.{kind_named}
-use Rattle.stream_grammar.specs.declared.fault.Fault.TheVariants as text_fault
-use Rattle.stream_grammar.specs.Names.{CommitIsh}
 use Rattle.stream_state.specs.declared.fault.Fault.{Fault}
-use Rattle.stream_state.specs.declared.fault.Fault.TheVariants as fault
 use Rattle.stream_state.specs.declared.command_header.CommandHeader.{CommandHeader}
 use Rattle.stream_state.specs.Faults.{and_then}
-use Rattle.stream_state.specs.CommandHeader.{said_of}
 use Rattle.import_session.specs.Workspace.{Workspace, Effect, quiet}
 use Rattle.stream_state.specs.Marks.{room_for, with_mark}
 use Rattle.import_session.specs.CommitIshes.{named_in}
 use Rattle.stream_state.specs.Storing.{with_content}
 use Rattle.stream_state.specs.Tags.{room_for_tag, tag_is_open, tagged_kind, tag_content}
-
--- ---- the lines of a tag
-
--- 'tag': names its ref.
-abbrev pub tag_begun : List ℕ → Workspace → Result Effect Fault
-tag_begun ref workspace = quiet (record workspace { said = Some (said_of ref) })
-
--- A line adds to what the lines before it said. It comes only while a command is open.
-abbrev pub said_more : (CommandHeader → CommandHeader) → Option CommandHeader → Workspace → Result Effect Fault
-said_more more None workspace = Err (fault.Text text_fault.UnknownCommand)
-said_more more (Some said) workspace = quiet (record workspace { said = Some (more said) })
-
--- 'from' in a tag: the object to tag.
-abbrev pub target_said : CommitIsh → Workspace → Result Effect Fault
-target_said target workspace =
-    said_more (λ said. record said { target = target }) workspace.said workspace
-
--- 'tagger'.
-abbrev pub tagger_said : List ℕ → Workspace → Result Effect Fault
-tagger_said ident workspace =
-    said_more (λ said. record said { tagger = Some ident }) workspace.said workspace
-
--- ---- its data
 
 -- The tag's object is stored, its mark is set to it, and it waits for the next checkpoint.
 abbrev pub tag_made : (List ℕ → List ℕ) → Option ℕ → List ℕ → Content → Workspace
@@ -62,13 +35,8 @@ tagged mark said workspace =
     and_then (room_for_tag workspace.tags) (λ _. Ok (target, target_kind))))))
 
 -- Then the tag is stored.
-abbrev pub tag_of : (List ℕ → List ℕ) → Option ℕ → List ℕ → CommandHeader → Workspace → Result Effect Fault
-tag_of digest mark message said workspace =
+abbrev pub tag_stored : (List ℕ → List ℕ) → Option ℕ → List ℕ → CommandHeader → Workspace
+    → Result Effect Fault
+tag_stored digest mark message said workspace =
     and_then (tagged mark said workspace) (λ target.
     tag_made digest mark said.ref_name (tag_content said message target.0 target.1) workspace)
-
--- The data comes only while a tag is open.
-abbrev pub tag_stored : (List ℕ → List ℕ) → Option ℕ → List ℕ → Option CommandHeader → Workspace
-    → Result Effect Fault
-tag_stored digest mark message None workspace = Err (fault.Text text_fault.UnknownCommand)
-tag_stored digest mark message (Some said) workspace = tag_of digest mark message said workspace

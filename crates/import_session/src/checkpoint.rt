@@ -4,10 +4,10 @@ ghost use Rattle.std.specs.Prelude.{◌≡◌, ◌++◌, IfOk, IfErr, OnOk, OnEr
 ghost use Rattle.git_model.specs.GoodRepository.{AreObjects};
 ghost use Rattle.tenant_refs.specs.Changes.{with_changes};
 ghost use Rattle.tenant_tables.specs.Objects.{objects};
-ghost use Rattle.tenant_tables.specs.StandsIn.{StandsIn};
+ghost use Rattle.tenant_tables.specs.IsBackedBy.{IsBackedBy};
 ghost use Rattle.stream_state.specs.Checkpoints.{by_tags};
 ghost use Rattle.import_session.specs.Checkpoints.{by_branches, checkpoint, kept_by, kept_lines, moves, saved_by};
-ghost use Rattle.import_session.specs.Held.{KeepsFiles};
+ghost use Rattle.import_session.specs.Held.{KeepsBranchFiles};
 ghost use Rattle.import_session.specs.Session.{state_shown, workspace_in, CarriesOut};
 
 use crate::state::StreamState;
@@ -31,7 +31,7 @@ fn moves<N: Naming>(
     ref_name: &RefName,
     tip: &Name,
 ) -> Result<bool, Fault>
-    requires { StandsIn N.digest_of pool.now table.now.entries }
+    requires { IsBackedBy N.digest_of pool.now table.now.entries }
     ensures judged { AreObjects N.digest_of (objects pool.now table.now.entries)
         → IfOk result (λ yes. yes ≡ moves
         (workspace_in (state_shown state.now) pool.now table.now refs.now) ref_name.now tip.now) }
@@ -52,7 +52,7 @@ fn add_branch<N: Naming>(
     branch: (&RefName, &Tip),
     saving: &mut Saving,
 ) -> Result<(), Fault>
-    requires { StandsIn N.digest_of pool.now table.now.entries }
+    requires { IsBackedBy N.digest_of pool.now table.now.entries }
     ensures saved { AreObjects N.digest_of (objects pool.now table.now.entries) → OnOk result
         (let workspace = workspace_in (state_shown state.now) pool.now table.now refs.now in
         (with_changes refs.now saving.new.changes.items ≡ saved_by workspace
@@ -82,7 +82,7 @@ fn add_branches<N: Naming>(
     state: &StreamState,
     saving: &mut Saving,
 ) -> Result<(), Fault>
-    requires { StandsIn N.digest_of pool.now table.now.entries }
+    requires { IsBackedBy N.digest_of pool.now table.now.entries }
     ensures saved { AreObjects N.digest_of (objects pool.now table.now.entries) → OnOk result
         (let workspace = workspace_in (state_shown state.now) pool.now table.now refs.now in
         (with_changes refs.now saving.new.changes.items ≡ by_branches workspace
@@ -105,7 +105,7 @@ fn saving_of<N: Naming>(
     refs: &Refs,
     state: &StreamState,
 ) -> Result<Saving, Fault>
-    requires { StandsIn N.digest_of pool.now table.now.entries }
+    requires { IsBackedBy N.digest_of pool.now table.now.entries }
     ensures saved { AreObjects N.digest_of (objects pool.now table.now.entries)
         → IfOk result (λ saving.
         let workspace = workspace_in (state_shown state.now) pool.now table.now refs.now in
@@ -132,7 +132,7 @@ pub fn save<N: Naming>(
     state: &mut StreamState,
     out: &mut Vec<u8>,
 ) -> Result<(), Fault>
-    requires { StandsIn N.digest_of pool.now table.old.entries }
+    requires { IsBackedBy N.digest_of pool.now table.old.entries }
     ensures entries { table.new.entries ≡ table.old.entries }
     ensures saved { AreObjects N.digest_of (objects pool.now table.old.entries) → CarriesOut
         (checkpoint (workspace_in (state_shown state.old) pool.now table.old refs.old))
@@ -140,7 +140,7 @@ pub fn save<N: Naming>(
         out.old.items out.new.items result }
     ensures same { OnErr result ((table.new ≡ table.old) × (refs.new ≡ refs.old)) }
     ensures printed { OnErr result (out.new.items ≡ out.old.items) }
-    ensures files { KeepsFiles (state_shown state.old) (state_shown state.new) }
+    ensures files { KeepsBranchFiles (state_shown state.old) (state_shown state.new) }
 {
     let saving = saving_of(pool, table, refs, state)?;
     carry_out(saving, refs, out)?;

@@ -6,7 +6,7 @@
 ghost use Rattle.std.specs.Prelude.{◌≡◌};
 ghost use Rattle.git_model.specs.GoodRepository.{AreObjects};
 ghost use Rattle.tenant_tables.specs.Objects.{objects};
-ghost use Rattle.tenant_tables.specs.StandsIn.{StandsIn};
+ghost use Rattle.tenant_tables.specs.IsBackedBy.{IsBackedBy};
 ghost use Rattle.content_pool.specs.Pool.{Cells};
 ghost use Rattle.tenant_tables.specs.View.{View};
 ghost use Rattle.stream_grammar.specs.Names.{Expression};
@@ -34,7 +34,7 @@ fn words_named<N: Naming>(
     state: &StreamState,
     words: &[u8],
 ) -> Result<Name, Fault>
-    requires { StandsIn N.digest_of pool.now table.now.entries }
+    requires { IsBackedBy N.digest_of pool.now table.now.entries }
     ensures { AreObjects N.digest_of (objects pool.now table.now.entries) → Gives result
         (named_in (workspace_in (state_shown state.now) pool.now table.now refs.now)
         (Expression words.now)) }
@@ -61,7 +61,7 @@ pub fn named<N: Naming>(
     state: &StreamState,
     commit: &CommitIsh<'_>,
 ) -> Result<Name, Fault>
-    requires { StandsIn N.digest_of pool.now table.now.entries }
+    requires { IsBackedBy N.digest_of pool.now table.now.entries }
     ensures { AreObjects N.digest_of (objects pool.now table.now.entries) → Gives result
         (named_in (workspace_in (state_shown state.now) pool.now table.now refs.now)
         (commit_shown commit.now)) }
@@ -83,7 +83,7 @@ pub fn commit_named<N: Naming>(
     state: &StreamState,
     commit: &CommitIsh<'_>,
 ) -> Result<Name, Fault>
-    requires { StandsIn N.digest_of pool.now table.now.entries }
+    requires { IsBackedBy N.digest_of pool.now table.now.entries }
     ensures { AreObjects N.digest_of (objects pool.now table.now.entries) → Gives result
         (commit_in (workspace_in (state_shown state.now) pool.now table.now refs.now)
         (commit_shown commit.now)) }
@@ -116,7 +116,7 @@ pub fn start_of<N: Naming>(
     ref_name: &RefName,
     from: &CommitIsh<'_>,
 ) -> Result<Name, Fault>
-    requires { StandsIn N.digest_of pool.now table.now.entries }
+    requires { IsBackedBy N.digest_of pool.now table.now.entries }
     ensures { AreObjects N.digest_of (objects pool.now table.now.entries) → Gives result
         (start_in (workspace_in (state_shown state.now) pool.now table.now refs.now) ref_name.now
         (commit_shown from.now)) }

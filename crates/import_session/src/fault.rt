@@ -1,7 +1,7 @@
 //! How a refusal of the open commit becomes one of the stream.
 
 ghost use Rattle.std.specs.Prelude.{◌≡◌};
-ghost use Rattle.import_session.specs.Faults.{changing_fault};
+ghost use Rattle.import_session.specs.Faults.{changed_or, changing_fault};
 
 use stream_state::fault::Fault;
 
@@ -18,5 +18,15 @@ pub fn fault_of(refusal: open_commits::Fault) -> Fault
         open_commits::Fault::NameCollision => Fault::NameCollision,
         open_commits::Fault::Limit => Fault::Limit,
         open_commits::Fault::Memory => Fault::Memory,
+    }
+}
+
+// The answer of a change of the open commit, with its fault as one of the stream.
+pub fn passed_on(given: Result<(), open_commits::Fault>) -> Result<(), Fault>
+    ensures { result ≡ changed_or given }
+{
+    match given {
+        Ok(()) => Ok(()),
+        Err(refusal) => Err(fault_of(refusal)),
     }
 }

@@ -1,7 +1,7 @@
 //! What a stream prints: git-fast-import(1), "cat-blob" and "get-mark".
 
 ghost use Rattle.std.specs.Prelude.{◌≡◌, ◌++◌, length, take, codes, OnOk, OnErr};
-ghost use Rattle.import_session.specs.Changes.{entry_line};
+ghost use Rattle.import_session.specs.Replies.{entry_line};
 
 use file_maps::Entry;
 use git_objects::{Memory, append_listing};

@@ -4,8 +4,8 @@
 //! table's committed prefix are the stream's own.
 
 ghost use Rattle.std.specs.Prelude.{◌≡◌, ◌≢◌, Err, OnErr, OnOk, Result};
-ghost use Rattle.tenant_tables.specs.Room.{HasRoomBeside};
-ghost use Rattle.tenant_tables.specs.StandsIn.{StandsIn};
+ghost use Rattle.tenant_tables.specs.Room.{HasHoldsLeftBeside};
+ghost use Rattle.tenant_tables.specs.IsBackedBy.{IsBackedBy};
 ghost use Rattle.stream_grammar.specs.declared.fault.Fault.{Fault as TextFault};
 ghost use Rattle.stream_grammar.specs.Commands.{Done as DoneBy};
 ghost use Rattle.stream_grammar.specs.Shown.{act_shown, Answers};
@@ -16,19 +16,19 @@ ghost use Rattle.import_session.specs.Checkpoints.{checkpoint};
 ghost use Rattle.import_session.specs.Commits.{closed_where};
 ghost use Rattle.import_session.specs.Meaning.{after_act};
 ghost use Rattle.import_session.specs.Stream.{step, is_finish, session_end};
-ghost use Rattle.import_session.specs.Session.{state_shown, running_in, repository_in, last_in, new_session, workspace_in, Reads, Takes, CarriesOut};
+ghost use Rattle.import_session.specs.Session.{state_shown, running_in, repository_in, last_in, new_session, workspace_in, ReadsItem, Takes, CarriesOut};
 ghost use Rattle.import_session.specs.Held.{FilesStand};
 ghost use Rattle.import_session.specs.Sound.{IsSound};
 
 use crate::acts::carry_out;
 use crate::checkpoint::save;
-use crate::commits::close_where;
+use crate::closing::close_where;
 use crate::state::{StreamState, new_state};
 use content_pool::Pool;
 use git_objects::Naming;
 use std::alloc::Global;
 use std::marker::Model;
-use stream_grammar::{Act, Done, Parser};
+use stream_grammar::{Act, ControlCommand, Done, Parser};
 use stream_lex::Item;
 use stream_state::fault::Fault;
 use tenant_refs::Refs;
@@ -49,9 +49,9 @@ pub struct Session {
 impl Model for Session {
     ghost use Rattle.std.specs.Coded.{codes};
     ghost use Rattle.tree_build.specs.ShapeCode.{branch_code};
-    ghost use Rattle.import_session.specs.Session.{Kept, state_shown};
+    ghost use Rattle.import_session.specs.Session.{SessionView, state_shown};
 
-    ghost Value = { Kept };
+    ghost Value = { SessionView };
 
     ghost coded = { Prim.hlevel (codes, branch_code) };
 
@@ -62,7 +62,7 @@ impl Model for Session {
 fn is_finish(act: &Act<'_>) -> bool
     ensures { result ≡ is_finish (act_shown act.now) }
 {
-    matches!(act, Act::Finish)
+    matches!(act, Act::Control(ControlCommand::Done))
 }
 
 // Whether `done` was carried out.
@@ -74,7 +74,7 @@ fn is_finished(carried: &Result<(), Fault>, act: &Act<'_>) -> bool
 
 // Passes on the parser's answer. Its `Memory` is that of the session.
 fn judged<'a>(given: Result<Done<'a>, stream_grammar::Fault>) -> Result<Done<'a>, Fault>
-    ensures { (by : Result DoneBy TextFault) → Answers given.entry by → Reads result by }
+    ensures { (by : Result DoneBy TextFault) → Answers given.entry by → ReadsItem result by }
 {
     match given {
         Ok(done) => Ok(done),
@@ -92,8 +92,8 @@ fn carry_out_done<N: Naming>(
     done: &Done<'_>,
     out: &mut Vec<u8>,
 ) -> Result<(), Fault>
-    requires stands { StandsIn N.digest_of pool.old table.old.entries }
-    requires room { HasRoomBeside pool.old table.old.entries }
+    requires stands { IsBackedBy N.digest_of pool.old table.old.entries }
+    requires room { HasHoldsLeftBeside pool.old table.old.entries }
     requires held { FilesStand (state_shown state.old) pool.old table.old }
     ensures keeps { Keeps N.digest_of pool.old table.old pool.new table.new }
     ensures held { OnOk result (FilesStand (state_shown state.new) pool.new table.new) }
@@ -120,8 +120,8 @@ fn save_at_end<N: Naming>(
     state: &mut StreamState,
     out: &mut Vec<u8>,
 ) -> Result<(), Fault>
-    requires stands { StandsIn N.digest_of pool.old table.old.entries }
-    requires room { HasRoomBeside pool.old table.old.entries }
+    requires stands { IsBackedBy N.digest_of pool.old table.old.entries }
+    requires room { HasHoldsLeftBeside pool.old table.old.entries }
     requires held { FilesStand (state_shown state.old) pool.old table.old }
     ensures keeps { Keeps N.digest_of pool.old table.old pool.new table.new }
     ensures saved { let now = workspace_in (state_shown state.old) pool.old table.old refs.old in
@@ -185,8 +185,8 @@ impl Session {
         item: Item<'_>,
         out: &mut Vec<u8>,
     ) -> Result<(), Fault>
-        requires stands { StandsIn N.digest_of pool.old table.old.entries }
-        requires room { HasRoomBeside pool.old table.old.entries }
+        requires stands { IsBackedBy N.digest_of pool.old table.old.entries }
+        requires room { HasHoldsLeftBeside pool.old table.old.entries }
         requires held { FilesStand self.old.state pool.old table.old }
         ensures keeps { Keeps N.digest_of pool.old table.old pool.new table.new }
         ensures held { OnOk result (FilesStand self.new.state pool.new table.new) }
@@ -228,8 +228,8 @@ impl Session {
         refs: &mut Refs,
         out: &mut Vec<u8>,
     ) -> Result<(), Fault>
-        requires stands { StandsIn N.digest_of pool.old table.old.entries }
-        requires room { HasRoomBeside pool.old table.old.entries }
+        requires stands { IsBackedBy N.digest_of pool.old table.old.entries }
+        requires room { HasHoldsLeftBeside pool.old table.old.entries }
         requires held { FilesStand self.old.state pool.old table.old }
         ensures keeps { Keeps N.digest_of pool.old table.old pool.new table.new }
         ensures ended { IsSound N.digest_of
@@ -257,7 +257,7 @@ impl Session {
     /// Gives up the stream: rolls its table back to the last checkpoint, and leaves the refs.
     /// Allocates nothing.
     pub fn abandon<N: Naming>(self, pool: &mut Pool<N>, table: &mut Table, refs: &mut Refs)
-        requires { StandsIn N.digest_of pool.old table.old.entries }
+        requires { IsBackedBy N.digest_of pool.old table.old.entries }
         ensures keeps { Keeps N.digest_of pool.old table.old pool.new table.new }
         ensures left { repository_in pool.new table.new refs.new
             ≡ last_in pool.old table.old refs.old }

@@ -1,32 +1,23 @@
 //! What a stream has of its own apart from its objects: marks, branches, the open commit, HEAD and
 //! switches.
 
-ghost use Rattle.std.specs.Prelude.{◌≡◌, List, ℕ, Some, OnOk};
-ghost use Rattle.content_pool.specs.Pool.{Cells};
-ghost use Rattle.tenant_tables.specs.View.{View};
-ghost use Rattle.tenant_tables.specs.StandsIn.{StandsIn};
-ghost use Rattle.stream_grammar.specs.Shown.{act_shown};
+ghost use Rattle.std.specs.Prelude.{◌≡◌, Some};
 ghost use Rattle.open_commits.specs.OpenCommit.{commit_held};
-ghost use Rattle.import_session.specs.Resets.{branch_reset, branch_unborn};
+ghost use Rattle.stream_grammar.specs.declared.fault.Fault.TheVariants as text_fault;
 ghost use Rattle.stream_state.specs.CommandHeader.{said_of};
-ghost use Rattle.import_session.specs.Held.{FilesStand, KeepsFiles};
-ghost use Rattle.import_session.specs.Sound.{IsSound};
-ghost use Rattle.import_session.specs.Meaning.{feature_set, head_set, set_by};
-ghost use Rattle.import_session.specs.Session.{empty_state, state_shown, workspace_in, CarriesOut};
+ghost use Rattle.import_session.specs.Held.{KeepsBranchFiles};
+ghost use Rattle.import_session.specs.Session.{empty_state, state_shown};
 
-use crate::lines::say_of_tag;
-use content_pool::Pool;
-use git_objects::{Name, Naming};
+use git_objects::Name;
 use indexmap::IndexMap;
 use open_commits::OpenCommit;
 use std::alloc::Global;
-use stream_grammar::{Act, Feature, Mark};
-use stream_state::branches::{Branches, Tip, copy_meant};
+use stream_grammar::Mark;
+use stream_state::branches::Branches;
 use stream_state::command_header::{CommandHeader, Inline, said_of};
 use stream_state::fault::Fault;
 use stream_state::head::Head;
-use tenant_refs::{RefName, Refs};
-use tenant_tables::Table;
+use tenant_refs::RefName;
 use tree_build::Files;
 
 /// What a stream has of its own apart from its objects.
@@ -71,7 +62,7 @@ pub fn new_state(alloc: Global) -> StreamState
 pub fn begin(state: &mut StreamState, ref_name: RefName)
     ensures begun { state_shown state.new
         ≡ record (state_shown state.old) { said = Some (said_of ref_name) } }
-    ensures files { KeepsFiles (state_shown state.old) (state_shown state.new) }
+    ensures files { KeepsBranchFiles (state_shown state.old) (state_shown state.new) }
 {
     state.said = Some(said_of(state.alloc, ref_name));
 }
@@ -84,77 +75,9 @@ pub fn keep_open(state: &mut StreamState, commit: OpenCommit)
     state.commit = Some(commit);
 }
 
-// Makes a branch unborn, whatever it was, and begins its reset.
-fn set_unborn(state: &mut StreamState, refs: &Refs, branch: RefName) -> Result<(), Fault>
-    ensures done { (pool : Cells) (table : View) (out : List ℕ) → CarriesOut
-        (branch_unborn branch (workspace_in (state_shown state.old) pool table refs.now))
-        (workspace_in (state_shown state.new) pool table refs.now) out out result }
-    ensures files { KeepsFiles (state_shown state.old) (state_shown state.new) }
+// The refusal of a line whose command is not open. The parser lets no such line through.
+pub fn not_open() -> Fault
+    ensures { result ≡ Fault.Text text_fault.UnknownCommand }
 {
-    let said = branch.try_clone(state.alloc)?;
-    state.branches.set(branch, Tip::Unborn)?;
-    begin(state, said);
-    Ok(())
-}
-
-fn reset(state: &mut StreamState, refs: &Refs, ref_name: &RefName) -> Result<(), Fault>
-    ensures done { (pool : Cells) (table : View) (out : List ℕ) → CarriesOut
-        (branch_reset ref_name.now (workspace_in (state_shown state.old) pool table refs.now))
-        (workspace_in (state_shown state.new) pool table refs.now) out out result }
-    ensures files { KeepsFiles (state_shown state.old) (state_shown state.new) }
-{
-    let branch = copy_meant(state.alloc, &state.head, refs, ref_name)?;
-    set_unborn(state, refs, branch)
-}
-
-fn require(state: &mut StreamState, refs: &Refs, feature: Feature)
-    ensures done { (pool : Cells) (table : View) →
-        feature_set feature (workspace_in (state_shown state.old) pool table refs.now)
-        ≡ workspace_in (state_shown state.new) pool table refs.now }
-    ensures files { KeepsFiles (state_shown state.old) (state_shown state.new) }
-{
-    match feature {
-        Feature::Done => state.needs_done = true,
-        Feature::Force => state.forces = true,
-        _ => {}
-    }
-}
-
-fn set_head(state: &mut StreamState, refs: &Refs, ref_name: &RefName) -> Result<(), Fault>
-    ensures done { (pool : Cells) (table : View) (out : List ℕ) → CarriesOut
-        (head_set ref_name.now (workspace_in (state_shown state.old) pool table refs.now))
-        (workspace_in (state_shown state.new) pool table refs.now) out out result }
-    ensures files { KeepsFiles (state_shown state.old) (state_shown state.new) }
-{
-    state.head = Some(Head::copy_of(state.alloc, ref_name)?);
-    Ok(())
-}
-
-// Carries out an act that sets something, or one of a command's lines.
-#[tactic(auto, unfolding(crate::specs::Meaning::set_by))]
-pub fn set<N: Naming>(
-    pool: &Pool<N>,
-    table: &Table,
-    refs: &Refs,
-    state: &mut StreamState,
-    act: &Act<'_>,
-) -> Result<(), Fault>
-    requires stands { StandsIn N.digest_of pool.now table.now.entries }
-    requires held { FilesStand (state_shown state.old) pool.now table.now }
-    ensures done { (out : List ℕ) → IsSound N.digest_of
-        (workspace_in (state_shown state.old) pool.now table.now refs.now) → CarriesOut
-        (set_by (act_shown act.now) (workspace_in (state_shown state.old) pool.now table.now refs.now))
-        (workspace_in (state_shown state.new) pool.now table.now refs.now) out out result }
-    ensures held { OnOk result (FilesStand (state_shown state.new) pool.now table.now) }
-{
-    match act {
-        Act::Wait => Ok(()),
-        Act::Reset(ref_name) => reset(state, refs, ref_name),
-        Act::Require(feature) => {
-            require(state, refs, *feature);
-            Ok(())
-        }
-        Act::SetHead(ref_name) => set_head(state, refs, ref_name),
-        _ => say_of_tag(pool, table, refs, state, act),
-    }
+    Fault::Text(stream_grammar::Fault::UnknownCommand)
 }

@@ -1,20 +1,22 @@
-//! Tags: git-fast-import(1), "tag".
+//! How a tag is stored: git-fast-import(1), "tag".
 
 ghost use Rattle.std.specs.Prelude.{◌≡◌, ◌<◌, length, List, ℕ, OnOk, OnErr};
 ghost use Rattle.std.specs.Vec.{vec_capacity};
 ghost use Rattle.indexmap.specs.IndexMap.{spare};
 ghost use Rattle.git_model.specs.GoodRepository.{AreObjects};
-ghost use Rattle.content_pool.specs.Pool.{HasRoom};
+ghost use Rattle.content_pool.specs.Pool.{HasHoldsLeft};
 ghost use Rattle.tenant_tables.specs.Objects.{objects};
-ghost use Rattle.tenant_tables.specs.StandsIn.{StandsIn};
+ghost use Rattle.tenant_tables.specs.IsBackedBy.{IsBackedBy};
+ghost use Rattle.stream_grammar.specs.Acts.{Tag};
 ghost use Rattle.stream_state.specs.Faults.{Gives};
-ghost use Rattle.import_session.specs.Tags.{tag_stored, tagged};
+ghost use Rattle.import_session.specs.Objects.{object_stored};
+ghost use Rattle.import_session.specs.Tags.{tagged};
 ghost use Rattle.import_session.specs.Lent.{IsUnchanged, Keeps};
 ghost use Rattle.import_session.specs.Held.{FilesStand};
 ghost use Rattle.import_session.specs.Session.{state_shown, workspace_in, CarriesOut};
 
 use crate::commit_ishes::named;
-use crate::state::StreamState;
+use crate::state::{StreamState, not_open};
 use content_pool::Pool;
 use git_objects::{Kind, Name, Naming};
 use stream_grammar::Mark;
@@ -34,7 +36,7 @@ fn tagged<N: Naming>(
     said: &CommandHeader,
     mark: &Option<Mark>,
 ) -> Result<(Name, Kind), Fault>
-    requires { StandsIn N.digest_of pool.now table.now.entries }
+    requires { IsBackedBy N.digest_of pool.now table.now.entries }
     ensures tagged { AreObjects N.digest_of (objects pool.now table.now.entries) → Gives result
         (tagged mark.now said.now
         (workspace_in (state_shown state.old) pool.now table.now refs.now)) }
@@ -51,6 +53,7 @@ fn tagged<N: Naming>(
 }
 
 // Stores the open tag, sets its mark, and adds the tag to those that wait for the next checkpoint.
+#[tactic(auto, unfolding(crate::specs::Objects::object_stored))]
 pub fn store_tag<N: Naming>(
     pool: &mut Pool<N>,
     table: &mut Table,
@@ -59,19 +62,19 @@ pub fn store_tag<N: Naming>(
     mark: Option<Mark>,
     message: &[u8],
 ) -> Result<(), Fault>
-    requires stands { StandsIn N.digest_of pool.old table.old.entries }
-    requires room { HasRoom pool.old }
+    requires stands { IsBackedBy N.digest_of pool.old table.old.entries }
+    requires room { HasHoldsLeft pool.old }
     requires held { FilesStand (state_shown state.old) pool.old table.old }
     ensures keeps { Keeps N.digest_of pool.old table.old pool.new table.new }
     ensures done { (out : List ℕ) → AreObjects N.digest_of (objects pool.old table.old.entries)
-        → CarriesOut (tag_stored N.digest_of mark message.now (state_shown state.old).said
+        → CarriesOut (object_stored N.digest_of (Tag mark message.now)
         (workspace_in (state_shown state.old) pool.old table.old refs.now))
         (workspace_in (state_shown state.new) pool.new table.new refs.now) out out result }
     ensures same { OnErr result (IsUnchanged pool.old table.old pool.new table.new) }
     ensures held { OnOk result (FilesStand (state_shown state.new) pool.new table.new) }
 {
     let Some(said) = state.said.take() else {
-        return Err(Fault::Text(stream_grammar::Fault::UnknownCommand));
+        return Err(not_open());
     };
     let (target, kind) = tagged(pool, table, refs, state, &said, &mark)?;
     let id = store_written(pool, table, state.alloc, &said, target, kind, message)?;

@@ -12,7 +12,7 @@ use Rattle.tenant_tables.specs.Sums.{TreesFit}
 use Rattle.file_maps.specs.declared.entry.Entry.{Entry}
 use Rattle.file_maps.specs.FileMap.{Path, Listed, listed, AreFiles}
 use Rattle.file_maps.specs.Edits.{files_at}
-use Rattle.file_maps.specs.HeldFiles.{IsHeld}
+use Rattle.file_maps.specs.HeldFiles.{IsFileHeld}
 use Rattle.file_maps.specs.Trees.{entry_at}
 use Rattle.file_maps.proofs.FitTrees.{nested-fit, other-fits}
 use Rattle.file_maps.proofs.ListedOrder.{cut-root}
@@ -65,7 +65,7 @@ module _ (digest : List ℕ → List ℕ) (names : AnswersNames digest) (os : Li
       let was = trees-ok digest (files_at commit.files path) os more is in
       subst (TreesFit []) was.is
       (nested-fit digest names os good fits commit.files are
-      (All-from_recursion (IsHeld os) (listed commit.files) h.held) path was.none)
+      (All-from_recursion (IsFileHeld os) (listed commit.files) h.held) path was.none)
 
   -- ---- what is shown
 

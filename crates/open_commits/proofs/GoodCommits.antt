@@ -37,7 +37,7 @@ use Rattle.file_maps.specs.declared.fault.Fault.{Fault as FilesFault}
 use Rattle.file_maps.specs.FileMap.{Path, Listed, FileMap, listed, AreFiles}
 use Rattle.file_maps.specs.Edits.{files_at, moved, put_at, put_tree_at, copied, renamed, without, is_outside, with_files}
 use Rattle.file_maps.specs.GoodTrees.{StayGood}
-use Rattle.file_maps.specs.HeldFiles.{IsHeld}
+use Rattle.file_maps.specs.HeldFiles.{IsFileHeld}
 use Rattle.file_maps.specs.Kept.{stays}
 use Rattle.file_maps.specs.StoredFiles.{stored_files, tree_of_commit}
 use Rattle.file_maps.specs.Storing.{with_trees, trees_fault}
@@ -140,7 +140,7 @@ begun_is os header message good = record {
   header = good;
   parents = All-nil (λ id. kind_named id os ≡ Some kind.Commit);
   few_parents = omega arith;
-  held = none-listed (IsHeld os);
+  held = none-listed (IsFileHeld os);
 }
 
 pub longer_is : (os more : List Object) (commit : OpenCommit) → IsGoodCommit os commit
@@ -151,7 +151,7 @@ longer_is os more commit h = record {
       (λ id. kind_named id (os ++ more) ≡ Some kind.Commit)
       (λ id k. kind_longer os more id kind.Commit k) commit.parents h.parents;
   few_parents = h.few_parents;
-  held = all-weaker (IsHeld os) (IsHeld (os ++ more))
+  held = all-weaker (IsFileHeld os) (IsFileHeld (os ++ more))
       (λ f k ne. kind_longer os more f.1.name (kind_of_mode f.1.mode) (k ne)) (listed commit.files)
       h.held;
 }
@@ -159,7 +159,7 @@ longer_is os more commit h = record {
 -- the same commit with other files
 other-files : (os : List Object) (commit next : OpenCommit) (files : FileMap)
     → IsGoodCommit os commit
-    → record commit { files = files } ≡ next → AllByRecursion (IsHeld os) (listed files)
+    → record commit { files = files } ≡ next → AllByRecursion (IsFileHeld os) (listed files)
     → IsGoodCommit os next
 other-files os commit next files h is held =
     subst (IsGoodCommit os) is (record {
@@ -201,7 +201,7 @@ file-put-good : (os : List Object) (commit next : OpenCommit) → IsGoodCommit o
 file-put-good os commit next h are path e held is =
     other-files os commit next (put_at commit.files path e) h
     (changed-ok commit (put_at commit.files path e) _ next is)
-    (all-edited None path commit.files (moved path (([], e) ∷ [])) are (IsHeld os) h.held (held, tt))
+    (all-edited None path commit.files (moved path (([], e) ∷ [])) are (IsFileHeld os) h.held (held, tt))
 
 tree-put-good : (digest : List ℕ → List ℕ) (os : List Object) → AreObjects digest os
     → (commit next : OpenCommit) → IsGoodCommit os commit → AreFiles (listed commit.files)
@@ -211,8 +211,8 @@ tree-put-good digest os good commit next h are path tree k is =
     let files = stored_files os tree in
     other-files os commit next (put_tree_at commit.files path files) h
     (changed-ok commit (put_tree_at commit.files path files) _ next is)
-    (all-edited None path commit.files (moved path files) are (IsHeld os) h.held
-    (all-map (λ (f : Path × Entry). (path ++ f.0, f.1)) (IsHeld os) files
+    (all-edited None path commit.files (moved path files) are (IsFileHeld os) h.held
+    (all-map (λ (f : Path × Entry). (path ++ f.0, f.1)) (IsFileHeld os) files
     (stored-held digest os good tree k)))
 
 pub start_keeps : (digest : List ℕ → List ℕ) (os : List Object) → AreObjects digest os
@@ -298,7 +298,7 @@ pub delete_keeps : (os : List Object) (commit : OpenCommit) → IsGoodCommit os 
     → AreFiles (listed commit.files) → (path : Path) → IsGoodCommit os (deleted path commit)
 delete_keeps os commit h are path =
     other-files os commit (deleted path commit) (without commit.files path) h refl
-    (all-without commit.files path are (IsHeld os) h.held)
+    (all-without commit.files path are (IsFileHeld os) h.held)
 
 pub copy_keeps : (os : List Object) (commit next : OpenCommit) → IsGoodCommit os commit
     → AreFiles (listed commit.files) → (source path : Path)
@@ -307,9 +307,9 @@ copy_keeps os commit next h are source path is =
     let files = files_at commit.files source in
     other-files os commit next (copied commit.files source path) h
     (changed-ok commit (copied commit.files source path) _ next is)
-    (all-edited None path commit.files (moved path files) are (IsHeld os) h.held
-    (all-map (λ (f : Path × Entry). (path ++ f.0, f.1)) (IsHeld os) files
-    (cut-all (IsHeld os) source (listed commit.files) h.held)))
+    (all-edited None path commit.files (moved path files) are (IsFileHeld os) h.held
+    (all-map (λ (f : Path × Entry). (path ++ f.0, f.1)) (IsFileHeld os) files
+    (cut-all (IsFileHeld os) source (listed commit.files) h.held)))
 
 pub rename_keeps : (os : List Object) (commit next : OpenCommit) → IsGoodCommit os commit
     → AreFiles (listed commit.files) → (source path : Path)
@@ -322,15 +322,15 @@ rename_keeps os commit next h are source path is =
     (sym (retain-twice (is_outside source) (λ q. stays None path q) commit.files)) in
     other-files os commit next (renamed commit.files source path) h
     (changed-ok commit (renamed commit.files source path) _ next is)
-    (subst (λ (m : FileMap). AllByRecursion (IsHeld os) (listed m)) same
-    (all-edited (Some source) path commit.files (moved path files) are (IsHeld os) h.held
-    (all-map (λ (f : Path × Entry). (path ++ f.0, f.1)) (IsHeld os) files
-    (cut-all (IsHeld os) source (listed commit.files) h.held))))
+    (subst (λ (m : FileMap). AllByRecursion (IsFileHeld os) (listed m)) same
+    (all-edited (Some source) path commit.files (moved path files) are (IsFileHeld os) h.held
+    (all-map (λ (f : Path × Entry). (path ++ f.0, f.1)) (IsFileHeld os) files
+    (cut-all (IsFileHeld os) source (listed commit.files) h.held))))
 
 pub all_deleted_keeps : (os : List Object) (commit : OpenCommit) → IsGoodCommit os commit
     → IsGoodCommit os (all_deleted commit)
 all_deleted_keeps os commit h =
-    other-files os commit (all_deleted commit) finmap.empty h refl (none-listed (IsHeld os))
+    other-files os commit (all_deleted commit) finmap.empty h refl (none-listed (IsFileHeld os))
 
 -- ---- what is stored
 
@@ -394,7 +394,7 @@ module _ (digest : List ℕ → List ℕ) (names : AnswersNames digest) (os : Li
       subst (λ (new : List Object). StayGood digest os new (tree_id digest (files_at commit.files path)))
       was.is
       (nested_added digest names os good commit.files are
-      (All-from_recursion (IsHeld os) (listed commit.files) h.held) path was.none)
+      (All-from_recursion (IsFileHeld os) (listed commit.files) h.held) path was.none)
 
   same-objects : GrowGood digest os os
   same-objects = record { good = good; more = []; are = sym (append-nil os) }

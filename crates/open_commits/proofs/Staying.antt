@@ -9,7 +9,7 @@ use Rattle.file_maps.specs.Edits.{files_at}
 use Rattle.file_maps.specs.Trees.{tree_id}
 use Rattle.file_maps.proofs.ListedOrder.{cut-root}
 use Rattle.tree_build.specs.Shape.{What, file, unopened, opened, Shape, none, row}
-use Rattle.tree_build.specs.Branch.{Branch, files_in, root_name, closed_by, closed_along, closed_from, Reads}
+use Rattle.tree_build.specs.Branch.{Branch, files_in, root_name, closed_by, closed_along, closed_from, CountsAtMost}
 use Rattle.tree_build.proofs.Growing.{branch_stays}
 use Rattle.open_commits.specs.declared.fault.Fault.{Fault}
 use Rattle.open_commits.specs.Faults.{and_then}
@@ -56,7 +56,7 @@ none-at-root (unopened id) inside = refl
 none-at-root (opened tree) none = refl
 none-at-root (opened tree) (row c what inside rest) = refl
 
-none-read : (old new : Branch) → Reads old new (closed_from old.root []) → new.reads ≡ old.reads
+none-read : (old new : Branch) → CountsAtMost old new (closed_from old.root []) → new.reads ≡ old.reads
 none-read old new read =
     let none = none-at-root old.root.what old.root.inside in
     let most = read.bounded in let least = read.counted in omega arith
@@ -68,7 +68,7 @@ pub closed-files : (digest : List ℕ → List ℕ) (content : Content) (os mid 
     → files_in mid after.files ≡ files_in os old.files
     → tree ≡ tree_id digest (files_at (files_in os old.files) [])
     → root_name after.files ≡ Some tree
-    → Reads old.files after.files (closed_from old.files.root [])
+    → CountsAtMost old.files after.files (closed_from old.files.root [])
     → OnOk r (KeepsFiles digest os more old after)
 closed-files digest content os mid more old after tree (Ok id) gives stands same is known read = record {
   files =

@@ -8,7 +8,7 @@ use Rattle.git_model.specs.Ident.{IsWrittenIdent}
 use Rattle.git_model.specs.References.{kind_named}
 use Rattle.git_model.specs.Repository.{Object}
 use Rattle.file_maps.specs.FileMap.{listed}
-use Rattle.file_maps.specs.HeldFiles.{IsHeld}
+use Rattle.file_maps.specs.HeldFiles.{IsFileHeld}
 use Rattle.open_commits.specs.OpenCommit.{Header, OpenCommit}
 
 -- What a header says can be written.
@@ -24,7 +24,7 @@ pub record IsGoodCommit (os : List Object) (commit : OpenCommit) : Type 0 where
   pub header : IsGoodHeader commit.header
   pub parents : All (λ id. kind_named id os ≡ Some kind.Commit) commit.parents
   pub few_parents : length commit.parents ≤ parents_limit
-  pub held : AllByRecursion (IsHeld os) (listed commit.files)
+  pub held : AllByRecursion (IsFileHeld os) (listed commit.files)
 
 -- Objects with more added after them, which are good.
 pub record GrowGood (digest : List ℕ → List ℕ) (os new : List Object) : Type 0 where

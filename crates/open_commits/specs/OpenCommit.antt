@@ -78,8 +78,8 @@ commit_held commit = record {
 abbrev pub shown_in : List Object → LentCommit → OpenCommit
 shown_in os commit = commit_in os (commit_held commit)
 
-abbrev pub IsHeld : List Object → LentCommit → Type 0
-IsHeld os commit = Stands os (commit_held commit)
+abbrev pub IsCommitHeld : List Object → LentCommit → Type 0
+IsCommitHeld os commit = Stands os (commit_held commit)
 
 -- The name of the stored tree that the files are, if that is known without reading a tree.
 abbrev pub tree_known : LentCommit → Option (List ℕ)

@@ -5,9 +5,9 @@ ghost use Rattle.git_model.specs.declared.file_mode.FileMode.TheVariants as mode
 ghost use Rattle.git_model.specs.GoodRepository.{AreObjects};
 ghost use Rattle.git_model.specs.Repository.{Object};
 ghost use Rattle.tenant_tables.specs.Objects.{objects};
-ghost use Rattle.tenant_tables.specs.StandsIn.{StandsIn};
+ghost use Rattle.tenant_tables.specs.IsBackedBy.{IsBackedBy};
 ghost use Rattle.file_maps.specs.Grafts.{tree_fault};
-ghost use Rattle.open_commits.specs.OpenCommit.{commit_held, shown_in, tree_known, IsHeld};
+ghost use Rattle.open_commits.specs.OpenCommit.{commit_held, shown_in, tree_known, IsCommitHeld};
 ghost use Rattle.open_commits.specs.Changes.{entry_of, modified, file_put, tree_put, deleted, copied_to, renamed_to, all_deleted};
 ghost use Rattle.open_commits.specs.Calls.{Changes};
 
@@ -54,13 +54,13 @@ impl OpenCommit {
         object: DataRef,
         path: &Path,
     ) -> Result<(), Fault>
-        requires stands { StandsIn N.digest_of pool.now table.now.entries }
-        requires held { IsHeld (objects pool.now table.now.entries) self.old }
+        requires stands { IsBackedBy N.digest_of pool.now table.now.entries }
+        requires held { IsCommitHeld (objects pool.now table.now.entries) self.old }
         ensures changes { let os = objects pool.now table.now.entries in AreObjects N.digest_of os
             → Changes (modified os marks.now.entries mode object path.now (shown_in os self.old))
             (shown_in os self.old) (shown_in os self.new) result }
         ensures held { result ≢ Err Fault.Memory
-            → IsHeld (objects pool.now table.now.entries) self.new }
+            → IsCommitHeld (objects pool.now table.now.entries) self.new }
     {
         match mode {
             FileMode::Directory => {
@@ -89,13 +89,13 @@ impl OpenCommit {
         table: &Table,
         path: &Path,
     ) -> Result<(), Fault>
-        requires stands { StandsIn N.digest_of pool.now table.now.entries }
-        requires held { IsHeld (objects pool.now table.now.entries) self.old }
+        requires stands { IsBackedBy N.digest_of pool.now table.now.entries }
+        requires held { IsCommitHeld (objects pool.now table.now.entries) self.old }
         ensures changes { let os = objects pool.now table.now.entries in
             Changes (Ok (deleted path.now (shown_in os self.old))) (shown_in os self.old)
             (shown_in os self.new) result }
         ensures held { result ≢ Err Fault.Memory
-            → IsHeld (objects pool.now table.now.entries) self.new }
+            → IsCommitHeld (objects pool.now table.now.entries) self.new }
     {
         self.files.drop_path(pool, table, path)?;
         Ok(())
@@ -115,13 +115,13 @@ impl OpenCommit {
         source: &Path,
         path: &Path,
     ) -> Result<(), Fault>
-        requires stands { StandsIn N.digest_of pool.now table.now.entries }
-        requires held { IsHeld (objects pool.now table.now.entries) self.old }
+        requires stands { IsBackedBy N.digest_of pool.now table.now.entries }
+        requires held { IsCommitHeld (objects pool.now table.now.entries) self.old }
         ensures changes { let os = objects pool.now table.now.entries in
             Changes (copied_to source.now path.now (shown_in os self.old))
             (shown_in os self.old) (shown_in os self.new) result }
         ensures held { result ≢ Err Fault.Memory
-            → IsHeld (objects pool.now table.now.entries) self.new }
+            → IsCommitHeld (objects pool.now table.now.entries) self.new }
     {
         self.files.copy(pool, table, source, path)?;
         Ok(())
@@ -136,13 +136,13 @@ impl OpenCommit {
         source: &Path,
         path: &Path,
     ) -> Result<(), Fault>
-        requires stands { StandsIn N.digest_of pool.now table.now.entries }
-        requires held { IsHeld (objects pool.now table.now.entries) self.old }
+        requires stands { IsBackedBy N.digest_of pool.now table.now.entries }
+        requires held { IsCommitHeld (objects pool.now table.now.entries) self.old }
         ensures changes { let os = objects pool.now table.now.entries in
             Changes (renamed_to source.now path.now (shown_in os self.old))
             (shown_in os self.old) (shown_in os self.new) result }
         ensures held { result ≢ Err Fault.Memory
-            → IsHeld (objects pool.now table.now.entries) self.new }
+            → IsCommitHeld (objects pool.now table.now.entries) self.new }
     {
         self.files.rename(pool, table, source, path)?;
         Ok(())
@@ -152,7 +152,7 @@ impl OpenCommit {
     pub fn delete_all(&mut self)
         ensures changes { (os : List Object)
             → shown_in os self.new ≡ all_deleted (shown_in os self.old) }
-        ensures held { (os : List Object) → IsHeld os self.new }
+        ensures held { (os : List Object) → IsCommitHeld os self.new }
     {
         self.files.clear();
     }
@@ -166,13 +166,13 @@ impl OpenCommit {
         entry: Entry,
     ) -> Result<(), Fault>
         requires file { entry.mode ≢ FileMode.Directory }
-        requires stands { StandsIn N.digest_of pool.now table.now.entries }
-        requires held { IsHeld (objects pool.now table.now.entries) self.old }
+        requires stands { IsBackedBy N.digest_of pool.now table.now.entries }
+        requires held { IsCommitHeld (objects pool.now table.now.entries) self.old }
         ensures changes { let os = objects pool.now table.now.entries in
             Changes (file_put path.now entry (shown_in os self.old)) (shown_in os self.old)
             (shown_in os self.new) result }
         ensures held { result ≢ Err Fault.Memory
-            → IsHeld (objects pool.now table.now.entries) self.new }
+            → IsCommitHeld (objects pool.now table.now.entries) self.new }
     {
         self.files.put(pool, table, path, entry)?;
         Ok(())
@@ -186,14 +186,14 @@ impl OpenCommit {
         path: &Path,
         tree: &Name,
     ) -> Result<(), Fault>
-        requires stands { StandsIn N.digest_of pool.now table.now.entries }
-        requires held { IsHeld (objects pool.now table.now.entries) self.old }
+        requires stands { IsBackedBy N.digest_of pool.now table.now.entries }
+        requires held { IsCommitHeld (objects pool.now table.now.entries) self.old }
         ensures changes { let os = objects pool.now table.now.entries in AreObjects N.digest_of os
             → tree_fault os tree.now ≡ None
             → Changes (tree_put os path.now tree.now (shown_in os self.old)) (shown_in os self.old)
             (shown_in os self.new) result }
         ensures held { result ≢ Err Fault.Memory
-            → IsHeld (objects pool.now table.now.entries) self.new }
+            → IsCommitHeld (objects pool.now table.now.entries) self.new }
         ensures kept { path.now ≡ [] → tree_known self.old ≡ Some tree.now
             → OnOk result ((commit_held self.new).files ≡ (commit_held self.old).files) }
     {

@@ -5,10 +5,10 @@ ghost use Rattle.git_model.specs.Commit.{commit_contents};
 ghost use Rattle.git_model.specs.Repository.{Object};
 ghost use Rattle.tenant_tables.specs.Lent.{Keeps};
 ghost use Rattle.tenant_tables.specs.Objects.{objects};
-ghost use Rattle.tenant_tables.specs.Room.{HasRoomBeside};
-ghost use Rattle.tenant_tables.specs.StandsIn.{StandsIn};
+ghost use Rattle.tenant_tables.specs.Room.{HasHoldsLeftBeside};
+ghost use Rattle.tenant_tables.specs.IsBackedBy.{IsBackedBy};
 ghost use Rattle.file_maps.specs.FileMap.{listed};
-ghost use Rattle.open_commits.specs.OpenCommit.{commit_held, shown_in, IsHeld};
+ghost use Rattle.open_commits.specs.OpenCommit.{commit_held, shown_in, IsCommitHeld};
 ghost use Rattle.open_commits.specs.Ends.{closed, commit_of, KeepsFiles};
 ghost use Rattle.open_commits.specs.Storing.{LeavesTrees};
 ghost use Rattle.open_commits.specs.Calls.{AddsOnly, Gives};
@@ -36,11 +36,11 @@ impl OpenCommit {
     ///
     /// `pool` holds the contents of `table`. Others hold each content fewer than 2^64 - 2 times.
     pub fn close<N: Naming>(&mut self, pool: &mut Pool<N>, table: &mut Table) -> Result<Name, Fault>
-        requires stands { StandsIn N.digest_of pool.old table.old.entries }
-        requires room { HasRoomBeside pool.old table.old.entries }
-        requires held { IsHeld (objects pool.old table.old.entries) self.old }
+        requires stands { IsBackedBy N.digest_of pool.old table.old.entries }
+        requires room { HasHoldsLeftBeside pool.old table.old.entries }
+        requires held { IsCommitHeld (objects pool.old table.old.entries) self.old }
         ensures keeps { Keeps N.digest_of pool.old table.old pool.new table.new }
-        ensures room { HasRoomBeside pool.new table.new.entries }
+        ensures room { HasHoldsLeftBeside pool.new table.new.entries }
         ensures adds { AddsOnly pool.old table.old pool.new table.new }
         ensures trees { let os = objects pool.old table.old.entries in OnErr result
             (LeavesTrees N.digest_of (listed (shown_in os self.old).files) os
@@ -48,7 +48,7 @@ impl OpenCommit {
         ensures done { Gives (closed N.digest_of (objects pool.old table.old.entries)
             (shown_in (objects pool.old table.old.entries) self.old))
             (λ id. record { id = id; objects = objects pool.new table.new.entries }) result }
-        ensures held { OnOk result (IsHeld (objects pool.new table.new.entries) self.new) }
+        ensures held { OnOk result (IsCommitHeld (objects pool.new table.new.entries) self.new) }
         ensures files { OnOk result (KeepsFiles N.digest_of (objects pool.old table.old.entries)
             (objects pool.new table.new.entries) (commit_held self.old) (commit_held self.new)) }
     {

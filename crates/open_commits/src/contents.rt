@@ -4,9 +4,9 @@ ghost use Rattle.std.specs.Prelude.{◌≡◌, ◌≢◌, OnErr, OnOk};
 ghost use Rattle.git_model.specs.Content.{content_from};
 ghost use Rattle.tenant_tables.specs.Lent.{Keeps, IsUnchanged};
 ghost use Rattle.tenant_tables.specs.Objects.{objects};
-ghost use Rattle.tenant_tables.specs.Room.{HasRoomBeside};
-ghost use Rattle.tenant_tables.specs.StandsIn.{StandsIn};
-ghost use Rattle.open_commits.specs.OpenCommit.{shown_in, IsHeld};
+ghost use Rattle.tenant_tables.specs.Room.{HasHoldsLeftBeside};
+ghost use Rattle.tenant_tables.specs.IsBackedBy.{IsBackedBy};
+ghost use Rattle.open_commits.specs.OpenCommit.{shown_in, IsCommitHeld};
 ghost use Rattle.open_commits.specs.Changes.{contents_put, blob_put, left_with};
 ghost use Rattle.open_commits.specs.Calls.{AddsOnly, Gives};
 
@@ -40,17 +40,17 @@ impl OpenCommit {
         path: &Path,
         contents: &[u8],
     ) -> Result<(), Fault>
-        requires stands { StandsIn N.digest_of pool.old table.old.entries }
-        requires room { HasRoomBeside pool.old table.old.entries }
-        requires held { IsHeld (objects pool.old table.old.entries) self.old }
+        requires stands { IsBackedBy N.digest_of pool.old table.old.entries }
+        requires room { HasHoldsLeftBeside pool.old table.old.entries }
+        requires held { IsCommitHeld (objects pool.old table.old.entries) self.old }
         ensures keeps { Keeps N.digest_of pool.old table.old pool.new table.new }
-        ensures room { HasRoomBeside pool.new table.new.entries }
+        ensures room { HasHoldsLeftBeside pool.new table.new.entries }
         ensures adds { AddsOnly pool.old table.old pool.new table.new }
         ensures done { Gives (contents_put N.digest_of (objects pool.old table.old.entries) mode
             path.now contents.now (shown_in (objects pool.old table.old.entries) self.old))
             (λ _. left_with (objects pool.new table.new.entries)
             (shown_in (objects pool.new table.new.entries) self.new)) result }
-        ensures held { OnOk result (IsHeld (objects pool.new table.new.entries) self.new) }
+        ensures held { OnOk result (IsCommitHeld (objects pool.new table.new.entries) self.new) }
         ensures same { OnErr result (IsUnchanged pool.old table.old pool.new table.new) }
     {
         match mode {
@@ -67,19 +67,19 @@ impl OpenCommit {
         path: &Path,
         contents: &[u8],
     ) -> Result<(), Fault>
-        requires stands { StandsIn N.digest_of pool.old table.old.entries }
-        requires room { HasRoomBeside pool.old table.old.entries }
-        requires held { IsHeld (objects pool.old table.old.entries) self.old }
+        requires stands { IsBackedBy N.digest_of pool.old table.old.entries }
+        requires room { HasHoldsLeftBeside pool.old table.old.entries }
+        requires held { IsCommitHeld (objects pool.old table.old.entries) self.old }
         requires file { mode ≢ FileMode.Directory }
         ensures keeps { Keeps N.digest_of pool.old table.old pool.new table.new }
-        ensures room { HasRoomBeside pool.new table.new.entries }
+        ensures room { HasHoldsLeftBeside pool.new table.new.entries }
         ensures adds { AddsOnly pool.old table.old pool.new table.new }
         ensures done { Gives (blob_put N.digest_of (objects pool.old table.old.entries) mode
             path.now (content_from Kind.Blob contents.now)
             (shown_in (objects pool.old table.old.entries) self.old))
             (λ _. left_with (objects pool.new table.new.entries)
             (shown_in (objects pool.new table.new.entries) self.new)) result }
-        ensures held { OnOk result (IsHeld (objects pool.new table.new.entries) self.new) }
+        ensures held { OnOk result (IsCommitHeld (objects pool.new table.new.entries) self.new) }
         ensures same { OnErr result (IsUnchanged pool.old table.old pool.new table.new) }
     {
         let name = pool.name_of(Kind::Blob, contents)?;

@@ -2,7 +2,7 @@
 
 ghost use Rattle.std.specs.Prelude.{◌≡◌};
 ghost use Rattle.tenant_tables.specs.Objects.{objects};
-ghost use Rattle.tenant_tables.specs.StandsIn.{StandsIn};
+ghost use Rattle.tenant_tables.specs.IsBackedBy.{IsBackedBy};
 ghost use Rattle.open_commits.specs.Changes.{marked_name, referred_name, held_as, link_of, tree_of, blob_of};
 
 use crate::fault::Fault;
@@ -37,7 +37,7 @@ pub fn held_as<N: Naming>(
     wanted: Kind,
     id: Name,
 ) -> Result<Name, Fault>
-    requires { StandsIn N.digest_of pool.now table.now.entries }
+    requires { IsBackedBy N.digest_of pool.now table.now.entries }
     ensures { result ≡ held_as (objects pool.now table.now.entries) wanted id }
 {
     match Objects::of(pool, table, Sight::All).get(&id) {
@@ -54,7 +54,7 @@ pub fn blob_of<N: Naming>(
     marks: &IndexMap<Mark, Name>,
     object: DataRef,
 ) -> Result<Name, Fault>
-    requires { StandsIn N.digest_of pool.now table.now.entries }
+    requires { IsBackedBy N.digest_of pool.now table.now.entries }
     ensures { result ≡ blob_of (objects pool.now table.now.entries) marks.now.entries object }
 {
     let id = referred(marks, object)?;
@@ -68,7 +68,7 @@ pub fn link_of<N: Naming>(
     marks: &IndexMap<Mark, Name>,
     object: DataRef,
 ) -> Result<Name, Fault>
-    requires { StandsIn N.digest_of pool.now table.now.entries }
+    requires { IsBackedBy N.digest_of pool.now table.now.entries }
     ensures { result ≡ link_of (objects pool.now table.now.entries) marks.now.entries object }
 {
     match object {
@@ -84,7 +84,7 @@ pub fn tree_of<N: Naming>(
     marks: &IndexMap<Mark, Name>,
     object: DataRef,
 ) -> Result<Name, Fault>
-    requires { StandsIn N.digest_of pool.now table.now.entries }
+    requires { IsBackedBy N.digest_of pool.now table.now.entries }
     ensures { result ≡ tree_of (objects pool.now table.now.entries) marks.now.entries object }
 {
     match object {

@@ -6,7 +6,7 @@
 ghost use Rattle.std.specs.Prelude.{◌≡◌, List, IfOk};
 ghost use Rattle.git_model.specs.Repository.{Object};
 ghost use Rattle.tree_build.specs.Branch.{IsBranch, files_in};
-ghost use Rattle.open_commits.specs.OpenCommit.{begun_on, commit_held, header_shown, shown_in, IsHeld};
+ghost use Rattle.open_commits.specs.OpenCommit.{begun_on, commit_held, header_shown, shown_in, IsCommitHeld};
 
 use git_names::{Ident, Memory, Name, RefName};
 use std::alloc::Global;
@@ -55,7 +55,7 @@ impl OpenCommit {
         ensures begun { (os : List Object) → IfOk result (λ commit. shown_in os commit
             ≡ begun_on (header_shown header) message.now (files_in os files)) }
         ensures held { (os : List Object) → IsBranch os files
-            → IfOk result (λ commit. IsHeld os commit) }
+            → IfOk result (λ commit. IsCommitHeld os commit) }
     {
         let message = Vec::from_slice(alloc, message)?;
         Ok(OpenCommit {

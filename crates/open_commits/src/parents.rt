@@ -8,10 +8,10 @@ ghost use Rattle.git_model.specs.GoodRepository.{AreObjects};
 ghost use Rattle.git_model.specs.References.{kind_named};
 ghost use Rattle.git_model.specs.Repository.{Object};
 ghost use Rattle.tenant_tables.specs.Objects.{objects};
-ghost use Rattle.tenant_tables.specs.StandsIn.{StandsIn};
+ghost use Rattle.tenant_tables.specs.IsBackedBy.{IsBackedBy};
 ghost use Rattle.file_maps.specs.Grafts.{tree_fault};
 ghost use Rattle.file_maps.specs.StoredFiles.{tree_of_commit};
-ghost use Rattle.open_commits.specs.OpenCommit.{commit_held, shown_in, tree_known, IsHeld};
+ghost use Rattle.open_commits.specs.OpenCommit.{commit_held, shown_in, tree_known, IsCommitHeld};
 ghost use Rattle.open_commits.specs.Parents.{started_from, merged};
 ghost use Rattle.open_commits.specs.Calls.{Changes};
 
@@ -45,7 +45,7 @@ fn tree_of_commit<N: Naming>(
     table: &Table,
     id: &Name,
 ) -> Result<Name, Fault>
-    requires stands { StandsIn N.digest_of pool.now table.now.entries }
+    requires stands { IsBackedBy N.digest_of pool.now table.now.entries }
     ensures { let os = objects pool.now table.now.entries in AreObjects N.digest_of os
         → kind_named id.now os ≡ Some kind.Commit
         → MatchResult result
@@ -74,14 +74,14 @@ impl OpenCommit {
         table: &Table,
         id: Name,
     ) -> Result<(), Fault>
-        requires stands { StandsIn N.digest_of pool.now table.now.entries }
-        requires held { IsHeld (objects pool.now table.now.entries) self.old }
+        requires stands { IsBackedBy N.digest_of pool.now table.now.entries }
+        requires held { IsCommitHeld (objects pool.now table.now.entries) self.old }
         ensures changes { let os = objects pool.now table.now.entries in AreObjects N.digest_of os
             → kind_named id os ≡ Some kind.Commit
             → Changes (started_from os id (shown_in os self.old)) (shown_in os self.old)
             (shown_in os self.new) result }
         ensures held { result ≢ Err Fault.Memory
-            → IsHeld (objects pool.now table.now.entries) self.new }
+            → IsCommitHeld (objects pool.now table.now.entries) self.new }
         ensures kept { let os = objects pool.now table.now.entries in AreObjects N.digest_of os
             → kind_named id os ≡ Some kind.Commit
             → tree_known self.old ≡ Some (tree_of_commit os id)
@@ -103,7 +103,7 @@ impl OpenCommit {
     pub fn merge(&mut self, id: Name) -> Result<(), Fault>
         ensures changes { (os : List Object) → Changes (merged id (shown_in os self.old))
             (shown_in os self.old) (shown_in os self.new) result }
-        ensures held { (os : List Object) → IsHeld os self.old → IsHeld os self.new }
+        ensures held { (os : List Object) → IsCommitHeld os self.old → IsCommitHeld os self.new }
     {
         if self.parents.len() >= PARENTS_LIMIT {
             return Err(Fault::Limit);

@@ -3,10 +3,10 @@
 ghost use Rattle.std.specs.Prelude.{◌≡◌};
 ghost use Rattle.tenant_tables.specs.Lent.{Keeps};
 ghost use Rattle.tenant_tables.specs.Objects.{objects};
-ghost use Rattle.tenant_tables.specs.Room.{HasRoomBeside};
-ghost use Rattle.tenant_tables.specs.StandsIn.{StandsIn};
+ghost use Rattle.tenant_tables.specs.Room.{HasHoldsLeftBeside};
+ghost use Rattle.tenant_tables.specs.IsBackedBy.{IsBackedBy};
 ghost use Rattle.file_maps.specs.Edits.{files_at};
-ghost use Rattle.open_commits.specs.OpenCommit.{shown_in, IsHeld};
+ghost use Rattle.open_commits.specs.OpenCommit.{shown_in, IsCommitHeld};
 ghost use Rattle.open_commits.specs.Showing.{entry_shown, file_or_trees};
 ghost use Rattle.open_commits.specs.Storing.{LeavesTrees};
 ghost use Rattle.open_commits.specs.Calls.{AddsOnly, Gives};
@@ -37,11 +37,11 @@ impl OpenCommit {
         table: &mut Table,
         path: &Path,
     ) -> Result<Option<Entry>, Fault>
-        requires stands { StandsIn N.digest_of pool.old table.old.entries }
-        requires room { HasRoomBeside pool.old table.old.entries }
-        requires held { IsHeld (objects pool.old table.old.entries) self.old }
+        requires stands { IsBackedBy N.digest_of pool.old table.old.entries }
+        requires room { HasHoldsLeftBeside pool.old table.old.entries }
+        requires held { IsCommitHeld (objects pool.old table.old.entries) self.old }
         ensures keeps { Keeps N.digest_of pool.old table.old pool.new table.new }
-        ensures room { HasRoomBeside pool.new table.new.entries }
+        ensures room { HasHoldsLeftBeside pool.new table.new.entries }
         ensures adds { AddsOnly pool.old table.old pool.new table.new }
         ensures trees { let os = objects pool.old table.old.entries in
             LeavesTrees N.digest_of (files_at (shown_in os self.old).files path.now) os
@@ -52,7 +52,7 @@ impl OpenCommit {
             result }
         ensures commit { shown_in (objects pool.new table.new.entries) self.new
             ≡ shown_in (objects pool.old table.old.entries) self.old }
-        ensures held { IsHeld (objects pool.new table.new.entries) self.new }
+        ensures held { IsCommitHeld (objects pool.new table.new.entries) self.new }
     {
         let entry = self.files.entry(pool, table, path)?;
         if let Some(found) = &entry {
@@ -69,11 +69,11 @@ impl OpenCommit {
         path: &Path,
         mode: FileMode,
     ) -> Result<(), Fault>
-        requires stands { StandsIn N.digest_of pool.old table.old.entries }
-        requires room { HasRoomBeside pool.old table.old.entries }
-        requires held { IsHeld (objects pool.old table.old.entries) self.old }
+        requires stands { IsBackedBy N.digest_of pool.old table.old.entries }
+        requires room { HasHoldsLeftBeside pool.old table.old.entries }
+        requires held { IsCommitHeld (objects pool.old table.old.entries) self.old }
         ensures keeps { Keeps N.digest_of pool.old table.old pool.new table.new }
-        ensures room { HasRoomBeside pool.new table.new.entries }
+        ensures room { HasHoldsLeftBeside pool.new table.new.entries }
         ensures adds { AddsOnly pool.old table.old pool.new table.new }
         ensures trees { let os = objects pool.old table.old.entries in
             LeavesTrees N.digest_of (files_at (shown_in os self.old).files path.now) os
@@ -83,7 +83,7 @@ impl OpenCommit {
             (λ _. objects pool.new table.new.entries) result }
         ensures commit { shown_in (objects pool.new table.new.entries) self.new
             ≡ shown_in (objects pool.old table.old.entries) self.old }
-        ensures held { IsHeld (objects pool.new table.new.entries) self.new }
+        ensures held { IsCommitHeld (objects pool.new table.new.entries) self.new }
     {
         match mode {
             FileMode::Directory => {

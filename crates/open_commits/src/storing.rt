@@ -4,8 +4,8 @@ ghost use Rattle.std.specs.Prelude.{◌≡◌, ◌≢◌, OnErr, IfOk};
 ghost use Rattle.git_model.specs.Content.{content_from, name_by};
 ghost use Rattle.tenant_tables.specs.Lent.{Keeps, IsUnchanged};
 ghost use Rattle.tenant_tables.specs.Objects.{objects};
-ghost use Rattle.tenant_tables.specs.Room.{HasRoomBeside};
-ghost use Rattle.tenant_tables.specs.StandsIn.{StandsIn};
+ghost use Rattle.tenant_tables.specs.Room.{HasHoldsLeftBeside};
+ghost use Rattle.tenant_tables.specs.IsBackedBy.{IsBackedBy};
 ghost use Rattle.open_commits.specs.Storing.{stored};
 ghost use Rattle.open_commits.specs.Calls.{AddsOnly, Gives};
 
@@ -22,11 +22,11 @@ pub fn store<N: Naming>(
     kind: Kind,
     bytes: &[u8],
 ) -> Result<Name, Fault>
-    requires stands { StandsIn N.digest_of pool.old table.old.entries }
-    requires room { HasRoomBeside pool.old table.old.entries }
+    requires stands { IsBackedBy N.digest_of pool.old table.old.entries }
+    requires room { HasHoldsLeftBeside pool.old table.old.entries }
     requires no_tree { kind ≢ Kind.Tree }
     ensures keeps { Keeps N.digest_of pool.old table.old pool.new table.new }
-    ensures room { HasRoomBeside pool.new table.new.entries }
+    ensures room { HasHoldsLeftBeside pool.new table.new.entries }
     ensures adds { AddsOnly pool.old table.old pool.new table.new }
     ensures name { IfOk result (λ id. id ≡ name_by N.digest_of (content_from kind bytes.now)) }
     ensures done { Gives (stored N.digest_of (content_from kind bytes.now)

@@ -39,18 +39,18 @@ struct Repository<N: Naming> {
 
 impl<N: Naming> Model for Repository<N> {
     ghost use Rattle.std.specs.Prelude.{ℕ, IfSome};
-    ghost use Rattle.tenant_tables.specs.StandsIn.{StandsIn};
-    ghost use Rattle.tenant_tables.specs.Room.{HasRoomBeside};
+    ghost use Rattle.tenant_tables.specs.IsBackedBy.{IsBackedBy};
+    ghost use Rattle.tenant_tables.specs.Room.{HasHoldsLeftBeside};
     ghost use Rattle.tenant_tables.specs.Objects.{objects};
-    ghost use Rattle.open_commits.specs.OpenCommit.{IsHeld};
+    ghost use Rattle.open_commits.specs.OpenCommit.{IsCommitHeld};
 
     ghost Value = { ℕ };
 
     ghost view = { λ repository. 0 };
 
-    ghost invariant = { λ r. StandsIn N.digest_of r.pool r.table.entries
-        × HasRoomBeside r.pool r.table.entries
-        × IfSome r.commit (IsHeld (objects r.pool r.table.entries)) };
+    ghost invariant = { λ r. IsBackedBy N.digest_of r.pool r.table.entries
+        × HasHoldsLeftBeside r.pool r.table.entries
+        × IfSome r.commit (IsCommitHeld (objects r.pool r.table.entries)) };
 }
 
 impl<N: Naming> Repository<N> {

@@ -6,7 +6,7 @@ ghost use Rattle.std.specs.Prelude.{◌≡◌, ◌≢◌, List, None, Err, IsTru
 ghost use Rattle.git_model.specs.Repository.{Object as StoredObject};
 ghost use Rattle.tree_build.specs.Branch.{IsBranch};
 ghost use Rattle.open_commits.specs.declared.fault.Fault.TheVariants as fault;
-ghost use Rattle.open_commits.specs.OpenCommit.{IsHeld};
+ghost use Rattle.open_commits.specs.OpenCommit.{IsCommitHeld};
 
 use open_commits::{Fault, Header, OpenCommit};
 use std::alloc::Global;
@@ -24,8 +24,8 @@ pub fn code_of(answer: Result<(), Fault>) -> u64 {
 
 /// Takes the open commit out of its place. It is dropped unless it is put back.
 pub fn taken(place: &mut Option<OpenCommit>) -> Option<OpenCommit>
-    ensures held { (os : List StoredObject) → IfSome place.old (IsHeld os)
-        → IfSome result (IsHeld os) }
+    ensures held { (os : List StoredObject) → IfSome place.old (IsCommitHeld os)
+        → IfSome result (IsCommitHeld os) }
     ensures none { place.new ≡ None }
 {
     place.take()
@@ -34,8 +34,8 @@ pub fn taken(place: &mut Option<OpenCommit>) -> Option<OpenCommit>
 /// Puts the commit back if it may go on, and drops it otherwise. This is a function of its own,
 /// because each path that drops the commit makes a proof longer.
 pub fn put_back(place: &mut Option<OpenCommit>, commit: OpenCommit, goes_on: bool)
-    ensures { (os : List StoredObject) → (IsTrue goes_on → IsHeld os commit)
-        → IfSome place.new (IsHeld os) }
+    ensures { (os : List StoredObject) → (IsTrue goes_on → IsCommitHeld os commit)
+        → IfSome place.new (IsCommitHeld os) }
 {
     drop(mem::replace(place, goes_on.then_some(commit)));
 }
@@ -54,8 +54,8 @@ pub fn answers(
     answer: Result<(), Fault>,
     code: u64,
 ) -> bool
-    ensures { (os : List StoredObject) → (answer ≢ Err fault.Memory → IsHeld os commit)
-        → IfSome place.new (IsHeld os) }
+    ensures { (os : List StoredObject) → (answer ≢ Err fault.Memory → IsCommitHeld os commit)
+        → IfSome place.new (IsCommitHeld os) }
 {
     put_back(place, commit, goes_on_after(&answer));
     code_of(answer) == code
@@ -70,7 +70,7 @@ pub fn begin_on(
     alloc: Global,
 ) -> bool
     requires { place.old ≡ None }
-    ensures { (os : List StoredObject) → IsBranch os files → IfSome place.new (IsHeld os) }
+    ensures { (os : List StoredObject) → IsBranch os files → IfSome place.new (IsCommitHeld os) }
 {
     let begun = OpenCommit::begin(alloc, header, message, files).ok();
     drop(mem::replace(place, begun));
@@ -79,7 +79,7 @@ pub fn begin_on(
 
 /// The files of the open commit, which is taken out of its place and not put back.
 pub fn files_left(place: &mut Option<OpenCommit>) -> Option<Files>
-    ensures branch { (os : List StoredObject) → IfSome place.old (IsHeld os)
+    ensures branch { (os : List StoredObject) → IfSome place.old (IsCommitHeld os)
         → IfSome result (IsBranch os) }
     ensures none { place.new ≡ None }
 {

@@ -15,7 +15,7 @@ use Rattle.content_pool.specs.Pool.{Cells}
 use Rattle.tenant_tables.specs.declared.summary.Summary.{Summary}
 use Rattle.tenant_tables.specs.View.{Entries, summary_of}
 use Rattle.tenant_tables.specs.Objects.{objects}
-use Rattle.tenant_tables.specs.StandsIn.{StandsIn}
+use Rattle.tenant_tables.specs.IsBackedBy.{IsBackedBy}
 use Rattle.tenant_tables.specs.Trees.{DirectoryStands}
 use Rattle.tenant_tables.proofs.SummaryLemmas.{some_of}
 use Rattle.file_maps.specs.declared.entry.Entry.{Entry}
@@ -158,7 +158,7 @@ no_file : (top : Path) (old fs : Listed) → length fs ≡ 0 → old ≡ old ++ 
 no_file top old [] h = sym (append-nil old)
 no_file top old (f ∷ fs) h = absurd (omega arith)
 
-module _ (digest : List ℕ → List ℕ) (pool : Cells) (entries : Entries) (stands : StandsIn digest pool entries) where
+module _ (digest : List ℕ → List ℕ) (pool : Cells) (entries : Entries) (stands : IsBackedBy digest pool entries) where
   -- a directory's tree stands before the tree
   pub inside_before : (id : List ℕ) (xs : List declared.TreeEntry) (i : ℕ) (x : declared.TreeEntry)
       → HasTree (objects pool entries) id (entries_of xs) → i < length xs → x ≡ get_or xs i x

@@ -20,8 +20,8 @@ use Rattle.file_maps.specs.FileMap.{Listed}
 use Rattle.file_maps.specs.Trees.{grouped, file_of, depth_of}
 use Rattle.plain_files.specs.Below.{groups_of, group_of, entry_by, by_kind}
 use Rattle.file_maps.specs.Below.{group_trees}
-use Rattle.file_maps.specs.Storing.{trees_fault, AddsTrees, AddsSome, StoresTrees, HasRoomBeside}
-use Rattle.tenant_tables.specs.StandsIn.{StandsIn, LeavesOthers}
+use Rattle.file_maps.specs.Storing.{trees_fault, AddsTrees, AddsSome, StoresTrees, HasHoldsLeftBeside}
+use Rattle.tenant_tables.specs.IsBackedBy.{IsBackedBy, PreservesOthers}
 use Rattle.file_maps.specs.Storable.{AreStorable}
 use Rattle.plain_files.specs.Storable.{IsStorableGroup, IsKnownGroup}
 use Rattle.file_maps.proofs.Fits.{IsGroup, groups-are}
@@ -148,16 +148,16 @@ module _ (digest : List ℕ → List ℕ) (deep : ℕ) where
 
 module _ (digest : List ℕ → List ℕ) (p q : Cells) (u v : View) (all : List (List TreeEntry)) (id : List ℕ) where
   pub stores-stands : (answer : Result (List ℕ) Fault) → StoresTrees answer digest p u q v all id
-      → StandsIn digest q v.entries
+      → IsBackedBy digest q v.entries
   stores-stands (Ok x) h = h.2.stands
   stores-stands (Err e) h = h.adds.stands
 
   pub stores-room : (answer : Result (List ℕ) Fault) → StoresTrees answer digest p u q v all id
-      → HasRoomBeside q v.entries
+      → HasHoldsLeftBeside q v.entries
   stores-room (Ok x) h = h.2.room
   stores-room (Err e) h = h.adds.room
 
   pub stores-others : (answer : Result (List ℕ) Fault) → StoresTrees answer digest p u q v all id
-      → LeavesOthers p u.entries q v.entries
+      → PreservesOthers p u.entries q v.entries
   stores-others (Ok x) h = h.2.others
   stores-others (Err e) h = h.adds.others

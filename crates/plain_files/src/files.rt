@@ -17,9 +17,9 @@ ghost use Rattle.file_maps.specs.Kept.{replaced, IsBelow};
 ghost use Rattle.file_maps.specs.Calls.{Edits};
 ghost use Rattle.file_maps.specs.Grafts.{Grafts};
 ghost use Rattle.file_maps.specs.Trees.{entry_at, nested_trees, tree_id};
-ghost use Rattle.file_maps.specs.Storing.{StoresTrees, HasRoomBeside};
+ghost use Rattle.file_maps.specs.Storing.{StoresTrees, HasHoldsLeftBeside};
 ghost use Rattle.tenant_tables.specs.Objects.{objects};
-ghost use Rattle.tenant_tables.specs.StandsIn.{StandsIn, LeavesOthers};
+ghost use Rattle.tenant_tables.specs.IsBackedBy.{IsBackedBy, PreservesOthers};
 
 use crate::below::files_at;
 use crate::check::{are_none, has_components, refusal_beside};
@@ -180,7 +180,7 @@ impl Files {
         path: &Path,
         name: &Name,
     ) -> Result<(), Fault>
-        requires stands { StandsIn N.digest_of pool.now table.now.entries }
+        requires stands { IsBackedBy N.digest_of pool.now table.now.entries }
         ensures { Grafts result (objects pool.now table.now.entries) name.now path.now
             self.old self.new }
     {
@@ -228,14 +228,14 @@ impl Files {
         table: &mut Table,
         at: &Path,
     ) -> Result<Name, Fault>
-        requires stands { StandsIn N.digest_of pool.old table.old.entries }
-        requires room { HasRoomBeside pool.old table.old.entries }
+        requires stands { IsBackedBy N.digest_of pool.old table.old.entries }
+        requires room { HasHoldsLeftBeside pool.old table.old.entries }
         ensures stores { StoresTrees result N.digest_of pool.old table.old pool.new table.new
             (nested_trees N.digest_of (files_at self.old at.now))
             (tree_id N.digest_of (files_at self.old at.now)) }
-        ensures stands { StandsIn N.digest_of pool.new table.new.entries }
-        ensures room { HasRoomBeside pool.new table.new.entries }
-        ensures others { LeavesOthers pool.old table.old.entries pool.new table.new.entries }
+        ensures stands { IsBackedBy N.digest_of pool.new table.new.entries }
+        ensures room { HasHoldsLeftBeside pool.new table.new.entries }
+        ensures others { PreservesOthers pool.old table.old.entries pool.new table.new.entries }
         ensures files { self.new ≡ self.old }
     {
         let files = match files_at(self.alloc, &self.files, at) {

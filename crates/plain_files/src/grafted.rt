@@ -10,7 +10,7 @@ ghost use Rattle.git_model.specs.declared.file_mode.FileMode.TheVariants as mode
 ghost use Rattle.git_objects.specs.Parts.{entry_of};
 ghost use Rattle.git_paths.specs.Paths.{IsPath};
 ghost use Rattle.tenant_tables.specs.Objects.{objects};
-ghost use Rattle.tenant_tables.specs.StandsIn.{StandsIn};
+ghost use Rattle.tenant_tables.specs.IsBackedBy.{IsBackedBy};
 ghost use Rattle.tenant_tables.specs.View.{summary_of};
 ghost use Rattle.plain_files.specs.Gathers.{has_none, Gathers, GathersEntry};
 
@@ -35,7 +35,7 @@ fn child(alloc: Global, top: &Path, name: &[u8]) -> Result<Path, Memory>
     requires { IsEntryName name.now }
     ensures { IfOk result (λ path. path ≡ top.now ++ name.now ∷ []) }
 {
-    Ok(top.child(alloc, name)?)
+    top.child(alloc, name)
 }
 
 // Appends a file.
@@ -66,7 +66,7 @@ pub(crate) fn gather<N: Naming>(
     id: &Name,
     files: &mut Vec<(Path, Entry)>,
 ) -> Result<(), Memory>
-    requires stands { StandsIn N.digest_of pool.now table.now.entries }
+    requires stands { IsBackedBy N.digest_of pool.now table.now.entries }
     requires tree { IsSome (summary_of id.now table.now.entries) }
     requires paths { AllByRecursion (λ f. IsPath f.0) files.old.items }
     ensures gathers { OnOk result (Gathers (objects pool.now table.now.entries) top.now id.now
@@ -93,7 +93,7 @@ fn gather_entry<N: Naming>(
     entry: &TreeEntry<'_>,
     files: &mut Vec<(Path, Entry)>,
 ) -> Result<(), Memory>
-    requires stands { StandsIn N.digest_of pool.now table.now.entries }
+    requires stands { IsBackedBy N.digest_of pool.now table.now.entries }
     requires name { IsEntryName entry.now.name.now }
     requires tree { entry.now.mode ≡ mode.Directory
         → IsSome (summary_of entry.now.id table.now.entries) }

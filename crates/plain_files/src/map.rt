@@ -8,8 +8,9 @@ ghost use Rattle.file_maps.specs.Edits.{cut, moved, is_outside};
 ghost use Rattle.file_maps.specs.Kept.{stays, put_all};
 
 use file_maps::Entry;
+use git_objects::Memory;
 use git_paths::{Components, Path};
-use std::alloc::{AllocError, Global};
+use std::alloc::Global;
 use std::collections::BTreeMap;
 
 /// Entries under their whole paths, in the order of the paths' bytes.
@@ -67,7 +68,7 @@ fn push_joined(
     rest: &Components<'_>,
     entry: Entry,
     files: &mut Vec<(Path, Entry)>,
-) -> Result<(), AllocError>
+) -> Result<(), Memory>
     ensures { OnOk result
         (files.new.items ≡ files.old.items ++ (to.now ++ rest.now, entry) ∷ []) }
 {
@@ -83,7 +84,7 @@ fn push_moved(
     from: &Path,
     to: &Path,
     files: &mut Vec<(Path, Entry)>,
-) -> Result<(), AllocError>
+) -> Result<(), Memory>
     requires { files.old.items ≡ [] }
     ensures { OnOk result (files.new.items ≡ moved to.now (cut from.now map.now.entries)) }
 {
@@ -102,7 +103,7 @@ pub(crate) fn moved(
     map: &Entries,
     from: &Path,
     to: &Path,
-) -> Result<Vec<(Path, Entry)>, AllocError>
+) -> Result<Vec<(Path, Entry)>, Memory>
     ensures { IfOk result (λ files. files.items ≡ moved to.now (cut from.now map.now.entries)) }
 {
     let mut files = Vec::new(alloc);
@@ -115,7 +116,7 @@ pub(crate) fn one_file(
     alloc: Global,
     path: &Path,
     entry: Entry,
-) -> Result<Vec<(Path, Entry)>, AllocError>
+) -> Result<Vec<(Path, Entry)>, Memory>
     ensures { IfOk result (λ files. files.items ≡ (path.now, entry) ∷ []) }
 {
     let mut files = Vec::with_capacity(alloc, 1)?;
@@ -124,7 +125,7 @@ pub(crate) fn one_file(
 }
 
 /// Puts files into a map, the last one first.
-pub(crate) fn insert_all(map: &mut Entries, mut files: Vec<(Path, Entry)>) -> Result<(), AllocError>
+pub(crate) fn insert_all(map: &mut Entries, mut files: Vec<(Path, Entry)>) -> Result<(), Memory>
     ensures { OnOk result (map.new.entries ≡ put_all map.old.entries files.items) }
 {
     while let Some((path, entry)) = files.pop() {

@@ -2,13 +2,13 @@
 
 ghost use Rattle.std.specs.Prelude.{◌≡◌, ◌≤◌, None, Some, OnOk};
 ghost use Rattle.git_model.specs.ObjectName.{IsObjectName};
-ghost use Rattle.tenant_tables.specs.StandsIn.{StandsIn};
+ghost use Rattle.tenant_tables.specs.IsBackedBy.{IsBackedBy};
 ghost use Rattle.tenant_tables.specs.View.{summary_of};
 ghost use Rattle.file_maps.specs.declared.entry.Entry.{Entry};
 ghost use Rattle.file_maps.specs.Trees.{entries_within, trees_within, nested_trees, tree_id, tree_name, depth_of, file_of, grouped};
 ghost use Rattle.plain_files.specs.Below.{files_below, group_of, groups_of, id_of};
 ghost use Rattle.file_maps.specs.Below.{group_trees};
-ghost use Rattle.file_maps.specs.Storing.{StoresTrees, HasRoomBeside};
+ghost use Rattle.file_maps.specs.Storing.{StoresTrees, HasHoldsLeftBeside};
 ghost use Rattle.file_maps.specs.Storable.{files_summary, longest_of, AreStorable};
 ghost use Rattle.plain_files.specs.Storable.{IsStorableGroup, IsKnownGroup};
 
@@ -59,8 +59,8 @@ pub(crate) fn store_trees<N: Naming>(
 ) -> Result<Name, Fault>
     requires deep { depth_of (files_below files.now) ≤ deep }
     requires files { AreStorable (files_below files.now) }
-    requires stands { StandsIn N.digest_of pool.old table.old.entries }
-    requires room { HasRoomBeside pool.old table.old.entries }
+    requires stands { IsBackedBy N.digest_of pool.old table.old.entries }
+    requires room { HasHoldsLeftBeside pool.old table.old.entries }
     ensures stores { StoresTrees result N.digest_of pool.old table.old pool.new table.new
         (trees_within N.digest_of deep (files_below files.now))
         (tree_name N.digest_of (entries_within N.digest_of deep (files_below files.now))) }
@@ -88,8 +88,8 @@ fn store_groups<N: Naming>(
     requires deep { depth_of (files_below files.now) ≤ deep }
     requires files { AreStorable (files_below files.now) }
     requires groups { groups_of groups.now ≡ grouped (files_below files.now) }
-    requires stands { StandsIn N.digest_of pool.old table.old.entries }
-    requires room { HasRoomBeside pool.old table.old.entries }
+    requires stands { IsBackedBy N.digest_of pool.old table.old.entries }
+    requires room { HasHoldsLeftBeside pool.old table.old.entries }
     ensures stores { StoresTrees result N.digest_of pool.old table.old pool.new table.new
         (trees_within N.digest_of deep (files_below files.now))
         (tree_name N.digest_of (entries_within N.digest_of deep (files_below files.now))) }
@@ -121,8 +121,8 @@ fn store_group<N: Naming>(
     group: &Group<'_>,
 ) -> Result<Name, Fault>
     requires group { IsStorableGroup deep (group_of group.now) }
-    requires stands { StandsIn N.digest_of pool.old table.old.entries }
-    requires room { HasRoomBeside pool.old table.old.entries }
+    requires stands { IsBackedBy N.digest_of pool.old table.old.entries }
+    requires room { HasHoldsLeftBeside pool.old table.old.entries }
     ensures stores { StoresTrees result N.digest_of pool.old table.old pool.new table.new
         (group_trees N.digest_of deep (group_of group.now))
         (id_of N.digest_of deep (group_of group.now)) }
@@ -146,8 +146,8 @@ pub(crate) fn store_files<N: Naming>(
     requires files { file_of (files_below files.now) ≡ None → AreStorable (files_below files.now) }
     requires file { (e : Entry) → file_of (files_below files.now) ≡ Some e
         → depth_of (files_below files.now) ≡ 0 }
-    requires stands { StandsIn N.digest_of pool.old table.old.entries }
-    requires room { HasRoomBeside pool.old table.old.entries }
+    requires stands { IsBackedBy N.digest_of pool.old table.old.entries }
+    requires room { HasHoldsLeftBeside pool.old table.old.entries }
     ensures { StoresTrees result N.digest_of pool.old table.old pool.new table.new
         (nested_trees N.digest_of (files_below files.now))
         (tree_id N.digest_of (files_below files.now)) }

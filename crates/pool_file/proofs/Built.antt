@@ -9,9 +9,9 @@ use Rattle.git_model.specs.Repository.{Object}
 use Rattle.content_pool.specs.Pool.{Cells, holds, content}
 use Rattle.tenant_tables.specs.View.{Entries, held}
 use Rattle.tenant_tables.specs.Objects.{objects}
-use Rattle.tenant_tables.specs.Room.{HasRoomBeside}
+use Rattle.tenant_tables.specs.Room.{HasHoldsLeftBeside}
 use Rattle.tenant_tables.proofs.HoldLemmas.{held-nil, Keeps, objects-kept}
-use Rattle.tenant_tables.proofs.TableLemmas.{StandsIn-kept, length-objects}
+use Rattle.tenant_tables.proofs.TableLemmas.{IsBackedBy-kept, length-objects}
 use Rattle.pool_file_format.specs.Format.{RawObject, RawTenant}
 use Rattle.pool_file_checks.specs.Checks.{Passes}
 use Rattle.pool_file_checks.specs.Objects.{object_checks}
@@ -22,7 +22,7 @@ use Rattle.pool_file_checks.specs.Saved.{named_at}
 use Rattle.pool_file_checks.proofs.OwnObjects.{own_length}
 use Rattle.pool_file_checks.proofs.Passing.{passes_front, passes_rest}
 use Rattle.pool_file.specs.declared.tenant.Tenant.{Tenant}
-use Rattle.pool_file.specs.Loading.{named_in, said, all_held}
+use Rattle.pool_file.specs.Loading.{named_in, loaded_repositories, all_held}
 use Rattle.pool_file.specs.Building.{objects_at, IsChecked, IsBuilt, AreUnder, Builds, Adds}
 use Rattle.pool_file.proofs.Slots.{objects_at-kept}
 
@@ -45,7 +45,7 @@ few_holds digest pool (t ∷ ts) s all =
     rw (all_held-cons t ts s) (omega arith)
 
 pub room_for : (digest : List ℕ → List ℕ) (slots : List ℕ) (pool : Cells) (ts : List Tenant)
-    → AreUnder digest slots pool ts → length ts < 2 ^ 63 → HasRoomBeside pool []
+    → AreUnder digest slots pool ts → length ts < 2 ^ 63 → HasHoldsLeftBeside pool []
 room_for digest slots pool ts under few s =
     let counts = under.counts s in
     let once = under.once s in
@@ -66,8 +66,8 @@ module _ (p q : Cells) where
   keeps_rest : (t : Tenant) (ts : List Tenant) → KeepsAll (t ∷ ts) → KeepsAll ts
   keeps_rest t ts kept s some = kept s (let a = all_held-cons t ts s in omega arith)
 
-  pub said-kept : (ts : List Tenant) → KeepsAll ts → said q ts ≡ said p ts
-  unfolding said
+  pub said-kept : (ts : List Tenant) → KeepsAll ts → loaded_repositories q ts ≡ loaded_repositories p ts
+  unfolding loaded_repositories
   said-kept [] kept = refl
   said-kept (t ∷ ts) kept =
       let here = objects-kept p q t.table.entries (keeps_first t ts kept) in
@@ -81,7 +81,7 @@ module _ (p q : Cells) where
   each-kept digest (t ∷ ts) kept counted all = (
     record {
       name = all.0.name;
-      stands = StandsIn-kept digest p q t.table.entries all.0.stands (keeps_first t ts kept)
+      stands = IsBackedBy-kept digest p q t.table.entries all.0.stands (keeps_first t ts kept)
           (λ s. let a = all_held-cons t ts s in let b = counted s in omega arith);
       committed = all.0.committed;
     },
@@ -97,14 +97,14 @@ all_push P [] x all p = (p, tt)
 all_push P (y ∷ ys) x all p = (all.0, all_push P ys x all.1 p)
 
 said-push : (pool : Cells) (ts : List Tenant) (t : Tenant)
-    → said pool (ts ++ t ∷ []) ≡ said pool ts ++ named_in pool t ∷ []
-unfolding said
+    → loaded_repositories pool (ts ++ t ∷ []) ≡ loaded_repositories pool ts ++ named_in pool t ∷ []
+unfolding loaded_repositories
 said-push pool ts t = map-append (named_in pool) ts (t ∷ [])
 
 pub adds_none : (digest : List ℕ → List ℕ) (slots : List ℕ) (p : Cells) (ts : List Tenant)
     → AreUnder digest slots p ts → Adds digest slots p ts [] p ts
 adds_none digest slots p ts under =
-    record { under = under; objects = refl; says = sym (append-nil (said p ts)) }
+    record { under = under; objects = refl; says = sym (append-nil (loaded_repositories p ts)) }
 
 module _ (digest : List ℕ → List ℕ) (slots : List ℕ) (p q : Cells) (ts : List Tenant)
     (r : RawTenant) (t : Tenant) (under : AreUnder digest slots p ts)
@@ -118,8 +118,8 @@ module _ (digest : List ℕ → List ℕ) (slots : List ℕ) (p q : Cells) (ts :
   tenants_kept : KeepsAll p q ts
   tenants_kept s some = kept_at s (let a = under.counts s in omega arith)
 
-  says_one : said q (ts ++ t ∷ [])
-      ≡ said p ts ++ map (named_at digest (objects_at p slots)) (r ∷ [])
+  says_one : loaded_repositories q (ts ++ t ∷ [])
+      ≡ loaded_repositories p ts ++ map (named_at digest (objects_at p slots)) (r ∷ [])
   says_one =
       said-push q ts t
       ∙ (λ i. said-kept p q ts tenants_kept i ++ (built.says i) ∷ [])
@@ -151,8 +151,8 @@ adds_on digest slots p q z old mid new rs r before one = record {
   says =
       one.says
       ∙ (λ i. before.says i ++ map (named_at digest (before.objects i)) (r ∷ []))
-      ∙ append_assoc (said p old) (map (named_at digest (objects_at p slots)) rs) (map (named_at digest (objects_at p slots)) (r ∷ []))
-      ∙ ap (λ (l : List Named). said p old ++ l) (sym (map-append (named_at digest (objects_at p slots)) rs (r ∷ [])));
+      ∙ append_assoc (loaded_repositories p old) (map (named_at digest (objects_at p slots)) rs) (map (named_at digest (objects_at p slots)) (r ∷ []))
+      ∙ ap (λ (l : List Named). loaded_repositories p old ++ l) (sym (map-append (named_at digest (objects_at p slots)) rs (r ∷ [])));
 }
 
 -- ---- a table of a tenant's numbers

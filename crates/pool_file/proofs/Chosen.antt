@@ -5,7 +5,7 @@ use Rattle.std.specs.BTreeSet.{insert_key}
 use Rattle.std.proofs.lemmas.List.{append-nil, map-append, take_all}
 use Rattle.std.proofs.lemmas.List.Elements.{filter_more}
 use Rattle.content_pool.specs.Pool.{Cells}
-use Rattle.tenant_tables.specs.StandsIn.{StandsIn}
+use Rattle.tenant_tables.specs.IsBackedBy.{IsBackedBy}
 use Rattle.pool_file_checks.specs.Repositories.{Named}
 use Rattle.pool_file.specs.declared.tenant_view.TenantView.{TenantView}
 use Rattle.pool_file.specs.declared.tenants.ByName.{ByName}
@@ -113,5 +113,5 @@ module _ (pool : Cells) (ss : List TenantView) (i : ℕ) (keys : List ByName) (s
       → AllStand digest pool saved
   saved_stand digest h =
       subst (AllStand digest pool) (sym saved_are)
-      (listed_each name_of (λ s. StandsIn digest pool s.table.now.entries) (worthy pool ss)
-      (filtered_each (λ s. StandsIn digest pool s.table.now.entries) ss h))
+      (listed_each name_of (λ s. IsBackedBy digest pool s.table.now.entries) (worthy pool ss)
+      (filtered_each (λ s. IsBackedBy digest pool s.table.now.entries) ss h))

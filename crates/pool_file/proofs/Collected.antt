@@ -1,22 +1,28 @@
 -- Contents of tenants, as they are collected.
-use Rattle.std.proofs.Common.{◌≡◌, ℕ, ◌+◌, ◌<◌, ◌≤◌, List, [], ◌∷◌, ◌++◌, map, take, length, get_or, None, Some, refl, sym, ap, ◌∙◌, append_assoc, arith}
-use Rattle.std.specs.Prelude.{slice_get}
+use Rattle.std.proofs.Common.{◌≡◌, ℕ, zero, suc, ◌+◌, ◌<◌, ◌≤◌, ◌⊎◌, inl, inr, Bool, List, [], ◌∷◌, ◌++◌, map, take, length, get_or, Option, None, Some, refl, sym, ap, subst, ◌∙◌, append_assoc, arith}
+use Rattle.std.specs.Prelude.{slice_get, Contains}
+use Rattle.std.specs.Option.{option_map}
 use Rattle.std.specs.List.{flat_map}
 use Rattle.std.specs.BTreeSet.{insert_key}
-use Rattle.std.proofs.lemmas.List.{map-append, map_more, take_all}
+use Rattle.std.proofs.lemmas.List.{append-nil, map_more, take_all, take_more}
+use Rattle.std.proofs.lemmas.List.Elements.{Contains-append_left, Contains-append_right}
 use Rattle.std.proofs.lemmas.Option.{slice_get-get_or, slice_get_within, get_or_from_slice_get}
 use Rattle.git_model.specs.Content.{Content}
 use Rattle.git_model.specs.Repository.{Object}
-use Rattle.content_pool.specs.Pool.{Cells}
+use Rattle.content_pool.specs.Pool.{Cells, content}
+use Rattle.tenant_tables.specs.declared.entry.Entry.{Entry}
+use Rattle.tenant_tables.specs.View.{Entries}
+use Rattle.tenant_tables.specs.Objects.{objects}
 use Rattle.pool_file_format.specs.Format.{RawObject}
 use Rattle.pool_file_checks.specs.Objects.{raw_object, object_key}
 use Rattle.pool_file_checks.specs.Repositories.{Named, contents_of, listed_contents}
 use Rattle.pool_file.specs.declared.content.LentContent.{LentContent}
 use Rattle.pool_file.specs.declared.tenant_view.TenantView.{TenantView}
-use Rattle.pool_file.specs.Listing.{listed_by, number_by}
+use Rattle.pool_file.specs.Listing.{listed_by}
 use Rattle.pool_file.specs.Worth.{named_in}
-use Rattle.pool_file.specs.Lent.{object_lent, objects_lent, lent_key, raw_contents, IsListed, Lists, Collects}
-use Rattle.pool_file.proofs.Ordered.{order_by, listed_none, listed_push, listed_turned, insert_turned}
+use Rattle.pool_file.specs.Lent.{object_lent, objects_lent, lent_key, raw_contents, IsListed, Lists}
+use Rattle.pool_file.specs.Slots.{IsMarked, Marks, IsCollected, Collects}
+use Rattle.pool_file.proofs.Ordered.{order_by, listed_none, listed_push, listed_again, listed_turned, insert_turned}
 
 -- ---- the contents of one table
 
@@ -27,13 +33,30 @@ raw_more os place o at =
     map_more (λ (x : Object). raw_object x.content) os place o (slice_get_within os place o (sym at))
     ∙ ap (λ (x : Object). raw_contents (take place os) ++ raw_object x.content ∷ []) e
 
-pub lent_more : (cs new : List LentContent) (c : LentContent) (os : List Object) (place : ℕ) (o : Object)
-    → objects_lent cs ≡ raw_contents (take place os) → new ≡ cs ++ c ∷ []
-    → object_lent c ≡ raw_object o.content → Some o ≡ slice_get os place
-    → objects_lent new ≡ raw_contents (take (place + 1) os)
-lent_more cs new c os place o before pushed is at =
-    ap objects_lent pushed ∙ map-append object_lent cs (c ∷ [])
-    ∙ (λ i. before i ++ is i ∷ []) ∙ sym (raw_more os place o at)
+-- what a table answers of a place
+abbrev told : List ℕ × Entry → List ℕ × ℕ
+told e = (e.0, e.1.slot)
+
+object_told : (pool : Cells) (es : Entries) (place : ℕ) (id : List ℕ) (slot : ℕ)
+    → Some (id, slot) ≡ option_map told (slice_get es place)
+    → Some (record { id = id; content = content pool slot }) ≡ slice_get (objects pool es) place
+unfolding objects
+object_told pool [] place id slot at = cc
+object_told pool (e ∷ es) zero id slot at =
+    ap (option_map (λ (r : List ℕ × ℕ). record { id = r.0; content = content pool r.1 })) at
+object_told pool (e ∷ es) (suc place) id slot at = object_told pool es place id slot at
+
+pub raw_told : (pool : Cells) (es : Entries) (place : ℕ) (id : List ℕ) (slot : ℕ)
+    → Some (id, slot) ≡ option_map told (slice_get es place)
+    → raw_contents (take (place + 1) (objects pool es))
+    ≡ raw_contents (take place (objects pool es)) ++ raw_object (content pool slot) ∷ []
+raw_told pool es place id slot at =
+    raw_more (objects pool es) place (record { id = id; content = content pool slot })
+    (object_told pool es place id slot at)
+
+none_told : (o : Option (List ℕ × Entry)) → None ≡ option_map told o → None ≡ o
+none_told None e = refl
+none_told (Some x) e = cc
 
 -- at each place within there is one
 pub stands_there : {A : Type 0} (xs : List A) (place : ℕ) → None ≡ slice_get xs place
@@ -41,35 +64,70 @@ pub stands_there : {A : Type 0} (xs : List A) (place : ℕ) → None ≡ slice_g
 stands_there [] place e l = omega (arith, l)
 stands_there (x ∷ xs) place e l = cc (e, slice_get-get_or (x ∷ xs) place x l)
 
+pub told_there : (es : Entries) (place : ℕ) → None ≡ option_map told (slice_get es place)
+    → place < length es → ⊥
+told_there es place e l = stands_there es place (none_told (slice_get es place) e) l
+
 -- ---- into a set
 
-pub collects_more : (old now new cs : List LentContent) (i : ℕ) (d : LentContent)
-    → Collects old now (objects_lent (take i cs)) → i < length cs
-    → new ≡ insert_key (order_by lent_key) now (get_or cs i d)
-    → Collects old new (objects_lent (take (i + 1) cs))
-collects_more old now new cs i d collects l inserted = λ before listed.
-    ap objects_lent inserted
-    ∙ insert_turned object_key object_lent now (get_or cs i d)
-    ∙ ap (λ (os : List RawObject). insert_key (order_by object_key) os (object_lent (get_or cs i d)))
-    (collects before listed)
-    ∙ listed_push object_key (before ++ objects_lent (take i cs)) (object_lent (get_or cs i d))
-    ∙ ap (listed_by object_key)
-    (append_assoc before (objects_lent (take i cs)) (object_lent (get_or cs i d) ∷ [])
-    ∙ ap (λ (os : List RawObject). before ++ os) (sym (map_more object_lent cs i d l)))
+insert_listed : (old new : List LentContent) (c : LentContent) (before : List RawObject) (r : RawObject)
+    → IsListed old before → object_lent c ≡ r → new ≡ insert_key (order_by lent_key) old c
+    → IsListed new (before ++ r ∷ [])
+insert_listed old new c before r listed is inserted =
+    ap objects_lent inserted ∙ insert_turned object_key object_lent old c
+    ∙ (λ i. insert_key (order_by object_key) (listed i) (is i))
+    ∙ listed_push object_key before r
+
+last : (before : List RawObject) (r : RawObject) → Contains (before ++ r ∷ []) r
+last before r = Contains-append_right before (r ∷ []) r (0, omega arith, refl)
+
+-- the content of a slot that is not marked comes, and the slot is marked
+pub collects_new : (pool : Cells) (old new : List LentContent) (marks more : List Bool) (c : LentContent) (slot : ℕ)
+    → object_lent c ≡ raw_object (content pool slot) → new ≡ insert_key (order_by lent_key) old c
+    → Marks slot marks more
+    → Collects pool old marks new more (raw_object (content pool slot) ∷ [])
+collects_new pool old new marks more c slot is inserted marked = λ before known. record {
+  each = insert_listed old new c before (raw_object (content pool slot)) known.each is inserted;
+  marked = λ s m. by before known s (marked s m);
+}
+  where
+    by : (before : List RawObject) → IsCollected pool old marks before → (s : ℕ)
+        → (s ≡ slot) ⊎ IsMarked marks s
+        → Contains (before ++ raw_object (content pool slot) ∷ []) (raw_object (content pool s))
+    by before known s (inl same) =
+        subst (λ (t : ℕ). Contains (before ++ raw_object (content pool slot) ∷ []) (raw_object (content pool t)))
+        (sym same) (last before (raw_object (content pool slot)))
+    by before known s (inr m) =
+        Contains-append_left before (raw_object (content pool slot) ∷ []) (raw_object (content pool s))
+        (known.marked s m)
+
+-- that of a marked slot is there
+pub collects_again : (pool : Cells) (listed : List LentContent) (marks : List Bool) (slot : ℕ)
+    → IsMarked marks slot → Collects pool listed marks listed marks (raw_object (content pool slot) ∷ [])
+collects_again pool listed marks slot m = λ before known. record {
+  each = known.each
+      ∙ listed_again object_key before (raw_object (content pool slot)) (known.marked slot m);
+  marked = λ s marked.
+      Contains-append_left before (raw_object (content pool slot) ∷ []) (raw_object (content pool s))
+      (known.marked s marked);
+}
+
+pub collects_on : (pool : Cells) (old now new : List LentContent) (marks some more : List Bool)
+    (first second both : List RawObject) → Collects pool old marks now some first
+    → Collects pool now some new more second → both ≡ first ++ second
+    → Collects pool old marks new more both
+collects_on pool old now new marks some more first second both one other is = λ before known.
+    subst (IsCollected pool new more)
+    (append_assoc before first second ∙ ap (λ (os : List RawObject). before ++ os) (sym is))
+    (other (before ++ first) (one before known))
+
+pub collects_none : (pool : Cells) (listed : List LentContent) (marks : List Bool)
+    → Collects pool listed marks listed marks []
+collects_none pool listed marks = λ before known.
+    subst (IsCollected pool listed marks) (sym (append-nil before)) known
 
 pub listed_start : (cs : List LentContent) → cs ≡ [] → IsListed cs []
 listed_start cs e = ap objects_lent e ∙ sym (listed_none object_key)
-
--- ---- their numbers
-
-abbrev pub number_among : List LentContent → LentContent → ℕ
-number_among all c = number_by lent_key all (lent_key c)
-
-pub numbers_more : (all cs : List LentContent) (ns new : List ℕ) (i n : ℕ) (d : LentContent)
-    → ns ≡ map (number_among all) (take i cs) → i < length cs → new ≡ ns ++ n ∷ []
-    → n ≡ number_among all (get_or cs i d) → new ≡ map (number_among all) (take (i + 1) cs)
-numbers_more all cs ns new i n d before l pushed is =
-    pushed ∙ (λ j. before j ++ is j ∷ []) ∙ sym (map_more (number_among all) cs i d l)
 
 -- ---- the contents of all tenants
 
@@ -96,6 +154,43 @@ contents_listed : (all : List Named)
     → listed_by object_key (map raw_object (contents_of all)) ≡ map raw_object (listed_contents all)
 unfolding listed_contents listed_by
 contents_listed all = listed_turned object_key raw_object (contents_of all)
+
+pub collected_none : (pool : Cells) (listed : List LentContent) (marks : List Bool)
+    → listed ≡ [] → marks ≡ [] → IsCollected pool listed marks []
+collected_none pool listed marks none empty = record {
+  each = listed_start listed none;
+  marked = λ s m. absurd (unmarked s (subst (λ (ms : List Bool). IsMarked ms s) empty m));
+}
+  where
+    unmarked : (s : ℕ) → IsMarked [] s → ⊥
+    unmarked s m = cc
+
+raws_append : (pool : Cells) (ss : List TenantView) (s : TenantView)
+    → raws_of pool (ss ++ s ∷ []) ≡ raws_of pool ss ++ raw_contents (named_in pool s).repository.objects
+raws_append pool [] s = append-nil (raw_contents (named_in pool s).repository.objects)
+raws_append pool (x ∷ ss) s =
+    ap (λ (os : List RawObject). raw_contents (named_in pool x).repository.objects ++ os)
+    (raws_append pool ss s)
+    ∙ sym (append_assoc (raw_contents (named_in pool x).repository.objects) (raws_of pool ss)
+    (raw_contents (named_in pool s).repository.objects))
+
+raws_more : (pool : Cells) (ss : List TenantView) (s : TenantView) (i : ℕ) → i < length ss
+    → s ≡ get_or ss i s
+    → raws_of pool (take i ss) ++ raw_contents (named_in pool s).repository.objects
+    ≡ raws_of pool (take (i + 1) ss)
+raws_more pool ss s i l at =
+    sym (ap (raws_of pool) (take_more ss i s l)
+    ∙ ap (λ (x : TenantView). raws_of pool (take i ss ++ x ∷ [])) (sym at)
+    ∙ raws_append pool (take i ss) s)
+
+pub collected_more : (pool : Cells) (old new : List LentContent) (marks more : List Bool)
+    (ss : List TenantView) (s : TenantView) (i : ℕ)
+    → IsCollected pool old marks (raws_of pool (take i ss)) → i < length ss → s ≡ get_or ss i s
+    → Collects pool old marks new more (raw_contents (named_in pool s).repository.objects)
+    → IsCollected pool new more (raws_of pool (take (i + 1) ss))
+collected_more pool old new marks more ss s i before l at collects =
+    subst (IsCollected pool new more) (raws_more pool ss s i l at)
+    (collects (raws_of pool (take i ss)) before)
 
 pub all_listed : (pool : Cells) (cs new : List LentContent) (ss : List TenantView) (i : ℕ)
     → IsListed cs (raws_of pool (take i ss)) → length ss ≤ i → new ≡ cs

@@ -18,7 +18,7 @@ use Rattle.pool_file_checks.proofs.Passing.{passes_rest, holds_all, each_holds}
 use Rattle.pool_file_checks.proofs.OwnGood.{own_good}
 use Rattle.pool_file_checks.proofs.OwnRefs.{refs_good}
 use Rattle.pool_file.specs.declared.tenant.Tenant.{Tenant}
-use Rattle.pool_file.specs.Loading.{named_in, said, all_held, IsTenant, AreTenants}
+use Rattle.pool_file.specs.Loading.{named_in, loaded_repositories, all_held, IsTenant, AreTenants}
 use Rattle.pool_file.specs.Building.{objects_at, times_in, IsChecked, IsBuilt, AreUnder, Adds}
 use Rattle.pool_file.proofs.Slots.{once_in}
 use Rattle.pool_file.proofs.Built.{said-kept, each-kept, each_checked}
@@ -67,15 +67,15 @@ names_rise digest version os last (t ∷ ts) p =
     (tenant_checks digest version os (Some t.name) ts) p))
 
 names_said : (pool : Cells) (ts : List Tenant)
-    → map (λ n. n.tenant) (said pool ts) ≡ map (λ t. t.name) ts
-unfolding said
+    → map (λ n. n.tenant) (loaded_repositories pool ts) ≡ map (λ t. t.name) ts
+unfolding loaded_repositories
 names_said pool [] = refl
 names_said pool (t ∷ ts) = ap (λ (l : List (List ℕ)). t.name ∷ l) (names_said pool ts)
 
 each_good : (digest : List ℕ → List ℕ) (pool : Cells) (ts : List Tenant)
-    → ((n : Named) → Has (said pool ts) n → IsGood digest n.repository)
+    → ((n : Named) → Has (loaded_repositories pool ts) n → IsGood digest n.repository)
     → AllByRecursion (IsBuilt digest pool) ts → AllByRecursion (IsTenant digest pool) ts
-unfolding said
+unfolding loaded_repositories
 each_good digest pool [] good all = tt
 each_good digest pool (t ∷ ts) good all = (
   record {
@@ -115,13 +115,13 @@ module _ (digest : List ℕ → List ℕ) (f : RawFile) (names : AnswersNames di
     kept : (s : ℕ) → 0 < all_held new s → content z s ≡ content q s
     kept s some = released.contents s (let a = counted s in omega arith)
 
-    all_said : said z new ≡ map (named_at digest f.objects) f.tenants
-    unfolding said
+    all_said : loaded_repositories z new ≡ map (named_at digest f.objects) f.tenants
+    unfolding loaded_repositories
     all_said =
         said-kept q z new kept ∙ adds.says
         ∙ ap (λ (os : List RawObject). map (named_at digest os) f.tenants) objects
 
-    pub says_file : said z new ≡ saved_in digest f
+    pub says_file : loaded_repositories z new ≡ saved_in digest f
     unfolding saved_in
     says_file = all_said
 

@@ -8,6 +8,7 @@ pub mod Built
 pub mod Filled
 pub mod Ordered
 pub mod Halved
+pub mod Marked
 pub mod Collected
 pub mod Planning
 pub mod Placed

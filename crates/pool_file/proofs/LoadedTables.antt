@@ -21,12 +21,12 @@ use Rattle.tenant_tables.specs.declared.summary.Summary.{Summary}
 use Rattle.tenant_tables.specs.View.{View, Entries, entry_named, summary_of}
 use Rattle.tenant_tables.specs.Objects.{objects}
 use Rattle.tenant_tables.specs.Adding.{Adds}
-use Rattle.tenant_tables.specs.Room.{HasRoomBeside}
-use Rattle.tenant_tables.specs.StandsIn.{StandsIn, LeavesOthers}
+use Rattle.tenant_tables.specs.Room.{HasHoldsLeftBeside}
+use Rattle.tenant_tables.specs.IsBackedBy.{IsBackedBy, PreservesOthers}
 use Rattle.tenant_tables.specs.Trees.{SummedAfter}
 use Rattle.tenant_tables.proofs.HoldLemmas.{held-nil, object_named-objects}
 use Rattle.tenant_tables.proofs.RoomLemmas.{has_room, room-after}
-use Rattle.tenant_tables.proofs.TableLemmas.{StandsIn-nil, LeavesOthers-refl, LeavesOthers-then, length-objects}
+use Rattle.tenant_tables.proofs.TableLemmas.{IsBackedBy-nil, PreservesOthers-refl, PreservesOthers-then, length-objects}
 use Rattle.pool_file_format.specs.Format.{RawObject}
 use Rattle.pool_file_checks.specs.Checks.{Passes}
 use Rattle.pool_file_checks.specs.Objects.{raw_object, object_checks, CanStore}
@@ -174,7 +174,7 @@ module _ (digest : List ℕ → List ℕ) (p : Cells) (old : View) (sums : Sums)
   absent : object_named id (objects p old.entries) ≡ None
   absent = object_named-objects p id old.entries ∙ ap (option_map (λ (e : Entry). content p e.slot)) can.new
 
-  pub loaded : (q : Cells) (new : View) (more : Sums) → StandsIn digest q new.entries → LeavesOthers p old.entries q new.entries
+  pub loaded : (q : Cells) (new : View) (more : Sums) → IsBackedBy digest q new.entries → PreservesOthers p old.entries q new.entries
       → SameSums more (sums_with c.kind id c.bytes sums)
       → Adds digest c (lookup (bytes_eq id) more) p old q new
       → Loads digest slot p old.entries sums q new.entries more
@@ -210,7 +210,7 @@ module _ (digest : List ℕ → List ℕ) (p : Cells) (old : View) (sums more : 
   pub summed_as : SummedAfter old.entries (content p slot) s
   summed_as = subst (SummedAfter old.entries (content p slot)) (sym sum_found) (summed digest p old sums slot can more sums_are)
 
-  pub loaded_as : {A E : Type 0} (r : Result A E) (q : Cells) (new : View) → StandsIn digest q new.entries → LeavesOthers p old.entries q new.entries
+  pub loaded_as : {A E : Type 0} (r : Result A E) (q : Cells) (new : View) → IsBackedBy digest q new.entries → PreservesOthers p old.entries q new.entries
       → OnOk r (Adds digest (content p slot) s p old q new)
       → OnOk r (Loads digest slot p old.entries sums q new.entries more)
   loaded_as (Ok x) q new stands others adds =
@@ -233,8 +233,8 @@ names_reach digest pool slots n within names named =
 -- The table has the objects before those that are left, and its holds are all that the pool has more.
 pub record AreLoaded (digest : List ℕ → List ℕ) (before pool : Cells) (entries : Entries) (sums : Sums)
     (rest whole : List Object) : Type 0 where
-  pub stands : StandsIn digest pool entries
-  pub others : LeavesOthers before [] pool entries
+  pub stands : IsBackedBy digest pool entries
+  pub others : PreservesOthers before [] pool entries
   pub objects : objects pool entries ++ rest ≡ whole
   pub trees : TreesFit sums rest
   pub noted : AreNoted sums entries
@@ -243,8 +243,8 @@ pub loaded_none : (digest : List ℕ → List ℕ) (p : Cells) (whole : List Obj
     → AreLoaded digest p p [] [] whole whole
 unfolding objects
 loaded_none digest p whole fit = record {
-  stands = StandsIn-nil digest p;
-  others = LeavesOthers-refl p [];
+  stands = IsBackedBy-nil digest p;
+  others = PreservesOthers-refl p [];
   objects = refl;
   trees = fit;
   noted = none_noted;
@@ -253,7 +253,7 @@ loaded_none digest p whole fit = record {
 -- What the numbers of a tenant and the slots of a file must be.
 pub record MayLoad (digest : List ℕ → List ℕ) (pool : Cells) (slots numbers : List ℕ) : Type 0 where
   pub live : All (IsLive pool) slots
-  pub room : HasRoomBeside pool []
+  pub room : HasHoldsLeftBeside pool []
   pub contents : Passes (object_checks None (objects_at pool slots))
   pub few : length numbers ≤ objects_limit
   pub distinct : AreDistinct (rows_of (names_of digest (objects_at pool slots)) numbers)
@@ -312,7 +312,7 @@ module _ (digest : List ℕ → List ℕ) (p0 p : Cells) (slots numbers : List �
         → AreLoaded digest p0 q new more (drop (i + 1) own) own
     loaded_on q new more loads = record {
       stands = loads.stands;
-      others = LeavesOthers-then p0 p q [] entries new h.others loads.others;
+      others = PreservesOthers-then p0 p q [] entries new h.others loads.others;
       objects =
           ap (λ (os : List Object). os ++ drop (i + 1) own)
           (loads.objects ∙ ap (λ (c : Content). objects p entries ++ object_of digest c ∷ []) same)

@@ -1,14 +1,17 @@
 -- How one more element goes into a list in the order of its keys.
-use Rattle.std.proofs.Common.{◌≡◌, ℕ, Bool, true, false, cond, ◌&&◌, List, [], ◌∷◌, ◌++◌, map, length, Option, None, Some, T, refl, sym, ap, subst, ◌∙◌, arith}
+use Rattle.std.proofs.Common.{◌≡◌, ℕ, zero, suc, ◌<◌, Bool, true, false, cond, ◌&&◌, List, [], ◌∷◌, ◌++◌, map, length, Option, None, Some, T, refl, sym, ap, subst, ◌∙◌, arith}
 use Rattle.std.specs.Ordering.{nat_cmp, is_eq, is_lt, match_ordering, eq_by_cmp}
 use Rattle.std.specs.Cmp.Lexicographic.{slice_cmp}
 use Rattle.std.specs.declared.cmp.Ordering.{Ordering}
 use Rattle.std.specs.declared.cmp.Ordering.TheVariants.{Less, Equal, Greater}
+use Rattle.std.specs.Prelude.{slice_index_or, Contains}
 use Rattle.std.specs.List.{AllByRecursion}
 use Rattle.std.specs.BTreeSet.{insert_key}
 use Rattle.std.specs.FinMap.{FinMap, IsAntisymmetric, find, put, is_sorted, entries, entries_sorted, from_entries, from_entries_push, entries-insert, get-entries, get-from_entries, len-entries, len-empty, same_map, slice_cmp-IsAntisymmetric, nat_cmp-IsAntisymmetric}
 use Rattle.std.specs.FinMap.Entries.{by_order, below_all}
 use Rattle.std.proofs.lemmas.Cmp.{nat_list_cmp_total}
+use Rattle.std.proofs.lemmas.Map.Text.{is_eq-slice_cmp}
+use Rattle.std.proofs.lemmas.Slice.Eq.{bytes_eq-Decides}
 use Rattle.pool_file.specs.Listing.{listed_by}
 
 abbrev pub key_cmp : List ℕ → List ℕ → Ordering
@@ -41,6 +44,9 @@ first false b p = p
 second : (a b : Bool) → T (a && b) → T b
 second true b p = p
 second false b p = absurd p
+
+same_key : (q k : List ℕ) → q ≡ k → eq_by_cmp key_cmp q k ≡ true
+same_key q k e = is_eq-slice_cmp q k ∙ (bytes_eq-Decides q k).1 e
 
 no_length : {A : Type 0} (es : List A) → length es ≡ 0 → es ≡ []
 no_length [] e = refl
@@ -240,6 +246,30 @@ module _ {X : Type 0} (key : X → List ℕ) where
           ≡ entries (tree_of (xs ++ x ∷ []))
       by None e = push_new xs x e
       by (Some z) e = push_again xs x z e
+
+  -- one that is there already changes nothing
+  there : (xs : List X) (x : X) (k : ℕ) → k < length xs → slice_index_or xs k x ≡ x
+      → (z : X) × (find key_cmp (key x) (keyed_by xs) ≡ Some z)
+  there [] x k l e = absurd (omega (arith, l))
+  there (y ∷ ys) x zero l e = (
+    y,
+    ap (λ (b : Bool). cond b (Some y) (find key_cmp (key x) (keyed_by ys)))
+        (same_key (key x) (key y) (ap key (sym e))),
+  )
+  there (y ∷ ys) x (suc k) l e = by (eq_by_cmp key_cmp (key x) (key y)) (there ys x k (omega (arith, l)) e)
+    where
+      by : (b : Bool) → ((z : X) × (find key_cmp (key x) (keyed_by ys) ≡ Some z))
+          → (z : X) × (cond b (Some y) (find key_cmp (key x) (keyed_by ys)) ≡ Some z)
+      by true found = (y, refl)
+      by false found = found
+
+  pub listed_again : (xs : List X) (x : X) → Contains xs x
+      → listed_by key xs ≡ listed_by key (xs ++ x ∷ [])
+  listed_again xs x c =
+      let found = there xs x c.0 c.1 c.2 in
+      sym (put_again x found.0 (listed_by key xs) (listed_sorted xs)
+      (found_listed (key x) xs ∙ found.1))
+      ∙ listed_push xs x
 
   -- ---- what holds of each element holds of each that is listed
 

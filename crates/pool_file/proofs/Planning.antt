@@ -26,8 +26,8 @@ use Rattle.pool_file.specs.declared.tenant_view.TenantView.{TenantView}
 use Rattle.pool_file.specs.Listing.{listed_by, number_by, IsInOrder}
 use Rattle.pool_file.specs.Worth.{named_in, to_save}
 use Rattle.pool_file.specs.Lent.{object_lent, objects_lent, lent_key, raw_contents, Lists}
+use Rattle.pool_file.specs.Slots.{raw_number}
 use Rattle.pool_file.proofs.Ordered.{listed_sorted}
-use Rattle.pool_file.proofs.Collected.{number_among}
 
 -- ---- the order of keys alone decides
 
@@ -127,31 +127,18 @@ number_same c cs =
     ap (λ (n : ℕ). unwrap_or (cond (nat_lt n (length cs)) (Some n) None) 0) (place_same c cs)
 
 module _ (cs : List LentContent) (all : List Named) (lists : Lists cs all) where
-  abbrev number_raw : RawObject → ℕ
-  number_raw r = number_by object_key (objects_lent cs) (object_key r)
-
-  among_raw : (own : List LentContent)
-      → map (number_among cs) own ≡ map number_raw (objects_lent own)
-  among_raw [] = refl
-  among_raw (c ∷ own) = λ i.
-      sym (number_turned object_key object_lent (lent_key c) cs) i ∷ among_raw own i
-
-  raw_number : (o : Object) → number_raw (raw_object o.content) ≡ number_in (listed_contents all) o.content
-  raw_number o =
-      ap (λ (rs : List RawObject). number_by object_key rs (content_key o.content)) lists
+  number_there : (o : Object)
+      → raw_number cs (raw_object o.content) ≡ number_in (listed_contents all) o.content
+  number_there o =
+      sym (number_turned object_key object_lent (content_key o.content) cs)
+      ∙ ap (λ (rs : List RawObject). number_by object_key rs (content_key o.content)) lists
       ∙ number_turned object_key raw_object (content_key o.content) (listed_contents all)
       ∙ number_same o.content (listed_contents all)
 
-  raw_numbers : (os : List Object)
-      → map number_raw (raw_contents os) ≡ map (λ o. number_in (listed_contents all) o.content) os
-  raw_numbers [] = refl
-  raw_numbers (o ∷ os) = λ i. raw_number o i ∷ raw_numbers os i
-
-  pub numbers_are : (own : List LentContent) (os : List Object) (ns : List ℕ)
-      → objects_lent own ≡ raw_contents os → ns ≡ map (number_among cs) own
-      → ns ≡ map (λ o. number_in (listed_contents all) o.content) os
-  numbers_are own os ns same is =
-      is ∙ among_raw own ∙ ap (map number_raw) same ∙ raw_numbers os
+  pub numbers_are : (os : List Object)
+      → map (raw_number cs) (raw_contents os) ≡ map (λ o. number_in (listed_contents all) o.content) os
+  numbers_are [] = refl
+  numbers_are (o ∷ os) = λ i. number_there o i ∷ numbers_are os i
 
 -- ---- tenants
 

@@ -4,7 +4,7 @@ use Rattle.std.proofs.lemmas.Bool.{cases_eq}
 use Rattle.std.proofs.lemmas.Bool.Decides.{nat_tests}
 use Rattle.std.proofs.lemmas.List.{map-append, length-map, drop_all}
 use Rattle.std.proofs.lemmas.List.Sums.{sum_by_push, count_by-le-length}
-use Rattle.content_pool.specs.Pool.{Cells, holds, content, HasRoom, IsLive, IsVacant, Puts, Releases}
+use Rattle.content_pool.specs.Pool.{Cells, holds, content, HasHoldsLeft, IsLive, IsVacant, Puts, Releases}
 use Rattle.pool_file_format.specs.Format.{RawObject}
 use Rattle.pool_file_checks.specs.Checks.{Passes}
 use Rattle.pool_file_checks.specs.Objects.{raw_object, object_key, object_checks}
@@ -62,7 +62,7 @@ stored_none pool whole vacant checked few = record {
 }
 
 pub room_to_store : (pool : Cells) (slots : List ℕ) (o : RawObject) (rest whole : List RawObject)
-    → AreStored pool slots (o ∷ rest) whole → HasRoom pool
+    → AreStored pool slots (o ∷ rest) whole → HasHoldsLeft pool
 room_to_store pool slots o rest whole h s =
     let counts = h.counts s in
     let few = h.few in

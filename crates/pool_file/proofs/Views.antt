@@ -1,9 +1,7 @@
 -- Tenants are lent one after the other, and what is saved of them.
 use Rattle.std.proofs.Common.{◌≡◌, ℕ, ◌+◌, ◌<◌, List, [], ◌∷◌, ◌++◌, map, take, length, get_or, refl, sym, ap, ◌∙◌}
-use Rattle.std.specs.List.{AllByRecursion}
 use Rattle.std.proofs.lemmas.List.{map-append, take_more}
 use Rattle.content_pool.specs.Pool.{Cells}
-use Rattle.tenant_tables.specs.StandsIn.{StandsIn}
 use Rattle.pool_file_checks.specs.Repositories.{Named}
 use Rattle.pool_file.specs.declared.tenant.Tenant.{Tenant}
 use Rattle.pool_file.specs.declared.tenant_view.TenantView.{TenantView}

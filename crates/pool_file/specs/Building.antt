@@ -3,14 +3,14 @@ use Rattle.std.specs.Prelude.{◌≡◌, ℕ, ◌+◌, ◌≤◌, ◌==◌, true
 use Rattle.std.specs.List.{AllByRecursion}
 use Rattle.content_pool.specs.Pool.{Cells, holds, content}
 use Rattle.tenant_refs.specs.TenantName.{is_tenant_name}
-use Rattle.tenant_tables.specs.StandsIn.{StandsIn, LeavesOthers}
+use Rattle.tenant_tables.specs.IsBackedBy.{IsBackedBy, PreservesOthers}
 use Rattle.pool_file_format.specs.Format.{RawObject, RawTenant}
 use Rattle.pool_file_checks.specs.Checks.{Passes}
 use Rattle.pool_file_checks.specs.Objects.{raw_object, object_checks}
 use Rattle.pool_file_checks.specs.Whole.{one_tenant_checks}
 use Rattle.pool_file_checks.specs.Saved.{named_at}
 use Rattle.pool_file.specs.declared.tenant.Tenant.{Tenant}
-use Rattle.pool_file.specs.Loading.{named_in, said, all_held}
+use Rattle.pool_file.specs.Loading.{named_in, loaded_repositories, all_held}
 
 -- The objects of a file whose contents lie in these slots, in the order of the slots.
 unfoldable pub objects_at : Cells → List ℕ → List RawObject
@@ -30,7 +30,7 @@ pub record IsChecked (digest : List ℕ → List ℕ) (os : List RawObject) (t :
 -- A tenant has a good name, and its objects stand in the pool and are committed.
 pub record IsBuilt (digest : List ℕ → List ℕ) (pool : Cells) (t : Tenant) : Type 0 where
   pub name : is_tenant_name t.name ≡ true
-  pub stands : StandsIn digest pool t.table.entries
+  pub stands : IsBackedBy digest pool t.table.entries
   pub committed : t.table.committed ≡ length t.table.entries
 
 -- The slots are distinct. The pool counts one hold for each of them and the holds of each tenant,
@@ -46,12 +46,12 @@ pub record Builds (digest : List ℕ → List ℕ) (os : List RawObject) (r : Ra
     (after : Cells) (t : Tenant) : Type 0 where
   pub built : IsBuilt digest after t
   pub says : named_in after t ≡ named_at digest os r
-  pub others : LeavesOthers before [] after t.table.entries
+  pub others : PreservesOthers before [] after t.table.entries
 
 -- More tenants were built, and they are what the file says of them.
 pub record Adds (digest : List ℕ → List ℕ) (slots : List ℕ) (before : Cells) (old : List Tenant)
     (rs : List RawTenant) (after : Cells) (new : List Tenant) : Type 0 where
   pub under : AreUnder digest slots after new
   pub objects : objects_at after slots ≡ objects_at before slots
-  pub says : said after new
-      ≡ said before old ++ map (named_at digest (objects_at before slots)) rs
+  pub says : loaded_repositories after new
+      ≡ loaded_repositories before old ++ map (named_at digest (objects_at before slots)) rs

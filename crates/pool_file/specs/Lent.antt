@@ -1,5 +1,5 @@
 -- Contents that the pool lends, as objects of the file.
-use Rattle.std.specs.Prelude.{◌≡◌, ℕ, List, ◌++◌, map}
+use Rattle.std.specs.Prelude.{◌≡◌, ℕ, List, map}
 use Rattle.git_model.specs.Repository.{Object}
 use Rattle.pool_file_format.specs.Format.{RawObject}
 use Rattle.pool_file_checks.specs.Objects.{raw_object, object_key}
@@ -28,7 +28,3 @@ IsListed cs os = objects_lent cs ≡ listed_by object_key os
 -- All contents of repositories, each once, in the order of the file.
 abbrev pub Lists : List LentContent → List Named → Type 0
 Lists cs all = objects_lent cs ≡ map raw_object (listed_contents all)
-
--- The contents of some more objects were added.
-abbrev pub Collects : List LentContent → List LentContent → List RawObject → Type 0
-Collects old new os = (before : List RawObject) → IsListed old before → IsListed new (before ++ os)

@@ -6,4 +6,5 @@ pub mod Tables
 pub mod Listing
 pub mod Worth
 pub mod Lent
+pub mod Slots
 pub mod Saves

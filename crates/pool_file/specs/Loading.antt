@@ -4,7 +4,7 @@ use Rattle.std.specs.List.{AllByRecursion}
 use Rattle.content_pool.specs.Pool.{Cells, holds}
 use Rattle.tenant_tables.specs.View.{held}
 use Rattle.tenant_tables.specs.Objects.{objects}
-use Rattle.tenant_tables.specs.StandsIn.{StandsIn}
+use Rattle.tenant_tables.specs.IsBackedBy.{IsBackedBy}
 use Rattle.tenant_refs.specs.TenantName.{is_tenant_name}
 use Rattle.pool_file_format.specs.declared.fault.Fault.{Fault}
 use Rattle.pool_file_format.specs.declared.fault.Fault.TheVariants as fault
@@ -24,8 +24,8 @@ named_in pool t = record {
 }
 
 -- The repositories that were loaded, in the order of the file.
-unfoldable pub said : Cells → List Tenant → List Named
-said pool tenants = map (named_in pool) tenants
+unfoldable pub loaded_repositories : Cells → List Tenant → List Named
+loaded_repositories pool tenants = map (named_in pool) tenants
 
 -- How often their tables hold a slot.
 abbrev pub all_held : List Tenant → ℕ → ℕ
@@ -35,7 +35,7 @@ all_held tenants s = sum_by (λ t. held t.table.entries s) tenants
 -- committed.
 pub record IsTenant (digest : List ℕ → List ℕ) (pool : Cells) (t : Tenant) : Type 0 where
   pub name : is_tenant_name t.name ≡ true
-  pub stands : StandsIn digest pool t.table.entries
+  pub stands : IsBackedBy digest pool t.table.entries
   pub committed : t.table.committed ≡ length t.table.entries
   pub good : IsGood digest (named_in pool t).repository
 

@@ -5,10 +5,10 @@ use Rattle.std.specs.Str.{bytes_eq}
 use Rattle.git_model.specs.Limits.{contents_limit, objects_limit}
 use Rattle.git_model.specs.Content.{Content, name_by}
 use Rattle.git_model.specs.Repository.{Object}
-use Rattle.content_pool.specs.Pool.{Cells, HasRoom, IsLive, content}
+use Rattle.content_pool.specs.Pool.{Cells, HasHoldsLeft, IsLive, content}
 use Rattle.tenant_tables.specs.View.{Entries, entry_named, summary_of}
 use Rattle.tenant_tables.specs.Objects.{objects}
-use Rattle.tenant_tables.specs.StandsIn.{StandsIn, LeavesOthers}
+use Rattle.tenant_tables.specs.IsBackedBy.{IsBackedBy, PreservesOthers}
 use Rattle.pool_file_checks.specs.Sums.{Sums, SameSums, Fits, sums_with}
 
 -- The table and the sums have the same summary under each name.
@@ -22,8 +22,8 @@ object_of digest c = record { id = name_by digest c; content = c }
 -- The object of a slot can be added to a table whose trees have these sums.
 pub record CanLoad (digest : List ℕ → List ℕ) (pool : Cells) (entries : Entries) (sums : Sums)
     (slot : ℕ) : Type 0 where
-  pub stands : StandsIn digest pool entries
-  pub room : HasRoom pool
+  pub stands : IsBackedBy digest pool entries
+  pub room : HasHoldsLeft pool
   pub live : IsLive pool slot
   pub new : entry_named (name_by digest (content pool slot)) entries ≡ None
   pub spare : length entries < objects_limit
@@ -34,8 +34,8 @@ pub record CanLoad (digest : List ℕ → List ℕ) (pool : Cells) (entries : En
 -- The object was added, and its sum was noted if it is a tree.
 pub record Loads (digest : List ℕ → List ℕ) (slot : ℕ) (before : Cells) (old : Entries)
     (sums : Sums) (after : Cells) (new : Entries) (more : Sums) : Type 0 where
-  pub stands : StandsIn digest after new
-  pub others : LeavesOthers before old after new
+  pub stands : IsBackedBy digest after new
+  pub others : PreservesOthers before old after new
   pub objects : objects after new
       ≡ objects before old ++ object_of digest (content before slot) ∷ []
   pub noted : AreNoted more new

@@ -6,7 +6,7 @@ use Rattle.git_model.specs.RefStore.{first_head}
 use Rattle.git_model.specs.Repository.{Object}
 use Rattle.content_pool.specs.Pool.{Cells}
 use Rattle.tenant_tables.specs.Objects.{objects}
-use Rattle.tenant_tables.specs.StandsIn.{StandsIn}
+use Rattle.tenant_tables.specs.IsBackedBy.{IsBackedBy}
 use Rattle.pool_file_checks.specs.Repositories.{Named}
 use Rattle.pool_file.specs.declared.tenant.Tenant.{Tenant}
 use Rattle.pool_file.specs.declared.tenant_view.TenantView.{TenantView}
@@ -45,12 +45,12 @@ committed_in pool t = record {
 -- The tables of tenants stand in the pool.
 abbrev pub TablesStand : (List ℕ → List ℕ) → Cells → List Tenant → Type 0
 TablesStand digest pool tenants =
-    AllByRecursion (λ t. StandsIn digest pool t.table.entries) tenants
+    AllByRecursion (λ t. IsBackedBy digest pool t.table.entries) tenants
 
 -- The tables of all stand in the pool.
 abbrev pub AllStand : (List ℕ → List ℕ) → Cells → List TenantView → Type 0
 AllStand digest pool tenants =
-    AllByRecursion (λ saved. StandsIn digest pool saved.table.now.entries) tenants
+    AllByRecursion (λ saved. IsBackedBy digest pool saved.table.now.entries) tenants
 
 -- There is something to save: an object, or a HEAD other than `refs/heads/main`.
 abbrev pub is_worth_saving : Named → Bool

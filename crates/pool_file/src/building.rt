@@ -3,13 +3,13 @@
 ghost use Rattle.std.specs.Prelude.{◌≡◌, [], ◌∷◌, true, All, IfOk, OnOk};
 ghost use Rattle.content_pool.specs.Pool.{IsLive, IsVacant};
 ghost use Rattle.tenant_refs.specs.TenantName.{IsTenantName, is_tenant_name};
-ghost use Rattle.tenant_tables.specs.Room.{HasRoomBeside};
+ghost use Rattle.tenant_tables.specs.Room.{HasHoldsLeftBeside};
 ghost use Rattle.pool_file_format.specs.Shown.{objects_of, tenant_of, tenants_of, file_of};
 ghost use Rattle.pool_file_checks.specs.Checks.{Passes};
 ghost use Rattle.pool_file_checks.specs.Own.{names_of};
 ghost use Rattle.pool_file_checks.specs.Whole.{file_checks};
 ghost use Rattle.pool_file_checks.specs.Saved.{saved_in};
-ghost use Rattle.pool_file.specs.Loading.{said, AreTenants};
+ghost use Rattle.pool_file.specs.Loading.{loaded_repositories, AreTenants};
 ghost use Rattle.pool_file.specs.Building.{objects_at, IsChecked, AreUnder, Builds, Adds};
 
 use crate::contents::{release_contents, store_contents};
@@ -40,7 +40,7 @@ fn build_tenant<N: Naming>(
     tenant: &RawTenant,
 ) -> Result<Tenant, Memory>
     requires live { All (IsLive pool.old) slots.now }
-    requires room { HasRoomBeside pool.old [] }
+    requires room { HasHoldsLeftBeside pool.old [] }
     requires named { names.now ≡ names_of N.digest_of (objects_at pool.old slots.now) }
     requires checked { IsChecked N.digest_of (objects_at pool.old slots.now)
         (tenant_of tenant.now) }
@@ -56,7 +56,7 @@ fn build_tenant<N: Naming>(
 // A fact for proofs: a tenant holds a slot at most once, and there are fewer than 2^63 tenants.
 fn has_room<N: Naming>(pool: &Pool<N>, slots: &[Slot], tenants: &Vec<Tenant>)
     requires { AreUnder N.digest_of slots.now pool.now tenants.now.items }
-    ensures { HasRoomBeside pool.now [] }
+    ensures { HasHoldsLeftBeside pool.now [] }
 {
     let _few = tenants.len();
 }
@@ -115,7 +115,7 @@ fn fill<N: Naming>(
     requires vacant { IsVacant pool.old }
     requires none { tenants.old.items ≡ [] }
     requires checked { Passes (file_checks N.digest_of (file_of file)) }
-    ensures says { OnOk result (said pool.new tenants.new.items
+    ensures says { OnOk result (loaded_repositories pool.new tenants.new.items
         ≡ saved_in N.digest_of (file_of file)) }
     ensures tenants { OnOk result (AreTenants N.digest_of pool.new tenants.new.items) }
 {
@@ -144,7 +144,7 @@ pub fn build<N: Naming>(
         ≡ names_of N.digest_of (objects_of judged.file.objects.items) }
     requires checked { Passes (file_checks N.digest_of (file_of judged.file)) }
     ensures says { IfOk result
-        (λ r. said r.0 r.1.items ≡ saved_in N.digest_of (file_of judged.file)) }
+        (λ r. loaded_repositories r.0 r.1.items ≡ saved_in N.digest_of (file_of judged.file)) }
     ensures tenants { IfOk result (λ r. AreTenants N.digest_of r.0 r.1.items) }
 {
     let Judged { file, names } = judged;

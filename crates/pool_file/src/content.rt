@@ -1,12 +1,12 @@
 //! Contents that the pool lends, in the order that they have in a file.
 
-ghost use Rattle.std.specs.Prelude.{◌≡◌, IfOk};
-ghost use Rattle.pool_file_checks.specs.Objects.{kind_byte};
-ghost use Rattle.pool_file.specs.Lent.{objects_lent, raw_contents};
+ghost use Rattle.std.specs.Prelude.{◌≡◌};
+ghost use Rattle.content_pool.specs.Pool.{IsLive, content};
+ghost use Rattle.pool_file_checks.specs.Objects.{kind_byte, raw_object};
+ghost use Rattle.pool_file.specs.Lent.{object_lent};
 
-use git_names::{Kind, Memory, Naming};
-use std::alloc::Global;
-use tenant_tables::Objects;
+use content_pool::{Pool, Slot};
+use git_names::{Kind, Naming};
 
 /// The contents of an object, and the byte of its kind. They compare by that byte, and then by
 /// their bytes.
@@ -27,22 +27,12 @@ fn kind_byte(kind: Kind) -> u8
     }
 }
 
-/// The contents of all objects in sight, oldest first.
-///
-/// `Memory` (90) if there is no memory for them.
-pub fn lent_contents<'a, N: Naming>(
-    alloc: Global,
-    objects: &Objects<'a, N>,
-) -> Result<Vec<LentContent<'a>>, Memory>
-    ensures { IfOk result
-        (λ contents. objects_lent contents.items ≡ raw_contents objects.now) }
+/// The content in a live slot.
+pub fn lent_content<'a, N: Naming>(pool: &'a Pool<N>, slot: Slot) -> LentContent<'a>
+    requires { IsLive pool.now slot }
+    ensures { object_lent result ≡ raw_object (content pool.now slot) }
 {
-    let mut contents = Vec::new(alloc);
-    for place in 0..objects.len() {
-        if let Some((_, kind, bytes)) = objects.at(place) {
-            let kind = kind_byte(kind);
-            contents.push(LentContent { kind, bytes })?;
-        }
-    }
-    Ok(contents)
+    let (kind, bytes) = pool.get(slot);
+    let kind = kind_byte(kind);
+    LentContent { kind, bytes }
 }

@@ -1,7 +1,7 @@
 //! The contents of a file in the pool, and the holds that keep them while tables are made.
 
 ghost use Rattle.std.specs.Prelude.{◌≡◌, ◌+◌, ◌≤◌, ℕ, IfOk, None};
-ghost use Rattle.content_pool.specs.Pool.{HasRoom, IsVacant, IsLive, Puts, holds, content};
+ghost use Rattle.content_pool.specs.Pool.{HasHoldsLeft, IsVacant, IsLive, Puts, holds, content};
 ghost use Rattle.pool_file_format.specs.Shown.{object_of, objects_of};
 ghost use Rattle.pool_file_checks.specs.Checks.{Passes};
 ghost use Rattle.pool_file_checks.specs.Objects.{object_checks};
@@ -18,7 +18,7 @@ use std::alloc::Global;
 // Moves the content of the object with this name into the pool, which then holds it once more.
 fn store_content<N: Naming>(pool: &mut Pool<N>, id: Name, object: RawObject) -> Result<Slot, Memory>
     requires named { id ≡ name_by N.digest_of (content_of (object_of object)) }
-    requires room { HasRoom pool.old }
+    requires room { HasHoldsLeft pool.old }
     ensures { IfOk result (λ slot. Puts pool.old pool.new slot (content_of (object_of object))) }
 {
     let RawObject { kind, bytes } = object;

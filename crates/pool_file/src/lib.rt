@@ -10,6 +10,8 @@ mod content;
 mod contents;
 mod listing;
 mod loading;
+mod marks;
+mod numbers;
 mod order;
 mod plan;
 mod raw_refs;

@@ -1,79 +1,92 @@
 //! All contents that are saved, each once, in the order of the file.
+//!
+//! Tenants share contents, and the pool has each of them in one slot. So a content is compared with
+//! others when its slot is met for the first time, and never again.
 
-ghost use Rattle.std.specs.Prelude.{◌≡◌, IfOk, OnOk, map};
-ghost use Rattle.pool_file.specs.Listing.{IsInOrder, number_by};
+ghost use Rattle.std.specs.Prelude.{◌≡◌, ◌∷◌, [], IfOk, OnOk, map, take};
+ghost use Rattle.content_pool.specs.Pool.{IsLive, content};
+ghost use Rattle.tenant_tables.specs.Objects.{objects};
+ghost use Rattle.tenant_tables.specs.IsBackedBy.{IsBackedBy};
+ghost use Rattle.pool_file_checks.specs.Objects.{raw_object};
 ghost use Rattle.pool_file.specs.Worth.{AllStand, named_in};
-ghost use Rattle.pool_file.specs.Lent.{objects_lent, lent_key, Collects, Lists};
+ghost use Rattle.pool_file.specs.Lent.{raw_contents, Lists};
+ghost use Rattle.pool_file.specs.Slots.{Collects};
 
-use crate::content::{LentContent, lent_contents};
+use crate::content::{LentContent, lent_content};
+use crate::marks::{is_marked, mark};
 use crate::order::in_order;
 use crate::tenant_view::TenantView;
-use content_pool::Pool;
+use content_pool::{Pool, Slot};
 use git_names::{Memory, Naming};
 use std::alloc::Global;
 use std::collections::BTreeSet;
+use tenant_tables::Table;
 
-// Adds those contents that are not in the set yet.
-fn add_contents<'a>(
+/// The contents in the order of the file. The number of each of their slots is below `slots`.
+#[derive(Drop)]
+pub struct Listing<'a> {
+    pub contents: Vec<LentContent<'a>>,
+    pub slots: usize,
+}
+
+// Adds the content in this slot, unless the slot is marked, and marks it.
+fn add_content<'a, N: Naming>(
+    pool: &'a Pool<N>,
     listed: &mut BTreeSet<LentContent<'a>>,
-    contents: &[LentContent<'a>],
+    marks: &mut Vec<bool>,
+    slot: Slot,
 ) -> Result<(), Memory>
-    ensures { OnOk result
-        (Collects listed.old.keys listed.new.keys (objects_lent contents.now)) }
+    requires { IsLive pool.now slot }
+    ensures { OnOk result (Collects pool.now listed.old.keys marks.old.items
+        listed.new.keys marks.new.items (raw_object (content pool.now slot) ∷ [])) }
 {
-    for content in contents {
-        listed.insert(*content)?;
+    if is_marked(marks, slot.number()) {
+        return Ok(());
+    }
+    listed.insert(lent_content(pool, slot))?;
+    mark(marks, slot.number())
+}
+
+// Adds the contents of the committed objects of a table.
+fn add_contents<'a, N: Naming>(
+    pool: &'a Pool<N>,
+    listed: &mut BTreeSet<LentContent<'a>>,
+    marks: &mut Vec<bool>,
+    table: &Table,
+) -> Result<(), Memory>
+    requires { IsBackedBy N.digest_of pool.now table.now.entries }
+    ensures { OnOk result (Collects pool.now listed.old.keys marks.old.items
+        listed.new.keys marks.new.items
+        (raw_contents (take table.now.committed (objects pool.now table.now.entries)))) }
+{
+    for place in 0..table.committed_len() {
+        if let Some((_, slot)) = table.at(place) {
+            add_content(pool, listed, marks, slot)?;
+        }
     }
     Ok(())
 }
 
 /// The contents of the committed objects of all tenants, each once, in the order of the file.
 ///
-/// `Memory` (90) if there is no memory for them.
+/// `Memory` (90) if there is no memory for them, or for a mark for each slot.
 pub fn listed_contents<'a, N: Naming>(
     alloc: Global,
     pool: &'a Pool<N>,
     tenants: &[TenantView<'a>],
-) -> Result<Vec<LentContent<'a>>, Memory>
+) -> Result<Listing<'a>, Memory>
     requires { AllStand N.digest_of pool.now tenants.now }
     ensures { IfOk result
-        (λ contents. Lists contents.items (map (named_in pool.now) tenants.now)) }
+        (λ listing. Lists listing.contents.items (map (named_in pool.now) tenants.now)) }
 {
     let mut listed = BTreeSet::new(alloc);
+    let mut marks = Vec::new(alloc);
     for tenant in tenants {
-        let own = lent_contents(alloc, &tenant.committed(pool))?;
-        add_contents(&mut listed, &own)?;
+        add_contents(pool, &mut listed, &mut marks, tenant.table)?;
     }
-    in_order(alloc, listed)
-}
-
-/// The number of a content in a list in order, from 0; also 0 for a content that is not in it.
-/// Takes no memory.
-pub fn number_of<'a>(all: &[LentContent<'a>], content: &LentContent<'a>) -> u64
-    requires { IsInOrder lent_key all.now }
-    ensures { result ≡ number_by lent_key all.now (lent_key content.now) }
-{
-    match all.binary_search(content) {
-        Ok(place) => place as u64,
-        Err(_) => 0,
-    }
-}
-
-/// The number of each of these contents in a list in order.
-///
-/// `Memory` (90) if there is no memory for them.
-pub fn numbers_of<'a>(
-    alloc: Global,
-    all: &[LentContent<'a>],
-    contents: &[LentContent<'a>],
-) -> Result<Vec<u64>, Memory>
-    requires { IsInOrder lent_key all.now }
-    ensures { IfOk result (λ numbers. numbers.items
-        ≡ map (λ c. number_by lent_key all.now (lent_key c)) contents.now) }
-{
-    let mut numbers = Vec::new(alloc);
-    for content in contents {
-        numbers.push(number_of(all, content))?;
-    }
-    Ok(numbers)
+    let contents = in_order(alloc, listed)?;
+    Ok(Listing {
+        contents,
+        slots: marks.len(),
+    })
 }

@@ -5,14 +5,14 @@ ghost use Rattle.byte_devices.specs.Device.{device_of, calls_of, counted_on, see
 ghost use Rattle.git_model.specs.Limits.{reads_limit};
 ghost use Rattle.pool_file_format.specs.Taking.{shown};
 ghost use Rattle.pool_file_checks.specs.Judging.{IsBlamed};
-ghost use Rattle.pool_file.specs.Loading.{said, AreTenants, LoadsAs, LoadsText, LoadsEach};
+ghost use Rattle.pool_file.specs.Loading.{loaded_repositories, AreTenants, LoadsAs, LoadsText, LoadsEach};
 
 use crate::building::build;
 use crate::tenant::Tenant;
 use byte_devices::Counted;
 use content_pool::Pool;
 use pool_file_checks::read_judged;
-use pool_file_format::{Fault, Starting};
+use pool_file_format::{Fault, StreamingDigest};
 use std::alloc::Global;
 use std::io::Read;
 
@@ -29,24 +29,25 @@ use std::io::Read;
 /// - `Memory` (90) if there is no memory for what is read, marked or made.
 ///
 /// What was read is gone from the reader; after repositories, nothing is left in it.
-pub fn load<N: Starting, R: Read>(
+pub fn load<N: StreamingDigest, R: Read>(
     alloc: Global,
     naming: N,
     reader: &mut Counted<R>,
 ) -> Result<(Pool<N>, Vec<Tenant>), Fault>
     // The repositories, or the first refusal, if the reader's bytes are known.
     ensures exact { LoadsAs N.digest_of (R.remaining (device_of reader.old))
-        (shown (λ r. said r.0 r.1.items) result) (R.remaining (device_of reader.new)) }
+        (shown (λ r. loaded_repositories r.0 r.1.items) result) (R.remaining
+        (device_of reader.new)) }
     // What is answered is what the bytes say.
     ensures found { LoadsText N.digest_of (R.remaining (device_of reader.old))
-        (shown (λ r. said r.0 r.1.items) result) }
+        (shown (λ r. loaded_repositories r.0 r.1.items) result) }
     // Every text of repositories is answered.
     ensures only { LoadsEach N.digest_of (R.remaining (device_of reader.old))
-        (shown (λ r. said r.0 r.1.items) result) }
+        (shown (λ r. loaded_repositories r.0 r.1.items) result) }
     // Which calls are made, and when the device is blamed.
     ensures cause { IsBlamed (counted_on (calls_of reader.old) reads_limit)
         (seen (R.remaining (device_of reader.old)) reader.old)
-        (shown (λ r. said r.0 r.1.items) result)
+        (shown (λ r. loaded_repositories r.0 r.1.items) result)
         (seen (R.remaining (device_of reader.new)) reader.new) }
     // The tenants are good ones over this pool, even if the reader's bytes are not known.
     ensures tenants { IfOk result (λ r. AreTenants N.digest_of r.0 r.1.items) }

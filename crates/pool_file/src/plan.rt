@@ -8,6 +8,7 @@ ghost use Rattle.pool_file.specs.Lent.{objects_lent};
 
 use crate::content::LentContent;
 use crate::listing::listed_contents;
+use crate::numbers::no_numbers;
 use crate::tenant_view::TenantView;
 use crate::tenants::{raw_tenants, tenants_to_save};
 use content_pool::Pool;
@@ -54,8 +55,9 @@ pub fn planned<'a, N: Naming>(
         ≡ raw_of 2 (to_save pool.now tenants.now)) }
 {
     let saved = tenants_to_save(alloc, tenants)?;
-    let contents = listed_contents(alloc, pool, &saved)?;
-    let tenants = raw_tenants(alloc, pool, &contents, &saved)?;
-    let objects = lent_objects(alloc, &contents)?;
+    let listing = listed_contents(alloc, pool, &saved)?;
+    let mut known = no_numbers(alloc, listing.slots)?;
+    let tenants = raw_tenants(alloc, pool, &listing.contents, &mut known, &saved)?;
+    let objects = lent_objects(alloc, &listing.contents)?;
     Ok(Plan { objects, tenants })
 }

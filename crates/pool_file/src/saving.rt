@@ -11,7 +11,7 @@ use crate::tenant::Tenant;
 use crate::tenant_view::TenantView;
 use byte_devices::Counted;
 use content_pool::Pool;
-use pool_file_format::{Fault, Starting, write_lent};
+use pool_file_format::{Fault, StreamingDigest, write_lent};
 use std::alloc::{AllocError, Global};
 use std::io::Write;
 
@@ -23,12 +23,12 @@ use std::io::Write;
 ///
 /// - `Fault::Device` (68) if a call of `write` answered an error or took nothing. A prefix of the
 ///   file has then been written.
-/// - `Fault::Memory` (90) if there is no memory for the order of the contents, or for the tenants'
-///   numbers, names and refs.
+/// - `Fault::Memory` (90) if there is no memory for the order of the contents, for what is noted of
+///   their slots, or for the tenants' numbers, names and refs.
 ///
 /// Nothing is refused, whatever the repositories are. `CanSave` of pool_file_checks says which of
 /// them can be read again. The pool and the tenants are as they were.
-pub fn save_views<'a, N: Starting, W: Write>(
+pub fn save_views<'a, N: StreamingDigest, W: Write>(
     alloc: Global,
     pool: &'a Pool<N>,
     tenants: &[TenantView<'a>],
@@ -64,7 +64,7 @@ fn views_of<'a>(alloc: Global, tenants: &'a [Tenant]) -> Result<Vec<TenantView<'
 /// - `Fault::Memory` (90) if an allocation fails. A prefix of the file may have been written.
 ///
 /// Nothing is refused. The pool and the tenants are as they were.
-pub fn save<N: Starting, W: Write>(
+pub fn save<N: StreamingDigest, W: Write>(
     alloc: Global,
     pool: &Pool<N>,
     tenants: &[Tenant],

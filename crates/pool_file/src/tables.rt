@@ -5,8 +5,8 @@ ghost use Rattle.content_pool.specs.Pool.{IsLive, content};
 ghost use Rattle.git_model.specs.Content.{name_by};
 ghost use Rattle.git_model.specs.GoodRepository.{objects_limit};
 ghost use Rattle.tenant_tables.specs.Objects.{objects};
-ghost use Rattle.tenant_tables.specs.Room.{HasRoomBeside};
-ghost use Rattle.tenant_tables.specs.StandsIn.{StandsIn, LeavesOthers};
+ghost use Rattle.tenant_tables.specs.Room.{HasHoldsLeftBeside};
+ghost use Rattle.tenant_tables.specs.IsBackedBy.{IsBackedBy, PreservesOthers};
 ghost use Rattle.pool_file_checks.specs.Checks.{Passes};
 ghost use Rattle.pool_file_checks.specs.Objects.{object_checks};
 ghost use Rattle.pool_file_checks.specs.Own.{own_objects, names_of, rows_of, AreDistinct};
@@ -77,7 +77,7 @@ pub fn load_table<N: Naming>(
     numbers: &[u64],
 ) -> Result<Table, Memory>
     requires live { All (IsLive pool.old) slots.now }
-    requires room { HasRoomBeside pool.old [] }
+    requires room { HasHoldsLeftBeside pool.old [] }
     requires named { names.now ≡ names_of N.digest_of (objects_at pool.old slots.now) }
     requires contents { Passes (object_checks None (objects_at pool.old slots.now)) }
     requires numbers { All (λ n. n < length slots.now) numbers.now }
@@ -86,8 +86,8 @@ pub fn load_table<N: Naming>(
         (rows_of (names_of N.digest_of (objects_at pool.old slots.now)) numbers.now) }
     requires trees { TreesFit []
         (own_objects N.digest_of (objects_at pool.old slots.now) numbers.now) }
-    ensures stands { IfOk result (λ table. StandsIn N.digest_of pool.new table.entries) }
-    ensures others { IfOk result (λ table. LeavesOthers pool.old [] pool.new table.entries) }
+    ensures stands { IfOk result (λ table. IsBackedBy N.digest_of pool.new table.entries) }
+    ensures others { IfOk result (λ table. PreservesOthers pool.old [] pool.new table.entries) }
     ensures objects { IfOk result (λ table. objects pool.new table.entries
         ≡ own_objects N.digest_of (objects_at pool.old slots.now) numbers.now) }
     ensures committed { IfOk result (λ table. table.committed ≡ length table.entries) }

@@ -1,7 +1,7 @@
 //! A tenant that is lent to be saved.
 
 ghost use Rattle.std.specs.Prelude.{◌≡◌};
-ghost use Rattle.tenant_tables.specs.StandsIn.{StandsIn};
+ghost use Rattle.tenant_tables.specs.IsBackedBy.{IsBackedBy};
 ghost use Rattle.content_pool.specs.Pool.{Cells};
 ghost use Rattle.pool_file.specs.Worth.{named_in, is_worth_saving};
 
@@ -21,7 +21,7 @@ pub struct TenantView<'a> {
 impl<'a> TenantView<'a> {
     // Its committed objects. Those of a running stream are not saved.
     pub(crate) fn committed<N: Naming>(&self, pool: &'a Pool<N>) -> Objects<'a, N>
-        requires { StandsIn N.digest_of pool.now self.now.table.now.entries }
+        requires { IsBackedBy N.digest_of pool.now self.now.table.now.entries }
         ensures { result ≡ (named_in pool.now self.now).repository.objects }
     {
         Objects::of(pool, self.table, Sight::Committed)

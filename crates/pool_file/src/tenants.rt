@@ -2,14 +2,16 @@
 
 ghost use Rattle.std.specs.Prelude.{◌≡◌, ℕ, List, IfOk, map};
 ghost use Rattle.content_pool.specs.Pool.{Cells};
+ghost use Rattle.tenant_tables.specs.IsBackedBy.{IsBackedBy};
 ghost use Rattle.pool_file_format.specs.Shown.{tenant_of, tenants_of};
 ghost use Rattle.pool_file_checks.specs.Repositories.{Named, raw_tenant, listed_contents};
 ghost use Rattle.pool_file.specs.Listing.{IsInOrder};
-ghost use Rattle.pool_file.specs.Worth.{AllStand, named_with, named_in, to_save};
+ghost use Rattle.pool_file.specs.Worth.{AllStand, named_in, to_save};
 ghost use Rattle.pool_file.specs.Lent.{Lists, lent_key};
+ghost use Rattle.pool_file.specs.Slots.{AreKnown};
 
-use crate::content::{LentContent, lent_contents};
-use crate::listing::numbers_of;
+use crate::content::LentContent;
+use crate::numbers::numbers_of;
 use crate::raw_refs::raw_refs;
 use crate::tenant_view::TenantView;
 use content_pool::Pool;
@@ -18,7 +20,6 @@ use pool_file_format::RawTenant;
 use std::alloc::Global;
 use std::collections::BTreeSet;
 use tenant_refs::TenantName;
-use tenant_tables::Objects;
 
 // A tenant in the order of names.
 #[derive(Clone, Copy)]
@@ -64,45 +65,51 @@ pub fn tenants_to_save<'a>(
     all_tenants(alloc, by_name)
 }
 
-// A tenant with these objects, as a file with these contents has it.
+// A tenant, as a file with these contents has it.
 fn raw_tenant<'a, N: Naming>(
     alloc: Global,
+    pool: &'a Pool<N>,
     contents: &[LentContent<'a>],
-    tenant: &TenantView<'_>,
-    objects: &Objects<'a, N>,
+    known: &mut [Option<u64>],
+    tenant: &TenantView<'a>,
 ) -> Result<RawTenant, Memory>
-    requires { IsInOrder lent_key contents.now }
-    ensures { IfOk result (λ raw. (all : List Named) → Lists contents.now all
-        → tenant_of raw ≡ raw_tenant (listed_contents all) (named_with tenant.now objects.now)) }
+    requires stands { IsBackedBy N.digest_of pool.now tenant.now.table.now.entries }
+    requires order { IsInOrder lent_key contents.now }
+    requires known { AreKnown pool.now contents.now known.old }
+    ensures known { AreKnown pool.now contents.now known.new }
+    ensures raw { IfOk result (λ raw. (all : List Named) → Lists contents.now all
+        → tenant_of raw ≡ raw_tenant (listed_contents all) (named_in pool.now tenant.now)) }
 {
-    let own = lent_contents(alloc, objects)?;
+    let numbers = numbers_of(alloc, pool, contents, known, tenant.table)?;
     Ok(RawTenant {
         name: Vec::from_slice(alloc, tenant.name.as_bytes())?,
-        numbers: numbers_of(alloc, contents, &own)?,
-        refs: raw_refs(alloc, tenant, objects)?,
+        numbers,
+        refs: raw_refs(alloc, tenant, &tenant.committed(pool))?,
         head: Vec::from_slice(alloc, tenant.refs.head())?,
     })
 }
 
-/// All tenants, as a file with these contents has them.
+/// All tenants, as a file with these contents has them. `known` has the numbers of contents that
+/// are known, each at the number of its slot, and then knows more.
 ///
 /// `Memory` (90) if there is no memory for them.
 pub fn raw_tenants<'a, N: Naming>(
     alloc: Global,
     pool: &'a Pool<N>,
     contents: &[LentContent<'a>],
+    known: &mut [Option<u64>],
     tenants: &[TenantView<'a>],
 ) -> Result<Vec<RawTenant>, Memory>
     requires stand { AllStand N.digest_of pool.now tenants.now }
     requires order { IsInOrder lent_key contents.now }
+    requires known { AreKnown pool.now contents.now known.old }
     ensures { IfOk result (λ raws. (all : List Named) → Lists contents.now all
         → tenants_of raws.items
         ≡ map (raw_tenant (listed_contents all)) (map (named_in pool.now) tenants.now)) }
 {
     let mut raws = Vec::new(alloc);
     for tenant in tenants {
-        let objects = tenant.committed(pool);
-        raws.push(raw_tenant(alloc, contents, tenant, &objects)?)?;
+        raws.push(raw_tenant(alloc, pool, contents, known, tenant)?)?;
     }
     Ok(raws)
 }

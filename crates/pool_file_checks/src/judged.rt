@@ -11,7 +11,7 @@ ghost use Rattle.pool_file_checks.specs.Judging.{Judges, Finds, ReadsTexts, IsBl
 use crate::{check_file, name_objects};
 use byte_devices::Counted;
 use git_names::Name;
-use pool_file_format::{Fault, RawFile, Starting, read_sealed};
+use pool_file_format::{Fault, RawFile, StreamingDigest, read_sealed};
 use std::alloc::Global;
 use std::io::Read;
 
@@ -36,7 +36,7 @@ pub struct Judged {
 /// - `Memory` (90) if there is no memory for what is read, named and marked.
 ///
 /// What was read is gone from the reader; after a file, nothing is left in it.
-pub fn read_judged<N: Starting, R: Read>(
+pub fn read_judged<N: StreamingDigest, R: Read>(
     alloc: Global,
     naming: &N,
     reader: &mut Counted<R>,

@@ -8,7 +8,7 @@ use Rattle.std.proofs.lemmas.List.Concat.{flat_map-cons}
 use Rattle.byte_devices.specs.declared.device_fault.DeviceFault.{DeviceFault}
 use Rattle.byte_devices.specs.declared.counted.Counted.{Counted}
 use Rattle.byte_devices.specs.Device.{Device, device_of, seen}
-use Rattle.pool_file_format.specs.declared.gathering.Gathered.{Gathered}
+use Rattle.pool_file_format.specs.declared.gathering.Buffered.{Buffered}
 use Rattle.pool_file_format.specs.Sinks.{Moves, Gives, AddsUp, HasWritten, HasBroken, HasGathered, TookBlocks, FailedBlocks, Writes}
 
 -- A piece, and then what comes after it.
@@ -86,9 +86,9 @@ texts_done view text xs i all = ap (λ l. flat_map text (map view l)) (drop_all 
 -- ---- blocks
 
 -- What waited was sent, and then nothing waits, and a piece goes on as it is.
-pub gathers_gives : {S : Type 0} (Took Failed : Moves S) (old new : Gathered S) (b : S) (r : Result Unit DeviceFault) (bytes : List ℕ) → AddsUp Took Failed
+pub gathers_gives : {S : Type 0} (Took Failed : Moves S) (old new : Buffered S) (b : S) (r : Result Unit DeviceFault) (bytes : List ℕ) → AddsUp Took Failed
     → new.sink.ghost_name ≡ old.sink.ghost_name → new.block.items ≡ [] → Took old.sink.now b old.block.items → Gives Took Failed b r new.sink.now bytes
-    → Gives {S = Gathered S} (TookBlocks Took) (FailedBlocks Failed) old r new bytes
+    → Gives {S = Buffered S} (TookBlocks Took) (FailedBlocks Failed) old r new bytes
 gathers_gives Took Failed old new b (Ok u) bytes laws same none p q = (
   same,
   record {

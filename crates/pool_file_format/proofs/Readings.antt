@@ -9,7 +9,7 @@ use Rattle.pool_file_format.specs.declared.refusal.Refusal.TheVariants as refusa
 use Rattle.pool_file_format.specs.declared.fault.Fault.{Fault}
 use Rattle.pool_file_format.specs.declared.fault.Fault.TheVariants as fault
 use Rattle.pool_file_format.specs.Lengths.{Read, ◌>>=◌, bytes_at, number_at, sized_at, many_at, counted_at}
-use Rattle.pool_file_format.specs.Taking.{Fails, Gave, HasGiven, ReadsBy, Reads, Adds, shown}
+use Rattle.pool_file_format.specs.Taking.{Fails, Gave, HasGiven, ReadsBy, ReadsValue, Adds, shown}
 use Rattle.pool_file_format.proofs.Calls.{asked_none, fits_after, given_then, well_looser, blames_on, blames_as}
 use Rattle.pool_file_format.proofs.Formats.{bytes_again, guard_ok}
 use Rattle.pool_file_format.proofs.Takes.{is_cut, starved_given}
@@ -41,7 +41,7 @@ gave_fails at k (Some bytes) new e p = fails_on e (at bytes) k p
 
 -- The first gave a value, and the other whatever it gave.
 pub reads_then : {A B : Type 0} {more bound : ℕ} (at : Read A) (k : A × List ℕ → Result (B × List ℕ) Refusal) (a b c : Device) (x : A) (r : Result B Fault)
-    → Reads bound at a (Ok x) b → ReadsBy more bound (λ rest. k (x, rest)) b r c → ReadsBy more bound (λ bytes. at bytes >>= k) a r c
+    → ReadsValue bound at a (Ok x) b → ReadsBy more bound (λ rest. k (x, rest)) b r c → ReadsBy more bound (λ bytes. at bytes >>= k) a r c
 reads_then at k a b c x r p q = record {
   gave = gave_then at k a.known b.known c.known x r p.gave q.gave;
   few = λ l. q.few (p.few l);
@@ -62,37 +62,37 @@ value_given x None = tt
 value_given x (Some bytes) = refl
 
 -- A value that is at hand.
-pub reads_value : {A : Type 0} {bound : ℕ} (x : A) (a : Device) → Reads bound (λ rest. Ok (x, rest)) a (Ok x) a
+pub reads_value : {A : Type 0} {bound : ℕ} (x : A) (a : Device) → ReadsValue bound (λ rest. Ok (x, rest)) a (Ok x) a
 reads_value x a = record { gave = value_given x a.known; few = λ l. l; blames = asked_none a }
 
 -- No room was found before anything was read, or after a value.
-pub reads_starved : {A : Type 0} {bound : ℕ} (at : Read A) (a : Device) → Reads bound at a (Err fault.Memory) a
+pub reads_starved : {A : Type 0} {bound : ℕ} (at : Read A) (a : Device) → ReadsValue bound at a (Err fault.Memory) a
 reads_starved at a = record { gave = starved_given at a.known a.known; few = λ l. l; blames = λ fits. well_looser a a (asked_none a fits) }
 
-pub reads_stops : {A B : Type 0} {bound : ℕ} (at : Read A) (f : Read B) (a b : Device) (x : A) → Reads bound at a (Ok x) b → Reads bound f a (Err fault.Memory) b
+pub reads_stops : {A B : Type 0} {bound : ℕ} (at : Read A) (f : Read B) (a b : Device) (x : A) → ReadsValue bound at a (Ok x) b → ReadsValue bound f a (Err fault.Memory) b
 reads_stops at f a b x p = record { gave = starved_given f a.known b.known; few = p.few; blames = λ fits. well_looser a b (p.blames fits) }
 
 -- ---- numbers, bytes after their length
 
 pub number_reads : {bound : ℕ} (w : Width) (size : ℕ) (room : List ℕ) (n : ℕ) (a b : Device) → size ≡ byte_len w → n ≡ from_be_bytes w room
-    → Reads bound (bytes_at size) a (Ok room) b → Reads bound (number_at w) a (Ok n) b
+    → ReadsValue bound (bytes_at size) a (Ok room) b → ReadsValue bound (number_at w) a (Ok n) b
 unfolding number_at
 number_reads {bound} w size room n a b same is p =
-    subst (λ (m : ℕ). Reads bound (number_at w) a (Ok m) b) (sym is)
+    subst (λ (m : ℕ). ReadsValue bound (number_at w) a (Ok m) b) (sym is)
     (reads_then (bytes_at (byte_len w)) (λ front. Ok (from_be_bytes w front.0, front.1)) a b b room (Ok (from_be_bytes w room))
-    (subst (λ (m : ℕ). Reads bound (bytes_at m) a (Ok room) b) same p) (reads_value (from_be_bytes w room) b))
+    (subst (λ (m : ℕ). ReadsValue bound (bytes_at m) a (Ok room) b) same p) (reads_value (from_be_bytes w room) b))
 
-pub number_fails : {bound : ℕ} (w : Width) (size : ℕ) (a b : Device) (e : Fault) → size ≡ byte_len w → Reads bound (bytes_at size) a (Err e) b → Reads bound (number_at w) a (Err e) b
+pub number_fails : {bound : ℕ} (w : Width) (size : ℕ) (a b : Device) (e : Fault) → size ≡ byte_len w → ReadsValue bound (bytes_at size) a (Err e) b → ReadsValue bound (number_at w) a (Err e) b
 unfolding number_at
 number_fails {bound} w size a b e same p =
     reads_fails (bytes_at (byte_len w)) (λ front. Ok (from_be_bytes w front.0, front.1)) a b e
-    (subst (λ (m : ℕ). Reads bound (bytes_at m) a (Err e) b) same p)
+    (subst (λ (m : ℕ). ReadsValue bound (bytes_at m) a (Err e) b) same p)
 
-pub sized_reads : {bound : ℕ} (w : Width) (n : ℕ) (a b c : Device) (r : Result (List ℕ) Fault) → Reads bound (number_at w) a (Ok n) b → Reads bound (bytes_at n) b r c → Reads bound (sized_at w) a r c
+pub sized_reads : {bound : ℕ} (w : Width) (n : ℕ) (a b c : Device) (r : Result (List ℕ) Fault) → ReadsValue bound (number_at w) a (Ok n) b → ReadsValue bound (bytes_at n) b r c → ReadsValue bound (sized_at w) a r c
 unfolding sized_at
 sized_reads w n a b c r p q = reads_then (number_at w) (λ n. bytes_at n.0 n.1) a b c n r p q
 
-pub sized_fails : {bound : ℕ} (w : Width) (a b : Device) (e : Fault) → Reads bound (number_at w) a (Err e) b → Reads bound (sized_at w) a (Err e) b
+pub sized_fails : {bound : ℕ} (w : Width) (a b : Device) (e : Fault) → ReadsValue bound (number_at w) a (Err e) b → ReadsValue bound (sized_at w) a (Err e) b
 unfolding sized_at
 sized_fails w a b e p = reads_fails (number_at w) (λ n. bytes_at n.0 n.1) a b e p
 
@@ -151,8 +151,8 @@ more_given n m (Some bytes) None c xs ys p q = absurd p
 more_given n m (Some bytes) (Some rest) None xs ys p q = absurd q
 more_given n m (Some bytes) (Some rest) (Some after) xs ys p q = more_bytes n m bytes xs rest ys after p q
 
-pub bytes_more : {bound : ℕ} (n m total : ℕ) (a b c : Device) (xs ys : List ℕ) → n + m ≡ total → Reads bound (bytes_at n) a (Ok xs) b → Reads bound (bytes_at m) b (Ok ys) c → Reads bound (bytes_at total) a (Ok (xs ++ ys)) c
-bytes_more {bound} n m total a b c xs ys all p q = subst (λ (k : ℕ). Reads bound (bytes_at k) a (Ok (xs ++ ys)) c) all (record {
+pub bytes_more : {bound : ℕ} (n m total : ℕ) (a b c : Device) (xs ys : List ℕ) → n + m ≡ total → ReadsValue bound (bytes_at n) a (Ok xs) b → ReadsValue bound (bytes_at m) b (Ok ys) c → ReadsValue bound (bytes_at total) a (Ok (xs ++ ys)) c
+bytes_more {bound} n m total a b c xs ys all p q = subst (λ (k : ℕ). ReadsValue bound (bytes_at k) a (Ok (xs ++ ys)) c) all (record {
   gave = more_given n m a.known b.known c.known xs ys p.gave q.gave;
   few = λ l. q.few (p.few l);
   blames = λ fits. let first = p.blames fits in given_then 0 a b c first (q.blames (fits_after 0 a b first));
@@ -163,7 +163,7 @@ end_given n m total e None b c xs le p q = tt
 end_given n m total e (Some bytes) None c xs le p q = absurd p
 end_given n m total e (Some bytes) (Some rest) c xs le p q = ends_bytes n m total e bytes xs rest le p q
 
-pub bytes_end : {bound : ℕ} (n m total : ℕ) (e : Fault) (a b c : Device) (xs : List ℕ) → n + m ≤ total → Reads bound (bytes_at n) a (Ok xs) b → Reads {A = List ℕ} bound (bytes_at m) b (Err e) c → Reads {A = List ℕ} bound (bytes_at total) a (Err e) c
+pub bytes_end : {bound : ℕ} (n m total : ℕ) (e : Fault) (a b c : Device) (xs : List ℕ) → n + m ≤ total → ReadsValue bound (bytes_at n) a (Ok xs) b → ReadsValue {A = List ℕ} bound (bytes_at m) b (Err e) c → ReadsValue {A = List ℕ} bound (bytes_at total) a (Err e) c
 bytes_end {bound} n m total e a b c xs le p q = record {
   gave = end_given n m total e a.known b.known c.known xs le p.gave q.gave;
   few = λ l. q.few (p.few l);
@@ -177,7 +177,7 @@ none_given : (a : Option (List ℕ)) → Gave (bytes_at 0) a (Ok []) a
 none_given None = tt
 none_given (Some bytes) = no_bytes bytes
 
-pub bytes_none : {bound : ℕ} (a : Device) → Reads bound (bytes_at 0) a (Ok []) a
+pub bytes_none : {bound : ℕ} (a : Device) → ReadsValue bound (bytes_at 0) a (Ok []) a
 bytes_none a = record { gave = none_given a.known; few = λ l. l; blames = asked_none a }
 
 -- ---- loops
@@ -224,7 +224,7 @@ on_ahead at count left (Some bytes) None c xs x p q = absurd p
 on_ahead at count left (Some bytes) (Some rest) None xs x p q = absurd q
 on_ahead at count left (Some bytes) (Some rest) (Some after) xs x p q = one_more at count left xs x bytes rest after p q
 
-pub goes_on : {A : Type 0} {bound : ℕ} (at : Read A) (count more left : ℕ) (a b c : Device) (xs : List A) (x : A) → more ≡ suc left → Goes bound at count a xs more b → Reads bound at b (Ok x) c → Goes bound at count a (xs ++ x ∷ []) left c
+pub goes_on : {A : Type 0} {bound : ℕ} (at : Read A) (count more left : ℕ) (a b c : Device) (xs : List A) (x : A) → more ≡ suc left → Goes bound at count a xs more b → ReadsValue bound at b (Ok x) c → Goes bound at count a (xs ++ x ∷ []) left c
 goes_on at count more left a b c xs x is p q = record {
   ahead = on_ahead at count left a.known b.known c.known xs x (subst (λ (n : ℕ). Ahead at count a.known xs n b.known) is p.ahead) q.gave;
   few = λ l. q.few (p.few l);
@@ -244,7 +244,7 @@ fails_given at count left e None b c xs p q = tt
 fails_given at count left e (Some bytes) None c xs p q = absurd p
 fails_given at count left e (Some bytes) (Some rest) c xs p q = one_fails at count left e xs bytes rest p q
 
-pub goes_fails : {A : Type 0} {bound : ℕ} (at : Read A) (count more left : ℕ) (e : Fault) (a b c : Device) (xs : List A) → more ≡ suc left → Goes bound at count a xs more b → Reads {A = A} bound at b (Err e) c → Reads {A = List A} bound (many_at at count) a (Err e) c
+pub goes_fails : {A : Type 0} {bound : ℕ} (at : Read A) (count more left : ℕ) (e : Fault) (a b c : Device) (xs : List A) → more ≡ suc left → Goes bound at count a xs more b → ReadsValue {A = A} bound at b (Err e) c → ReadsValue {A = List A} bound (many_at at count) a (Err e) c
 goes_fails {A} {bound} at count more left e a b c xs is p q = record {
   gave = fails_given at count left e a.known b.known c.known xs (subst (λ (n : ℕ). Ahead at count a.known xs n b.known) is p.ahead) q.gave;
   few = λ l. q.few (p.few l);
@@ -258,7 +258,7 @@ done_given at count None b xs p = tt
 done_given at count (Some bytes) None xs p = absurd p
 done_given {A} at count (Some bytes) (Some rest) xs p = sym p ∙ ap (λ (ys : List A). Ok (ys, rest)) (append-nil xs)
 
-pub goes_done : {A : Type 0} {bound : ℕ} (at : Read A) (count left : ℕ) (a b : Device) (xs : List A) → left ≡ 0 → Goes bound at count a xs left b → Reads bound (many_at at count) a (Ok xs) b
+pub goes_done : {A : Type 0} {bound : ℕ} (at : Read A) (count left : ℕ) (a b : Device) (xs : List A) → left ≡ 0 → Goes bound at count a xs left b → ReadsValue bound (many_at at count) a (Ok xs) b
 goes_done at count left a b xs none p = record {
   gave = done_given at count a.known b.known xs (subst (λ (n : ℕ). Ahead at count a.known xs n b.known) none p.ahead);
   few = p.few;
@@ -266,16 +266,16 @@ goes_done at count left a b xs none p = record {
 }
 
 -- No room for one more.
-pub goes_starved : {A B : Type 0} {bound : ℕ} (at : Read A) (f : Read B) (count left : ℕ) (a b : Device) (xs : List A) → Goes bound at count a xs left b → Reads bound f a (Err fault.Memory) b
+pub goes_starved : {A B : Type 0} {bound : ℕ} (at : Read A) (f : Read B) (count left : ℕ) (a b : Device) (xs : List A) → Goes bound at count a xs left b → ReadsValue bound f a (Err fault.Memory) b
 goes_starved at f count left a b xs p = record { gave = starved_given f a.known b.known; few = p.few; blames = λ fits. well_looser a b (p.well fits) }
 
 -- ---- as many as a count says
 
-pub counted_reads : {A : Type 0} {bound : ℕ} (at : Read A) (n : ℕ) (a b c : Device) (r : Result (List A) Fault) → Reads bound (number_at w64) a (Ok n) b → Reads bound (many_at at n) b r c → Reads bound (counted_at at) a r c
+pub counted_reads : {A : Type 0} {bound : ℕ} (at : Read A) (n : ℕ) (a b c : Device) (r : Result (List A) Fault) → ReadsValue bound (number_at w64) a (Ok n) b → ReadsValue bound (many_at at n) b r c → ReadsValue bound (counted_at at) a r c
 unfolding counted_at
 counted_reads at n a b c r p q = reads_then (number_at w64) (λ n. many_at at n.0 n.1) a b c n r p q
 
-pub counted_fails : {A : Type 0} {bound : ℕ} (at : Read A) (a b : Device) (e : Fault) → Reads bound (number_at w64) a (Err e) b → Reads bound (counted_at at) a (Err e) b
+pub counted_fails : {A : Type 0} {bound : ℕ} (at : Read A) (a b : Device) (e : Fault) → ReadsValue bound (number_at w64) a (Err e) b → ReadsValue bound (counted_at at) a (Err e) b
 unfolding counted_at
 counted_fails at a b e p = reads_fails (number_at w64) (λ n. many_at at n.0 n.1) a b e p
 
@@ -288,24 +288,24 @@ front_is start block old pad resized now front size is same at =
     ∙ take_at old pad start (sym size)
 
 pub adds : {bound : ℕ} (n len : ℕ) (old front room z : List ℕ) (a b : Device) (r : Result Unit Fault) → front ≡ old → len ≡ length front + length room → length room ≡ n
-    → Reads bound (bytes_at (length room)) a (shown (λ _. room) r) b → Adds bound n old a r (take len (front ++ room ++ z)) b
+    → ReadsValue bound (bytes_at (length room)) a (shown (λ _. room) r) b → Adds bound n old a r (take len (front ++ room ++ z)) b
 adds {bound} n len old front room z a b (Ok u) is size wide p = (
   room,
   take_at (front ++ room) z len (length-append front room ∙ sym size) ∙ ap (λ (l : List ℕ). l ++ room) is,
   wide,
-  subst (λ (m : ℕ). Reads bound (bytes_at m) a (Ok room) b) wide p,
+  subst (λ (m : ℕ). ReadsValue bound (bytes_at m) a (Ok room) b) wide p,
 )
-adds {bound} n len old front room z a b (Err e) is size wide p = subst (λ (m : ℕ). Reads {A = List ℕ} bound (bytes_at m) a (Err e) b) wide p
+adds {bound} n len old front room z a b (Err e) is size wide p = subst (λ (m : ℕ). ReadsValue {A = List ℕ} bound (bytes_at m) a (Err e) b) wide p
 
-pub starts_none : {bound : ℕ} (bytes : List ℕ) (a : Device) → bytes ≡ [] → Reads bound (bytes_at (length bytes)) a (Ok bytes) a
-starts_none {bound} bytes a none = subst (λ (l : List ℕ). Reads bound (bytes_at (length l)) a (Ok l) a) (sym none) (bytes_none a)
+pub starts_none : {bound : ℕ} (bytes : List ℕ) (a : Device) → bytes ≡ [] → ReadsValue bound (bytes_at (length bytes)) a (Ok bytes) a
+starts_none {bound} bytes a none = subst (λ (l : List ℕ). ReadsValue bound (bytes_at (length l)) a (Ok l) a) (sym none) (bytes_none a)
 
 -- A block more.
-pub grows : {bound : ℕ} (count left block : ℕ) (bytes after : List ℕ) (a b c : Device) → length bytes + left ≡ count → block ≤ left → Reads bound (bytes_at (length bytes)) a (Ok bytes) b
-    → Adds bound block bytes b (Ok tt) after c → (length after + (left - block) ≡ count) × Reads bound (bytes_at (length after)) a (Ok after) c
+pub grows : {bound : ℕ} (count left block : ℕ) (bytes after : List ℕ) (a b c : Device) → length bytes + left ≡ count → block ≤ left → ReadsValue bound (bytes_at (length bytes)) a (Ok bytes) b
+    → Adds bound block bytes b (Ok tt) after c → (length after + (left - block) ≡ count) × ReadsValue bound (bytes_at (length after)) a (Ok after) c
 grows {bound} count left block bytes after a b c all within p q =
     let l = ap length q.1 in let m = length-append bytes q.0 in let n = q.2 in (
       omega (arith, all, within, l, m, n),
-      subst (λ (x : List ℕ). Reads bound (bytes_at (length after)) a (Ok x) c) (sym q.1)
+      subst (λ (x : List ℕ). ReadsValue bound (bytes_at (length after)) a (Ok x) c) (sym q.1)
           (bytes_more (length bytes) block (length after) a b c bytes q.0 (omega (arith, l, m, n)) p q.3),
     )

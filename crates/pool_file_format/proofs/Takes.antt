@@ -8,7 +8,7 @@ use Rattle.byte_devices.specs.Reading.{AreBytes, HasReadWell, HasReadAll, HasFai
 use Rattle.pool_file_format.specs.declared.refusal.Refusal.TheVariants as refusal
 use Rattle.pool_file_format.specs.declared.fault.Fault.TheVariants as fault
 use Rattle.pool_file_format.specs.Lengths.{Read, bytes_at}
-use Rattle.pool_file_format.specs.Taking.{Gave, HasAskedWell, Reads}
+use Rattle.pool_file_format.specs.Taking.{Gave, HasAskedWell, ReadsValue}
 use Rattle.pool_file_format.proofs.Formats.{bytes_again}
 
 whole_given : (old new : Option (List ℕ)) (room : List ℕ) → Consumes old new room → Gave (bytes_at (length room)) old (Ok room) new
@@ -40,7 +40,7 @@ asked_by more a b bytes had giving = record { asked = record { bytes = bytes; re
 
 -- The room is full.
 pub reads_whole : (bound : ℕ) (a b : Device) (room : List ℕ) → HasReadWell a b room → AreBytes room → b.calls ≤ a.calls + length room → (a.calls ≤ bound → b.calls ≤ bound)
-    → Reads bound (bytes_at (length room)) a (Ok room) b
+    → ReadsValue bound (bytes_at (length room)) a (Ok room) b
 unfolding asked_by
 reads_whole bound a b room had small giving few = record {
   gave = whole_given a.known b.known room had.read.consumed;
@@ -50,7 +50,7 @@ reads_whole bound a b room had small giving few = record {
 
 -- The reader was at its end before that.
 pub reads_short : (bound : ℕ) (a b : Device) (n : ℕ) (front : List ℕ) → HasReadAll a b front → length front < n → b.calls ≤ a.calls + length front + 1
-    → (a.calls ≤ bound → b.calls ≤ bound) → Reads {A = List ℕ} bound (bytes_at n) a (Err (fault.Refused refusal.CutOff)) b
+    → (a.calls ≤ bound → b.calls ≤ bound) → ReadsValue {A = List ℕ} bound (bytes_at n) a (Err (fault.Refused refusal.CutOff)) b
 reads_short bound a b n front had less giving few = record {
   gave = short_given a.known b.known n front had.read.read.consumed had.end less;
   blames = λ fits. asked_by 1 a b front had.read giving;
@@ -59,7 +59,7 @@ reads_short bound a b n front had less giving few = record {
 
 -- As many calls were made as the bound allows.
 pub reads_out : {A : Type 0} (bound : ℕ) (at : Read A) (a b : Device) (front : List ℕ) → HasReadWell a b front → b.calls ≤ a.calls + length front
-    → bound ≤ b.calls → (a.calls ≤ bound → b.calls ≤ bound) → Reads bound at a (Err fault.Device) b
+    → bound ≤ b.calls → (a.calls ≤ bound → b.calls ≤ bound) → ReadsValue bound at a (Err fault.Device) b
 reads_out bound at a b front had giving out few = record {
   gave = blamed_given at a.known b.known;
   blames = λ fits. inr (record { asked = asked_by 0 a b front had (omega (arith, giving)); often = out });
@@ -68,7 +68,7 @@ reads_out bound at a b front had giving out few = record {
 
 -- A call failed.
 pub reads_failed : {A : Type 0} (bound : ℕ) (at : Read A) (a b : Device) (front : List ℕ) → HasFailed a b front → b.calls ≤ a.calls + length front + 1
-    → (a.calls ≤ bound → b.calls ≤ bound) → Reads bound at a (Err fault.Device) b
+    → (a.calls ≤ bound → b.calls ≤ bound) → ReadsValue bound at a (Err fault.Device) b
 reads_failed bound at a b front had giving few = record {
   gave = blamed_given at a.known b.known;
   blames = λ fits. inl (record { asked = record { bytes = front; read = had.read; giving = giving }; fault = had.fault });

@@ -15,7 +15,7 @@ use Rattle.pool_file_format.specs.declared.fault.Fault.{Fault}
 use Rattle.pool_file_format.specs.declared.fault.Fault.TheVariants as fault
 use Rattle.pool_file_format.specs.Format.{RawFile, RawObject, RawTenant, magic, body_text}
 use Rattle.pool_file_format.specs.Lengths.{Read, ◌>>=◌, bytes_at, number_at, counted_at, byte_at, object_at, tenant_at, expected_at, front_at, version_at, body_at, end_at, by_lengths, sealed_at}
-use Rattle.pool_file_format.specs.Taking.{Gave, HasGiven, ReadsBy, Reads, ReadsAll}
+use Rattle.pool_file_format.specs.Taking.{Gave, HasGiven, ReadsBy, ReadsValue, ReadsAll}
 use Rattle.pool_file_format.proofs.Calls.{asked_none, fits_after, given_then, well_looser, blames_on, blames_as}
 use Rattle.pool_file_format.proofs.Takes.{blamed_given}
 use Rattle.pool_file_format.proofs.Readings.{gave_then, gave_fails, value_given, reads_then, reads_fails, reads_value}
@@ -47,7 +47,7 @@ goes whole at k (Some bytes) (Some left) None x p q = absurd q
 goes whole at k (Some bytes) (Some left) (Some after) x p q = sym (ap (λ (r : Result _ Refusal). r >>= k) q) ∙ p
 
 pub leads_on : {A B : Type 0} {bound : ℕ} (whole : Read B) (at : Read A) (k : A × List ℕ → Result (B × List ℕ) Refusal) (a b c : Device) (x : A)
-    → Leads bound whole a (λ bytes. at bytes >>= k) b → Reads bound at b (Ok x) c → Leads bound whole a (λ rest. k (x, rest)) c
+    → Leads bound whole a (λ bytes. at bytes >>= k) b → ReadsValue bound at b (Ok x) c → Leads bound whole a (λ rest. k (x, rest)) c
 leads_on whole at k a b c x p q = record {
   same = goes whole at k a.known b.known c.known x p.same q.gave;
   well = λ fits. let first = p.well fits in given_then 0 a b c first (q.blames (fits_after 0 a b first));
@@ -63,7 +63,7 @@ ends whole rest (Some bytes) (Some left) c (Err fault.Device) p q = tt
 ends whole rest (Some bytes) (Some left) c (Err fault.Memory) p q = tt
 ends whole rest (Some bytes) (Some left) c (Err (fault.Refused refusal)) p q = sym p ∙ q
 
-pub leads_end : {A : Type 0} {bound : ℕ} (whole rest : Read A) (a b c : Device) (r : Result A Fault) → Leads bound whole a rest b → Reads bound rest b r c → Reads bound whole a r c
+pub leads_end : {A : Type 0} {bound : ℕ} (whole rest : Read A) (a b c : Device) (r : Result A Fault) → Leads bound whole a rest b → ReadsValue bound rest b r c → ReadsValue bound whole a r c
 leads_end whole rest a b c r p q = record {
   gave = ends whole rest a.known b.known c.known r p.same q.gave;
   blames = λ fits. let first = p.well fits in blames_on _ _ r a b c first (q.blames (fits_after 0 a b first));
@@ -75,27 +75,27 @@ leads_end whole rest a b c r p q = record {
 expected_given : ℕ → ℕ → List ℕ → Result (Unit × List ℕ) Refusal
 expected_given expected byte rest = cond (eqb byte expected) (Ok (tt, rest)) (Err refusal.NoPoolFile)
 
-pub expected_reads : {bound : ℕ} (expected byte : ℕ) (a b : Device) → byte ≡ expected → Reads bound byte_at a (Ok byte) b → Reads bound (expected_at expected) a (Ok tt) b
+pub expected_reads : {bound : ℕ} (expected byte : ℕ) (a b : Device) → byte ≡ expected → ReadsValue bound byte_at a (Ok byte) b → ReadsValue bound (expected_at expected) a (Ok tt) b
 unfolding expected_at
 expected_reads {bound} expected byte a b is p =
     reads_then byte_at (λ byte. cond (eqb byte.0 expected) (Ok (tt, byte.1)) (Err refusal.NoPoolFile)) a b b byte (Ok tt) p
-    (subst (λ (t : Bool). Reads bound (λ rest. cond t (Ok (tt, rest)) (Err refusal.NoPoolFile)) b (Ok tt) b) (sym (eq-eqb byte expected is)) (reads_value tt b))
+    (subst (λ (t : Bool). ReadsValue bound (λ rest. cond t (Ok (tt, rest)) (Err refusal.NoPoolFile)) b (Ok tt) b) (sym (eq-eqb byte expected is)) (reads_value tt b))
 
 refused_given : (A : Type 0) (r : Refusal) (a : Option (List ℕ)) → Gave {A = A} (λ rest. Err r) a (Err (fault.Refused r)) a
 refused_given A r None = tt
 refused_given A r (Some bytes) = refl
 
-pub reads_refused : {A : Type 0} {bound : ℕ} (r : Refusal) (a : Device) → Reads {A = A} bound (λ rest. Err r) a (Err (fault.Refused r)) a
+pub reads_refused : {A : Type 0} {bound : ℕ} (r : Refusal) (a : Device) → ReadsValue {A = A} bound (λ rest. Err r) a (Err (fault.Refused r)) a
 reads_refused {A} r a = record { gave = refused_given A r a.known; blames = λ fits. well_looser a a (asked_none a fits); few = λ l. l }
 
-pub expected_other : {bound : ℕ} (expected byte : ℕ) (a b : Device) → ¬ (byte ≡ expected) → Reads bound byte_at a (Ok byte) b
-    → Reads bound (expected_at expected) a (Err (fault.Refused refusal.NoPoolFile)) b
+pub expected_other : {bound : ℕ} (expected byte : ℕ) (a b : Device) → ¬ (byte ≡ expected) → ReadsValue bound byte_at a (Ok byte) b
+    → ReadsValue bound (expected_at expected) a (Err (fault.Refused refusal.NoPoolFile)) b
 unfolding expected_at
 expected_other {bound} expected byte a b other p =
     reads_then byte_at (λ byte. cond (eqb byte.0 expected) (Ok (tt, byte.1)) (Err refusal.NoPoolFile)) a b b byte (Err (fault.Refused refusal.NoPoolFile)) p
-    (subst (λ (t : Bool). Reads bound (λ rest. cond t (Ok (tt, rest)) (Err refusal.NoPoolFile)) b (Err (fault.Refused refusal.NoPoolFile)) b) (sym (ne_eqb byte expected other)) (reads_refused refusal.NoPoolFile b))
+    (subst (λ (t : Bool). ReadsValue bound (λ rest. cond t (Ok (tt, rest)) (Err refusal.NoPoolFile)) b (Err (fault.Refused refusal.NoPoolFile)) b) (sym (ne_eqb byte expected other)) (reads_refused refusal.NoPoolFile b))
 
-pub expected_fails : {bound : ℕ} (expected : ℕ) (a b : Device) (e : Fault) → Reads {A = ℕ} bound byte_at a (Err e) b → Reads bound (expected_at expected) a (Err e) b
+pub expected_fails : {bound : ℕ} (expected : ℕ) (a b : Device) (e : Fault) → ReadsValue {A = ℕ} bound byte_at a (Err e) b → ReadsValue bound (expected_at expected) a (Err e) b
 unfolding expected_at
 expected_fails expected a b e p = reads_fails byte_at (λ byte. cond (eqb byte.0 expected) (Ok (tt, byte.1)) (Err refusal.NoPoolFile)) a b e p
 
@@ -104,19 +104,19 @@ drop_next xs i less = let e : suc i ≡ i + 1 = omega arith in drop-cons xs i 0 
 
 -- What is left of the first bytes begins with this one.
 pub front_on : {bound : ℕ} (all left more : List ℕ) (byte : ℕ) (a b c : Device) → left ≡ byte ∷ more → Leads bound (front_at all) a (front_at left) b
-    → Reads bound (expected_at byte) b (Ok tt) c → Leads bound (front_at all) a (front_at more) c
+    → ReadsValue bound (expected_at byte) b (Ok tt) c → Leads bound (front_at all) a (front_at more) c
 unfolding front_at
 front_on {bound} all left more byte a b c is p q =
     leads_on (front_at all) (expected_at byte) (λ first. front_at more first.1) a b c tt (subst (λ (l : List ℕ). Leads bound (front_at all) a (front_at l) b) is p) q
 
 pub front_fails : {bound : ℕ} (all left more : List ℕ) (byte : ℕ) (a b c : Device) (e : Fault) → left ≡ byte ∷ more → Leads bound (front_at all) a (front_at left) b
-    → Reads bound (expected_at byte) b (Err e) c → Reads bound (front_at all) a (Err e) c
+    → ReadsValue bound (expected_at byte) b (Err e) c → ReadsValue bound (front_at all) a (Err e) c
 unfolding front_at
 front_fails {bound} all left more byte a b c e is p q =
     leads_end (front_at all) (front_at (byte ∷ more)) a b c (Err e) (subst (λ (l : List ℕ). Leads bound (front_at all) a (front_at l) b) is p)
     (reads_fails (expected_at byte) (λ first. front_at more first.1) b c e q)
 
-pub front_done : {bound : ℕ} (all left : List ℕ) (a b : Device) → left ≡ [] → Leads bound (front_at all) a (front_at left) b → Reads bound (front_at all) a (Ok tt) b
+pub front_done : {bound : ℕ} (all left : List ℕ) (a b : Device) → left ≡ [] → Leads bound (front_at all) a (front_at left) b → ReadsValue bound (front_at all) a (Ok tt) b
 unfolding front_at
 front_done {bound} all left a b none p =
     leads_end (front_at all) (front_at []) a b b (Ok tt) (subst (λ (l : List ℕ). Leads bound (front_at all) a (front_at l) b) none p) (reads_value tt b)
@@ -126,22 +126,22 @@ front_done {bound} all left a b none p =
 version_given : Bool → ℕ × List ℕ → Result (ℕ × List ℕ) Refusal
 version_given t version = cond t (Ok version) (Err refusal.UnknownVersion)
 
-pub version_fails : {bound : ℕ} (a b : Device) (e : Fault) → Reads {A = ℕ} bound (number_at w32) a (Err e) b → Reads bound version_at a (Err e) b
+pub version_fails : {bound : ℕ} (a b : Device) (e : Fault) → ReadsValue {A = ℕ} bound (number_at w32) a (Err e) b → ReadsValue bound version_at a (Err e) b
 unfolding version_at
 version_fails a b e p = reads_fails (number_at w32) (λ version. cond (eqb version.0 1 || eqb version.0 2) (Ok version) (Err refusal.UnknownVersion)) a b e p
 
-pub version_reads : {bound : ℕ} (version : ℕ) (a b : Device) → (eqb version 1 || eqb version 2) ≡ true → Reads bound (number_at w32) a (Ok version) b → Reads bound version_at a (Ok version) b
+pub version_reads : {bound : ℕ} (version : ℕ) (a b : Device) → (eqb version 1 || eqb version 2) ≡ true → ReadsValue bound (number_at w32) a (Ok version) b → ReadsValue bound version_at a (Ok version) b
 unfolding version_at
 version_reads {bound} version a b known p =
     reads_then (number_at w32) (λ version. cond (eqb version.0 1 || eqb version.0 2) (Ok version) (Err refusal.UnknownVersion)) a b b version (Ok version) p
-    (subst (λ (t : Bool). Reads bound (λ rest. cond t (Ok (version, rest)) (Err refusal.UnknownVersion)) b (Ok version) b) (sym known) (reads_value version b))
+    (subst (λ (t : Bool). ReadsValue bound (λ rest. cond t (Ok (version, rest)) (Err refusal.UnknownVersion)) b (Ok version) b) (sym known) (reads_value version b))
 
-pub version_other : {bound : ℕ} (version : ℕ) (a b : Device) → (eqb version 1 || eqb version 2) ≡ false → Reads bound (number_at w32) a (Ok version) b
-    → Reads bound version_at a (Err (fault.Refused refusal.UnknownVersion)) b
+pub version_other : {bound : ℕ} (version : ℕ) (a b : Device) → (eqb version 1 || eqb version 2) ≡ false → ReadsValue bound (number_at w32) a (Ok version) b
+    → ReadsValue bound version_at a (Err (fault.Refused refusal.UnknownVersion)) b
 unfolding version_at
 version_other {bound} version a b other p =
     reads_then (number_at w32) (λ version. cond (eqb version.0 1 || eqb version.0 2) (Ok version) (Err refusal.UnknownVersion)) a b b version (Err (fault.Refused refusal.UnknownVersion)) p
-    (subst (λ (t : Bool). Reads bound (λ rest. cond t (Ok (version, rest)) (Err refusal.UnknownVersion)) b (Err (fault.Refused refusal.UnknownVersion)) b) (sym other) (reads_refused refusal.UnknownVersion b))
+    (subst (λ (t : Bool). ReadsValue bound (λ rest. cond t (Ok (version, rest)) (Err refusal.UnknownVersion)) b (Err (fault.Refused refusal.UnknownVersion)) b) (sym other) (reads_refused refusal.UnknownVersion b))
 
 -- ---- the body
 
@@ -154,34 +154,34 @@ after_version version rest = counted_at object_at rest >>= λ objects. after_obj
 abbrev pub after_front : List ℕ → Result (RawFile × List ℕ) Refusal
 after_front rest = version_at rest >>= λ version. after_version version.0 version.1
 
-pub body_none : {bound : ℕ} (a b : Device) (e : Fault) → Reads {A = Unit} bound (front_at magic) a (Err e) b → Reads bound body_at a (Err e) b
+pub body_none : {bound : ℕ} (a b : Device) (e : Fault) → ReadsValue {A = Unit} bound (front_at magic) a (Err e) b → ReadsValue bound body_at a (Err e) b
 unfolding body_at
 body_none a b e p = reads_fails (front_at magic) (λ front. after_front front.1) a b e p
 
-pub body_then : {bound : ℕ} (a b c : Device) (r : Result RawFile Fault) → Reads bound (front_at magic) a (Ok tt) b → Reads bound after_front b r c → Reads bound body_at a r c
+pub body_then : {bound : ℕ} (a b c : Device) (r : Result RawFile Fault) → ReadsValue bound (front_at magic) a (Ok tt) b → ReadsValue bound after_front b r c → ReadsValue bound body_at a r c
 unfolding body_at
 body_then a b c r p q = reads_then (front_at magic) (λ front. after_front front.1) a b c tt r p q
 
-pub version_none : {bound : ℕ} (a b : Device) (e : Fault) → Reads {A = ℕ} bound version_at a (Err e) b → Reads bound after_front a (Err e) b
+pub version_none : {bound : ℕ} (a b : Device) (e : Fault) → ReadsValue {A = ℕ} bound version_at a (Err e) b → ReadsValue bound after_front a (Err e) b
 version_none a b e p = reads_fails version_at (λ version. after_version version.0 version.1) a b e p
 
-pub version_then : {bound : ℕ} (version : ℕ) (a b c : Device) (r : Result RawFile Fault) → Reads bound version_at a (Ok version) b → Reads bound (after_version version) b r c
-    → Reads bound after_front a r c
+pub version_then : {bound : ℕ} (version : ℕ) (a b c : Device) (r : Result RawFile Fault) → ReadsValue bound version_at a (Ok version) b → ReadsValue bound (after_version version) b r c
+    → ReadsValue bound after_front a r c
 version_then version a b c r p q = reads_then version_at (λ version. after_version version.0 version.1) a b c version r p q
 
-pub objects_none : {bound : ℕ} (version : ℕ) (a b : Device) (e : Fault) → Reads {A = List RawObject} bound (counted_at object_at) a (Err e) b → Reads bound (after_version version) a (Err e) b
+pub objects_none : {bound : ℕ} (version : ℕ) (a b : Device) (e : Fault) → ReadsValue {A = List RawObject} bound (counted_at object_at) a (Err e) b → ReadsValue bound (after_version version) a (Err e) b
 objects_none version a b e p = reads_fails (counted_at object_at) (λ objects. after_objects version objects.0 objects.1) a b e p
 
-pub objects_then : {bound : ℕ} (version : ℕ) (objects : List RawObject) (a b c : Device) (r : Result RawFile Fault) → Reads bound (counted_at object_at) a (Ok objects) b
-    → Reads bound (after_objects version objects) b r c → Reads bound (after_version version) a r c
+pub objects_then : {bound : ℕ} (version : ℕ) (objects : List RawObject) (a b c : Device) (r : Result RawFile Fault) → ReadsValue bound (counted_at object_at) a (Ok objects) b
+    → ReadsValue bound (after_objects version objects) b r c → ReadsValue bound (after_version version) a r c
 objects_then version objects a b c r p q = reads_then (counted_at object_at) (λ objects. after_objects version objects.0 objects.1) a b c objects r p q
 
-pub tenants_none : {bound : ℕ} (version : ℕ) (objects : List RawObject) (a b : Device) (e : Fault) → Reads {A = List RawTenant} bound (counted_at (tenant_at version)) a (Err e) b
-    → Reads bound (after_objects version objects) a (Err e) b
+pub tenants_none : {bound : ℕ} (version : ℕ) (objects : List RawObject) (a b : Device) (e : Fault) → ReadsValue {A = List RawTenant} bound (counted_at (tenant_at version)) a (Err e) b
+    → ReadsValue bound (after_objects version objects) a (Err e) b
 tenants_none version objects a b e p = reads_fails (counted_at (tenant_at version)) (λ tenants. Ok (record { version = version; objects = objects; tenants = tenants.0 }, tenants.1)) a b e p
 
-pub tenants_read : {bound : ℕ} (version : ℕ) (objects : List RawObject) (tenants : List RawTenant) (a b : Device) → Reads bound (counted_at (tenant_at version)) a (Ok tenants) b
-    → Reads bound (after_objects version objects) a (Ok (record { version = version; objects = objects; tenants = tenants })) b
+pub tenants_read : {bound : ℕ} (version : ℕ) (objects : List RawObject) (tenants : List RawTenant) (a b : Device) → ReadsValue bound (counted_at (tenant_at version)) a (Ok tenants) b
+    → ReadsValue bound (after_objects version objects) a (Ok (record { version = version; objects = objects; tenants = tenants })) b
 tenants_read version objects tenants a b p =
     reads_then (counted_at (tenant_at version)) (λ tenants. Ok (record { version = version; objects = objects; tenants = tenants.0 }, tenants.1)) a b b tenants
     (Ok (record { version = version; objects = objects; tenants = tenants })) p
@@ -244,19 +244,19 @@ after_digest file digest rest = end_at rest >>= λ end. Ok ((file, digest), end.
 abbrev pub after_body : RawFile → List ℕ → Result ((RawFile × List ℕ) × List ℕ) Refusal
 after_body file rest = bytes_at 20 rest >>= λ digest. after_digest file digest.0 digest.1
 
-pub whole_none : {bound : ℕ} (a b : Device) (e : Fault) → Reads {A = RawFile} bound body_at a (Err e) b → ReadsBy 1 bound by_lengths a (Err e) b
+pub whole_none : {bound : ℕ} (a b : Device) (e : Fault) → ReadsValue {A = RawFile} bound body_at a (Err e) b → ReadsBy 1 bound by_lengths a (Err e) b
 unfolding by_lengths
 whole_none a b e p = reads_fails body_at (λ body. after_body body.0 body.1) a b e p
 
-pub whole_then : {bound : ℕ} (file : RawFile) (a b c : Device) (r : Result (RawFile × List ℕ) Fault) → Reads bound body_at a (Ok file) b → ReadsBy 1 bound (after_body file) b r c
+pub whole_then : {bound : ℕ} (file : RawFile) (a b c : Device) (r : Result (RawFile × List ℕ) Fault) → ReadsValue bound body_at a (Ok file) b → ReadsBy 1 bound (after_body file) b r c
     → ReadsBy 1 bound by_lengths a r c
 unfolding by_lengths
 whole_then file a b c r p q = reads_then body_at (λ body. after_body body.0 body.1) a b c file r p q
 
-pub digest_none : {bound : ℕ} (file : RawFile) (a b : Device) (e : Fault) → Reads {A = List ℕ} bound (bytes_at 20) a (Err e) b → ReadsBy 1 bound (after_body file) a (Err e) b
+pub digest_none : {bound : ℕ} (file : RawFile) (a b : Device) (e : Fault) → ReadsValue {A = List ℕ} bound (bytes_at 20) a (Err e) b → ReadsBy 1 bound (after_body file) a (Err e) b
 digest_none file a b e p = reads_fails (bytes_at 20) (λ digest. after_digest file digest.0 digest.1) a b e p
 
-pub digest_then : {bound : ℕ} (file : RawFile) (digest : List ℕ) (a b c : Device) (r : Result (RawFile × List ℕ) Fault) → Reads bound (bytes_at 20) a (Ok digest) b
+pub digest_then : {bound : ℕ} (file : RawFile) (digest : List ℕ) (a b c : Device) (r : Result (RawFile × List ℕ) Fault) → ReadsValue bound (bytes_at 20) a (Ok digest) b
     → ReadsBy 1 bound (after_digest file digest) b r c → ReadsBy 1 bound (after_body file) a r c
 digest_then file digest a b c r p q = reads_then (bytes_at 20) (λ digest. after_digest file digest.0 digest.1) a b c digest r p q
 

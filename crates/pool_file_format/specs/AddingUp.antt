@@ -5,8 +5,8 @@ use Rattle.byte_devices.specs.declared.counted.Counted.{Counted}
 use Rattle.byte_devices.specs.Device.{AppendsFront, HasFault, device_of, seen}
 use Rattle.byte_devices.proofs.KnownBytes.{Appends-nil, Appends-trans}
 use Rattle.pool_file_format.specs.declared.digesting.Fed.{Fed}
-use Rattle.pool_file_format.specs.declared.gathering.Digested.{Digested}
-use Rattle.pool_file_format.specs.declared.gathering.Gathered.{Gathered}
+use Rattle.pool_file_format.specs.declared.gathering.HashingWriter.{HashingWriter}
+use Rattle.pool_file_format.specs.declared.gathering.Buffered.{Buffered}
 use Rattle.pool_file_format.specs.Sinks.{Moves, AddsUp, HasWritten, HasBroken, Goes, HasGathered, TookBoth, FailedBoth, TookBlocks, FailedBlocks}
 
 later_front : (a b c : Option (List ℕ)) (xs ys : List ℕ) → Appends a b xs → AppendsFront b c ys
@@ -66,7 +66,7 @@ fed_adds_up Holds = record {
 
 pub digested_adds_up : {D S : Type 0} (Holds : D → List ℕ → Type 0) (Took Failed : Moves S)
     → AddsUp Took Failed
-    → AddsUp {S = Digested D S} (TookBoth Holds Took) (FailedBoth Failed)
+    → AddsUp {S = HashingWriter D S} (TookBoth Holds Took) (FailedBoth Failed)
 digested_adds_up Holds Took Failed laws = record {
   none = λ a. (
     refl,
@@ -122,7 +122,7 @@ gathers_later Took Failed laws a b c waited between xs ys p q =
     (laws.later a b c p.sent (between ++ ys) p.took q)
 
 pub gathered_adds_up : {S : Type 0} (Took Failed : Moves S) → AddsUp Took Failed
-    → AddsUp {S = Gathered S} (TookBlocks Took) (FailedBlocks Failed)
+    → AddsUp {S = Buffered S} (TookBlocks Took) (FailedBlocks Failed)
 gathered_adds_up Took Failed laws = record {
   none = λ a. (
     refl,

@@ -3,8 +3,8 @@ use Rattle.std.specs.Prelude.{◌≡◌, ◌%◌, ℕ, List, [], ◌++◌, sum, 
 use Rattle.std.specs.Io.KnownBytes.{Appends}
 use Rattle.byte_devices.specs.Device.{Device, AppendsFront, HasFault}
 use Rattle.pool_file_format.specs.declared.digesting.TailSum.{TailSum}
-use Rattle.pool_file_format.specs.declared.gathering.Digested.{Digested}
-use Rattle.pool_file_format.specs.declared.gathering.Gathered.{Gathered}
+use Rattle.pool_file_format.specs.declared.gathering.HashingWriter.{HashingWriter}
+use Rattle.pool_file_format.specs.declared.gathering.Buffered.{Buffered}
 use Rattle.byte_devices.specs.declared.device_fault.DeviceFault.{DeviceFault}
 
 -- A statement about the bytes that brought a sink from one state to another.
@@ -39,12 +39,12 @@ abbrev pub Goes : {D : Type 0} → (D → List ℕ → Type 0) → D → D → L
 Goes Holds old new bytes = (message : List ℕ) → Holds old message → Holds new (message ++ bytes)
 
 -- A digest and a sink both took the bytes, or the sink failed.
-abbrev pub TookBoth : {D S : Type 0} → (D → List ℕ → Type 0) → Moves S → Moves (Digested D S)
+abbrev pub TookBoth : {D S : Type 0} → (D → List ℕ → Type 0) → Moves S → Moves (HashingWriter D S)
 TookBoth Holds Took old new bytes = (new.running.ghost_name ≡ old.running.ghost_name)
     × ((new.sink.ghost_name ≡ old.sink.ghost_name)
     × (Goes Holds old.running.now new.running.now bytes × Took old.sink.now new.sink.now bytes))
 
-abbrev pub FailedBoth : {D S : Type 0} → Moves S → Moves (Digested D S)
+abbrev pub FailedBoth : {D S : Type 0} → Moves S → Moves (HashingWriter D S)
 FailedBoth Failed old new bytes = (new.running.ghost_name ≡ old.running.ghost_name)
     × ((new.sink.ghost_name ≡ old.sink.ghost_name) × Failed old.sink.now new.sink.now bytes)
 
@@ -57,12 +57,12 @@ pub record HasGathered {S : Type 0} (Took : Moves S) (old new : S) (waited waits
   pub parts : waited ++ bytes ≡ sent ++ waits
 
 -- The bytes went on to the sink, or wait in the block.
-abbrev pub TookBlocks : {S : Type 0} → Moves S → Moves (Gathered S)
+abbrev pub TookBlocks : {S : Type 0} → Moves S → Moves (Buffered S)
 TookBlocks Took old new bytes = (new.sink.ghost_name ≡ old.sink.ghost_name)
     × HasGathered Took old.sink.now new.sink.now old.block.items new.block.items bytes
 
 -- The sink failed at some of what had waited and these bytes.
-abbrev pub FailedBlocks : {S : Type 0} → Moves S → Moves (Gathered S)
+abbrev pub FailedBlocks : {S : Type 0} → Moves S → Moves (Buffered S)
 FailedBlocks Failed old new bytes = (new.sink.ghost_name ≡ old.sink.ghost_name)
     × Failed old.sink.now new.sink.now (old.block.items ++ bytes)
 

@@ -77,8 +77,8 @@ pub record ReadsBy {A : Type 0} (more bound : ℕ) (at : Read A) (old : Device) 
   pub few : old.calls ≤ bound → new.calls ≤ bound
 
 -- The same for a part of a file: up to a value, every call of the reader gave bytes.
-abbrev pub Reads : {A : Type 0} → ℕ → Read A → Device → Result A Fault → Device → Type 0
-Reads bound at old r new = ReadsBy 0 bound at old r new
+abbrev pub ReadsValue : {A : Type 0} → ℕ → Read A → Device → Result A Fault → Device → Type 0
+ReadsValue bound at old r new = ReadsBy 0 bound at old r new
 
 -- The same for a whole file: a call reads up to the end of the input as `at` does, and makes no
 -- call of the reader past the bound.
@@ -91,6 +91,6 @@ pub record ReadsAll {A : Type 0} (bound : ℕ) (at : Read A) (old : Device) (r :
 -- `n` more bytes were read, and appended to these.
 abbrev pub Adds : ℕ → ℕ → List ℕ → Device → Result Unit Fault → List ℕ → Device → Type 0
 Adds bound n bytes old (Ok u) after new = (more : List ℕ) × (after ≡ bytes ++ more)
-    × (length more ≡ n) × Reads bound (bytes_at n) old (Ok more) new
+    × (length more ≡ n) × ReadsValue bound (bytes_at n) old (Ok more) new
 Adds bound n bytes old (Err e) after new =
-    Reads {A = List ℕ} bound (bytes_at n) old (Err e) new
+    ReadsValue {A = List ℕ} bound (bytes_at n) old (Err e) new

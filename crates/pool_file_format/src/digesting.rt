@@ -10,7 +10,7 @@ use git_names::{Naming, Sha1Naming, TailNaming};
 use sha1::Sha1;
 
 /// A digest between two pieces of its message.
-pub trait Running: Drop {
+pub trait DigestState: Drop {
     // The bytes fed so far.
     ghost Holds: { Self → List ℕ → Type 0 };
 
@@ -24,9 +24,9 @@ pub trait Running: Drop {
 ///
 /// To save or load under a naming of your own, give it `start`, which begins a digest, and `end`,
 /// which finishes it; its `Run` takes the pieces.
-pub trait Starting: Naming {
+pub trait StreamingDigest: Naming {
     /// The digest between two pieces.
-    type Run: Running;
+    type Run: DigestState;
 
     /// Begins a digest to which nothing has been fed yet.
     fn start(&self) -> Self::Run
@@ -38,7 +38,7 @@ pub trait Starting: Naming {
             → result ≡ Self.digest_of message };
 }
 
-impl Running for Sha1 {
+impl DigestState for Sha1 {
     ghost use Rattle.sha1.specs.Sha1 as of;
 
     ghost Holds = { of.Holds };
@@ -48,7 +48,7 @@ impl Running for Sha1 {
     }
 }
 
-impl Starting for Sha1Naming {
+impl StreamingDigest for Sha1Naming {
     type Run = Sha1;
 
     fn start(&self) -> Sha1 {
@@ -77,7 +77,7 @@ fn sum_after(start: u8, bytes: &[u8]) -> u8
     sum
 }
 
-impl Running for TailSum {
+impl DigestState for TailSum {
     ghost use Rattle.pool_file_format.specs.Sinks.{SumsTo};
 
     ghost Holds = { SumsTo };
@@ -87,7 +87,7 @@ impl Running for TailSum {
     }
 }
 
-impl Starting for TailNaming {
+impl StreamingDigest for TailNaming {
     type Run = TailSum;
 
     fn start(&self) -> TailSum {
@@ -103,11 +103,11 @@ impl Starting for TailNaming {
 
 /// A digest as a sink, which never fails.
 #[derive(Drop)]
-pub struct Fed<D: Running> {
+pub struct Fed<D: DigestState> {
     pub running: D,
 }
 
-impl<D: Running> Sink for Fed<D> {
+impl<D: DigestState> Sink for Fed<D> {
     ghost Took = { λ old new bytes. Goes D.Holds old.running new.running bytes };
 
     ghost Failed = { λ old new bytes. ⊥ };

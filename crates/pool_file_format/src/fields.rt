@@ -4,7 +4,7 @@ ghost use Rattle.std.specs.Int.{w16, w64};
 ghost use Rattle.byte_devices.specs.Device.{device_of, seen};
 ghost use Rattle.pool_file_format.specs.Lengths.{byte_at, number_at, sized_at, many_at, counted_at, object_at, ref_at, head_at, tenant_at};
 ghost use Rattle.pool_file_format.specs.Shown.{object_of, objects_of, ref_of, refs_of, tenant_of, tenants_of};
-ghost use Rattle.pool_file_format.specs.Taking.{shown, Reads};
+ghost use Rattle.pool_file_format.specs.Taking.{shown, ReadsValue};
 
 use crate::fault::Fault;
 use crate::filling::{fill, read_bytes, read_u16, read_u64};
@@ -16,7 +16,7 @@ use tenant_refs::FIRST_HEAD;
 
 /// One byte.
 pub fn read_byte<R: Read>(reader: &mut Counted<R>, bound: u64) -> Result<u8, Fault>
-    ensures { Reads bound byte_at
+    ensures { ReadsValue bound byte_at
         (seen (R.remaining (device_of reader.old)) reader.old) (shown (λ n. n) result)
         (seen (R.remaining (device_of reader.new)) reader.new) }
 {
@@ -27,7 +27,7 @@ pub fn read_byte<R: Read>(reader: &mut Counted<R>, bound: u64) -> Result<u8, Fau
 
 // A length in two bytes, and as many bytes.
 fn read_short<R: Read>(alloc: Global, reader: &mut Counted<R>, bound: u64) -> Result<Vec<u8>, Fault>
-    ensures { Reads bound (sized_at w16)
+    ensures { ReadsValue bound (sized_at w16)
         (seen (R.remaining (device_of reader.old)) reader.old) (shown (λ bytes. bytes.items) result)
         (seen (R.remaining (device_of reader.new)) reader.new) }
 {
@@ -37,7 +37,7 @@ fn read_short<R: Read>(alloc: Global, reader: &mut Counted<R>, bound: u64) -> Re
 
 // A length in eight bytes, and as many bytes.
 fn read_long<R: Read>(alloc: Global, reader: &mut Counted<R>, bound: u64) -> Result<Vec<u8>, Fault>
-    ensures { Reads bound (sized_at w64)
+    ensures { ReadsValue bound (sized_at w64)
         (seen (R.remaining (device_of reader.old)) reader.old) (shown (λ bytes. bytes.items) result)
         (seen (R.remaining (device_of reader.new)) reader.new) }
 {
@@ -51,7 +51,7 @@ fn read_object<R: Read>(
     reader: &mut Counted<R>,
     bound: u64,
 ) -> Result<RawObject, Fault>
-    ensures { Reads bound object_at
+    ensures { ReadsValue bound object_at
         (seen (R.remaining (device_of reader.old)) reader.old) (shown object_of result)
         (seen (R.remaining (device_of reader.new)) reader.new) }
 {
@@ -67,7 +67,7 @@ fn read_many_objects<R: Read>(
     bound: u64,
     count: u64,
 ) -> Result<Vec<RawObject>, Fault>
-    ensures { Reads bound (many_at object_at count)
+    ensures { ReadsValue bound (many_at object_at count)
         (seen (R.remaining (device_of reader.old)) reader.old)
         (shown (λ os. objects_of os.items) result)
         (seen (R.remaining (device_of reader.new)) reader.new) }
@@ -86,7 +86,7 @@ pub fn read_objects<R: Read>(
     reader: &mut Counted<R>,
     bound: u64,
 ) -> Result<Vec<RawObject>, Fault>
-    ensures { Reads bound (counted_at object_at)
+    ensures { ReadsValue bound (counted_at object_at)
         (seen (R.remaining (device_of reader.old)) reader.old)
         (shown (λ os. objects_of os.items) result)
         (seen (R.remaining (device_of reader.new)) reader.new) }
@@ -102,7 +102,7 @@ fn read_many_numbers<R: Read>(
     bound: u64,
     count: u64,
 ) -> Result<Vec<u64>, Fault>
-    ensures { Reads bound (many_at (number_at w64) count)
+    ensures { ReadsValue bound (many_at (number_at w64) count)
         (seen (R.remaining (device_of reader.old)) reader.old) (shown (λ ns. ns.items) result)
         (seen (R.remaining (device_of reader.new)) reader.new) }
 {
@@ -120,7 +120,7 @@ fn read_numbers<R: Read>(
     reader: &mut Counted<R>,
     bound: u64,
 ) -> Result<Vec<u64>, Fault>
-    ensures { Reads bound (counted_at (number_at w64))
+    ensures { ReadsValue bound (counted_at (number_at w64))
         (seen (R.remaining (device_of reader.old)) reader.old) (shown (λ ns. ns.items) result)
         (seen (R.remaining (device_of reader.new)) reader.new) }
 {
@@ -130,7 +130,7 @@ fn read_numbers<R: Read>(
 
 // A ref.
 fn read_ref<R: Read>(alloc: Global, reader: &mut Counted<R>, bound: u64) -> Result<RawRef, Fault>
-    ensures { Reads bound ref_at
+    ensures { ReadsValue bound ref_at
         (seen (R.remaining (device_of reader.old)) reader.old) (shown ref_of result)
         (seen (R.remaining (device_of reader.new)) reader.new) }
 {
@@ -146,7 +146,7 @@ fn read_many_refs<R: Read>(
     bound: u64,
     count: u64,
 ) -> Result<Vec<RawRef>, Fault>
-    ensures { Reads bound (many_at ref_at count)
+    ensures { ReadsValue bound (many_at ref_at count)
         (seen (R.remaining (device_of reader.old)) reader.old)
         (shown (λ rs. refs_of rs.items) result)
         (seen (R.remaining (device_of reader.new)) reader.new) }
@@ -165,7 +165,7 @@ fn read_refs<R: Read>(
     reader: &mut Counted<R>,
     bound: u64,
 ) -> Result<Vec<RawRef>, Fault>
-    ensures { Reads bound (counted_at ref_at)
+    ensures { ReadsValue bound (counted_at ref_at)
         (seen (R.remaining (device_of reader.old)) reader.old)
         (shown (λ rs. refs_of rs.items) result)
         (seen (R.remaining (device_of reader.new)) reader.new) }
@@ -181,7 +181,7 @@ fn read_head<R: Read>(
     bound: u64,
     version: u32,
 ) -> Result<Vec<u8>, Fault>
-    ensures { Reads bound (head_at version)
+    ensures { ReadsValue bound (head_at version)
         (seen (R.remaining (device_of reader.old)) reader.old) (shown (λ bytes. bytes.items) result)
         (seen (R.remaining (device_of reader.new)) reader.new) }
 {
@@ -198,7 +198,7 @@ fn read_tenant<R: Read>(
     bound: u64,
     version: u32,
 ) -> Result<RawTenant, Fault>
-    ensures { Reads bound (tenant_at version)
+    ensures { ReadsValue bound (tenant_at version)
         (seen (R.remaining (device_of reader.old)) reader.old) (shown tenant_of result)
         (seen (R.remaining (device_of reader.new)) reader.new) }
 {
@@ -222,7 +222,7 @@ fn read_many_tenants<R: Read>(
     version: u32,
     count: u64,
 ) -> Result<Vec<RawTenant>, Fault>
-    ensures { Reads bound (many_at (tenant_at version) count)
+    ensures { ReadsValue bound (many_at (tenant_at version) count)
         (seen (R.remaining (device_of reader.old)) reader.old)
         (shown (λ ts. tenants_of ts.items) result)
         (seen (R.remaining (device_of reader.new)) reader.new) }
@@ -242,7 +242,7 @@ pub fn read_tenants<R: Read>(
     bound: u64,
     version: u32,
 ) -> Result<Vec<RawTenant>, Fault>
-    ensures { Reads bound (counted_at (tenant_at version))
+    ensures { ReadsValue bound (counted_at (tenant_at version))
         (seen (R.remaining (device_of reader.old)) reader.old)
         (shown (λ ts. tenants_of ts.items) result)
         (seen (R.remaining (device_of reader.new)) reader.new) }

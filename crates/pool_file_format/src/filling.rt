@@ -4,7 +4,7 @@ ghost use Rattle.std.specs.Prelude.{◌≡◌, ◌≤◌, length};
 ghost use Rattle.std.specs.Int.{w16, w32, w64};
 ghost use Rattle.byte_devices.specs.Device.{device_of, seen};
 ghost use Rattle.pool_file_format.specs.Lengths.{bytes_at, number_at};
-ghost use Rattle.pool_file_format.specs.Taking.{shown, Reads, Adds};
+ghost use Rattle.pool_file_format.specs.Taking.{shown, ReadsValue, Adds};
 
 use crate::fault::Fault;
 use crate::refusal::Refusal;
@@ -20,7 +20,7 @@ const BLOCK: u64 = 65_536;
 /// `CutOff` (62) if the input ends first. `Device` (68) if a call failed, or if `room` is not yet
 /// full and the reader's count of calls has reached `bound`.
 pub fn fill<R: Read>(reader: &mut Counted<R>, bound: u64, room: &mut [u8]) -> Result<(), Fault>
-    ensures reads { Reads bound (bytes_at (length room.new))
+    ensures reads { ReadsValue bound (bytes_at (length room.new))
         (seen (R.remaining (device_of reader.old)) reader.old) (shown (λ _. room.new) result)
         (seen (R.remaining (device_of reader.new)) reader.new) }
     ensures length { length room.new ≡ length room.old }
@@ -42,7 +42,7 @@ pub fn fill<R: Read>(reader: &mut Counted<R>, bound: u64, room: &mut [u8]) -> Re
 
 /// A number of two bytes.
 pub fn read_u16<R: Read>(reader: &mut Counted<R>, bound: u64) -> Result<u16, Fault>
-    ensures { Reads bound (number_at w16)
+    ensures { ReadsValue bound (number_at w16)
         (seen (R.remaining (device_of reader.old)) reader.old) (shown (λ n. n) result)
         (seen (R.remaining (device_of reader.new)) reader.new) }
 {
@@ -53,7 +53,7 @@ pub fn read_u16<R: Read>(reader: &mut Counted<R>, bound: u64) -> Result<u16, Fau
 
 /// A number of four bytes.
 pub fn read_u32<R: Read>(reader: &mut Counted<R>, bound: u64) -> Result<u32, Fault>
-    ensures { Reads bound (number_at w32)
+    ensures { ReadsValue bound (number_at w32)
         (seen (R.remaining (device_of reader.old)) reader.old) (shown (λ n. n) result)
         (seen (R.remaining (device_of reader.new)) reader.new) }
 {
@@ -64,7 +64,7 @@ pub fn read_u32<R: Read>(reader: &mut Counted<R>, bound: u64) -> Result<u32, Fau
 
 /// A number of eight bytes.
 pub fn read_u64<R: Read>(reader: &mut Counted<R>, bound: u64) -> Result<u64, Fault>
-    ensures { Reads bound (number_at w64)
+    ensures { ReadsValue bound (number_at w64)
         (seen (R.remaining (device_of reader.old)) reader.old) (shown (λ n. n) result)
         (seen (R.remaining (device_of reader.new)) reader.new) }
 {
@@ -98,7 +98,7 @@ pub fn read_bytes<R: Read>(
     bound: u64,
     count: u64,
 ) -> Result<Vec<u8>, Fault>
-    ensures { Reads bound (bytes_at count)
+    ensures { ReadsValue bound (bytes_at count)
         (seen (R.remaining (device_of reader.old)) reader.old) (shown (λ bytes. bytes.items) result)
         (seen (R.remaining (device_of reader.new)) reader.new) }
 {

@@ -6,18 +6,18 @@ ghost use Rattle.std.specs.Bool.{OnTrue, OnFalse};
 ghost use Rattle.pool_file_format.specs.Sinks.{Gives, TookBoth, FailedBoth, TookBlocks, FailedBlocks};
 ghost use Rattle.pool_file_format.specs.AddingUp.{digested_adds_up, gathered_adds_up};
 
-use crate::digesting::Running;
+use crate::digesting::DigestState;
 use crate::sink::Sink;
 use byte_devices::DeviceFault;
 
 /// A sink whose pieces are also fed to a digest.
 #[derive(Drop)]
-pub struct Digested<'a, D, S> {
+pub struct HashingWriter<'a, D, S> {
     pub running: &'a mut D,
     pub sink: &'a mut S,
 }
 
-impl<'a, D: Running, S: Sink> Sink for Digested<'a, D, S> {
+impl<'a, D: DigestState, S: Sink> Sink for HashingWriter<'a, D, S> {
     ghost Took = { TookBoth D.Holds S.Took };
 
     ghost Failed = { FailedBoth S.Failed };
@@ -36,12 +36,12 @@ const BLOCK: usize = 65_536;
 /// Passes pieces on to a sink in blocks: small pieces wait for the next ones, and large ones are
 /// passed on as they are. If there is no memory for a block, each piece is passed on at once.
 #[derive(Drop)]
-pub struct Gathered<'a, S> {
+pub struct Buffered<'a, S> {
     pub block: Vec<u8>,
     pub sink: &'a mut S,
 }
 
-impl<'a, S: Sink> Gathered<'a, S> {
+impl<'a, S: Sink> Buffered<'a, S> {
     // Adds the piece to the block if there is room, and tells whether it did.
     fn keep(&mut self, bytes: &[u8]) -> bool
         ensures kept { OnTrue result (self.new.block.items ≡ self.old.block.items ++ bytes.now) }
@@ -65,7 +65,7 @@ impl<'a, S: Sink> Gathered<'a, S> {
     }
 }
 
-impl<'a, S: Sink> Sink for Gathered<'a, S> {
+impl<'a, S: Sink> Sink for Buffered<'a, S> {
     ghost Took = { TookBlocks S.Took };
 
     ghost Failed = { FailedBlocks S.Failed };

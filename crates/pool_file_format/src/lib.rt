@@ -18,7 +18,7 @@ mod refusal;
 mod sealing;
 mod sink;
 
-pub use digesting::{Running, Starting};
+pub use digesting::{DigestState, StreamingDigest};
 pub use fault::Fault;
 pub use listed::LentObject;
 pub use raw::{RawFile, RawObject, RawRef, RawTenant};

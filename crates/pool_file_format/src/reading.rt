@@ -5,7 +5,7 @@ ghost use Rattle.byte_devices.specs.Device.{device_of, calls_of, counted_on, see
 ghost use Rattle.git_model.specs.Limits.{reads_limit};
 ghost use Rattle.pool_file_format.specs.Lengths.{bytes_at, expected_at, front_at, version_at, body_at, end_at, by_lengths};
 ghost use Rattle.pool_file_format.specs.Shown.{file_of};
-ghost use Rattle.pool_file_format.specs.Taking.{shown, ReadsBy, Reads, ReadsAll};
+ghost use Rattle.pool_file_format.specs.Taking.{shown, ReadsBy, ReadsValue, ReadsAll};
 
 use crate::fault::Fault;
 use crate::fields::{read_byte, read_objects, read_tenants};
@@ -24,7 +24,7 @@ pub const MAGIC: &[u8] = b"gitpool\n";
 
 // Reads a byte that must be this one.
 fn read_expected<R: Read>(reader: &mut Counted<R>, bound: u64, expected: u8) -> Result<(), Fault>
-    ensures { Reads bound (expected_at expected)
+    ensures { ReadsValue bound (expected_at expected)
         (seen (R.remaining (device_of reader.old)) reader.old) result
         (seen (R.remaining (device_of reader.new)) reader.new) }
 {
@@ -37,7 +37,7 @@ fn read_expected<R: Read>(reader: &mut Counted<R>, bound: u64, expected: u8) -> 
 
 // Reads bytes that must be these, one by one, so that the first other byte is refused.
 fn read_front<R: Read>(reader: &mut Counted<R>, bound: u64, expected: &[u8]) -> Result<(), Fault>
-    ensures { Reads bound (front_at expected.now)
+    ensures { ReadsValue bound (front_at expected.now)
         (seen (R.remaining (device_of reader.old)) reader.old) result
         (seen (R.remaining (device_of reader.new)) reader.new) }
 {
@@ -55,7 +55,7 @@ fn is_version(number: u32) -> bool
 }
 
 fn read_version<R: Read>(reader: &mut Counted<R>, bound: u64) -> Result<u32, Fault>
-    ensures { Reads bound version_at
+    ensures { ReadsValue bound version_at
         (seen (R.remaining (device_of reader.old)) reader.old) (shown (λ n. n) result)
         (seen (R.remaining (device_of reader.new)) reader.new) }
 {
@@ -68,7 +68,7 @@ fn read_version<R: Read>(reader: &mut Counted<R>, bound: u64) -> Result<u32, Fau
 
 // Everything before the digest.
 fn read_body<R: Read>(alloc: Global, reader: &mut Counted<R>, bound: u64) -> Result<RawFile, Fault>
-    ensures { Reads bound body_at
+    ensures { ReadsValue bound body_at
         (seen (R.remaining (device_of reader.old)) reader.old) (shown file_of result)
         (seen (R.remaining (device_of reader.new)) reader.new) }
 {
@@ -84,7 +84,7 @@ fn read_body<R: Read>(alloc: Global, reader: &mut Counted<R>, bound: u64) -> Res
 }
 
 fn read_digest<R: Read>(reader: &mut Counted<R>, bound: u64) -> Result<[u8; 20], Fault>
-    ensures { Reads bound (bytes_at 20)
+    ensures { ReadsValue bound (bytes_at 20)
         (seen (R.remaining (device_of reader.old)) reader.old) (shown (λ bytes. bytes) result)
         (seen (R.remaining (device_of reader.new)) reader.new) }
 {

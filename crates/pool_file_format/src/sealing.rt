@@ -10,9 +10,9 @@ ghost use Rattle.pool_file_format.specs.Shown.{file_of, lent_file, listed_file, 
 ghost use Rattle.pool_file_format.specs.Sinks.{Gives, Goes, Writes};
 ghost use Rattle.pool_file_format.specs.Taking.{shown, ReadsAll};
 
-use crate::digesting::{Fed, Running, Starting};
+use crate::digesting::{DigestState, Fed, StreamingDigest};
 use crate::fault::Fault;
-use crate::gathering::{Digested, Gathered};
+use crate::gathering::{Buffered, HashingWriter};
 use crate::listed::{LentObject, Listed, Printed};
 use crate::printing::put_body;
 use crate::raw::{RawFile, RawObject, RawTenant};
@@ -35,7 +35,7 @@ fn listed(file: &RawFile) -> Listed<'_, RawObject>
 }
 
 /// The digest of all bytes of a file before its digest, under this naming. Takes no memory.
-pub fn digest_of<N: Starting>(naming: &N, file: &RawFile) -> [u8; 20]
+pub fn digest_of<N: StreamingDigest>(naming: &N, file: &RawFile) -> [u8; 20]
     ensures { result ≡ N.digest_of (body_text (file_of file.now)) }
 {
     let mut fed = Fed {
@@ -65,7 +65,7 @@ fn is_same(digest: &[u8], other: &[u8]) -> bool
 /// - `Memory` (90) if there is no memory for what is read.
 ///
 /// What was read is gone from the reader; after a file, nothing is left in it.
-pub fn read_sealed<N: Starting, R: Read>(
+pub fn read_sealed<N: StreamingDigest, R: Read>(
     alloc: Global,
     naming: &N,
     reader: &mut Counted<R>,
@@ -86,7 +86,7 @@ pub fn read_sealed<N: Starting, R: Read>(
 ///
 /// `DeviceFault` (68) if a call of `write` answered an error or took nothing. A prefix of the text
 /// has then been written.
-pub fn write_sealed<N: Starting, W: Write>(
+pub fn write_sealed<N: StreamingDigest, W: Write>(
     naming: &N,
     file: &RawFile,
     writer: &mut Counted<W>,
@@ -103,7 +103,7 @@ pub fn write_sealed<N: Starting, W: Write>(
 // Writes all bytes of a file before its digest to a gathering sink with an empty block, and passes
 // the last block on.
 fn put_gathered<S: Sink, O: Printed>(
-    gathered: &mut Gathered<'_, S>,
+    gathered: &mut Buffered<'_, S>,
     file: &Listed<'_, O>,
 ) -> Result<(), DeviceFault>
     requires { gathered.old.block.items ≡ [] }
@@ -124,12 +124,12 @@ fn put_blocks<S: Sink, O: Printed>(
     ensures { Gives S.Took S.Failed sink.old result sink.new
         (listed_text O.object file.now) }
 {
-    let mut gathered = Gathered {
+    let mut gathered = Buffered {
         block: Vec::new(alloc),
         sink,
     };
     let answer = put_gathered(&mut gathered, file);
-    let Gathered {
+    let Buffered {
         block: _block,
         sink: _sink,
     } = gathered;
@@ -137,7 +137,7 @@ fn put_blocks<S: Sink, O: Printed>(
 }
 
 // The same in blocks, into a digest and a sink.
-fn put_both<D: Running, S: Sink, O: Printed>(
+fn put_both<D: DigestState, S: Sink, O: Printed>(
     alloc: Global,
     running: &mut D,
     sink: &mut S,
@@ -148,7 +148,7 @@ fn put_both<D: Running, S: Sink, O: Printed>(
     ensures fed { OnOk result (Goes D.Holds running.old running.new
         (listed_text O.object file.now)) }
 {
-    let mut digested = Digested { running, sink };
+    let mut digested = HashingWriter { running, sink };
     put_blocks(alloc, &mut digested, file)
 }
 
@@ -158,7 +158,7 @@ fn put_both<D: Running, S: Sink, O: Printed>(
 /// Takes memory for a block. If there is none, each piece is written by a call of its own, so no
 /// answer is `Memory`. `DeviceFault` (68) if a call of `write` answered an error or took nothing. A
 /// prefix of the text has then been written.
-pub fn write_lent<N: Starting, W: Write>(
+pub fn write_lent<N: StreamingDigest, W: Write>(
     alloc: Global,
     naming: &N,
     objects: &[LentObject<'_>],

@@ -5,7 +5,7 @@ use crate::parts::{code_of, number_of};
 use byte_devices::Counted;
 use git_names::TailNaming;
 use pool_file_checks::read_judged;
-use pool_file_format::{Fault, Starting};
+use pool_file_format::{Fault, StreamingDigest};
 use std::alloc::Global;
 
 // What is answered if one byte of version 1 is greater by one and the digest is made right, byte by
@@ -38,7 +38,7 @@ const REF_TO_A_BLOB: &[u8] = b"gitpool\n\0\0\0\x01\
     \xab\xab\xab\xab\xab\xab\xab\xab\xab\xab\xab\xab\xab\xab\xab\xab\xab\xab\xab\xb9";
 
 /// What reading and judging bytes answers.
-pub fn code_of_judging<N: Starting>(alloc: Global, naming: &N, bytes: &[u8]) -> u16 {
+pub fn code_of_judging<N: StreamingDigest>(alloc: Global, naming: &N, bytes: &[u8]) -> u16 {
     let mut reader = Counted::new(bytes);
     code_of(read_judged(alloc, naming, &mut reader))
 }

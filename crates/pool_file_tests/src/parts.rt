@@ -3,7 +3,7 @@
 use byte_devices::Counted;
 use git_names::{Name, Naming};
 use pool_file_checks::name_objects;
-use pool_file_format::{Fault, RawFile, RawObject, RawTenant, Starting, write_sealed};
+use pool_file_format::{Fault, RawFile, RawObject, RawTenant, StreamingDigest, write_sealed};
 use std::alloc::Global;
 
 /// The byte of a kind, and contents.
@@ -73,7 +73,11 @@ pub fn tenant_of(
 }
 
 /// All bytes of a file.
-pub fn printed<N: Starting>(alloc: Global, naming: &N, file: &RawFile) -> Result<Vec<u8>, Fault> {
+pub fn printed<N: StreamingDigest>(
+    alloc: Global,
+    naming: &N,
+    file: &RawFile,
+) -> Result<Vec<u8>, Fault> {
     let mut writer = Counted::new(Vec::new(alloc));
     write_sealed(naming, file, &mut writer)?;
     Ok(writer.into_inner())

@@ -11,31 +11,31 @@ use Rattle.git_model.specs.Content.{Content, name_by}
 use Rattle.tenant_tables.specs.Adding.{Answers, Adds}
 use Rattle.tenant_tables.specs.declared.fault.Fault.{Fault}
 use Rattle.tenant_tables.specs.declared.summary.Summary.{Summary}
-use Rattle.content_pool.specs.Pool.{Cells, HasRoom, IsVacant}
-use Rattle.tenant_tables.specs.StandsIn.{StandsIn, LeavesOthers, Share}
+use Rattle.content_pool.specs.Pool.{Cells, HasHoldsLeft, IsVacant}
+use Rattle.tenant_tables.specs.IsBackedBy.{IsBackedBy, PreservesOthers, Share}
 use Rattle.tenant_tables.specs.View.{View, Entries, summary_of}
 use Rattle.tenant_tables.proofs.HoldLemmas.{held-nil}
-use Rattle.tenant_tables.proofs.TableLemmas.{StandsIn-nil, other_stands}
+use Rattle.tenant_tables.proofs.TableLemmas.{IsBackedBy-nil, other_stands}
 
 pub Share-nil : (digest : List ℕ → List ℕ) (p : Cells) (es fs : Entries) → IsVacant p → es ≡ []
     → fs ≡ [] → Share digest p es fs
 Share-nil digest p es fs vacant a b =
     rw (a, b) (record {
-      first = StandsIn-nil digest p;
-      second = StandsIn-nil digest p;
+      first = IsBackedBy-nil digest p;
+      second = IsBackedBy-nil digest p;
       counts = λ s. let n = vacant s in let m = held-nil s in omega arith;
     })
 
 -- each holds a slot at most once, so there is room for more holds
 pub Share-room : (digest : List ℕ → List ℕ) (p : Cells) (es fs : Entries) → Share digest p es fs
-    → HasRoom p
+    → HasHoldsLeft p
 Share-room digest p es fs h s =
     let a = h.first.once s in let b = h.second.once s in let c = h.counts s in omega arith
 
 -- a call of the first table keeps the second
 pub Share-first : (digest : List ℕ → List ℕ) (p q : Cells) (es gs fs : Entries)
-    → Share digest p es fs → StandsIn digest q gs
-    → LeavesOthers p es q gs → Share digest q gs fs
+    → Share digest p es fs → IsBackedBy digest q gs
+    → PreservesOthers p es q gs → Share digest q gs fs
 Share-first digest p q es gs fs h stands others = record {
   first = stands;
   second =
@@ -46,8 +46,8 @@ Share-first digest p q es gs fs h stands others = record {
 
 -- and the other way round
 pub Share-second : (digest : List ℕ → List ℕ) (p q : Cells) (es fs gs : Entries)
-    → Share digest p es fs → StandsIn digest q gs
-    → LeavesOthers p fs q gs → Share digest q es gs
+    → Share digest p es fs → IsBackedBy digest q gs
+    → PreservesOthers p fs q gs → Share digest q es gs
 Share-second digest p q es fs gs h stands others = record {
   first =
       other_stands digest p q fs gs es h.first

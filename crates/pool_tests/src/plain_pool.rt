@@ -7,7 +7,7 @@ ghost use Rattle.std.specs.Prelude.{◌≡◌, ℕ, ◌+◌, ◌-◌, ◌<◌, �
 ghost use Rattle.std.specs.Prelude.{IsTrue, MatchOption, IfOk, OnErr};
 ghost use Rattle.git_model.specs.ObjectName.{object_name};
 ghost use Rattle.git_model.specs.Content.{content_from};
-ghost use Rattle.content_pool.specs.Pool.{IsAbsent, content, content_of, IsLive, CanHold, HasRoom};
+ghost use Rattle.content_pool.specs.Pool.{IsAbsent, content, content_of, IsLive, CanHold, HasHoldsLeft};
 ghost use Rattle.content_pool.specs.Pool.{HoldsEachOnce, IsVacant, Puts};
 ghost use Rattle.content_pool.specs.Index.{Stores};
 ghost use Rattle.content_pool.specs.LiveContents.{live_contents, stored_sizes, ListsLive};
@@ -114,7 +114,7 @@ impl<N: Naming> PlainPool<N> {
     /// Holds the content of this kind with these bytes once more, and answers its position and its
     /// object name. `Memory` (90) if there is no room; nothing has changed then.
     pub fn put(&mut self, kind: Kind, bytes: &[u8]) -> Result<(usize, Name), Memory>
-        requires { HasRoom self.old }
+        requires { HasHoldsLeft self.old }
         ensures name { IfOk result (λ r. r.1 ≡ object_name N.digest_of kind bytes.now) }
         ensures puts { IfOk result (λ r. Puts self.old self.new r.0 (content_from kind bytes.now)) }
         ensures once { HoldsEachOnce self.new }
@@ -128,7 +128,7 @@ impl<N: Naming> PlainPool<N> {
     // `put` under the object name of the content.
     fn put_named(&mut self, id: Name, kind: Kind, bytes: &[u8]) -> Result<usize, Memory>
         requires named { id ≡ object_name N.digest_of kind bytes.now }
-        requires room { HasRoom self.old }
+        requires room { HasHoldsLeft self.old }
         ensures puts { IfOk result
             (λ position. Puts self.old self.new position (content_from kind bytes.now)) }
         ensures once { HoldsEachOnce self.new }

@@ -17,10 +17,10 @@ ghost use Rattle.git_model.specs.Limits.{objects_limit};
 ghost use Rattle.git_model.specs.ObjectName.{IsObjectName, object_name};
 ghost use Rattle.git_model.specs.Content.{content_from, name_by, same_content};
 ghost use Rattle.git_model.specs.Repository.{object_named};
-ghost use Rattle.content_pool.specs.Pool.{HasRoom};
+ghost use Rattle.content_pool.specs.Pool.{HasHoldsLeft};
 ghost use Rattle.tenant_tables.specs.View.{names, entry_named, slot_of, in_sight};
 ghost use Rattle.tenant_tables.specs.Objects.{objects};
-ghost use Rattle.tenant_tables.specs.StandsIn.{StandsIn, LeavesOthers};
+ghost use Rattle.tenant_tables.specs.IsBackedBy.{IsBackedBy, PreservesOthers};
 ghost use Rattle.tenant_tables.specs.Adding.{Answers, store_fault, Adds, Pushes};
 ghost use Rattle.tenant_tables.specs.Abbreviation.{found_among};
 
@@ -212,11 +212,11 @@ impl PlainTable {
         kind: Kind,
         bytes: &[u8],
     ) -> Result<Name, Fault>
-        requires stands { StandsIn N.digest_of pool.old self.old.entries }
-        requires room { HasRoom pool.old }
+        requires stands { IsBackedBy N.digest_of pool.old self.old.entries }
+        requires room { HasHoldsLeft pool.old }
         requires no_tree { kind ≢ Kind.Tree }
-        ensures stands { StandsIn N.digest_of pool.new self.new.entries }
-        ensures others { LeavesOthers pool.old self.old.entries pool.new self.new.entries }
+        ensures stands { IsBackedBy N.digest_of pool.new self.new.entries }
+        ensures others { PreservesOthers pool.old self.old.entries pool.new self.new.entries }
         ensures answer { let c = content_from kind bytes.now in let id = name_by N.digest_of c in
             Answers result id (store_fault id c (objects pool.old self.old.entries)) }
         ensures ok { OnOk result (Adds N.digest_of (content_from kind bytes.now) None
@@ -249,7 +249,7 @@ impl PlainTable {
         kind: Kind,
         bytes: &[u8],
     ) -> Option<bool>
-        requires { StandsIn N.digest_of pool.now self.now.entries }
+        requires { IsBackedBy N.digest_of pool.now self.now.entries }
         ensures { result ≡ option_map (same_content (content_from kind bytes.now))
             (object_named id.now (objects pool.now self.now.entries)) }
     {
@@ -276,7 +276,7 @@ impl PlainTable {
         requires named { id ≡ object_name N.digest_of kind bytes.now }
         requires new { entry_named id self.old.entries ≡ None }
         requires spare { length self.old.entries < objects_limit }
-        requires room { HasRoom pool.old }
+        requires room { HasHoldsLeft pool.old }
         ensures ok { OnOk result (Pushes id (content_from kind bytes.now) None
             pool.old self.old pool.new self.new) }
         ensures err { OnErr result ((self.new ≡ self.old) × (pool.new ≡ pool.old)) }
@@ -300,9 +300,9 @@ impl PlainTable {
     /// What another table holds stays in the pool. The pool must be the one that holds the contents
     /// of the table.
     pub fn roll_back<N: Naming>(&mut self, pool: &mut Pool<N>)
-        requires stands { StandsIn N.digest_of pool.old self.old.entries }
-        ensures stands { StandsIn N.digest_of pool.new self.new.entries }
-        ensures others { LeavesOthers pool.old self.old.entries pool.new self.new.entries }
+        requires stands { IsBackedBy N.digest_of pool.old self.old.entries }
+        ensures stands { IsBackedBy N.digest_of pool.new self.new.entries }
+        ensures others { PreservesOthers pool.old self.old.entries pool.new self.new.entries }
         ensures entries { self.new
             ≡ record self.old { entries = take self.old.committed self.old.entries } }
         ensures objects { objects pool.new self.new.entries
@@ -316,10 +316,10 @@ impl PlainTable {
 
     // Removes the last object and releases its slot.
     fn give_up_last<N: Naming>(&mut self, pool: &mut Pool<N>)
-        requires stands { StandsIn N.digest_of pool.old self.old.entries }
+        requires stands { IsBackedBy N.digest_of pool.old self.old.entries }
         requires open { self.old.committed < length self.old.entries }
-        ensures stands { StandsIn N.digest_of pool.new self.new.entries }
-        ensures others { LeavesOthers pool.old self.old.entries pool.new self.new.entries }
+        ensures stands { IsBackedBy N.digest_of pool.new self.new.entries }
+        ensures others { PreservesOthers pool.old self.old.entries pool.new self.new.entries }
         ensures entries { self.new
             ≡ record self.old { entries = take (length self.old.entries - 1) self.old.entries } }
         ensures objects { objects pool.new self.new.entries

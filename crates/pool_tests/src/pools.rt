@@ -2,7 +2,7 @@
 //! again.
 
 ghost use Rattle.std.specs.Prelude.{◌≡◌, ℕ, ◌+◌, ◌<◌, ◌≤◌, IfOk};
-ghost use Rattle.content_pool.specs.Pool.{HasRoom, IsVacant, holds};
+ghost use Rattle.content_pool.specs.Pool.{HasHoldsLeft, IsVacant, holds};
 
 use crate::plain_pool::PlainPool;
 use content_pool::{Pool, Slot};
@@ -182,8 +182,8 @@ fn put_alike(
     plain: &mut PlainPool<TailNaming>,
     bytes: &[u8],
 ) -> Result<bool, Memory>
-    requires room { HasRoom pool.old }
-    requires plain_room { HasRoom plain.old }
+    requires room { HasHoldsLeft pool.old }
+    requires plain_room { HasHoldsLeft plain.old }
     ensures one { (s : ℕ) → holds pool.new s ≤ holds pool.old s + 1 }
     ensures plain_one { (s : ℕ) → holds plain.new s ≤ holds plain.old s + 1 }
 {
@@ -234,7 +234,7 @@ fn put_both(pool: &mut Pool<TailNaming>) -> Result<bool, Memory>
 
 // Whether these bytes are put, tried again if an allocation failed and changed nothing.
 fn stays_and_takes(pool: &mut Pool<TailNaming>, bytes: &[u8]) -> Result<bool, Memory>
-    requires { HasRoom pool.old }
+    requires { HasHoldsLeft pool.old }
     ensures { (s : ℕ) → holds pool.new s ≤ holds pool.old s + 1 }
 {
     let before = pool.stored();

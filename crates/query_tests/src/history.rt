@@ -107,15 +107,15 @@ pub struct History<N: Naming> {
 
 impl<N: Naming> Model for History<N> {
     ghost use Rattle.std.specs.Prelude.{ℕ};
-    ghost use Rattle.tenant_tables.specs.StandsIn.{StandsIn};
-    ghost use Rattle.tenant_tables.specs.Room.{HasRoomBeside};
+    ghost use Rattle.tenant_tables.specs.IsBackedBy.{IsBackedBy};
+    ghost use Rattle.tenant_tables.specs.Room.{HasHoldsLeftBeside};
 
     ghost Value = { ℕ };
 
     ghost view = { λ history. 0 };
 
-    ghost invariant = { λ history. StandsIn N.digest_of history.pool history.table.entries
-        × HasRoomBeside history.pool history.table.entries };
+    ghost invariant = { λ history. IsBackedBy N.digest_of history.pool history.table.entries
+        × HasHoldsLeftBeside history.pool history.table.entries };
 }
 
 impl<N: Naming> History<N> {

@@ -5,7 +5,7 @@ use crate::history::{History, REFS, sets_all};
 use answers::{answer, answer_along};
 use git_objects::{Naming, Sha1Naming};
 use numerals::read_number;
-use revisions::FirstParentChain;
+use revisions::FirstParentCache;
 use std::alloc::Global;
 use tenant_refs::Refs;
 
@@ -254,13 +254,13 @@ impl<N: Naming> History<N> {
     }
 
     fn answers_alike_along(&self, refs: &Refs) -> bool {
-        let mut chain = FirstParentChain::new(self.alloc);
+        let mut chain = FirstParentCache::new(self.alloc);
         let holds = self.answers_all_alike(refs, &mut chain);
         drop(chain);
         holds
     }
 
-    fn answers_all_alike(&self, refs: &Refs, chain: &mut FirstParentChain) -> bool {
+    fn answers_all_alike(&self, refs: &Refs, chain: &mut FirstParentCache) -> bool {
         for query in WALKS.split(|byte| *byte == b';') {
             if !self.answers_alike(refs, chain, query) {
                 return false;
@@ -270,7 +270,7 @@ impl<N: Naming> History<N> {
     }
 
     // Whether a query has the same answer along the chain and without it.
-    fn answers_alike(&self, refs: &Refs, chain: &mut FirstParentChain, query: &[u8]) -> bool {
+    fn answers_alike(&self, refs: &Refs, chain: &mut FirstParentCache, query: &[u8]) -> bool {
         let mut along = Vec::new(self.alloc);
         let code = self.code_of_answer_along(refs, chain, query, &mut along);
         let holds = self.answers_so(refs, query, code, &along);
@@ -281,7 +281,7 @@ impl<N: Naming> History<N> {
     fn code_of_answer_along(
         &self,
         refs: &Refs,
-        chain: &mut FirstParentChain,
+        chain: &mut FirstParentCache,
         query: &[u8],
         out: &mut Vec<u8>,
     ) -> u16 {

@@ -17,11 +17,11 @@ use tenant_tables::Objects;
 /// The commits of the last walk along first parents, from its start on. The next walk with the same
 /// start looks them up, and goes on after the last one.
 #[derive(Drop)]
-pub struct FirstParentChain {
+pub struct FirstParentCache {
     commits: Vec<Name>,
 }
 
-impl Model for FirstParentChain {
+impl Model for FirstParentCache {
     ghost use Rattle.std.specs.Prelude.{ℕ, List};
 
     ghost Value = { List (List ℕ) };
@@ -29,12 +29,12 @@ impl Model for FirstParentChain {
     ghost view = { λ chain. chain.commits.items };
 }
 
-impl FirstParentChain {
+impl FirstParentCache {
     /// A chain of no commits. Takes no memory.
-    pub fn new(alloc: Global) -> FirstParentChain
+    pub fn new(alloc: Global) -> FirstParentCache
         ensures { result ≡ [] }
     {
-        FirstParentChain {
+        FirstParentCache {
             commits: Vec::new(alloc),
         }
     }

@@ -22,7 +22,7 @@ mod suffix_reading;
 pub use commit_range::Range;
 pub use expression::Expression;
 pub use fault::Fault;
-pub use first_parents::FirstParentChain;
+pub use first_parents::FirstParentCache;
 pub use peeling::{peel, peel_tags};
 pub use range_log::{range, resolve_range};
 pub use range_reading::read_range;

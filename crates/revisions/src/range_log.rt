@@ -4,7 +4,7 @@ ghost use Rattle.std.specs.Prelude.{◌≡◌, ◌&&◌, ◌||◌, not, true, ma
 ghost use Rattle.git_model.specs.GoodRepository.{AreObjects};
 ghost use Rattle.git_model.specs.Peeling.{is_of};
 ghost use Rattle.tenant_tables.specs.Objects.{objects};
-ghost use Rattle.tenant_tables.specs.StandsIn.{StandsIn};
+ghost use Rattle.tenant_tables.specs.IsBackedBy.{IsBackedBy};
 ghost use Rattle.tenant_tables.specs.View.{in_sight};
 ghost use Rattle.revisions.specs.Faults.{Gives, GivesBy};
 ghost use Rattle.revisions.specs.FirstParents.{IsFirstParentChain};
@@ -14,7 +14,7 @@ ghost use Rattle.revisions.specs.Logs.{named_log, range_log};
 use crate::commit_range::Range;
 use crate::expression::Expression;
 use crate::fault::Fault;
-use crate::first_parents::FirstParentChain;
+use crate::first_parents::FirstParentCache;
 use crate::range_reading::read_range;
 use crate::resolving::resolve_commit;
 use commit_walk::{log_of, reached_from};
@@ -37,13 +37,13 @@ pub fn range<N: Naming>(
     refs: &Refs,
     text: &[u8],
 ) -> Result<Vec<Name>, Fault>
-    requires { StandsIn N.digest_of pool.now table.now.entries }
+    requires { IsBackedBy N.digest_of pool.now table.now.entries }
     ensures { let os = objects pool.now (in_sight sight table.now) in AreObjects N.digest_of os
         → GivesBy (λ ids. ids.items) result (range_log os refs.now text.now) }
 {
     let range = read_range(alloc, text)?;
     let objects = Objects::of(pool, table, sight);
-    let mut chain = FirstParentChain::new(alloc);
+    let mut chain = FirstParentCache::new(alloc);
     resolve_range(alloc, &objects, refs, &mut chain, &range)
 }
 
@@ -58,7 +58,7 @@ pub fn resolve_range<N: Naming>(
     alloc: Global,
     objects: &Objects<'_, N>,
     refs: &Refs,
-    chain: &mut FirstParentChain,
+    chain: &mut FirstParentCache,
     range: &Range<Expression<'_>>,
 ) -> Result<Vec<Name>, Fault>
     ensures log { AreObjects N.digest_of objects.now → IsFirstParentChain objects.now chain.old
@@ -79,7 +79,7 @@ fn range_named<N: Naming>(
     alloc: Global,
     objects: &Objects<'_, N>,
     refs: &Refs,
-    chain: &mut FirstParentChain,
+    chain: &mut FirstParentCache,
     range: &Range<Expression<'_>>,
 ) -> Result<Range<Name>, Fault>
     ensures named { AreObjects N.digest_of objects.now → IsFirstParentChain objects.now chain.old
@@ -108,7 +108,7 @@ fn both_named<N: Naming>(
     alloc: Global,
     objects: &Objects<'_, N>,
     refs: &Refs,
-    chain: &mut FirstParentChain,
+    chain: &mut FirstParentCache,
     left: &Expression<'_>,
     right: &Expression<'_>,
 ) -> Result<(Name, Name), Fault>

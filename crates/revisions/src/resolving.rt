@@ -3,7 +3,7 @@
 ghost use Rattle.std.specs.Prelude.{◌≡◌};
 ghost use Rattle.git_model.specs.GoodRepository.{AreObjects};
 ghost use Rattle.tenant_tables.specs.Objects.{objects};
-ghost use Rattle.tenant_tables.specs.StandsIn.{StandsIn};
+ghost use Rattle.tenant_tables.specs.IsBackedBy.{IsBackedBy};
 ghost use Rattle.tenant_tables.specs.View.{in_sight};
 ghost use Rattle.revisions.specs.Faults.{Gives};
 ghost use Rattle.revisions.specs.FirstParents.{IsFirstParentChain};
@@ -13,7 +13,7 @@ ghost use Rattle.revisions.specs.Resolution.{at_path, after_suffix, after_suffix
 use crate::base::{base_named, if_there};
 use crate::expression::Expression;
 use crate::fault::Fault;
-use crate::first_parents::FirstParentChain;
+use crate::first_parents::FirstParentCache;
 use crate::parents::nth_parent;
 use crate::peeling::{peel, peel_tags};
 use crate::stored_path::entry_below;
@@ -55,7 +55,7 @@ fn at_path<N: Naming>(
 fn after_suffix<N: Naming>(
     alloc: Global,
     objects: &Objects<'_, N>,
-    chain: &mut FirstParentChain,
+    chain: &mut FirstParentCache,
     suffix: &Suffix,
     id: Name,
 ) -> Result<Name, Fault>
@@ -87,7 +87,7 @@ fn after_suffix<N: Naming>(
 fn after_suffixes<N: Naming>(
     alloc: Global,
     objects: &Objects<'_, N>,
-    chain: &mut FirstParentChain,
+    chain: &mut FirstParentCache,
     suffixes: &[Suffix],
     id: Name,
 ) -> Result<Name, Fault>
@@ -124,7 +124,7 @@ pub fn resolve_expression<N: Naming>(
     alloc: Global,
     objects: &Objects<'_, N>,
     refs: &Refs,
-    chain: &mut FirstParentChain,
+    chain: &mut FirstParentCache,
     expression: &Expression<'_>,
 ) -> Result<Name, Fault>
     ensures found { AreObjects N.digest_of objects.now → IsFirstParentChain objects.now chain.old
@@ -144,7 +144,7 @@ pub fn resolve_commit<N: Naming>(
     alloc: Global,
     objects: &Objects<'_, N>,
     refs: &Refs,
-    chain: &mut FirstParentChain,
+    chain: &mut FirstParentCache,
     expression: &Expression<'_>,
 ) -> Result<Name, Fault>
     ensures found { AreObjects N.digest_of objects.now → IsFirstParentChain objects.now chain.old
@@ -171,12 +171,12 @@ pub fn resolve<N: Naming>(
     refs: &Refs,
     text: &[u8],
 ) -> Result<Name, Fault>
-    requires { StandsIn N.digest_of pool.now table.now.entries }
+    requires { IsBackedBy N.digest_of pool.now table.now.entries }
     ensures { let os = objects pool.now (in_sight sight table.now) in
         AreObjects N.digest_of os → Gives result (resolved os refs.now text.now) }
 {
     let expression = Expression::read(alloc, text)?;
     let objects = Objects::of(pool, table, sight);
-    let mut chain = FirstParentChain::new(alloc);
+    let mut chain = FirstParentCache::new(alloc);
     resolve_expression(alloc, &objects, refs, &mut chain, &expression)
 }

@@ -3,7 +3,7 @@
 ghost use Rattle.std.specs.Prelude.{◌≡◌, ℕ, true, IfOk};
 ghost use Rattle.content_pool.specs.Pool.{holds};
 ghost use Rattle.tenant_tables.specs.View.{held};
-ghost use Rattle.tenant_tables.specs.StandsIn.{StandsIn};
+ghost use Rattle.tenant_tables.specs.IsBackedBy.{IsBackedBy};
 ghost use Rattle.import_session.specs.Held.{FilesStand};
 
 use content_pool::Pool;
@@ -260,10 +260,10 @@ fn walk<N: Naming>(
     step: Step<'_>,
     out: &mut Vec<u8>,
 ) -> Result<bool, Fault>
-    requires stands { StandsIn N.digest_of pool.old table.old.entries }
+    requires stands { IsBackedBy N.digest_of pool.old table.old.entries }
     requires alone { (s : ℕ) → holds pool.old s ≡ held table.old.entries s }
     requires files { FilesStand session.old.state pool.old table.old }
-    ensures stands { StandsIn N.digest_of pool.new table.new.entries }
+    ensures stands { IsBackedBy N.digest_of pool.new table.new.entries }
     ensures alone { (s : ℕ) → holds pool.new s ≡ held table.new.entries s }
     ensures files { IfOk result (λ more. more ≡ true
         → FilesStand session.new.state pool.new table.new) }
@@ -290,10 +290,10 @@ fn take_all<N: Naming>(
     steps: &str,
     out: &mut Vec<u8>,
 ) -> u16
-    requires stands { StandsIn N.digest_of pool.old table.old.entries }
+    requires stands { IsBackedBy N.digest_of pool.old table.old.entries }
     requires alone { (s : ℕ) → holds pool.old s ≡ held table.old.entries s }
     requires files { FilesStand session.old.state pool.old table.old }
-    ensures stands { StandsIn N.digest_of pool.new table.new.entries }
+    ensures stands { IsBackedBy N.digest_of pool.new table.new.entries }
 {
     for text in steps.split('|') {
         match walk(session, pool, table, refs, step_of(text.as_bytes()), out) {
@@ -314,7 +314,7 @@ fn run_in<N: Naming>(
     steps: &str,
     out: &mut Vec<u8>,
 ) -> Left
-    requires stands { StandsIn N.digest_of pool.old table.old.entries }
+    requires stands { IsBackedBy N.digest_of pool.old table.old.entries }
     requires alone { (s : ℕ) → holds pool.old s ≡ held table.old.entries s }
 {
     let mut session = Session::new(alloc);

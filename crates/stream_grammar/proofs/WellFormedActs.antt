@@ -43,8 +43,10 @@ use Rattle.stream_grammar.specs.Features.{feature_of, in_time, quiet_of, head_of
 use Rattle.stream_grammar.specs.Acts.{Act, Effect}
 use Rattle.stream_grammar.specs.Grammar.{Fit, Stands, Ends, Misses, Term, production_of, fit}
 use Rattle.stream_grammar.specs.Parts.{part_of}
-use Rattle.stream_grammar.specs.Lines.{from_act, alias_act, data_act, entry_act, branch_entry_act, change_act, line_effect, inner_effect}
-use Rattle.stream_grammar.specs.Lines.{option_act, single_act, first_line_act, first_act}
+use Rattle.stream_grammar.specs.Lines.{from_act, alias_act, data_act, entry_act, branch_entry_act}
+use Rattle.stream_grammar.specs.Lines.{change_act, change_or_reply_act, header_act}
+use Rattle.stream_grammar.specs.Lines.{line_effect, inner_effect}
+use Rattle.stream_grammar.specs.Lines.{option_act, control_act, single_act, first_line_act, first_act}
 use Rattle.stream_grammar.specs.Commands.{Open, Done, Step, Parsing, step, step_by, step_outside, goes_on, opens, done_of, done_by}
 use Rattle.stream_grammar.specs.WellFormed.{NamesShortRef, IsTagRef, IsTreePath, IsReferred, HoldsContents, IsWellFormed}
 use Rattle.stream_grammar.proofs.Filled.{by_test}
@@ -268,11 +270,29 @@ good_change_act part.Copy text =
 good_change_act part.Rename text =
     good_read _ IsWellFormed (paths_of (argument text)) _ (good_paths (argument text)) (λ paths h. h)
 good_change_act part.DeleteAll text = tt
-good_change_act part.CatBlob text =
-    good_read _ IsWellFormed (dataref_of (argument text)) _ (good_dataref (argument text)) (λ object h. h)
-good_change_act part.Ls text =
-    good_branch_entry_act (is_quoted (argument text)) (argument text)
 good_change_act _ text = tt
+
+good_change_or_reply_act : (taken : Part) (text : List ℕ)
+    → IfOk (change_or_reply_act taken text) IsWellFormed
+good_change_or_reply_act part.CatBlob text =
+    good_read _ IsWellFormed (dataref_of (argument text)) _ (good_dataref (argument text)) (λ object h. h)
+good_change_or_reply_act part.Ls text =
+    good_branch_entry_act (is_quoted (argument text)) (argument text)
+good_change_or_reply_act taken text = good_change_act taken text
+
+good_header_act : (taken : Part) (text : List ℕ) → IfOk (header_act taken text) IsWellFormed
+good_header_act part.Author text =
+    good_read _ IsWellFormed (ident_of (argument text)) _ (good_ident (argument text)) (λ ident h. h)
+good_header_act part.Committer text =
+    good_read _ IsWellFormed (ident_of (argument text)) _ (good_ident (argument text)) (λ ident h. h)
+good_header_act part.Encoding text =
+    good_read _ IsWellFormed (encoding_of (argument text)) _ (good_encoding (argument text))
+    (λ encoding h. h)
+good_header_act part.Merge text =
+    any_read IsWellFormed (commit_ish_of (argument text)) _ (λ commit. tt)
+good_header_act part.Tagger text =
+    good_read _ IsWellFormed (ident_of (argument text)) _ (good_ident (argument text)) (λ ident h. h)
+good_header_act taken text = good_change_or_reply_act taken text
 
 abbrev IsGood : Effect → Type 0
 IsGood effect = IsWellFormed effect.act
@@ -299,23 +319,13 @@ good_line_effect : (now : Opened) (mark : Option ℕ) (taken : Part) (text : Lis
     → IfOk (line_effect now mark taken text) IsGood
 good_line_effect now mark part.Mark text =
     any_read IsGood (mark_of (argument text)) _ (λ number. tt)
-good_line_effect now mark part.Author text =
-    good_read _ IsGood (ident_of (argument text)) _ (good_ident (argument text)) (λ ident h. h)
-good_line_effect now mark part.Committer text =
-    good_read _ IsGood (ident_of (argument text)) _ (good_ident (argument text)) (λ ident h. h)
-good_line_effect now mark part.Encoding text =
-    good_read _ IsGood (encoding_of (argument text)) _ (good_encoding (argument text)) (λ encoding h. h)
 good_line_effect now mark part.From text =
     any_read IsGood (commit_ish_of (argument text)) _ (λ commit. from_good now commit)
-good_line_effect now mark part.Merge text =
-    any_read IsGood (commit_ish_of (argument text)) _ (λ commit. tt)
-good_line_effect now mark part.Tagger text =
-    good_read _ IsGood (ident_of (argument text)) _ (good_ident (argument text)) (λ ident h. h)
 good_line_effect now mark part.To text =
     any_read IsGood (commit_ish_of (argument text)) _ (λ commit. alias_good mark commit)
 good_line_effect now mark taken text =
-    good_read IsWellFormed IsGood (change_act taken text) (λ act. Ok (record { mark = mark; act = act }))
-    (good_change_act taken text) (λ act h. h)
+    good_read IsWellFormed IsGood (header_act taken text) (λ act. Ok (record { mark = mark; act = act }))
+    (good_header_act taken text) (λ act h. h)
 
 good_inner_effect : (now : Opened) (mark : Option ℕ) (part : Part) (item : Item)
     → IfOk (inner_effect now mark part item) IsGood
@@ -334,19 +344,24 @@ good_option_act late setting.Head words =
     (good_head (argument (argument words))) (λ ref h. h))
 good_option_act late setting.Other words = tt
 
+good_control_act : (late : Bool) (command : Part) (text : List ℕ)
+    → IfOk (control_act late command text) IsWellFormed
+good_control_act late part.Feature text =
+    any_read IsWellFormed (in_time late) _ (λ u.
+    any_read IsWellFormed (feature_of (argument text)) _ (λ feature. tt))
+good_control_act late part.Setting text =
+    good_option_act late (setting_of (argument text)) (argument text)
+good_control_act late _ text = tt
+
 good_single_act : (late : Bool) (command : Part) (text : List ℕ)
     → IfOk (single_act late command text) IsWellFormed
+good_single_act late part.Progress text = tt
 good_single_act late part.GetMark text =
     any_read IsWellFormed (mark_of (argument text)) _ (λ mark. tt)
 good_single_act late part.CatBlob text =
     good_read _ IsWellFormed (dataref_of (argument text)) _ (good_dataref (argument text)) (λ object h. h)
 good_single_act late part.Ls text = good_entry_act (argument text)
-good_single_act late part.Feature text =
-    any_read IsWellFormed (in_time late) _ (λ u.
-    any_read IsWellFormed (feature_of (argument text)) _ (λ feature. tt))
-good_single_act late part.Setting text =
-    good_option_act late (setting_of (argument text)) (argument text)
-good_single_act late _ text = tt
+good_single_act late command text = good_control_act late command text
 
 good_first_line_act : (late : Bool) (command : Part) (text : List ℕ)
     → IfOk (first_line_act late command text) IsWellFormed

@@ -24,8 +24,9 @@ use Rattle.stream_grammar.specs.Names.{ref_of, ident_judged, ident_of, commit_at
 use Rattle.stream_grammar.specs.Changes.{mode_of, mode_inline, path_read, path_of, paths_of, object_and_path, modified, inline_path, modified_inline, is_encoding, encoding_of, is_quoted}
 use Rattle.stream_grammar.specs.Features.{feature_of, in_time, quiet_of, head_of, setting_of}
 use Rattle.stream_grammar.specs.Acts.{Act, Effect}
-use Rattle.stream_grammar.specs.Lines.{entry_act, branch_entry_act, change_act, line_effect, inner_effect}
-use Rattle.stream_grammar.specs.Lines.{option_act, single_act, first_line_act, first_act}
+use Rattle.stream_grammar.specs.Lines.{entry_act, branch_entry_act, change_act, change_or_reply_act}
+use Rattle.stream_grammar.specs.Lines.{header_act, line_effect, inner_effect}
+use Rattle.stream_grammar.specs.Lines.{option_act, control_act, single_act, first_line_act, first_act}
 use Rattle.stream_grammar.specs.Whole.{FindsPlace}
 use Rattle.stream_grammar.proofs.Filled.{by_test}
 
@@ -198,25 +199,32 @@ found-change_act part.Delete text = found-then _ _ (found-path_of (argument text
 found-change_act part.Copy text = found-then _ _ (found-paths_of (argument text))
 found-change_act part.Rename text = found-then _ _ (found-paths_of (argument text))
 found-change_act part.DeleteAll text = tt
-found-change_act part.CatBlob text = found-then _ _ (found-dataref_of (argument text))
-found-change_act part.Ls text =
-    found-branch_entry_act (is_quoted (argument text)) (argument text)
 found-change_act _ text = tt
+
+found-change_or_reply_act : (taken : Part) (text : List ℕ)
+    → FindsPlace (change_or_reply_act taken text)
+found-change_or_reply_act part.CatBlob text = found-then _ _ (found-dataref_of (argument text))
+found-change_or_reply_act part.Ls text =
+    found-branch_entry_act (is_quoted (argument text)) (argument text)
+found-change_or_reply_act taken text = found-change_act taken text
+
+found-header_act : (taken : Part) (text : List ℕ) → FindsPlace (header_act taken text)
+found-header_act part.Author text = found-then _ _ (found-ident_of (argument text))
+found-header_act part.Committer text = found-then _ _ (found-ident_of (argument text))
+found-header_act part.Encoding text = found-then _ _ (found-encoding_of (argument text))
+found-header_act part.Merge text = found-then _ _ (found-commit_ish_of (argument text))
+found-header_act part.Tagger text = found-then _ _ (found-ident_of (argument text))
+found-header_act taken text = found-change_or_reply_act taken text
 
 found-line_effect : (now : Opened) (mark : Option ℕ) (taken : Part) (text : List ℕ)
     → FindsPlace (line_effect now mark taken text)
 found-line_effect now mark part.Mark text = found-then _ _ (found-mark_of (argument text))
-found-line_effect now mark part.Author text = found-then _ _ (found-ident_of (argument text))
-found-line_effect now mark part.Committer text = found-then _ _ (found-ident_of (argument text))
-found-line_effect now mark part.Encoding text = found-then _ _ (found-encoding_of (argument text))
 found-line_effect now mark part.From text = found-then _ _ (found-commit_ish_of (argument text))
-found-line_effect now mark part.Merge text = found-then _ _ (found-commit_ish_of (argument text))
-found-line_effect now mark part.Tagger text = found-then _ _ (found-ident_of (argument text))
 found-line_effect now mark part.To text = found-then _ _ (found-commit_ish_of (argument text))
 found-line_effect now mark taken text =
     let with_mark : Act → Effect = λ act. record { mark = mark; act = act } in
-    found-then {A = Act} {B = Effect} (change_act taken text) with_mark
-    (found-change_act taken text)
+    found-then {A = Act} {B = Effect} (header_act taken text) with_mark
+    (found-header_act taken text)
 
 -- What an item brings in the open command.
 pub found-inner_effect : (now : Opened) (mark : Option ℕ) (part : Part) (item : Item)
@@ -234,16 +242,21 @@ found-option_act late setting.Head words =
     (λ u. found-then _ _ (found-head_of (argument (argument words))))
 found-option_act late setting.Other words = tt
 
+found-control_act : (late : Bool) (command : Part) (text : List ℕ)
+    → FindsPlace (control_act late command text)
+found-control_act late part.Feature text =
+    found-read _ _ (found-in_time late) (λ u. found-then _ _ (found-feature_of (argument text)))
+found-control_act late part.Setting text =
+    found-option_act late (setting_of (argument text)) (argument text)
+found-control_act late _ text = tt
+
 found-single_act : (late : Bool) (command : Part) (text : List ℕ)
     → FindsPlace (single_act late command text)
+found-single_act late part.Progress text = tt
 found-single_act late part.GetMark text = found-then _ _ (found-mark_of (argument text))
 found-single_act late part.CatBlob text = found-then _ _ (found-dataref_of (argument text))
 found-single_act late part.Ls text = found-entry_act (argument text)
-found-single_act late part.Feature text =
-    found-read _ _ (found-in_time late) (λ u. found-then _ _ (found-feature_of (argument text)))
-found-single_act late part.Setting text =
-    found-option_act late (setting_of (argument text)) (argument text)
-found-single_act late _ text = tt
+found-single_act late command text = found-control_act late command text
 
 found-first_line_act : (late : Bool) (command : Part) (text : List ℕ)
     → FindsPlace (first_line_act late command text)

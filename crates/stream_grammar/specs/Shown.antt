@@ -7,14 +7,27 @@ use Rattle.stream_grammar.specs.declared.commit_ish.CommitIsh.{CommitIsh as Lent
 use Rattle.stream_grammar.specs.declared.commit_ish.CommitIsh.TheVariants as commit_ish
 use Rattle.stream_grammar.specs.declared.act.Act.{Act as LentAct}
 use Rattle.stream_grammar.specs.declared.act.Act.TheVariants as lent
+use Rattle.stream_grammar.specs.declared.act.ObjectCommand.{ObjectCommand as LentObject}
+use Rattle.stream_grammar.specs.declared.act.ObjectCommand.TheVariants as object
+use Rattle.stream_grammar.specs.declared.act.CommitCommand.{CommitCommand as LentCommit}
+use Rattle.stream_grammar.specs.declared.act.CommitCommand.TheVariants as commit
+use Rattle.stream_grammar.specs.declared.act.FileChange.{FileChange as LentChange}
+use Rattle.stream_grammar.specs.declared.act.FileChange.TheVariants as change
+use Rattle.stream_grammar.specs.declared.act.RefCommand.{RefCommand as LentRef}
+use Rattle.stream_grammar.specs.declared.act.RefCommand.TheVariants as ref
+use Rattle.stream_grammar.specs.declared.act.ReplyCommand.{ReplyCommand as LentReply}
+use Rattle.stream_grammar.specs.declared.act.ReplyCommand.TheVariants as reply
 use Rattle.stream_grammar.specs.declared.act.Done.{Done as LentDone}
 use Rattle.stream_grammar.specs.declared.command.Command.{Command}
 use Rattle.stream_grammar.specs.Names.{CommitIsh, Marked, Expression}
-use Rattle.stream_grammar.specs.Acts.{Act, Wait, StoreBlob, BeginTag, TagTarget, Tagger, StoreTag, Reset, ResetTo, SetMark}
-use Rattle.stream_grammar.specs.Acts.{Checkpoint, Progress, ShowMark, ShowObject, Finish, Require, SetHead}
-use Rattle.stream_grammar.specs.Acts.{BeginCommit, Author, Committer, Encoding, OpenCommit, StartFrom, Merge}
-use Rattle.stream_grammar.specs.Acts.{Modify, ModifyInline, PutContents, Delete, Copy, Rename, DeleteAll, ShowBranchEntry, ShowEntry}
-use Rattle.stream_grammar.specs.Acts.{Effect}
+use Rattle.stream_grammar.specs.Acts.{ObjectCommand, Blob, BeginTag, TagTarget, Tagger, Tag}
+use Rattle.stream_grammar.specs.Acts.{CommitCommand, Begin, Author, Committer, Encoding}
+use Rattle.stream_grammar.specs.Acts.{Message, From, Merge}
+use Rattle.stream_grammar.specs.Acts.{FileChange, Modify, ModifyInline, InlineData}
+use Rattle.stream_grammar.specs.Acts.{Delete, Copy, Rename, DeleteAll}
+use Rattle.stream_grammar.specs.Acts.{RefCommand, Reset, ResetFrom, Alias}
+use Rattle.stream_grammar.specs.Acts.{ReplyCommand, GetMark, CatBlob, Ls, LsInCommit, Progress}
+use Rattle.stream_grammar.specs.Acts.{Act, Wait, Object, Commit, Change, Ref, Reply, Control, Effect}
 use Rattle.stream_grammar.specs.Commands.{Done, Open, Parsing, Step}
 use Rattle.stream_grammar.specs.Stages.{terms_of, opened_of}
 
@@ -23,40 +36,53 @@ abbrev pub commit_shown : LentCommitIsh → CommitIsh
 commit_shown (commit_ish.Mark mark) = Marked mark
 commit_shown (commit_ish.Expression words) = Expression words.now
 
+-- The commands of acts without where their bytes lie.
+abbrev pub object_shown : LentObject → ObjectCommand
+object_shown (object.Blob mark contents) = Blob mark contents.now
+object_shown (object.BeginTag ref) = BeginTag ref
+object_shown (object.TagTarget target) = TagTarget (commit_shown target)
+object_shown (object.Tagger ident) = Tagger ident
+object_shown (object.Tag mark message) = Tag mark message.now
+
+abbrev pub commit_command_shown : LentCommit → CommitCommand
+commit_command_shown (commit.Begin ref) = Begin ref
+commit_command_shown (commit.Author ident) = Author ident
+commit_command_shown (commit.Committer ident) = Committer ident
+commit_command_shown (commit.Encoding encoding) = Encoding encoding.now
+commit_command_shown (commit.Message mark message) = Message mark message.now
+commit_command_shown (commit.From from) = From (commit_shown from)
+commit_command_shown (commit.Merge other) = Merge (commit_shown other)
+
+abbrev pub change_shown : LentChange → FileChange
+change_shown (change.Modify mode object path) = Modify mode object path
+change_shown (change.ModifyInline mode path) = ModifyInline mode path
+change_shown (change.InlineData contents) = InlineData contents.now
+change_shown (change.Delete path) = Delete path
+change_shown (change.Copy source path) = Copy source path
+change_shown (change.Rename source path) = Rename source path
+change_shown change.DeleteAll = DeleteAll
+
+abbrev pub ref_command_shown : LentRef → RefCommand
+ref_command_shown (ref.Reset branch) = Reset branch
+ref_command_shown (ref.ResetFrom from) = ResetFrom (commit_shown from)
+ref_command_shown (ref.Alias mark target) = Alias mark (commit_shown target)
+
+abbrev pub reply_shown : LentReply → ReplyCommand
+reply_shown (reply.GetMark mark) = GetMark mark
+reply_shown (reply.CatBlob object) = CatBlob object
+reply_shown (reply.Ls root path) = Ls root path
+reply_shown (reply.LsInCommit path) = LsInCommit path
+reply_shown (reply.Progress line) = Progress line.now
+
 -- An act without where its bytes lie.
 abbrev pub act_shown : LentAct → Act
 act_shown lent.Wait = Wait
-act_shown (lent.StoreBlob mark contents) = StoreBlob mark contents.now
-act_shown (lent.BeginCommit ref) = BeginCommit ref
-act_shown (lent.Author ident) = Author ident
-act_shown (lent.Committer ident) = Committer ident
-act_shown (lent.Encoding encoding) = Encoding encoding.now
-act_shown (lent.OpenCommit mark message) = OpenCommit mark message.now
-act_shown (lent.StartFrom commit) = StartFrom (commit_shown commit)
-act_shown (lent.Merge commit) = Merge (commit_shown commit)
-act_shown (lent.Modify mode object path) = Modify mode object path
-act_shown (lent.ModifyInline mode path) = ModifyInline mode path
-act_shown (lent.PutContents contents) = PutContents contents.now
-act_shown (lent.Delete path) = Delete path
-act_shown (lent.Copy source path) = Copy source path
-act_shown (lent.Rename source path) = Rename source path
-act_shown lent.DeleteAll = DeleteAll
-act_shown (lent.ShowBranchEntry path) = ShowBranchEntry path
-act_shown (lent.BeginTag ref) = BeginTag ref
-act_shown (lent.TagTarget commit) = TagTarget (commit_shown commit)
-act_shown (lent.Tagger ident) = Tagger ident
-act_shown (lent.StoreTag mark message) = StoreTag mark message.now
-act_shown (lent.Reset ref) = Reset ref
-act_shown (lent.ResetTo commit) = ResetTo (commit_shown commit)
-act_shown (lent.SetMark mark commit) = SetMark mark (commit_shown commit)
-act_shown lent.Checkpoint = Checkpoint
-act_shown (lent.Progress line) = Progress line.now
-act_shown (lent.ShowMark mark) = ShowMark mark
-act_shown (lent.ShowObject object) = ShowObject object
-act_shown (lent.ShowEntry root path) = ShowEntry root path
-act_shown lent.Finish = Finish
-act_shown (lent.Require feature) = Require feature
-act_shown (lent.SetHead ref) = SetHead ref
+act_shown (lent.Object command) = Object (object_shown command)
+act_shown (lent.Commit command) = Commit (commit_command_shown command)
+act_shown (lent.Change command) = Change (change_shown command)
+act_shown (lent.Ref command) = Ref (ref_command_shown command)
+act_shown (lent.Reply command) = Reply (reply_shown command)
+act_shown (lent.Control command) = Control command
 
 -- What was done with an item.
 abbrev pub done_shown : LentDone → Done

@@ -10,10 +10,17 @@ use Rattle.git_model.specs.Ident.{IsWrittenIdent}
 use Rattle.git_model.specs.ObjectName.{IsObjectName}
 use Rattle.git_names.specs.StoredName.{NamesRef}
 use Rattle.git_paths.specs.Paths.{IsPath, IsWithinLimits}
+use Rattle.stream_grammar.specs.declared.act.ControlCommand.{ControlCommand}
+use Rattle.stream_grammar.specs.declared.act.ControlCommand.TheVariants as control
 use Rattle.stream_grammar.specs.declared.data_ref.DataRef.{DataRef}
 use Rattle.stream_grammar.specs.declared.data_ref.DataRef.TheVariants as data_ref
 use Rattle.stream_grammar.specs.Changes.{Path}
-use Rattle.stream_grammar.specs.Acts.{Act, BeginCommit, Author, Committer, Encoding, Modify, ModifyInline, Delete, Copy, Rename, ShowBranchEntry, BeginTag, Tagger, Reset, ShowObject, ShowEntry, SetHead}
+use Rattle.stream_grammar.specs.Acts.{ObjectCommand, BeginTag, Tagger}
+use Rattle.stream_grammar.specs.Acts.{CommitCommand, Begin, Author, Committer, Encoding}
+use Rattle.stream_grammar.specs.Acts.{FileChange, Modify, ModifyInline, Delete, Copy, Rename}
+use Rattle.stream_grammar.specs.Acts.{RefCommand, Reset}
+use Rattle.stream_grammar.specs.Acts.{ReplyCommand, CatBlob, Ls, LsInCommit}
+use Rattle.stream_grammar.specs.Acts.{Act, Wait, Object, Commit, Change, Ref, Reply, Control}
 
 -- A text is a ref name or `HEAD`, and is not too long.
 pub record NamesShortRef (text : List ℕ) : Type 0 where
@@ -40,22 +47,47 @@ pub record HoldsContents (file_mode : FileMode) : Type 0 where
   pub no_gitlink : file_mode ≢ mode.Gitlink
   pub no_directory : file_mode ≢ mode.Directory
 
+-- The words of the commands of each group are well formed.
+abbrev pub IsWellFormedObject : ObjectCommand → Type 0
+IsWellFormedObject (BeginTag ref) = IsTagRef ref
+IsWellFormedObject (Tagger ident) = IsWrittenIdent ident
+IsWellFormedObject _ = Unit {0}
+
+abbrev pub IsWellFormedCommit : CommitCommand → Type 0
+IsWellFormedCommit (Begin ref) = NamesShortRef ref
+IsWellFormedCommit (Author ident) = IsWrittenIdent ident
+IsWellFormedCommit (Committer ident) = IsWrittenIdent ident
+IsWellFormedCommit (Encoding encoding) = IsEncoding encoding
+IsWellFormedCommit _ = Unit {0}
+
+abbrev pub IsWellFormedChange : FileChange → Type 0
+IsWellFormedChange (Modify file_mode object path) = IsReferred object × IsTreePath path
+IsWellFormedChange (ModifyInline file_mode path) = HoldsContents file_mode × IsTreePath path
+IsWellFormedChange (Delete path) = IsTreePath path
+IsWellFormedChange (Copy source path) = IsTreePath source × IsTreePath path
+IsWellFormedChange (Rename source path) = IsTreePath source × IsTreePath path
+IsWellFormedChange _ = Unit {0}
+
+abbrev pub IsWellFormedRef : RefCommand → Type 0
+IsWellFormedRef (Reset ref) = NamesShortRef ref
+IsWellFormedRef _ = Unit {0}
+
+abbrev pub IsWellFormedReply : ReplyCommand → Type 0
+IsWellFormedReply (CatBlob object) = IsReferred object
+IsWellFormedReply (Ls root path) = IsReferred root × IsTreePath path
+IsWellFormedReply (LsInCommit path) = IsTreePath path
+IsWellFormedReply _ = Unit {0}
+
+abbrev pub IsWellFormedControl : ControlCommand → Type 0
+IsWellFormedControl (control.Head ref) = IsShortRefName ref
+IsWellFormedControl _ = Unit {0}
+
 -- The words of an act are well formed.
 abbrev pub IsWellFormed : Act → Type 0
-IsWellFormed (BeginCommit ref) = NamesShortRef ref
-IsWellFormed (Author ident) = IsWrittenIdent ident
-IsWellFormed (Committer ident) = IsWrittenIdent ident
-IsWellFormed (Encoding encoding) = IsEncoding encoding
-IsWellFormed (Modify file_mode object path) = IsReferred object × IsTreePath path
-IsWellFormed (ModifyInline file_mode path) = HoldsContents file_mode × IsTreePath path
-IsWellFormed (Delete path) = IsTreePath path
-IsWellFormed (Copy source path) = IsTreePath source × IsTreePath path
-IsWellFormed (Rename source path) = IsTreePath source × IsTreePath path
-IsWellFormed (ShowBranchEntry path) = IsTreePath path
-IsWellFormed (BeginTag ref) = IsTagRef ref
-IsWellFormed (Tagger ident) = IsWrittenIdent ident
-IsWellFormed (Reset ref) = NamesShortRef ref
-IsWellFormed (ShowObject object) = IsReferred object
-IsWellFormed (ShowEntry object path) = IsReferred object × IsTreePath path
-IsWellFormed (SetHead ref) = IsShortRefName ref
-IsWellFormed _ = Unit {0}
+IsWellFormed Wait = Unit {0}
+IsWellFormed (Object command) = IsWellFormedObject command
+IsWellFormed (Commit command) = IsWellFormedCommit command
+IsWellFormed (Change command) = IsWellFormedChange command
+IsWellFormed (Ref command) = IsWellFormedRef command
+IsWellFormed (Reply command) = IsWellFormedReply command
+IsWellFormed (Control command) = IsWellFormedControl command

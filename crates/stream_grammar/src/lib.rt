@@ -6,12 +6,12 @@
 //! answered.
 //!
 //! ```text
-//! commit refs/heads/m           Act::BeginCommit(refs/heads/m)
-//! mark :3                       Act::Wait
-//! committer A <a@b> 0 +0000     Act::Committer(A <a@b> 0 +0000)
-//! data 2                        Act::OpenCommit { mark: Some(3), message: "x\n" }
-//! M 644 :1 a/b                  Act::Modify { mode: Regular, object: Mark(1), path: a/b }
-//! get-mark :1                   the commit ends, and Act::ShowMark(1)
+//! commit refs/heads/m           Commit(Begin(refs/heads/m))
+//! mark :3                       Wait
+//! committer A <a@b> 0 +0000     Commit(Committer(A <a@b> 0 +0000))
+//! data 2                        Commit(Message { mark: Some(3), message: "x\n" })
+//! M 644 :1 a/b                  Change(Modify { mode: Regular, object: Mark(1), path: a/b })
+//! get-mark :1                   the commit ends, and Reply(GetMark(1))
 //! ```
 #![tactic(auto)]
 
@@ -31,7 +31,9 @@ mod part;
 mod stage;
 mod text;
 
-pub use act::{Act, Done};
+pub use act::{
+    Act, CommitCommand, ControlCommand, Done, FileChange, ObjectCommand, RefCommand, ReplyCommand,
+};
 pub use commit_ish::CommitIsh;
 pub use data_ref::DataRef;
 pub use fault::Fault;

@@ -7,12 +7,14 @@ ghost use Rattle.stream_grammar.specs.Faults.{Gives};
 ghost use Rattle.stream_grammar.specs.Features as features;
 ghost use Rattle.stream_grammar.specs.Lines as lines;
 ghost use Rattle.stream_grammar.specs.Names.{commit_ish_of};
-ghost use Rattle.stream_grammar.specs.Acts.{Encoding, Merge};
+ghost use Rattle.stream_grammar.specs.Acts.{Commit, Encoding, Merge};
 ghost use Rattle.stream_grammar.specs.Changes.{encoding_of, is_encoding, is_quoted};
 ghost use Rattle.stream_grammar.specs.Texts.{read};
 ghost use Rattle.stream_grammar.specs.Shown.{act_shown, Brings};
 
-use crate::act::Act;
+use crate::act::{
+    Act, CommitCommand, ControlCommand, FileChange, ObjectCommand, RefCommand, ReplyCommand,
+};
 use crate::changes::{is_quoted, modified, modified_inline, object_and_path, path_of, paths_of};
 use crate::fault::Fault;
 use crate::feature::{Setting, feature_of, in_time, quiet_of, setting_of};
@@ -30,9 +32,9 @@ fn from_act(opened: Opened, text: &[u8]) -> Result<Act<'_>, Fault>
         (read (commit_ish_of text.now) (λ commit. Ok (lines.from_act opened commit))) }
 {
     match (commit_ish_of(text), opened) {
-        (Ok(commit), Opened::Changes) => Ok(Act::StartFrom(commit)),
-        (Ok(commit), Opened::Tag) => Ok(Act::TagTarget(commit)),
-        (Ok(commit), Opened::Reset) => Ok(Act::ResetTo(commit)),
+        (Ok(commit), Opened::Changes) => Ok(Act::Commit(CommitCommand::From(commit))),
+        (Ok(commit), Opened::Tag) => Ok(Act::Object(ObjectCommand::TagTarget(commit))),
+        (Ok(commit), Opened::Reset) => Ok(Act::Ref(RefCommand::ResetFrom(commit))),
         (Ok(_), _) => Ok(Act::Wait),
         (Err(fault), _) => Err(fault),
     }
@@ -44,7 +46,7 @@ fn alias_act(mark: Option<Mark>, text: &[u8]) -> Result<Act<'_>, Fault>
         (read (commit_ish_of text.now) (λ commit. Ok (lines.alias_act mark commit))) }
 {
     match (commit_ish_of(text), mark) {
-        (Ok(commit), Some(mark)) => Ok(Act::SetMark { mark, commit }),
+        (Ok(commit), Some(mark)) => Ok(Act::Ref(RefCommand::Alias { mark, commit })),
         (Ok(_), None) => Ok(Act::Wait),
         (Err(fault), _) => Err(fault),
     }
@@ -55,7 +57,7 @@ fn entry_act(alloc: Global, text: &[u8]) -> Result<Act<'_>, Fault>
     ensures { Gives act_shown result (lines.entry_act text.now) }
 {
     let (root, path) = object_and_path(alloc, text)?;
-    Ok(Act::ShowEntry { root, path })
+    Ok(Act::Reply(ReplyCommand::Ls { root, path }))
 }
 
 // An `ls` in a commit.
@@ -63,38 +65,50 @@ fn branch_entry_act(alloc: Global, text: &[u8]) -> Result<Act<'_>, Fault>
     ensures { Gives act_shown result (lines.branch_entry_act (is_quoted text.now) text.now) }
 {
     if is_quoted(text) {
-        Ok(Act::ShowBranchEntry(path_of(alloc, text)?))
+        Ok(Act::Reply(ReplyCommand::LsInCommit(path_of(alloc, text)?)))
     } else {
         entry_act(alloc, text)
     }
 }
 
-// A line in the place of a change, or a line that asks for nothing.
+// A line that changes the files of a commit, or a line that asks for nothing.
 fn change_act(alloc: Global, part: Part, line: &[u8]) -> Result<Act<'_>, Fault>
     ensures { Gives act_shown result (lines.change_act part line.now) }
 {
     match part {
         Part::Modify => {
             let (mode, object, path) = modified(alloc, argument(line))?;
-            Ok(Act::Modify { mode, object, path })
+            Ok(Act::Change(FileChange::Modify { mode, object, path }))
         }
         Part::ModifyInline => {
             let (mode, path) = modified_inline(alloc, argument(line))?;
-            Ok(Act::ModifyInline { mode, path })
+            Ok(Act::Change(FileChange::ModifyInline { mode, path }))
         }
-        Part::Delete => Ok(Act::Delete(path_of(alloc, argument(line))?)),
+        Part::Delete => Ok(Act::Change(FileChange::Delete(path_of(alloc, argument(line))?))),
         Part::Copy => {
             let (source, path) = paths_of(alloc, argument(line))?;
-            Ok(Act::Copy { source, path })
+            Ok(Act::Change(FileChange::Copy { source, path }))
         }
         Part::Rename => {
             let (source, path) = paths_of(alloc, argument(line))?;
-            Ok(Act::Rename { source, path })
+            Ok(Act::Change(FileChange::Rename { source, path }))
         }
-        Part::DeleteAll => Ok(Act::DeleteAll),
-        Part::CatBlob => Ok(Act::ShowObject(dataref_of(argument(line))?)),
-        Part::Ls => branch_entry_act(alloc, argument(line)),
+        Part::DeleteAll => Ok(Act::Change(FileChange::DeleteAll)),
         _ => Ok(Act::Wait),
+    }
+}
+
+// A line in the place of a change: a change, or one that prints something.
+fn change_or_reply_act(alloc: Global, part: Part, line: &[u8]) -> Result<Act<'_>, Fault>
+    ensures { Gives act_shown result (lines.change_or_reply_act part line.now) }
+{
+    match part {
+        Part::CatBlob => {
+            let object = dataref_of(argument(line))?;
+            Ok(Act::Reply(ReplyCommand::CatBlob(object)))
+        }
+        Part::Ls => branch_entry_act(alloc, argument(line)),
+        _ => change_act(alloc, part, line),
     }
 }
 
@@ -115,10 +129,10 @@ fn is_encoding(text: &[u8]) -> bool
 // An encoding.
 fn encoding_act(text: &[u8]) -> Result<Act<'_>, Fault>
     ensures { Gives act_shown result
-        (read (encoding_of text.now) (λ encoding. Ok (Encoding encoding))) }
+        (read (encoding_of text.now) (λ encoding. Ok (Commit (Encoding encoding)))) }
 {
     if is_encoding(text) {
-        Ok(Act::Encoding(text))
+        Ok(Act::Commit(CommitCommand::Encoding(text)))
     } else {
         Err(Fault::Malformed)
     }
@@ -127,15 +141,39 @@ fn encoding_act(text: &[u8]) -> Result<Act<'_>, Fault>
 // A `merge`.
 fn merge_act(text: &[u8]) -> Result<Act<'_>, Fault>
     ensures { Gives act_shown result
-        (read (commit_ish_of text.now) (λ commit. Ok (Merge commit))) }
+        (read (commit_ish_of text.now) (λ commit. Ok (Commit (Merge commit)))) }
 {
     match commit_ish_of(text) {
-        Ok(commit) => Ok(Act::Merge(commit)),
+        Ok(commit) => Ok(Act::Commit(CommitCommand::Merge(commit))),
         Err(fault) => Err(fault),
     }
 }
 
-// A line inside the open command, which may have a mark.
+// A line that gives a header of the commit or tag, or one in the place of a change.
+fn header_act(alloc: Global, part: Part, line: &[u8]) -> Result<Act<'_>, Fault>
+    ensures { Gives act_shown result (lines.header_act part line.now) }
+{
+    match part {
+        Part::Author => {
+            let ident = ident_of(alloc, argument(line))?;
+            Ok(Act::Commit(CommitCommand::Author(ident)))
+        }
+        Part::Committer => {
+            let ident = ident_of(alloc, argument(line))?;
+            Ok(Act::Commit(CommitCommand::Committer(ident)))
+        }
+        Part::Encoding => encoding_act(argument(line)),
+        Part::Merge => merge_act(argument(line)),
+        Part::Tagger => {
+            let ident = ident_of(alloc, argument(line))?;
+            Ok(Act::Object(ObjectCommand::Tagger(ident)))
+        }
+        _ => change_or_reply_act(alloc, part, line),
+    }
+}
+
+// A line inside the open command, which may have a mark. The act of a `from` depends on the open
+// command, and that of a `to` on the mark.
 fn line_act<'a>(
     alloc: Global,
     opened: Opened,
@@ -151,18 +189,13 @@ fn line_act<'a>(
             *mark = Some(mark_of(argument(line))?);
             Ok(Act::Wait)
         }
-        Part::Author => Ok(Act::Author(ident_of(alloc, argument(line))?)),
-        Part::Committer => Ok(Act::Committer(ident_of(alloc, argument(line))?)),
-        Part::Encoding => encoding_act(argument(line)),
-        Part::Merge => merge_act(argument(line)),
         Part::From => from_act(opened, argument(line)),
-        Part::Tagger => Ok(Act::Tagger(ident_of(alloc, argument(line))?)),
         Part::To => {
             let act = alias_act(*mark, argument(line))?;
             *mark = None;
             Ok(act)
         }
-        _ => change_act(alloc, part, line),
+        _ => header_act(alloc, part, line),
     }
 }
 
@@ -171,16 +204,16 @@ fn data_act(opened: Opened, mark: Option<Mark>, contents: &[u8]) -> Act<'_>
     ensures { act_shown result ≡ lines.data_act opened mark contents.now }
 {
     match opened {
-        Opened::Blob => Act::StoreBlob { mark, contents },
-        Opened::Commit => Act::OpenCommit {
+        Opened::Blob => Act::Object(ObjectCommand::Blob { mark, contents }),
+        Opened::Commit => Act::Commit(CommitCommand::Message {
             mark,
             message: contents,
-        },
-        Opened::Inline => Act::PutContents(contents),
-        Opened::Tag => Act::StoreTag {
+        }),
+        Opened::Inline => Act::Change(FileChange::InlineData(contents)),
+        Opened::Tag => Act::Object(ObjectCommand::Tag {
             mark,
             message: contents,
-        },
+        }),
         _ => Act::Wait,
     }
 }
@@ -225,29 +258,38 @@ fn option_act<'a>(alloc: Global, late: bool, words: &'a [u8]) -> Result<Act<'a>,
         Setting::Head => {
             in_time(late)?;
             let head = head_of(alloc, argument(argument(words)))?;
-            Ok(Act::SetHead(head))
+            Ok(Act::Control(ControlCommand::Head(head)))
         }
         Setting::Other => Ok(Act::Wait),
     }
 }
 
-// A command of one line. The first line of a blob or an alias asks for nothing yet.
+// A command of the stream itself. The first line of a blob or an alias asks for nothing yet.
+fn control_act<'a>(alloc: Global, late: bool, part: Part, line: &'a [u8]) -> Result<Act<'a>, Fault>
+    ensures { Gives act_shown result (lines.control_act late part line.now) }
+{
+    match part {
+        Part::Checkpoint => Ok(Act::Control(ControlCommand::Checkpoint)),
+        Part::Done => Ok(Act::Control(ControlCommand::Done)),
+        Part::Feature => {
+            in_time(late)?;
+            Ok(Act::Control(ControlCommand::Feature(feature_of(argument(line))?)))
+        }
+        Part::Setting => option_act(alloc, late, argument(line)),
+        _ => Ok(Act::Wait),
+    }
+}
+
+// A command of one line: one that prints something, or one of the stream itself.
 fn single_act<'a>(alloc: Global, late: bool, part: Part, line: &'a [u8]) -> Result<Act<'a>, Fault>
     ensures { Gives act_shown result (lines.single_act late part line.now) }
 {
     match part {
-        Part::Checkpoint => Ok(Act::Checkpoint),
-        Part::Progress => Ok(Act::Progress(line)),
-        Part::GetMark => Ok(Act::ShowMark(mark_of(argument(line))?)),
-        Part::CatBlob => Ok(Act::ShowObject(dataref_of(argument(line))?)),
+        Part::Progress => Ok(Act::Reply(ReplyCommand::Progress(line))),
+        Part::GetMark => Ok(Act::Reply(ReplyCommand::GetMark(mark_of(argument(line))?))),
+        Part::CatBlob => Ok(Act::Reply(ReplyCommand::CatBlob(dataref_of(argument(line))?))),
         Part::Ls => entry_act(alloc, argument(line)),
-        Part::Done => Ok(Act::Finish),
-        Part::Feature => {
-            in_time(late)?;
-            Ok(Act::Require(feature_of(argument(line))?))
-        }
-        Part::Setting => option_act(alloc, late, argument(line)),
-        _ => Ok(Act::Wait),
+        _ => control_act(alloc, late, part, line),
     }
 }
 
@@ -261,9 +303,18 @@ fn first_line_act<'a>(
     ensures { Gives act_shown result (lines.first_line_act late part line.now) }
 {
     match part {
-        Part::Commit => Ok(Act::BeginCommit(ref_of(alloc, argument(line))?)),
-        Part::Tag => Ok(Act::BeginTag(tag_ref_of(alloc, argument(line))?)),
-        Part::Reset => Ok(Act::Reset(ref_of(alloc, argument(line))?)),
+        Part::Commit => {
+            let branch = ref_of(alloc, argument(line))?;
+            Ok(Act::Commit(CommitCommand::Begin(branch)))
+        }
+        Part::Tag => {
+            let tag = tag_ref_of(alloc, argument(line))?;
+            Ok(Act::Object(ObjectCommand::BeginTag(tag)))
+        }
+        Part::Reset => {
+            let branch = ref_of(alloc, argument(line))?;
+            Ok(Act::Ref(RefCommand::Reset(branch)))
+        }
         _ => single_act(alloc, late, part, line),
     }
 }

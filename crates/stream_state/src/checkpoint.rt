@@ -6,7 +6,7 @@ ghost use Rattle.git_model.specs.GoodRepository.{AreObjects, refs_limit};
 ghost use Rattle.git_model.specs.RefStore.{listed_refs, RefStore};
 ghost use Rattle.tenant_refs.specs.Changes.{with_changes};
 ghost use Rattle.tenant_tables.specs.Objects.{objects};
-ghost use Rattle.tenant_tables.specs.StandsIn.{StandsIn};
+ghost use Rattle.tenant_tables.specs.IsBackedBy.{IsBackedBy};
 ghost use Rattle.stream_state.specs.Checkpoints.{by_head, by_tags, is_fast_forward};
 
 use crate::fault::Fault;
@@ -38,7 +38,7 @@ pub fn is_fast_forward<N: Naming>(
     old: Name,
     tip: &Name,
 ) -> Result<bool, Fault>
-    requires { StandsIn N.digest_of pool.now table.now.entries }
+    requires { IsBackedBy N.digest_of pool.now table.now.entries }
     ensures judged { let os = objects pool.now table.now.entries in AreObjects N.digest_of os
         → IfOk result (λ yes. yes ≡ is_fast_forward os old tip.now) }
     ensures refused { IfErr result (λ fault. fault ≡ Fault.Memory) }

@@ -3,7 +3,7 @@
 ghost use Rattle.std.specs.Prelude.{◌≡◌};
 ghost use Rattle.git_model.specs.GoodRepository.{AreObjects};
 ghost use Rattle.tenant_tables.specs.Objects.{objects};
-ghost use Rattle.tenant_tables.specs.StandsIn.{StandsIn};
+ghost use Rattle.tenant_tables.specs.IsBackedBy.{IsBackedBy};
 ghost use Rattle.revisions.specs.Resolution.{peeled, resolved};
 ghost use Rattle.stream_state.specs.declared.fault.Fault.TheVariants as fault;
 ghost use Rattle.stream_state.specs.Faults.{or_fault, resolved_or, resolving_fault, Gives};
@@ -51,7 +51,7 @@ pub fn peel_to<N: Naming>(
     wanted: Kind,
     id: Name,
 ) -> Result<Name, Fault>
-    requires { StandsIn N.digest_of pool.now table.now.entries }
+    requires { IsBackedBy N.digest_of pool.now table.now.entries }
     ensures { let os = objects pool.now table.now.entries in AreObjects N.digest_of os
         → Gives result (resolved_or (peeled os wanted id)) }
 {
@@ -68,7 +68,7 @@ pub fn resolve_words<N: Naming>(
     refs: &Refs,
     words: &[u8],
 ) -> Result<Name, Fault>
-    requires { StandsIn N.digest_of pool.now table.now.entries }
+    requires { IsBackedBy N.digest_of pool.now table.now.entries }
     ensures { let os = objects pool.now table.now.entries in AreObjects N.digest_of os
         → Gives result (resolved_or (resolved os refs.now words.now)) }
 {

@@ -6,7 +6,7 @@ ghost use Rattle.git_model.specs.GoodRepository.{AreObjects};
 ghost use Rattle.git_model.specs.StoredPath.{entry_at_path};
 ghost use Rattle.git_objects.specs.Parts.{entry_of};
 ghost use Rattle.tenant_tables.specs.Objects.{objects};
-ghost use Rattle.tenant_tables.specs.StandsIn.{StandsIn};
+ghost use Rattle.tenant_tables.specs.IsBackedBy.{IsBackedBy};
 ghost use Rattle.stream_state.specs.Faults.{Gives};
 ghost use Rattle.stream_state.specs.Printing.{Shows};
 ghost use Rattle.stream_state.specs.Showing.{entry_line, entry_shown, tree_in};
@@ -61,7 +61,7 @@ fn print_entry(
 
 // The stored tree that an object is peeled to. The object must be there.
 fn tree_of<N: Naming>(alloc: Global, pool: &Pool<N>, table: &Table, id: Name) -> Result<Name, Fault>
-    requires { StandsIn N.digest_of pool.now table.now.entries }
+    requires { IsBackedBy N.digest_of pool.now table.now.entries }
     ensures { let os = objects pool.now table.now.entries in AreObjects N.digest_of os
         → Gives result (tree_in os id) }
 {
@@ -80,7 +80,7 @@ fn print_below<N: Naming>(
     path: &Path,
     out: &mut Vec<u8>,
 ) -> Result<(), Fault>
-    requires { StandsIn N.digest_of pool.now table.now.entries }
+    requires { IsBackedBy N.digest_of pool.now table.now.entries }
     ensures shows { let os = objects pool.now table.now.entries in AreObjects N.digest_of os
         → Shows (Ok (entry_line path.now (entry_at_path os tree path.now)))
         out.old.items out.new.items result }
@@ -114,7 +114,7 @@ pub fn print_stored<N: Naming>(
     path: &Path,
     out: &mut Vec<u8>,
 ) -> Result<(), Fault>
-    requires { StandsIn N.digest_of pool.now table.now.entries }
+    requires { IsBackedBy N.digest_of pool.now table.now.entries }
     ensures shows { let os = objects pool.now table.now.entries in AreObjects N.digest_of os
         → Shows (entry_shown os marks.now.entries root path.now)
         out.old.items out.new.items result }

@@ -4,9 +4,9 @@ ghost use Rattle.std.specs.Option.{option_map};
 ghost use Rattle.std.specs.Prelude.{◌≡◌, ◌≢◌};
 ghost use Rattle.git_model.specs.Content.{content_from};
 ghost use Rattle.git_model.specs.Repository.{object_named};
-ghost use Rattle.content_pool.specs.Pool.{HasRoom};
+ghost use Rattle.content_pool.specs.Pool.{HasHoldsLeft};
 ghost use Rattle.tenant_tables.specs.Objects.{objects};
-ghost use Rattle.tenant_tables.specs.StandsIn.{StandsIn};
+ghost use Rattle.tenant_tables.specs.IsBackedBy.{IsBackedBy};
 ghost use Rattle.stream_state.specs.Printing.{Shows, shown_object};
 ghost use Rattle.stream_state.specs.Storing.{storing_fault};
 ghost use Rattle.tenant_tables.specs.Lent.{Keeps};
@@ -42,8 +42,8 @@ pub fn store<N: Naming>(
     kind: Kind,
     bytes: &[u8],
 ) -> Result<Name, Fault>
-    requires stands { StandsIn N.digest_of pool.old table.old.entries }
-    requires room { HasRoom pool.old }
+    requires stands { IsBackedBy N.digest_of pool.old table.old.entries }
+    requires room { HasHoldsLeft pool.old }
     requires no_tree { kind ≢ Kind.Tree }
     ensures keeps { Keeps N.digest_of pool.old table.old pool.new table.new }
     ensures stores { Stores N.digest_of (content_from kind bytes.now) pool.old table.old
@@ -61,7 +61,7 @@ pub fn find_content<'a, N: Naming>(
     table: &Table,
     id: Name,
 ) -> Option<(Kind, &'a [u8])>
-    requires { StandsIn N.digest_of pool.now table.now.entries }
+    requires { IsBackedBy N.digest_of pool.now table.now.entries }
     ensures { option_map (λ r. content_from r.0 r.1.now) result
         ≡ object_named id (objects pool.now table.now.entries) }
 {
@@ -90,7 +90,7 @@ pub fn print_object<N: Naming>(
     id: Name,
     out: &mut Vec<u8>,
 ) -> Result<(), Fault>
-    requires { StandsIn N.digest_of pool.now table.now.entries }
+    requires { IsBackedBy N.digest_of pool.now table.now.entries }
     ensures { Shows (shown_object id (object_named id (objects pool.now table.now.entries)))
         out.old.items out.new.items result }
 {
@@ -109,7 +109,7 @@ pub fn print_referred<N: Naming>(
     object: DataRef,
     out: &mut Vec<u8>,
 ) -> Result<(), Fault>
-    requires { StandsIn N.digest_of pool.now table.now.entries }
+    requires { IsBackedBy N.digest_of pool.now table.now.entries }
     ensures { Shows (and_then (referred_name marks.now.entries object)
         (λ id. shown_object id (object_named id (objects pool.now table.now.entries))))
         out.old.items out.new.items result }

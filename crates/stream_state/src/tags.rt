@@ -6,9 +6,9 @@ ghost use Rattle.std.specs.Vec.{vec_capacity};
 ghost use Rattle.indexmap.specs.IndexMap.{spare};
 ghost use Rattle.git_model.specs.Content.{content_from};
 ghost use Rattle.git_model.specs.References.{kind_named};
-ghost use Rattle.content_pool.specs.Pool.{HasRoom};
+ghost use Rattle.content_pool.specs.Pool.{HasHoldsLeft};
 ghost use Rattle.tenant_tables.specs.Objects.{objects};
-ghost use Rattle.tenant_tables.specs.StandsIn.{StandsIn};
+ghost use Rattle.tenant_tables.specs.IsBackedBy.{IsBackedBy};
 ghost use Rattle.stream_state.specs.Tags.{room_for_tag, tag_content, tag_is_open, tagged_kind};
 ghost use Rattle.tenant_tables.specs.Lent.{Keeps};
 ghost use Rattle.stream_state.specs.Stored.{Stores};
@@ -31,7 +31,7 @@ const TAGS: &[u8] = b"refs/tags/";
 
 /// The kind of the tagged object: a commit, a blob or a tag.
 pub fn tagged_kind<N: Naming>(pool: &Pool<N>, table: &Table, target: Name) -> Result<Kind, Fault>
-    requires { StandsIn N.digest_of pool.now table.now.entries }
+    requires { IsBackedBy N.digest_of pool.now table.now.entries }
     ensures { result ≡ tagged_kind (kind_named target (objects pool.now table.now.entries)) }
 {
     match find_content(pool, table, target) {
@@ -111,8 +111,8 @@ pub fn store_written<N: Naming>(
     kind: Kind,
     message: &[u8],
 ) -> Result<Name, Fault>
-    requires stands { StandsIn N.digest_of pool.old table.old.entries }
-    requires room { HasRoom pool.old }
+    requires stands { IsBackedBy N.digest_of pool.old table.old.entries }
+    requires room { HasHoldsLeft pool.old }
     ensures keeps { Keeps N.digest_of pool.old table.old pool.new table.new }
     ensures stores { Stores N.digest_of (tag_content said.now message.now target kind) pool.old
         table.old pool.new table.new result }

@@ -15,7 +15,10 @@ mod texts;
 
 use std::alloc::Global;
 use std::mem;
-use stream_grammar::{Act, CommitIsh, DataRef, Done, Fault, Feature, FileMode, Mark, Parser, Path};
+use stream_grammar::{
+    Act, CommitCommand, CommitIsh, ControlCommand, DataRef, Done, Fault, Feature, FileChange,
+    FileMode, Mark, ObjectCommand, Parser, Path, RefCommand, ReplyCommand,
+};
 use stream_lex::Item;
 
 /// What a parser does, in words and as rows.
@@ -106,83 +109,80 @@ impl Shown {
         self.put_both(b"inline ", mode_text(mode)) && self.put_path(b"", path)
     }
 
-    // An act of one line. Each function knows some of the acts, to keep its proof short.
-    fn put_line_act(&mut self, act: &Act<'_>) -> bool {
-        match act {
-            Act::Checkpoint => self.put(b"checkpoint"),
-            Act::Progress(line) => self.put_both(b"progress ", line),
-            Act::Finish => self.put(b"finish"),
-            Act::Require(feature) => self.put(feature_text(*feature)),
-            Act::SetHead(name) => self.put_both(b"head ", name.as_bytes()),
-            _ => self.put_question(act),
+    fn put_object_command(&mut self, command: &ObjectCommand<'_>) -> bool {
+        match command {
+            ObjectCommand::Blob { mark, contents } => self.put_contents(b"blob ", *mark, contents),
+            ObjectCommand::BeginTag(name) => self.put_both(b"tag ", name.as_bytes()),
+            ObjectCommand::TagTarget(commit) => self.put_commit(b"target ", commit),
+            ObjectCommand::Tagger(ident) => self.put_both(b"tagger ", ident.as_bytes()),
+            ObjectCommand::Tag { mark, message } => {
+                self.put_contents(b"store-tag ", *mark, message)
+            }
         }
     }
 
-    // A question, or nothing yet.
-    fn put_question(&mut self, act: &Act<'_>) -> bool {
-        match act {
-            Act::ShowMark(mark) => self.put(b"name ") && self.put_mark(*mark),
-            Act::ShowObject(object) => self.put_object(b"show ", *object),
-            Act::ShowEntry { root, path } => self.put_entry(*root, path),
-            Act::ShowBranchEntry(path) => self.put_path(b"branch entry", path),
-            _ => self.put(b"wait"),
+    fn put_commit_command(&mut self, command: &CommitCommand<'_>) -> bool {
+        match command {
+            CommitCommand::Begin(name) => self.put_both(b"commit ", name.as_bytes()),
+            CommitCommand::Author(ident) => self.put_both(b"author ", ident.as_bytes()),
+            CommitCommand::Committer(ident) => self.put_both(b"committer ", ident.as_bytes()),
+            CommitCommand::Encoding(encoding) => self.put_both(b"encoding ", encoding),
+            CommitCommand::Message { mark, message } => {
+                self.put_contents(b"open ", *mark, message)
+            }
+            CommitCommand::From(commit) => self.put_commit(b"from ", commit),
+            CommitCommand::Merge(commit) => self.put_commit(b"merge ", commit),
         }
     }
 
-    // An act of a blob or a tag.
+    fn put_change(&mut self, change: &FileChange<'_>) -> bool {
+        match change {
+            FileChange::Modify { mode, object, path } => self.put_file(*mode, *object, path),
+            FileChange::ModifyInline { mode, path } => self.put_inline(*mode, path),
+            FileChange::InlineData(contents) => self.put_both(b"contents ", contents),
+            FileChange::Delete(path) => self.put_path(b"delete", path),
+            FileChange::Copy { source, path } => self.put_paths(b"copy", source, path),
+            FileChange::Rename { source, path } => self.put_paths(b"rename", source, path),
+            FileChange::DeleteAll => self.put(b"deleteall"),
+        }
+    }
+
+    fn put_ref_command(&mut self, command: &RefCommand<'_>) -> bool {
+        match command {
+            RefCommand::Reset(name) => self.put_both(b"reset ", name.as_bytes()),
+            RefCommand::ResetFrom(commit) => self.put_commit(b"reset-to ", commit),
+            RefCommand::Alias { mark, commit } => self.put_set(*mark, commit),
+        }
+    }
+
+    fn put_reply(&mut self, command: &ReplyCommand<'_>) -> bool {
+        match command {
+            ReplyCommand::GetMark(mark) => self.put(b"name ") && self.put_mark(*mark),
+            ReplyCommand::CatBlob(object) => self.put_object(b"show ", *object),
+            ReplyCommand::Ls { root, path } => self.put_entry(*root, path),
+            ReplyCommand::LsInCommit(path) => self.put_path(b"branch entry", path),
+            ReplyCommand::Progress(line) => self.put_both(b"progress ", line),
+        }
+    }
+
+    fn put_control(&mut self, command: &ControlCommand) -> bool {
+        match command {
+            ControlCommand::Checkpoint => self.put(b"checkpoint"),
+            ControlCommand::Done => self.put(b"finish"),
+            ControlCommand::Feature(feature) => self.put(feature_text(*feature)),
+            ControlCommand::Head(name) => self.put_both(b"head ", name.as_bytes()),
+        }
+    }
+
     fn put_act(&mut self, act: &Act<'_>) -> bool {
         match act {
-            Act::StoreBlob { mark, contents } => self.put_contents(b"blob ", *mark, contents),
-            Act::BeginTag(name) => self.put_both(b"tag ", name.as_bytes()),
-            Act::TagTarget(commit) => self.put_commit(b"target ", commit),
-            Act::Tagger(ident) => self.put_both(b"tagger ", ident.as_bytes()),
-            Act::StoreTag { mark, message } => self.put_contents(b"store-tag ", *mark, message),
-            _ => self.put_ref_act(act),
-        }
-    }
-
-    // An act of a reset or an alias, or the beginning of a commit.
-    fn put_ref_act(&mut self, act: &Act<'_>) -> bool {
-        match act {
-            Act::Reset(name) => self.put_both(b"reset ", name.as_bytes()),
-            Act::ResetTo(commit) => self.put_commit(b"reset-to ", commit),
-            Act::SetMark { mark, commit } => self.put_set(*mark, commit),
-            Act::BeginCommit(name) => self.put_both(b"commit ", name.as_bytes()),
-            _ => self.put_commit_act(act),
-        }
-    }
-
-    // An act of a commit, up to its message.
-    fn put_commit_act(&mut self, act: &Act<'_>) -> bool {
-        match act {
-            Act::Author(ident) => self.put_both(b"author ", ident.as_bytes()),
-            Act::Committer(ident) => self.put_both(b"committer ", ident.as_bytes()),
-            Act::Encoding(encoding) => self.put_both(b"encoding ", encoding),
-            Act::OpenCommit { mark, message } => self.put_contents(b"open ", *mark, message),
-            _ => self.put_parent(act),
-        }
-    }
-
-    // A parent of a commit, or what changes its files by their contents.
-    fn put_parent(&mut self, act: &Act<'_>) -> bool {
-        match act {
-            Act::StartFrom(commit) => self.put_commit(b"from ", commit),
-            Act::Merge(commit) => self.put_commit(b"merge ", commit),
-            Act::Modify { mode, object, path } => self.put_file(*mode, *object, path),
-            Act::ModifyInline { mode, path } => self.put_inline(*mode, path),
-            _ => self.put_change(act),
-        }
-    }
-
-    // Another act that changes the files of a commit.
-    fn put_change(&mut self, act: &Act<'_>) -> bool {
-        match act {
-            Act::PutContents(contents) => self.put_both(b"contents ", contents),
-            Act::Delete(path) => self.put_path(b"delete", path),
-            Act::Copy { source, path } => self.put_paths(b"copy", source, path),
-            Act::Rename { source, path } => self.put_paths(b"rename", source, path),
-            Act::DeleteAll => self.put(b"deleteall"),
-            _ => self.put_line_act(act),
+            Act::Wait => self.put(b"wait"),
+            Act::Object(command) => self.put_object_command(command),
+            Act::Commit(command) => self.put_commit_command(command),
+            Act::Change(change) => self.put_change(change),
+            Act::Ref(command) => self.put_ref_command(command),
+            Act::Reply(command) => self.put_reply(command),
+            Act::Control(command) => self.put_control(command),
         }
     }
 

@@ -13,19 +13,19 @@ use Rattle.content_pool.specs.Pool.{Cells, holds, IsVacant}
 use Rattle.tenant_refs.specs.TenantName.{is_tenant_name}
 use Rattle.tenant_tables.specs.View.{View, Entries, held}
 use Rattle.tenant_tables.specs.Objects.{objects}
-use Rattle.tenant_tables.specs.StandsIn.{LeavesOthers, AreCounted}
+use Rattle.tenant_tables.specs.IsBackedBy.{PreservesOthers, AreCounted}
 use Rattle.tenant_tables.proofs.HoldLemmas.{held-nil}
-use Rattle.tenant_tables.proofs.TableLemmas.{LeavesOthers-refl, other_stands, other_objects, objects-take}
+use Rattle.tenant_tables.proofs.TableLemmas.{PreservesOthers-refl, other_stands, other_objects, objects-take}
 use Rattle.open_commits.specs.OpenCommit.{commit_in}
 use Rattle.revisions.specs.FirstParents.{IsFirstParentChain}
 use Rattle.import_session.specs.Session.{workspace_in}
 use Rattle.import_session.specs.Stream.{Runs, Refused}
 use Rattle.service_steps.specs.declared.answer.Answer.{Answer}
-use Rattle.tenant_service.specs.declared.tenant.Phase.{Phase}
-use Rattle.tenant_service.specs.declared.tenant.Phase.TheVariants as phase
+use Rattle.tenant_service.specs.declared.tenant.OpenStream.{OpenStream}
+use Rattle.tenant_service.specs.declared.tenant.OpenStream.TheVariants as phase
 use Rattle.tenant_service.specs.declared.tenant.Tenant.{Tenant}
-use Rattle.tenant_service.specs.Alone.{Call, Turn, turn}
-use Rattle.tenant_stream.specs.Carrying.{HasAmpleRoom}
+use Rattle.tenant_service.specs.Alone.{Call, StepResult, turn}
+use Rattle.tenant_stream.specs.Carrying.{HasAmpleHoldsLeft}
 use Rattle.tenant_service.specs.Headline.{stop_told}
 use Rattle.tenant_service.specs.TenantState.{TenantState, Idle, Busy, empty_repository, held_of}
 use Rattle.tenant_service.specs.HeldSteps.{step_held}
@@ -34,7 +34,7 @@ use Rattle.tenant_service.specs.OneStep.{Takes, store, Serves}
 
 -- ---- tenants that a call did not touch
 
-held_in-other : (ph : Phase) (p q : Cells) (t : View) (r : RefStore) → objects q t.entries ≡ objects p t.entries → held_in ph q t r ≡ held_in ph p t r
+held_in-other : (ph : OpenStream) (p q : Cells) (t : View) (r : RefStore) → objects q t.entries ≡ objects p t.entries → held_in ph q t r ≡ held_in ph p t r
 held_in-other phase.Closed p q t r same = ap (λ (os : List Object). Idle (record { objects = os; refs = r })) same
 held_in-other (phase.Running stream) p q t r same =
     ap (λ (os : List Object). Busy (Runs (record {
@@ -57,7 +57,7 @@ bound_beside : (p : Cells) (e : List ℕ × Tenant) (es : Tenants) (old : Entrie
     → (s : ℕ) → all_held es s + held old s ≤ holds p s
 bound_beside p e es old bound s = let b = bound s in let c = sum_by-cons (λ (x : List ℕ × Tenant). held x.1.table.entries s) e es in omega arith
 
-stands_beside : (digest : List ℕ → List ℕ) (p q : Cells) (old new : Entries) → LeavesOthers p old q new → (es : Tenants)
+stands_beside : (digest : List ℕ → List ℕ) (p q : Cells) (old new : Entries) → PreservesOthers p old q new → (es : Tenants)
     → ((s : ℕ) → all_held es s + held old s ≤ holds p s)
     → AllByRecursion (λ e. Stands digest p e.1) es → AllByRecursion (λ e. Stands digest q e.1) es
 stands_beside digest p q old new leaves [] bound all = tt
@@ -75,7 +75,7 @@ stands_beside digest p q old new leaves (e ∷ es) bound all = (
   stands_beside digest p q old new leaves es (bound_beside p e es old bound) all.1,
 )
 
-holdings_beside : (p q : Cells) (old new : Entries) → LeavesOthers p old q new → (es : Tenants)
+holdings_beside : (p q : Cells) (old new : Entries) → PreservesOthers p old q new → (es : Tenants)
     → ((s : ℕ) → all_held es s + held old s ≤ holds p s) → holdings q es ≡ holdings p es
 holdings_beside p q old new leaves [] bound = refl
 holdings_beside p q old new leaves (e ∷ es) bound =
@@ -106,7 +106,7 @@ pub record Changed (digest : List ℕ → List ℕ) (p q : Cells) (front back : 
   pub shown : holdings q (front ++ (name, new) ∷ back) ≡ holdings p front ++ (name, holding_in q new) ∷ holdings p back
 
 pub changed : (digest : List ℕ → List ℕ) (p q : Cells) (front back : Tenants) (name : List ℕ) (old new : Tenant)
-    → Accounts digest p (front ++ (name, old) ∷ back) → Stands digest q new → LeavesOthers p old.table.entries q new.table.entries
+    → Accounts digest p (front ++ (name, old) ∷ back) → Stands digest q new → PreservesOthers p old.table.entries q new.table.entries
     → Changed digest p q front back name new
 changed digest p q front back name old new h stands leaves = record {
   accounts = record {
@@ -214,7 +214,7 @@ stands-found digest p name es old h got =
 
 pub serves-found : (digest : List ℕ → List ℕ) (name : List ℕ) (call : Call) (p q : Cells) (es : Tenants) (old new : Tenant) (answer : Answer) (out out' : List ℕ)
     → Accounts digest p es → lookup (bytes_eq name) es ≡ Some old → Stands digest q new
-    → LeavesOthers p old.table.entries q new.table.entries
+    → PreservesOthers p old.table.entries q new.table.entries
     → Takes (step_held digest call (stop_told answer) (holding_in p old)) answer out out' (holding_in q new)
     → Serves digest name call (store p es) answer out out' (store q (set_value (bytes_eq name) es new))
 serves-found digest name call p q es old new answer out out' h got stands leaves takes =
@@ -252,7 +252,7 @@ once-all digest p (e ∷ es) all s =
     let c = sum_by-cons (λ (x : List ℕ × Tenant). held x.1.table.entries s) e es in
     omega arith
 
-pub ample : (digest : List ℕ → List ℕ) (p : Cells) (es : Tenants) → Accounts digest p es → length es < 2 ^ 63 → HasAmpleRoom p
+pub ample : (digest : List ℕ → List ℕ) (p : Cells) (es : Tenants) → Accounts digest p es → length es < 2 ^ 63 → HasAmpleHoldsLeft p
 ample digest p es h few s = let o = once-all digest p es h.stands s in let c = h.counts s in omega arith
 
 -- ---- a tenant that was never seen
@@ -273,9 +273,9 @@ serves-missing digest name call p es new answer out h none same is =
       own =
           subst (λ (x : TenantState). Takes (step_held digest call (stop_told answer) x) answer out out x) (sym (held-missing p name es none))
           (record {
-            answered = ap (λ (t : Turn TenantState). t.answer) is;
-            printed = sym (append-nil out) ∙ ap (λ (t : Turn TenantState). out ++ t.reply) (sym is);
-            leaves = ap (λ (t : Turn TenantState). t.state) is;
+            answered = ap (λ (t : StepResult TenantState). t.answer) is;
+            printed = sym (append-nil out) ∙ ap (λ (t : StepResult TenantState). out ++ t.reply) (sym is);
+            leaves = ap (λ (t : StepResult TenantState). t.state) is;
           });
       others = λ other apart. refl;
     })
@@ -331,8 +331,8 @@ pub Accounts-nil : (digest : List ℕ → List ℕ) (p : Cells) → IsVacant p �
 Accounts-nil digest p vacant = record { names = tt; stands = tt; counts = vacant }
 
 -- a table that stays leaves all others
-pub leaves-same : (p : Cells) (old new : View) → new ≡ old → LeavesOthers p old.entries p new.entries
-leaves-same p old new same = subst (λ (t : View). LeavesOthers p old.entries p t.entries) (sym same) (LeavesOthers-refl p old.entries)
+pub leaves-same : (p : Cells) (old new : View) → new ≡ old → PreservesOthers p old.entries p new.entries
+leaves-same p old new same = subst (λ (t : View). PreservesOthers p old.entries p t.entries) (sym same) (PreservesOthers-refl p old.entries)
 
 -- a bad name has no tenant
 pub bad-missing : (name : List ℕ) (es : Tenants) → AllByRecursion (λ e. is_tenant_name e.0 ≡ true) es → is_tenant_name name ≡ false

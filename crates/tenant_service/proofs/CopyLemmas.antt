@@ -26,9 +26,9 @@ use Rattle.service_steps.specs.declared.step.Step.{Step}
 use Rattle.service_steps.specs.declared.step.Step.TheVariants as step
 use Rattle.tenant_service.specs.Alone.{Call, Open, Feed, End, Ask, Restart, State, Closed, Streaming, Dead, last_alone, answered, asked, run_alone}
 use Rattle.tenant_service.specs.Copying.{has_nothing, held_refusal, copy_refusal, IsCall, GoesOn, IsFedAndEnded, IsImport, IsExport, IsCopyRun, HasTaken}
-use Rattle.tenant_service.specs.Headline.{Told, Run, concerns, call_of, stop_told, part_of, steps_of, left_alone, IsIsolated}
+use Rattle.tenant_service.specs.Headline.{Response, Run, concerns, call_of, stop_told, part_of, steps_of, left_alone, IsIsolated}
 use Rattle.tenant_service.specs.StepName.{name_of}
-use Rattle.tenant_service.specs.TenantState.{TenantState, TenantStates, Idle, Busy, LeadsTo, empty_repository, held_of}
+use Rattle.tenant_service.specs.TenantState.{TenantState, TenantStates, Idle, Busy, Represents, empty_repository, held_of}
 use Rattle.tenant_service.specs.declared.tenant.Tenant.{Tenant}
 use Rattle.tenant_service.specs.Tenants.{Tenants, AreLed, holding_in, holdings}
 use Rattle.tenant_service.proofs.AccountLemmas.{held-found, held-missing}
@@ -37,7 +37,7 @@ use Rattle.tenant_service.proofs.RunLemmas.{apart-back, own-more, own-none}
 -- ---- steps in turn
 
 -- a run of steps after one more
-pub taken-first : (digest : List ℕ → List ℕ) (before between after : TenantStates) (first : Step × Told) (Is Then : Run → Type 0)
+pub taken-first : (digest : List ℕ → List ℕ) (before between after : TenantStates) (first : Step × Response) (Is Then : Run → Type 0)
     → ((tenant : List ℕ) → IsIsolated digest tenant (held_of tenant before) (first ∷ []) (held_of tenant between))
     → ((run : Run) → Then run → Is (first ∷ run))
     → HasTaken digest between after Then → HasTaken digest before after Is
@@ -48,13 +48,13 @@ taken-first digest before between after first Is Then own is later = record {
 }
 
 -- a run of one step
-pub taken-one : (digest : List ℕ → List ℕ) (before after : TenantStates) (first : Step × Told) (Is : Run → Type 0)
+pub taken-one : (digest : List ℕ → List ℕ) (before after : TenantStates) (first : Step × Response) (Is : Run → Type 0)
     → ((tenant : List ℕ) → IsIsolated digest tenant (held_of tenant before) (first ∷ []) (held_of tenant after))
     → Is (first ∷ []) → HasTaken digest before after Is
 taken-one digest before after first Is own is = record { run = first ∷ []; is = is; own = own }
 
 -- a run of two steps
-pub taken-two : (digest : List ℕ → List ℕ) (before between after : TenantStates) (first second : Step × Told) (Is : Run → Type 0)
+pub taken-two : (digest : List ℕ → List ℕ) (before between after : TenantStates) (first second : Step × Response) (Is : Run → Type 0)
     → ((tenant : List ℕ) → IsIsolated digest tenant (held_of tenant before) (first ∷ []) (held_of tenant between))
     → ((tenant : List ℕ) → IsIsolated digest tenant (held_of tenant between) (second ∷ []) (held_of tenant after))
     → Is (first ∷ second ∷ []) → HasTaken digest before after Is
@@ -67,7 +67,7 @@ taken-two digest before between after first second Is own then is = record {
 -- ---- what the steps leave of other tenants
 
 -- a repository and a stream of its own lead to one thing
-leads-one : (digest : List ℕ → List ℕ) (state : State) (a b : TenantState) → LeadsTo digest state a → LeadsTo digest state b → a ≡ b
+leads-one : (digest : List ℕ → List ℕ) (state : State) (a b : TenantState) → Represents digest state a → Represents digest state b → a ≡ b
 leads-one digest (Closed r) (Idle a) (Idle b) h k = ap Idle (sym h ∙ k)
 leads-one digest (Closed r) (Idle a) (Busy b) h k = absurd k
 leads-one digest (Closed r) (Busy a) b h k = absurd h
@@ -81,7 +81,7 @@ leads-one digest (Dead code r) (Busy a) (Idle b) h k = absurd k
 leads-one digest (Dead code r) (Busy a) (Busy b) h k = ap Busy (h ∙ sym k)
 
 -- a step that concerns the tenant asks something of it
-abbrev LeavesIt : List ℕ → Step × Told → Type 0
+abbrev LeavesIt : List ℕ → Step × Response → Type 0
 LeavesIt tenant taken = concerns tenant taken.0 ≡ true → (query : List ℕ) × (call_of taken.0 ≡ Ask query)
 
 ask-leaves : (digest : List ℕ → List ℕ) (query : List ℕ) (stop : Option ℕ) (state : State) → (run_alone digest (Ask query) stop state).state ≡ state
@@ -97,13 +97,13 @@ ask-leaves digest query stop state = by stop
     by (Some (suc n)) = told (answer_to (last_alone digest state) query)
 
 -- such a step leaves a repository and a stream of its own
-left-first : (digest : List ℕ → List ℕ) (tenant : List ℕ) (state : State) (taken : Step × Told) (run : Run) → LeavesIt tenant taken
+left-first : (digest : List ℕ → List ℕ) (tenant : List ℕ) (state : State) (taken : Step × Response) (run : Run) → LeavesIt tenant taken
     → left_alone digest state (steps_of tenant (taken ∷ run)) ≡ left_alone digest state (steps_of tenant run)
 unfolding left_alone
 left-first digest tenant state taken run leaves = by (concerns tenant taken.0) leaves
   where
     by : (b : Bool) → (b ≡ true → (query : List ℕ) × (call_of taken.0 ≡ Ask query))
-        → left_alone digest state (map (λ (x : Step × Told). (call_of x.0, stop_told x.1.answer)) (cond b (taken ∷ part_of tenant run) (part_of tenant run)))
+        → left_alone digest state (map (λ (x : Step × Response). (call_of x.0, stop_told x.1.answer)) (cond b (taken ∷ part_of tenant run) (part_of tenant run)))
         ≡ left_alone digest state (steps_of tenant run)
     by false asks = refl
     by true asks =
@@ -130,7 +130,7 @@ call-apart tenant to (step.End given) named apart other = named-apart (is_tenant
 call-apart tenant to (step.Ask given query) named apart other = named-apart (is_tenant_name given.now) given.now tenant to named apart
 call-apart tenant to step.Restart named apart other = absurd (other refl)
 
-leaves-apart : (tenant to : List ℕ) (call : Call) (taken : Step × Told) → IsCall to call taken.0 → bytes_eq tenant to ≡ false → (call ≡ Restart → ⊥)
+leaves-apart : (tenant to : List ℕ) (call : Call) (taken : Step × Response) → IsCall to call taken.0 → bytes_eq tenant to ≡ false → (call ≡ Restart → ⊥)
     → LeavesIt tenant taken
 leaves-apart tenant to call taken is apart other = λ here.
     absurd (true≢false (sym here ∙ call-apart tenant to taken.0 is.0 apart (λ restarts. other (sym is.1 ∙ restarts))))
@@ -170,7 +170,7 @@ others-held digest before after from to told led taken tenant apart =
     let l = led tenant in
     let same = left-same digest tenant l.0 taken.run (export-leaves tenant from to taken.run told apart taken.is) in
     leads-one digest l.0 (held_of tenant after) (held_of tenant before)
-    (subst (λ (s : State). LeadsTo digest s (held_of tenant after)) same ((taken.own tenant).left l.0 l.1)) l.1
+    (subst (λ (s : State). Represents digest s (held_of tenant after)) same ((taken.own tenant).left l.0 l.1)) l.1
 
 -- an answer that is not Ok ends the run, and an Ok lets it go on
 pub ends-there : (a told : Answer) (so : Type 0) → a ≡ told → (a ≡ answer.Ok → ⊥) → GoesOn a [] told so

@@ -6,13 +6,13 @@ use Rattle.stream_lex.specs.Items.{Tail}
 use Rattle.export_text.specs.Export.{export_text}
 use Rattle.import_session.specs.Stream.{End as StreamEnd, Outcome, Running, StreamStatus, Runs, Refused, finished, last_checkpoint}
 use Rattle.service_steps.specs.declared.answer.Answer.TheVariants as answer
-use Rattle.tenant_service.specs.Alone.{Call, Open, Feed, End, Turn, State, Closed, Streaming, turn, stream_of, closed, end_answer, ended, ended_well, fed_by, run_alone, unless_out_of_memory}
+use Rattle.tenant_service.specs.Alone.{Call, Open, Feed, End, StepResult, State, Closed, Streaming, turn, stream_of, closed, end_answer, ended, ended_well, fed_by, run_alone, unless_out_of_memory}
 use Rattle.export_laws.specs.Copies.{CanBeCopied}
 use Rattle.export_laws.specs.Ends.{IsImported}
 use Rattle.export_laws.proofs.EndImported.{export-imported}
 use Rattle.git_names.specs.Naming.{AnswersNames}
 use Rattle.import_session.specs.Sound.{IsSoundRepository}
-use Rattle.tenant_service.specs.Headline.{Told, left_alone, told_alone, told_by}
+use Rattle.tenant_service.specs.Headline.{Response, left_alone, told_alone, response_of}
 use Rattle.tenant_service.specs.TenantState.{empty_repository}
 use Rattle.tenant_service.specs.Copies.{Takes, import_steps, told_ok}
 
@@ -21,21 +21,21 @@ pub record EndsWell (digest : List ℕ → List ℕ) (text : List ℕ) (left : R
   pub last : Running
   pub tail : Tail
   pub runs : stream_of digest empty_repository text
-      ≡ record { replies = []; standing = Runs last tail }
+      ≡ record { replies = []; status = Runs last tail }
   pub ends : finished digest (Runs last tail)
       ≡ record { fault = None; reply = []; repository = left }
 
 -- what ends well was not refused
 ends-well : (digest : List ℕ → List ℕ) (text : List ℕ) (left : Repository) (replies : List ℕ)
-    (standing : StreamStatus)
-    → stream_of digest empty_repository text ≡ record { replies = replies; standing = standing }
+    (status : StreamStatus)
+    → stream_of digest empty_repository text ≡ record { replies = replies; status = status }
     → replies ≡ []
-    → finished digest standing ≡ record { fault = None; reply = []; repository = left }
+    → finished digest status ≡ record { fault = None; reply = []; repository = left }
     → EndsWell digest text left
 ends-well digest text left replies (Runs last tail) is none ends = record {
   last = last;
   tail = tail;
-  runs = is ∙ ap (λ (l : List ℕ). record { replies = l; standing = Runs last tail }) none;
+  runs = is ∙ ap (λ (l : List ℕ). record { replies = l; status = Runs last tail }) none;
   ends = ends;
 }
 ends-well digest text left replies (Refused code repository) is none ends =
@@ -46,7 +46,7 @@ pub export-ends : (digest : List ℕ → List ℕ) (repository : Repository)
 unfolding stream_of
 export-ends digest repository i =
     let o = stream_of digest empty_repository (export_text repository) in
-    ends-well digest (export_text repository) i.left o.replies o.standing refl i.prints i.ends
+    ends-well digest (export_text repository) i.left o.replies o.status refl i.prints i.ends
 
 module _ (digest : List ℕ → List ℕ) (text : List ℕ) (left : Repository)
     (well : EndsWell digest text left) where
@@ -58,13 +58,13 @@ module _ (digest : List ℕ → List ℕ) (text : List ℕ) (left : Repository)
       ≡ turn answer.Ok [] (Streaming empty_repository text)
   feed-turn =
       let before = (stream_of digest empty_repository []).replies in
-      ap (λ (o : Outcome). fed_by empty_repository text (drop (length before) o.replies) o.standing) well.runs
+      ap (λ (o : Outcome). fed_by empty_repository text (drop (length before) o.replies) o.status) well.runs
       ∙ ap (λ (reply : List ℕ). turn answer.Ok reply (Streaming empty_repository text)) (drop-nil (length before))
 
   pub end-turn : run_alone digest End None (Streaming empty_repository text)
       ≡ turn answer.Ok [] (Closed left)
   end-turn =
-      ap (λ (o : Outcome). closed Closed (ended digest None o.standing)) well.runs
+      ap (λ (o : Outcome). closed Closed (ended digest None o.status)) well.runs
       ∙ ap (closed Closed) (by well.last.is_done)
     where
       of_end : turn (end_answer (finished digest (Runs well.last well.tail)).fault)
@@ -83,12 +83,12 @@ module _ (digest : List ℕ → List ℕ) (text : List ℕ) (left : Repository)
       → told_alone digest state ((call, None) ∷ later) ≡ told_ok ∷ told_alone digest next later
   unfolding told_alone
   told-first state next call later is =
-      ap (λ (t : Turn State). told_by t ∷ told_alone digest t.state later) is
+      ap (λ (t : StepResult State). response_of t ∷ told_alone digest t.state later) is
 
   left-first : (state next : State) (call : Call) (later : List (Call × Option ℕ)) → run_alone digest call None state ≡ turn answer.Ok [] next
       → left_alone digest state ((call, None) ∷ later) ≡ left_alone digest next later
   unfolding left_alone
-  left-first state next call later is = ap (λ (t : Turn State). left_alone digest t.state later) is
+  left-first state next call later is = ap (λ (t : StepResult State). left_alone digest t.state later) is
 
   told-none : (state : State) → told_alone digest state [] ≡ []
   unfolding told_alone
@@ -102,11 +102,11 @@ module _ (digest : List ℕ → List ℕ) (text : List ℕ) (left : Repository)
       ≡ told_ok ∷ told_ok ∷ told_ok ∷ []
   all-told =
       told-first (Closed empty_repository) (Streaming empty_repository []) Open _ open-turn
-      ∙ ap (λ (told : List Told). told_ok ∷ told)
+      ∙ ap (λ (told : List Response). told_ok ∷ told)
       (told-first (Streaming empty_repository []) (Streaming empty_repository text) (Feed text) _ feed-turn
-      ∙ ap (λ (told : List Told). told_ok ∷ told)
+      ∙ ap (λ (told : List Response). told_ok ∷ told)
       (told-first (Streaming empty_repository text) (Closed left) End [] end-turn
-      ∙ ap (λ (told : List Told). told_ok ∷ told) (told-none (Closed left))))
+      ∙ ap (λ (told : List Response). told_ok ∷ told) (told-none (Closed left))))
 
   pub all-left : left_alone digest (Closed empty_repository) (import_steps text) ≡ Closed left
   all-left =

@@ -21,15 +21,15 @@ use Rattle.service_steps.specs.declared.answer.Answer.TheVariants as answer
 use Rattle.service_steps.specs.declared.fault.ServiceFault.TheVariants as fault
 use Rattle.service_steps.specs.declared.step.Step.{Step}
 use Rattle.service_steps.specs.declared.step.Step.TheVariants as step
-use Rattle.tenant_service.specs.Alone.{Call, Open, Feed, End, Ask, State, Closed, Streaming, Turn, answered, asked, last_alone, run_alone, turn}
+use Rattle.tenant_service.specs.Alone.{Call, Open, Feed, End, Ask, State, Closed, Streaming, StepResult, answered, asked, last_alone, run_alone, turn}
 use Rattle.export_laws.specs.Copies.{CanBeCopied, IsCopyOf}
 use Rattle.export_laws.specs.Ends.{IsImported}
 use Rattle.export_laws.proofs.EndImported.{export-imported}
 use Rattle.git_names.specs.Naming.{AnswersNames}
 use Rattle.tenant_service.specs.Copying.{GoesOn, IsCall, IsFedAndEnded, IsImport, IsExport, HasTaken, copy_refusal, first_refusal, has_nothing, held_refusal}
-use Rattle.tenant_service.specs.Headline.{Told, Run, IsIsolated, call_of, concerns, left_alone, part_of, steps_of, stop_told, told_alone, told_by, told_to}
+use Rattle.tenant_service.specs.Headline.{Response, Run, IsIsolated, call_of, concerns, left_alone, part_of, steps_of, stop_told, told_alone, response_of, told_to}
 use Rattle.tenant_service.specs.StepName.{name_of}
-use Rattle.tenant_service.specs.TenantState.{TenantState, TenantStates, Idle, Busy, LeadsTo, empty_repository, held_of}
+use Rattle.tenant_service.specs.TenantState.{TenantState, TenantStates, Idle, Busy, Represents, empty_repository, held_of}
 use Rattle.tenant_service.specs.HeldObjects.{last_held}
 use Rattle.tenant_service.specs.Copies.{CopiesAs, HoldsCopy}
 use Rattle.tenant_service.proofs.ExportLemmas.{EndsWell, end-turn, export-ends, feed-turn}
@@ -79,15 +79,15 @@ concerned tenant step.Restart named good = refl
 record Goes (digest : List ℕ → List ℕ) (tenant : List ℕ) (state : State) (run : Run)
     (after : TenantState) : Type 0 where
   told : told_to tenant run ≡ told_alone digest state (steps_of tenant run)
-  left : LeadsTo digest (left_alone digest state (steps_of tenant run)) after
+  left : Represents digest (left_alone digest state (steps_of tenant run)) after
 
 module _ (digest : List ℕ → List ℕ) (state : State) (call : Call) (stop : Option ℕ)
     (later : List (Call × Option ℕ)) where
-  abbrev its : Turn State
+  abbrev its : StepResult State
   its = run_alone digest call stop state
 
   told-next : told_alone digest state ((call, stop) ∷ later)
-      ≡ told_by its ∷ told_alone digest its.state later
+      ≡ response_of its ∷ told_alone digest its.state later
   unfolding told_alone
   told-next = refl
 
@@ -97,7 +97,7 @@ module _ (digest : List ℕ → List ℕ) (state : State) (call : Call) (stop : 
 
 -- one step of the tenant, and the rest of the run
 module _ (digest : List ℕ → List ℕ) (tenant : List ℕ) (good : is_tenant_name tenant ≡ true)
-    (call : Call) (taken : Step × Told) (is : IsCall tenant call taken.0) (stop : Option ℕ)
+    (call : Call) (taken : Step × Response) (is : IsCall tenant call taken.0) (stop : Option ℕ)
     (stops : stop_told taken.1.answer ≡ stop) (state : State) (run : Run) (after : TenantState) where
   first-part : part_of tenant (taken ∷ run) ≡ taken ∷ part_of tenant run
   first-part =
@@ -106,24 +106,24 @@ module _ (digest : List ℕ → List ℕ) (tenant : List ℕ) (good : is_tenant_
 
   first-steps : steps_of tenant (taken ∷ run) ≡ (call, stop) ∷ steps_of tenant run
   first-steps =
-      ap (map (λ (x : Step × Told). (call_of x.0, stop_told x.1.answer))) first-part
+      ap (map (λ (x : Step × Response). (call_of x.0, stop_told x.1.answer))) first-part
       ∙ ap (λ (own : Call × Option ℕ). own ∷ steps_of tenant run)
       (let a = is.1 in λ i. (a i, stops i))
 
   one-step : Goes digest tenant state (taken ∷ run) after
-      → (taken.1 ≡ told_by (run_alone digest call stop state))
+      → (taken.1 ≡ response_of (run_alone digest call stop state))
       × Goes digest tenant (run_alone digest call stop state).state run after
   one-step g =
       let both : taken.1 ∷ told_to tenant run
-      ≡ told_by (run_alone digest call stop state)
+      ≡ response_of (run_alone digest call stop state)
       ∷ told_alone digest (run_alone digest call stop state).state (steps_of tenant run) =
-      sym (ap (map (λ (x : Step × Told). x.1)) first-part) ∙ g.told
+      sym (ap (map (λ (x : Step × Response). x.1)) first-part) ∙ g.told
       ∙ ap (told_alone digest state) first-steps
       ∙ told-next digest state call stop (steps_of tenant run) in (
         cc both,
         record {
           told = cc both;
-          left = subst (λ (s : State). LeadsTo digest s after)
+          left = subst (λ (s : State). Represents digest s after)
               (ap (left_alone digest state) first-steps
               ∙ left-next digest state call stop (steps_of tenant run)) g.left;
         },
@@ -154,7 +154,7 @@ query-leaves digest query stop state = by stop
     by (Some (suc n)) = told (answer_to (last_alone digest state) query)
 
 -- whatever tenant it is of
-after-query : (digest : List ℕ → List ℕ) (tenant query : List ℕ) (taken : Step × Told)
+after-query : (digest : List ℕ → List ℕ) (tenant query : List ℕ) (taken : Step × Response)
     → call_of taken.0 ≡ Ask query → (state : State) (run : Run) (after : TenantState)
     → Goes digest tenant state (taken ∷ run) after → Goes digest tenant state run after
 after-query digest tenant query taken is state run after g =
@@ -164,7 +164,7 @@ after-query digest tenant query taken is state run after g =
     stop = stop_told taken.1.answer
 
     own : Run → List (Call × Option ℕ)
-    own = map (λ (x : Step × Told). (call_of x.0, stop_told x.1.answer))
+    own = map (λ (x : Step × Response). (call_of x.0, stop_told x.1.answer))
 
     same : (run_alone digest (call_of taken.0) stop state).state ≡ state
     same =
@@ -172,9 +172,9 @@ after-query digest tenant query taken is state run after g =
         ∙ query-leaves digest query stop state
 
     by : (b : Bool)
-        → map (λ (x : Step × Told). x.1) (cond b (taken ∷ part_of tenant run) (part_of tenant run))
+        → map (λ (x : Step × Response). x.1) (cond b (taken ∷ part_of tenant run) (part_of tenant run))
         ≡ told_alone digest state (own (cond b (taken ∷ part_of tenant run) (part_of tenant run)))
-        → LeadsTo digest
+        → Represents digest
         (left_alone digest state (own (cond b (taken ∷ part_of tenant run) (part_of tenant run))))
         after → Goes digest tenant state run after
     by false told left = record { told = told; left = left }
@@ -185,7 +185,7 @@ after-query digest tenant query taken is state run after g =
         (steps_of tenant run) = cc both in
         record {
           told = rest ∙ ap (λ (s : State). told_alone digest s (steps_of tenant run)) same;
-          left = subst (λ (s : State). LeadsTo digest s after)
+          left = subst (λ (s : State). Represents digest s after)
               (left-next digest state (call_of taken.0) stop (steps_of tenant run)
               ∙ ap (λ (s : State). left_alone digest s (steps_of tenant run)) same) left;
         }
@@ -194,9 +194,9 @@ after-query digest tenant query taken is state run after g =
 
 -- a repository of its own without a stream leads to itself held
 held-copy : (digest : List ℕ → List ℕ) (repository left : Repository) (held : TenantState)
-    → LeadsTo digest (Closed left) held → IsCopyOf repository left → HoldsCopy repository held
+    → Represents digest (Closed left) held → IsCopyOf repository left → HoldsCopy repository held
 held-copy digest repository left (Idle kept) leads copy = subst (IsCopyOf repository) leads copy
-held-copy digest repository left (Busy standing) leads copy = absurd leads
+held-copy digest repository left (Busy status) leads copy = absurd leads
 
 module _ (digest : List ℕ → List ℕ) (repository : Repository) (i : IsImported digest repository)
     (to : List ℕ) (good : is_tenant_name to ≡ true) (after : TenantState) where
@@ -204,17 +204,17 @@ module _ (digest : List ℕ → List ℕ) (repository : Repository) (i : IsImpor
   well = export-ends digest repository i
 
   -- an answer that is not the one told
-  not-told : (taken : Step × Told) (code : ℕ) (state : State) (t : Turn State)
-      → taken.1.answer ≡ answer.Fault code → taken.1 ≡ told_by t → t ≡ turn answer.Ok [] state → ⊥
+  not-told : (taken : Step × Response) (code : ℕ) (state : State) (t : StepResult State)
+      → taken.1.answer ≡ answer.Fault code → taken.1 ≡ response_of t → t ≡ turn answer.Ok [] state → ⊥
   not-told taken code state t is told ok =
       let a : answer.Fault code ≡ answer.Ok =
-      sym is ∙ ap (λ (x : Told). x.answer) told ∙ ap (λ (x : Turn State). x.answer) ok in cc a
+      sym is ∙ ap (λ (x : Response). x.answer) told ∙ ap (λ (x : StepResult State). x.answer) ok in cc a
 
   empty-left : (state : State) → left_alone digest state [] ≡ state
   unfolding left_alone
   empty-left state = refl
 
-  at-end : (ended : Step × Told) → IsCall to End ended.0
+  at-end : (ended : Step × Response) → IsCall to End ended.0
       → Goes digest to (Streaming empty_repository (export_text repository)) (ended ∷ []) after
       → CopiesAs ended.1.answer repository after
   at-end ended is g = by ended.1.answer refl
@@ -223,7 +223,7 @@ module _ (digest : List ℕ → List ℕ) (repository : Repository) (i : IsImpor
       before = Streaming empty_repository (export_text repository)
 
       then : (a : Answer) → ended.1.answer ≡ a → stop_told a ≡ None
-          → (ended.1 ≡ told_by (run_alone digest End None before))
+          → (ended.1 ≡ response_of (run_alone digest End None before))
           × Goes digest to (run_alone digest End None before).state [] after
       then a eq none =
           one-step digest to good End ended is None (ap stop_told eq ∙ none) before [] after g
@@ -234,8 +234,8 @@ module _ (digest : List ℕ → List ℕ) (repository : Repository) (i : IsImpor
       by : (a : Answer) → ended.1.answer ≡ a → CopiesAs a repository after
       by answer.Ok eq =
           held-copy digest repository i.left after
-          (subst (λ (s : State). LeadsTo digest s after)
-          (empty-left (run_alone digest End None before).state ∙ ap (λ (t : Turn State). t.state) turns)
+          (subst (λ (s : State). Represents digest s after)
+          (empty-left (run_alone digest End None before).state ∙ ap (λ (t : StepResult State). t.state) turns)
           (then answer.Ok eq refl).1.left) i.copy
       by (answer.Fault code) eq =
           absurd (not-told ended code (Closed i.left) (run_alone digest End None before) eq
@@ -256,7 +256,7 @@ module _ (digest : List ℕ → List ℕ) (repository : Repository) (i : IsImpor
       before = Streaming empty_repository []
 
       then : (a : Answer) → fed.1.answer ≡ a → stop_told a ≡ None
-          → (fed.1 ≡ told_by (run_alone digest (Feed text) None before))
+          → (fed.1 ≡ response_of (run_alone digest (Feed text) None before))
           × Goes digest to (run_alone digest (Feed text) None before).state (ended ∷ []) after
       then a eq none =
           one-step digest to good (Feed text) fed h.0 None (ap stop_told eq ∙ none) before
@@ -271,7 +271,7 @@ module _ (digest : List ℕ → List ℕ) (repository : Repository) (i : IsImpor
       by answer.Ok eq =
           at-end ended h.1
           (subst (λ (s : State). Goes digest to s (ended ∷ []) after)
-          (ap (λ (t : Turn State). t.state) turns) (then answer.Ok eq refl).1)
+          (ap (λ (t : StepResult State). t.state) turns) (then answer.Ok eq refl).1)
       by (answer.Fault code) eq =
           absurd (not-told fed code (Streaming empty_repository text)
           (run_alone digest (Feed text) None before) eq (then (answer.Fault code) eq refl).0 turns)
@@ -284,7 +284,7 @@ module _ (digest : List ℕ → List ℕ) (repository : Repository) (i : IsImpor
   at-open (opened ∷ run) told h g = by opened.1.answer refl h.1
     where
       then : (a : Answer) → opened.1.answer ≡ a → stop_told a ≡ None
-          → (opened.1 ≡ told_by (run_alone digest Open None (Closed empty_repository)))
+          → (opened.1 ≡ response_of (run_alone digest Open None (Closed empty_repository)))
           × Goes digest to (Streaming empty_repository []) run after
       then a eq none =
           one-step digest to good Open opened h.0 None (ap stop_told eq ∙ none)
@@ -316,7 +316,7 @@ not-refused (Idle repository) h = by (has_nothing repository) refl h
         → Idle repository ≡ Idle empty_repository
     by true is h = ap Idle (nothing-held repository is)
     by false is h = cc
-not-refused (Busy standing) h = cc
+not-refused (Busy status) h = cc
 
 pub may-take : (from to : List ℕ) (all : TenantStates) → copy_refusal from to all ≡ None → MayTake from to (held_of to all)
 may-take from to all h = by (is_tenant_name from && is_tenant_name to) refl h
@@ -331,7 +331,7 @@ may-take from to all h = by (is_tenant_name from && is_tenant_name to) refl h
 -- ---- the steps of a copy
 
 module _ (digest : List ℕ → List ℕ) (before after : TenantStates) (from to : List ℕ) (told : Answer)
-    (state : State) (leads : LeadsTo digest state (held_of from before))
+    (state : State) (leads : Represents digest state (held_of from before))
     (last : last_alone digest state ≡ last_held (held_of from before))
     (few : is_exportable (last_held (held_of from before)) ≡ true)
     (i : IsImported digest (last_held (held_of from before)))
@@ -346,8 +346,8 @@ module _ (digest : List ℕ → List ℕ) (before after : TenantStates) (from to
       ap (λ (r : Repository). answered (answer_to r (codes "export")) state) last
       ∙ ap (λ (r : Result (List ℕ) Fault). answered r state) (export-answer repository few)
 
-  starts : LeadsTo digest (Closed empty_repository) (held_of to before)
-  starts = subst (LeadsTo digest (Closed empty_repository)) (sym may.nothing) refl
+  starts : Represents digest (Closed empty_repository) (held_of to before)
+  starts = subst (Represents digest (Closed empty_repository)) (sym may.nothing) refl
 
   copied-by : (run : Run) → IsExport from to run told
       → ((tenant : List ℕ) → IsIsolated digest tenant (held_of tenant before) run (held_of tenant after))
@@ -363,7 +363,7 @@ module _ (digest : List ℕ → List ℕ) (before after : TenantStates) (from to
       then a eq none =
           (one-step digest from may.good_from (Ask (codes "export")) asked h.0 None
           (ap stop_told eq ∙ none) state run (held_of from after) whole).0
-          ∙ ap (λ (t : Turn State). told_by t) asked-turn
+          ∙ ap (λ (t : StepResult State). response_of t) asked-turn
 
       rest : Goes digest to (Closed empty_repository) run (held_of to after)
       rest =
@@ -380,10 +380,10 @@ module _ (digest : List ℕ → List ℕ) (before after : TenantStates) (from to
       by answer.Ok eq on =
           at-open digest repository i to may.good_to (held_of to after) run told
           (subst (λ (t : List ℕ). IsImport to t run told)
-          (ap (λ (x : Told). x.reply) (then answer.Ok eq refl)) on) rest
+          (ap (λ (x : Response). x.reply) (then answer.Ok eq refl)) on) rest
       by (answer.Fault code) eq on =
           (let e : answer.Fault code ≡ answer.Ok =
-          sym eq ∙ ap (λ (x : Told). x.answer) (then (answer.Fault code) eq refl) in cc e)
+          sym eq ∙ ap (λ (x : Response). x.answer) (then (answer.Fault code) eq refl) in cc e)
       by (answer.Memory items) eq on =
           subst (λ (a : Answer). CopiesAs a repository (held_of to after)) (sym on.1) tt
 

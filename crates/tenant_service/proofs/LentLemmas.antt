@@ -4,7 +4,7 @@ use Rattle.std.specs.List.{AllByRecursion}
 use Rattle.std.proofs.lemmas.List.{map-append}
 use Rattle.content_pool.specs.Pool.{Cells}
 use Rattle.tenant_tables.specs.Objects.{objects}
-use Rattle.tenant_tables.specs.StandsIn.{StandsIn}
+use Rattle.tenant_tables.specs.IsBackedBy.{IsBackedBy}
 use Rattle.pool_file_checks.specs.Repositories.{Named}
 use Rattle.pool_file.specs.declared.tenant_view.TenantView.{TenantView}
 use Rattle.pool_file.specs.Worth.{AllStand, named_in, to_save, worth_saving}
@@ -40,7 +40,7 @@ all-stand digest p [] (s ∷ lent) all is = cc is
 all-stand digest p (e ∷ es) (s ∷ lent) all is =
     let first : parts_lent s ≡ parts_of e = cc is in
     let rest : map parts_lent lent ≡ map parts_of es = cc is in (
-      subst (λ (parts : Parts). StandsIn digest p parts.table.entries) (sym first) all.0.entries,
+      subst (λ (parts : Parts). IsBackedBy digest p parts.table.entries) (sym first) all.0.entries,
       all-stand digest p es lent all.1 rest,
     )
 

@@ -20,12 +20,12 @@ use Rattle.pool_file_checks.specs.Saving.{IsGood}
 use Rattle.pool_file_checks.proofs.Keys.{key_cmp}
 use Rattle.pool_file_checks.proofs.Rising.{rising_first, rising_rest}
 use Rattle.pool_file.specs.Loading as loading
-use Rattle.pool_file.specs.Loading.{said, named_in, AreTenants, IsTenant}
+use Rattle.pool_file.specs.Loading.{loaded_repositories, named_in, AreTenants, IsTenant}
 use Rattle.pool_file.specs.declared.tenant.Tenant.{Tenant as Loaded}
 use Rattle.tenant_service.specs.declared.tenant.Tenant.{Tenant}
 use Rattle.tenant_service.specs.Alone.{Closed}
 use Rattle.tenant_service.specs.Entries.{entry_of, AreAll}
-use Rattle.tenant_service.specs.TenantState.{TenantState, Idle, LeadsTo, empty_repository}
+use Rattle.tenant_service.specs.TenantState.{TenantState, Idle, Represents, empty_repository}
 use Rattle.tenant_service.specs.Soundness.{IsSoundTenantState}
 use Rattle.tenant_service.specs.Saved.{repository_of, HasJust, LoadsAs, LoadsText, LoadsEach}
 use Rattle.tenant_service.specs.Tenants.{Tenants, Stands, Accounts, IsService, holding_in, holdings, all_held}
@@ -56,8 +56,8 @@ idle-or None = refl
 idle-or (Some r) = refl
 
 -- of each tenant its own repository
-pub has-loaded : (p : Cells) (ts : List Loaded) → HasJust (said p ts) (holdings p (map entry_of ts))
-unfolding said
+pub has-loaded : (p : Cells) (ts : List Loaded) → HasJust (loaded_repositories p ts) (holdings p (map entry_of ts))
+unfolding loaded_repositories
 has-loaded p ts tenant =
     ap (λ (o : Option TenantState). unwrap_or o (Idle empty_repository)) (lookup-loaded p tenant ts)
     ∙ idle-or (lookup (bytes_eq tenant) (repositories (map (named_in p) ts)))
@@ -114,13 +114,13 @@ module _ (digest : List ℕ → List ℕ) (p : Cells) (ts : List Loaded)
   }
 
   pub service-loaded : IsService digest p (map entry_of ts)
-  unfolding said
+  unfolding loaded_repositories
   service-loaded = record {
     accounts = accounts-loaded;
     led = λ tenant.
-        let r : Repository = repository_of tenant (said p ts) in (
+        let r : Repository = repository_of tenant (loaded_repositories p ts) in (
           Closed r,
-          subst (λ (held : TenantState). LeadsTo digest (Closed r) held)
+          subst (λ (held : TenantState). Represents digest (Closed r) held)
               (sym (has-loaded p ts tenant)) refl,
         );
     sound = λ tenant.
@@ -206,21 +206,21 @@ all-next taken more t rest all are is =
 -- ---- what is answered
 
 pub loads-as : (digest : List ℕ → List ℕ) (known new : Option (List ℕ)) (p : Cells)
-    (ts : List Loaded) → loading.LoadsAs digest known (Ok (said p ts)) new
+    (ts : List Loaded) → loading.LoadsAs digest known (Ok (loaded_repositories p ts)) new
     → LoadsAs digest known (Ok (holdings p (map entry_of ts))) new
 loads-as digest None new p ts h = tt
 loads-as digest (Some bytes) new p ts h =
-    (record { all = said p ts; read = h.0; has = has-loaded p ts }, h.1)
+    (record { all = loaded_repositories p ts; read = h.0; has = has-loaded p ts }, h.1)
 
 pub loads-text : (digest : List ℕ → List ℕ) (known : Option (List ℕ)) (p : Cells)
-    (ts : List Loaded) → loading.LoadsText digest known (Ok (said p ts))
+    (ts : List Loaded) → loading.LoadsText digest known (Ok (loaded_repositories p ts))
     → LoadsText digest known (Ok (holdings p (map entry_of ts)))
 loads-text digest None p ts h = tt
 loads-text digest (Some bytes) p ts h =
-    record { all = said p ts; text = h; has = has-loaded p ts }
+    record { all = loaded_repositories p ts; text = h; has = has-loaded p ts }
 
 pub loads-each : (digest : List ℕ → List ℕ) (known : Option (List ℕ)) (p : Cells)
-    (ts : List Loaded) → loading.LoadsEach digest known (Ok (said p ts))
+    (ts : List Loaded) → loading.LoadsEach digest known (Ok (loaded_repositories p ts))
     → LoadsEach digest known (Ok (holdings p (map entry_of ts)))
 loads-each digest None p ts h = tt
 loads-each digest (Some bytes) p ts h = λ all text.

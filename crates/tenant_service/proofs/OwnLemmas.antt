@@ -16,9 +16,9 @@ use Rattle.tenant_stream.specs.Carrying.{outcome_after}
 use Rattle.answers.specs.declared.fault.Fault.{Fault as Refusal}
 use Rattle.answers.specs.Answers.{answer_to}
 use Rattle.service_steps.specs.declared.answer.Answer.TheVariants as answer
-use Rattle.tenant_service.specs.Alone.{Call, Open, Feed, End, Ask, Restart, State, Closed, Streaming, Dead, Turn, turn, Stopped, stop_at, stop_after, stream_of, last_of, feed_stop, open_alone, feed_alone, added, fed_by, fed, fed_well, fed_until, ended, closed, last_alone, answered, asked, run_alone}
-use Rattle.tenant_service.specs.Headline.{told_by}
-use Rattle.tenant_service.specs.TenantState.{TenantState, Idle, Busy, LeadsTo}
+use Rattle.tenant_service.specs.Alone.{Call, Open, Feed, End, Ask, Restart, State, Closed, Streaming, Dead, StepResult, turn, Stopped, stop_at, stop_after, stream_of, last_of, feed_stop, open_alone, feed_alone, added, fed_by, fed, fed_well, fed_until, ended, closed, last_alone, answered, asked, run_alone}
+use Rattle.tenant_service.specs.Headline.{response_of}
+use Rattle.tenant_service.specs.TenantState.{TenantState, Idle, Busy, Represents}
 use Rattle.tenant_service.specs.HeldObjects.{last_held}
 use Rattle.tenant_service.specs.HeldSteps.{standing_answer, gone_on, held_until, open_held, feed_held, fed_held, step_held}
 use Rattle.tenant_stream.proofs.StreamLemmas.{carried-done, carried-tail}
@@ -27,35 +27,35 @@ use Rattle.tenant_stream.proofs.StreamLemmas.{carried-done, carried-tail}
 
 -- what is left of a stream after its last item
 at_end : (digest : List ℕ → List ℕ) (s now : Running) (tail kept : Tail) (replies : List ℕ)
-    → carried digest s [] tail ≡ record { replies = replies; standing = Runs now kept }
+    → carried digest s [] tail ≡ record { replies = replies; status = Runs now kept }
     → (s ≡ now) × (replies ≡ []) × (now.is_done ≡ false → kept ≡ tail)
 at_end digest s now tail kept replies h = by s.is_done refl tail h
   where
-    by : (b : Bool) → s.is_done ≡ b → (t : Tail) → carried digest s [] t ≡ record { replies = replies; standing = Runs now kept }
+    by : (b : Bool) → s.is_done ≡ b → (t : Tail) → carried digest s [] t ≡ record { replies = replies; status = Runs now kept }
         → (s ≡ now) × (replies ≡ []) × (now.is_done ≡ false → kept ≡ t)
     by true done t e =
-        let e' : ◌≡◌ {A = Outcome} (record { replies = []; standing = Runs s (Rest false []) }) (record { replies = replies; standing = Runs now kept }) =
+        let e' : ◌≡◌ {A = Outcome} (record { replies = []; status = Runs s (Rest false []) }) (record { replies = replies; status = Runs now kept }) =
         sym (carried-done digest s [] t done) ∙ e in
-        let st : Runs s (Rest false []) ≡ Runs now kept = ap (λ (o : Outcome). o.standing) e' in
+        let st : Runs s (Rest false []) ≡ Runs now kept = ap (λ (o : Outcome). o.status) e' in
         let same : s ≡ now = cc st in
         let none : replies ≡ [] = sym (ap (λ (o : Outcome). o.replies) e') in
         (same, none, λ running. let d : true ≡ false = sym done ∙ ap (λ (r : Running). r.is_done) same ∙ running in cc d)
     by false running (Rest skips bytes) e =
-        let e' : ◌≡◌ {A = Outcome} (record { replies = []; standing = Runs s (Rest skips bytes) }) (record { replies = replies; standing = Runs now kept }) =
+        let e' : ◌≡◌ {A = Outcome} (record { replies = []; status = Runs s (Rest skips bytes) }) (record { replies = replies; status = Runs now kept }) =
         sym (carried-tail digest s (Rest skips bytes) running) ∙ e in
-        let st : Runs s (Rest skips bytes) ≡ Runs now kept = ap (λ (o : Outcome). o.standing) e' in
+        let st : Runs s (Rest skips bytes) ≡ Runs now kept = ap (λ (o : Outcome). o.status) e' in
         let same : s ≡ now = cc st in
         let tails : kept ≡ Rest skips bytes = cc st in
         let none : replies ≡ [] = sym (ap (λ (o : Outcome). o.replies) e') in
         (same, none, λ _. tails)
     by false running (Failed fault) e =
         let e' = sym (carried-tail digest s (Failed fault) running) ∙ e in
-        let st : _ ≡ Runs now kept = ap (λ (o : Outcome). o.standing) e' in
+        let st : _ ≡ Runs now kept = ap (λ (o : Outcome). o.status) e' in
         cc st
 
 -- items after those that a stream has carried out are carried out after them
 pub carried-more : (digest : List ℕ → List ℕ) (s now : Running) (items later : List Item) (tail end kept : Tail) (replies : List ℕ)
-    → carried digest s items tail ≡ record { replies = replies; standing = Runs now kept }
+    → carried digest s items tail ≡ record { replies = replies; status = Runs now kept }
     → carried digest s (items ++ later) end ≡ after_reply replies (carried digest now later end)
 unfolding carried
 carried-more digest s now [] later tail end kept replies h =
@@ -65,55 +65,55 @@ carried-more digest s now [] later tail end kept replies h =
 carried-more digest s now (item ∷ items) later tail end kept replies h =
     by (λ r rs e. carried-more digest r now items later tail end kept rs e) (step digest s item) h
   where
-    by : ((r : Running) (rs : List ℕ) → carried digest r items tail ≡ record { replies = rs; standing = Runs now kept }
+    by : ((r : Running) (rs : List ℕ) → carried digest r items tail ≡ record { replies = rs; status = Runs now kept }
         → carried digest r (items ++ later) end ≡ after_reply rs (carried digest now later end))
-        → (r : Result Step Fault) → going_on s r (λ next. carried digest next items tail) ≡ record { replies = replies; standing = Runs now kept }
+        → (r : Result Step Fault) → going_on s r (λ next. carried digest next items tail) ≡ record { replies = replies; status = Runs now kept }
         → going_on s r (λ next. carried digest next (items ++ later) end) ≡ after_reply replies (carried digest now later end)
     by onwards (Ok st) e =
         let first = carried digest st.running items tail in
-        let standing : first.standing ≡ Runs now kept = ap (λ (o : Outcome). o.standing) e in
-        let rest : carried digest st.running items tail ≡ record { replies = first.replies; standing = Runs now kept } =
-        ap (λ (x : StreamStatus). record { replies = first.replies; standing = x }) standing in
+        let status : first.status ≡ Runs now kept = ap (λ (o : Outcome). o.status) e in
+        let rest : carried digest st.running items tail ≡ record { replies = first.replies; status = Runs now kept } =
+        ap (λ (x : StreamStatus). record { replies = first.replies; status = x }) status in
         let all : st.reply ++ first.replies ≡ replies = ap (λ (o : Outcome). o.replies) e in
         ap (after_reply st.reply) (onwards st.running first.replies rest)
-        ∙ ap (λ (rs : List ℕ). record { replies = rs; standing = (carried digest now later end).standing })
+        ∙ ap (λ (rs : List ℕ). record { replies = rs; status = (carried digest now later end).status })
         (sym (append_assoc st.reply first.replies (carried digest now later end).replies) ∙ ap (λ (rs : List ℕ). rs ++ (carried digest now later end).replies) all)
     by onwards (Err fault) e =
-        let st : _ ≡ Runs now kept = ap (λ (o : Outcome). o.standing) e in
+        let st : _ ≡ Runs now kept = ap (λ (o : Outcome). o.status) e in
         cc st
 
 -- a stream that runs on keeps the tail of its bytes
 pub carried-kept : (digest : List ℕ → List ℕ) (s now : Running) (items : List Item) (tail kept : Tail) (replies : List ℕ)
-    → carried digest s items tail ≡ record { replies = replies; standing = Runs now kept } → now.is_done ≡ false → kept ≡ tail
+    → carried digest s items tail ≡ record { replies = replies; status = Runs now kept } → now.is_done ≡ false → kept ≡ tail
 unfolding carried
 carried-kept digest s now [] tail kept replies h running = (at_end digest s now tail kept replies h).2 running
 carried-kept digest s now (item ∷ items) tail kept replies h running =
     by (λ r rs e. carried-kept digest r now items tail kept rs e running) (step digest s item) h
   where
-    by : ((r : Running) (rs : List ℕ) → carried digest r items tail ≡ record { replies = rs; standing = Runs now kept } → kept ≡ tail)
-        → (r : Result Step Fault) → going_on s r (λ next. carried digest next items tail) ≡ record { replies = replies; standing = Runs now kept }
+    by : ((r : Running) (rs : List ℕ) → carried digest r items tail ≡ record { replies = rs; status = Runs now kept } → kept ≡ tail)
+        → (r : Result Step Fault) → going_on s r (λ next. carried digest next items tail) ≡ record { replies = replies; status = Runs now kept }
         → kept ≡ tail
     by onwards (Ok st) e =
         let first = carried digest st.running items tail in
-        let standing : first.standing ≡ Runs now kept = ap (λ (o : Outcome). o.standing) e in
-        onwards st.running first.replies (ap (λ (x : StreamStatus). record { replies = first.replies; standing = x }) standing)
+        let status : first.status ≡ Runs now kept = ap (λ (o : Outcome). o.status) e in
+        onwards st.running first.replies (ap (λ (x : StreamStatus). record { replies = first.replies; status = x }) status)
     by onwards (Err fault) e =
-        let st : _ ≡ Runs now kept = ap (λ (o : Outcome). o.standing) e in
+        let st : _ ≡ Runs now kept = ap (λ (o : Outcome). o.status) e in
         cc st
 
 -- ---- bytes after bytes
 
 -- the bytes since Open, by where they led
 abbrev so_far : (List ℕ → List ℕ) → Repository → List ℕ → Running → Tail → Type 0
-so_far digest repository bytes now kept = (stream_of digest repository bytes).standing ≡ Runs now kept
+so_far digest repository bytes now kept = (stream_of digest repository bytes).status ≡ Runs now kept
 
-standing-so_far : (digest : List ℕ → List ℕ) (repository : Repository) (bytes : List ℕ) (now : Running) (kept : Tail)
+status-so_far : (digest : List ℕ → List ℕ) (repository : Repository) (bytes : List ℕ) (now : Running) (kept : Tail)
     → so_far digest repository bytes now kept
     → carried digest (begun (opened repository)) (reading false bytes).items (reading false bytes).tail
-    ≡ record { replies = (stream_of digest repository bytes).replies; standing = Runs now kept }
+    ≡ record { replies = (stream_of digest repository bytes).replies; status = Runs now kept }
 unfolding stream_of
-standing-so_far digest repository bytes now kept h =
-    ap (λ (x : StreamStatus). record { replies = (carried digest (begun (opened repository)) (reading false bytes).items (reading false bytes).tail).replies; standing = x }) h
+status-so_far digest repository bytes now kept h =
+    ap (λ (x : StreamStatus). record { replies = (carried digest (begun (opened repository)) (reading false bytes).items (reading false bytes).tail).replies; status = x }) h
 
 -- a stream goes on from where it stands
 pub stream-more : (digest : List ℕ → List ℕ) (repository : Repository) (bytes piece : List ℕ) (now : Running) (kept : Tail)
@@ -123,7 +123,7 @@ unfolding stream_of
 stream-more digest repository bytes piece now kept h =
     let old = reading false bytes in
     let more = more_of old.tail piece in
-    let stands = standing-so_far digest repository bytes now kept h in
+    let stands = status-so_far digest repository bytes now kept h in
     ap (λ (r : Reading). carried digest (begun (opened repository)) r.items r.tail) (reading-append bytes piece false)
     ∙ carried-more digest (begun (opened repository)) now old.items more.items old.tail more.tail kept _ stands
     ∙ ap (after_reply (carried digest (begun (opened repository)) old.items old.tail).replies) (by now.is_done refl)
@@ -135,7 +135,7 @@ stream-more digest repository bytes piece now kept h =
         ∙ sym (carried-done digest now (more_of kept piece).items (more_of kept piece).tail done)
     by false running =
         ap (λ (t : Tail). carried digest now (more_of t piece).items (more_of t piece).tail)
-        (sym (carried-kept digest (begun (opened repository)) now (reading false bytes).items (reading false bytes).tail kept _ (standing-so_far digest repository bytes now kept h) running))
+        (sym (carried-kept digest (begun (opened repository)) now (reading false bytes).items (reading false bytes).tail kept _ (status-so_far digest repository bytes now kept h) running))
 
 -- ---- stops
 
@@ -143,7 +143,7 @@ stream-more digest repository bytes piece now kept h =
 abbrev after_replies : List ℕ → Stopped → Stopped
 after_replies replies stopped = record { replies = replies ++ stopped.replies; repository = stopped.repository }
 
-stop_at-after : (replies rs : List ℕ) (standing : StreamStatus) → stop_at (replies ++ rs) standing ≡ option_map (after_replies replies) (stop_at rs standing)
+stop_at-after : (replies rs : List ℕ) (status : StreamStatus) → stop_at (replies ++ rs) status ≡ option_map (after_replies replies) (stop_at rs status)
 stop_at-after replies rs (Runs now tail) = by now.is_done
   where
     by : (b : Bool) → cond b None (Some (record { replies = replies ++ rs; repository = last_checkpoint now.workspace }))
@@ -154,7 +154,7 @@ stop_at-after replies rs (Refused code repository) = refl
 
 -- a stop after items that a stream has carried out is one of the stream from there
 stop-more : (digest : List ℕ → List ℕ) (s now : Running) (items later : List Item) (tail kept : Tail) (replies : List ℕ) (count : ℕ)
-    → carried digest s items tail ≡ record { replies = replies; standing = Runs now kept }
+    → carried digest s items tail ≡ record { replies = replies; status = Runs now kept }
     → stop_after digest s (items ++ later) (length items + count) ≡ option_map (after_replies replies) (stop_after digest now later count)
 unfolding stop_after
 stop-more digest s now items later tail kept replies count h = by (leb count (length later)) refl
@@ -168,33 +168,33 @@ stop-more digest s now items later tail kept replies count h = by (leb count (le
         ∙ carried-more digest s now items (take count later) tail (Rest false []) kept replies h
 
     by : (b : Bool) → leb count (length later) ≡ b
-        → cond (leb (length items + count) (length (items ++ later))) (stop_at (carried digest s all (Rest false [])).replies (carried digest s all (Rest false [])).standing) None
+        → cond (leb (length items + count) (length (items ++ later))) (stop_at (carried digest s all (Rest false [])).replies (carried digest s all (Rest false [])).status) None
         ≡ option_map (after_replies replies)
-        (cond b (stop_at (carried digest now (take count later) (Rest false [])).replies (carried digest now (take count later) (Rest false [])).standing) None)
+        (cond b (stop_at (carried digest now (take count later) (Rest false [])).replies (carried digest now (take count later) (Rest false [])).status) None)
     by true within =
         let le = leb-true count (length later) within in
         let n = length-append items later in
         let within' : leb (length items + count) (length (items ++ later)) ≡ true = le-leb _ _ (omega arith) in
-        ap (λ (x : Bool). cond x (stop_at (carried digest s all (Rest false [])).replies (carried digest s all (Rest false [])).standing) None) within'
-        ∙ ap (λ (o : Outcome). stop_at o.replies o.standing) first
-        ∙ stop_at-after replies (carried digest now (take count later) (Rest false [])).replies (carried digest now (take count later) (Rest false [])).standing
+        ap (λ (x : Bool). cond x (stop_at (carried digest s all (Rest false [])).replies (carried digest s all (Rest false [])).status) None) within'
+        ∙ ap (λ (o : Outcome). stop_at o.replies o.status) first
+        ∙ stop_at-after replies (carried digest now (take count later) (Rest false [])).replies (carried digest now (take count later) (Rest false [])).status
     by false beyond =
         let lt = leb-false count (length later) beyond in
         let n = length-append items later in
         let beyond' : leb (length items + count) (length (items ++ later)) ≡ false = lt-leb _ _ (omega arith) in
-        ap (λ (x : Bool). cond x (stop_at (carried digest s all (Rest false [])).replies (carried digest s all (Rest false [])).standing) None) beyond'
+        ap (λ (x : Bool). cond x (stop_at (carried digest s all (Rest false [])).replies (carried digest s all (Rest false [])).status) None) beyond'
 
 -- after `done` there is no stop
 stop-done : (digest : List ℕ → List ℕ) (now : Running) (items : List Item) (count : ℕ) → now.is_done ≡ true → stop_after digest now items count ≡ None
 unfolding stop_after
 stop-done digest now items count done = by (leb count (length items))
   where
-    none : stop_at (carried digest now (take count items) (Rest false [])).replies (carried digest now (take count items) (Rest false [])).standing ≡ None
+    none : stop_at (carried digest now (take count items) (Rest false [])).replies (carried digest now (take count items) (Rest false [])).status ≡ None
     none =
-        ap (λ (o : Outcome). stop_at o.replies o.standing) (carried-done digest now (take count items) (Rest false []) done)
+        ap (λ (o : Outcome). stop_at o.replies o.status) (carried-done digest now (take count items) (Rest false []) done)
         ∙ ap (λ (b : Bool). cond b None (Some (record { replies = []; repository = last_checkpoint now.workspace }))) done
 
-    by : (b : Bool) → cond b (stop_at (carried digest now (take count items) (Rest false [])).replies (carried digest now (take count items) (Rest false [])).standing) None ≡ None
+    by : (b : Bool) → cond b (stop_at (carried digest now (take count items) (Rest false [])).replies (carried digest now (take count items) (Rest false [])).status) None ≡ None
     by true = none
     by false = refl
 
@@ -209,8 +209,8 @@ feed_stop-more digest repository bytes piece count now kept h =
     ∙ ap (option_map (after_replies (stream_of digest repository bytes).replies)) (by now.is_done refl)
   where
     stands : carried digest (begun (opened repository)) (reading false bytes).items (reading false bytes).tail
-        ≡ record { replies = (stream_of digest repository bytes).replies; standing = Runs now kept }
-    stands = standing-so_far digest repository bytes now kept h
+        ≡ record { replies = (stream_of digest repository bytes).replies; status = Runs now kept }
+    stands = status-so_far digest repository bytes now kept h
 
     by : (b : Bool) → now.is_done ≡ b
         → stop_after digest now (more_of (reading false bytes).tail piece).items count ≡ stop_after digest now (more_of kept piece).items count
@@ -222,24 +222,24 @@ feed_stop-more digest repository bytes piece count now kept h =
 -- ---- one call
 
 -- a call on a repository of its own and the same call on what is held tell the same, and lead to the same
-pub record Meets (digest : List ℕ → List ℕ) (alone : Turn State) (held : Turn TenantState) : Type 0 where
-  pub told : told_by alone ≡ told_by held
-  pub leads : LeadsTo digest alone.state held.state
+pub record Meets (digest : List ℕ → List ℕ) (alone : StepResult State) (held : StepResult TenantState) : Type 0 where
+  pub told : response_of alone ≡ response_of held
+  pub leads : Represents digest alone.state held.state
 
 fed-goes : (digest : List ℕ → List ℕ) (repository : Repository) (all before : List ℕ) (later : Outcome)
     → stream_of digest repository all ≡ after_reply before later
-    → Meets digest (fed_by repository all (added before (stream_of digest repository all).replies) (stream_of digest repository all).standing) (gone_on later)
+    → Meets digest (fed_by repository all (added before (stream_of digest repository all).replies) (stream_of digest repository all).status) (gone_on later)
 fed-goes digest repository all before later is =
-    subst (λ (o : Outcome). Meets digest (fed_by repository all (added before o.replies) o.standing) (gone_on later)) (sym is) (by later.standing refl)
+    subst (λ (o : Outcome). Meets digest (fed_by repository all (added before o.replies) o.status) (gone_on later)) (sym is) (by later.status refl)
   where
     adds : drop (length before) (before ++ later.replies) ≡ later.replies
     adds = drop-append_seam before later.replies
 
-    by : (x : StreamStatus) → later.standing ≡ x
+    by : (x : StreamStatus) → later.status ≡ x
         → Meets digest (fed_by repository all (drop (length before) (before ++ later.replies)) x) (turn (standing_answer x) later.replies (Busy x))
     by (Runs now tail) stands = record {
       told = ap (λ (rs : List ℕ). record { answer = answer.Ok; reply = rs }) adds;
-      leads = ap (λ (o : Outcome). o.standing) is ∙ stands;
+      leads = ap (λ (o : Outcome). o.status) is ∙ stands;
     }
     by (Refused code left) stands = record {
       told = ap (λ (rs : List ℕ). record { answer = answer.Fault code; reply = rs }) adds;
@@ -277,7 +277,7 @@ fed-meets digest repository bytes piece (Some count) now kept h =
           leads = refl;
         })
 
-ended-leads : (digest : List ℕ → List ℕ) (t : Turn Repository) → Meets digest (closed Closed t) (closed Idle t)
+ended-leads : (digest : List ℕ → List ℕ) (t : StepResult Repository) → Meets digest (closed Closed t) (closed Idle t)
 ended-leads digest t = record { told = refl; leads = refl }
 
 opened-leads : (digest : List ℕ → List ℕ) (stop : Option ℕ) (repository : Repository)
@@ -288,58 +288,58 @@ opened-leads digest (Some zero) repository = record { told = refl; leads = refl 
 opened-leads digest (Some (suc count)) repository = record { told = refl; leads = refl }
 
 -- what leads to what is held leads to its last checkpoint
-pub last-leads : (digest : List ℕ → List ℕ) (state : State) (held : TenantState) → LeadsTo digest state held → last_alone digest state ≡ last_held held
+pub last-leads : (digest : List ℕ → List ℕ) (state : State) (held : TenantState) → Represents digest state held → last_alone digest state ≡ last_held held
 last-leads digest (Closed r) (Idle r') h = h
 last-leads digest (Streaming r bytes) (Busy (Runs now tail)) h = ap last_of h
-last-leads digest (Dead code r) (Busy standing) h = sym (ap last_of h)
-last-leads digest (Closed r) (Busy standing) h = elim h [ ]
+last-leads digest (Dead code r) (Busy status) h = sym (ap last_of h)
+last-leads digest (Closed r) (Busy status) h = elim h [ ]
 last-leads digest (Streaming r bytes) (Idle r') h = elim h [ ]
 last-leads digest (Streaming r bytes) (Busy (Refused _ _)) h = elim h [ ]
 last-leads digest (Dead code r) (Idle r') h = elim h [ ]
 
 -- a query, by its answer
-answered-meets : (digest : List ℕ → List ℕ) (result : Result (List ℕ) Refusal) (state : State) (held : TenantState) → LeadsTo digest state held
+answered-meets : (digest : List ℕ → List ℕ) (result : Result (List ℕ) Refusal) (state : State) (held : TenantState) → Represents digest state held
     → Meets digest (answered result state) (answered result held)
 answered-meets digest (Ok text) state held h = record { told = refl; leads = h }
 answered-meets digest (Err refusal) state held h = record { told = refl; leads = h }
 
-asked-leads : (digest : List ℕ → List ℕ) (query : List ℕ) (stop : Option ℕ) (r : Repository) (state : State) (held : TenantState) → LeadsTo digest state held
+asked-leads : (digest : List ℕ → List ℕ) (query : List ℕ) (stop : Option ℕ) (r : Repository) (state : State) (held : TenantState) → Represents digest state held
     → Meets digest (asked query stop r state) (asked query stop r held)
 asked-leads digest query None r state held h = answered-meets digest (answer_to r query) state held h
 asked-leads digest query (Some zero) r state held h = record { told = refl; leads = h }
 asked-leads digest query (Some (suc count)) r state held h = answered-meets digest (answer_to r query) state held h
 
-asked-meets : (digest : List ℕ → List ℕ) (query : List ℕ) (stop : Option ℕ) (state : State) (held : TenantState) → LeadsTo digest state held
+asked-meets : (digest : List ℕ → List ℕ) (query : List ℕ) (stop : Option ℕ) (state : State) (held : TenantState) → Represents digest state held
     → Meets digest (asked query stop (last_alone digest state) state) (asked query stop (last_held held) held)
 asked-meets digest query stop state held h =
     subst (λ (r : Repository). Meets digest (asked query stop (last_alone digest state) state) (asked query stop r held)) (last-leads digest state held h)
     (asked-leads digest query stop (last_alone digest state) state held h)
 
-pub meets : (digest : List ℕ → List ℕ) (call : Call) (stop : Option ℕ) (state : State) (held : TenantState) → LeadsTo digest state held
+pub meets : (digest : List ℕ → List ℕ) (call : Call) (stop : Option ℕ) (state : State) (held : TenantState) → Represents digest state held
     → Meets digest (run_alone digest call stop state) (step_held digest call stop held)
 meets digest Open stop (Closed r) (Idle r') h = subst (λ (x : Repository). Meets digest (open_alone stop (Closed r)) (open_held stop (Idle x))) h (opened-leads digest stop r)
 meets digest Open stop (Streaming r bytes) (Busy (Runs now tail)) h = record { told = refl; leads = h }
-meets digest Open stop (Dead code r) (Busy standing) h = record { told = refl; leads = h }
+meets digest Open stop (Dead code r) (Busy status) h = record { told = refl; leads = h }
 meets digest (Feed piece) stop (Closed r) (Idle r') h = record { told = refl; leads = h }
 meets digest (Feed piece) stop (Streaming r bytes) (Busy (Runs now tail)) h = fed-meets digest r bytes piece stop now tail h
-meets digest (Feed piece) stop (Dead code r) (Busy standing) h =
+meets digest (Feed piece) stop (Dead code r) (Busy status) h =
     subst (λ (x : StreamStatus). Meets digest (feed_alone digest piece stop (Dead code r)) (feed_held digest piece stop (Busy x))) (sym h) (record { told = refl; leads = refl })
 meets digest End stop (Closed r) (Idle r') h = record { told = refl; leads = h }
 meets digest End stop (Streaming r bytes) (Busy (Runs now tail)) h =
     subst (λ (x : StreamStatus). Meets digest (closed Closed (ended digest stop x)) (closed Idle (ended digest stop (Runs now tail)))) (sym h) (ended-leads digest (ended digest stop (Runs now tail)))
-meets digest End stop (Dead code r) (Busy standing) h =
+meets digest End stop (Dead code r) (Busy status) h =
     subst (λ (x : StreamStatus). Meets digest (closed Closed (ended digest stop (Refused code r))) (closed Idle (ended digest stop x))) (sym h) (ended-leads digest (ended digest stop (Refused code r)))
 meets digest (Ask query) stop state held h = asked-meets digest query stop state held h
 meets digest Restart stop state held h = record { told = refl; leads = last-leads digest state held h }
-meets digest Open stop (Closed r) (Busy standing) h = elim h [ ]
+meets digest Open stop (Closed r) (Busy status) h = elim h [ ]
 meets digest Open stop (Streaming r bytes) (Idle r') h = elim h [ ]
 meets digest Open stop (Streaming r bytes) (Busy (Refused _ _)) h = elim h [ ]
 meets digest Open stop (Dead code r) (Idle r') h = elim h [ ]
-meets digest (Feed piece) stop (Closed r) (Busy standing) h = elim h [ ]
+meets digest (Feed piece) stop (Closed r) (Busy status) h = elim h [ ]
 meets digest (Feed piece) stop (Streaming r bytes) (Idle r') h = elim h [ ]
 meets digest (Feed piece) stop (Streaming r bytes) (Busy (Refused _ _)) h = elim h [ ]
 meets digest (Feed piece) stop (Dead code r) (Idle r') h = elim h [ ]
-meets digest End stop (Closed r) (Busy standing) h = elim h [ ]
+meets digest End stop (Closed r) (Busy status) h = elim h [ ]
 meets digest End stop (Streaming r bytes) (Idle r') h = elim h [ ]
 meets digest End stop (Streaming r bytes) (Busy (Refused _ _)) h = elim h [ ]
 meets digest End stop (Dead code r) (Idle r') h = elim h [ ]

@@ -5,7 +5,7 @@ use Rattle.std.specs.Map.{values_of}
 use Rattle.std.proofs.lemmas.List.{map-append}
 use Rattle.indexmap.specs.Layout.{set_value_at}
 use Rattle.content_pool.specs.Pool.{Cells}
-use Rattle.tenant_tables.specs.StandsIn.{LeavesOthers}
+use Rattle.tenant_tables.specs.IsBackedBy.{PreservesOthers}
 use Rattle.tenant_service.specs.declared.tenant.Tenant.{Tenant}
 use Rattle.tenant_service.specs.TenantState.{TenantState, TenantStates, Idle}
 use Rattle.tenant_service.specs.HeldObjects.{last_held}
@@ -60,7 +60,7 @@ pub record RestartedAt (digest : List ℕ → List ℕ) (p q : Cells) (es : Tena
   pub closed : holdings q (set_value_at es i new) ≡ restarted_at i (holdings p es)
 
 pub restarted-placed : (digest : List ℕ → List ℕ) (p q : Cells) (es : Tenants) (i : ℕ) (old new : Tenant) → Accounts digest p es
-    → slice_get (values_of es) i ≡ Some old → Stands digest q new → LeavesOthers p old.table.entries q new.table.entries
+    → slice_get (values_of es) i ≡ Some old → Stands digest q new → PreservesOthers p old.table.entries q new.table.entries
     → holding_in q new ≡ Idle (last_held (holding_in p old)) → RestartedAt digest p q es i new
 restarted-placed digest p q es i old new h got stands leaves own =
     let f = placed es i old new got in

@@ -14,9 +14,9 @@ use Rattle.service_steps.specs.declared.answer.Answer.{Answer}
 use Rattle.service_steps.specs.declared.reply.Reply.{Reply}
 use Rattle.service_steps.specs.declared.step.Step.{Step}
 use Rattle.service_steps.specs.declared.step.Step.TheVariants as step
-use Rattle.tenant_service.specs.Alone.{Call, State, Closed, Turn, added, run_alone}
-use Rattle.tenant_service.specs.Headline.{Told, told_by, told_in, Run, concerns, call_of, stop_told, part_of, steps_of, told_to, told_alone, left_alone, IsIsolated, IsRefused, told_by_reply, told_since, run_of}
-use Rattle.tenant_service.specs.TenantState.{TenantState, TenantStates, Idle, LeadsTo, empty_repository, held_of}
+use Rattle.tenant_service.specs.Alone.{Call, State, Closed, StepResult, added, run_alone}
+use Rattle.tenant_service.specs.Headline.{Response, response_of, response_in, Run, concerns, call_of, stop_told, part_of, steps_of, told_to, told_alone, left_alone, IsIsolated, IsRefused, told_by_reply, told_since, run_of}
+use Rattle.tenant_service.specs.TenantState.{TenantState, TenantStates, Idle, Represents, empty_repository, held_of}
 use Rattle.tenant_service.specs.HeldObjects.{last_held}
 use Rattle.tenant_service.specs.HeldSteps.{step_held}
 use Rattle.tenant_service.specs.Tenants.{Tenants, Accounts, AreLed, holdings}
@@ -29,46 +29,46 @@ use Rattle.tenant_service.proofs.AccountLemmas.{all_whole}
 -- a step that concerns a tenant is its own call
 pub own-call : (digest : List ℕ → List ℕ) (tenant : List ℕ) (s : Step) (answer : Answer) (out out' : List ℕ) (before after : TenantState)
     → concerns tenant s ≡ true → Takes (step_held digest (call_of s) (stop_told answer) before) answer out out' after
-    → IsIsolated digest tenant before ((s, told_in answer out out') ∷ []) after
+    → IsIsolated digest tenant before ((s, response_in answer out out') ∷ []) after
 unfolding told_alone left_alone
 own-call digest tenant s answer out out' before after concerned takes = record {
   told = λ state leads.
-      ap (λ (b : Bool). map (λ (x : Step × Told). x.1) (cond b ((s, told_in answer out out') ∷ []) [])) concerned
-      ∙ ap (λ (x : Told). x ∷ []) (says state leads)
-      ∙ ap (λ (b : Bool). told_alone digest state (map (λ (x : Step × Told). (call_of x.0, stop_told x.1.answer)) (cond b ((s, told_in answer out out') ∷ []) [])))
+      ap (λ (b : Bool). map (λ (x : Step × Response). x.1) (cond b ((s, response_in answer out out') ∷ []) [])) concerned
+      ∙ ap (λ (x : Response). x ∷ []) (says state leads)
+      ∙ ap (λ (b : Bool). told_alone digest state (map (λ (x : Step × Response). (call_of x.0, stop_told x.1.answer)) (cond b ((s, response_in answer out out') ∷ []) [])))
       (sym concerned);
   left = λ state leads.
-      subst (λ (b : Bool). LeadsTo digest (left_alone digest state (map (λ (x : Step × Told). (call_of x.0, stop_told x.1.answer)) (cond b ((s, told_in answer out out') ∷ []) []))) after)
+      subst (λ (b : Bool). Represents digest (left_alone digest state (map (λ (x : Step × Response). (call_of x.0, stop_told x.1.answer)) (cond b ((s, response_in answer out out') ∷ []) []))) after)
       (sym concerned)
-      (subst (λ (h : TenantState). LeadsTo digest (run_alone digest (call_of s) (stop_told answer) state).state h) takes.leaves
+      (subst (λ (h : TenantState). Represents digest (run_alone digest (call_of s) (stop_told answer) state).state h) takes.leaves
       (meets digest (call_of s) (stop_told answer) state before leads).leads);
 }
   where
-    t : Turn TenantState
+    t : StepResult TenantState
     t = step_held digest (call_of s) (stop_told answer) before
 
     adds : added out out' ≡ t.reply
     adds = ap (λ (all : List ℕ). drop (length out) all) takes.printed ∙ drop-append_seam out t.reply
 
-    says : (state : State) → LeadsTo digest state before → told_in answer out out' ≡ told_by (run_alone digest (call_of s) (stop_told answer) state)
+    says : (state : State) → Represents digest state before → response_in answer out out' ≡ response_of (run_alone digest (call_of s) (stop_told answer) state)
     says state leads =
         ap (λ (a : Answer). record { answer = a; reply = added out out' }) (sym takes.answered)
         ∙ ap (λ (r : List ℕ). record { answer = t.answer; reply = r }) adds
         ∙ sym (meets digest (call_of s) (stop_told answer) state before leads).told
 
 -- one that does not concern it leaves it as it was
-pub own-other : (digest : List ℕ → List ℕ) (tenant : List ℕ) (s : Step) (told : Told) (before after : TenantState)
+pub own-other : (digest : List ℕ → List ℕ) (tenant : List ℕ) (s : Step) (told : Response) (before after : TenantState)
     → concerns tenant s ≡ false → after ≡ before
     → IsIsolated digest tenant before ((s, told) ∷ []) after
 unfolding told_alone left_alone
 own-other digest tenant s told before after apart same = record {
   told = λ state leads.
-      ap (λ (b : Bool). map (λ (x : Step × Told). x.1) (cond b ((s, told) ∷ []) [])) apart
-      ∙ ap (λ (b : Bool). told_alone digest state (map (λ (x : Step × Told). (call_of x.0, stop_told x.1.answer)) (cond b ((s, told) ∷ []) []))) (sym apart);
+      ap (λ (b : Bool). map (λ (x : Step × Response). x.1) (cond b ((s, told) ∷ []) [])) apart
+      ∙ ap (λ (b : Bool). told_alone digest state (map (λ (x : Step × Response). (call_of x.0, stop_told x.1.answer)) (cond b ((s, told) ∷ []) []))) (sym apart);
   left = λ state leads.
-      subst (λ (b : Bool). LeadsTo digest (left_alone digest state (map (λ (x : Step × Told). (call_of x.0, stop_told x.1.answer)) (cond b ((s, told) ∷ []) []))) after)
+      subst (λ (b : Bool). Represents digest (left_alone digest state (map (λ (x : Step × Response). (call_of x.0, stop_told x.1.answer)) (cond b ((s, told) ∷ []) []))) after)
       (sym apart)
-      (subst (λ (h : TenantState). LeadsTo digest state h) (sym same) leads);
+      (subst (λ (h : TenantState). Represents digest state h) (sym same) leads);
 }
 
 -- ---- more steps
@@ -78,7 +78,7 @@ told-more : (digest : List ℕ → List ℕ) (state : State) (first later : List
 unfolding told_alone left_alone
 told-more digest state [] later = refl
 told-more digest state (own ∷ first) later =
-    ap (λ (rest : List Told). told_by (run_alone digest own.0 own.1 state) ∷ rest) (told-more digest (run_alone digest own.0 own.1 state).state first later)
+    ap (λ (rest : List Response). response_of (run_alone digest own.0 own.1 state) ∷ rest) (told-more digest (run_alone digest own.0 own.1 state).state first later)
 
 left-more : (digest : List ℕ → List ℕ) (state : State) (first later : List (Call × Option ℕ))
     → left_alone digest state (first ++ later) ≡ left_alone digest (left_alone digest state first) later
@@ -88,13 +88,13 @@ left-more digest state (own ∷ first) later = left-more digest (run_alone diges
 
 steps-more : (tenant : List ℕ) (first later : Run) → steps_of tenant (first ++ later) ≡ steps_of tenant first ++ steps_of tenant later
 steps-more tenant first later =
-    ap (map (λ (x : Step × Told). (call_of x.0, stop_told x.1.answer))) (filter-append (λ (x : Step × Told). concerns tenant x.0) first later)
-    ∙ map-append (λ (x : Step × Told). (call_of x.0, stop_told x.1.answer)) (part_of tenant first) (part_of tenant later)
+    ap (map (λ (x : Step × Response). (call_of x.0, stop_told x.1.answer))) (filter-append (λ (x : Step × Response). concerns tenant x.0) first later)
+    ∙ map-append (λ (x : Step × Response). (call_of x.0, stop_told x.1.answer)) (part_of tenant first) (part_of tenant later)
 
 told_to-more : (tenant : List ℕ) (first later : Run) → told_to tenant (first ++ later) ≡ told_to tenant first ++ told_to tenant later
 told_to-more tenant first later =
-    ap (map (λ (x : Step × Told). x.1)) (filter-append (λ (x : Step × Told). concerns tenant x.0) first later)
-    ∙ map-append (λ (x : Step × Told). x.1) (part_of tenant first) (part_of tenant later)
+    ap (map (λ (x : Step × Response). x.1)) (filter-append (λ (x : Step × Response). concerns tenant x.0) first later)
+    ∙ map-append (λ (x : Step × Response). x.1) (part_of tenant first) (part_of tenant later)
 
 -- a run and further steps
 pub own-more : (digest : List ℕ → List ℕ) (tenant : List ℕ) (before between after : TenantState) (first later : Run)
@@ -106,7 +106,7 @@ own-more digest tenant before between after first later h k = record {
       ∙ (λ i. h.told state leads i ++ k.told (left_alone digest state (steps_of tenant first)) (h.left state leads) i)
       ∙ sym (ap (told_alone digest state) (steps-more tenant first later) ∙ told-more digest state (steps_of tenant first) (steps_of tenant later));
   left = λ state leads.
-      subst (λ (s : State). LeadsTo digest s after)
+      subst (λ (s : State). Represents digest s after)
       (sym (ap (left_alone digest state) (steps-more tenant first later) ∙ left-more digest state (steps_of tenant first) (steps_of tenant later)))
       (k.left (left_alone digest state (steps_of tenant first)) (h.left state leads));
 }
@@ -130,19 +130,19 @@ own-named : (digest : List ℕ → List ℕ) (tenant : List ℕ) (s : Step) (giv
     (answer : Answer) (out out' : List ℕ)
     → (concerns tenant s ≡ (b && bytes_eq given tenant))
     → Calls digest b given (call_of s) (store p es) answer out out' (store q new)
-    → IsIsolated digest tenant (held_of tenant (holdings p es)) ((s, told_in answer out out') ∷ []) (held_of tenant (holdings q new))
+    → IsIsolated digest tenant (held_of tenant (holdings p es)) ((s, response_in answer out out') ∷ []) (held_of tenant (holdings q new))
 own-named digest tenant s given false p q es new answer out out' which h =
-    own-other digest tenant s (told_in answer out out') _ _ which (ap (held_of tenant) h.same)
+    own-other digest tenant s (response_in answer out out') _ _ which (ap (held_of tenant) h.same)
 own-named digest tenant s given true p q es new answer out out' which h = by (bytes_eq given tenant) refl
   where
     by : (x : Bool) → bytes_eq given tenant ≡ x
-        → IsIsolated digest tenant (held_of tenant (holdings p es)) ((s, told_in answer out out') ∷ []) (held_of tenant (holdings q new))
+        → IsIsolated digest tenant (held_of tenant (holdings p es)) ((s, response_in answer out out') ∷ []) (held_of tenant (holdings q new))
     by true here =
         let same : given ≡ tenant = (bytes_eq-Decides given tenant).0 here in
         own-call digest tenant s answer out out' _ _ (which ∙ here)
         (subst (λ (n : List ℕ). Takes (step_held digest (call_of s) (stop_told answer) (held_of n (holdings p es))) answer out out' (held_of n (holdings q new))) same h.own)
     by false apart =
-        own-other digest tenant s (told_in answer out out') _ _ (which ∙ apart) (h.others tenant (apart-back given tenant apart))
+        own-other digest tenant s (response_in answer out out') _ _ (which ∙ apart) (h.others tenant (apart-back given tenant apart))
 
 pub held-restarted : (tenant : List ℕ) (all : TenantStates) → held_of tenant (restarted all) ≡ Idle (last_held (held_of tenant all))
 held-restarted tenant [] = refl
@@ -156,7 +156,7 @@ held-restarted tenant (e ∷ all) = by (bytes_eq tenant e.0) (held-restarted ten
 
 pub own-step : (digest : List ℕ → List ℕ) (s : Step) (p q : Cells) (es new : Tenants) (answer : Answer) (out out' : List ℕ)
     → Steps digest s (store p es) answer out out' (store q new) → (tenant : List ℕ)
-    → IsIsolated digest tenant (held_of tenant (holdings p es)) ((s, told_in answer out out') ∷ []) (held_of tenant (holdings q new))
+    → IsIsolated digest tenant (held_of tenant (holdings p es)) ((s, response_in answer out out') ∷ []) (held_of tenant (holdings q new))
 unfolding concerns
 own-step digest (step.Open given) p q es new answer out out' h tenant = own-named digest tenant (step.Open given) given.now (is_tenant_name given.now) p q es new answer out out' refl h
 own-step digest (step.Feed given bytes) p q es new answer out out' h tenant = own-named digest tenant (step.Feed given bytes) given.now (is_tenant_name given.now) p q es new answer out out' refl h
@@ -213,7 +213,7 @@ pub appended-none : (old : List Reply) → old ≡ old ++ drop (length old) old
 appended-none old = sym (ap (λ (rs : List Reply). old ++ rs) (drop-length old) ∙ append-nil old)
 
 -- a run goes on by one step, which is every tenant's own
-pub run-goes_on : (digest : List ℕ → List ℕ) (tenant : List ℕ) (before between after : TenantState) (steps : List Step) (old all new : List Reply) (r : Reply) (told : Told)
+pub run-goes_on : (digest : List ℕ → List ℕ) (tenant : List ℕ) (before between after : TenantState) (steps : List Step) (old all new : List Reply) (r : Reply) (told : Response)
     (i : ℕ) (d : Step)
     → length all ≡ length old + i → i < length steps → new ≡ all ++ r ∷ [] → told ≡ told_by_reply r
     → IsIsolated digest tenant before (run_of steps (told_since old all)) between
@@ -222,17 +222,17 @@ pub run-goes_on : (digest : List ℕ → List ℕ) (tenant : List ℕ) (before b
 run-goes_on digest tenant before between after steps old all new r told i d count within is says h k =
     subst (λ (run : Run). IsIsolated digest tenant before run after)
     (sym (ap (λ (rs : List Reply). run_of steps (told_since old rs)) is ∙ run-more steps old all r i d count within
-    ∙ ap (λ (t : Told). run_of steps (told_since old all) ++ (get_or steps i d, t) ∷ []) (sym says)))
+    ∙ ap (λ (t : Response). run_of steps (told_since old all) ++ (get_or steps i d, t) ∷ []) (sym says)))
     (own-more digest tenant before between after (run_of steps (told_since old all)) ((get_or steps i d, told) ∷ []) h k)
 
-pub bad-goes_on : (steps : List Step) (old all new : List Reply) (r : Reply) (told : Told) (i : ℕ) (d : Step)
+pub bad-goes_on : (steps : List Step) (old all new : List Reply) (r : Reply) (told : Response) (i : ℕ) (d : Step)
     → length all ≡ length old + i → i < length steps → new ≡ all ++ r ∷ [] → told ≡ told_by_reply r
     → AllByRecursion IsRefused (run_of steps (told_since old all)) → IsRefused (get_or steps i d, told)
     → AllByRecursion IsRefused (run_of steps (told_since old new))
 bad-goes_on steps old all new r told i d count within is says h k =
     subst (λ (run : Run). AllByRecursion IsRefused run)
     (sym (ap (λ (rs : List Reply). run_of steps (told_since old rs)) is ∙ run-more steps old all r i d count within
-    ∙ ap (λ (t : Told). run_of steps (told_since old all) ++ (get_or steps i d, t) ∷ []) (sym says)))
+    ∙ ap (λ (t : Response). run_of steps (told_since old all) ++ (get_or steps i d, t) ∷ []) (sym says)))
     (all_whole IsRefused (run_of steps (told_since old all)) ((get_or steps i d, told) ∷ []) h (k, tt))
 
 pub bad-none : (steps : List Step) (old : List Reply) → AllByRecursion IsRefused (run_of steps (told_since old old))

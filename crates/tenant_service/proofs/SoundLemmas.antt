@@ -19,13 +19,13 @@ use Rattle.answers.specs.Answers.{answer_to}
 use Rattle.service_steps.specs.declared.answer.Answer.{Answer}
 use Rattle.service_steps.specs.declared.step.Step.{Step}
 use Rattle.service_steps.specs.declared.step.Step.TheVariants as step
-use Rattle.tenant_stream.specs.Carrying.{Between, outcome_after, stream_in}
+use Rattle.tenant_stream.specs.Carrying.{StreamView, outcome_after, stream_in}
 use Rattle.tenant_stream.specs.Soundness.{IsSoundStreamStatus}
 use Rattle.tenant_stream.proofs.SoundLemmas.{carried_sound, finished_sound}
-use Rattle.tenant_service.specs.declared.tenant.Phase.{Phase}
-use Rattle.tenant_service.specs.declared.tenant.Phase.TheVariants as phase
+use Rattle.tenant_service.specs.declared.tenant.OpenStream.{OpenStream}
+use Rattle.tenant_service.specs.declared.tenant.OpenStream.TheVariants as phase
 use Rattle.tenant_service.specs.declared.tenant.Tenant.{Tenant}
-use Rattle.tenant_service.specs.Alone.{Call, Open, Feed, End, Ask, Restart, Turn, Stopped, answered, asked, ended, ended_well, stop_at, stop_after, unless_out_of_memory}
+use Rattle.tenant_service.specs.Alone.{Call, Open, Feed, End, Ask, Restart, StepResult, Stopped, answered, asked, ended, ended_well, stop_at, stop_after, unless_out_of_memory}
 use Rattle.tenant_service.specs.TenantState.{TenantState, TenantStates, Idle, Busy, held_of}
 use Rattle.tenant_service.specs.Soundness.{IsSoundTenantState}
 use Rattle.tenant_service.specs.HeldSteps.{end_held, fed_held, feed_held, gone_on, held_until, open_held, step_held}
@@ -42,8 +42,8 @@ abbrev IsSoundStop : (List ℕ → List ℕ) → Option Stopped → Type 0
 IsSoundStop digest None = Unit {0}
 IsSoundStop digest (Some stopped) = IsSoundRepository digest stopped.repository
 
-stop_at-sound : (digest : List ℕ → List ℕ) (replies : List ℕ) (standing : StreamStatus)
-    → IsSoundStreamStatus digest standing → IsSoundStop digest (stop_at replies standing)
+stop_at-sound : (digest : List ℕ → List ℕ) (replies : List ℕ) (status : StreamStatus)
+    → IsSoundStreamStatus digest status → IsSoundStop digest (stop_at replies status)
 stop_at-sound digest replies (Refused code repository) sound = tt
 stop_at-sound digest replies (Runs now tail) sound = by now.is_done
   where
@@ -52,7 +52,7 @@ stop_at-sound digest replies (Runs now tail) sound = by now.is_done
     by true = tt
     by false = checkpoint_is_sound digest now.workspace sound
 
-until-sound : (digest : List ℕ → List ℕ) (count : ℕ) (stop : Option Stopped) (well : Turn TenantState)
+until-sound : (digest : List ℕ → List ℕ) (count : ℕ) (stop : Option Stopped) (well : StepResult TenantState)
     → IsSoundStop digest stop → IsSoundTenantState digest well.state
     → IsSoundTenantState digest (held_until count stop well).state
 until-sound digest count None well stopped sound = sound
@@ -63,10 +63,10 @@ open-sound : (digest : List ℕ → List ℕ) (stop : Option ℕ) (held : Tenant
 open-sound digest None (Idle repository) sound = new_is_sound digest repository sound
 open-sound digest (Some zero) (Idle repository) sound = sound
 open-sound digest (Some (suc count)) (Idle repository) sound = new_is_sound digest repository sound
-open-sound digest stop (Busy standing) sound = sound
+open-sound digest stop (Busy status) sound = sound
 
 unless-sound : (digest : List ℕ → List ℕ) (stop : Option ℕ) (left : Repository)
-    (well : Turn Repository) → IsSoundRepository digest left → IsSoundRepository digest well.state
+    (well : StepResult Repository) → IsSoundRepository digest left → IsSoundRepository digest well.state
     → IsSoundRepository digest (unless_out_of_memory stop left well).state
 unless-sound digest None left well stopped sound = sound
 unless-sound digest (Some zero) left well stopped sound = stopped
@@ -101,8 +101,8 @@ module _ (digest : List ℕ → List ℕ) (names : AnswersNames digest) where
       first : Outcome
       first = carried digest now (take count items) (Rest false [])
 
-      by : (b : Bool) → IsSoundStop digest (cond b (stop_at first.replies first.standing) None)
-      by true = stop_at-sound digest first.replies first.standing
+      by : (b : Bool) → IsSoundStop digest (cond b (stop_at first.replies first.status) None)
+      by true = stop_at-sound digest first.replies first.status
           (carried_sound digest names now (take count items) (Rest false []) sound)
       by false = tt
 
@@ -111,7 +111,7 @@ module _ (digest : List ℕ → List ℕ) (names : AnswersNames digest) where
       → IsSoundTenantState digest (fed_held digest piece stop now tail).state
   fed-sound piece stop now tail sound = by stop
     where
-      well : IsSoundStreamStatus digest (outcome_after digest now tail piece).standing
+      well : IsSoundStreamStatus digest (outcome_after digest now tail piece).status
       well = carried_sound digest names now (more_of tail piece).items (more_of tail piece).tail
           sound
 
@@ -128,8 +128,8 @@ module _ (digest : List ℕ → List ℕ) (names : AnswersNames digest) where
   feed-sound piece stop (Busy (Runs now tail)) sound = fed-sound piece stop now tail sound
   feed-sound piece stop (Busy (Refused code repository)) sound = sound
 
-  ended-sound : (stop : Option ℕ) (standing : StreamStatus) → IsSoundStreamStatus digest standing
-      → IsSoundRepository digest (ended digest stop standing).state
+  ended-sound : (stop : Option ℕ) (status : StreamStatus) → IsSoundStreamStatus digest status
+      → IsSoundRepository digest (ended digest stop status).state
   ended-sound stop (Refused code repository) sound = sound
   ended-sound stop (Runs now tail) sound = by now.is_done
     where
@@ -146,7 +146,7 @@ module _ (digest : List ℕ → List ℕ) (names : AnswersNames digest) where
   end-sound : (stop : Option ℕ) (held : TenantState) → IsSoundTenantState digest held
       → IsSoundTenantState digest (end_held digest stop held).state
   end-sound stop (Idle repository) sound = sound
-  end-sound stop (Busy standing) sound = ended-sound stop standing sound
+  end-sound stop (Busy status) sound = ended-sound stop status sound
 
   -- each call leaves it sound
   call-sound : (call : Call) (stop : Option ℕ) (held : TenantState) → IsSoundTenantState digest held
@@ -205,11 +205,11 @@ module _ (digest : List ℕ → List ℕ) (names : AnswersNames digest) where
       (last-sound digest (held_of tenant (holdings p es)) (sound tenant))
 
 -- a stream that runs
-pub sound-running : (digest : List ℕ → List ℕ) (ph : Phase) (s : Between) (p : Cells) (t : View)
+pub sound-running : (digest : List ℕ → List ℕ) (ph : OpenStream) (s : StreamView) (p : Cells) (t : View)
     (r : RefStore) → ph ≡ phase.Running s → IsSoundTenantState digest (held_in ph p t r)
     → IsSound digest (stream_in s p t r).workspace
 sound-running digest ph s p t r is sound =
-    subst (λ (x : Phase). IsSoundTenantState digest (held_in x p t r)) is sound
+    subst (λ (x : OpenStream). IsSoundTenantState digest (held_in x p t r)) is sound
 
 -- one that is there
 pub sound-found : (digest : List ℕ → List ℕ) (p : Cells) (name : List ℕ) (es : Tenants)

@@ -129,7 +129,7 @@ module _ (before after : TenantStates) (from to : List ℕ)
       in-held before from c
       (last-in (held_of from before) c
       (named-has (last_held (held_of from before)).objects n.id c (is.only.same n.id c n.named)))
-  copied-in (Busy standing) is c h = absurd is
+  copied-in (Busy status) is c h = absurd is
 
   into : (c : Content) → Has (held_contents after) c → Has (held_contents before) c
   into c h = let f = of-held after once' c h in by f.name (bytes_eq f.name to) refl f.has

@@ -18,11 +18,11 @@ use Rattle.tenant_tables.specs.View.{View, Entries, held}
 use Rattle.tenant_tables.specs.Objects.{objects}
 use Rattle.tenant_tables.proofs.HoldLemmas.{held-nil, held-cons, held-head, held-tail}
 use Rattle.tenant_tables.proofs.TableLemmas.{length-objects}
-use Rattle.tenant_service.specs.declared.tenant.Phase.{Phase}
-use Rattle.tenant_service.specs.declared.tenant.Phase.TheVariants as phase
+use Rattle.tenant_service.specs.declared.tenant.OpenStream.{OpenStream}
+use Rattle.tenant_service.specs.declared.tenant.OpenStream.TheVariants as phase
 use Rattle.tenant_service.specs.declared.tenant.Tenant.{Tenant}
 use Rattle.tenant_service.specs.TenantState.{TenantState, TenantStates, Idle, empty_repository, held_of}
-use Rattle.tenant_service.specs.HeldObjects.{held_objects, held_contents, has_commit}
+use Rattle.tenant_service.specs.HeldObjects.{held_objects, held_contents, has_committed_object}
 use Rattle.tenant_service.specs.Tenants.{Tenants, Stands, IsSettled, Accounts, held_in, holding_in, holdings, all_held, has_committed, Shows}
 use Rattle.tenant_service.proofs.TenantLemmas.{all_committed}
 use Rattle.tenant_service.proofs.AccountLemmas.{stands-found, held-found, held-missing}
@@ -66,7 +66,7 @@ of_entries p (x ∷ es) c listed =
 
 -- ---- contents of tenants
 
-pub held_objects-in : (ph : Phase) (p : Cells) (t : View) (r : _) → held_objects (held_in ph p t r) ≡ objects p t.entries
+pub held_objects-in : (ph : OpenStream) (p : Cells) (t : View) (r : _) → held_objects (held_in ph p t r) ≡ objects p t.entries
 held_objects-in phase.Closed p t r = refl
 held_objects-in (phase.Running stream) p t r = refl
 held_objects-in (phase.Dead code) p t r = refl
@@ -132,7 +132,7 @@ pub count-next : {X : Type 0} (test : X → Bool) (xs : List X) (i : ℕ) (x : X
     → count_by test (take (i + 1) xs) ≡ count_by test (take i xs) + cond (test x) 1 0
 count-next test xs i x h = ap (λ (n : ℕ). count_by test (take n xs)) (add-one i) ∙ count-one test xs i x h
 
-same-commit : (ph : Phase) (p : Cells) (t : View) (r : _) → IsSettled ph t → has_commit (held_in ph p t r) ≡ has_committed t
+same-commit : (ph : OpenStream) (p : Cells) (t : View) (r : _) → IsSettled ph t → has_committed_object (held_in ph p t r) ≡ has_committed t
 same-commit phase.Closed p t r settled =
     ap (λ (n : ℕ). ltb 0 n) (length-objects p t.entries ∙ (let l = length-take t.committed t.entries in omega (arith, l, settled)))
 same-commit (phase.Running stream) p t r settled =
@@ -142,19 +142,19 @@ same-commit (phase.Dead code) p t r settled =
     ap (λ (n : ℕ). ltb 0 n) (length-objects p t.entries ∙ (let l = length-take t.committed t.entries in omega (arith, l, settled)))
 
 pub count-commits : (digest : List ℕ → List ℕ) (p : Cells) (es : Tenants) → AllByRecursion (λ e. Stands digest p e.1) es
-    → count_by (λ (e : List ℕ × Tenant). has_committed e.1.table) es ≡ count_by (λ e. has_commit e.1) (holdings p es)
+    → count_by (λ (e : List ℕ × Tenant). has_committed e.1.table) es ≡ count_by (λ e. has_committed_object e.1) (holdings p es)
 count-commits digest p [] all = refl
 count-commits digest p (e ∷ es) all =
     let rest = count-commits digest p es all.1 in
     let a = sum_by-cons (λ (x : List ℕ × Tenant). cond (has_committed x.1.table) 1 0) e es in
-    let b = sum_by-cons (λ x. cond (has_commit x.1) 1 0) (e.0, holding_in p e.1) (holdings p es) in
-    let same : ◌≡◌ {A = ℕ} (cond (has_commit (holding_in p e.1)) 1 0) (cond (has_committed e.1.table) 1 0) =
+    let b = sum_by-cons (λ x. cond (has_committed_object x.1) 1 0) (e.0, holding_in p e.1) (holdings p es) in
+    let same : ◌≡◌ {A = ℕ} (cond (has_committed_object (holding_in p e.1)) 1 0) (cond (has_committed e.1.table) 1 0) =
     ap (λ (x : Bool). cond x 1 0) (same-commit e.1.phase p e.1.table e.1.refs all.0.settled) in
     omega (arith, rest, a, b, same)
 
 -- ---- what the operator is shown
 
-pub shows : (ph : Phase) (p : Cells) (t : View) (r : RefStore) → IsSettled ph t → Shows (held_in ph p t r) p t r
+pub shows : (ph : OpenStream) (p : Cells) (t : View) (r : RefStore) → IsSettled ph t → Shows (held_in ph p t r) p t r
 shows phase.Closed p t r settled = record { all = refl; committed = all_committed p t settled; saved = refl }
 shows (phase.Running stream) p t r settled = record { all = refl; committed = refl; saved = refl }
 shows (phase.Dead code) p t r settled = record { all = refl; committed = all_committed p t settled; saved = refl }

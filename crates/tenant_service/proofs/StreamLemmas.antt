@@ -8,7 +8,7 @@ use Rattle.stream_lex.specs.Items.{Item, Tail, Rest, Reading}
 use Rattle.stream_lex.specs.Running.{more_of, extended}
 use Rattle.import_session.specs.Stream.{Running, Runs, Refused, Outcome, after_reply, carried, last_checkpoint}
 use Rattle.tenant_stream.specs.Carrying.{Goes, Fails, Stops}
-use Rattle.tenant_stream.proofs.StreamLemmas.{carried-tail, more-extended, outcome-advanced, standing-drained, replies-after}
+use Rattle.tenant_stream.proofs.StreamLemmas.{carried-tail, more-extended, outcome-advanced, status-drained, replies-after}
 use Rattle.tenant_service.specs.Alone.{stop_at, stop_after}
 use Rattle.tenant_service.specs.OneStep.{GoesTo, StopsAfter}
 
@@ -19,7 +19,7 @@ pub GoesTo-goes : (digest : List ℕ → List ℕ) (now next : Running) (tail re
 GoesTo-goes digest now next tail rest piece out out' h = record {
   replies = h.replies;
   outcome = outcome-advanced digest now next tail rest piece h.items h.replies h.advances.reads h.advances.carries
-      ∙ ap (after_reply h.replies) (standing-drained digest next rest h.drained)
+      ∙ ap (after_reply h.replies) (status-drained digest next rest h.drained)
       ∙ replies-after h.replies _;
   printed = h.printed;
 }
@@ -33,7 +33,7 @@ GoesTo-fails digest now left tail piece out out' code h = record {
   outcome = outcome-advanced digest now h.last tail h.rest piece h.items h.ends.replies h.ends.advances.reads h.ends.advances.carries
       ∙ ap (after_reply h.ends.replies) (h.refused [])
       ∙ replies-after h.ends.replies _
-      ∙ ap (λ (r : Repository). record { replies = h.ends.replies; standing = Refused code r }) (sym h.ends.checkpoint);
+      ∙ ap (λ (r : Repository). record { replies = h.ends.replies; status = Refused code r }) (sym h.ends.checkpoint);
   printed = h.ends.printed;
 }
 
@@ -45,13 +45,13 @@ pub stop-first : (digest : List ℕ → List ℕ) (now last : Running) (items la
 unfolding stop_after
 stop-first digest now last items later replies carries running =
     let within : leb (length items) (length (items ++ later)) ≡ true = le-leb _ _ (let n = length-append items later in omega arith) in
-    let first : carried digest now (take (length items) (items ++ later)) (Rest false []) ≡ record { replies = replies; standing = Runs last (Rest false []) } =
+    let first : carried digest now (take (length items) (items ++ later)) (Rest false []) ≡ record { replies = replies; status = Runs last (Rest false []) } =
     ap (λ (is : List Item). carried digest now is (Rest false [])) (take-append_seam items later ∙ sym (append-nil items))
     ∙ carries ∙ ap (after_reply replies) (carried-tail digest last (Rest false []) running) ∙ replies-after replies _ in
     let test : stop_at replies (Runs last (Rest false [])) ≡ Some (record { replies = replies; repository = last_checkpoint last.workspace }) =
     ap (λ (b : Bool). cond b None (Some (record { replies = replies; repository = last_checkpoint last.workspace }))) running in
-    ap (λ (b : Bool). cond b (stop_at (carried digest now (take (length items) (items ++ later)) (Rest false [])).replies (carried digest now (take (length items) (items ++ later)) (Rest false [])).standing) None) within
-    ∙ ap (λ (o : Outcome). stop_at o.replies o.standing) first ∙ test
+    ap (λ (b : Bool). cond b (stop_at (carried digest now (take (length items) (items ++ later)) (Rest false [])).replies (carried digest now (take (length items) (items ++ later)) (Rest false [])).status) None) within
+    ∙ ap (λ (o : Outcome). stop_at o.replies o.status) first ∙ test
 
 -- memory ran out after some items
 pub StopsAfter-stops : (digest : List ℕ → List ℕ) (now left : Running) (tail : Tail) (piece out out' : List ℕ) (count : ℕ)

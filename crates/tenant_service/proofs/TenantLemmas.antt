@@ -17,12 +17,12 @@ use Rattle.answers.specs.declared.fault.Fault.TheVariants as refusal
 use Rattle.answers.specs.Faults.{Prints, code_of}
 use Rattle.answers.specs.Answers.{answer_to}
 use Rattle.service_steps.specs.declared.answer.Answer.TheVariants as answer
-use Rattle.tenant_stream.specs.declared.stop.Stop.{Stop}
-use Rattle.tenant_stream.specs.declared.stop.Stop.TheVariants as stop
-use Rattle.tenant_service.specs.declared.tenant.Phase.{Phase}
-use Rattle.tenant_service.specs.declared.tenant.Phase.TheVariants as phase
-use Rattle.tenant_service.specs.Alone.{Open, Ask, End as EndCall, Turn, turn, Stopped, answered, asked, unless_out_of_memory, ended, ended_well, end_answer, closed}
-use Rattle.tenant_stream.specs.Carrying.{outcome_after, Between, new_stream, stream_in, Carries, Feeds, Stays, IsEnd, StopsAtEnd}
+use Rattle.tenant_stream.specs.declared.stream_error.StreamError.{StreamError}
+use Rattle.tenant_stream.specs.declared.stream_error.StreamError.TheVariants as stop
+use Rattle.tenant_service.specs.declared.tenant.OpenStream.{OpenStream}
+use Rattle.tenant_service.specs.declared.tenant.OpenStream.TheVariants as phase
+use Rattle.tenant_service.specs.Alone.{Open, Ask, End as EndCall, StepResult, turn, Stopped, answered, asked, unless_out_of_memory, ended, ended_well, end_answer, closed}
+use Rattle.tenant_stream.specs.Carrying.{outcome_after, StreamView, new_stream, stream_in, Carries, Feeds, Stays, IsEnd, StopsAtEnd}
 use Rattle.tenant_service.specs.Headline.{stop_told}
 use Rattle.tenant_service.specs.TenantState.{TenantState, Idle, Busy, empty_repository}
 use Rattle.tenant_service.specs.HeldObjects.{last_held}
@@ -39,7 +39,7 @@ all_committed pool table settled =
     take_all table.committed (objects pool table.entries) (let n = length-objects pool table.entries in omega arith)
 
 -- what is left where the table was rolled back
-pub given_up : (ph : Phase) (before after : Cells) (old new : View) (refs : RefStore) → IsSettled ph old
+pub given_up : (ph : OpenStream) (before after : Cells) (old new : View) (refs : RefStore) → IsSettled ph old
     → objects after new.entries ≡ take old.committed (objects before old.entries)
     → repository_in after new refs ≡ last_held (held_in ph before old refs)
 given_up phase.Closed before after old new refs settled left =
@@ -56,7 +56,7 @@ unfolding objects
 held_nothing pool table refs empty unset = rw (empty, unset) refl
 
 -- a stream that was opened
-pub took-opened : (digest : List ℕ → List ℕ) (ph : Phase) (pool : Cells) (table : View) (refs : RefStore) (stream : Between)
+pub took-opened : (digest : List ℕ → List ℕ) (ph : OpenStream) (pool : Cells) (table : View) (refs : RefStore) (stream : StreamView)
     → ph ≡ phase.Closed → IsSettled ph table → stream ≡ new_stream
     → Takes (step_held digest Open None (held_in ph pool table refs)) answer.Ok [] [] (Busy (standing_in stream pool table refs))
 unfolding kept_tail
@@ -75,20 +75,20 @@ took-opened digest (phase.Running s) pool table refs stream closed settled new =
 took-opened digest (phase.Dead code) pool table refs stream closed settled new = cc closed
 
 -- what the stream does with a piece
-kept-running : (s : Between) → s.session.is_done ≡ false → kept_tail s ≡ s.tail
+kept-running : (s : StreamView) → s.session.is_done ≡ false → kept_tail s ≡ s.tail
 unfolding kept_tail
 kept-running s running = ap (λ (b : Bool). cond b (Rest false []) s.tail) running
 
-kept-done : (s : Between) → s.session.is_done ≡ true → kept_tail s ≡ Rest false []
+kept-done : (s : StreamView) → s.session.is_done ≡ true → kept_tail s ≡ Rest false []
 unfolding kept_tail
 kept-done s done = ap (λ (b : Bool). cond b (Rest false []) s.tail) done
 
-kept-is : (s : Between) → kept_tail s ≡ cond s.session.is_done (Rest false []) s.tail
+kept-is : (s : StreamView) → kept_tail s ≡ cond s.session.is_done (Rest false []) s.tail
 unfolding kept_tail
 kept-is s = refl
 
-pub fed-feeds : (digest : List ℕ → List ℕ) (s s' : Between) (p p' : Cells) (t t' : View) (r r' : RefStore) (piece out out' : List ℕ)
-    (result : Result Unit Stop)
+pub fed-feeds : (digest : List ℕ → List ℕ) (s s' : StreamView) (p p' : Cells) (t t' : View) (r r' : RefStore) (piece out out' : List ℕ)
+    (result : Result Unit StreamError)
     → Feeds digest s.session.is_done (stream_in s p t r) s.tail piece out result (stream_in s' p' t' r') s'.tail out'
     → Fed digest (stream_in s p t r) (kept_tail s) piece out result out' (stream_in s' p' t' r') (kept_tail s')
 fed-feeds digest s s' p p' t t' r r' piece out out' result h = by s.session.is_done refl h
@@ -103,16 +103,16 @@ fed-feeds digest s s' p p' t t' r r' piece out out' result h = by s.session.is_d
         → Fed digest now (kept_tail s) piece out result out' next (kept_tail s')
     stays done h =
         let done' : s'.session.is_done ≡ true = ap (λ (w : Running). w.is_done) h.running ∙ done in
-        subst (λ (e : Result Unit Stop). Fed digest now (kept_tail s) piece out e out' next (kept_tail s')) (sym h.answer)
+        subst (λ (e : Result Unit StreamError). Fed digest now (kept_tail s) piece out e out' next (kept_tail s')) (sym h.answer)
         (record {
           replies = [];
           outcome = carried-done digest now (more_of (kept_tail s) piece).items (more_of (kept_tail s) piece).tail done
-              ∙ ap (λ (w : Running). record { replies = []; standing = Runs w (Rest false []) }) (sym h.running)
-              ∙ ap (λ (k : Tail). record { replies = []; standing = Runs next k }) (sym (kept-done s' done'));
+              ∙ ap (λ (w : Running). record { replies = []; status = Runs w (Rest false []) }) (sym h.running)
+              ∙ ap (λ (k : Tail). record { replies = []; status = Runs next k }) (sym (kept-done s' done'));
           printed = h.printed ∙ sym (append-nil out);
         })
 
-    carries : (result : Result Unit Stop) → s.session.is_done ≡ false → Carries digest now (extended s.tail piece) out result next s'.tail out'
+    carries : (result : Result Unit StreamError) → s.session.is_done ≡ false → Carries digest now (extended s.tail piece) out result next s'.tail out'
         → Fed digest now s.tail piece out result out' next (kept_tail s')
     carries (Ok u) running h =
         subst (λ (k : Tail). GoesTo digest now s.tail piece out out' (Runs next k)) (sym (kept-is s'))
@@ -132,9 +132,9 @@ pub took-goes : (digest : List ℕ → List ℕ) (now next : Running) (tail kept
     → GoesTo digest now tail piece out out' (Runs next kept)
     → Takes (fed_held digest piece None now tail) answer.Ok out out' (Busy (Runs next kept))
 took-goes digest now next tail kept piece out out' h = record {
-  answered = ap (λ (o : Outcome). standing_answer o.standing) h.outcome;
+  answered = ap (λ (o : Outcome). standing_answer o.status) h.outcome;
   printed = h.printed ∙ ap (λ (o : Outcome). out ++ o.replies) (sym h.outcome);
-  leaves = ap (λ (o : Outcome). Busy o.standing) h.outcome;
+  leaves = ap (λ (o : Outcome). Busy o.status) h.outcome;
 }
 
 -- one that was refused
@@ -142,9 +142,9 @@ pub took-refused : (digest : List ℕ → List ℕ) (now : Running) (tail : Tail
     → GoesTo digest now tail piece out out' (Refused code r) → left ≡ r
     → Takes (fed_held digest piece None now tail) (answer.Fault code) out out' (Busy (Refused code left))
 took-refused digest now tail piece out out' code r left h same = record {
-  answered = ap (λ (o : Outcome). standing_answer o.standing) h.outcome;
+  answered = ap (λ (o : Outcome). standing_answer o.status) h.outcome;
   printed = h.printed ∙ ap (λ (o : Outcome). out ++ o.replies) (sym h.outcome);
-  leaves = ap (λ (o : Outcome). Busy o.standing) h.outcome ∙ ap (λ (x : Repository). Busy (Refused code x)) (sym same);
+  leaves = ap (λ (o : Outcome). Busy o.status) h.outcome ∙ ap (λ (x : Repository). Busy (Refused code x)) (sym same);
 }
 
 -- and one after some items of which memory ran out
@@ -164,7 +164,7 @@ ended-none digest now tail = by now.is_done
     by true = refl
     by false = refl
 
-finished-kept : (digest : List ℕ → List ℕ) (s : Between) (p : Cells) (t : View) (r : RefStore)
+finished-kept : (digest : List ℕ → List ℕ) (s : StreamView) (p : Cells) (t : View) (r : RefStore)
     → finished digest (Runs (stream_in s p t r) (kept_tail s)) ≡ finished digest (Runs (stream_in s p t r) s.tail)
 finished-kept digest s p t r = by s.session.is_done refl
   where
@@ -174,11 +174,11 @@ finished-kept digest s p t r = by s.session.is_done refl
     by true done = refl
     by false running = ap (λ (k : Tail). running_end digest (stream_in s p t r) k) (kept-running s running)
 
-took-ended : (digest : List ℕ → List ℕ) (s : Between) (p : Cells) (t : View) (r : RefStore) (fault : Option ℕ) (out out' : List ℕ) (left : Repository)
+took-ended : (digest : List ℕ → List ℕ) (s : StreamView) (p : Cells) (t : View) (r : RefStore) (fault : Option ℕ) (out out' : List ℕ) (left : Repository)
     → IsEnd (finished digest (Runs (stream_in s p t r) s.tail)) fault out left out'
     → Takes (end_held digest None (Busy (standing_in s p t r))) (end_answer fault) out out' (Idle left)
 took-ended digest s p t r fault out out' left h =
-    subst (λ (x : Turn Repository). Takes (closed Idle x) (end_answer fault) out out' (Idle left))
+    subst (λ (x : StepResult Repository). Takes (closed Idle x) (end_answer fault) out out' (Idle left))
     (sym (ended-none digest (stream_in s p t r) (kept_tail s)))
     (let e = finished-kept digest s p t r in record {
       answered = ap (λ (x : End). end_answer x.fault) e ∙ ap end_answer h.answered;
@@ -187,13 +187,13 @@ took-ended digest s p t r fault out out' left h =
     })
 
 -- by the answer of its end
-pub took-ended_as : (digest : List ℕ → List ℕ) (ph new : Phase) (s : Between) (p q : Cells) (t u : View) (r v : RefStore) (fault : Option ℕ)
+pub took-ended_as : (digest : List ℕ → List ℕ) (ph new : OpenStream) (s : StreamView) (p q : Cells) (t u : View) (r v : RefStore) (fault : Option ℕ)
     (out out' : List ℕ) → ph ≡ phase.Running s → new ≡ phase.Closed
     → IsEnd (finished digest (Runs (stream_in s p t r) s.tail)) fault out (repository_in q u v) out'
     → Takes (step_held digest EndCall None (held_in ph p t r)) (end_answer fault) out out' (held_in new q u v)
 took-ended_as digest ph new s p q t u r v fault out out' is after h =
-    subst (λ (y : Phase). Takes (step_held digest EndCall None (held_in ph p t r)) (end_answer fault) out out' (held_in y q u v)) (sym after)
-    (subst (λ (x : Phase). Takes (step_held digest EndCall None (held_in x p t r)) (end_answer fault) out out' (Idle (repository_in q u v))) (sym is)
+    subst (λ (y : OpenStream). Takes (step_held digest EndCall None (held_in ph p t r)) (end_answer fault) out out' (held_in y q u v)) (sym after)
+    (subst (λ (x : OpenStream). Takes (step_held digest EndCall None (held_in x p t r)) (end_answer fault) out out' (Idle (repository_in q u v))) (sym is)
     (took-ended digest s p t r fault out out' (repository_in q u v) h))
 
 -- a stream whose end ran out of memory
@@ -201,26 +201,26 @@ ended-stopped : (digest : List ℕ → List ℕ) (now : Running) (tail : Tail) �
     → ended digest (Some 0) (Runs now tail) ≡ turn (answer.Memory 0) [] (last_checkpoint now.workspace)
 ended-stopped digest now tail running = rw running refl
 
-took-end_stopped : (digest : List ℕ → List ℕ) (s : Between) (p : Cells) (t : View) (r : RefStore) (count : ℕ) (out out' : List ℕ) (left : Repository)
+took-end_stopped : (digest : List ℕ → List ℕ) (s : StreamView) (p : Cells) (t : View) (r : RefStore) (count : ℕ) (out out' : List ℕ) (left : Repository)
     → StopsAtEnd (stream_in s p t r) out count left out'
     → Takes (end_held digest (Some count) (Busy (standing_in s p t r))) (answer.Memory count) out out' (Idle left)
 took-end_stopped digest s p t r count out out' left h =
     subst (λ (n : ℕ). Takes (end_held digest (Some n) (Busy (standing_in s p t r))) (answer.Memory n) out out' (Idle left)) (sym h.counted)
-    (subst (λ (x : Turn Repository). Takes (closed Idle x) (answer.Memory 0) out out' (Idle left))
+    (subst (λ (x : StepResult Repository). Takes (closed Idle x) (answer.Memory 0) out out' (Idle left))
     (sym (ended-stopped digest (stream_in s p t r) (kept_tail s) h.running))
     (record { answered = refl; printed = h.printed ∙ sym (append-nil out); leaves = ap Idle h.stands }))
 
-pub took-stopped_at_end : (digest : List ℕ → List ℕ) (ph new : Phase) (s : Between) (p q : Cells) (t u : View) (r v : RefStore) (count : ℕ)
+pub took-stopped_at_end : (digest : List ℕ → List ℕ) (ph new : OpenStream) (s : StreamView) (p q : Cells) (t u : View) (r v : RefStore) (count : ℕ)
     (out out' : List ℕ) → ph ≡ phase.Running s → new ≡ phase.Closed
     → StopsAtEnd (stream_in s p t r) out count (repository_in q u v) out'
     → Takes (step_held digest EndCall (Some count) (held_in ph p t r)) (answer.Memory count) out out' (held_in new q u v)
 took-stopped_at_end digest ph new s p q t u r v count out out' is after h =
-    subst (λ (y : Phase). Takes (step_held digest EndCall (Some count) (held_in ph p t r)) (answer.Memory count) out out' (held_in y q u v)) (sym after)
-    (subst (λ (x : Phase). Takes (step_held digest EndCall (Some count) (held_in x p t r)) (answer.Memory count) out out' (Idle (repository_in q u v))) (sym is)
+    subst (λ (y : OpenStream). Takes (step_held digest EndCall (Some count) (held_in ph p t r)) (answer.Memory count) out out' (held_in y q u v)) (sym after)
+    (subst (λ (x : OpenStream). Takes (step_held digest EndCall (Some count) (held_in x p t r)) (answer.Memory count) out out' (Idle (repository_in q u v))) (sym is)
     (took-end_stopped digest s p t r count out out' (repository_in q u v) h))
 
 -- the repository that a query is asked of
-pub saved_is : (ph : Phase) (pool : Cells) (table : View) (refs : RefStore) → IsSettled ph table
+pub saved_is : (ph : OpenStream) (pool : Cells) (table : View) (refs : RefStore) → IsSettled ph table
     → ◌≡◌ {A = Repository} (record { objects = objects pool (take table.committed table.entries); refs = refs })
     (last_held (held_in ph pool table refs))
 saved_is ph pool table refs settled =

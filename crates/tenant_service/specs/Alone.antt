@@ -27,20 +27,20 @@ pub data State : Type 0 where
   Dead : ℕ → Repository → State
 
 -- What a call is answered, the bytes of its reply, and what it leaves.
-pub record Turn (S : Type 0) : Type 0 where
+pub record StepResult (S : Type 0) : Type 0 where
   pub answer : Answer
   pub reply : List ℕ
   pub state : S
 
-abbrev pub turn : {S : Type 0} → Answer → List ℕ → S → Turn S
+abbrev pub turn : {S : Type 0} → Answer → List ℕ → S → StepResult S
 turn answer reply state = record { answer = answer; reply = reply; state = state }
 
 -- A call that is refused changes nothing.
-abbrev pub refused_under : {S : Type 0} → ℕ → S → Turn S
+abbrev pub refused_under : {S : Type 0} → ℕ → S → StepResult S
 refused_under code state = turn (answer.Fault code) [] state
 
 -- A call that needs memory may run out of it, and then leaves `left`. No other call may.
-abbrev pub unless_out_of_memory : {S : Type 0} → Option ℕ → S → Turn S → Turn S
+abbrev pub unless_out_of_memory : {S : Type 0} → Option ℕ → S → StepResult S → StepResult S
 unless_out_of_memory (Some zero) left well = turn (answer.Memory 0) [] left
 unless_out_of_memory _ left well = well
 
@@ -76,11 +76,11 @@ unfoldable pub stop_after : (List ℕ → List ℕ) → Running → List Item �
 stop_after digest now items count =
     if nat_le count (length items) then
     (let first = carried digest now (take count items) (Rest false []) in
-    stop_at first.replies first.standing)
+    stop_at first.replies first.status)
     else None
 
 -- Open starts a stream, which has no bytes yet.
-abbrev pub open_alone : Option ℕ → State → Turn State
+abbrev pub open_alone : Option ℕ → State → StepResult State
 open_alone stop (Closed repository) =
     unless_out_of_memory stop (Closed repository) (turn answer.Ok [] (Streaming repository []))
 open_alone stop (Streaming repository bytes) = refused_under 31 (Streaming repository bytes)
@@ -88,15 +88,15 @@ open_alone stop (Dead code repository) = refused_under 31 (Dead code repository)
 
 -- Feed prints what all bytes print beyond what was printed before. A fault in them makes the stream
 -- dead under the fault's number.
-abbrev pub fed_by : Repository → List ℕ → List ℕ → StreamStatus → Turn State
+abbrev pub fed_by : Repository → List ℕ → List ℕ → StreamStatus → StepResult State
 fed_by repository bytes reply (Runs now tail) = turn answer.Ok reply (Streaming repository bytes)
 fed_by repository bytes reply (Refused code left) = turn (answer.Fault code) reply (Dead code left)
 
-abbrev pub fed_well : (List ℕ → List ℕ) → Repository → List ℕ → List ℕ → Turn State
+abbrev pub fed_well : (List ℕ → List ℕ) → Repository → List ℕ → List ℕ → StepResult State
 fed_well digest repository bytes piece =
     let before = stream_of digest repository bytes in
     let all = stream_of digest repository (bytes ++ piece) in
-    fed_by repository (bytes ++ piece) (added before.replies all.replies) all.standing
+    fed_by repository (bytes ++ piece) (added before.replies all.replies) all.status
 
 -- The stop of a Feed after `count` of the items that it completes.
 abbrev pub feed_stop : (List ℕ → List ℕ) → Repository → List ℕ → List ℕ → ℕ → Option Stopped
@@ -106,18 +106,18 @@ feed_stop digest repository bytes piece count =
     stop_after digest (begun (opened repository)) all (length before + count)
 
 -- If there is such a stop, the stream is dead under 90.
-abbrev pub fed_until : List ℕ → ℕ → Option Stopped → Turn State → Turn State
+abbrev pub fed_until : List ℕ → ℕ → Option Stopped → StepResult State → StepResult State
 fed_until before count (Some stopped) well =
     turn (answer.Memory count) (added before stopped.replies) (Dead 90 stopped.repository)
 fed_until before count None well = well
 
-abbrev pub fed : (List ℕ → List ℕ) → Option ℕ → Repository → List ℕ → List ℕ → Turn State
+abbrev pub fed : (List ℕ → List ℕ) → Option ℕ → Repository → List ℕ → List ℕ → StepResult State
 fed digest None repository bytes piece = fed_well digest repository bytes piece
 fed digest (Some count) repository bytes piece =
     fed_until (stream_of digest repository bytes).replies count
     (feed_stop digest repository bytes piece count) (fed_well digest repository bytes piece)
 
-abbrev pub feed_alone : (List ℕ → List ℕ) → List ℕ → Option ℕ → State → Turn State
+abbrev pub feed_alone : (List ℕ → List ℕ) → List ℕ → Option ℕ → State → StepResult State
 feed_alone digest piece stop (Closed repository) = refused_under 30 (Closed repository)
 feed_alone digest piece stop (Streaming repository bytes) = fed digest stop repository bytes piece
 feed_alone digest piece stop (Dead code repository) = refused_under code (Dead code repository)
@@ -127,25 +127,25 @@ abbrev pub end_answer : Option ℕ → Answer
 end_answer None = answer.Ok
 end_answer (Some code) = answer.Fault code
 
-abbrev pub ended_well : (List ℕ → List ℕ) → StreamStatus → Turn Repository
-ended_well digest standing =
-    let end = finished digest standing in turn (end_answer end.fault) end.reply end.repository
+abbrev pub ended_well : (List ℕ → List ℕ) → StreamStatus → StepResult Repository
+ended_well digest status =
+    let end = finished digest status in turn (end_answer end.fault) end.reply end.repository
 
 -- After `done`, and after a refusal, an end needs no memory.
-abbrev pub ended : (List ℕ → List ℕ) → Option ℕ → StreamStatus → Turn Repository
+abbrev pub ended : (List ℕ → List ℕ) → Option ℕ → StreamStatus → StepResult Repository
 ended digest stop (Refused code repository) = ended_well digest (Refused code repository)
 ended digest stop (Runs now tail) =
     if now.is_done then ended_well digest (Runs now tail)
     else unless_out_of_memory stop (last_checkpoint now.workspace)
     (ended_well digest (Runs now tail))
 
-abbrev pub closed : {S : Type 0} → (Repository → S) → Turn Repository → Turn S
+abbrev pub closed : {S : Type 0} → (Repository → S) → StepResult Repository → StepResult S
 closed close t = turn t.answer t.reply (close t.state)
 
-abbrev pub end_alone : (List ℕ → List ℕ) → Option ℕ → State → Turn State
+abbrev pub end_alone : (List ℕ → List ℕ) → Option ℕ → State → StepResult State
 end_alone digest stop (Closed repository) = refused_under 30 (Closed repository)
 end_alone digest stop (Streaming repository bytes) =
-    closed Closed (ended digest stop (stream_of digest repository bytes).standing)
+    closed Closed (ended digest stop (stream_of digest repository bytes).status)
 end_alone digest stop (Dead code repository) =
     closed Closed (ended digest stop (Refused code repository))
 
@@ -153,21 +153,21 @@ end_alone digest stop (Dead code repository) =
 abbrev pub last_alone : (List ℕ → List ℕ) → State → Repository
 last_alone digest (Closed repository) = repository
 last_alone digest (Streaming repository bytes) =
-    last_of (stream_of digest repository bytes).standing
+    last_of (stream_of digest repository bytes).status
 last_alone digest (Dead code repository) = repository
 
 -- Ask answers from the repository at the last checkpoint, and changes nothing.
-abbrev pub answered : {S : Type 0} → Result (List ℕ) Fault → S → Turn S
+abbrev pub answered : {S : Type 0} → Result (List ℕ) Fault → S → StepResult S
 answered (Ok text) state = turn answer.Ok text state
 answered (Err refusal) state = refused_under (code_of refusal) state
 
-abbrev pub asked : {S : Type 0} → List ℕ → Option ℕ → Repository → S → Turn S
+abbrev pub asked : {S : Type 0} → List ℕ → Option ℕ → Repository → S → StepResult S
 asked query stop repository state =
     unless_out_of_memory stop state (answered (answer_to repository query) state)
 
 -- What a call is answered and what it leaves, in a repository of its own, given whether the call
 -- ran out of memory, and after how many items.
-abbrev pub run_alone : (List ℕ → List ℕ) → Call → Option ℕ → State → Turn State
+abbrev pub run_alone : (List ℕ → List ℕ) → Call → Option ℕ → State → StepResult State
 run_alone digest Open stop state = open_alone stop state
 run_alone digest (Feed piece) stop state = feed_alone digest piece stop state
 run_alone digest End stop state = end_alone digest stop state

@@ -6,7 +6,7 @@ use Rattle.service_steps.specs.declared.answer.Answer.{Answer}
 use Rattle.service_steps.specs.declared.answer.Answer.TheVariants as answer
 use Rattle.export_laws.specs.Copies.{IsCopyOf}
 use Rattle.tenant_service.specs.Alone.{Call, Open, Feed, End, Closed}
-use Rattle.tenant_service.specs.Headline.{Told, told_alone, left_alone}
+use Rattle.tenant_service.specs.Headline.{Response, told_alone, left_alone}
 use Rattle.tenant_service.specs.TenantState.{TenantState, TenantStates, Idle, Busy, empty_repository}
 use Rattle.tenant_service.specs.HeldObjects.{held_contents}
 
@@ -15,7 +15,7 @@ abbrev pub import_steps : List ℕ → List (Call × Option ℕ)
 import_steps text = (Open, None) ∷ (Feed text, None) ∷ (End, None) ∷ []
 
 -- Ok without a reply.
-abbrev pub told_ok : Told
+abbrev pub told_ok : Response
 told_ok = record { answer = answer.Ok; reply = [] }
 
 -- In an empty repository of its own, each step of the import of a text is answered Ok without a
@@ -30,7 +30,7 @@ pub record Takes (digest : List ℕ → List ℕ) (text : List ℕ) (repository 
 -- The service holds a copy of a repository for a tenant, and no stream.
 abbrev pub HoldsCopy : Repository → TenantState → Type 0
 HoldsCopy repository (Idle left) = IsCopyOf repository left
-HoldsCopy repository (Busy standing) = ⊥
+HoldsCopy repository (Busy status) = ⊥
 
 -- The answer is Ok, and then the other tenant has a copy; or memory ran out. It is no fault.
 abbrev pub CopiesAs : Answer → Repository → TenantState → Type 0

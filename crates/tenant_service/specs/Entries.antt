@@ -5,7 +5,7 @@ use Rattle.git_model.specs.RefStore.{RefStore}
 use Rattle.tenant_tables.specs.View.{View}
 use Rattle.pool_file.specs.declared.tenant.Tenant.{Tenant as Loaded}
 use Rattle.pool_file.specs.declared.tenant_view.TenantView.{TenantView}
-use Rattle.tenant_service.specs.declared.tenant.Phase.TheVariants as phase
+use Rattle.tenant_service.specs.declared.tenant.OpenStream.TheVariants as phase
 use Rattle.tenant_service.specs.declared.tenant.Tenant.{Tenant}
 use Rattle.tenant_service.specs.Tenants.{Tenants}
 

@@ -18,12 +18,12 @@ standing_objects (Refused code repository) = repository.objects
 
 abbrev pub held_objects : TenantState → List Object
 held_objects (Idle repository) = repository.objects
-held_objects (Busy standing) = standing_objects standing
+held_objects (Busy status) = standing_objects status
 
 -- The repository at the last checkpoint.
 abbrev pub last_held : TenantState → Repository
 last_held (Idle repository) = repository
-last_held (Busy standing) = last_of standing
+last_held (Busy status) = last_of status
 
 -- Whether a stream runs that has read `done`, so that no later byte counts.
 abbrev pub has_read_done : TenantState → Bool
@@ -32,8 +32,8 @@ has_read_done (Busy (Runs now tail)) = now.is_done
 has_read_done (Busy (Refused code repository)) = false
 
 -- Whether the repository at the last checkpoint has an object.
-abbrev pub has_commit : TenantState → Bool
-has_commit held = nat_lt 0 (length (last_held held).objects)
+abbrev pub has_committed_object : TenantState → Bool
+has_committed_object held = nat_lt 0 (length (last_held held).objects)
 
 -- The contents of all objects of all tenants.
 abbrev pub held_contents : TenantStates → List Content

@@ -8,7 +8,7 @@ use Rattle.import_session.specs.Stream.{Running, StreamStatus, Runs, Refused, Ou
 use Rattle.tenant_stream.specs.Carrying.{outcome_after}
 use Rattle.service_steps.specs.declared.answer.Answer.{Answer}
 use Rattle.service_steps.specs.declared.answer.Answer.TheVariants as answer
-use Rattle.tenant_service.specs.Alone.{Call, Open, Feed, End, Ask, Restart, Turn, turn, refused_under, unless_out_of_memory, Stopped, stop_after, ended, closed, asked}
+use Rattle.tenant_service.specs.Alone.{Call, Open, Feed, End, Ask, Restart, StepResult, turn, refused_under, unless_out_of_memory, Stopped, stop_after, ended, closed, asked}
 use Rattle.tenant_service.specs.TenantState.{TenantState, Idle, Busy}
 use Rattle.tenant_service.specs.HeldObjects.{last_held}
 
@@ -17,39 +17,40 @@ abbrev pub standing_answer : StreamStatus → Answer
 standing_answer (Runs now tail) = answer.Ok
 standing_answer (Refused code repository) = answer.Fault code
 
-abbrev pub gone_on : Outcome → Turn TenantState
-gone_on later = turn (standing_answer later.standing) later.replies (Busy later.standing)
+abbrev pub gone_on : Outcome → StepResult TenantState
+gone_on later = turn (standing_answer later.status) later.replies (Busy later.status)
 
 -- If there is a stop after so many of the items, the stream is dead under 90.
-abbrev pub held_until : ℕ → Option Stopped → Turn TenantState → Turn TenantState
+abbrev pub held_until : ℕ → Option Stopped → StepResult TenantState → StepResult TenantState
 held_until count (Some stopped) well =
     turn (answer.Memory count) stopped.replies (Busy (Refused 90 stopped.repository))
 held_until count None well = well
 
-abbrev pub fed_held : (List ℕ → List ℕ) → List ℕ → Option ℕ → Running → Tail → Turn TenantState
+abbrev pub fed_held : (List ℕ → List ℕ) → List ℕ → Option ℕ → Running → Tail
+    → StepResult TenantState
 fed_held digest piece None now tail = gone_on (outcome_after digest now tail piece)
 fed_held digest piece (Some count) now tail =
     held_until count (stop_after digest now (more_of tail piece).items count)
     (gone_on (outcome_after digest now tail piece))
 
 -- What each call does to what is held.
-abbrev pub open_held : Option ℕ → TenantState → Turn TenantState
+abbrev pub open_held : Option ℕ → TenantState → StepResult TenantState
 open_held stop (Idle repository) =
     unless_out_of_memory stop (Idle repository)
     (turn answer.Ok [] (Busy (Runs (begun (opened repository)) (Rest false []))))
-open_held stop (Busy standing) = refused_under 31 (Busy standing)
+open_held stop (Busy status) = refused_under 31 (Busy status)
 
-abbrev pub feed_held : (List ℕ → List ℕ) → List ℕ → Option ℕ → TenantState → Turn TenantState
+abbrev pub feed_held : (List ℕ → List ℕ) → List ℕ → Option ℕ → TenantState → StepResult TenantState
 feed_held digest piece stop (Idle repository) = refused_under 30 (Idle repository)
 feed_held digest piece stop (Busy (Runs now tail)) = fed_held digest piece stop now tail
 feed_held digest piece stop (Busy (Refused code repository)) =
     refused_under code (Busy (Refused code repository))
 
-abbrev pub end_held : (List ℕ → List ℕ) → Option ℕ → TenantState → Turn TenantState
+abbrev pub end_held : (List ℕ → List ℕ) → Option ℕ → TenantState → StepResult TenantState
 end_held digest stop (Idle repository) = refused_under 30 (Idle repository)
-end_held digest stop (Busy standing) = closed Idle (ended digest stop standing)
+end_held digest stop (Busy status) = closed Idle (ended digest stop status)
 
-abbrev pub step_held : (List ℕ → List ℕ) → Call → Option ℕ → TenantState → Turn TenantState
+abbrev pub step_held : (List ℕ → List ℕ) → Call → Option ℕ → TenantState → StepResult TenantState
 step_held digest Open stop held = open_held stop held
 step_held digest (Feed piece) stop held = feed_held digest piece stop held
 step_held digest End stop held = end_held digest stop held

@@ -14,10 +14,10 @@ use Rattle.service_steps.specs.declared.answer.Answer.{Answer}
 use Rattle.service_steps.specs.declared.answer.Answer.TheVariants as answers
 use Rattle.service_steps.specs.declared.step.Step.{Step}
 use Rattle.service_steps.specs.declared.step.Step.TheVariants as step
-use Rattle.tenant_stream.specs.declared.stop.Stop.{Stop}
-use Rattle.tenant_stream.specs.declared.stop.Stop.TheVariants as stop
+use Rattle.tenant_stream.specs.declared.stream_error.StreamError.{StreamError}
+use Rattle.tenant_stream.specs.declared.stream_error.StreamError.TheVariants as stop
 use Rattle.tenant_stream.specs.Carrying.{outcome_after}
-use Rattle.tenant_service.specs.Alone.{Call, Turn, stop_after}
+use Rattle.tenant_service.specs.Alone.{Call, StepResult, stop_after}
 use Rattle.tenant_service.specs.Headline.{call_of, stop_told}
 use Rattle.tenant_service.specs.TenantState.{TenantState, Idle, TenantStates, held_of}
 use Rattle.tenant_service.specs.HeldObjects.{last_held}
@@ -26,7 +26,8 @@ use Rattle.tenant_service.specs.StepName.{name_of}
 use Rattle.tenant_service.specs.Tenants.{Tenants, Accounts, holdings}
 
 -- A call was answered and printed as a turn says, and left what it says.
-pub record Takes (t : Turn TenantState) (answer : Answer) (out out' : List ℕ) (left : TenantState)
+pub record Takes (t : StepResult TenantState) (answer : Answer) (out out' : List ℕ)
+    (left : TenantState)
     : Type 0 where
   pub answered : t.answer ≡ answer
   pub printed : out' ≡ out ++ t.reply
@@ -36,7 +37,7 @@ pub record Takes (t : Turn TenantState) (answer : Answer) (out out' : List ℕ) 
 pub record GoesTo (digest : List ℕ → List ℕ) (now : Running) (tail : Tail) (piece : List ℕ)
     (out out' : List ℕ) (left : StreamStatus) : Type 0 where
   pub replies : List ℕ
-  pub outcome : outcome_after digest now tail piece ≡ record { replies = replies; standing = left }
+  pub outcome : outcome_after digest now tail piece ≡ record { replies = replies; status = left }
   pub printed : out' ≡ out ++ replies
 
 -- Memory ran out after so many items.
@@ -48,7 +49,8 @@ pub record StopsAfter (digest : List ℕ → List ℕ) (now : Running) (tail : T
   pub printed : out' ≡ out ++ replies
 
 -- What came of a piece of a stream, which goes on or is given up.
-abbrev pub Fed : (List ℕ → List ℕ) → Running → Tail → List ℕ → List ℕ → Result Unit Stop → List ℕ
+abbrev pub Fed : (List ℕ → List ℕ) → Running → Tail → List ℕ → List ℕ → Result Unit StreamError
+    → List ℕ
     → Running → Tail → Type 0
 Fed digest now tail piece out (Ok u) out' next kept =
     GoesTo digest now tail piece out out' (Runs next kept)

@@ -8,4 +8,4 @@ use Rattle.tenant_service.specs.TenantState.{TenantState, Idle, Busy}
 -- What is held is sound: a sound repository, or a stream that is sound as it stands.
 abbrev pub IsSoundTenantState : (List ℕ → List ℕ) → TenantState → Type 0
 IsSoundTenantState digest (Idle repository) = IsSoundRepository digest repository
-IsSoundTenantState digest (Busy standing) = IsSoundStreamStatus digest standing
+IsSoundTenantState digest (Busy status) = IsSoundStreamStatus digest status

@@ -15,12 +15,12 @@ pub data TenantState : Type 0 where
 
 -- A state of its own leads to what is held: to the same repository, or to how the stream of all
 -- bytes since Open stands.
-abbrev pub LeadsTo : (List ℕ → List ℕ) → State → TenantState → Type 0
-LeadsTo digest (Closed repository) (Idle held) = repository ≡ held
-LeadsTo digest (Streaming repository bytes) (Busy (Runs now tail)) =
-    (stream_of digest repository bytes).standing ≡ Runs now tail
-LeadsTo digest (Dead code repository) (Busy standing) = standing ≡ Refused code repository
-LeadsTo digest _ _ = ⊥
+abbrev pub Represents : (List ℕ → List ℕ) → State → TenantState → Type 0
+Represents digest (Closed repository) (Idle held) = repository ≡ held
+Represents digest (Streaming repository bytes) (Busy (Runs now tail)) =
+    (stream_of digest repository bytes).status ≡ Runs now tail
+Represents digest (Dead code repository) (Busy status) = status ≡ Refused code repository
+Represents digest _ _ = ⊥
 
 -- A repository without objects and refs.
 abbrev pub empty_repository : Repository

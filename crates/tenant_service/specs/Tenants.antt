@@ -10,31 +10,31 @@ use Rattle.tenant_refs.specs.TenantName.{is_tenant_name}
 use Rattle.tenant_tables.specs.View.{View, held, in_sight}
 use Rattle.tenant_tables.specs.declared.sight.Sight.TheVariants.{Committed}
 use Rattle.tenant_tables.specs.Objects.{objects}
-use Rattle.tenant_tables.specs.StandsIn.{StandsIn}
+use Rattle.tenant_tables.specs.IsBackedBy.{IsBackedBy}
 use Rattle.revisions.specs.FirstParents.{IsFirstParentChain}
 use Rattle.stream_lex.specs.Items.{Tail, Rest}
 use Rattle.import_session.specs.Held.{HoldsFiles}
 use Rattle.import_session.specs.Session.{repository_in}
 use Rattle.import_session.specs.Stream.{StreamStatus, Runs, Refused}
-use Rattle.tenant_service.specs.declared.tenant.Phase.{Phase}
-use Rattle.tenant_service.specs.declared.tenant.Phase.TheVariants as phase
+use Rattle.tenant_service.specs.declared.tenant.OpenStream.{OpenStream}
+use Rattle.tenant_service.specs.declared.tenant.OpenStream.TheVariants as phase
 use Rattle.tenant_service.specs.declared.tenant.Tenant.{Tenant}
 use Rattle.tenant_service.specs.Alone.{State}
-use Rattle.tenant_stream.specs.Carrying.{Between, stream_in}
-use Rattle.tenant_service.specs.TenantState.{TenantState, Idle, Busy, TenantStates, LeadsTo, held_of}
+use Rattle.tenant_stream.specs.Carrying.{StreamView, stream_in}
+use Rattle.tenant_service.specs.TenantState.{TenantState, Idle, Busy, TenantStates, Represents, held_of}
 use Rattle.tenant_service.specs.Soundness.{IsSoundTenantState}
 use Rattle.tenant_service.specs.HeldObjects.{held_objects, last_held, tenants_with}
 
 -- After `done` no bytes are kept.
-unfoldable pub kept_tail : Between → Tail
+unfoldable pub kept_tail : StreamView → Tail
 kept_tail stream = if stream.session.is_done then Rest false [] else stream.tail
 
 -- How a stream stands whose objects are in a table over a pool.
-abbrev pub standing_in : Between → Cells → View → RefStore → StreamStatus
+abbrev pub standing_in : StreamView → Cells → View → RefStore → StreamStatus
 standing_in stream pool table refs = Runs (stream_in stream pool table refs) (kept_tail stream)
 
 -- What is held of a tenant.
-abbrev pub held_in : Phase → Cells → View → RefStore → TenantState
+abbrev pub held_in : OpenStream → Cells → View → RefStore → TenantState
 held_in phase.Closed pool table refs = Idle (repository_in pool table refs)
 held_in (phase.Running stream) pool table refs = Busy (standing_in stream pool table refs)
 held_in (phase.Dead code) pool table refs = Busy (Refused code (repository_in pool table refs))
@@ -43,13 +43,13 @@ abbrev pub holding_in : Cells → Tenant → TenantState
 holding_in pool tenant = held_in tenant.phase pool tenant.table tenant.refs
 
 -- If no stream runs, all objects are committed.
-abbrev pub IsSettled : Phase → View → Type 0
+abbrev pub IsSettled : OpenStream → View → Type 0
 IsSettled phase.Closed table = table.committed ≡ length table.entries
 IsSettled (phase.Running stream) table = Unit {0}
 IsSettled (phase.Dead code) table = table.committed ≡ length table.entries
 
 -- If a stream runs, the files that it holds of its commits are among these objects.
-abbrev pub HoldsIn : List Object → Phase → Type 0
+abbrev pub HoldsIn : List Object → OpenStream → Type 0
 HoldsIn objects phase.Closed = Unit {0}
 HoldsIn objects (phase.Running stream) = HoldsFiles objects stream.session.state
 HoldsIn objects (phase.Dead code) = Unit {0}
@@ -57,7 +57,7 @@ HoldsIn objects (phase.Dead code) = Unit {0}
 -- A tenant's table stands in the pool. The files that its stream holds are among its objects, and
 -- the first parents that queries met are among the objects of the last checkpoint.
 pub record Stands (digest : List ℕ → List ℕ) (pool : Cells) (tenant : Tenant) : Type 0 where
-  pub entries : StandsIn digest pool tenant.table.entries
+  pub entries : IsBackedBy digest pool tenant.table.entries
   pub settled : IsSettled tenant.phase tenant.table
   pub files : HoldsIn (objects pool tenant.table.entries) tenant.phase
   pub chain : IsFirstParentChain (objects pool (in_sight Committed tenant.table)) tenant.chain
@@ -104,7 +104,8 @@ CountsTenants pool all = (c : Content) → holds_of pool c ≡ tenants_with c al
 
 -- For every tenant there is a state of its own that leads to what is held of it.
 abbrev pub AreLed : (List ℕ → List ℕ) → TenantStates → Type 0
-AreLed digest all = (tenant : List ℕ) → (state : State) × LeadsTo digest state (held_of tenant all)
+AreLed digest all = (tenant : List ℕ) → (state : State) × Represents digest state
+    (held_of tenant all)
 
 -- What is held of every tenant is sound.
 abbrev pub AreSound : (List ℕ → List ℕ) → TenantStates → Type 0

@@ -12,7 +12,7 @@ ghost use Rattle.tenant_service.specs.Copying.{has_nothing, held_refusal};
 ghost use Rattle.tenant_service.specs.Tenants.{holding_in, holdings};
 
 use crate::service::Service;
-use crate::tenant::{Phase, Tenant};
+use crate::tenant::{OpenStream, Tenant};
 use crate::tenants::name_of;
 use git_objects::Naming;
 use indexmap::IndexMap;
@@ -36,7 +36,7 @@ fn refusal_of(tenant: &Tenant) -> Option<ServiceFault>
     ensures { (pool : Cells) → result ≡ held_refusal (holding_in pool tenant.now) }
 {
     match &tenant.phase {
-        Phase::Closed => {
+        OpenStream::Closed => {
             if has_nothing(&tenant.table, &tenant.refs) {
                 None
             } else {

@@ -13,6 +13,6 @@ mod service;
 mod tenant;
 mod tenants;
 
-pub use pool_file_format::{Fault, Refusal, Starting};
+pub use pool_file_format::{Fault, Refusal, StreamingDigest};
 pub use service::Service;
 pub use service_steps::{Answer, Reply, ServiceFault, Step};

@@ -6,12 +6,12 @@ ghost use Rattle.std.specs.Map.{lookup};
 ghost use Rattle.std.specs.Str.{bytes_eq};
 ghost use Rattle.tenant_service.specs.Entries.{entry_of};
 
-use crate::tenant::{Phase, Tenant};
+use crate::tenant::{OpenStream, Tenant};
 use crate::tenants::add_tenant;
 use git_objects::Memory;
 use indexmap::IndexMap;
 use pool_file::Tenant as Loaded;
-use revisions::FirstParentChain;
+use revisions::FirstParentCache;
 use std::alloc::Global;
 use tenant_refs::TenantName;
 
@@ -28,8 +28,8 @@ fn take_in(
     let tenant = Tenant {
         table,
         refs,
-        phase: Phase::Closed,
-        chain: FirstParentChain::new(alloc),
+        phase: OpenStream::Closed,
+        chain: FirstParentCache::new(alloc),
     };
     add_tenant(tenants, name, tenant)
 }

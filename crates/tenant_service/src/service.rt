@@ -31,14 +31,14 @@ ghost use Rattle.tenant_refs.specs.TenantName.{is_tenant_name};
 ghost use Rattle.tenant_service.specs.Alone.{added, Restart, State};
 ghost use Rattle.tenant_service.specs.Copies.{CopiesAs, StoresAs};
 ghost use Rattle.tenant_service.specs.Copying.{HasTaken, IsCopyRun, copy_refusal};
-ghost use Rattle.tenant_service.specs.Headline.{IsIsolated, IsRefused, told_in, told_since, run_of};
-ghost use Rattle.tenant_service.specs.TenantState.{TenantStates, LeadsTo, Idle, empty_repository, held_of};
+ghost use Rattle.tenant_service.specs.Headline.{IsIsolated, IsRefused, response_in, told_since, run_of};
+ghost use Rattle.tenant_service.specs.TenantState.{TenantStates, Represents, Idle, empty_repository, held_of};
 ghost use Rattle.tenant_service.specs.Soundness.{IsSoundTenantState};
-ghost use Rattle.tenant_service.specs.HeldObjects.{held_contents, has_commit, has_read_done as read_done, last_held};
+ghost use Rattle.tenant_service.specs.HeldObjects.{held_contents, has_committed_object, has_read_done as read_done, last_held};
 ghost use Rattle.tenant_service.specs.HeldSteps.{step_held};
 ghost use Rattle.tenant_service.specs.Saved.{saved_of, IsLoadedFrom, LoadsAs, LoadsText, LoadsEach};
 ghost use Rattle.tenant_service.specs.Tenants.{CountsTenants, Shows};
-ghost use Rattle.tenant_tables.specs.StandsIn.{StandsIn};
+ghost use Rattle.tenant_tables.specs.IsBackedBy.{IsBackedBy};
 
 use crate::copying::{copy, copy_refusal};
 use crate::loading::tenants_of;
@@ -49,7 +49,7 @@ use byte_devices::Counted;
 use content_pool::Pool;
 use git_objects::{Memory, Naming};
 use indexmap::IndexMap;
-use pool_file_format::{Fault, Starting};
+use pool_file_format::{Fault, StreamingDigest};
 use service_steps::{Answer, Reply, Step};
 use std::alloc::Global;
 use std::io::{Read, Write};
@@ -98,7 +98,7 @@ impl<N: Naming> Service<N> {
     /// holds of it. This is a fact for proofs: a call does nothing.
     pub fn is_led(&self)
         ensures { (tenant : List ℕ) → (state : State)
-            × LeadsTo N.digest_of state (held_of tenant self.now) }
+            × Represents N.digest_of state (held_of tenant self.now) }
     {
         let _pool = &self.pool;
     }
@@ -162,7 +162,7 @@ impl<N: Naming> Service<N> {
     /// The number of tenants that have an object at their last checkpoint. This is for the
     /// operator. Takes no memory.
     pub fn tenants(&self) -> u64
-        ensures { result ≡ count_by (λ e. has_commit e.1) self.now }
+        ensures { result ≡ count_by (λ e. has_committed_object e.1) self.now }
     {
         count_committed(&self.tenants) as u64
     }
@@ -193,7 +193,7 @@ impl<N: Naming> Service<N> {
         ensures shown { IfSome result (λ lent.
             Shows (held_of tenant.now self.now) lent.0.now lent.1.now lent.2.now) }
         ensures stands { IfSome result (λ lent.
-            StandsIn N.digest_of lent.0.now lent.1.now.entries) }
+            IsBackedBy N.digest_of lent.0.now lent.1.now.entries) }
         ensures pool { IfSome result (λ lent.
             stored_sizes (live_contents lent.0.now) ≡ stored_sizes (held_contents self.now)) }
         ensures counted { IfSome result (λ lent. CountsTenants lent.0.now self.now) }
@@ -226,11 +226,11 @@ impl<N: Naming> Service<N> {
     /// checkpoint, and its stream is dead under 90.
     pub fn step(&mut self, step: Step<'_>, out: &mut Vec<u8>) -> Answer
         ensures own { (tenant : List ℕ) → IsIsolated N.digest_of tenant (held_of tenant self.old)
-            ((step.entry, told_in result out.old.items out.new.items) ∷ [])
+            ((step.entry, response_in result out.old.items out.new.items) ∷ [])
             (held_of tenant self.new) }
         ensures appended { out.new.items
             ≡ out.old.items ++ added out.old.items out.new.items }
-        ensures bad_names { IsRefused (step.entry, told_in result out.old.items out.new.items) }
+        ensures bad_names { IsRefused (step.entry, response_in result out.old.items out.new.items) }
     {
         take_step(self.alloc, &mut self.pool, &mut self.tenants, step, out)
     }
@@ -304,7 +304,7 @@ impl<N: Naming> Service<N> {
     }
 }
 
-impl<N: Starting> Service<N> {
+impl<N: StreamingDigest> Service<N> {
     /// Reads a pool file, in either version, up to the end of the input. Each tenant of the file
     /// then has its repository, and no stream. What the service keeps later comes from `alloc`.
     ///

@@ -4,13 +4,13 @@
 //! table, and leaves the holds of all other tenants as they are.
 
 ghost use Rattle.std.specs.Prelude.{◌≡◌, ℕ, List, length, [], ◌∷◌, Ok, Err, OnOk};
-ghost use Rattle.tenant_tables.specs.StandsIn.{StandsIn, LeavesOthers};
+ghost use Rattle.tenant_tables.specs.IsBackedBy.{IsBackedBy, PreservesOthers};
 ghost use Rattle.content_pool.specs.Pool.{Cells};
 ghost use Rattle.import_session.specs.Held.{FilesStand};
 ghost use Rattle.import_session.specs.Session.{repository_in};
 ghost use Rattle.import_session.specs.Sound.{IsSound};
 ghost use Rattle.tenant_service.specs.Alone.{Open, Feed, End, Ask, Restart};
-ghost use Rattle.tenant_stream.specs.Carrying.{HasAmpleRoom, stream_in};
+ghost use Rattle.tenant_stream.specs.Carrying.{HasAmpleHoldsLeft, stream_in};
 ghost use Rattle.tenant_service.specs.Headline.{stop_told};
 ghost use Rattle.tenant_service.specs.TenantState.{Idle, empty_repository};
 ghost use Rattle.tenant_service.specs.Soundness.{IsSoundTenantState};
@@ -22,12 +22,12 @@ ghost use Rattle.tenant_service.specs.OneStep.{Takes, Fed, refusal_told};
 use answers::{Fault, answer_along};
 use content_pool::Pool;
 use git_objects::Naming;
-use revisions::FirstParentChain;
+use revisions::FirstParentCache;
 use service_steps::{Answer, ServiceFault};
 use std::alloc::Global;
 use std::mem;
 use tenant_refs::Refs;
-use tenant_stream::{Stop, Stream};
+use tenant_stream::{Stream, StreamError};
 use tenant_tables::Table;
 
 // The number of a stream that is dead because memory ran out.
@@ -35,7 +35,7 @@ const OUT_OF_MEMORY: u16 = 90;
 
 /// The phase of a tenant's stream.
 #[derive(Drop)]
-pub enum Phase {
+pub enum OpenStream {
     /// There is no stream.
     Closed,
     /// The stream runs.
@@ -49,8 +49,8 @@ pub enum Phase {
 pub struct Tenant {
     pub table: Table,
     pub refs: Refs,
-    pub phase: Phase,
-    pub chain: FirstParentChain,
+    pub phase: OpenStream,
+    pub chain: FirstParentCache,
 }
 
 /// A tenant without objects, refs and a stream. Takes no memory.
@@ -62,14 +62,14 @@ pub fn new_tenant(alloc: Global) -> Tenant
     Tenant {
         table: Table::new(alloc),
         refs: Refs::new(alloc),
-        phase: Phase::Closed,
-        chain: FirstParentChain::new(alloc),
+        phase: OpenStream::Closed,
+        chain: FirstParentCache::new(alloc),
     }
 }
 
 // Sets the phase of a stream, and drops the old one. This is a function of its own so that the drop
 // has a proof of its own.
-fn set_phase(kept: &mut Phase, phase: Phase)
+fn set_phase(kept: &mut OpenStream, phase: OpenStream)
     ensures { kept.new ≡ phase }
 {
     drop(mem::replace(kept, phase));
@@ -85,8 +85,8 @@ pub fn open<N: Naming>(alloc: Global, pool: &Pool<N>, tenant: &mut Tenant) -> An
         [] [] (holding_in pool.now tenant.new) }
 {
     match &tenant.phase {
-        Phase::Closed => {
-            set_phase(&mut tenant.phase, Phase::Running(Stream::new(alloc)));
+        OpenStream::Closed => {
+            set_phase(&mut tenant.phase, OpenStream::Running(Stream::new(alloc)));
             Answer::Ok
         }
         _ => ServiceFault::StreamIsOpen.answer(),
@@ -94,13 +94,13 @@ pub fn open<N: Naming>(alloc: Global, pool: &Pool<N>, tenant: &mut Tenant) -> An
 }
 
 /// Rolls the tenant back to its last checkpoint, and sets the phase of its stream. Takes no memory.
-pub fn give_up<N: Naming>(pool: &mut Pool<N>, tenant: &mut Tenant, phase: Phase)
-    requires stands { StandsIn N.digest_of pool.old tenant.old.table.entries }
+pub fn give_up<N: Naming>(pool: &mut Pool<N>, tenant: &mut Tenant, phase: OpenStream)
+    requires stands { IsBackedBy N.digest_of pool.old tenant.old.table.entries }
     requires settled { IsSettled tenant.old.phase tenant.old.table }
     ensures phase { tenant.new.phase ≡ phase }
     ensures chain { tenant.new.chain ≡ [] }
-    ensures stands { StandsIn N.digest_of pool.new tenant.new.table.entries }
-    ensures others { LeavesOthers pool.old tenant.old.table.entries
+    ensures stands { IsBackedBy N.digest_of pool.new tenant.new.table.entries }
+    ensures others { PreservesOthers pool.old tenant.old.table.entries
         pool.new tenant.new.table.entries }
     ensures settled { tenant.new.table.committed ≡ length tenant.new.table.entries }
     ensures left { repository_in pool.new tenant.new.table tenant.new.refs
@@ -120,14 +120,14 @@ fn feed_stream<N: Naming>(
     stream: &mut Stream,
     piece: &[u8],
     out: &mut Vec<u8>,
-) -> Result<(), Stop>
-    requires stands { StandsIn N.digest_of pool.old table.old.entries }
-    requires room { HasAmpleRoom pool.old }
+) -> Result<(), StreamError>
+    requires stands { IsBackedBy N.digest_of pool.old table.old.entries }
+    requires room { HasAmpleHoldsLeft pool.old }
     requires held { FilesStand stream.old.session.state pool.old table.old }
     requires sound { IsSound N.digest_of
         (stream_in stream.old pool.old table.old refs.old).workspace }
-    ensures stands { StandsIn N.digest_of pool.new table.new.entries }
-    ensures others { LeavesOthers pool.old table.old.entries pool.new table.new.entries }
+    ensures stands { IsBackedBy N.digest_of pool.new table.new.entries }
+    ensures others { PreservesOthers pool.old table.old.entries pool.new table.new.entries }
     ensures held { OnOk result (FilesStand stream.new.session.state pool.new table.new) }
     ensures fed { Fed N.digest_of
         (stream_in stream.old pool.old table.old refs.old) (kept_tail stream.old) piece.now
@@ -148,19 +148,19 @@ pub fn feed<N: Naming>(
     out: &mut Vec<u8>,
 ) -> Answer
     requires stands { Stands N.digest_of pool.old tenant.old }
-    requires room { HasAmpleRoom pool.old }
+    requires room { HasAmpleHoldsLeft pool.old }
     requires sound { IsSoundTenantState N.digest_of (holding_in pool.old tenant.old) }
     ensures stands { Stands N.digest_of pool.new tenant.new }
-    ensures others { LeavesOthers pool.old tenant.old.table.entries
+    ensures others { PreservesOthers pool.old tenant.old.table.entries
         pool.new tenant.new.table.entries }
     ensures own { Takes
         (step_held N.digest_of (Feed piece.now) (stop_told result) (holding_in pool.old tenant.old))
         result out.old.items out.new.items (holding_in pool.new tenant.new) }
 {
     let fed = match &mut tenant.phase {
-        Phase::Closed => return ServiceFault::NoStream.answer(),
-        Phase::Dead(code) => return Answer::Fault(*code),
-        Phase::Running(stream) => {
+        OpenStream::Closed => return ServiceFault::NoStream.answer(),
+        OpenStream::Dead(code) => return Answer::Fault(*code),
+        OpenStream::Running(stream) => {
             tenant.chain.clear();
             feed_stream(
                 pool,
@@ -174,12 +174,12 @@ pub fn feed<N: Naming>(
     };
     match fed {
         Ok(()) => Answer::Ok,
-        Err(Stop::Fault(code)) => {
-            give_up(pool, tenant, Phase::Dead(code));
+        Err(StreamError::Fault(code)) => {
+            give_up(pool, tenant, OpenStream::Dead(code));
             Answer::Fault(code)
         }
-        Err(Stop::Memory(items)) => {
-            give_up(pool, tenant, Phase::Dead(OUT_OF_MEMORY));
+        Err(StreamError::Memory(items)) => {
+            give_up(pool, tenant, OpenStream::Dead(OUT_OF_MEMORY));
             Answer::Memory(items)
         }
     }
@@ -190,7 +190,7 @@ pub fn has_read_done(tenant: &Tenant) -> bool
     ensures { (pool : Cells) → result ≡ has_read_done (holding_in pool tenant.now) }
 {
     match &tenant.phase {
-        Phase::Running(stream) => stream.is_done(),
+        OpenStream::Running(stream) => stream.is_done(),
         _ => false,
     }
 }
@@ -200,24 +200,24 @@ pub fn has_read_done(tenant: &Tenant) -> bool
 /// A fault of the end, and `Memory(0)` if memory ran out, leave the last checkpoint and no stream.
 pub fn end<N: Naming>(pool: &mut Pool<N>, tenant: &mut Tenant, out: &mut Vec<u8>) -> Answer
     requires stands { Stands N.digest_of pool.old tenant.old }
-    requires room { HasAmpleRoom pool.old }
+    requires room { HasAmpleHoldsLeft pool.old }
     requires sound { IsSoundTenantState N.digest_of (holding_in pool.old tenant.old) }
     ensures stands { Stands N.digest_of pool.new tenant.new }
-    ensures others { LeavesOthers pool.old tenant.old.table.entries
+    ensures others { PreservesOthers pool.old tenant.old.table.entries
         pool.new tenant.new.table.entries }
     ensures own { Takes
         (step_held N.digest_of End (stop_told result) (holding_in pool.old tenant.old)) result
         out.old.items out.new.items (holding_in pool.new tenant.new) }
 {
-    match mem::replace(&mut tenant.phase, Phase::Closed) {
-        Phase::Closed => ServiceFault::NoStream.answer(),
-        Phase::Dead(code) => Answer::Fault(code),
-        Phase::Running(stream) => {
+    match mem::replace(&mut tenant.phase, OpenStream::Closed) {
+        OpenStream::Closed => ServiceFault::NoStream.answer(),
+        OpenStream::Dead(code) => Answer::Fault(code),
+        OpenStream::Running(stream) => {
             tenant.chain.clear();
             match stream.finish(pool, &mut tenant.table, &mut tenant.refs, out) {
                 Ok(()) => Answer::Ok,
-                Err(Stop::Fault(code)) => Answer::Fault(code),
-                Err(Stop::Memory(items)) => Answer::Memory(items),
+                Err(StreamError::Fault(code)) => Answer::Fault(code),
+                Err(StreamError::Memory(items)) => Answer::Memory(items),
             }
         }
     }
@@ -288,10 +288,10 @@ pub fn ask_nobody<N: Naming>(
 pub fn restart<N: Naming>(pool: &mut Pool<N>, tenant: &mut Tenant)
     requires stands { Stands N.digest_of pool.old tenant.old }
     ensures stands { Stands N.digest_of pool.new tenant.new }
-    ensures others { LeavesOthers pool.old tenant.old.table.entries
+    ensures others { PreservesOthers pool.old tenant.old.table.entries
         pool.new tenant.new.table.entries }
     ensures own { holding_in pool.new tenant.new
         ≡ Idle (last_held (holding_in pool.old tenant.old)) }
 {
-    give_up(pool, tenant, Phase::Closed);
+    give_up(pool, tenant, OpenStream::Closed);
 }

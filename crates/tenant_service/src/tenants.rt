@@ -8,7 +8,7 @@ ghost use Rattle.std.specs.Map.{lookup};
 ghost use Rattle.std.specs.Str.{bytes_eq};
 ghost use Rattle.tenant_refs.specs.TenantName.{is_tenant_name as names_tenant};
 ghost use Rattle.tenant_service.specs.Alone.{Open, Feed, End, Ask};
-ghost use Rattle.tenant_stream.specs.Carrying.{HasAmpleRoom};
+ghost use Rattle.tenant_stream.specs.Carrying.{HasAmpleHoldsLeft};
 ghost use Rattle.tenant_service.specs.Tenants.{Accounts, AreSound, holdings, has_committed};
 ghost use Rattle.tenant_service.specs.OneStep.{store, Calls, Serves, Steps, restarted, restarted_at};
 
@@ -23,7 +23,7 @@ use tenant_refs::TenantName;
 // A fact for proofs: no tenant holds a content twice, and there are fewer than 2^63 tenants.
 fn has_room<N: Naming>(pool: &Pool<N>, tenants: &IndexMap<TenantName, Tenant>)
     requires { Accounts N.digest_of pool.now tenants.now.entries }
-    ensures { HasAmpleRoom pool.now }
+    ensures { HasAmpleHoldsLeft pool.now }
 {
     let _few = tenants.len();
 }

@@ -13,7 +13,7 @@ use Rattle.stream_state.specs.declared.fault.Fault.TheVariants as fault
 use Rattle.stream_state.specs.Faults.{code_of}
 use Rattle.import_session.specs.Session.{Takes}
 use Rattle.import_session.specs.Stream.{Running, Step, Outcome, after_reply, carried, going_on, at_tail, last_checkpoint, refused, step}
-use Rattle.tenant_stream.specs.declared.stop.Stop.{Stop}
+use Rattle.tenant_stream.specs.declared.stream_error.StreamError.{StreamError}
 use Rattle.tenant_stream.specs.Stopping.{stop_of, unfed}
 use Rattle.tenant_stream.specs.Carrying.{Advances, ReadsOn, IsRefused, IsDrained, Goes, Ends, Fails, Carries, Feeds}
 
@@ -43,7 +43,7 @@ carried_failed digest now f running = rw running refl
 -- replies in turn
 after_replies : (a b : List ℕ) (o : Outcome) → after_reply a (after_reply b o) ≡ after_reply
     (a ++ b) o
-after_replies a b o = ap (λ r. record { replies = r; standing = o.standing })
+after_replies a b o = ap (λ r. record { replies = r; status = o.status })
     (sym (append_assoc a b o.replies))
 
 -- nothing was done
@@ -347,7 +347,7 @@ unfed_carries digest now tail piece out lex_fault.Limit new running (inr e) =
 
 -- a stream that had not read `done`
 feeds_running : (digest : List ℕ → List ℕ) (b : Bool) (now : Running) (old : Tail)
-    (piece out : List ℕ) (result : Result Unit Stop)
+    (piece out : List ℕ) (result : Result Unit StreamError)
     (next : Running) (new : Tail) (out' : List ℕ) → b ≡ false
     → Carries digest now (extended old piece) out result next new out'
     → Feeds digest b now old piece out result next new out'
@@ -356,13 +356,13 @@ feeds_running digest b now old piece out result next new out' running carries =
     (sym running) carries
 
 pub unfed_feeds : (digest : List ℕ → List ℕ) (now : Running) (tail : Tail) (piece out : List ℕ)
-    (f : LexFault) (stop : Stop) (next : Running)
+    (f : LexFault) (stop : StreamError) (next : Running)
     (new : Tail) → now.is_done ≡ false → (f ≡ lex_fault.Memory) ⊎ (tail ≡ Failed f) → stop ≡ unfed f
     → next ≡ now
     → Feeds digest now.is_done now tail piece out (Err stop) next new out
 unfed_feeds digest now tail piece out f stop next new running why is same =
     feeds_running digest now.is_done now tail piece out (Err stop) next new out running
-    (subst (λ (s : Stop). Carries digest now (extended tail piece) out (Err s) next new out)
+    (subst (λ (s : StreamError). Carries digest now (extended tail piece) out (Err s) next new out)
     (sym is)
     (subst (λ (r : Running). Carries digest now (extended tail piece) out (Err (unfed f)) r new out)
     (sym same)

@@ -12,7 +12,7 @@ use Rattle.stream_state.specs.Faults.{code_of}
 use Rattle.import_session.specs.Workspace.{Workspace, Effect}
 use Rattle.import_session.specs.Session.{CarriesOut}
 use Rattle.import_session.specs.Stream.{Running, Runs, End, ended_well, ended_by, end_left, running_end, finished, session_end, last_checkpoint}
-use Rattle.tenant_stream.specs.declared.stop.Stop.TheVariants as stop
+use Rattle.tenant_stream.specs.declared.stream_error.StreamError.TheVariants as stop
 use Rattle.tenant_stream.specs.Stopping.{stop_of}
 use Rattle.tenant_stream.specs.Carrying.{IsEnd, EndsAs}
 

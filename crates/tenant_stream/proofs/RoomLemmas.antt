@@ -2,21 +2,21 @@
 use Rattle.std.proofs.Common.{◌≡◌, ℕ, ◌≤◌, List, length, take, min, sym, ap, ◌∙◌, arith}
 use Rattle.std.proofs.lemmas.List.{length-take}
 use Rattle.content_pool.specs.Pool.{Cells}
-use Rattle.tenant_tables.specs.Room.{HasRoomBeside}
+use Rattle.tenant_tables.specs.Room.{HasHoldsLeftBeside}
 use Rattle.tenant_tables.specs.View.{View, Entries}
 use Rattle.tenant_tables.specs.Objects.{objects}
 use Rattle.tenant_tables.proofs.RoomLemmas.{room-after}
 use Rattle.tenant_tables.proofs.TableLemmas.{length-objects}
 use Rattle.import_session.specs.Lent.{Keeps}
-use Rattle.tenant_stream.specs.Carrying.{HasAmpleRoom, IsCommitted}
+use Rattle.tenant_stream.specs.Carrying.{HasAmpleHoldsLeft, IsCommitted}
 
 -- what is held far less often than it can be leaves room beside any table
-pub room_beside : (p : Cells) (entries : Entries) → HasAmpleRoom p → HasRoomBeside p entries
+pub room_beside : (p : Cells) (entries : Entries) → HasAmpleHoldsLeft p → HasHoldsLeftBeside p entries
 room_beside p entries ample s = let a = ample s in omega (arith, a)
 
 -- and room is left, however often one table is called
 pub room_left : (digest : List ℕ → List ℕ) (p : Cells) (t : View) (q : Cells) (u : View)
-    → HasAmpleRoom p → Keeps digest p t q u → HasRoomBeside q u.entries
+    → HasAmpleHoldsLeft p → Keeps digest p t q u → HasHoldsLeftBeside q u.entries
 room_left digest p t q u ample keeps =
     room-after p q t.entries u.entries keeps.others (room_beside p t.entries ample)
 

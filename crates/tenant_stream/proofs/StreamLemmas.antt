@@ -9,17 +9,17 @@ use Rattle.tenant_stream.specs.Carrying.{IsDrained, outcome_after}
 
 -- after `done` nothing is carried out
 at_tail-done : (now : Running) (tail : Tail) → now.is_done ≡ true
-    → at_tail now tail ≡ record { replies = []; standing = Runs now (Rest false []) }
+    → at_tail now tail ≡ record { replies = []; status = Runs now (Rest false []) }
 unfolding at_tail
 at_tail-done now tail done =
-    ap (λ (b : Bool). cond b (record { replies = []; standing = Runs now (Rest false []) })
+    ap (λ (b : Bool). cond b (record { replies = []; status = Runs now (Rest false []) })
     (tail_outcome now tail)) done
 
 at_tail-running : (now : Running) (tail : Tail) → now.is_done ≡ false
     → at_tail now tail ≡ tail_outcome now tail
 unfolding at_tail
 at_tail-running now tail running =
-    ap (λ (b : Bool). cond b (record { replies = []; standing = Runs now (Rest false []) })
+    ap (λ (b : Bool). cond b (record { replies = []; status = Runs now (Rest false []) })
     (tail_outcome now tail)) running
 
 step-done : (digest : List ℕ → List ℕ) (now : Running) (item : Item) → now.is_done ≡ true
@@ -31,7 +31,7 @@ step-done digest now item done =
 
 pub carried-done : (digest : List ℕ → List ℕ) (now : Running) (items : List Item) (tail : Tail)
     → now.is_done ≡ true
-    → carried digest now items tail ≡ record { replies = []; standing = Runs now (Rest false []) }
+    → carried digest now items tail ≡ record { replies = []; status = Runs now (Rest false []) }
 unfolding carried
 carried-done digest now [] tail done = at_tail-done now tail done
 carried-done digest now (item ∷ items) tail done =
@@ -66,18 +66,18 @@ outcome-advanced digest now next tail rest piece items replies reads carries =
     ∙ carries (more_of rest []).items (more_of rest []).tail
 
 -- a stream of which all that was whole was carried out stands with what is left
-pub standing-drained : (digest : List ℕ → List ℕ) (next : Running) (rest : Tail)
+pub status-drained : (digest : List ℕ → List ℕ) (next : Running) (rest : Tail)
     → IsDrained next.is_done rest
     → outcome_after digest next rest [] ≡ record {
       replies = [];
-      standing = Runs next
+      status = Runs next
           (cond next.is_done (Rest false []) rest);
     }
-standing-drained digest next rest drained = by next.is_done refl rest drained
+status-drained digest next rest drained = by next.is_done refl rest drained
   where
     by : (b : Bool) → next.is_done ≡ b → (tail : Tail) → IsDrained b tail
         → outcome_after digest next tail [] ≡ record
-        { replies = []; standing = Runs next (cond b (Rest false []) tail) }
+        { replies = []; status = Runs next (cond b (Rest false []) tail) }
     by true done tail drained' = carried-done digest next (more_of tail []).items
         (more_of tail []).tail done
     by false running (Rest skips bytes) none =
@@ -87,8 +87,8 @@ standing-drained digest next rest drained = by next.is_done refl rest drained
     by false running (Failed fault) none = absurd none
 
 -- the replies of two parts
-pub replies-after : (replies : List ℕ) (standing : StreamStatus)
-    → after_reply replies (record { replies = []; standing = standing }) ≡ record
-    { replies = replies; standing = standing }
-replies-after replies standing = ap (λ (all : List ℕ). record
-    { replies = all; standing = standing }) (append-nil replies)
+pub replies-after : (replies : List ℕ) (status : StreamStatus)
+    → after_reply replies (record { replies = []; status = status }) ≡ record
+    { replies = replies; status = status }
+replies-after replies status = ap (λ (all : List ℕ). record
+    { replies = all; status = status }) (append-nil replies)

@@ -6,25 +6,25 @@ use Rattle.content_pool.specs.Pool.{Cells, holds}
 use Rattle.tenant_tables.specs.View.{View}
 use Rattle.stream_lex.specs.Items.{Item, Tail, Rest, after_items}
 use Rattle.stream_lex.specs.Running.{extended, more_of, HasNoItem}
-use Rattle.import_session.specs.Session.{Kept, new_session, running_in}
+use Rattle.import_session.specs.Session.{SessionView, new_session, running_in}
 use Rattle.import_session.specs.Stream.{Running, Runs, Outcome, End, after_reply, carried, finished, last_checkpoint, refused}
-use Rattle.tenant_stream.specs.declared.stop.Stop.{Stop}
-use Rattle.tenant_stream.specs.declared.stop.Stop.TheVariants as stop
+use Rattle.tenant_stream.specs.declared.stream_error.StreamError.{StreamError}
+use Rattle.tenant_stream.specs.declared.stream_error.StreamError.TheVariants as stop
 -- For codes of values that hold a stream: it holds files of commits as branches.
 pub use Rattle.tree_build.specs.ShapeCode.{branch_code}
 
 -- What a stream keeps between two pieces: its session, and the bytes that have not given an item
 -- yet.
-pub record Between : Type 0 where
-  pub session : Kept
+pub record StreamView : Type 0 where
+  pub session : SessionView
   pub tail : Tail
 
 -- Before the first byte.
-abbrev pub new_stream : Between
+abbrev pub new_stream : StreamView
 new_stream = record { session = new_session; tail = Rest false [] }
 
 -- What is kept, as a running stream over the objects of a table in a pool.
-abbrev pub stream_in : Between → Cells → View → RefStore → Running
+abbrev pub stream_in : StreamView → Cells → View → RefStore → Running
 stream_in stream pool table refs = running_in stream.session pool table refs
 
 -- All that a running stream prints, and how it stands, if these bytes come after its tail.
@@ -99,7 +99,8 @@ pub record Stops (digest : List ℕ → List ℕ) (now : Running) (old : Tail) (
   pub counted : length items ≡ count
 
 -- What came of the bytes of a tail, by the answer.
-abbrev pub Carries : (List ℕ → List ℕ) → Running → Tail → List ℕ → Result Unit Stop → Running → Tail
+abbrev pub Carries : (List ℕ → List ℕ) → Running → Tail → List ℕ → Result Unit StreamError
+    → Running → Tail
     → List ℕ → Type 0
 Carries digest now old out (Ok u) next new out' = Goes digest now old out next new out'
 Carries digest now old out (Err (stop.Fault code)) next new out' =
@@ -108,7 +109,7 @@ Carries digest now old out (Err (stop.Memory count)) next new out' =
     Stops digest now old out count next out'
 
 -- Nothing happened to a stream, which had read `done`.
-pub record Stays (now : Running) (old : Tail) (out : List ℕ) (result : Result Unit Stop)
+pub record Stays (now : Running) (old : Tail) (out : List ℕ) (result : Result Unit StreamError)
     (next : Running) (new : Tail) (out' : List ℕ) : Type 0 where
   pub answer : result ≡ Ok tt
   pub running : next ≡ now
@@ -116,7 +117,8 @@ pub record Stays (now : Running) (old : Tail) (out : List ℕ) (result : Result 
   pub printed : out' ≡ out
 
 -- What came of a piece, by the answer. After `done` bytes are ignored.
-abbrev pub Feeds : (List ℕ → List ℕ) → Bool → Running → Tail → List ℕ → List ℕ → Result Unit Stop
+abbrev pub Feeds : (List ℕ → List ℕ) → Bool → Running → Tail → List ℕ → List ℕ
+    → Result Unit StreamError
     → Running → Tail → List ℕ → Type 0
 Feeds digest true now old piece out result next new out' = Stays now old out result next new out'
 Feeds digest false now old piece out result next new out' =
@@ -138,7 +140,8 @@ pub record StopsAtEnd (now : Running) (out : List ℕ) (count : ℕ) (left : Rep
   pub stands : last_checkpoint now.workspace ≡ left
 
 -- How a stream ended, by the answer.
-abbrev pub EndsAs : (List ℕ → List ℕ) → Running → Tail → List ℕ → Result Unit Stop → Repository
+abbrev pub EndsAs : (List ℕ → List ℕ) → Running → Tail → List ℕ → Result Unit StreamError
+    → Repository
     → List ℕ → Type 0
 EndsAs digest now tail out (Ok u) left out' =
     IsEnd (finished digest (Runs now tail)) None out left out'
@@ -152,5 +155,5 @@ abbrev pub IsCommitted : View → Type 0
 IsCommitted table = table.committed ≡ length table.entries
 
 -- Each slot has fewer than 2^63 holds, so it can be held many times more.
-abbrev pub HasAmpleRoom : Cells → Type 0
-HasAmpleRoom pool = (s : ℕ) → holds pool s < 2 ^ 63
+abbrev pub HasAmpleHoldsLeft : Cells → Type 0
+HasAmpleHoldsLeft pool = (s : ℕ) → holds pool s < 2 ^ 63

@@ -6,11 +6,11 @@ use Rattle.stream_state.specs.Faults.{code_of}
 use Rattle.stream_lex.specs.declared.fault.Fault.{Fault as LexFault}
 use Rattle.stream_lex.specs.declared.fault.Fault.TheVariants as lex_fault
 use Rattle.stream_lex.specs.Faults.{code_of as item_code}
-use Rattle.tenant_stream.specs.declared.stop.Stop.{Stop}
-use Rattle.tenant_stream.specs.declared.stop.Stop.TheVariants as stop
+use Rattle.tenant_stream.specs.declared.stream_error.StreamError.{StreamError}
+use Rattle.tenant_stream.specs.declared.stream_error.StreamError.TheVariants as stop
 
 -- The stop of a stream whose next item is refused, after so many items of the call.
-abbrev pub stop_of : Fault → ℕ → Stop
+abbrev pub stop_of : Fault → ℕ → StreamError
 stop_of fault.Memory count = stop.Memory count
 stop_of (fault.Text text) count = stop.Fault (code_of (fault.Text text))
 stop_of fault.DoneMissing count = stop.Fault (code_of fault.DoneMissing)
@@ -27,7 +27,7 @@ stop_of fault.NameCollision count = stop.Fault (code_of fault.NameCollision)
 stop_of fault.Limit count = stop.Fault (code_of fault.Limit)
 
 -- The stop of a stream whose lexer takes no further piece: the lexer had failed, or memory ran out.
-abbrev pub unfed : LexFault → Stop
+abbrev pub unfed : LexFault → StreamError
 unfed lex_fault.Memory = stop.Memory 0
 unfed lex_fault.LineTooLong = stop.Fault (item_code lex_fault.LineTooLong)
 unfed lex_fault.BadData = stop.Fault (item_code lex_fault.BadData)

@@ -5,8 +5,8 @@
 //! holds contents in the pool.
 #![tactic(auto)]
 
-mod stop;
 mod stream;
+mod stream_error;
 
-pub use stop::Stop;
 pub use stream::Stream;
+pub use stream_error::StreamError;

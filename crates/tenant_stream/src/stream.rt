@@ -5,16 +5,16 @@
 //! the item that is not complete, but neither the repository nor the bytes before that.
 
 ghost use Rattle.std.specs.Prelude.{◌≡◌, false, OnErr, OnOk};
-ghost use Rattle.tenant_tables.specs.StandsIn.{StandsIn};
+ghost use Rattle.tenant_tables.specs.IsBackedBy.{IsBackedBy};
 ghost use Rattle.import_session.specs.Lent.{Keeps};
 ghost use Rattle.import_session.specs.Session.{running_in, repository_in, last_in};
 ghost use Rattle.import_session.specs.Held.{FilesStand};
 ghost use Rattle.import_session.specs.Sound.{IsSound, IsSoundRepository};
 ghost use Rattle.tenant_stream.specs.Stopping.{unfed};
-ghost use Rattle.tenant_stream.specs.Carrying.{new_stream, stream_in, Carries, Feeds, EndsAs, HasAmpleRoom, IsCommitted};
+ghost use Rattle.tenant_stream.specs.Carrying.{new_stream, stream_in, Carries, Feeds, EndsAs, HasAmpleHoldsLeft, IsCommitted};
 ghost use Rattle.tenant_stream.specs.Soundness.{LeavesSound};
 
-use crate::stop::{Stop, stop_of};
+use crate::stream_error::{StreamError, stop_of};
 use content_pool::Pool;
 use git_objects::Naming;
 use import_session::Session;
@@ -32,9 +32,9 @@ fn carry<N: Naming>(
     table: &mut Table,
     refs: &mut Refs,
     out: &mut Vec<u8>,
-) -> Result<(), Stop>
-    requires stands { StandsIn N.digest_of pool.old table.old.entries }
-    requires room { HasAmpleRoom pool.old }
+) -> Result<(), StreamError>
+    requires stands { IsBackedBy N.digest_of pool.old table.old.entries }
+    requires room { HasAmpleHoldsLeft pool.old }
     requires held { FilesStand session.old.state pool.old table.old }
     requires running { session.old.is_done ≡ false }
     ensures keeps { Keeps N.digest_of pool.old table.old pool.new table.new }
@@ -58,18 +58,18 @@ fn carry<N: Naming>(
                 count += 1;
             }
             Ok(None) => return Ok(()),
-            Err(fault) => return Err(Stop::Fault(fault.code())),
+            Err(fault) => return Err(StreamError::Fault(fault.code())),
         }
     }
 }
 
 // The stop of a stream whose lexer takes no further piece.
-fn unfed(fault: Fault) -> Stop
+fn unfed(fault: Fault) -> StreamError
     ensures { result ≡ unfed fault }
 {
     match fault {
-        Fault::Memory => Stop::Memory(0),
-        _ => Stop::Fault(fault.code()),
+        Fault::Memory => StreamError::Memory(0),
+        _ => StreamError::Fault(fault.code()),
     }
 }
 
@@ -81,9 +81,9 @@ fn end<N: Naming>(
     table: &mut Table,
     refs: &mut Refs,
     out: &mut Vec<u8>,
-) -> Result<(), Stop>
-    requires stands { StandsIn N.digest_of pool.old table.old.entries }
-    requires room { HasAmpleRoom pool.old }
+) -> Result<(), StreamError>
+    requires stands { IsBackedBy N.digest_of pool.old table.old.entries }
+    requires room { HasAmpleHoldsLeft pool.old }
     requires held { FilesStand session.old.state pool.old table.old }
     ensures keeps { Keeps N.digest_of pool.old table.old pool.new table.new }
     ensures ended { let now = running_in session.old pool.old table.old refs.old in
@@ -96,7 +96,7 @@ fn end<N: Naming>(
         return Ok(());
     }
     if let Err(fault) = lexer.end() {
-        return Err(Stop::Fault(fault.code()));
+        return Err(StreamError::Fault(fault.code()));
     }
     if let Err(fault) = session.finish(pool, table, refs, out) {
         return Err(stop_of(fault, 0));
@@ -112,10 +112,10 @@ pub struct Stream {
 }
 
 impl Model for Stream {
-    ghost use Rattle.tenant_stream.specs.Carrying.{Between, branch_code};
+    ghost use Rattle.tenant_stream.specs.Carrying.{StreamView, branch_code};
     ghost use Rattle.std.specs.Coded.{codes};
 
-    ghost Value = { Between };
+    ghost Value = { StreamView };
 
     ghost coded = { Prim.hlevel (codes, branch_code) };
 
@@ -143,11 +143,11 @@ impl Stream {
     /// Takes the next piece, carries out the items that it completes, and appends what they print
     /// to `out`: git-fast-import(1), "Input Format".
     ///
-    /// `Stop::Fault`: the bytes, the text of an item, or its meaning are refused under this number.
-    /// `Stop::Memory(k)` (90): memory ran out after k whole items of this call, which took effect.
-    /// In both cases `out` has the replies of the items before the stop, the objects and refs of the
-    /// last checkpoint are unchanged, and only `abandon` may follow. After `done` nothing is read,
-    /// and no memory is taken.
+    /// `StreamError::Fault`: the bytes, the text of an item, or its meaning are refused under this
+    /// number. `StreamError::Memory(k)` (90): memory ran out after k whole items of this call,
+    /// which took effect. In both cases `out` has the replies of the items before the stop, the
+    /// objects and refs of the last checkpoint are unchanged, and only `abandon` may follow. After
+    /// `done` nothing is read, and no memory is taken.
     pub fn feed<N: Naming>(
         &mut self,
         pool: &mut Pool<N>,
@@ -155,9 +155,9 @@ impl Stream {
         refs: &mut Refs,
         piece: &[u8],
         out: &mut Vec<u8>,
-    ) -> Result<(), Stop>
-        requires stands { StandsIn N.digest_of pool.old table.old.entries }
-        requires room { HasAmpleRoom pool.old }
+    ) -> Result<(), StreamError>
+        requires stands { IsBackedBy N.digest_of pool.old table.old.entries }
+        requires room { HasAmpleHoldsLeft pool.old }
         requires held { FilesStand self.old.session.state pool.old table.old }
         ensures keeps { Keeps N.digest_of pool.old table.old pool.new table.new }
         ensures held { OnOk result (FilesStand self.new.session.state pool.new table.new) }
@@ -181,19 +181,19 @@ impl Stream {
     /// Ends the stream, which is a checkpoint unless `done` was read before. What it prints is
     /// appended to `out`.
     ///
-    /// `Stop::Fault`: a line or a data is cut off (6), a part of a command (5) or `done` (7) is
-    /// missing, the open commit cannot be stored (24, 25), or there would be too many refs (25).
-    /// `Stop::Memory(0)` (90): memory ran out. In both cases `out` is unchanged. In every case the
-    /// table has the objects of the last checkpoint, and all of them are committed.
+    /// `StreamError::Fault`: a line or a data is cut off (6), a part of a command (5) or `done` (7)
+    /// is missing, the open commit cannot be stored (24, 25), or there would be too many refs (25).
+    /// `StreamError::Memory(0)` (90): memory ran out. In both cases `out` is unchanged. In every
+    /// case the table has the objects of the last checkpoint, and all of them are committed.
     pub fn finish<N: Naming>(
         self,
         pool: &mut Pool<N>,
         table: &mut Table,
         refs: &mut Refs,
         out: &mut Vec<u8>,
-    ) -> Result<(), Stop>
-        requires stands { StandsIn N.digest_of pool.old table.old.entries }
-        requires room { HasAmpleRoom pool.old }
+    ) -> Result<(), StreamError>
+        requires stands { IsBackedBy N.digest_of pool.old table.old.entries }
+        requires room { HasAmpleHoldsLeft pool.old }
         requires held { FilesStand self.session.state pool.old table.old }
         ensures keeps { Keeps N.digest_of pool.old table.old pool.new table.new }
         ensures ended { let now = stream_in self pool.old table.old refs.old in
@@ -215,7 +215,7 @@ impl Stream {
     /// Gives the stream up: rolls its table back to the last checkpoint. The refs stay as they are.
     /// Takes no memory.
     pub fn abandon<N: Naming>(self, pool: &mut Pool<N>, table: &mut Table, refs: &mut Refs)
-        requires stands { StandsIn N.digest_of pool.old table.old.entries }
+        requires stands { IsBackedBy N.digest_of pool.old table.old.entries }
         ensures keeps { Keeps N.digest_of pool.old table.old pool.new table.new }
         ensures refs { refs.new ≡ refs.old }
         ensures left { repository_in pool.new table.new refs.new

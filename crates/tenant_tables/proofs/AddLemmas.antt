@@ -23,11 +23,11 @@ use Rattle.tenant_tables.specs.declared.summary.Summary.{Summary}
 use Rattle.tenant_tables.specs.View.{View, Entries, entry_named, slot_of, summary_of, held}
 use Rattle.git_model.specs.Repository.{Object, object_named}
 use Rattle.tenant_tables.specs.Objects.{objects}
-use Rattle.tenant_tables.specs.StandsIn.{StandsIn, LeavesOthers}
+use Rattle.tenant_tables.specs.IsBackedBy.{IsBackedBy, PreservesOthers}
 use Rattle.tenant_tables.specs.Trees.{SummedAfter, IsSummed}
 use Rattle.tenant_tables.specs.Adding.{store_fault, PushesAt, Adds}
 use Rattle.tenant_tables.proofs.HoldLemmas.{object_named-objects, objects-kept, held-at}
-use Rattle.tenant_tables.proofs.TableLemmas.{StandsIn-put, LeavesOthers-put, Keeps-put}
+use Rattle.tenant_tables.proofs.TableLemmas.{IsBackedBy-put, PreservesOthers-put, Keeps-put}
 use Rattle.tenant_tables.proofs.SummaryLemmas.{SummedAfter-same}
 use Rattle.tenant_tables.proofs.IndexLemmas.{entry_named-push, later}
 
@@ -68,7 +68,7 @@ found_held id es e h =
 
 -- the slot that is found is live
 pub found_live : (digest : List ℕ → List ℕ) (p : Cells) (id : List ℕ) (es : Entries) (s : ℕ)
-    → StandsIn digest p es → Some s ≡ slot_of id es → IsLive p s
+    → IsBackedBy digest p es → Some s ≡ slot_of id es → IsLive p s
 found_live digest p id es s stands h =
     let at = found_entry id es s h in
     let n = stands.counted at.0.slot in
@@ -202,20 +202,20 @@ summary_of-push q es id e none =
 
 pub record Pushed (digest : List ℕ → List ℕ) (c : Content) (summary : Option Summary) (p : Cells)
     (old : View) (q : Cells) (new : View) : Type 0 where
-  pub stands : StandsIn digest q new.entries
-  pub others : LeavesOthers p old.entries q new.entries
+  pub stands : IsBackedBy digest q new.entries
+  pub others : PreservesOthers p old.entries q new.entries
   pub adds : Adds digest c summary p old q new
 
 pub pushed : (digest : List ℕ → List ℕ) (id : List ℕ) (c : Content) (summary : Option Summary)
     (p : Cells) (old : View) (q : Cells) (new : View) (slot : ℕ)
     → PushesAt id c summary p old q new slot → id ≡ name_by digest c
-    → entry_named id old.entries ≡ None → StandsIn digest p old.entries
+    → entry_named id old.entries ≡ None → IsBackedBy digest p old.entries
     → SummedAfter old.entries c summary → length c.bytes ≤ CONTENTS_LIMIT
     → Pushed digest c summary p old q new
 pushed digest id c summary p old q new slot h named none stands summed within = record {
   stands =
-      rw is (StandsIn-put digest p q old.entries id added c stands h.puts named none summed within);
-  others = rw is (LeavesOthers-put p q old.entries id added c h.puts);
+      rw is (IsBackedBy-put digest p q old.entries id added c stands h.puts named none summed within);
+  others = rw is (PreservesOthers-put p q old.entries id added c h.puts);
   adds = record {
     objects =
         rw (is, ← named) (objects-push q old.entries id added ∙ same
@@ -289,7 +289,7 @@ pub found_adds : (digest : List ℕ → List ℕ) (id : List ℕ) (c : Content) 
     (p : Cells) (old : View) (there : Option Bool)
     → there ≡ option_map (same_content c) (object_named id (objects p old.entries))
     → unwrap_or there false ≡ true → id ≡ name_by digest c
-    → StandsIn digest p old.entries → SummedAfter old.entries c summary
+    → IsBackedBy digest p old.entries → SummedAfter old.entries c summary
     → Adds digest c summary p old p old
 unfolding entry_named IsSummed
 found_adds digest id c summary p old there is found named stands summed = record {

@@ -11,7 +11,7 @@ use Rattle.tenant_tables.specs.declared.sight.Sight.{Sight}
 use Rattle.tenant_tables.specs.declared.sight.Sight.TheVariants as sight
 use Rattle.tenant_tables.specs.View.{View, Entries, names, entry_named, slot_of, in_sight}
 use Rattle.tenant_tables.specs.Objects.{objects}
-use Rattle.tenant_tables.specs.StandsIn.{StandsIn}
+use Rattle.tenant_tables.specs.IsBackedBy.{IsBackedBy}
 use Rattle.tenant_tables.proofs.AddLemmas.{found_live}
 use Rattle.tenant_tables.proofs.EntryLemmas.{lookup-take}
 use Rattle.tenant_tables.proofs.TableLemmas.{length-objects}
@@ -33,7 +33,7 @@ among_all n id es s h =
 -- the slot of an object in sight is live
 pub slot_live : (digest : List ℕ → List ℕ) (p : Cells) (look : Sight) (table : View) (id : List ℕ)
     (s : ℕ)
-    → StandsIn digest p table.entries → Some s ≡ slot_of id (in_sight look table) → IsLive p s
+    → IsBackedBy digest p table.entries → Some s ≡ slot_of id (in_sight look table) → IsLive p s
 slot_live digest p sight.All table id s stands h = found_live digest p id table.entries s stands h
 slot_live digest p sight.Committed table id s stands h =
     found_live digest p id table.entries s stands (among_all table.committed id table.entries s h)

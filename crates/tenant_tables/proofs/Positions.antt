@@ -15,7 +15,7 @@ use Rattle.tenant_tables.specs.declared.sight.Sight.{Sight}
 use Rattle.tenant_tables.specs.declared.sight.Sight.TheVariants as sight
 use Rattle.tenant_tables.specs.View.{View, Entries, names, in_sight}
 use Rattle.tenant_tables.specs.Objects.{objects}
-use Rattle.tenant_tables.specs.StandsIn.{StandsIn}
+use Rattle.tenant_tables.specs.IsBackedBy.{IsBackedBy}
 use Rattle.tenant_tables.proofs.EntryLemmas.{position-found}
 use Rattle.tenant_tables.proofs.HoldLemmas.{held-at}
 use Rattle.tenant_tables.proofs.TableLemmas.{length-objects}
@@ -134,7 +134,7 @@ entry_told (Some x) id slot h =
     (x.1, λ i. Some (name i, x.1), sym (ap (λ (r : List ℕ × ℕ). r.1) e))
 
 pub told_live : (digest : List ℕ → List ℕ) (p : Cells) (es : Entries) (i : ℕ) (id : List ℕ) (slot : ℕ)
-    → StandsIn digest p es → Some (id, slot) ≡ option_map told (slice_get es i) → IsLive p slot
+    → IsBackedBy digest p es → Some (id, slot) ≡ option_map told (slice_get es i) → IsLive p slot
 told_live digest p es i id slot stands h =
     let at = entry_told (slice_get es i) id slot h in
     let n = stands.counted at.0.slot in

@@ -13,7 +13,7 @@ use Rattle.tenant_tables.specs.declared.entry.Entry.{Entry}
 use Rattle.tenant_tables.specs.declared.table.TheConstants.{CONTENTS_LIMIT}
 use Rattle.tenant_tables.specs.View.{Entries, entry_named, held}
 use Rattle.tenant_tables.specs.Objects.{objects}
-use Rattle.tenant_tables.specs.StandsIn.{StandsIn, LeavesOthers, AreCounted}
+use Rattle.tenant_tables.specs.IsBackedBy.{IsBackedBy, PreservesOthers, AreCounted}
 use Rattle.tenant_tables.specs.Trees.{SummedAfter}
 use Rattle.tenant_tables.proofs.HoldLemmas.{Keeps, IsNamed, IsShort, short-kept, held-push, held-nil, held-absent, objects-kept, named-kept}
 use Rattle.tenant_tables.proofs.SummaryLemmas.{IsSummed-nil, IsSummed-kept, IsSummed-prefix, IsSummed-push}
@@ -26,8 +26,8 @@ All-front P xs x h k d within =
 
 -- ---- an empty table
 
-pub StandsIn-nil : (digest : List ℕ → List ℕ) (p : Cells) → StandsIn digest p []
-StandsIn-nil digest p = record {
+pub IsBackedBy-nil : (digest : List ℕ → List ℕ) (p : Cells) → IsBackedBy digest p []
+IsBackedBy-nil digest p = record {
   named = All-nil (IsNamed digest p);
   short = All-nil (IsShort p);
   once = λ s. rw (held-nil s) (omega arith);
@@ -38,10 +38,10 @@ StandsIn-nil digest p = record {
 -- ---- a pool that changed under a table
 
 -- entries stand where they stood, if their slots keep their contents and are still counted
-pub StandsIn-kept : (digest : List ℕ → List ℕ) (p q : Cells) (es : Entries) → StandsIn digest p es
+pub IsBackedBy-kept : (digest : List ℕ → List ℕ) (p q : Cells) (es : Entries) → IsBackedBy digest p es
     → Keeps p q es
-    → ((s : ℕ) → held es s ≤ holds q s) → StandsIn digest q es
-StandsIn-kept digest p q es h k counted = record {
+    → ((s : ℕ) → held es s ≤ holds q s) → IsBackedBy digest q es
+IsBackedBy-kept digest p q es h k counted = record {
   named = named-kept digest p q es k h.named;
   short = short-kept p q es k h.short;
   once = h.once;
@@ -74,12 +74,12 @@ Keeps-release p q slot es h counted =
 
 -- ---- one entry more
 
-pub StandsIn-put : (digest : List ℕ → List ℕ) (p q : Cells) (es : Entries) (id : List ℕ) (e : Entry)
+pub IsBackedBy-put : (digest : List ℕ → List ℕ) (p q : Cells) (es : Entries) (id : List ℕ) (e : Entry)
     (c : Content)
-    → StandsIn digest p es → Puts p q e.slot c → id ≡ name_by digest c → entry_named id es ≡ None
+    → IsBackedBy digest p es → Puts p q e.slot c → id ≡ name_by digest c → entry_named id es ≡ None
     → SummedAfter es c e.summary → length c.bytes ≤ CONTENTS_LIMIT
-    → StandsIn digest q (es ++ (id, e) ∷ [])
-StandsIn-put digest p q es id e c h puts named none summed within =
+    → IsBackedBy digest q (es ++ (id, e) ∷ [])
+IsBackedBy-put digest p q es id e c h puts named none summed within =
     let k = Keeps-put p q e.slot c es puts h.counted in record {
       named =
           All-push (IsNamed digest q) es (id, e) (named-kept digest p q es k h.named)
@@ -124,10 +124,10 @@ StandsIn-put digest p q es id e c h puts named none summed within =
               let m = puts.others s other in rw (held-push es id e s) (grind (arith, nat_tests, n, m))
         ]
 
-pub LeavesOthers-put : (p q : Cells) (es : Entries) (id : List ℕ) (e : Entry) (c : Content)
+pub PreservesOthers-put : (p q : Cells) (es : Entries) (id : List ℕ) (e : Entry) (c : Content)
     → Puts p q e.slot c
-    → LeavesOthers p es q (es ++ (id, e) ∷ [])
-LeavesOthers-put p q es id e c puts = record { rest = rest; kept = kept }
+    → PreservesOthers p es q (es ++ (id, e) ∷ [])
+PreservesOthers-put p q es id e c puts = record { rest = rest; kept = kept }
   where
     rest : (s : ℕ) → holds q s + held es s ≡ holds p s + held (es ++ (id, e) ∷ []) s
     rest s =
@@ -147,10 +147,10 @@ LeavesOthers-put p q es id e c puts = record { rest = rest; kept = kept }
 
 -- ---- one entry less
 
-pub StandsIn-release : (digest : List ℕ → List ℕ) (p q : Cells) (es : Entries) (id : List ℕ)
+pub IsBackedBy-release : (digest : List ℕ → List ℕ) (p q : Cells) (es : Entries) (id : List ℕ)
     (e : Entry)
-    → StandsIn digest p (es ++ (id, e) ∷ []) → Releases p q e.slot → StandsIn digest q es
-StandsIn-release digest p q es id e h releases =
+    → IsBackedBy digest p (es ++ (id, e) ∷ []) → Releases p q e.slot → IsBackedBy digest q es
+IsBackedBy-release digest p q es id e h releases =
     let k = Keeps-release p q e.slot es releases counted in record {
       named = named-kept digest p q es k (All-front (IsNamed digest p) es (id, e) h.named);
       short = short-kept p q es k (All-front (IsShort p) es (id, e) h.short);
@@ -168,10 +168,10 @@ StandsIn-release digest p q es id e h releases =
           | inr other ↦ let r = releases.others s other in grind (arith, nat_tests, n, m, r)
         ]
 
-pub LeavesOthers-release : (p q : Cells) (es : Entries) (id : List ℕ) (e : Entry)
+pub PreservesOthers-release : (p q : Cells) (es : Entries) (id : List ℕ) (e : Entry)
     → Releases p q e.slot
-    → LeavesOthers p (es ++ (id, e) ∷ []) q es
-LeavesOthers-release p q es id e releases = record { rest = rest; kept = kept }
+    → PreservesOthers p (es ++ (id, e) ∷ []) q es
+PreservesOthers-release p q es id e releases = record { rest = rest; kept = kept }
   where
     rest : (s : ℕ) → holds q s + held (es ++ (id, e) ∷ []) s ≡ holds p s + held es s
     rest s =
@@ -187,39 +187,39 @@ LeavesOthers-release p q es id e releases = record { rest = rest; kept = kept }
 
 -- ---- calls one after another
 
-pub LeavesOthers-refl : (p : Cells) (es : Entries) → LeavesOthers p es p es
-LeavesOthers-refl p es = record { rest = λ s. refl; kept = λ s more. refl }
+pub PreservesOthers-refl : (p : Cells) (es : Entries) → PreservesOthers p es p es
+PreservesOthers-refl p es = record { rest = λ s. refl; kept = λ s more. refl }
 
-pub LeavesOthers-then : (p q r : Cells) (es fs gs : Entries) → LeavesOthers p es q fs
-    → LeavesOthers q fs r gs → LeavesOthers p es r gs
-LeavesOthers-then p q r es fs gs first second = record {
+pub PreservesOthers-then : (p q r : Cells) (es fs gs : Entries) → PreservesOthers p es q fs
+    → PreservesOthers q fs r gs → PreservesOthers p es r gs
+PreservesOthers-then p q r es fs gs first second = record {
   rest = λ s. let a = first.rest s in let b = second.rest s in omega arith;
   kept = λ s more. let a = first.rest s in second.kept s (omega arith) ∙ first.kept s more;
 }
 
 -- ---- what another table sees of it
 
-others_keep : (p q : Cells) (es fs os : Entries) → AreCounted p es os → LeavesOthers p es q fs
+others_keep : (p q : Cells) (es fs os : Entries) → AreCounted p es os → PreservesOthers p es q fs
     → Keeps p q os
 others_keep p q es fs os counted leaves =
     record { contents = λ s some. leaves.kept s (let n = counted.sum s in omega arith) }
 
-pub other_objects : (p q : Cells) (es fs os : Entries) → AreCounted p es os → LeavesOthers p es q fs
+pub other_objects : (p q : Cells) (es fs os : Entries) → AreCounted p es os → PreservesOthers p es q fs
     → objects q os ≡ objects p os
 other_objects p q es fs os counted leaves =
     objects-kept p q os (others_keep p q es fs os counted leaves)
 
-pub other_counted : (p q : Cells) (es fs os : Entries) → AreCounted p es os → LeavesOthers p es q fs
+pub other_counted : (p q : Cells) (es fs os : Entries) → AreCounted p es os → PreservesOthers p es q fs
     → AreCounted q fs os
 other_counted p q es fs os counted leaves =
     record { sum = λ s. let n = counted.sum s in let r = leaves.rest s in omega arith }
 
 pub other_stands : (digest : List ℕ → List ℕ) (p q : Cells) (es fs os : Entries)
-    → StandsIn digest p os → AreCounted p es os
-    → LeavesOthers p es q fs → StandsIn digest q os
+    → IsBackedBy digest p os → AreCounted p es os
+    → PreservesOthers p es q fs → IsBackedBy digest q os
 other_stands digest p q es fs os stands counted leaves =
     let still = other_counted p q es fs os counted leaves in
-    StandsIn-kept digest p q os stands (others_keep p q es fs os counted leaves)
+    IsBackedBy-kept digest p q os stands (others_keep p q es fs os counted leaves)
     (λ s. let n = still.sum s in omega arith)
 
 -- ---- the last entry of a table
@@ -227,7 +227,7 @@ other_stands digest p q es fs os stands counted leaves =
 -- its slot is live
 pub last_live : (digest : List ℕ → List ℕ) (p : Cells) (es fs : Entries) (id : List ℕ) (e : Entry)
     → es ≡ fs ++ (id, e) ∷ []
-    → StandsIn digest p es → IsLive p e.slot
+    → IsBackedBy digest p es → IsLive p e.slot
 last_live digest p es fs id e is h =
     let n = h.counted e.slot in
     let m : held es e.slot ≡ held fs e.slot + cond (e.slot == e.slot) 1 0 = rw is (held-push fs id e e.slot) in
@@ -237,10 +237,10 @@ last_live digest p es fs id e is h =
 pub last_given_up : (digest : List ℕ → List ℕ) (p q : Cells) (es fs : Entries) (id : List ℕ)
     (e : Entry)
     → es ≡ fs ++ (id, e) ∷ []
-    → StandsIn digest p es → Releases p q e.slot → StandsIn digest q fs × LeavesOthers p es q fs
+    → IsBackedBy digest p es → Releases p q e.slot → IsBackedBy digest q fs × PreservesOthers p es q fs
 last_given_up digest p q es fs id e is h releases = (
-  StandsIn-release digest p q fs id e (rw is at h) releases,
-  rw is (LeavesOthers-release p q fs id e releases),
+  IsBackedBy-release digest p q fs id e (rw is at h) releases,
+  rw is (PreservesOthers-release p q fs id e releases),
 )
 
 -- and they are all but the last
@@ -262,7 +262,7 @@ objects-take p n es =
 pub last_objects : (digest : List ℕ → List ℕ) (p q : Cells) (es fs : Entries) (id : List ℕ)
     (e : Entry)
     → es ≡ fs ++ (id, e) ∷ []
-    → StandsIn digest p es → Releases p q e.slot
+    → IsBackedBy digest p es → Releases p q e.slot
     → objects q fs ≡ take (length es - 1) (objects p es)
 last_objects digest p q es fs id e is h releases =
     objects-kept p q fs

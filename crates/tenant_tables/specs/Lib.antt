@@ -2,7 +2,7 @@
 pub mod Fault
 pub mod View
 pub mod Objects
-pub mod StandsIn
+pub mod IsBackedBy
 pub mod Lent
 pub mod Room
 pub mod Adding

@@ -4,5 +4,5 @@ use Rattle.content_pool.specs.Pool.{Cells, holds}
 use Rattle.tenant_tables.specs.View.{Entries, held}
 
 -- The others hold each content fewer than 2^64 - 2 times, so this table can hold it once.
-abbrev pub HasRoomBeside : Cells → Entries → Type 0
-HasRoomBeside pool entries = (s : ℕ) → holds pool s < held entries s + (2 ^ 64 - 2)
+abbrev pub HasHoldsLeftBeside : Cells → Entries → Type 0
+HasHoldsLeftBeside pool entries = (s : ℕ) → holds pool s < held entries s + (2 ^ 64 - 2)

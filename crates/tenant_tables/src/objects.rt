@@ -10,7 +10,7 @@ ghost use Rattle.git_model.specs.Content.{content_from};
 ghost use Rattle.git_model.specs.Repository.{object_named};
 ghost use Rattle.tenant_tables.specs.Abbreviation.{found_among};
 ghost use Rattle.tenant_tables.specs.Objects.{objects};
-ghost use Rattle.tenant_tables.specs.StandsIn.{StandsIn};
+ghost use Rattle.tenant_tables.specs.IsBackedBy.{IsBackedBy};
 ghost use Rattle.tenant_tables.specs.View.{in_sight, slot_of};
 
 use crate::{Found, Sight, Table};
@@ -40,21 +40,21 @@ impl<'a, N: Naming> Model for Objects<'a, N> {
     ghost use Rattle.std.specs.Prelude.{List};
     ghost use Rattle.git_model.specs.Repository.{Object};
     ghost use Rattle.tenant_tables.specs.Objects.{objects};
-    ghost use Rattle.tenant_tables.specs.StandsIn.{StandsIn};
+    ghost use Rattle.tenant_tables.specs.IsBackedBy.{IsBackedBy};
     ghost use Rattle.tenant_tables.specs.View.{in_sight};
 
     ghost Value = { List Object };
 
     ghost view = { λ o. objects o.pool.now (in_sight o.sight o.table.now) };
 
-    ghost invariant = { λ o. StandsIn N.digest_of o.pool.now o.table.now.entries };
+    ghost invariant = { λ o. IsBackedBy N.digest_of o.pool.now o.table.now.entries };
 }
 
 impl<'a, N: Naming> Objects<'a, N> {
     /// The objects of this table that are in sight. The pool must be the one that holds the
     /// contents of the table. Takes no memory.
     pub fn of(pool: &'a Pool<N>, table: &'a Table, sight: Sight) -> Objects<'a, N>
-        requires { StandsIn N.digest_of pool.now table.now.entries }
+        requires { IsBackedBy N.digest_of pool.now table.now.entries }
         ensures { result ≡ objects pool.now (in_sight sight table.now) }
     {
         Objects { pool, table, sight }

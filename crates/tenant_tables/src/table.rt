@@ -7,12 +7,12 @@ ghost use Rattle.std.specs.Str.{bytes_eq};
 ghost use Rattle.git_model.specs.Limits.{contents_limit, objects_limit};
 ghost use Rattle.git_model.specs.ObjectName.{object_name};
 ghost use Rattle.git_model.specs.Content.{content_from, name_by};
-ghost use Rattle.content_pool.specs.Pool.{HasRoom, IsLive, content};
+ghost use Rattle.content_pool.specs.Pool.{HasHoldsLeft, IsLive, content};
 ghost use Rattle.tenant_tables.specs.View.{names, entry_named, slot_of, summary_of, in_sight};
 ghost use Rattle.git_model.specs.Content.{same_content};
 ghost use Rattle.git_model.specs.Repository.{object_named};
 ghost use Rattle.tenant_tables.specs.Objects.{objects};
-ghost use Rattle.tenant_tables.specs.StandsIn.{StandsIn, LeavesOthers};
+ghost use Rattle.tenant_tables.specs.IsBackedBy.{IsBackedBy, PreservesOthers};
 ghost use Rattle.tenant_tables.specs.Adding.{Answers, store_fault, Adds, Pushes, PushesAt};
 ghost use Rattle.tenant_tables.specs.Trees.{FitsTree, SummedAfter};
 ghost use Rattle.tenant_tables.specs.Abbreviation.{found_among};
@@ -185,11 +185,11 @@ impl Table {
         kind: Kind,
         bytes: &[u8],
     ) -> Result<Name, Fault>
-        requires stands { StandsIn N.digest_of pool.old self.old.entries }
-        requires room { HasRoom pool.old }
+        requires stands { IsBackedBy N.digest_of pool.old self.old.entries }
+        requires room { HasHoldsLeft pool.old }
         requires no_tree { kind ≢ Kind.Tree }
-        ensures stands { StandsIn N.digest_of pool.new self.new.entries }
-        ensures others { LeavesOthers pool.old self.old.entries pool.new self.new.entries }
+        ensures stands { IsBackedBy N.digest_of pool.new self.new.entries }
+        ensures others { PreservesOthers pool.old self.old.entries pool.new self.new.entries }
         ensures answer { let c = content_from kind bytes.now in let id = name_by N.digest_of c in
             Answers result id (store_fault id c (objects pool.old self.old.entries)) }
         ensures ok { OnOk result (Adds N.digest_of
@@ -210,11 +210,11 @@ impl Table {
         bytes: &[u8],
         summary: Summary,
     ) -> Result<Name, Fault>
-        requires stands { StandsIn N.digest_of pool.old self.old.entries }
-        requires room { HasRoom pool.old }
+        requires stands { IsBackedBy N.digest_of pool.old self.old.entries }
+        requires room { HasHoldsLeft pool.old }
         requires tree { FitsTree self.old.entries bytes.now summary }
-        ensures stands { StandsIn N.digest_of pool.new self.new.entries }
-        ensures others { LeavesOthers pool.old self.old.entries pool.new self.new.entries }
+        ensures stands { IsBackedBy N.digest_of pool.new self.new.entries }
+        ensures others { PreservesOthers pool.old self.old.entries pool.new self.new.entries }
         ensures answer { let c = content_from Kind.Tree bytes.now in
             let id = name_by N.digest_of c in
             Answers result id (store_fault id c (objects pool.old self.old.entries)) }
@@ -233,11 +233,11 @@ impl Table {
         bytes: &[u8],
         summary: Option<Summary>,
     ) -> Result<Name, Fault>
-        requires stands { StandsIn N.digest_of pool.old self.old.entries }
-        requires room { HasRoom pool.old }
+        requires stands { IsBackedBy N.digest_of pool.old self.old.entries }
+        requires room { HasHoldsLeft pool.old }
         requires summed { SummedAfter self.old.entries (content_from kind bytes.now) summary }
-        ensures stands { StandsIn N.digest_of pool.new self.new.entries }
-        ensures others { LeavesOthers pool.old self.old.entries pool.new self.new.entries }
+        ensures stands { IsBackedBy N.digest_of pool.new self.new.entries }
+        ensures others { PreservesOthers pool.old self.old.entries pool.new self.new.entries }
         ensures answer { let c = content_from kind bytes.now in let id = name_by N.digest_of c in
             Answers result id (store_fault id c (objects pool.old self.old.entries)) }
         ensures ok { OnOk result (Adds N.digest_of
@@ -270,7 +270,7 @@ impl Table {
         kind: Kind,
         bytes: &[u8],
     ) -> Option<bool>
-        requires { StandsIn N.digest_of pool.now self.now.entries }
+        requires { IsBackedBy N.digest_of pool.now self.now.entries }
         ensures { result ≡ option_map (same_content (content_from kind bytes.now))
             (object_named id.now (objects pool.now self.now.entries)) }
     {
@@ -298,7 +298,7 @@ impl Table {
         requires named { id ≡ object_name N.digest_of kind bytes.now }
         requires new { entry_named id self.old.entries ≡ None }
         requires spare { length self.old.entries < objects_limit }
-        requires room { HasRoom pool.old }
+        requires room { HasHoldsLeft pool.old }
         ensures ok { OnOk result (Pushes id
             (content_from kind bytes.now) summary pool.old self.old pool.new self.new) }
         ensures err { OnErr result ((self.new ≡ self.old) × (pool.new ≡ pool.old)) }
@@ -331,16 +331,16 @@ impl Table {
         slot: Slot,
         summary: Option<Summary>,
     ) -> Result<(), Memory>
-        requires stands { StandsIn N.digest_of pool.old self.old.entries }
-        requires room { HasRoom pool.old }
+        requires stands { IsBackedBy N.digest_of pool.old self.old.entries }
+        requires room { HasHoldsLeft pool.old }
         requires live { IsLive pool.old slot }
         requires named { id ≡ name_by N.digest_of (content pool.old slot) }
         requires new { entry_named id self.old.entries ≡ None }
         requires spare { length self.old.entries < objects_limit }
         requires summed { SummedAfter self.old.entries (content pool.old slot) summary }
         requires short { length (content pool.old slot).bytes ≤ contents_limit }
-        ensures stands { StandsIn N.digest_of pool.new self.new.entries }
-        ensures others { LeavesOthers pool.old self.old.entries pool.new self.new.entries }
+        ensures stands { IsBackedBy N.digest_of pool.new self.new.entries }
+        ensures others { PreservesOthers pool.old self.old.entries pool.new self.new.entries }
         ensures ok { OnOk result (Adds N.digest_of (content pool.old slot) summary
             pool.old self.old pool.new self.new) }
         ensures err { OnErr result ((self.new ≡ self.old) × (pool.new ≡ pool.old)) }
@@ -356,7 +356,7 @@ impl Table {
         slot: Slot,
         summary: Option<Summary>,
     ) -> Result<(), Memory>
-        requires room { HasRoom pool.old }
+        requires room { HasHoldsLeft pool.old }
         requires live { IsLive pool.old slot }
         requires new { entry_named id self.old.entries ≡ None }
         requires spare { length self.old.entries < objects_limit }
@@ -384,9 +384,9 @@ impl Table {
     /// What another table holds stays in the pool. The pool must be the one that holds the contents
     /// of the table.
     pub fn roll_back<N: Naming>(&mut self, pool: &mut Pool<N>)
-        requires stands { StandsIn N.digest_of pool.old self.old.entries }
-        ensures stands { StandsIn N.digest_of pool.new self.new.entries }
-        ensures others { LeavesOthers pool.old self.old.entries pool.new self.new.entries }
+        requires stands { IsBackedBy N.digest_of pool.old self.old.entries }
+        ensures stands { IsBackedBy N.digest_of pool.new self.new.entries }
+        ensures others { PreservesOthers pool.old self.old.entries pool.new self.new.entries }
         ensures entries { self.new
             ≡ record self.old { entries = take self.old.committed self.old.entries } }
         ensures objects { objects pool.new self.new.entries
@@ -400,10 +400,10 @@ impl Table {
 
     // Removes the last object and releases its slot.
     fn give_up_last<N: Naming>(&mut self, pool: &mut Pool<N>)
-        requires stands { StandsIn N.digest_of pool.old self.old.entries }
+        requires stands { IsBackedBy N.digest_of pool.old self.old.entries }
         requires open { self.old.committed < length self.old.entries }
-        ensures stands { StandsIn N.digest_of pool.new self.new.entries }
-        ensures others { LeavesOthers pool.old self.old.entries pool.new self.new.entries }
+        ensures stands { IsBackedBy N.digest_of pool.new self.new.entries }
+        ensures others { PreservesOthers pool.old self.old.entries pool.new self.new.entries }
         ensures entries { self.new ≡ record self.old {
           entries = take
               (length self.old.entries - 1) self.old.entries;

@@ -6,7 +6,7 @@ use Rattle.git_model.specs.Tree.{TreeEntry, tree_contents}
 use Rattle.content_pool.specs.Pool.{Cells}
 use Rattle.tenant_tables.specs.View.{View}
 use Rattle.tenant_tables.specs.Objects.{objects}
-use Rattle.tenant_tables.specs.StandsIn.{StandsIn}
+use Rattle.tenant_tables.specs.IsBackedBy.{IsBackedBy}
 use Rattle.tenant_tables.specs.Trees.{IsTreeOf, FitsTree, tree_summary}
 use Rattle.tenant_tables.specs.declared.summary.Summary.{Summary}
 use Rattle.file_maps.specs.declared.fault.Fault.{Fault}
@@ -28,7 +28,7 @@ use Rattle.tree_build.proofs.Held.{spread-parts, are-parts, have-parts}
 files-small : (fs : Listed) → AreStorable fs → IsSmall (files_summary fs)
 files-small fs h = record { files = h.few; depth = depth-bound fs h.each; longest = longest-bound fs h.each }
 
-module _ (digest : List ℕ → List ℕ) (p : Cells) (u : View) (stands : StandsIn digest p u.entries) (s : Shape)
+module _ (digest : List ℕ → List ℕ) (p : Cells) (u : View) (stands : IsBackedBy digest p u.entries) (s : Shape)
     (sound : IsShape (objects p u.entries) s) (named : AreNamed s)
     (storable : AreStorable (shape_files (stored_files (objects p u.entries)) s)) where
   fs : Listed

@@ -18,7 +18,7 @@ use Rattle.file_maps.specs.FileMap.{Listed}
 use Rattle.file_maps.specs.Edits.{moved}
 use Rattle.file_maps.specs.StoredFiles.{stored_files}
 use Rattle.tree_build.specs.Shape.{What, file, unopened, opened, Shape, none, row, Held, Known, what_files, shape_files, held_files}
-use Rattle.tree_build.specs.Branch.{slash_after, key_of, StandsBefore, IsBeforeAll, IsRow, IsShape}
+use Rattle.tree_build.specs.Branch.{slash_after, key_of, IsNodeBefore, IsBeforeAll, IsRow, IsShape}
 use Rattle.tree_build.specs.Editing.{child, removed, inserted, changed}
 use Rattle.tree_build.proofs.Look.{is_bytes, not_bytes}
 use Rattle.tree_build.proofs.Growing.{length_moved}
@@ -128,7 +128,7 @@ equal_keys c w d v ic id is =
 
 -- of two entries of distinct names one stands before the other
 other_way : (c : List ℕ) (w : What) (d : List ℕ) (v : What) → IsEntryName c → IsEntryName d → d ≢ c
-    → is_lt (cmp (key_of c w) (key_of d v)) ≡ false → StandsBefore d v c w
+    → is_lt (cmp (key_of c w) (key_of d v)) ≡ false → IsNodeBefore d v c w
 other_way c w d v ic id ne nay = record {
   names = ne;
   order = by (cmp (key_of c w) (key_of d v)) refl;
@@ -155,7 +155,7 @@ before_before c w d v less (row e u inside rest) h fresh =
       before_before c w d v less rest h.1 later,
     ))
 
-before_inserted : (d : List ℕ) (v : What) (c : List ℕ) (h : Held) → StandsBefore d v c h.what
+before_inserted : (d : List ℕ) (v : What) (c : List ℕ) (h : Held) → IsNodeBefore d v c h.what
     → (s : Shape) → IsBeforeAll d v s → IsBeforeAll d v (inserted c h s)
 before_inserted d v c h one none k = (one, tt)
 before_inserted d v c h one (row e u inside rest) k =

@@ -9,7 +9,7 @@ use Rattle.content_pool.specs.Pool.{Cells}
 use Rattle.tenant_tables.specs.declared.fault.Fault.{Fault as TableFault}
 use Rattle.tenant_tables.specs.View.{View, Entries, summary_of}
 use Rattle.tenant_tables.specs.Objects.{objects}
-use Rattle.tenant_tables.specs.StandsIn.{StandsIn}
+use Rattle.tenant_tables.specs.IsBackedBy.{IsBackedBy}
 use Rattle.tenant_tables.specs.Trees.{IsTreeOf}
 use Rattle.tenant_tables.specs.Adding.{store_fault}
 use Rattle.file_maps.specs.declared.entry.Entry.{Entry}
@@ -30,7 +30,7 @@ use Rattle.tree_build.specs.Rows.{IsPart, a_file, a_directory, HaveParts}
 use Rattle.tree_build.proofs.Spread.{grouped-spread}
 use Rattle.tree_build.proofs.Rows.{lists-parts, no_file}
 
-module _ (digest : List ℕ → List ℕ) (pool : Cells) (entries : Entries) (stands : StandsIn digest pool entries) where
+module _ (digest : List ℕ → List ℕ) (pool : Cells) (entries : Entries) (stands : IsBackedBy digest pool entries) where
   abbrev os : List Object
   os = objects pool entries
 

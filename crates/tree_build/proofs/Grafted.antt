@@ -12,7 +12,7 @@ use Rattle.content_pool.specs.Pool.{Cells}
 use Rattle.tenant_tables.specs.declared.summary.Summary.{Summary}
 use Rattle.tenant_tables.specs.View.{Entries, summary_of}
 use Rattle.tenant_tables.specs.Objects.{objects}
-use Rattle.tenant_tables.specs.StandsIn.{StandsIn}
+use Rattle.tenant_tables.specs.IsBackedBy.{IsBackedBy}
 use Rattle.file_maps.specs.FileMap.{Path, Listed, FileMap, AreFiles, listed, is_apart}
 use Rattle.file_maps.specs.Edits.{moved, with_files, put_tree_at, put_fault}
 use Rattle.file_maps.specs.Grafts.{is_small}
@@ -78,7 +78,7 @@ few_files top (f ∷ fs) h =
     (both_true (is_small s) (fits_below top s) (sym (stand-some top f fs) ∙ h)).0).0).0
 
 module _ (digest : List ℕ → List ℕ) (pool : Cells) (entries : Entries)
-    (stands : StandsIn digest pool entries) where
+    (stands : IsBackedBy digest pool entries) where
   abbrev os : List Object
   os = objects pool entries
 

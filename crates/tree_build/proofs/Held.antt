@@ -5,14 +5,14 @@ use Rattle.git_model.specs.Repository.{Object}
 use Rattle.content_pool.specs.Pool.{Cells}
 use Rattle.tenant_tables.specs.View.{View}
 use Rattle.tenant_tables.specs.Objects.{objects}
-use Rattle.tenant_tables.specs.StandsIn.{StandsIn}
+use Rattle.tenant_tables.specs.IsBackedBy.{IsBackedBy}
 use Rattle.file_maps.specs.FileMap.{Listed}
 use Rattle.file_maps.specs.Edits.{moved}
 use Rattle.file_maps.specs.Trees.{Groups, grouped, file_of, depth_of, nested_trees, unless_file}
 use Rattle.file_maps.specs.Storable.{AreStorable}
 use Rattle.file_maps.specs.StoredTree.{ListsTree}
 use Rattle.file_maps.specs.StoredFiles.{stored_files}
-use Rattle.file_maps.specs.Storing.{AddsTrees, HasRoomBeside, trees_fault}
+use Rattle.file_maps.specs.Storing.{AddsTrees, HasHoldsLeftBeside, trees_fault}
 use Rattle.file_maps.proofs.Apart.{all-weaker}
 use Rattle.file_maps.proofs.Fits.{IsGroup, groups-are}
 use Rattle.file_maps.proofs.StandingGood.{trees-good}
@@ -108,8 +108,8 @@ storable-parts parts are h =
 
 -- ---- stored trees
 
-module _ (digest : List ℕ → List ℕ) (p : Cells) (v : View) (stands : StandsIn digest p v.entries)
-    (room : HasRoomBeside p v.entries) where
+module _ (digest : List ℕ → List ℕ) (p : Cells) (v : View) (stands : IsBackedBy digest p v.entries)
+    (room : HasHoldsLeftBeside p v.entries) where
   -- the trees of the files of a stored tree
   pub adds-stored : (id : List ℕ) (fs : Listed) → ListsTree (objects p v.entries) id fs
       → AddsTrees digest p v p v (nested_trees digest fs)

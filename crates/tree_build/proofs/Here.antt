@@ -8,7 +8,7 @@ use Rattle.git_paths.proofs.Cases.{some_is}
 use Rattle.content_pool.specs.Pool.{Cells}
 use Rattle.tenant_tables.specs.View.{Entries}
 use Rattle.tenant_tables.specs.Objects.{objects}
-use Rattle.tenant_tables.specs.StandsIn.{StandsIn}
+use Rattle.tenant_tables.specs.IsBackedBy.{IsBackedBy}
 use Rattle.file_maps.specs.declared.entry.Entry.{Entry}
 use Rattle.file_maps.specs.FileMap.{Listed}
 use Rattle.file_maps.specs.Trees.{Groups, file_of, tree_id, entry_or, direct}
@@ -36,7 +36,7 @@ named-here digest fs id e some none name is =
     ∙ ap (λ (n : List ℕ). Some (record { mode = mode.Directory; name = n })) name
     ∙ sym (stands-here digest fs some none)
 
-module _ (digest : List ℕ → List ℕ) (pool : Cells) (entries : Entries) (stands : StandsIn digest pool entries) where
+module _ (digest : List ℕ → List ℕ) (pool : Cells) (entries : Entries) (stands : IsBackedBy digest pool entries) where
   abbrev k : Known
   k = stored_files (objects pool entries)
 

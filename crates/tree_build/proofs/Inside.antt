@@ -5,14 +5,14 @@ use Rattle.git_model.specs.Tree.{TreeEntry}
 use Rattle.content_pool.specs.Pool.{Cells}
 use Rattle.tenant_tables.specs.View.{View}
 use Rattle.tenant_tables.specs.Objects.{objects}
-use Rattle.tenant_tables.specs.StandsIn.{StandsIn}
+use Rattle.tenant_tables.specs.IsBackedBy.{IsBackedBy}
 use Rattle.file_maps.specs.declared.fault.Fault.{Fault}
 use Rattle.file_maps.specs.FileMap.{Listed}
 use Rattle.file_maps.specs.Edits.{moved}
 use Rattle.file_maps.specs.Trees.{Groups, file_of, tree_name, tree_id, tree_entries, nested_trees}
 use Rattle.file_maps.specs.StoredFiles.{stored_files}
 use Rattle.file_maps.specs.StoredTree.{ListsTree}
-use Rattle.file_maps.specs.Storing.{StoresTrees, AddsSome, HasRoomBeside}
+use Rattle.file_maps.specs.Storing.{StoresTrees, AddsSome, HasHoldsLeftBeside}
 use Rattle.file_maps.proofs.StandingGood.{trees-good}
 use Rattle.file_maps.proofs.Stored.{adds-none, some-then}
 use Rattle.file_maps.proofs.Turns.{stores-last}
@@ -65,7 +65,7 @@ module _ (os after : List Object) (grows : Grows os after) (s new : Shape) (soun
 module _ (digest : List ℕ → List ℕ) (p q : Cells) (u v : View) (s new : Shape)
     (sound : IsShape (objects p u.entries) s) (grows : Grows (objects p u.entries) (objects q v.entries))
     (same : bare new ≡ bare s) (after : IsShape (objects q v.entries) new) (named : AreNamed new)
-    (stands : StandsIn digest q v.entries) where
+    (stands : IsBackedBy digest q v.entries) where
   rows-are : map (entry_of digest) (parts_of (stored_files (objects p u.entries)) s) ≡ entries_of_shape new
   rows-are =
       ap (map (entry_of digest)) (sym (parts-stay (objects p u.entries) (objects q v.entries) grows s new sound same))
@@ -96,7 +96,7 @@ module _ (digest : List ℕ → List ℕ) (p q : Cells) (u v : View) (s new : Sh
 
 -- a refusal inside
 pub refused-inside : (digest : List ℕ → List ℕ) (p q : Cells) (u v : View) (s : Shape)
-    → IsShape (objects p u.entries) s → StandsIn digest p u.entries → HasRoomBeside p u.entries
+    → IsShape (objects p u.entries) s → IsBackedBy digest p u.entries → HasHoldsLeftBeside p u.entries
     → (e : Fault) → AddsSome digest p u q v (trees_of_parts digest (parts_of (stored_files (objects p u.entries)) s)) e
     → AddsSome digest p u q v (nested_trees digest (shape_files (stored_files (objects p u.entries)) s)) e
 refused-inside digest p q u v s sound stands room e h =
@@ -107,7 +107,7 @@ refused-inside digest p q u v s sound stands room e h =
 
 -- a directory that has its name already
 pub stores-known : (digest : List ℕ → List ℕ) (p : Cells) (u : View) (id : List ℕ) (fs : Listed)
-    → StandsIn digest p u.entries → HasRoomBeside p u.entries → ListsTree (objects p u.entries) id fs
+    → IsBackedBy digest p u.entries → HasHoldsLeftBeside p u.entries → ListsTree (objects p u.entries) id fs
     → StoresTrees (Ok id) digest p u p u (nested_trees digest fs) (tree_id digest fs)
 stores-known digest p u id fs stands room t =
     let adds = adds-stored digest p u stands room id fs t in

@@ -40,3 +40,4 @@ pub mod Taken
 pub mod NoLonger
 pub mod Moves
 pub mod Moved
+pub mod OneWalk

@@ -9,7 +9,7 @@ use Rattle.git_model.specs.Repository.{Object}
 use Rattle.tenant_tables.specs.declared.summary.Summary.{Summary}
 use Rattle.tenant_tables.specs.View.{Entries}
 use Rattle.tenant_tables.specs.Objects.{objects}
-use Rattle.tenant_tables.specs.StandsIn.{StandsIn}
+use Rattle.tenant_tables.specs.IsBackedBy.{IsBackedBy}
 use Rattle.file_maps.specs.FileMap.{Path, Listed, FileMap, AreFiles, listed}
 use Rattle.file_maps.specs.Edits.{cut, files_at, moved, put_tree_at}
 use Rattle.file_maps.specs.Storable.{files_summary}
@@ -40,7 +40,7 @@ here os h s = by h.what s.0
         (dir-below os (opened tree) h.inside k tt)
 
 module _ (digest : List ℕ → List ℕ) (pool : Cells) (entries : Entries)
-    (stands : StandsIn digest pool entries)
+    (stands : IsBackedBy digest pool entries)
     (b : Branch) (branch : IsBranch (objects pool entries) b) (path : Path)
     (shut : closed_from b.root path ≡ 0)
     (m : FileMap) (same : files_in (objects pool entries) b ≡ m) (from : Path)

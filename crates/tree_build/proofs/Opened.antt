@@ -14,7 +14,7 @@ use Rattle.git_model.specs.Tree.{TreeEntry, IsEntryName, CanWriteEntry, order_ke
 use Rattle.content_pool.specs.Pool.{Cells}
 use Rattle.tenant_tables.specs.View.{Entries}
 use Rattle.tenant_tables.specs.Objects.{objects}
-use Rattle.tenant_tables.specs.StandsIn.{StandsIn}
+use Rattle.tenant_tables.specs.IsBackedBy.{IsBackedBy}
 use Rattle.file_maps.specs.declared.entry.Entry.{Entry}
 use Rattle.file_maps.specs.FileMap.{Listed}
 use Rattle.file_maps.specs.Edits.{moved}
@@ -29,7 +29,7 @@ use Rattle.file_maps.proofs.StoredTable.{stored-listed}
 use Rattle.file_maps.proofs.Standing.{tree-placed, tree-lists}
 use Rattle.tree_build.specs.declared.dir.Node.{Node}
 use Rattle.tree_build.specs.Shape.{What, file, Shape, none, Held, Directory, what_files, shape_files}
-use Rattle.tree_build.specs.Branch.{slash_after, key_of, StandsBefore, IsBeforeAll, IsWhat, IsShape}
+use Rattle.tree_build.specs.Branch.{slash_after, key_of, IsNodeBefore, IsBeforeAll, IsWhat, IsShape}
 use Rattle.tree_build.specs.Nodes.{held, with_row, shape_of}
 use Rattle.tree_build.specs.Opened.{what_by, entry_held, tree_shape, row_of, tree_row, IsOpening}
 use Rattle.tree_build.proofs.Beside.{equal_keys}
@@ -74,7 +74,7 @@ key_by : (e : TreeEntry) → key_of e.name (entry_held e).what ≡ order_key e
 key_by e = ap (λ (s : List ℕ). e.name ++ s) (slash_by e.mode e.id (record { mode = e.mode; name = e.id }))
 
 not_later : (c d : List ℕ) (w v : What) → IsEntryName c → IsEntryName d → c ≢ d
-    → slice_cmp nat_cmp (key_of c w) (key_of d v) ≢ Greater → StandsBefore c w d v
+    → slice_cmp nat_cmp (key_of c w) (key_of d v) ≢ Greater → IsNodeBefore c w d v
 not_later c d w v ic id ne h = record { names = ne; order = by (slice_cmp nat_cmp (key_of c w) (key_of d v)) refl }
   where
     by : (r : Ordering) → slice_cmp nat_cmp (key_of c w) (key_of d v) ≡ r → slice_cmp nat_cmp (key_of c w) (key_of d v) ≡ Less
@@ -98,7 +98,7 @@ rows_before e c (d ∷ es) ne up cs = (
 -- ---- what is listed
 
 module _ (digest : List ℕ → List ℕ) (pool : Cells) (entries : Entries)
-    (stands : StandsIn digest pool entries) where
+    (stands : IsBackedBy digest pool entries) where
   abbrev os : List Object
   os = objects pool entries
 

@@ -21,7 +21,7 @@ use Rattle.file_maps.proofs.Listing.{IsSound, tree-sound, all-append}
 use Rattle.file_maps.proofs.ListedOrder.{key-falls, tree-in-order, listed-with}
 use Rattle.file_maps.proofs.Rising.{Bytes, below, mark}
 use Rattle.tree_build.specs.Shape.{What, file, unopened, opened, Shape, none, row, Held, what_files, shape_files, held_files}
-use Rattle.tree_build.specs.Branch.{Branch, root_files, files_in, slash_after, StandsBefore, IsBeforeAll, IsWhat, IsRow, IsShape, IsHeld}
+use Rattle.tree_build.specs.Branch.{Branch, root_files, files_in, slash_after, IsNodeBefore, IsBeforeAll, IsWhat, IsRow, IsShape, IsHeld}
 
 -- ---- lists of files, one after another
 
@@ -107,7 +107,7 @@ module _ (os : List Object) where
   marked (opened tree) inside h = marks (shape_files known inside) (shape_below inside)
 
   before : (c : Bytes) (w : What) (p : Path) (d : Bytes) (v : What) (inside : Listed) → mark p ≡ slash_after w
-      → StandsBefore c w d v → IsRow os c w inside → (g : Path × Entry) → mark g.0 ≡ slash_after v
+      → IsNodeBefore c w d v → IsRow os c w inside → (g : Path × Entry) → mark g.0 ≡ slash_after v
       → (others : Listed) → IsRow os d v others
       → below (joined (c ∷ p)) (joined (d ∷ g.0))
   before c w p d v inside m s r g n others t =

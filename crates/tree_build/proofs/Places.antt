@@ -13,7 +13,7 @@ use Rattle.file_maps.specs.Storable.{AreStorable}
 use Rattle.file_maps.specs.StoredFiles.{stored_files}
 use Rattle.tree_build.specs.declared.dir.Node.{Node}
 use Rattle.tree_build.specs.Shape.{What, file, unopened, opened, Shape, none, row, Held, Known, shape_files, held_files}
-use Rattle.tree_build.specs.Branch.{slash_after, key_of, StandsBefore, IsRow, IsBeforeAll, IsShape, IsHeld}
+use Rattle.tree_build.specs.Branch.{slash_after, key_of, IsNodeBefore, IsRow, IsBeforeAll, IsShape, IsHeld}
 use Rattle.tree_build.specs.ShapeCode.{shape_size}
 use Rattle.tree_build.specs.Nodes.{held, shape_of}
 use Rattle.tree_build.specs.Stores.{unnamed, bare, bare_held, parts_of, entry_of_what, entries_of_shape, IsNamed, AreNamed}
@@ -71,7 +71,7 @@ slash-same v w is = sym (own v) ∙ ap slash_after is ∙ own w
     own (opened tree) = refl
 
 stands-same : (c : List ℕ) (v : What) (d : List ℕ) (x y : What) → unnamed x ≡ unnamed y
-    → StandsBefore c v d y → StandsBefore c v d x
+    → IsNodeBefore c v d y → IsNodeBefore c v d x
 stands-same c v d x y is h = record {
   names = h.names;
   order = subst (λ (s : List ℕ). slice_cmp nat_cmp (key_of c v) (d ++ s) ≡ Less) (sym (slash-same x y is)) h.order;
@@ -105,7 +105,7 @@ before-set : (c : List ℕ) (w : What) (es : Entries) (i : ℕ) (x : List ℕ ×
 before-set c w [] i x y lt at is h = absurd (omega arith)
 before-set c w (e ∷ es) zero x y lt at is h = (
   stands-same c w x.0 (held y).what (held x.1).what (ap (λ (z : Held). z.what) is)
-      (subst (λ (z : List ℕ × Node). StandsBefore c w z.0 (held z.1).what) (sym at) h.0),
+      (subst (λ (z : List ℕ × Node). IsNodeBefore c w z.0 (held z.1).what) (sym at) h.0),
   h.1,
 )
 before-set c w (e ∷ es) (suc i) x y lt at is h =

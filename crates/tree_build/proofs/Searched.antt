@@ -2,13 +2,14 @@
 use Rattle.std.proofs.Common.{◌≡◌, ◌≢◌, ℕ, zero, suc, ◌-◌, ◌<◌, ◌≤◌, Bool, true, false, cond, not, List, [], ◌∷◌, ◌++◌, refl, sym, ap, ◌∙◌, subst, arith}
 use Rattle.std.proofs.lemmas.Bool.{true≢false, ltb-true, ltb-false, lt-ltb, le-ltb}
 use Rattle.std.proofs.lemmas.Cmp.{tied_itself}
-use Rattle.std.proofs.lemmas.List.{get_or_default}
+use Rattle.std.proofs.lemmas.List.{get_or_default, append-nil}
 use Rattle.std.proofs.lemmas.List.Sums.{prefix_len_is}
 use Rattle.std.proofs.lemmas.Slice.Eq.{bytes_eq-Decides}
 use Rattle.std.specs.Cmp.Lexicographic.{slice_cmp, nat_list_cmp_total}
 use Rattle.std.specs.List.{remove, position, position_or_len}
 use Rattle.std.specs.List.Sorted.{IsPartitionedBy}
-use Rattle.std.specs.Ordering.{nat_cmp, is_lt, ordering_reverse}
+use Rattle.std.specs.Cmp.{nat_cmp_total}
+use Rattle.std.specs.Ordering.{nat_cmp, is_lt, ordering_reverse, ordering_then}
 use Rattle.std.specs.Prelude.{Option, None, Some, MatchOption, length, slice_index_or, slice_set, nat_lt}
 use Rattle.std.specs.Str.{bytes_eq}
 use Rattle.std.specs.declared.cmp.Ordering.{Ordering}
@@ -17,10 +18,10 @@ use Rattle.git_model.specs.Repository.{Object}
 use Rattle.git_paths.proofs.Cases.{by_cases}
 use Rattle.tree_build.specs.declared.dir.Node.{Node}
 use Rattle.tree_build.specs.Shape.{What, file, unopened, opened, Shape, none, row, Held}
-use Rattle.tree_build.specs.Branch.{slash_after, key_of, StandsBefore, IsBeforeAll, IsShape, IsHeld}
+use Rattle.tree_build.specs.Branch.{slash_after, key_of, IsNodeBefore, IsBeforeAll, IsShape, IsHeld}
 use Rattle.tree_build.specs.Editing.{child, removed, inserted, changed}
 use Rattle.tree_build.specs.Nodes.{held, shape_of, has_name}
-use Rattle.tree_build.specs.Searches.{AreOrdered, is_after, IsPlaceAfter, HasNone}
+use Rattle.tree_build.specs.Searches.{AreOrdered, is_after, IsPlaceAfter, IsNotLast, HasNone}
 use Rattle.tree_build.proofs.Entries.{one_held}
 use Rattle.tree_build.proofs.Look.{is_bytes, not_bytes}
 use Rattle.tree_build.proofs.Named.{Rows}
@@ -60,13 +61,13 @@ ordered_at (e ∷ es) (suc at) y is within h = ordered_at es at y is (omega arit
 -- ---- two entries of a directory
 
 before_at : (c : List ℕ) (w : What) (es : Rows) → IsBeforeAll c w (shape_of es) → (j : ℕ) (d : List ℕ × Node) → j < length es
-    → StandsBefore c w (slice_index_or es j d).0 (held (slice_index_or es j d).1).what
+    → IsNodeBefore c w (slice_index_or es j d).0 (held (slice_index_or es j d).1).what
 before_at c w [] h j d lt = absurd (omega arith)
 before_at c w (e ∷ es) h zero d lt = h.0
 before_at c w (e ∷ es) h (suc j) d lt = before_at c w es h.1 j d (omega arith)
 
 pub pair_at : (es : Rows) → AreOrdered (shape_of es) → (i j : ℕ) (d : List ℕ × Node) → i < j → j < length es
-    → StandsBefore (slice_index_or es i d).0 (held (slice_index_or es i d).1).what (slice_index_or es j d).0 (held (slice_index_or es j d).1).what
+    → IsNodeBefore (slice_index_or es i d).0 (held (slice_index_or es i d).1).what (slice_index_or es j d).0 (held (slice_index_or es j d).1).what
 pair_at [] h i j d lt within = absurd (omega arith)
 pair_at (e ∷ es) h i zero d lt within = absurd (omega arith)
 pair_at (e ∷ es) h zero (suc j) d lt within = before_at e.0 (held e.1).what es h.0 j d (omega arith)
@@ -138,6 +139,38 @@ none_named c slash es h next bound point other m d within is end =
     let no = point.1 m d (ltb-false m next after) within in
     absurd (true≢false (sym (ap not tied) ∙ no)))
 
+-- ---- the last entry
+
+-- where the last entry does not come after a key, none does
+pub past_all : (key : List ℕ) (es : Rows) → AreOrdered (shape_of es) → (y : List ℕ × Node)
+    → y ≡ slice_index_or es (length es - 1) y → 0 < length es → not (is_after key y) ≡ true
+    → IsPlaceAfter key es (length es)
+past_all key es h y is some last = (
+  λ k d low lt.
+      parted key es h k (length es - 1) d (omega arith) (omega arith)
+      (ap (λ (e : List ℕ × Node). not (is_after key e)) (sym (is ∙ get_or_default es (length es - 1) y d (omega arith))) ∙ last),
+  λ k d low lt. absurd (omega arith),
+)
+
+longer : (c : List ℕ) (b : ℕ) → cmp c (c ++ b ∷ []) ≡ Less
+longer [] b = refl
+longer (x ∷ c) b =
+    ap (λ (o : Ordering). ordering_then o (cmp c (c ++ b ∷ []))) (tied_itself nat_cmp_total x) ∙ longer c b
+
+-- where no entry comes after a file of a name, none comes after a directory of it
+file_first : (c : List ℕ) (es : Rows) → IsPlaceAfter (c ++ []) es (length es)
+    → IsPlaceAfter (c ++ 47 ∷ []) es (length es)
+file_first c es point = (
+  λ k d low lt.
+      by_cases (is_after (c ++ 47 ∷ []) (slice_index_or es k d))
+      (λ yea.
+      let far = nat_list_cmp_total.trans c (c ++ 47 ∷ []) (key_at (slice_index_or es k d)) (longer c 47) (less _ yea) in
+      let no = ap (λ (x : List ℕ). not (is_after x (slice_index_or es k d))) (sym (append-nil c)) ∙ point.0 k d low lt in
+      absurd (true≢false (sym no ∙ ap (λ (o : Ordering). not (is_lt o)) far)))
+      (λ nay. ap not nay),
+  λ k d low lt. absurd (omega arith),
+)
+
 pub another : (es : Rows) (at : ℕ) (y : List ℕ × Node) → y ≡ slice_index_or es at y → (c : List ℕ) → at < length es → (y.0 ≡ c → ⊥)
     → (d : List ℕ × Node) → (slice_index_or es at d).0 ≢ c
 another es at y is c within other d =
@@ -164,6 +197,14 @@ nowhere c (e ∷ es) h k =
     neither (file x) a b = b refl
     neither (unopened id) a b = a refl
     neither (opened tree) a b = a refl
+
+-- where the last entry has another name, and none comes after a file of this name
+pub none_past : (c : List ℕ) (es : Rows) → AreOrdered (shape_of es) → IsNotLast c es
+    → IsPlaceAfter (c ++ []) es (length es) → position (has_name c) es ≡ None
+none_past c es h other point =
+    nowhere c es
+    (none_named c (47 ∷ []) es h (length es) (omega arith) (file_first c es point) other)
+    (none_named c [] es h (length es) (omega arith) point other)
 
 pub found_or_none : (c : List ℕ) (es : Rows) (o : Option ℕ) → HasNone c (47 ∷ []) es
     → MatchOption o (HasNone c [] es) (λ at. position (has_name c) es ≡ Some at) → o ≡ position (has_name c) es

@@ -9,7 +9,7 @@ use Rattle.git_paths.proofs.Cases.{by_cases}
 use Rattle.content_pool.specs.Pool.{Cells}
 use Rattle.tenant_tables.specs.View.{Entries}
 use Rattle.tenant_tables.specs.Objects.{objects}
-use Rattle.tenant_tables.specs.StandsIn.{StandsIn}
+use Rattle.tenant_tables.specs.IsBackedBy.{IsBackedBy}
 use Rattle.file_maps.specs.FileMap.{Path, Listed}
 use Rattle.file_maps.specs.Edits.{cut, moved}
 use Rattle.file_maps.specs.StoredFiles.{stored_files}
@@ -130,7 +130,7 @@ before-copied c w (row d v inside rest) h = (
 )
 
 module _ (digest : List ℕ → List ℕ) (pool : Cells) (entries : Entries)
-    (stands : StandsIn digest pool entries) where
+    (stands : IsBackedBy digest pool entries) where
   abbrev os : List Object
   os = objects pool entries
 

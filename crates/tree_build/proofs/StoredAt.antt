@@ -8,7 +8,7 @@ use Rattle.git_model.specs.Tree.{TreeEntry}
 use Rattle.content_pool.specs.Pool.{Cells}
 use Rattle.tenant_tables.specs.View.{View}
 use Rattle.tenant_tables.specs.Objects.{objects}
-use Rattle.tenant_tables.specs.StandsIn.{StandsIn}
+use Rattle.tenant_tables.specs.IsBackedBy.{IsBackedBy}
 use Rattle.file_maps.specs.declared.entry.Entry.{Entry}
 use Rattle.file_maps.specs.declared.fault.Fault.{Fault}
 use Rattle.file_maps.specs.declared.fault.Fault.TheVariants as fault
@@ -18,7 +18,7 @@ use Rattle.file_maps.specs.Trees.{file_of, depth_of, tree_name, tree_id, nested_
 use Rattle.file_maps.specs.Storable.{AreStorable}
 use Rattle.file_maps.specs.StoredFiles.{stored_files}
 use Rattle.file_maps.specs.StoredTree.{ListsTree}
-use Rattle.file_maps.specs.Storing.{StoresTrees, AddsSome, HasRoomBeside}
+use Rattle.file_maps.specs.Storing.{StoresTrees, AddsSome, HasHoldsLeftBeside}
 use Rattle.file_maps.proofs.Cutting.{storable-cut, trees-none, entries-none}
 use Rattle.file_maps.proofs.ListedOrder.{cut-root}
 use Rattle.file_maps.proofs.Nested.{entries-nil}
@@ -63,7 +63,7 @@ stores-none digest answer p q u v fs flat h =
 
 -- no memory, before the first tree
 pub stores-memory : (digest : List ℕ → List ℕ) (p : Cells) (u : View) (all : List (List TreeEntry))
-    → StandsIn digest p u.entries → HasRoomBeside p u.entries → AddsSome digest p u p u all fault.Memory
+    → IsBackedBy digest p u.entries → HasHoldsLeftBeside p u.entries → AddsSome digest p u p u all fault.Memory
 stores-memory digest p u all stands room =
     stopped digest p p u u all [] all (adds-none digest p u stands room) refl refl
 
@@ -84,8 +84,8 @@ module _ (digest : List ℕ → List ℕ) (p q : Cells) (u v : View) (answer : R
       let part = subst (λ (x : Option Entry). IsFoundAt (objects p u.entries) x fs) is found in
       stores-none digest answer p q u v fs (ap depth_of (of_file part ne)) h
 
-pub found-tree : (digest : List ℕ → List ℕ) (p : Cells) (u : View) → StandsIn digest p u.entries
-    → HasRoomBeside p u.entries → (o : Option Entry) (e : Entry) (fs : Listed) → o ≡ Some e → e.mode ≡ mode.Directory
+pub found-tree : (digest : List ℕ → List ℕ) (p : Cells) (u : View) → IsBackedBy digest p u.entries
+    → HasHoldsLeftBeside p u.entries → (o : Option Entry) (e : Entry) (fs : Listed) → o ≡ Some e → e.mode ≡ mode.Directory
     → IsFoundAt (objects p u.entries) o fs
     → StoresTrees (Ok e.name) digest p u p u (nested_trees digest fs) (tree_id digest fs)
 found-tree digest p u stands room o e fs is dir found =

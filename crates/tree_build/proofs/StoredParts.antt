@@ -13,7 +13,7 @@ use Rattle.git_paths.proofs.Cases.{by_cases, some_is}
 use Rattle.content_pool.specs.Pool.{Cells}
 use Rattle.tenant_tables.specs.View.{Entries, summary_of}
 use Rattle.tenant_tables.specs.Objects.{objects}
-use Rattle.tenant_tables.specs.StandsIn.{StandsIn}
+use Rattle.tenant_tables.specs.IsBackedBy.{IsBackedBy}
 use Rattle.tenant_tables.specs.declared.summary.Summary.{Summary}
 use Rattle.file_maps.specs.declared.entry.Entry.{Entry}
 use Rattle.file_maps.specs.FileMap.{Path, Listed}
@@ -142,7 +142,7 @@ pub of_directory : {os : List Object} {e : TreeEntry} {g : List ℕ × Listed} �
 of_directory (a_file e ne) k = absurd (ne k)
 of_directory (a_directory e fs is t some) k = (t, some)
 
-module _ (digest : List ℕ → List ℕ) (pool : Cells) (entries : Entries) (stands : StandsIn digest pool entries)
+module _ (digest : List ℕ → List ℕ) (pool : Cells) (entries : Entries) (stands : IsBackedBy digest pool entries)
     (id : List ℕ) (t : ListsTree (objects pool entries) id (stored_files (objects pool entries) id))
     (rows : List TreeEntry) (has : HasTree (objects pool entries) id rows) where
   abbrev os : List Object
@@ -237,7 +237,7 @@ module _ (digest : List ℕ → List ℕ) (pool : Cells) (entries : Entries) (st
       (sym (cut-below c [] ∙ cut-root (part_of c own.parts)))
       (unnamed_part (part-some os rows own.parts own.have c e is))
 
-pub is-tree : (digest : List ℕ → List ℕ) (pool : Cells) (entries : Entries) → StandsIn digest pool entries
+pub is-tree : (digest : List ℕ → List ℕ) (pool : Cells) (entries : Entries) → IsBackedBy digest pool entries
     → (id : List ℕ) (fs : Listed) → ListsTree (objects pool entries) id fs → IsSome (summary_of id entries)
 is-tree digest pool entries stands id fs t =
     subst (λ (o : Option Summary). IsSome o) (sym (table-summary digest pool entries stands id fs t)) refl
@@ -252,7 +252,7 @@ not_found : (o : Option TreeEntry) → ◌≡◌ {A = Option Entry} None (option
 not_found None h = refl
 not_found (Some e) h = cc h
 
-module _ (digest : List ℕ → List ℕ) (pool : Cells) (entries : Entries) (stands : StandsIn digest pool entries)
+module _ (digest : List ℕ → List ℕ) (pool : Cells) (entries : Entries) (stands : IsBackedBy digest pool entries)
     (id : List ℕ) (t : ListsTree (objects pool entries) id (stored_files (objects pool entries) id))
     (rows : List TreeEntry) (has : HasTree (objects pool entries) id rows) (c : List ℕ) where
   abbrev Stands : Option Entry → Path → Type 0

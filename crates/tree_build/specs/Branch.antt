@@ -41,7 +41,7 @@ abbrev pub key_of : List ℕ → What → List ℕ
 key_of c what = c ++ slash_after what
 
 -- An entry comes before another in Git's order of a tree, and has another name.
-pub record StandsBefore (c : List ℕ) (what : What) (d : List ℕ) (other : What) : Type 0 where
+pub record IsNodeBefore (c : List ℕ) (what : What) (d : List ℕ) (other : What) : Type 0 where
   pub names : c ≢ d
   pub order : slice_cmp nat_cmp (key_of c what) (key_of d other) ≡ Less
 
@@ -49,7 +49,7 @@ pub record StandsBefore (c : List ℕ) (what : What) (d : List ℕ) (other : Wha
 abbrev pub IsBeforeAll : List ℕ → What → Shape → Type 0
 IsBeforeAll c what none = Unit {0}
 IsBeforeAll c what (row d other inside rest) =
-    StandsBefore c what d other × IsBeforeAll c what rest
+    IsNodeBefore c what d other × IsBeforeAll c what rest
 
 -- What is held is a file with the name of its object; a stored tree; or an opened directory. If an
 -- opened directory has the name of a stored tree, it has the files that this tree lists.
@@ -117,6 +117,6 @@ abbrev pub closed_from : Held → Path → ℕ
 closed_from h path = closed_by h.what (closed_along h.inside path) (length path)
 
 -- A call has counted at most `most` trees.
-pub record Reads (old new : Branch) (most : ℕ) : Type 0 where
+pub record CountsAtMost (old new : Branch) (most : ℕ) : Type 0 where
   pub counted : old.reads ≤ new.reads
   pub bounded : new.reads ≤ old.reads + most

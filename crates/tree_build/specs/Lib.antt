@@ -7,6 +7,7 @@ pub mod Nodes
 pub mod Searches
 pub mod Falls
 pub mod Opened
+pub mod Putting
 pub mod Parts
 pub mod Rows
 pub mod Stores

@@ -1,5 +1,5 @@
 -- The order of entries, on which a search for a name depends, for private contracts.
-use Rattle.std.specs.Prelude.{◌≡◌, ◌≢◌, ℕ, Bool, true, false, not, List, All}
+use Rattle.std.specs.Prelude.{◌≡◌, ◌≢◌, ℕ, ◌<◌, ◌-◌, Bool, true, false, not, List, All, length, slice_index_or}
 use Rattle.std.specs.Cmp.Lexicographic.{slice_cmp}
 use Rattle.std.specs.List.Sorted.{IsPartitionPoint}
 use Rattle.std.specs.Ordering.{nat_cmp, is_lt}
@@ -23,6 +23,11 @@ is_after key e = is_lt (slice_cmp nat_cmp key (key_of e.0 (held e.1).what))
 abbrev pub IsPlaceAfter : List ℕ → List (List ℕ × Node) → ℕ → Type 0
 IsPlaceAfter key =
     IsPartitionPoint (λ e. not (is_after key e) ≡ true) (λ e. not (is_after key e) ≡ false)
+
+-- The last entry, if there is one, has another name.
+abbrev pub IsNotLast : List ℕ → List (List ℕ × Node) → Type 0
+IsNotLast c es = (d : List ℕ × Node) → 0 < length es
+    → (slice_index_or es (length es - 1) d).0 ≢ c
 
 -- No entry has both this name and this ending: a slash for a directory, nothing for a file.
 abbrev pub HasNone : List ℕ → List ℕ → List (List ℕ × Node) → Type 0

@@ -3,7 +3,7 @@
 ghost use Rattle.std.specs.Prelude.{◌≡◌, ◌≤◌, length, Some};
 ghost use Rattle.git_model.specs.Limits.{files_limit};
 ghost use Rattle.tenant_tables.specs.Objects.{objects};
-ghost use Rattle.tenant_tables.specs.StandsIn.{StandsIn};
+ghost use Rattle.tenant_tables.specs.IsBackedBy.{IsBackedBy};
 ghost use Rattle.tenant_tables.specs.View.{summary_of};
 ghost use Rattle.file_maps.specs.StoredFiles.{stored_files};
 ghost use Rattle.tree_build.specs.Shape.{shape_files, held_files};
@@ -33,7 +33,7 @@ fn count_stored(table: &Table, id: &Name) -> usize
 /// How many files are at or below a node.
 #[cycle(counting)]
 pub(crate) fn count<N: Naming>(pool: &Pool<N>, table: &Table, node: &Node) -> usize
-    requires stands { StandsIn N.digest_of pool.now table.now.entries }
+    requires stands { IsBackedBy N.digest_of pool.now table.now.entries }
     requires sound { IsHeld (objects pool.now table.now.entries) (held node.now) }
     requires few { length (held_files (stored_files (objects pool.now table.now.entries))
         (held node.now)) ≤ files_limit }
@@ -49,7 +49,7 @@ pub(crate) fn count<N: Naming>(pool: &Pool<N>, table: &Table, node: &Node) -> us
 
 #[cycle(counting)]
 fn count_all<N: Naming>(pool: &Pool<N>, table: &Table, entries: &[(Component, Node)]) -> usize
-    requires stands { StandsIn N.digest_of pool.now table.now.entries }
+    requires stands { IsBackedBy N.digest_of pool.now table.now.entries }
     requires sound { IsShape (objects pool.now table.now.entries) (shape_of entries.now) }
     requires few { length (shape_files (stored_files (objects pool.now table.now.entries))
         (shape_of entries.now)) ≤ files_limit }
@@ -74,7 +74,7 @@ pub(crate) fn taken<N: Naming>(
     path: &Components<'_>,
     clear: bool,
 ) -> usize
-    requires stands { StandsIn N.digest_of pool.now table.now.entries }
+    requires stands { IsBackedBy N.digest_of pool.now table.now.entries }
     requires sound { IsShape (objects pool.now table.now.entries) (shape_of entries.now) }
     requires few { length (shape_files (stored_files (objects pool.now table.now.entries))
         (shape_of entries.now)) ≤ files_limit }
@@ -98,7 +98,7 @@ fn taken_below<N: Naming>(
     rest: &Components<'_>,
     clear: bool,
 ) -> usize
-    requires stands { StandsIn N.digest_of pool.now table.now.entries }
+    requires stands { IsBackedBy N.digest_of pool.now table.now.entries }
     requires sound { IsHeld (objects pool.now table.now.entries) (held node.now) }
     requires few { length (held_files (stored_files (objects pool.now table.now.entries))
         (held node.now)) ≤ files_limit }

@@ -1,20 +1,21 @@
 //! Edits of a branch. An edit first opens the directories on the way to its path.
 
-ghost use Rattle.std.specs.Prelude.{◌≡◌, ◌≢◌, ◌≤◌, ◌+◌, [], ◌∷◌, ◌++◌, length, None, Err, OnOk};
+ghost use Rattle.std.specs.Prelude.{◌≡◌, ◌≢◌, ◌≤◌, ◌<◌, ◌+◌, [], ◌∷◌, ◌++◌, true, length, None, Err, OnOk};
 ghost use Rattle.std.specs.FinMap as finmap;
 ghost use Rattle.tenant_tables.specs.Objects.{objects};
-ghost use Rattle.tenant_tables.specs.StandsIn.{StandsIn};
+ghost use Rattle.tenant_tables.specs.IsBackedBy.{IsBackedBy};
 ghost use Rattle.file_maps.specs.declared.fault.Fault.TheVariants as fault;
 ghost use Rattle.file_maps.specs.Edits.{without, moved, put_at, put_tree_at, put_fault};
 ghost use Rattle.git_model.specs.declared.file_mode.FileMode.TheVariants as mode;
 ghost use Rattle.git_model.specs.Limits.{files_limit};
+ghost use Rattle.git_model.specs.ObjectName.{IsObjectName};
 ghost use Rattle.git_paths.specs.Paths.{strip_prefix, is_within_limits};
 ghost use Rattle.file_maps.specs.FileMap.{Path as FilePath, AreFiles, listed};
 ghost use Rattle.file_maps.specs.StoredFiles.{stored_files};
 ghost use Rattle.tree_build.specs.Shape.{held_files};
 ghost use Rattle.tree_build.specs.Nodes.{held};
 ghost use Rattle.file_maps.specs.Calls.{Edits};
-ghost use Rattle.tree_build.specs.Branch.{root_files, files_in, IsHeld, IsBranch, Reads, closed_from};
+ghost use Rattle.tree_build.specs.Branch.{root_files, files_in, IsHeld, IsBranch, CountsAtMost, closed_from};
 ghost use Rattle.tree_build.specs.Opened.{recounted, is_kept, too_many};
 
 use crate::component::has_components;
@@ -24,6 +25,7 @@ use crate::dropping::take_at;
 use crate::files::Files;
 use crate::opening::open_below;
 use crate::placing::place;
+use crate::putting::put_inside;
 use content_pool::Pool;
 use file_maps::{Entry, FILES_LIMIT, Fault};
 use git_objects::{Memory, Naming, has_twenty_bytes};
@@ -38,7 +40,7 @@ impl Files {
         table: &Table,
         path: &Components<'_>,
     ) -> Result<(), Memory>
-        requires stands { StandsIn N.digest_of pool.now table.now.entries }
+        requires stands { IsBackedBy N.digest_of pool.now table.now.entries }
         requires branch { IsBranch (objects pool.now table.now.entries) self.old }
         ensures branch { OnOk result (IsBranch (objects pool.now table.now.entries) self.new) }
         ensures files { OnOk result (files_in (objects pool.now table.now.entries) self.new
@@ -46,7 +48,7 @@ impl Files {
         ensures shut { OnOk result (closed_from self.new.root path.now ≡ 0) }
         ensures open { OnOk result ((q : FilePath)
             → closed_from self.new.root q ≤ closed_from self.old.root q) }
-        ensures reads { Reads self.old self.new (closed_from self.old.root path.now) }
+        ensures reads { CountsAtMost self.old self.new (closed_from self.old.root path.now) }
     {
         open_below(
             self.alloc,
@@ -67,7 +69,7 @@ impl Files {
         path: &Components<'_>,
         clear: bool,
     )
-        requires stands { StandsIn N.digest_of pool.now table.now.entries }
+        requires stands { IsBackedBy N.digest_of pool.now table.now.entries }
         requires branch { IsBranch (objects pool.now table.now.entries) self.old }
         requires shut { closed_from self.old.root path.now ≡ 0 }
         requires some { path.now ≢ [] }
@@ -94,26 +96,28 @@ impl Files {
     /// Removes the files at or below a path; at the root, all files. If there are none, the files
     /// stay as they are: git-fast-import(1), "filedelete".
     ///
-    /// `pool` and `table` hold the trees of this value. Takes memory for the entries of the trees
-    /// that it reads. The only error is `Fault::Memory` (90); after it the value may only be
-    /// cleared or dropped.
+    /// `pool` and `table` hold the trees of this value. Reads at most as many trees as the path has
+    /// components, and takes memory for their entries. The only error is `Fault::Memory` (90);
+    /// after it the value may only be cleared or dropped.
     pub fn drop_path<N: Naming>(
         &mut self,
         pool: &Pool<N>,
         table: &Table,
         path: &Path,
     ) -> Result<(), Fault>
-        requires stands { StandsIn N.digest_of pool.now table.now.entries }
+        requires stands { IsBackedBy N.digest_of pool.now table.now.entries }
         requires branch { IsBranch (objects pool.now table.now.entries) self.old }
         ensures edits { let os = objects pool.now table.now.entries in
             let m = files_in os self.old in
             Edits result m (files_in os self.new) None (without m path.now) }
         ensures branch { result ≢ Err fault.Memory
             → IsBranch (objects pool.now table.now.entries) self.new }
-        ensures reads { Reads self.old self.new (closed_from self.old.root path.now) }
+        ensures reads { CountsAtMost self.old self.new (closed_from self.old.root path.now) }
+        ensures few { self.new.reads ≤ self.old.reads + length path.now }
         ensures open { OnOk result ((q : FilePath)
             → closed_from self.new.root q ≤ closed_from self.old.root q) }
     {
+        self.walk_reads_few(path);
         if path.is_root() {
             self.clear();
             return Ok(());
@@ -134,7 +138,7 @@ impl Files {
         node: Node,
         total: usize,
     ) -> Result<(), Fault>
-        requires stands { StandsIn N.digest_of pool.now table.now.entries }
+        requires stands { IsBackedBy N.digest_of pool.now table.now.entries }
         requires branch { let os = objects pool.now table.now.entries in
             IsBranch os (recounted os self.old) }
         requires shut { closed_from self.old.root path.now ≡ 0 }
@@ -179,15 +183,58 @@ impl Files {
         }
     }
 
+    /// Puts a file at a path where one file more is no file too many. One walk opens the
+    /// directories on the way, counts the files that go, and puts the file.
+    pub(crate) fn put_file<N: Naming>(
+        &mut self,
+        pool: &Pool<N>,
+        table: &Table,
+        path: &Components<'_>,
+        entry: Entry,
+    ) -> Result<(), Fault>
+        requires file { entry.mode ≢ mode.Directory }
+        requires name { IsObjectName entry.name }
+        requires stands { IsBackedBy N.digest_of pool.now table.now.entries }
+        requires branch { IsBranch (objects pool.now table.now.entries) self.old }
+        requires some { path.now ≢ [] }
+        requires within { is_within_limits path.now ≡ true }
+        requires room { self.old.files < files_limit }
+        ensures edits { let os = objects pool.now table.now.entries in
+            let m = files_in os self.old in
+            let after = put_tree_at m path.now (([], entry) ∷ []) in
+            Edits result m (files_in os self.new) (too_many (finmap.len after)) after }
+        ensures branch { result ≢ Err fault.Memory
+            → IsBranch (objects pool.now table.now.entries) self.new }
+        ensures reads { CountsAtMost self.old self.new (closed_from self.old.root path.now) }
+        ensures open { OnOk result ((q : FilePath)
+            → closed_from self.new.root q ≤ closed_from self.old.root q) }
+        ensures shut { OnOk result (closed_from self.new.root path.now ≡ 0) }
+    {
+        has_components(path);
+        let total = self.files + 1;
+        let gone = put_inside(
+            self.alloc,
+            pool,
+            table,
+            &mut self.root,
+            path,
+            entry,
+            &mut self.reads,
+        )?;
+        let files = total - gone;
+        self.files = files;
+        Ok(())
+    }
+
     /// Puts a file at a path, and removes the files that were at the path, below it, or at a prefix
     /// of it: git-fast-import(1), "filemodify".
     ///
     /// `pool` and `table` hold the trees of this value. The mode of `entry` is not that of a
     /// directory: `graft` puts those. `Fault::RootNotDirectory` (20) if the path is the root; else
     /// `Fault::Limit` (25) if the path has more than 16,383 bytes or 256 components, or if there
-    /// would be more than 1,048,576 files. After these errors the files are as before. Takes memory
-    /// for the path and for the entries of the trees that it reads. After `Fault::Memory` (90) the
-    /// value may only be cleared or dropped.
+    /// would be more than 1,048,576 files. After these errors the files are as before. Reads at
+    /// most as many trees as the path has components, and takes memory for their entries and for
+    /// the path. After `Fault::Memory` (90) the value may only be cleared or dropped.
     pub fn put<N: Naming>(
         &mut self,
         pool: &Pool<N>,
@@ -196,7 +243,7 @@ impl Files {
         entry: Entry,
     ) -> Result<(), Fault>
         requires file { entry.mode ≢ mode.Directory }
-        requires stands { StandsIn N.digest_of pool.now table.now.entries }
+        requires stands { IsBackedBy N.digest_of pool.now table.now.entries }
         requires branch { IsBranch (objects pool.now table.now.entries) self.old }
         ensures edits { let os = objects pool.now table.now.entries in
             let m = files_in os self.old in
@@ -205,11 +252,13 @@ impl Files {
             (put_fault (moved path.now (([], entry) ∷ [])) after) after }
         ensures branch { result ≢ Err fault.Memory
             → IsBranch (objects pool.now table.now.entries) self.new }
-        ensures reads { Reads self.old self.new (closed_from self.old.root path.now) }
+        ensures reads { CountsAtMost self.old self.new (closed_from self.old.root path.now) }
+        ensures few { self.new.reads ≤ self.old.reads + length path.now }
         ensures open { OnOk result ((q : FilePath)
             → closed_from self.new.root q ≤ closed_from self.old.root q) }
         ensures shut { OnOk result (closed_from self.new.root path.now ≡ 0) }
     {
+        self.walk_reads_few(path);
         has_twenty_bytes(&entry.name);
         if path.is_root() {
             return Err(Fault::RootNotDirectory);
@@ -219,6 +268,10 @@ impl Files {
         }
         let path = path.components();
         has_components(&path);
+        // Where there is room for one file more, no file has to be counted before this one is put.
+        if self.file_count() < FILES_LIMIT {
+            return self.put_file(pool, table, &path, entry);
+        }
         self.open_to(pool, table, &path)?;
         let total = self.file_count() + 1;
         self.put_node(pool, table, &path, Node::File(entry), total)

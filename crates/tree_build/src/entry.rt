@@ -2,7 +2,7 @@
 
 ghost use Rattle.std.specs.Prelude.{◌≡◌, ◌≢◌, [], ◌∷◌, Some, IfOk};
 ghost use Rattle.tenant_tables.specs.Objects.{objects};
-ghost use Rattle.tenant_tables.specs.StandsIn.{StandsIn};
+ghost use Rattle.tenant_tables.specs.IsBackedBy.{IsBackedBy};
 ghost use Rattle.file_maps.specs.StoredFiles.{stored_files};
 ghost use Rattle.file_maps.specs.Trees.{tree_id, entry_at};
 ghost use Rattle.tree_build.specs.Shape.{shape_files, held_files};
@@ -32,7 +32,7 @@ pub(crate) fn entry_at<N: Naming>(
     node: &Node,
     path: &Components<'_>,
 ) -> Result<Option<Entry>, Memory>
-    requires stands { StandsIn N.digest_of pool.now table.now.entries }
+    requires stands { IsBackedBy N.digest_of pool.now table.now.entries }
     requires sound { IsHeld (objects pool.now table.now.entries) (held node.now) }
     requires some { path.now ≡ []
         → held_files (stored_files (objects pool.now table.now.entries)) (held node.now) ≢ [] }
@@ -59,7 +59,7 @@ fn entry_below<N: Naming>(
     name: &[u8],
     rest: &Components<'_>,
 ) -> Result<Option<Entry>, Memory>
-    requires stands { StandsIn N.digest_of pool.now table.now.entries }
+    requires stands { IsBackedBy N.digest_of pool.now table.now.entries }
     requires sound { IsShape (objects pool.now table.now.entries) (shape_of entries.now) }
     ensures { IfOk result (λ o. o ≡ stands_at N.digest_of
         (shape_files (stored_files (objects pool.now table.now.entries)) (shape_of entries.now))
@@ -78,7 +78,7 @@ fn root_tree<N: Naming>(
     table: &Table,
     root: &Node,
 ) -> Result<Name, Memory>
-    requires stands { StandsIn N.digest_of pool.now table.now.entries }
+    requires stands { IsBackedBy N.digest_of pool.now table.now.entries }
     requires directory { IsDirectory (held root.now).what }
     requires sound { IsHeld (objects pool.now table.now.entries) (held root.now) }
     ensures { IfOk result (λ id. id ≡ tree_id N.digest_of
@@ -105,7 +105,7 @@ impl Files {
         table: &Table,
         path: &Path,
     ) -> Result<Option<Entry>, Memory>
-        requires stands { StandsIn N.digest_of pool.now table.now.entries }
+        requires stands { IsBackedBy N.digest_of pool.now table.now.entries }
         requires branch { IsBranch (objects pool.now table.now.entries) self.now }
         ensures { IfOk result (λ o. o ≡ entry_at N.digest_of
             (files_in (objects pool.now table.now.entries) self.now) path.now) }

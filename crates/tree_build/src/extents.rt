@@ -4,7 +4,7 @@
 
 ghost use Rattle.std.specs.Prelude.{◌≡◌, [], ◌∷◌};
 ghost use Rattle.tenant_tables.specs.Objects.{objects};
-ghost use Rattle.tenant_tables.specs.StandsIn.{StandsIn};
+ghost use Rattle.tenant_tables.specs.IsBackedBy.{IsBackedBy};
 ghost use Rattle.file_maps.specs.Edits.{moved};
 ghost use Rattle.file_maps.specs.Storable.{files_summary};
 ghost use Rattle.file_maps.specs.StoredFiles.{stored_files};
@@ -34,7 +34,7 @@ fn file_here() -> Summary
 /// The summary of the files at or below a node.
 #[cycle(measuring)]
 pub(crate) fn extent<N: Naming>(pool: &Pool<N>, table: &Table, node: &Node) -> Summary
-    requires stands { StandsIn N.digest_of pool.now table.now.entries }
+    requires stands { IsBackedBy N.digest_of pool.now table.now.entries }
     requires sound { IsHeld (objects pool.now table.now.entries) (held node.now) }
     requires small { IsSmall (files_summary (held_files
         (stored_files (objects pool.now table.now.entries)) (held node.now))) }
@@ -51,7 +51,7 @@ pub(crate) fn extent<N: Naming>(pool: &Pool<N>, table: &Table, node: &Node) -> S
 // A directory that is a stored tree is not walked.
 #[cycle(measuring)]
 fn extent_of_dir<N: Naming>(pool: &Pool<N>, table: &Table, dir: &Dir) -> Summary
-    requires stands { StandsIn N.digest_of pool.now table.now.entries }
+    requires stands { IsBackedBy N.digest_of pool.now table.now.entries }
     requires sound { IsHeld (objects pool.now table.now.entries)
         (record { what = opened dir.now.tree; inside = dir.now.entries }) }
     requires small { IsSmall (files_summary (shape_files
@@ -67,7 +67,7 @@ fn extent_of_dir<N: Naming>(pool: &Pool<N>, table: &Table, dir: &Dir) -> Summary
 
 #[cycle(measuring)]
 fn extent_of_all<N: Naming>(pool: &Pool<N>, table: &Table, entries: &[(Component, Node)]) -> Summary
-    requires stands { StandsIn N.digest_of pool.now table.now.entries }
+    requires stands { IsBackedBy N.digest_of pool.now table.now.entries }
     requires sound { IsShape (objects pool.now table.now.entries) (shape_of entries.now) }
     requires small { IsSmall (files_summary (shape_files
         (stored_files (objects pool.now table.now.entries)) (shape_of entries.now))) }
@@ -85,7 +85,7 @@ fn extent_of_all<N: Naming>(pool: &Pool<N>, table: &Table, entries: &[(Component
 // entry.
 #[cycle(measuring)]
 fn extent_under<N: Naming>(pool: &Pool<N>, table: &Table, name: &[u8], node: &Node) -> Summary
-    requires stands { StandsIn N.digest_of pool.now table.now.entries }
+    requires stands { IsBackedBy N.digest_of pool.now table.now.entries }
     requires sound { IsHeld (objects pool.now table.now.entries) (held node.now) }
     requires small { IsSmall (files_summary (moved (name.now ∷ []) (held_files
         (stored_files (objects pool.now table.now.entries)) (held node.now)))) }

@@ -4,7 +4,7 @@
 //! a value means depends on the objects of a table, and objects that are added later do not change
 //! it.
 
-ghost use Rattle.std.specs.Prelude.{◌≡◌, List};
+ghost use Rattle.std.specs.Prelude.{◌≡◌, ◌≤◌, List, length};
 ghost use Rattle.std.specs.FinMap as map;
 ghost use Rattle.git_model.specs.Repository.{Object};
 ghost use Rattle.file_maps.specs.FileMap.{Path};
@@ -12,6 +12,7 @@ ghost use Rattle.tree_build.specs.Branch.{files_in, IsBranch, root_name, closed_
 
 use crate::dir::{Dir, Node};
 use git_objects::Name;
+use git_paths::Path;
 use std::alloc::Global;
 use std::marker::Model;
 
@@ -68,14 +69,20 @@ impl Files {
     /// How many trees edits and `store` have read since the value was made. `clear` does not start
     /// the count anew, and it stays at `u64::MAX` once it gets there.
     ///
-    /// An edit or `store` counts at most one tree for each component of its paths: see
-    /// `laws::walks_read_few`. A tree is counted before it is read, so the count includes a read
-    /// that runs out of memory.
+    /// An edit or `store` counts at most as many trees as its paths have components: its clause
+    /// `few` says so. A tree is counted before it is read, so the count includes a read that runs
+    /// out of memory.
     pub fn reads(&self) -> u64
         ensures { result ≡ self.now.reads }
     {
         self.reads
     }
+
+    /// A fact for proofs: a walk along a path reads at most as many trees as the path has
+    /// components. Calling it does nothing. The clauses `few` of the edits and of `store` need it.
+    pub(crate) fn walk_reads_few(&self, path: &Path)
+        ensures { closed_from self.now.root path.now ≤ length path.now }
+    {}
 
     /// How many files there are.
     pub(crate) fn file_count(&self) -> usize

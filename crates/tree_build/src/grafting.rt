@@ -1,8 +1,8 @@
 //! Putting a stored tree at a path of a branch, by its name. The tree is not read.
 
-ghost use Rattle.std.specs.Prelude.{◌≡◌, ◌≢◌, ◌≤◌, true, [], length, Some, None, Err, IsTrue, OnOk, ◌↔◌};
+ghost use Rattle.std.specs.Prelude.{◌≡◌, ◌≢◌, ◌≤◌, ◌+◌, true, [], length, Some, None, Err, IsTrue, OnOk, ◌↔◌};
 ghost use Rattle.tenant_tables.specs.Objects.{objects};
-ghost use Rattle.tenant_tables.specs.StandsIn.{StandsIn};
+ghost use Rattle.tenant_tables.specs.IsBackedBy.{IsBackedBy};
 ghost use Rattle.file_maps.specs.declared.fault.Fault.TheVariants as fault;
 ghost use Rattle.git_paths.specs.Paths.{strip_prefix};
 ghost use Rattle.file_maps.specs.Calls.{Edits};
@@ -12,7 +12,7 @@ ghost use Rattle.file_maps.specs.Grafts.{Grafts};
 ghost use Rattle.file_maps.specs.Storable.{files_summary};
 ghost use Rattle.file_maps.specs.StoredFiles.{stored_files};
 ghost use Rattle.file_maps.specs.StoredTree.{ListsTree};
-ghost use Rattle.tree_build.specs.Branch.{files_in, IsBranch, root_name, Reads, closed_from};
+ghost use Rattle.tree_build.specs.Branch.{files_in, IsBranch, root_name, CountsAtMost, closed_from};
 ghost use Rattle.tree_build.specs.Limits.{may_stand, TakesTree};
 
 use crate::component::has_components;
@@ -63,7 +63,7 @@ impl Files {
     /// else.)
     ///
     /// `pool` and `table` hold the trees of this value, and `table` also the tree `name`. That tree
-    /// is not read; at the root, no tree is.
+    /// is not read. Reads at most as many trees as the path has components; at the root, none.
     ///
     /// `Fault::ObjectUnknown` (14) if the table has no object of this name; else
     /// `Fault::WrongKind` (15) if the object is not a tree; else `Fault::Limit` (25) if a path
@@ -78,18 +78,20 @@ impl Files {
         path: &Path,
         name: &Name,
     ) -> Result<(), Fault>
-        requires stands { StandsIn N.digest_of pool.now table.now.entries }
+        requires stands { IsBackedBy N.digest_of pool.now table.now.entries }
         requires branch { IsBranch (objects pool.now table.now.entries) self.old }
         ensures edits { let os = objects pool.now table.now.entries in
             Grafts result os name.now path.now (files_in os self.old) (files_in os self.new) }
         ensures branch { result ≢ Err fault.Memory
             → IsBranch (objects pool.now table.now.entries) self.new }
-        ensures reads { Reads self.old self.new (closed_from self.old.root path.now) }
+        ensures reads { CountsAtMost self.old self.new (closed_from self.old.root path.now) }
+        ensures few { self.new.reads ≤ self.old.reads + length path.now }
         ensures open { OnOk result ((q : FilePath) → strip_prefix path.now q ≡ None
             → closed_from self.new.root q ≤ closed_from self.old.root q) }
         ensures kept { OnOk result (path.now ≡ [] → root_name self.old ≡ Some name.now
             → self.new ≡ self.old) }
     {
+        self.walk_reads_few(path);
         let summary = tree_summary(pool, table, name)?;
         if !may_stand(path, summary) {
             return Err(Fault::Limit);
@@ -111,7 +113,7 @@ impl Files {
         name: &Name,
         files: usize,
     ) -> Result<(), Fault>
-        requires stands { StandsIn N.digest_of pool.now table.now.entries }
+        requires stands { IsBackedBy N.digest_of pool.now table.now.entries }
         requires branch { IsBranch (objects pool.now table.now.entries) self.old }
         requires some { path.now ≢ [] }
         requires tree { ListsTree (objects pool.now table.now.entries) name.now
@@ -126,7 +128,7 @@ impl Files {
             Edits result m (files_in os self.new) (put_fault (moved path.now files) after) after }
         ensures branch { result ≢ Err fault.Memory
             → IsBranch (objects pool.now table.now.entries) self.new }
-        ensures reads { Reads self.old self.new (closed_from self.old.root path.now) }
+        ensures reads { CountsAtMost self.old self.new (closed_from self.old.root path.now) }
         ensures open { OnOk result ((q : FilePath) → strip_prefix path.now q ≡ None
             → closed_from self.new.root q ≤ closed_from self.old.root q) }
     {

@@ -16,9 +16,10 @@ pub fn files_stay()
 
 /// A walk along a path reads at most one tree for each component of the path; at the root, none.
 ///
-/// The `reads` clauses bound what an edit or `store` counts by such walks. So `put`, `drop_path`,
-/// `graft` and `store` count at most as many trees as their path has components: `put` at `d7/x`,
-/// at most two. `copy` and `rename` count at most as many as both paths have together.
+/// The `reads` clauses bound what an edit or `store` counts by such walks. So their clauses `few`
+/// follow: `put`, `drop_path`, `graft` and `store` count at most as many trees as their path has
+/// components (`put` at `d7/x`, at most two), `copy` and `rename` at most as many as both paths
+/// have together.
 pub fn walks_read_few()
     ensures { (h : Held) (path : Path) → closed_from h path ≤ length path }
 {}

@@ -17,6 +17,7 @@ mod names;
 mod naming;
 mod opening;
 mod placing;
+mod putting;
 mod reading;
 mod stores;
 mod storing;

@@ -9,14 +9,14 @@ ghost use Rattle.std.specs.FinMap as finmap;
 ghost use Rattle.git_model.specs.Limits.{files_limit};
 ghost use Rattle.git_paths.specs.Paths.{strip_prefix};
 ghost use Rattle.tenant_tables.specs.Objects.{objects};
-ghost use Rattle.tenant_tables.specs.StandsIn.{StandsIn};
+ghost use Rattle.tenant_tables.specs.IsBackedBy.{IsBackedBy};
 ghost use Rattle.file_maps.specs.declared.fault.Fault.TheVariants as fault;
 ghost use Rattle.file_maps.specs.Calls.{Edits};
 ghost use Rattle.file_maps.specs.Edits.{files_at, moved, put_tree_at, copied, renamed, move_fault};
 ghost use Rattle.file_maps.specs.FileMap.{Path as FilePath, AreFiles, listed};
 ghost use Rattle.file_maps.specs.StoredFiles.{stored_files};
 ghost use Rattle.tree_build.specs.Shape.{held_files};
-ghost use Rattle.tree_build.specs.Branch.{root_files, files_in, IsDirectory, IsHeld, IsBranch, Reads, closed_from};
+ghost use Rattle.tree_build.specs.Branch.{root_files, files_in, IsDirectory, IsHeld, IsBranch, CountsAtMost, closed_from};
 ghost use Rattle.tree_build.specs.Nodes.{held};
 ghost use Rattle.tree_build.specs.Searches.{AreOrdered};
 ghost use Rattle.tree_build.specs.Opened.{recounted, too_many};
@@ -84,7 +84,7 @@ impl Files {
         from: &Path,
         to: &Path,
     ) -> Result<(Node, usize), Fault>
-        requires stands { StandsIn N.digest_of pool.now table.now.entries }
+        requires stands { IsBackedBy N.digest_of pool.now table.now.entries }
         requires branch { IsBranch (objects pool.now table.now.entries) self.old }
         ensures moved { let os = objects pool.now table.now.entries in
             IfOk result (λ r. IsMoved os (files_at (files_in os self.old) from.now)
@@ -103,7 +103,7 @@ impl Files {
         ensures open { OnOk result ((q : FilePath)
             → closed_from self.new.root q ≤ closed_from self.old.root q) }
         ensures shut { OnOk result (closed_from self.new.root from.now ≡ 0) }
-        ensures reads { Reads self.old self.new (closed_from self.old.root from.now) }
+        ensures reads { CountsAtMost self.old self.new (closed_from self.old.root from.now) }
     {
         let from = from.components();
         self.open_to(pool, table, &from)?;
@@ -125,7 +125,7 @@ impl Files {
         node: Node,
         total: usize,
     ) -> Result<(), Fault>
-        requires stands { StandsIn N.digest_of pool.now table.now.entries }
+        requires stands { IsBackedBy N.digest_of pool.now table.now.entries }
         requires branch { let os = objects pool.now table.now.entries in
             IsBranch os (recounted os self.old) }
         requires shut { closed_from self.old.root to.now ≡ 0 }
@@ -172,7 +172,7 @@ impl Files {
         node: Node,
         files: usize,
     ) -> Result<(), Fault>
-        requires stands { StandsIn N.digest_of pool.now table.now.entries }
+        requires stands { IsBackedBy N.digest_of pool.now table.now.entries }
         requires branch { IsBranch (objects pool.now table.now.entries) self.old }
         requires held { IsHeld (objects pool.now table.now.entries) (held node) }
         requires directory { to.now ≡ [] → IsDirectory (held node).what }
@@ -192,7 +192,7 @@ impl Files {
             Edits result m (files_in os self.new) (too_many (finmap.len after)) after }
         ensures branch { result ≢ Err fault.Memory
             → IsBranch (objects pool.now table.now.entries) self.new }
-        ensures reads { Reads self.old self.new (closed_from self.old.root to.now) }
+        ensures reads { CountsAtMost self.old self.new (closed_from self.old.root to.now) }
         ensures open { OnOk result ((q : FilePath) → strip_prefix to.now q ≡ None
             → closed_from self.new.root q ≤ closed_from self.old.root q) }
     {
@@ -220,7 +220,8 @@ impl Files {
     ///
     /// `pool` and `table` hold the trees of this value. The files at `from` are taken as they were
     /// before the call, also if one path is below the other. A directory that is a stored tree is
-    /// copied by the name of that tree, and no tree below it is read.
+    /// copied by the name of that tree, and no tree below it is read. Reads at most as many trees
+    /// as both paths together have components.
     ///
     /// `Fault::SourceMissing` (18) if there is no file at or below `from`; else
     /// `Fault::RootNotDirectory` (20) if a file would be at the root; else `Fault::Limit` (25) if a
@@ -235,7 +236,7 @@ impl Files {
         from: &Path,
         to: &Path,
     ) -> Result<(), Fault>
-        requires stands { StandsIn N.digest_of pool.now table.now.entries }
+        requires stands { IsBackedBy N.digest_of pool.now table.now.entries }
         requires branch { IsBranch (objects pool.now table.now.entries) self.old }
         ensures edits { let os = objects pool.now table.now.entries in
             let m = files_in os self.old in
@@ -244,11 +245,14 @@ impl Files {
             (move_fault (moved to.now (files_at m from.now)) after) after }
         ensures branch { result ≢ Err fault.Memory
             → IsBranch (objects pool.now table.now.entries) self.new }
-        ensures reads { Reads self.old self.new
+        ensures reads { CountsAtMost self.old self.new
             (closed_from self.old.root from.now + closed_from self.old.root to.now) }
+        ensures few { self.new.reads ≤ self.old.reads + (length from.now + length to.now) }
         ensures open { OnOk result ((q : FilePath) → strip_prefix to.now q ≡ None
             → closed_from self.new.root q ≤ closed_from self.old.root q) }
     {
+        self.walk_reads_few(from);
+        self.walk_reads_few(to);
         has_components(&to.components());
         let (node, files) = self.copy_from(pool, table, from, to)?;
         self.put_moved(pool, table, to, node, files)
@@ -263,7 +267,7 @@ impl Files {
         from: &Components<'_>,
         to: &Path,
     ) -> Result<(), Fault>
-        requires stands { StandsIn N.digest_of pool.now table.now.entries }
+        requires stands { IsBackedBy N.digest_of pool.now table.now.entries }
         requires branch { IsBranch (objects pool.now table.now.entries) self.now }
         requires shut { closed_from self.now.root from.now ≡ 0 }
         ensures ok { let os = objects pool.now table.now.entries in
@@ -291,7 +295,7 @@ impl Files {
         from: &Path,
         to: &Path,
     ) -> Result<(), Fault>
-        requires stands { StandsIn N.digest_of pool.now table.now.entries }
+        requires stands { IsBackedBy N.digest_of pool.now table.now.entries }
         requires branch { IsBranch (objects pool.now table.now.entries) self.old }
         ensures clean { let os = objects pool.now table.now.entries in
             OnOk result (path_fault (moved to.now (files_at (files_in os self.old) from.now))
@@ -307,7 +311,7 @@ impl Files {
         ensures open { OnOk result ((q : FilePath)
             → closed_from self.new.root q ≤ closed_from self.old.root q) }
         ensures shut { OnOk result (closed_from self.new.root from.now ≡ 0) }
-        ensures reads { Reads self.old self.new (closed_from self.old.root from.now) }
+        ensures reads { CountsAtMost self.old self.new (closed_from self.old.root from.now) }
     {
         let from = from.components();
         self.open_to(pool, table, &from)?;
@@ -322,7 +326,7 @@ impl Files {
         from: &Path,
         to: &Path,
     ) -> Result<(), Fault>
-        requires stands { StandsIn N.digest_of pool.now table.now.entries }
+        requires stands { IsBackedBy N.digest_of pool.now table.now.entries }
         requires branch { IsBranch (objects pool.now table.now.entries) self.old }
         requires shut { closed_from self.old.root from.now ≡ 0 }
         requires clean { let os = objects pool.now table.now.entries in
@@ -334,7 +338,7 @@ impl Files {
             (move_fault (moved to.now (files_at m from.now)) after) after }
         ensures branch { result ≢ Err fault.Memory
             → IsBranch (objects pool.now table.now.entries) self.new }
-        ensures reads { Reads self.old self.new (closed_from self.old.root to.now) }
+        ensures reads { CountsAtMost self.old self.new (closed_from self.old.root to.now) }
         ensures open { OnOk result ((q : FilePath) → strip_prefix to.now q ≡ None
             → closed_from self.new.root q ≤ closed_from self.old.root q) }
     {
@@ -353,8 +357,8 @@ impl Files {
     ///
     /// As `copy`, with the same errors, but the files are first taken out at `from`. So `a` may be
     /// renamed to `a/b`. A directory moves as it is: nothing below it is copied, and what was
-    /// opened stays opened. Takes memory for the path and for the entries of the trees that it
-    /// reads.
+    /// opened stays opened. Reads at most as many trees as both paths together have components, and
+    /// takes memory for their entries and for the path.
     pub fn rename<N: Naming>(
         &mut self,
         pool: &Pool<N>,
@@ -362,7 +366,7 @@ impl Files {
         from: &Path,
         to: &Path,
     ) -> Result<(), Fault>
-        requires stands { StandsIn N.digest_of pool.now table.now.entries }
+        requires stands { IsBackedBy N.digest_of pool.now table.now.entries }
         requires branch { IsBranch (objects pool.now table.now.entries) self.old }
         ensures edits { let os = objects pool.now table.now.entries in
             let m = files_in os self.old in
@@ -371,11 +375,14 @@ impl Files {
             (move_fault (moved to.now (files_at m from.now)) after) after }
         ensures branch { result ≢ Err fault.Memory
             → IsBranch (objects pool.now table.now.entries) self.new }
-        ensures reads { Reads self.old self.new
+        ensures reads { CountsAtMost self.old self.new
             (closed_from self.old.root from.now + closed_from self.old.root to.now) }
+        ensures few { self.new.reads ≤ self.old.reads + (length from.now + length to.now) }
         ensures open { OnOk result ((q : FilePath) → strip_prefix to.now q ≡ None
             → closed_from self.new.root q ≤ closed_from self.old.root q) }
     {
+        self.walk_reads_few(from);
+        self.walk_reads_few(to);
         self.open_source(pool, table, from, to)?;
         self.move_source(pool, table, from, to)
     }

@@ -1,16 +1,18 @@
 //! The entries of an opened directory: in Git's order, with distinct names.
 //!
-//! A name is found by binary search: first as the name of a directory, which Git's order ends with
-//! a slash, and then as that of a file.
+//! A stream lists its files in this order, so the entry of a name is mostly the last one, or a new
+//! one goes after it: the last entry is looked at first. Any other name is found by binary search:
+//! first as the name of a directory, which Git's order ends with a slash, and then as that of a
+//! file.
 
-ghost use Rattle.std.specs.Prelude.{◌≡◌, ◌≤◌, ◌++◌, length, position, OnOk, MatchOption};
+ghost use Rattle.std.specs.Prelude.{◌≡◌, ◌≤◌, ◌<◌, ◌-◌, ◌++◌, length, position, true, false, Some, OnOk, MatchOption};
 ghost use Rattle.std.specs.Option.{option_map};
 ghost use Rattle.git_model.specs.Tree.{order_key, slash_of};
 ghost use Rattle.git_objects.specs.Parts.{entry_of};
 ghost use Rattle.tree_build.specs.Branch.{slash_after};
 ghost use Rattle.tree_build.specs.Editing.{child, inserted, removed};
 ghost use Rattle.tree_build.specs.Nodes.{held, shape_of, has_name};
-ghost use Rattle.tree_build.specs.Searches.{AreOrdered, is_after, IsPlaceAfter, HasNone};
+ghost use Rattle.tree_build.specs.Searches.{AreOrdered, is_after, IsPlaceAfter, IsNotLast, HasNone};
 
 use crate::component::Component;
 use crate::dir::Node;
@@ -41,13 +43,60 @@ fn comes_before(entry: &TreeEntry<'_>, other: &(Component, Node)) -> bool
     entry.order(&ordered(other.0.as_bytes(), node)).is_lt()
 }
 
-// The place from which on all entries come after `entry` in Git's order. None before it does.
-fn place_after(entries: &[(Component, Node)], entry: &TreeEntry<'_>) -> usize
+fn is_named(entry: &(Component, Node), name: &[u8]) -> bool
+    ensures { result ≡ has_name name.now entry.now }
+{
+    entry.0.as_bytes() == name
+}
+
+// Whether the last entry has a name.
+fn is_last(entries: &[(Component, Node)], name: &[u8]) -> bool
+    requires { AreOrdered (shape_of entries.now) }
+    ensures last { result ≡ true
+        → position (has_name name.now) entries.now ≡ Some (length entries.now - 1) }
+    ensures some { result ≡ true → 0 < length entries.now }
+    ensures other { result ≡ false → IsNotLast name.now entries.now }
+{
+    let count = entries.len();
+    if count == 0 {
+        return false;
+    }
+    is_named(&entries[count - 1], name)
+}
+
+// Whether no entry comes after `entry` in Git's order.
+fn is_past_all(entries: &[(Component, Node)], entry: &TreeEntry<'_>) -> bool
+    requires { AreOrdered (shape_of entries.now) }
+    ensures { result ≡ true
+        → IsPlaceAfter (order_key (entry_of entry.now)) entries.now (length entries.now) }
+{
+    let count = entries.len();
+    if count == 0 {
+        return true;
+    }
+    !comes_before(entry, &entries[count - 1])
+}
+
+// The place from which on all entries come after `entry` in Git's order, by binary search. None
+// before it does.
+fn place_by_halves(entries: &[(Component, Node)], entry: &TreeEntry<'_>) -> usize
     requires { AreOrdered (shape_of entries.now) }
     ensures within { result ≤ length entries.now }
     ensures point { IsPlaceAfter (order_key (entry_of entry.now)) entries.now result }
 {
     entries.partition_point(|other| !comes_before(entry, other))
+}
+
+// The same place. The last entry is looked at first.
+fn place_after(entries: &[(Component, Node)], entry: &TreeEntry<'_>) -> usize
+    requires { AreOrdered (shape_of entries.now) }
+    ensures within { result ≤ length entries.now }
+    ensures point { IsPlaceAfter (order_key (entry_of entry.now)) entries.now result }
+{
+    if is_past_all(entries, entry) {
+        return entries.len();
+    }
+    place_by_halves(entries, entry)
 }
 
 // The place of the entry of a name, if a new entry of this name and mode would come right after it.
@@ -57,13 +106,16 @@ fn place_before(entries: &[(Component, Node)], name: &[u8], mode: FileMode) -> O
     ensures { MatchOption result (HasNone name.now (slash_of mode) entries.now)
         (λ at. position (has_name name.now) entries.now ≡ Some at) }
 {
-    let next = place_after(entries, &ordered(name, mode));
+    let next = place_by_halves(entries, &ordered(name, mode));
     if next == 0 {
         return None;
     }
     let at = next - 1;
-    let is_named = entries[at].0.as_bytes() == name;
-    if is_named { Some(at) } else { None }
+    if is_named(&entries[at], name) {
+        Some(at)
+    } else {
+        None
+    }
 }
 
 /// The place of the entry of a name.
@@ -71,6 +123,12 @@ pub(crate) fn place_of(entries: &[(Component, Node)], name: &[u8]) -> Option<usi
     requires { AreOrdered (shape_of entries.now) }
     ensures { result ≡ position (has_name name.now) entries.now }
 {
+    if is_last(entries, name) {
+        return Some(entries.len() - 1);
+    }
+    if is_past_all(entries, &ordered(name, FileMode::Regular)) {
+        return None;
+    }
     match place_before(entries, name, FileMode::Directory) {
         Some(at) => Some(at),
         None => place_before(entries, name, FileMode::Regular),

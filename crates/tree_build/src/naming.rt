@@ -4,7 +4,7 @@ ghost use Rattle.std.specs.Prelude.{◌≡◌, ◌≢◌, [], Some, IfOk, OnOk};
 ghost use Rattle.git_model.specs.declared.file_mode.FileMode.TheVariants as mode;
 ghost use Rattle.git_objects.specs.Parts.{entry_of, entries_of};
 ghost use Rattle.tenant_tables.specs.Objects.{objects};
-ghost use Rattle.tenant_tables.specs.StandsIn.{StandsIn};
+ghost use Rattle.tenant_tables.specs.IsBackedBy.{IsBackedBy};
 ghost use Rattle.file_maps.specs.StoredFiles.{stored_files};
 ghost use Rattle.file_maps.specs.Trees.{tree_entries, tree_id, tree_name};
 ghost use Rattle.tree_build.specs.Shape.{opened, shape_files, held_files};
@@ -28,7 +28,7 @@ pub(crate) fn tree_of<N: Naming>(
     table: &Table,
     dir: &Dir,
 ) -> Result<Name, Memory>
-    requires stands { StandsIn N.digest_of pool.now table.now.entries }
+    requires stands { IsBackedBy N.digest_of pool.now table.now.entries }
     requires sound { IsHeld (objects pool.now table.now.entries)
         (record { what = opened dir.now.tree; inside = dir.now.entries }) }
     ensures { IfOk result (λ id. id ≡ tree_id N.digest_of
@@ -47,7 +47,7 @@ fn tree_of_entries<N: Naming>(
     table: &Table,
     entries: &[(Component, Node)],
 ) -> Result<Name, Memory>
-    requires stands { StandsIn N.digest_of pool.now table.now.entries }
+    requires stands { IsBackedBy N.digest_of pool.now table.now.entries }
     requires sound { IsShape (objects pool.now table.now.entries) (shape_of entries.now) }
     ensures { IfOk result (λ id. id ≡ tree_id N.digest_of
         (shape_files (stored_files (objects pool.now table.now.entries)) (shape_of entries.now))) }
@@ -68,7 +68,7 @@ fn push_rows<'a, N: Naming>(
     entries: &'a [(Component, Node)],
     rows: &mut Vec<TreeEntry<'a>>,
 ) -> Result<(), Memory>
-    requires stands { StandsIn N.digest_of pool.now table.now.entries }
+    requires stands { IsBackedBy N.digest_of pool.now table.now.entries }
     requires sound { IsShape (objects pool.now table.now.entries) (shape_of entries.now) }
     requires none { rows.old.items ≡ [] }
     ensures { OnOk result (entries_of rows.new.items ≡ tree_entries N.digest_of
@@ -120,7 +120,7 @@ pub(crate) fn entry_here<N: Naming>(
     table: &Table,
     node: &Node,
 ) -> Result<Entry, Memory>
-    requires stands { StandsIn N.digest_of pool.now table.now.entries }
+    requires stands { IsBackedBy N.digest_of pool.now table.now.entries }
     requires sound { IsHeld (objects pool.now table.now.entries) (held node.now) }
     requires some { held_files (stored_files (objects pool.now table.now.entries)) (held node.now)
         ≢ [] }

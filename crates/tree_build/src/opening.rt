@@ -4,7 +4,7 @@ ghost use Rattle.std.specs.Prelude.{◌≡◌, Some, IsSome, All, IfOk, OnOk};
 ghost use Rattle.git_model.specs.Tree.{IsEntryName, CanWriteEntry};
 ghost use Rattle.git_objects.specs.Parts.{entry_of, entries_of};
 ghost use Rattle.tenant_tables.specs.Objects.{objects};
-ghost use Rattle.tenant_tables.specs.StandsIn.{StandsIn};
+ghost use Rattle.tenant_tables.specs.IsBackedBy.{IsBackedBy};
 ghost use Rattle.tenant_tables.specs.View.{summary_of};
 ghost use Rattle.file_maps.specs.StoredTree.{ListsTree};
 ghost use Rattle.file_maps.specs.StoredFiles.{stored_files};
@@ -62,7 +62,7 @@ pub(crate) fn open<N: Naming>(
     table: &Table,
     id: &Name,
 ) -> Result<Dir, Memory>
-    requires stands { StandsIn N.digest_of pool.now table.now.entries }
+    requires stands { IsBackedBy N.digest_of pool.now table.now.entries }
     requires tree { ListsTree (objects pool.now table.now.entries) id.now
         (stored_files (objects pool.now table.now.entries) id.now) }
     ensures { IfOk result (λ d. IsOpening (objects pool.now table.now.entries) id.now d) }
@@ -86,7 +86,7 @@ pub(crate) fn open_along<N: Naming>(
     path: &Components<'_>,
     reads: &mut u64,
 ) -> Result<(), Memory>
-    requires stands { StandsIn N.digest_of pool.now table.now.entries }
+    requires stands { IsBackedBy N.digest_of pool.now table.now.entries }
     requires sound { IsShape (objects pool.now table.now.entries) dir.old.entries }
     ensures opens { OnOk result (OpensAlong (objects pool.now table.now.entries) path.now
         dir.old dir.new) }
@@ -111,7 +111,7 @@ pub(crate) fn open_below<N: Naming>(
     rest: &Components<'_>,
     reads: &mut u64,
 ) -> Result<(), Memory>
-    requires stands { StandsIn N.digest_of pool.now table.now.entries }
+    requires stands { IsBackedBy N.digest_of pool.now table.now.entries }
     requires sound { IsHeld (objects pool.now table.now.entries) (held node.old) }
     ensures opens { OnOk result (OpensHeld (objects pool.now table.now.entries) rest.now
         (held node.old) (held node.new)) }

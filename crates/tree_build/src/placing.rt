@@ -16,8 +16,8 @@ use git_objects::Memory;
 use git_paths::Components;
 use std::alloc::Global;
 
-// Replaces the node of the entry at a place.
-fn put_instead(
+/// Replaces the node of the entry at a place.
+pub(crate) fn put_instead(
     entries: &mut Vec<(Component, Node)>,
     at: usize,
     name: &[u8],

@@ -5,7 +5,7 @@ ghost use Rattle.std.specs.Option.{option_map};
 ghost use Rattle.git_objects.specs.Parts.{entries_of};
 ghost use Rattle.file_maps.specs.ByComponent.{what};
 ghost use Rattle.tenant_tables.specs.Objects.{objects};
-ghost use Rattle.tenant_tables.specs.StandsIn.{StandsIn};
+ghost use Rattle.tenant_tables.specs.IsBackedBy.{IsBackedBy};
 ghost use Rattle.file_maps.specs.Edits.{cut};
 ghost use Rattle.file_maps.specs.StoredFiles.{stored_files};
 ghost use Rattle.file_maps.specs.StoredTree.{ListsTree};
@@ -41,7 +41,7 @@ fn row_at<N: Naming>(
     tree: &Name,
     name: &[u8],
 ) -> Result<Option<Entry>, Memory>
-    requires stands { StandsIn N.digest_of pool.now table.now.entries }
+    requires stands { IsBackedBy N.digest_of pool.now table.now.entries }
     requires tree { ListsTree (objects pool.now table.now.entries) tree.now
         (stored_files (objects pool.now table.now.entries) tree.now) }
     ensures { IfOk result (λ o. IsRow (objects pool.now table.now.entries) tree.now name.now o) }
@@ -62,7 +62,7 @@ pub(crate) fn stored_entry<N: Naming>(
     rest: &Components<'_>,
     reads: &mut u64,
 ) -> Result<Option<Entry>, Memory>
-    requires stands { StandsIn N.digest_of pool.now table.now.entries }
+    requires stands { IsBackedBy N.digest_of pool.now table.now.entries }
     requires tree { ListsTree (objects pool.now table.now.entries) tree.now
         (stored_files (objects pool.now table.now.entries) tree.now) }
     ensures entry { IfOk result (λ o. o ≡ stands_at N.digest_of

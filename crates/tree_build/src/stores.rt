@@ -1,18 +1,18 @@
 //! Storing the trees at a path of a branch. An unopened directory on the way is read, and stays
 //! unopened.
 
-ghost use Rattle.std.specs.Prelude.{◌≡◌, ◌≤◌, ◌+◌, [], ◌∷◌, None, Some, IfOk};
+ghost use Rattle.std.specs.Prelude.{◌≡◌, ◌≤◌, ◌+◌, [], ◌∷◌, length, None, Some, IfOk};
 ghost use Rattle.tenant_tables.specs.Objects.{objects};
-ghost use Rattle.tenant_tables.specs.StandsIn.{StandsIn, LeavesOthers};
+ghost use Rattle.tenant_tables.specs.IsBackedBy.{IsBackedBy, PreservesOthers};
 ghost use Rattle.file_maps.specs.FileMap.{Path, Listed};
 ghost use Rattle.file_maps.specs.Edits.{cut, files_at};
 ghost use Rattle.file_maps.specs.Trees.{nested_trees, tree_id, tree_name, file_of};
 ghost use Rattle.file_maps.specs.Storable.{AreStorable};
 ghost use Rattle.file_maps.specs.StoredFiles.{stored_files};
 ghost use Rattle.file_maps.specs.StoredTree.{ListsTree};
-ghost use Rattle.file_maps.specs.Storing.{StoresTrees, HasRoomBeside};
+ghost use Rattle.file_maps.specs.Storing.{StoresTrees, HasHoldsLeftBeside};
 ghost use Rattle.tree_build.specs.Shape.{shape_files, held_files};
-ghost use Rattle.tree_build.specs.Branch.{IsDirectory, IsShape, IsHeld, IsBranch, files_in, root_name, known_tree, closed_along, closed_from, Reads};
+ghost use Rattle.tree_build.specs.Branch.{IsDirectory, IsShape, IsHeld, IsBranch, files_in, root_name, known_tree, closed_along, closed_from, CountsAtMost};
 ghost use Rattle.tree_build.specs.Nodes.{held, shape_of};
 ghost use Rattle.tree_build.specs.Standing.{IsFoundAt};
 ghost use Rattle.tree_build.specs.Stores.{bare, bare_held};
@@ -37,8 +37,8 @@ fn store_none<N: Naming>(
     pool: &mut Pool<N>,
     table: &mut Table,
 ) -> Result<Name, Fault>
-    requires stands { StandsIn N.digest_of pool.old table.old.entries }
-    requires room { HasRoomBeside pool.old table.old.entries }
+    requires stands { IsBackedBy N.digest_of pool.old table.old.entries }
+    requires room { HasHoldsLeftBeside pool.old table.old.entries }
     ensures { StoresTrees result N.digest_of pool.old table.old pool.new table.new
         ([] ∷ []) (tree_name N.digest_of []) }
 {
@@ -52,8 +52,8 @@ fn store_found<N: Naming>(
     table: &mut Table,
     found: Option<Entry>,
 ) -> Result<Name, Fault>
-    requires stands { StandsIn N.digest_of pool.old table.old.entries }
-    requires room { HasRoomBeside pool.old table.old.entries }
+    requires stands { IsBackedBy N.digest_of pool.old table.old.entries }
+    requires room { HasHoldsLeftBeside pool.old table.old.entries }
     ensures { (files : Listed) → IsFoundAt (objects pool.old table.old.entries) found files
         → StoresTrees result N.digest_of pool.old table.old pool.new table.new
         (nested_trees N.digest_of files) (tree_id N.digest_of files) }
@@ -74,8 +74,8 @@ fn store_here<N: Naming>(
     table: &mut Table,
     node: &mut Node,
 ) -> Result<Name, Fault>
-    requires stands { StandsIn N.digest_of pool.old table.old.entries }
-    requires room { HasRoomBeside pool.old table.old.entries }
+    requires stands { IsBackedBy N.digest_of pool.old table.old.entries }
+    requires room { HasHoldsLeftBeside pool.old table.old.entries }
     requires sound { IsHeld (objects pool.old table.old.entries) (held node.old) }
     requires storable { let files = held_files (stored_files (objects pool.old table.old.entries))
         (held node.old) in
@@ -106,8 +106,8 @@ fn store_path<N: Naming>(
     path: &Components<'_>,
     reads: &mut u64,
 ) -> Result<Name, Fault>
-    requires stands { StandsIn N.digest_of pool.old table.old.entries }
-    requires room { HasRoomBeside pool.old table.old.entries }
+    requires stands { IsBackedBy N.digest_of pool.old table.old.entries }
+    requires room { HasHoldsLeftBeside pool.old table.old.entries }
     requires sound { IsHeld (objects pool.old table.old.entries) (held node.old) }
     requires storable { let files = held_files (stored_files (objects pool.old table.old.entries))
         (held node.old) in
@@ -148,8 +148,8 @@ fn store_below<N: Naming>(
     rest: &Components<'_>,
     reads: &mut u64,
 ) -> Result<Name, Fault>
-    requires stands { StandsIn N.digest_of pool.old table.old.entries }
-    requires room { HasRoomBeside pool.old table.old.entries }
+    requires stands { IsBackedBy N.digest_of pool.old table.old.entries }
+    requires room { HasHoldsLeftBeside pool.old table.old.entries }
     requires sound { IsShape (objects pool.old table.old.entries) (shape_of entries.old.items) }
     requires storable { AreStorable (shape_files (stored_files
         (objects pool.old table.old.entries)) (shape_of entries.old.items)) }
@@ -177,7 +177,7 @@ impl Files {
     /// `pool` and `table` hold the trees of this value, and no content has 2^64 - 2 holds besides
     /// those of the table. If no file is below the path, or a file is at it, the empty tree is
     /// stored and named. A tree that the table has is not added again, and a directory that is a
-    /// stored tree is not walked.
+    /// stored tree is not walked. Reads at most as many trees as the path has components.
     ///
     /// The first tree that cannot be added decides the error: `Fault::Limit` (25) if its contents
     /// are too long or the table is full; else `Fault::NameCollision` (24) if the table has another
@@ -191,23 +191,25 @@ impl Files {
         table: &mut Table,
         at: &Path,
     ) -> Result<Name, Fault>
-        requires stands { StandsIn N.digest_of pool.old table.old.entries }
-        requires room { HasRoomBeside pool.old table.old.entries }
+        requires stands { IsBackedBy N.digest_of pool.old table.old.entries }
+        requires room { HasHoldsLeftBeside pool.old table.old.entries }
         requires branch { IsBranch (objects pool.old table.old.entries) self.old }
         ensures stores { let files = files_at (files_in (objects pool.old table.old.entries)
             self.old) at.now in
             StoresTrees result N.digest_of pool.old table.old pool.new table.new
             (nested_trees N.digest_of files) (tree_id N.digest_of files) }
-        ensures stands { StandsIn N.digest_of pool.new table.new.entries }
-        ensures room { HasRoomBeside pool.new table.new.entries }
-        ensures others { LeavesOthers pool.old table.old.entries pool.new table.new.entries }
+        ensures stands { IsBackedBy N.digest_of pool.new table.new.entries }
+        ensures room { HasHoldsLeftBeside pool.new table.new.entries }
+        ensures others { PreservesOthers pool.old table.old.entries pool.new table.new.entries }
         ensures branch { IsBranch (objects pool.new table.new.entries) self.new }
         ensures files { files_in (objects pool.new table.new.entries) self.new
             ≡ files_in (objects pool.old table.old.entries) self.old }
         ensures named { at.now ≡ [] → IfOk result (λ id. root_name self.new ≡ Some id) }
-        ensures reads { Reads self.old self.new (closed_from self.old.root at.now) }
+        ensures reads { CountsAtMost self.old self.new (closed_from self.old.root at.now) }
+        ensures few { self.new.reads ≤ self.old.reads + length at.now }
         ensures open { (q : Path) → closed_from self.new.root q ≤ closed_from self.old.root q }
     {
+        self.walk_reads_few(at);
         store_path(
             self.alloc,
             pool,

@@ -6,12 +6,12 @@ ghost use Rattle.git_model.specs.ObjectName.{IsObjectName};
 ghost use Rattle.git_objects.specs.Parts.{entry_of, entries_of};
 ghost use Rattle.std.specs.List.{AllByRecursion};
 ghost use Rattle.tenant_tables.specs.Objects.{objects};
-ghost use Rattle.tenant_tables.specs.StandsIn.{StandsIn};
+ghost use Rattle.tenant_tables.specs.IsBackedBy.{IsBackedBy};
 ghost use Rattle.file_maps.specs.Trees.{nested_trees, tree_id, tree_name, file_of, unless_file};
 ghost use Rattle.file_maps.specs.Storable.{AreStorable};
 ghost use Rattle.file_maps.specs.StoredFiles.{stored_files};
 ghost use Rattle.file_maps.specs.StoredTree.{ListsTree};
-ghost use Rattle.file_maps.specs.Storing.{StoresTrees, HasRoomBeside};
+ghost use Rattle.file_maps.specs.Storing.{StoresTrees, HasHoldsLeftBeside};
 ghost use Rattle.tree_build.specs.Shape.{opened, shape_files, held_files};
 ghost use Rattle.tree_build.specs.Branch.{IsShape, IsHeld};
 ghost use Rattle.tree_build.specs.Nodes.{held, shape_of};
@@ -35,8 +35,8 @@ pub(crate) fn store_dir<N: Naming>(
     table: &mut Table,
     dir: &mut Dir,
 ) -> Result<Name, Fault>
-    requires stands { StandsIn N.digest_of pool.old table.old.entries }
-    requires room { HasRoomBeside pool.old table.old.entries }
+    requires stands { IsBackedBy N.digest_of pool.old table.old.entries }
+    requires room { HasHoldsLeftBeside pool.old table.old.entries }
     requires sound { IsHeld (objects pool.old table.old.entries)
         (record { what = opened dir.old.tree; inside = dir.old.entries }) }
     requires storable { AreStorable (shape_files (stored_files
@@ -75,8 +75,8 @@ fn store_inside<N: Naming>(
     table: &mut Table,
     entries: &mut Vec<(Component, Node)>,
 ) -> Result<(), Fault>
-    requires stands { StandsIn N.digest_of pool.old table.old.entries }
-    requires room { HasRoomBeside pool.old table.old.entries }
+    requires stands { IsBackedBy N.digest_of pool.old table.old.entries }
+    requires room { HasHoldsLeftBeside pool.old table.old.entries }
     requires sound { IsShape (objects pool.old table.old.entries) (shape_of entries.old.items) }
     requires storable { AreStorable (shape_files (stored_files
         (objects pool.old table.old.entries)) (shape_of entries.old.items)) }
@@ -107,8 +107,8 @@ fn store_at<N: Naming>(
     place: usize,
 ) -> Result<(), Fault>
     requires place { place < length entries.old.items }
-    requires stands { StandsIn N.digest_of pool.old table.old.entries }
-    requires room { HasRoomBeside pool.old table.old.entries }
+    requires stands { IsBackedBy N.digest_of pool.old table.old.entries }
+    requires room { HasHoldsLeftBeside pool.old table.old.entries }
     requires sound { IsShape (objects pool.old table.old.entries) (shape_of entries.old.items) }
     requires storable { AreStorable (shape_files (stored_files
         (objects pool.old table.old.entries)) (shape_of entries.old.items)) }
@@ -132,8 +132,8 @@ fn store_node<N: Naming>(
     table: &mut Table,
     node: &mut Node,
 ) -> Result<(), Fault>
-    requires stands { StandsIn N.digest_of pool.old table.old.entries }
-    requires room { HasRoomBeside pool.old table.old.entries }
+    requires stands { IsBackedBy N.digest_of pool.old table.old.entries }
+    requires room { HasHoldsLeftBeside pool.old table.old.entries }
     requires sound { IsHeld (objects pool.old table.old.entries) (held node.old) }
     requires storable { let files = held_files (stored_files (objects pool.old table.old.entries))
         (held node.old) in
@@ -163,8 +163,8 @@ fn add_tree<N: Naming>(
     table: &mut Table,
     entries: &[(Component, Node)],
 ) -> Result<Name, Fault>
-    requires stands { StandsIn N.digest_of pool.old table.old.entries }
-    requires room { HasRoomBeside pool.old table.old.entries }
+    requires stands { IsBackedBy N.digest_of pool.old table.old.entries }
+    requires room { HasHoldsLeftBeside pool.old table.old.entries }
     requires sound { IsShape (objects pool.old table.old.entries) (shape_of entries.now) }
     requires named { AreNamed (shape_of entries.now) }
     requires storable { AreStorable (shape_files (stored_files

@@ -5,8 +5,8 @@ ghost use Rattle.git_model.specs.Content.{Content};
 ghost use Rattle.git_model.specs.Repository.{Object, with_object};
 ghost use Rattle.git_model.specs.declared.file_mode.FileMode.TheVariants as mode;
 ghost use Rattle.tenant_tables.specs.Objects.{objects};
-ghost use Rattle.tenant_tables.specs.Room.{HasRoomBeside};
-ghost use Rattle.tenant_tables.specs.StandsIn.{StandsIn};
+ghost use Rattle.tenant_tables.specs.Room.{HasHoldsLeftBeside};
+ghost use Rattle.tenant_tables.specs.IsBackedBy.{IsBackedBy};
 ghost use Rattle.file_maps.specs.declared.fault.Fault.TheVariants as fault;
 ghost use Rattle.tree_build.specs.Branch.{IsBranch};
 ghost use Rattle.tree_build.proofs.Growing.{branch_stays};
@@ -44,7 +44,7 @@ pub trait Body: Sized + Drop {
         entry: Entry,
     ) -> Result<(), Fault>
         requires file { entry.mode ≢ mode.Directory }
-        requires stands { StandsIn N.digest_of pool.now table.now.entries }
+        requires stands { IsBackedBy N.digest_of pool.now table.now.entries }
         requires sound { is_sound (objects pool.now table.now.entries) self.old }
         ensures { is_sound (objects pool.now table.now.entries) self.new };
 
@@ -54,7 +54,7 @@ pub trait Body: Sized + Drop {
         table: &Table,
         path: &Path,
     ) -> Result<(), Fault>
-        requires stands { StandsIn N.digest_of pool.now table.now.entries }
+        requires stands { IsBackedBy N.digest_of pool.now table.now.entries }
         requires sound { is_sound (objects pool.now table.now.entries) self.old }
         ensures { is_sound (objects pool.now table.now.entries) self.new };
 
@@ -65,7 +65,7 @@ pub trait Body: Sized + Drop {
         from: &Path,
         to: &Path,
     ) -> Result<(), Fault>
-        requires stands { StandsIn N.digest_of pool.now table.now.entries }
+        requires stands { IsBackedBy N.digest_of pool.now table.now.entries }
         requires sound { is_sound (objects pool.now table.now.entries) self.old }
         ensures { is_sound (objects pool.now table.now.entries) self.new };
 
@@ -76,7 +76,7 @@ pub trait Body: Sized + Drop {
         from: &Path,
         to: &Path,
     ) -> Result<(), Fault>
-        requires stands { StandsIn N.digest_of pool.now table.now.entries }
+        requires stands { IsBackedBy N.digest_of pool.now table.now.entries }
         requires sound { is_sound (objects pool.now table.now.entries) self.old }
         ensures { is_sound (objects pool.now table.now.entries) self.new };
 
@@ -87,7 +87,7 @@ pub trait Body: Sized + Drop {
         path: &Path,
         name: &Name,
     ) -> Result<(), Fault>
-        requires stands { StandsIn N.digest_of pool.now table.now.entries }
+        requires stands { IsBackedBy N.digest_of pool.now table.now.entries }
         requires sound { is_sound (objects pool.now table.now.entries) self.old }
         ensures { is_sound (objects pool.now table.now.entries) self.new };
 
@@ -97,7 +97,7 @@ pub trait Body: Sized + Drop {
         table: &Table,
         path: &Path,
     ) -> Result<Option<Entry>, Memory>
-        requires stands { StandsIn N.digest_of pool.now table.now.entries }
+        requires stands { IsBackedBy N.digest_of pool.now table.now.entries }
         requires sound { is_sound (objects pool.now table.now.entries) self.now };
 
     fn store<N: Naming>(
@@ -106,11 +106,11 @@ pub trait Body: Sized + Drop {
         table: &mut Table,
         at: &Path,
     ) -> Result<Name, Fault>
-        requires stands { StandsIn N.digest_of pool.old table.old.entries }
-        requires room { HasRoomBeside pool.old table.old.entries }
+        requires stands { IsBackedBy N.digest_of pool.old table.old.entries }
+        requires room { HasHoldsLeftBeside pool.old table.old.entries }
         requires sound { is_sound (objects pool.old table.old.entries) self.old }
-        ensures stands { StandsIn N.digest_of pool.new table.new.entries }
-        ensures room { HasRoomBeside pool.new table.new.entries }
+        ensures stands { IsBackedBy N.digest_of pool.new table.new.entries }
+        ensures room { HasHoldsLeftBeside pool.new table.new.entries }
         ensures sound { is_sound (objects pool.new table.new.entries) self.new };
 
     ghost stays: { (os : List Object) (id : List ℕ) (c : Content) (files : Self) → is_sound os files

@@ -95,16 +95,16 @@ fn path_of(alloc: Global, text: &[u8]) -> Option<Path> {
 
 impl<B: Body, N: Naming> Model for Branch<B, N> {
     ghost use Rattle.std.specs.Prelude.{ℕ};
-    ghost use Rattle.tenant_tables.specs.StandsIn.{StandsIn};
-    ghost use Rattle.tenant_tables.specs.Room.{HasRoomBeside};
+    ghost use Rattle.tenant_tables.specs.IsBackedBy.{IsBackedBy};
+    ghost use Rattle.tenant_tables.specs.Room.{HasHoldsLeftBeside};
     ghost use Rattle.tenant_tables.specs.Objects.{objects};
 
     ghost Value = { ℕ };
 
     ghost view = { λ branch. 0 };
 
-    ghost invariant = { λ branch. StandsIn N.digest_of branch.pool branch.table.entries
-        × HasRoomBeside branch.pool branch.table.entries
+    ghost invariant = { λ branch. IsBackedBy N.digest_of branch.pool branch.table.entries
+        × HasHoldsLeftBeside branch.pool branch.table.entries
         × B.is_sound (objects branch.pool branch.table.entries) branch.files };
 }
 

@@ -6,14 +6,14 @@ use Rattle.import_session.specs.Stream.{Runs, Refused}
 use Rattle.service_steps.specs.declared.step.Step.{Step}
 use Rattle.service_steps.specs.declared.step.Step.TheVariants as step
 use Rattle.tenant_service.specs.Alone.{State, Restart, Closed, Streaming, Dead}
-use Rattle.tenant_service.specs.Headline.{Told, concerns, call_of, stop_told, steps_of, left_alone, IsIsolated}
-use Rattle.tenant_service.specs.TenantState.{TenantState, Idle, Busy, LeadsTo}
+use Rattle.tenant_service.specs.Headline.{Response, concerns, call_of, stop_told, steps_of, left_alone, IsIsolated}
+use Rattle.tenant_service.specs.TenantState.{TenantState, Idle, Busy, Represents}
 use Rattle.tenant_service.specs.StepName.{name_of}
 use Rattle.tenant_service.proofs.RunLemmas.{apart-back}
 
 -- a repository and a stream of its own lead to one thing
 pub leads-one : (digest : List ℕ → List ℕ) (state : State) (a b : TenantState)
-    → LeadsTo digest state a → LeadsTo digest state b → a ≡ b
+    → Represents digest state a → Represents digest state b → a ≡ b
 leads-one digest (Closed r) (Idle a) (Idle b) h k = ap Idle (sym h ∙ k)
 leads-one digest (Closed r) (Idle a) (Busy b) h k = absurd k
 leads-one digest (Closed r) (Busy a) b h k = absurd h
@@ -50,17 +50,17 @@ call-apart other tenant (step.Ask given query) named calls apart =
 call-apart other tenant step.Restart named calls apart = absurd (calls refl)
 
 -- so what led to what was held of the other leads to what is held of it then
-pub leads-on : (digest : List ℕ → List ℕ) (other tenant : List ℕ) (s : Step) (told : Told)
+pub leads-on : (digest : List ℕ → List ℕ) (other tenant : List ℕ) (s : Step) (told : Response)
     (before after : TenantState) (state : State)
     → name_of s ≡ tenant → (call_of s ≡ Restart → ⊥) → bytes_eq other tenant ≡ false
     → IsIsolated digest other before ((s, told) ∷ []) after
-    → LeadsTo digest state before → LeadsTo digest state after
+    → Represents digest state before → Represents digest state after
 unfolding left_alone
 leads-on digest other tenant s told before after state named calls apart own leads =
-    subst (λ (x : State). LeadsTo digest x after) same (own.left state leads)
+    subst (λ (x : State). Represents digest x after) same (own.left state leads)
   where
     same : left_alone digest state (steps_of other ((s, told) ∷ [])) ≡ state
     same =
         ap (λ (b : Bool). left_alone digest state
-        (map (λ (x : Step × Told). (call_of x.0, stop_told x.1.answer)) (cond b ((s, told) ∷ []) [])))
+        (map (λ (x : Step × Response). (call_of x.0, stop_told x.1.answer)) (cond b ((s, told) ∷ []) [])))
         (call-apart other tenant s named calls apart)

@@ -37,7 +37,7 @@ pub struct Beside<N: Naming> {
 
 impl<N: Naming> Model for Beside<N> {
     ghost use Rattle.std.specs.Prelude.{ℕ, []};
-    ghost use Rattle.tenant_tables.specs.StandsIn.{Share};
+    ghost use Rattle.tenant_tables.specs.IsBackedBy.{Share};
 
     ghost Value = { ℕ };
 

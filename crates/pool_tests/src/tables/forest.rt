@@ -22,7 +22,7 @@ pub struct Forest<N: Naming> {
 
 impl<N: Naming> Model for Forest<N> {
     ghost use Rattle.std.specs.Prelude.{[]};
-    ghost use Rattle.tenant_tables.specs.StandsIn.{Share};
+    ghost use Rattle.tenant_tables.specs.IsBackedBy.{Share};
     ghost use Rattle.tenant_tables.specs.View.{Entries};
 
     ghost Value = { Entries };

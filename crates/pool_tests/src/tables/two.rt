@@ -79,7 +79,7 @@ struct Two<N: Naming> {
 
 impl<N: Naming> Model for Two<N> {
     ghost use Rattle.std.specs.Prelude.{ℕ};
-    ghost use Rattle.tenant_tables.specs.StandsIn.{Share};
+    ghost use Rattle.tenant_tables.specs.IsBackedBy.{Share};
 
     ghost Value = { ℕ };
 

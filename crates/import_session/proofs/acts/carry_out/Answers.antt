@@ -1,74 +1,68 @@
-use Rattle.std.proofs.Common.{Result, refl, sym, subst}
+use Rattle.std.proofs.Common.{refl}
 use Rattle.std.proofs.lemmas.Result.{on_err_weaker}
+use Rattle.tenant_tables.specs.Objects.{objects}
 use Rattle.tenant_tables.proofs.RoomLemmas.{has_room}
-use Rattle.stream_state.specs.declared.fault.Fault.{Fault}
-use Rattle.import_session.specs.Workspace.{Effect}
 use Rattle.import_session.specs.Meaning.{after_act}
-use Rattle.import_session.specs.Session.{state_shown, workspace_in, CarriesOut}
-use Rattle.import_session.proofs.ActLemmas.{saves}
-use Rattle.import_session.proofs.Defaults.{after_act_next}
+use Rattle.import_session.specs.Session.{state_shown}
+use Rattle.import_session.proofs.HeldLemmas.{still_held}
 use Rattle.import_session.proofs.LastLemmas.{in_any_case, unchanged_committed}
 use Rattle.import_session.proofs.acts.carry_out.Goals as goal
 
-pub store_tag-requires-clause-room : goal.store_tag-requires-clause-room
-store_tag-requires-clause-room g c =
+pub carry_out_object-requires-clause-room : goal.carry_out_object-requires-clause-room
+carry_out_object-requires-clause-room g c =
     has_room _ c.args.pool.now c.args.table.now.entries c.requires.stands c.requires.room
 
-pub show_or_store-requires-clause-room : goal.show_or_store-requires-clause-room
-show_or_store-requires-clause-room g c =
-    has_room _ c.args.pool.now c.args.table.now.entries c.requires.stands c.requires.room
-
-pub returns-in-StoreTag-clause-done : goal.returns-in-StoreTag-clause-done
+pub returns-in-Object-clause-done : goal.returns-in-Object-clause-done
 unfolding after_act
-returns-in-StoreTag-clause-done g c sound =
-    rw c.in-StoreTag.is (c.store_tag.ensures.done c.args.out.now.items sound.objects)
+returns-in-Object-clause-done g c sound =
+    rw c.in-Object.is (c.carry_out_object.ensures.done c.args.out.now.items sound.objects)
 
-pub returns-in-StoreTag-clause-committed : goal.returns-in-StoreTag-clause-committed
-returns-in-StoreTag-clause-committed g c =
-    on_err_weaker c.store_tag.result (unchanged_committed c.args.pool.now c.args.table.now
-    c.store_tag.new.pool c.store_tag.new.table) c.store_tag.ensures.same
+pub returns-in-Object-clause-committed : goal.returns-in-Object-clause-committed
+returns-in-Object-clause-committed g c =
+    on_err_weaker c.carry_out_object.result (unchanged_committed c.args.pool.now c.args.table.now
+    c.carry_out_object.new.pool c.carry_out_object.new.table) c.carry_out_object.ensures.same
 
-pub returns-in-PutContents-clause-done : goal.returns-in-PutContents-clause-done
+pub returns-in-Commit-clause-done : goal.returns-in-Commit-clause-done
 unfolding after_act
-returns-in-PutContents-clause-done g c sound =
-    rw c.in-PutContents.is (c.put_contents.ensures.done c.args.refs.now c.args.out.now.items)
+returns-in-Commit-clause-done g c sound =
+    rw c.in-Commit.is (c.carry_out_commit.ensures.done c.args.out.now.items sound)
 
-pub returns-in-PutContents-clause-committed : goal.returns-in-PutContents-clause-committed
-returns-in-PutContents-clause-committed g c =
-    in_any_case c.put_contents.result c.put_contents.ensures.committed
-
-pub returns-in-ShowBranchEntry-clause-done : goal.returns-in-ShowBranchEntry-clause-done
+pub returns-in-Change-clause-done : goal.returns-in-Change-clause-done
 unfolding after_act
-returns-in-ShowBranchEntry-clause-done g c sound =
-    rw c.in-ShowBranchEntry.is (c.show_entry.ensures.done c.args.refs.now)
+returns-in-Change-clause-done g c sound =
+    rw c.in-Change.is (c.carry_out_change.ensures.done c.args.refs.now c.args.out.now.items sound.objects)
 
-pub returns-in-ShowBranchEntry-clause-committed : goal.returns-in-ShowBranchEntry-clause-committed
-returns-in-ShowBranchEntry-clause-committed g c =
-    in_any_case c.show_entry.result c.show_entry.ensures.committed
+pub returns-in-Change-clause-committed : goal.returns-in-Change-clause-committed
+returns-in-Change-clause-committed g c =
+    in_any_case c.carry_out_change.result c.carry_out_change.ensures.committed
 
-pub returns-in-Checkpoint-clause-done : goal.returns-in-Checkpoint-clause-done
-returns-in-Checkpoint-clause-done g c sound =
-    subst (λ (r : Result Effect Fault). CarriesOut r
-    (workspace_in (state_shown c.save.new.state) c.args.pool.now c.save.new.table c.save.new.refs)
-    c.args.out.now.items c.save.new.out.items c.save.result)
-    (sym (saves g.N.Naming.digest_of c.args.act.now
-    (workspace_in (state_shown c.args.state.now) c.args.pool.now c.args.table.now c.args.refs.now)
-    c.in-Checkpoint.is))
-    (c.save.ensures.saved sound.objects)
+pub returns-in-Ref-clause-done : goal.returns-in-Ref-clause-done
+unfolding after_act
+returns-in-Ref-clause-done g c sound =
+    rw c.in-Ref.is (c.carry_out_ref.ensures.done c.args.out.now.items sound.objects)
 
-pub returns-in-Checkpoint-clause-committed : goal.returns-in-Checkpoint-clause-committed
-returns-in-Checkpoint-clause-committed g c =
-    on_err_weaker c.save.result (λ same. unchanged_committed c.args.pool.now c.args.table.now
-    c.args.pool.now c.save.new.table (record { pool = refl; table = same.0 })) c.save.ensures.same
+pub returns-in-Reply-clause-done : goal.returns-in-Reply-clause-done
+unfolding after_act
+returns-in-Reply-clause-done g c sound =
+    rw c.in-Reply.is (c.carry_out_reply.ensures.done c.args.refs.now sound.objects)
 
-pub returns-in_default-clause-committed : goal.returns-in_default-clause-committed
-returns-in_default-clause-committed g c =
-    on_err_weaker c.show_or_store.result (unchanged_committed c.args.pool.now c.args.table.now
-    c.show_or_store.new.pool c.show_or_store.new.table) c.show_or_store.ensures.same
+pub returns-in-Reply-clause-committed : goal.returns-in-Reply-clause-committed
+returns-in-Reply-clause-committed g c =
+    in_any_case c.carry_out_reply.result c.carry_out_reply.ensures.committed
 
-pub returns-in_default-clause-done : goal.returns-in_default-clause-done
-returns-in_default-clause-done g c sound =
-    rw (after_act_next g.N.Naming.digest_of c.args.act.now (workspace_in (state_shown c.args.state.now) c.args.pool.now c.args.table.now c.args.refs.now)
-    c.in_default.not-StoreTag c.in_default.not-PutContents c.in_default.not-ShowBranchEntry
-    c.in_default.not-Checkpoint c.in_default.not-Finish)
-    (c.show_or_store.ensures.done sound)
+pub returns-in-Control-clause-done : goal.returns-in-Control-clause-done
+unfolding after_act
+returns-in-Control-clause-done g c sound =
+    rw c.in-Control.is (c.carry_out_control.ensures.done sound.objects)
+
+pub returns-in-Control-clause-committed : goal.returns-in-Control-clause-committed
+returns-in-Control-clause-committed g c =
+    on_err_weaker c.carry_out_control.result (λ same. unchanged_committed c.args.pool.now
+    c.args.table.now c.args.pool.now c.carry_out_control.new.table
+    (record { pool = refl; table = same.0 })) c.carry_out_control.ensures.same
+
+pub returns-in-Control-clause-held : goal.returns-in-Control-clause-held
+returns-in-Control-clause-held g c =
+    still_held c.carry_out_control.result (objects c.args.pool.now c.carry_out_control.new.table.entries)
+    (state_shown c.args.state.now) (state_shown c.carry_out_control.new.state)
+    c.carry_out_control.ensures.files (rw c.carry_out_control.ensures.entries c.requires.held)

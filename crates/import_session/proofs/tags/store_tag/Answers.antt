@@ -5,12 +5,14 @@ use Rattle.git_model.specs.Content.{name_by}
 use Rattle.tenant_tables.specs.Objects.{objects}
 use Rattle.stream_state.specs.declared.command_header.CommandHeader.{CommandHeader}
 use Rattle.stream_state.specs.Tags.{tag_content}
+use Rattle.import_session.specs.Objects.{object_stored}
 use Rattle.import_session.specs.Session.{StreamState, state_shown, workspace_in}
 use Rattle.import_session.proofs.HeldLemmas.{commit_same, files_grown, files_kept}
 use Rattle.import_session.proofs.TagLemmas.{tag_kept, tag_left, tag_not_stored, tag_refused}
 use Rattle.import_session.proofs.tags.store_tag.Goals as goal
 
 pub returns-in_err-target-clause-done : goal.returns-in_err-target-clause-done
+unfolding object_stored
 returns-in_err-target-clause-done g c out good =
     let w = workspace_in (state_shown c.args.state.now) c.args.pool.now c.args.table.now
     c.args.refs.now in
@@ -20,6 +22,7 @@ returns-in_err-target-clause-done g c out good =
     c.in_err-target.field-0.0 (c.in_err-target.ensures.tagged good))
 
 pub returns-in_err-id-clause-done : goal.returns-in_err-id-clause-done
+unfolding object_stored
 returns-in_err-id-clause-done g c out good =
     let w = workspace_in (state_shown c.args.state.now) c.args.pool.now c.args.table.now
     c.args.refs.now in
@@ -31,6 +34,7 @@ returns-in_err-id-clause-done g c out good =
     (c.in_ok-target.ensures.tagged good) c.in_err-id.ensures.stores.refused)
 
 pub returns-clause-done : goal.returns-clause-done
+unfolding object_stored
 returns-clause-done g c out good =
     let digest = g.N.Naming.digest_of in
     let state = state_shown c.args.state.now in

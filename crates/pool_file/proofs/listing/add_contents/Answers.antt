@@ -1,8 +1,26 @@
-use Rattle.pool_file.proofs.Collected.{collects_more}
+use Rattle.std.proofs.Common.{◌<◌, length, arith}
+use Rattle.tenant_tables.proofs.Positions.{told_live}
+use Rattle.pool_file.proofs.Collected.{raw_told, told_there, collects_on}
 use Rattle.pool_file.proofs.listing.add_contents.Goals as goal
+use Rattle.pool_file.proofs.listing.add_contents.Goals.{in-Some+in_ok-add_content, in_default}
 
-pub loop-content-preserved : goal.loop-content-preserved
-loop-content-preserved c =
-    collects_more c.args.listed.now.keys c.loop-content.listed.keys c.insert.new.self.keys
-    c.args.contents.now c.loop-content.content-index _ c.loop-content.invariant
-    c.loop-content-test.true c.in_ok-insert.ensures.keys
+pub add_content-requires : goal.add_content-requires
+add_content-requires g c =
+    told_live _ c.args.pool.now c.args.table.now.entries c.loop-place.place _ _
+    c.requires c.in-Some.ensures
+
+pub loop-place-preserved : goal.loop-place-preserved
+loop-place-preserved g c = elim c.match-at.branch [
+  | in-Some+in_ok-add_content w ↦
+      let pool = c.args.pool.now in
+      rw (w.listed-is, w.marks-is) (collects_on pool c.args.listed.now.keys c.loop-place.listed.keys
+      w.add_content.new.listed.keys c.args.marks.now.items c.loop-place.marks.items
+      w.add_content.new.marks.items _ _ _ c.loop-place.invariant w.in_ok-add_content.ensures
+      (raw_told pool c.args.table.now.entries c.loop-place.place _ _ w.in-Some.ensures))
+  | in_default w ↦
+      let n = c.committed_len-place-end.ensures.value in
+      let m = c.committed_len-place-end.ensures.within in
+      let l : c.loop-place.place < length c.args.table.now.entries =
+      let t = c.loop-place-test.true in omega (arith, t, n, m) in
+      absurd (told_there c.args.table.now.entries c.loop-place.place w.in_default.ensures l)
+]

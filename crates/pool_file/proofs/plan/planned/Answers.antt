@@ -20,13 +20,13 @@ pub raw_tenants-requires-clause-order : goal.raw_tenants-requires-clause-order
 raw_tenants-requires-clause-order g c =
     let all : List Named = map (named_in c.args.pool.now) c.deref.result.now in
     lists_in_order c.deref-2.result.now all
-    (subst (λ (x : List LentContent). Lists x all) (sym c.deref-2.ensures.value) c.in_ok-contents.ensures)
+    (subst (λ (x : List LentContent). Lists x all) (sym c.deref-2.ensures.value) c.in_ok-listing.ensures)
 
 pub returns : goal.returns
 returns g c =
     file_so c.args.pool.now c.args.tenants.now c.in_ok-saved.saved.items c.deref.result.now
-    c.deref-3.result.now c.in_ok-contents.contents.items c.deref-2.result.now c.deref-4.result.now
+    c.deref-3.result.now c.in_ok-listing.listing.contents.items c.deref-2.result.now c.deref-4.result.now
     c.in_ok-objects.objects.items c.in_ok-tenants.tenants.items
     (c.in_ok-saved.ensures.saved c.args.pool.now) c.deref.ensures.value c.deref-3.ensures.value
-    c.deref-2.ensures.value c.deref-4.ensures.value c.in_ok-contents.ensures c.in_ok-tenants.ensures
+    c.deref-2.ensures.value c.deref-4.ensures.value c.in_ok-listing.ensures c.in_ok-tenants.ensures
     c.in_ok-objects.ensures

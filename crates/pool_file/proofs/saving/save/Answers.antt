@@ -1,4 +1,4 @@
-use Rattle.std.proofs.Common.{List, sym, ap, subst, ◌∙◌, map}
+use Rattle.std.proofs.Common.{List, sym, ap, subst, ◌∙◌}
 use Rattle.byte_devices.specs.Device.{device_of, seen}
 use Rattle.pool_file_checks.specs.Repositories.{Named, file_text}
 use Rattle.pool_file.specs.declared.tenant.Tenant.{Tenant}

@@ -1,4 +1,3 @@
-use Rattle.std.proofs.Common.{sym}
 use Rattle.pool_file.proofs.Views.{view_more}
 use Rattle.pool_file.proofs.saving.views_of.Goals as goal
 

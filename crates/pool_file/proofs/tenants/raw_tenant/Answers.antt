@@ -1,26 +1,24 @@
 use Rattle.std.proofs.Common.{◌≡◌, List, map, ap, ◌∙◌}
+use Rattle.git_model.specs.Repository.{Object}
 use Rattle.git_model.specs.RefStore.{listed_refs}
 use Rattle.pool_file_format.specs.Shown.{refs_of}
 use Rattle.pool_file_checks.specs.Repositories.{raw_ref, number_in, listed_contents}
-use Rattle.pool_file.specs.declared.content.LentContent.{LentContent}
-use Rattle.pool_file.specs.Worth.{named_with}
-use Rattle.pool_file.proofs.Collected.{number_among}
+use Rattle.pool_file.specs.Worth.{named_with, named_in}
 use Rattle.pool_file.proofs.Planning.{numbers_are}
 use Rattle.pool_file.proofs.tenants.raw_tenant.Goals as goal
 
-pub returns : goal.returns
-returns g c = λ all lists.
-    let name : c.in_ok-from_slice.field-0.items ≡ c.args.tenant.now.name.now =
+pub returns-clause-raw : goal.returns-clause-raw
+returns-clause-raw g c = λ all lists.
+    let saved = named_in c.args.pool.now c.args.tenant.now in
+    let name : c.in_ok-from_slice.field-0.items ≡ saved.tenant =
     c.in_ok-from_slice.ensures.items ∙ c.as_bytes.ensures.text in
-    let numbers : c.in_ok-numbers_of.field-0.items
-    ≡ map (λ o. number_in (listed_contents all) o.content) c.args.objects.now =
-    numbers_are c.args.contents.now all lists c.in_ok-own.own.items c.args.objects.now
-    c.in_ok-numbers_of.field-0.items c.in_ok-own.ensures
-    (c.in_ok-numbers_of.ensures
-    ∙ ap (λ (own : List LentContent). map (number_among c.args.contents.now) own) c.deref.ensures.value) in
-    let refs : refs_of c.in_ok-raw_refs.field-0.items
-    ≡ map (raw_ref (named_with c.args.tenant.now c.args.objects.now))
-    (listed_refs c.args.tenant.now.refs.now) = c.in_ok-raw_refs.ensures in
-    let head : c.in_ok-from_slice-2.field-0.items ≡ c.args.tenant.now.refs.now.head =
+    let numbers : c.in_ok-numbers.numbers.items
+    ≡ map (λ o. number_in (listed_contents all) o.content) saved.repository.objects =
+    c.in_ok-numbers.ensures.numbers ∙ numbers_are c.args.contents.now all lists saved.repository.objects in
+    let refs : refs_of c.in_ok-raw_refs.field-0.items ≡ map (raw_ref saved) (listed_refs saved.repository.refs) =
+    c.in_ok-raw_refs.ensures
+    ∙ ap (λ (os : List Object). map (raw_ref (named_with c.args.tenant.now os))
+    (listed_refs c.args.tenant.now.refs.now)) c.committed.ensures in
+    let head : c.in_ok-from_slice-2.field-0.items ≡ saved.repository.refs.head =
     c.in_ok-from_slice-2.ensures.items ∙ c.head.ensures.head in
     λ i. record { name = name i; numbers = numbers i; refs = refs i; head = head i }

@@ -1,11 +1,11 @@
 use Rattle.std.proofs.Common.{length, sym, ap, ◌∙◌}
-use Rattle.tenant_tables.proofs.TableLemmas.{StandsIn-nil}
+use Rattle.tenant_tables.proofs.TableLemmas.{IsBackedBy-nil}
 use Rattle.tenant_service.proofs.TenantLemmas.{held_nothing}
 use Rattle.tenant_service.proofs.tenant.new_tenant.Goals as goal
 
 pub returns-clause-stands : goal.returns-clause-stands
 returns-clause-stands c = λ digest pool. record {
-  entries = rw c.new.ensures.entries (StandsIn-nil digest pool);
+  entries = rw c.new.ensures.entries (IsBackedBy-nil digest pool);
   settled = c.new.ensures.committed ∙ sym (ap length c.new.ensures.entries);
   files = tt;
   chain = rw c.new-3.ensures tt;

@@ -1,10 +1,10 @@
 use Rattle.std.proofs.Common.{ℕ, List, sym, ap, ◌-◌, ◌∙◌, subst, arith}
 use Rattle.std.proofs.lemmas.Bool.{true≢false}
-use Rattle.std.proofs.lemmas.Bool.Decides.{Decides-eqb}
-use Rattle.std.proofs.lemmas.Slice.Eq.{slice_eq-Decides}
+use Rattle.std.proofs.lemmas.Slice.Eq.{bytes_eq-Decides}
 use Rattle.git_model.specs.Tree.{slash_of}
 use Rattle.tree_build.specs.declared.dir.Node.{Node}
 use Rattle.tree_build.specs.Searches.{IsPlaceAfter}
+use Rattle.tree_build.proofs.Look.{is_bytes}
 use Rattle.tree_build.proofs.Searched.{first_named, none_named, another}
 use Rattle.tree_build.proofs.names.place_before.Goals as goal
 
@@ -12,26 +12,25 @@ pub returns-then-next-eq0 : goal.returns-then-next-eq0
 returns-then-next-eq0 c =
     let zero = c.if-next-eq0.true in
     none_named c.args.name.now (slash_of c.args.mode) c.args.entries.now c.requires
-    c.place_after-next.result c.place_after-next.ensures.within
-    (subst (λ (key : List ℕ). IsPlaceAfter key c.args.entries.now c.place_after-next.result) c.ordered.ensures c.place_after-next.ensures.point)
+    c.place_by_halves-next.result c.place_by_halves-next.ensures.within
+    (subst (λ (key : List ℕ). IsPlaceAfter key c.args.entries.now c.place_by_halves-next.result) c.ordered.ensures c.place_by_halves-next.ensures.point)
     (λ d lt. absurd (omega arith))
 
 pub returns-then-is_named : goal.returns-then-is_named
 returns-then-is_named c =
     let some = c.if-next-eq0.false in
-    let bound = c.place_after-next.ensures.within in
-    let same = (slice_eq-Decides Decides-eqb _ _ c.eq-is_named.result c.eq-is_named.ensures).0 c.if-is_named.true in
-    first_named c.args.name.now c.args.entries.now c.requires (c.place_after-next.result - 1) c.index-entries-at.result (omega arith)
-    (sym c.as_bytes.ensures.bytes ∙ same)
+    let bound = c.place_by_halves-next.ensures.within in
+    let same = is_bytes c.index-entries-at.result.0 c.args.name.now (sym c.is_named.ensures ∙ c.if-is_named.true) in
+    first_named c.args.name.now c.args.entries.now c.requires (c.place_by_halves-next.result - 1) c.index-entries-at.result (omega arith)
+    (ap (λ (e : List ℕ × Node). e.0) (sym c.index-entries-at.is) ∙ same)
 
 pub returns-else-is_named : goal.returns-else-is_named
 returns-else-is_named c =
     let some = c.if-next-eq0.false in
-    let bound = c.place_after-next.ensures.within in
-    let decides = slice_eq-Decides Decides-eqb _ _ c.eq-is_named.result c.eq-is_named.ensures in
+    let bound = c.place_by_halves-next.ensures.within in
     none_named c.args.name.now (slash_of c.args.mode) c.args.entries.now c.requires
-    c.place_after-next.result bound
-    (subst (λ (key : List ℕ). IsPlaceAfter key c.args.entries.now c.place_after-next.result) c.ordered.ensures c.place_after-next.ensures.point)
-    (λ d lt. another c.args.entries.now (c.place_after-next.result - 1) c.index-entries-at.result c.index-entries-at.is c.args.name.now
+    c.place_by_halves-next.result bound
+    (subst (λ (key : List ℕ). IsPlaceAfter key c.args.entries.now c.place_by_halves-next.result) c.ordered.ensures c.place_by_halves-next.ensures.point)
+    (λ d lt. another c.args.entries.now (c.place_by_halves-next.result - 1) c.index-entries-at.result c.index-entries-at.is c.args.name.now
     (omega arith)
-    (λ is. true≢false (sym (decides.1 (c.as_bytes.ensures.bytes ∙ ap (λ (e : List ℕ × Node). e.0) (sym c.index-entries-at.is) ∙ is)) ∙ c.if-is_named.false)) d)
+    (λ is. true≢false (sym ((bytes_eq-Decides c.index-entries-at.result.0 c.args.name.now).1 is) ∙ sym c.is_named.ensures ∙ c.if-is_named.false)) d)

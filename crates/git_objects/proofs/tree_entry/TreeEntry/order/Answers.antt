@@ -1,15 +1,18 @@
--- Each side of the comparison runs through a name and the slash after it.
-use Rattle.std.specs.Ordering.{nat_cmp}
-use Rattle.std.proofs.Common.{refl, ◌≡◌}
-use Rattle.std.proofs.lemmas.Iterator.{YieldsList-from_slice}
-use Rattle.std.proofs.lemmas.Iterator.Consumers.{YieldsList-from_chain}
-use Rattle.std.proofs.lemmas.Iterator.Search.{cmp_from_yields_List}
+use Rattle.std.proofs.Common.{sym, ◌∙◌}
 use Rattle.git_model.specs.Tree.{slash_of}
+use Rattle.git_objects.proofs.Comparisons.{settled_by_fronts, settled_by_rests}
 use Rattle.git_objects.proofs.tree_entry.TreeEntry.order.Goals as goal
+
+pub returns-then-is_ne : goal.returns-then-is_ne
+returns-then-is_ne c =
+    let own = c.split_at-own in
+    let others = c.split_at-others in
+    rw (own.ensures.by_index.0, others.ensures.by_index.0)
+    (settled_by_fronts own.result.0.now others.result.0.now own.result.1.now others.result.1.now (slash_of c.args.self.now.mode) (slash_of c.args.other.now.mode) c.cmp-found.result (own.ensures.front_len ∙ sym others.ensures.front_len) c.cmp-found.ensures (sym c.if-is_ne.true ∙ c.is_ne.ensures))
 
 pub returns : goal.returns
 returns c =
-    cmp_from_yields_List (λ x y. y ≡ x) _ nat_cmp _ c.cmp.ensures.ran
-    (YieldsList-from_chain (YieldsList-from_slice c.args.self.now.name.now (cc)) (YieldsList-from_slice (slash_of c.args.self.now.mode) (cc)) (cc) (cc))
-    (λ it e. YieldsList-from_chain (YieldsList-from_slice c.args.other.now.name.now (cc)) (YieldsList-from_slice (slash_of c.args.other.now.mode) (cc)) (cc) (cc))
-    (λ x y. refl)
+    let own = c.split_at-own in
+    let others = c.split_at-others in
+    rw (own.ensures.by_index.0, others.ensures.by_index.0)
+    (settled_by_rests own.result.0.now others.result.0.now own.result.1.now others.result.1.now (slash_of c.args.self.now.mode) (slash_of c.args.other.now.mode) c.cmp-found.result c.order_of_rests.result (own.ensures.front_len ∙ sym others.ensures.front_len) c.cmp-found.ensures (sym c.if-is_ne.false ∙ c.is_ne.ensures) c.order_of_rests.ensures)

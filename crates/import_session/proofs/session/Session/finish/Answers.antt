@@ -1,19 +1,19 @@
 use Rattle.std.proofs.Common.{subst, sym, rules}
 use Rattle.import_session.specs.Held.{FilesStand}
-use Rattle.import_session.specs.Session.{Kept, workspace_in}
+use Rattle.import_session.specs.Session.{SessionView, workspace_in}
 use Rattle.import_session.specs.Sound.{IsSound}
 use Rattle.import_session.specs.Stream.{session_end}
 use Rattle.import_session.proofs.session.Session.finish.Goals as goal
 
 pub save_at_end-requires-clause-held : goal.save_at_end-requires-clause-held
 save_at_end-requires-clause-held g c =
-    subst (λ (k : Kept). FilesStand k.state c.args.pool.now c.args.table.now) (sym c.self.view_is)
+    subst (λ (k : SessionView). FilesStand k.state c.args.pool.now c.args.table.now) (sym c.self.view_is)
     c.requires.held
 
 pub returns-clause-ended : goal.returns-clause-ended
 unfolding session_end
 returns-clause-ended g c sound =
-    let here = subst (λ (k : Kept). IsSound g.N.Naming.digest_of
+    let here = subst (λ (k : SessionView). IsSound g.N.Naming.digest_of
     (workspace_in k.state c.args.pool.now c.args.table.now c.args.refs.now)) (sym c.self.view_is)
     sound in
     let saved = c.save_at_end.ensures.saved here in

@@ -5,13 +5,13 @@ use Rattle.stream_state.specs.declared.fault.Fault.{Fault}
 use Rattle.import_session.specs.Stream.{Step, step, taken}
 use Rattle.import_session.specs.Sound.{IsSound}
 use Rattle.import_session.specs.Held.{FilesStand}
-use Rattle.import_session.specs.Session.{Kept, Takes, state_shown, running_in, workspace_in}
+use Rattle.import_session.specs.Session.{SessionView, Takes, state_shown, running_in, workspace_in}
 use Rattle.import_session.proofs.ActLemmas.{done_step, step_over, step_running, no_act, item_answered, no_memory}
 use Rattle.import_session.proofs.session.Session.take.Goals as goal
 
 pub carry_out_done-carried-requires-clause-held : goal.carry_out_done-carried-requires-clause-held
 carry_out_done-carried-requires-clause-held g c =
-    subst (λ (k : Kept). FilesStand k.state c.args.pool.now c.args.table.now) (sym c.self.view_is)
+    subst (λ (k : SessionView). FilesStand k.state c.args.pool.now c.args.table.now) (sym c.self.view_is)
     c.requires.held
 
 pub returns-then-is_done-clause-taken : goal.returns-then-is_done-clause-taken
@@ -24,15 +24,15 @@ pub returns-in-Err-clause-taken : goal.returns-in-Err-clause-taken
 returns-in-Err-clause-taken g c sound =
     let digest = g.N.Naming.digest_of in
     let item = item_of c.args.item in
-    let kept : Kept = record {
+    let kept : SessionView = record {
       parsing = c.self.inside.parser;
       state = state_shown c.self.inside.state;
       is_done = c.self.inside.is_done;
     } in
     let now = running_in kept c.args.pool.now c.args.table.now c.args.refs.now in
     let running : c.self.inside.is_done ≡ false =
-    ap (λ (k : Kept). k.is_done) c.self.view_is ∙ sym c.is_done.ensures ∙ c.if-is_done.false in
-    let next_kept : Kept = record {
+    ap (λ (k : SessionView). k.is_done) c.self.view_is ∙ sym c.is_done.ensures ∙ c.if-is_done.false in
+    let next_kept : SessionView = record {
       parsing = c.take.new.self;
       state = state_shown c.self.inside.state;
       is_done = c.self.inside.is_done;
@@ -40,7 +40,7 @@ returns-in-Err-clause-taken g c sound =
     let next = running_in next_kept c.args.pool.now c.args.table.now c.args.refs.now in
     let by = done_by c.self.inside.parser item in
     subst
-    (λ (k : Kept). Takes (step digest (running_in k c.args.pool.now c.args.table.now
+    (λ (k : SessionView). Takes (step digest (running_in k c.args.pool.now c.args.table.now
     c.args.refs.now) item)
     next c.args.out.now.items c.args.out.now.items (Err c.in-Err.fault))
     c.self.view_is
@@ -55,19 +55,19 @@ pub returns-clause-taken : goal.returns-clause-taken
 returns-clause-taken g c sound =
     let digest = g.N.Naming.digest_of in
     let item = item_of c.args.item in
-    let kept : Kept = record {
+    let kept : SessionView = record {
       parsing = c.self.inside.parser;
       state = state_shown c.self.inside.state;
       is_done = c.self.inside.is_done;
     } in
     let now = running_in kept c.args.pool.now c.args.table.now c.args.refs.now in
-    let here = subst (λ (k : Kept). IsSound digest
+    let here = subst (λ (k : SessionView). IsSound digest
     (workspace_in k.state c.args.pool.now c.args.table.now c.args.refs.now)) (sym c.self.view_is)
     sound in
     let running : c.self.inside.is_done ≡ false =
-    ap (λ (k : Kept). k.is_done) c.self.view_is ∙ sym c.is_done.ensures ∙ c.if-is_done.false in
+    ap (λ (k : SessionView). k.is_done) c.self.view_is ∙ sym c.is_done.ensures ∙ c.if-is_done.false in
     let left = c.carry_out_done-carried.new in
-    let next_kept : Kept = record {
+    let next_kept : SessionView = record {
       parsing = c.take.new.self;
       state = state_shown left.state;
       is_done = c.is_finished-self-inside.result;
@@ -78,7 +78,7 @@ returns-clause-taken g c sound =
     let parsing = c.take.ensures.leaves (no_memory _ _ c.in-Ok.ensures) in
     let result = c.carry_out_done-carried.result in
     subst
-    (λ (k : Kept). Takes (step digest (running_in k c.args.pool.now c.args.table.now
+    (λ (k : SessionView). Takes (step digest (running_in k c.args.pool.now c.args.table.now
     c.args.refs.now) item)
     next c.args.out.now.items left.out.items result)
     c.self.view_is

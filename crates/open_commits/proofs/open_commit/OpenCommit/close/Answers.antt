@@ -1,5 +1,5 @@
 use Rattle.std.proofs.Common.{◌≡◌, [], Some, sym, subst, ◌∙◌}
-use Rattle.tree_build.specs.Branch.{Branch, IsBranch, files_in, root_name, closed_from, Reads}
+use Rattle.tree_build.specs.Branch.{Branch, IsBranch, files_in, root_name, closed_from, CountsAtMost}
 use Rattle.std.proofs.lemmas.Result.{err_from_is_err_and}
 use Rattle.tenant_tables.specs.Objects.{objects}
 use Rattle.git_model.specs.declared.kind.Kind.TheVariants as kind
@@ -80,5 +80,5 @@ returns-clause-files g c =
     (subst (λ (b : Branch). files_in mid b ≡ files_in os c.args.self.now.files) same c.in_ok-tree.ensures.files)
     (rw c.root.ensures at c.in_ok-tree.ensures.stores).0
     (subst (λ (b : Branch). root_name b ≡ Some c.in_ok-tree.tree) same (c.in_ok-tree.ensures.named c.root.ensures))
-    (subst (λ (b : Branch). Reads c.args.self.now.files b (closed_from c.args.self.now.files.root [])) same
+    (subst (λ (b : Branch). CountsAtMost c.args.self.now.files b (closed_from c.args.self.now.files.root [])) same
     (rw c.root.ensures at c.in_ok-tree.ensures.reads))

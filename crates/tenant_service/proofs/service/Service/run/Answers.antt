@@ -1,7 +1,7 @@
 use Rattle.std.proofs.Common.{◌≡◌, ◌<◌, ◌++◌, ◌∷◌, [], ℕ, List, length, drop, ap, ◌∙◌, subst, sym, arith}
 use Rattle.std.proofs.lemmas.List.{length-append}
 use Rattle.service_steps.specs.declared.reply.Reply.{Reply}
-use Rattle.tenant_service.specs.Headline.{IsIsolated, told_in, told_by_reply, Run}
+use Rattle.tenant_service.specs.Headline.{IsIsolated, response_in, told_by_reply, Run}
 use Rattle.tenant_service.specs.TenantState.{held_of}
 use Rattle.tenant_service.proofs.RunLemmas.{own-none, run-none, run-goes_on, bad-none, bad-goes_on, appended-none, appended-more}
 use Rattle.tenant_service.proofs.service.Service.run.Goals as goal
@@ -19,8 +19,8 @@ loop-step-init g c = record {
 pub loop-step-preserved : goal.loop-step-preserved
 loop-step-preserved g c =
     let r : Reply = record { answer = c.step-answer.result; bytes = c.step-answer.new.out } in
-    let says : told_in c.step-answer.result c.new-bytes.result.items c.step-answer.new.out.items ≡ told_by_reply r =
-    ap (λ (none : List ℕ). told_in c.step-answer.result none c.step-answer.new.out.items) c.new-bytes.ensures.items in
+    let says : response_in c.step-answer.result c.new-bytes.result.items c.step-answer.new.out.items ≡ told_by_reply r =
+    ap (λ (none : List ℕ). response_in c.step-answer.result none c.step-answer.new.out.items) c.new-bytes.ensures.items in
     let is : c.push.new.self.items ≡ c.loop-step.replies.items ++ r ∷ [] =
     (rw c.unwrap.ensures at c.push.ensures.items) ∙ ap (λ (rs : List Reply). rs ++ r ∷ []) c.in_ok-reserve.ensures.items in
     let count = c.loop-step.invariant.count in

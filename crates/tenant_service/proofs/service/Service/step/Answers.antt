@@ -1,5 +1,5 @@
 use Rattle.std.proofs.Common.{◌∷◌, [], subst}
-use Rattle.tenant_service.specs.Headline.{IsIsolated, told_in}
+use Rattle.tenant_service.specs.Headline.{IsIsolated, response_in}
 use Rattle.tenant_service.specs.TenantState.{TenantStates, held_of}
 use Rattle.tenant_service.specs.Tenants.{holdings}
 use Rattle.tenant_service.proofs.RunLemmas.{own-step, stepped, led-on}
@@ -9,7 +9,7 @@ use Rattle.tenant_service.proofs.service.Service.step.Goals as goal
 pub returns-clause-own : goal.returns-clause-own
 returns-clause-own g c = λ tenant.
     subst (λ (before : TenantStates). IsIsolated g.N.Naming.digest_of tenant (held_of tenant before)
-    ((c.args.step, told_in c.take_step.result c.args.out.now.items c.take_step.new.out.items) ∷ [])
+    ((c.args.step, response_in c.take_step.result c.args.out.now.items c.take_step.new.out.items) ∷ [])
     (held_of tenant (holdings c.take_step.new.pool c.take_step.new.tenants.entries)))
     c.self.view_is
     (own-step g.N.Naming.digest_of c.args.step c.self.inside.pool c.take_step.new.pool c.self.inside.tenants.entries c.take_step.new.tenants.entries

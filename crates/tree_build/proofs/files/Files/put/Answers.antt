@@ -31,6 +31,24 @@ returns-then-not-is_short-clause-edits g c memory =
       refl,
     )
 
+pub put_file-requires-clause-some : goal.put_file-requires-clause-some
+put_file-requires-clause-some g c =
+    λ e. no_path (c.is_root.ensures.1 (sym c.components-path.ensures ∙ e)) c.if-is_root.false
+
+pub put_file-requires-clause-within : goal.put_file-requires-clause-within
+put_file-requires-clause-within g c =
+    ap is_within_limits c.components-path.ensures ∙ sym c.is_short.ensures ∙ c.if-not-is_short.false
+
+pub returns-then-file_count-lt-FILES_LIMIT-clause-edits :
+    goal.returns-then-file_count-lt-FILES_LIMIT-clause-edits
+returns-then-file_count-lt-FILES_LIMIT-clause-edits g c =
+    let os = objects c.args.pool.now c.args.table.now.entries in
+    edits_put c.put_file.result (files_in os c.args.self.now) (files_in os c.args.self.now) (files_in os c.put_file.new.self)
+    refl c.components-path.result c.args.path.now c.components-path.ensures c.args.entry
+    (λ e. no_path (c.is_root.ensures.1 e) c.if-is_root.false)
+    (sym c.is_short.ensures ∙ c.if-not-is_short.false)
+    c.put_file.ensures.edits
+
 pub put_node-requires-clause-good : goal.put_node-requires-clause-good
 put_node-requires-clause-good g c =
     let os = objects c.args.pool.now c.args.table.now.entries in

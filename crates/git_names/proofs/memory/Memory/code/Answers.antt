@@ -1,5 +1,0 @@
-use Rattle.std.proofs.Common.{rules}
-use Rattle.git_names.proofs.memory.Memory.code.Goals as goal
-
-pub returns : goal.returns
-returns c = search rules

@@ -1,0 +1,380 @@
+-- An act that fits the workspace is not refused as no command.
+use Rattle.std.proofs.Common.{◌≡◌, ◌≢◌, ℕ, true, List, Option, Some, None, Result, Ok, Err, codes}
+use Rattle.std.specs.Prelude.{IfErr, nat_lt, length}
+use Rattle.std.specs.Map.{lookup}
+use Rattle.std.specs.Prelude.{nat_eq}
+use Rattle.std.specs.Str.{bytes_eq}
+use Rattle.git_model.specs.declared.kind.Kind.{Kind}
+use Rattle.git_model.specs.declared.kind.Kind.TheVariants as kind
+use Rattle.git_model.specs.Content.{Content, content_from, name_by}
+use Rattle.git_model.specs.Repository.{Object, object_named}
+use Rattle.git_model.specs.References.{kind_named}
+use Rattle.revisions.specs.declared.fault.Fault.{Fault as RevisionFault}
+use Rattle.revisions.specs.declared.fault.Fault.TheVariants as revision_fault
+use Rattle.revisions.specs.Resolution.{resolved, peeled}
+use Rattle.tenant_tables.specs.declared.fault.Fault.{Fault as TableFault}
+use Rattle.tenant_tables.specs.declared.fault.Fault.TheVariants as table_fault
+use Rattle.tenant_tables.specs.Adding.{store_fault}
+use Rattle.stream_grammar.specs.declared.fault.Fault.TheVariants as text_fault
+use Rattle.stream_grammar.specs.declared.act.ControlCommand.{ControlCommand}
+use Rattle.stream_grammar.specs.declared.act.ControlCommand.TheVariants as control
+use Rattle.stream_grammar.specs.declared.data_ref.DataRef.{DataRef}
+use Rattle.stream_grammar.specs.declared.data_ref.DataRef.TheVariants as data_ref
+use Rattle.stream_grammar.specs.Names.{CommitIsh, Marked, Expression}
+use Rattle.stream_grammar.specs.Acts.{ObjectCommand, BeginTag, TagTarget, Tagger}
+use Rattle.stream_grammar.specs.Acts.{CommitCommand, Begin, Author, Committer, Encoding, Message, From, Merge}
+use Rattle.stream_grammar.specs.Acts.{FileChange, Modify, ModifyInline, InlineData, Delete, Copy, Rename, DeleteAll}
+use Rattle.stream_grammar.specs.Acts.{RefCommand, Reset, ResetFrom, Alias}
+use Rattle.stream_grammar.specs.Acts.{ReplyCommand, GetMark, CatBlob, Ls, LsInCommit, Progress}
+use Rattle.stream_grammar.specs.Acts.{Act, Wait, Commit, Change, Ref, Reply, Control}
+use Rattle.stream_grammar.specs.Acts as acts
+use Rattle.stream_grammar.proofs.Filled.{by_test}
+use Rattle.open_commits.specs.declared.fault.Fault.{Fault as CommitFault}
+use Rattle.open_commits.specs.declared.fault.Fault.TheVariants as commit_fault
+use Rattle.open_commits.specs.OpenCommit.{OpenCommit, begun}
+use Rattle.open_commits.specs.Changes.{all_deleted, contents_put, copied_to, deleted, modified, renamed_to}
+use Rattle.open_commits.specs.Parents.{merged, started_from}
+use Rattle.open_commits.specs.Showing.{entry_shown as commit_entry_shown}
+use Rattle.stream_state.specs.declared.branches.Tip.{Tip}
+use Rattle.stream_state.specs.declared.branches.Tip.TheVariants.{Unborn}
+use Rattle.stream_state.specs.declared.fault.Fault.{Fault}
+use Rattle.stream_state.specs.declared.fault.Fault.TheVariants as fault
+use Rattle.stream_state.specs.declared.command_header.CommandHeader.{CommandHeader}
+use Rattle.stream_state.specs.declared.command_header.Inline.{Inline}
+use Rattle.stream_state.specs.Branches.{Branches, branch_set, commit_at, has_branch_room, tip_commit, tip_for, tip_of}
+use Rattle.stream_state.specs.Checkpoints.{fit}
+use Rattle.stream_state.specs.Faults.{and_then, or_fault, resolved_or}
+use Rattle.stream_state.specs.Marks.{Marks, found_mark, has_room, marked_name, referred_name, room_for}
+use Rattle.stream_state.specs.Printing.{shown_content, shown_object}
+use Rattle.stream_state.specs.Showing.{entry_shown, tree_in}
+use Rattle.stream_state.specs.Storing.{stored_or, with_content}
+use Rattle.stream_state.specs.Tags.{is_tag_ref, room_for_tag, tag_content, tag_is_open, tag_limit, tagged_kind}
+use Rattle.import_session.specs.Workspace.{Effect, Workspace, quiet}
+use Rattle.import_session.specs.Lines.{in_commit, in_header, now_open}
+use Rattle.import_session.specs.Faults.{changed_or}
+use Rattle.import_session.specs.CommitIshes.{branch_or_expression, commit_in, is_branch, named_in, ref_in, start_in}
+use Rattle.import_session.specs.Tags.{tag_stored, tagged}
+use Rattle.import_session.specs.Objects.{object_stored}
+use Rattle.import_session.specs.Commits.{begun_from, commit_merged, commit_opened, commit_said, commit_started, header_of}
+use Rattle.import_session.specs.Changes.{file_stored, files_changed}
+use Rattle.import_session.specs.Refs.{branch_placed, is_zeros, ref_set, tip_from}
+use Rattle.import_session.specs.Replies.{branch_entry_shown, replied}
+use Rattle.import_session.specs.Checkpoints.{saved_refs}
+use Rattle.import_session.specs.Controls.{controlled}
+use Rattle.import_session.specs.Meaning.{after_act}
+use Rattle.import_session.specs.Fitting.{Fits, FitsChange, FitsCommit, FitsObject, FitsRef, FitsReply, HasCommitter, IsTag, IsThere}
+
+-- another refusal than that of a line whose command is not open
+abbrev IsOther : Fault → Type 0
+IsOther e = e ≢ fault.Text text_fault.UnknownCommand
+
+abbrev Known : {A : Type 0} → Result A Fault → Type 0
+Known r = IfErr r IsOther
+
+then_known : {A B : Type 0} (r : Result A Fault) (next : A → Result B Fault) → Known r
+    → ((value : A) → Known (next value)) → Known (and_then r next)
+then_known (Ok value) next known later = later value
+then_known (Err e) next known later = known
+
+-- ---- the faults of what is looked up, changed and stored
+
+changed_known : {A : Type 0} (r : Result A CommitFault) → Known (changed_or r)
+changed_known (Ok value) = tt
+changed_known (Err commit_fault.MarkUnknown) = λ is. cc
+changed_known (Err commit_fault.ObjectUnknown) = λ is. cc
+changed_known (Err commit_fault.WrongKind) = λ is. cc
+changed_known (Err commit_fault.SourceMissing) = λ is. cc
+changed_known (Err commit_fault.RootNotDirectory) = λ is. cc
+changed_known (Err commit_fault.NameCollision) = λ is. cc
+changed_known (Err commit_fault.Limit) = λ is. cc
+changed_known (Err commit_fault.Memory) = λ is. cc
+
+resolved_known : {A : Type 0} (r : Result A RevisionFault) → Known (resolved_or r)
+resolved_known (Ok value) = tt
+resolved_known (Err revision_fault.Malformed) = λ is. cc
+resolved_known (Err revision_fault.WrongKind) = λ is. cc
+resolved_known (Err revision_fault.UnknownRevision) = λ is. cc
+resolved_known (Err revision_fault.Ambiguous) = λ is. cc
+resolved_known (Err revision_fault.Memory) = λ is. cc
+
+stored_known : (digest : List ℕ → List ℕ) (content : Content) (os : List Object)
+    → Known (with_content digest content os)
+stored_known digest content os = by_fault (store_fault (name_by digest content) content os)
+  where
+    by_fault : (refusal : Option TableFault)
+        → Known (stored_or (name_by digest content) content os refusal)
+    by_fault None = tt
+    by_fault (Some table_fault.Limit) = λ is. cc
+    by_fault (Some table_fault.NameCollision) = λ is. cc
+    by_fault (Some table_fault.Memory) = λ is. cc
+
+or_known : {A : Type 0} (e : Fault) (found : Option A) → IsOther e → Known (or_fault e found)
+or_known e None other = other
+or_known e (Some value) other = tt
+
+marked_known : (marks : Marks) (mark : ℕ) → Known (marked_name marks mark)
+marked_known marks mark = by_found (lookup (nat_eq mark) marks)
+  where
+    by_found : (found : Option (List ℕ)) → Known (found_mark found)
+    by_found None = λ is. cc
+    by_found (Some id) = tt
+
+referred_known : (marks : Marks) (object : DataRef) → Known (referred_name marks object)
+referred_known marks (data_ref.Mark mark) = marked_known marks mark
+referred_known marks (data_ref.Name id) = tt
+
+room_known : (marks : Marks) (mark : Option ℕ) → Known (room_for marks mark)
+room_known marks None = tt
+room_known marks (Some mark) =
+    by_test (has_room marks mark) (λ room. rw room tt) (λ full. rw full (λ is. cc))
+
+branch_known : (branches : Branches) (ref : List ℕ) (tip : Tip)
+    → Known (branch_set branches ref tip)
+branch_known branches ref tip =
+    by_test (has_branch_room branches ref) (λ room. rw room tt) (λ full. rw full (λ is. cc))
+
+named_known : (w : Workspace) (commit : CommitIsh) → Known (named_in w commit)
+named_known w (Marked mark) = marked_known w.marks mark
+named_known w (Expression words) = by_tip (tip_of w.branches (ref_in w words))
+  where
+    by_tip : (tip : Option Tip) → Known (branch_or_expression w words tip)
+    by_tip None = resolved_known (resolved w.objects w.refs words)
+    by_tip (Some tip) = or_known fault.UnknownRevision (commit_at tip) (λ is. cc)
+
+commit_known : (w : Workspace) (commit : CommitIsh) → Known (commit_in w commit)
+commit_known w commit =
+    then_known (named_in w commit) _ (named_known w commit)
+    (λ id. resolved_known (peeled w.objects kind.Commit id))
+
+start_known : (w : Workspace) (ref : List ℕ) (from : CommitIsh) → Known (start_in w ref from)
+start_known w ref from =
+    by_test (is_branch w ref from) (λ is. rw is (λ e. cc)) (λ other. rw other (commit_known w from))
+
+-- ---- lines of what is open
+
+header_known : (more : CommandHeader → CommandHeader) (w : Workspace) → IsThere w.said
+    → Known (in_header more w)
+header_known more w there = by_said w.said there
+  where
+    by_said : (said : Option CommandHeader) → IsThere said
+        → Known (and_then (now_open said) (λ said.
+        quiet (record w { said = Some (more said) })))
+    by_said None there = absurd there
+    by_said (Some said) there = tt
+
+tag_there : (said : Option CommandHeader) → IsTag said → IsThere said
+tag_there None is = is
+tag_there (Some said) is = tt
+
+open_known : (change : OpenCommit → Result OpenCommit Fault) (w : Workspace) → IsThere w.commit
+    → ((commit : OpenCommit) → Known (change commit)) → Known (in_commit change w)
+open_known change w there known = by_commit w.commit there
+  where
+    by_commit : (commit : Option OpenCommit) → IsThere commit
+        → Known (and_then (now_open commit) (λ commit. and_then (change commit) (λ next.
+        quiet (record w { commit = Some next }))))
+    by_commit None there = absurd there
+    by_commit (Some commit) there = then_known (change commit) _ (known commit) (λ next. tt)
+
+tagged_known : (mark : Option ℕ) (said : CommandHeader) (w : Workspace)
+    → is_tag_ref said.ref_name ≡ true → Known (tagged mark said w)
+tagged_known mark said w is =
+    then_known (tag_is_open said.ref_name) _ (rw is tt) (λ _.
+    then_known (named_in w said.target) _ (named_known w said.target) (λ target.
+    then_known (tagged_kind (kind_named target w.objects)) _ (by_kind (kind_named target w.objects))
+    (λ target_kind. then_known (room_for w.marks mark) _ (room_known w.marks mark) (λ _.
+    then_known (room_for_tag w.tags) _ (by_test (nat_lt (length w.tags) tag_limit)
+    (λ room. rw room tt) (λ full. rw full (λ e. cc))) (λ _. tt)))))
+  where
+    by_kind : (k : Option Kind) → Known (tagged_kind k)
+    by_kind None = λ e. cc
+    by_kind (Some kind.Tree) = λ e. cc
+    by_kind (Some kind.Commit) = tt
+    by_kind (Some kind.Blob) = tt
+    by_kind (Some kind.Tag) = tt
+
+tag_known : (digest : List ℕ → List ℕ) (mark : Option ℕ) (message : List ℕ) (w : Workspace)
+    (said : Option CommandHeader) → IsTag said
+    → Known (and_then (now_open said) (λ said. tag_stored digest mark message said w))
+tag_known digest mark message w None is = absurd is
+tag_known digest mark message w (Some said) is =
+    then_known (tagged mark said w) _ (tagged_known mark said w is) (λ target.
+    then_known (with_content digest (tag_content said message target.0 target.1) w.objects) _
+    (stored_known digest (tag_content said message target.0 target.1) w.objects) (λ os. tt))
+
+begun_known : (os : List Object) (first : Option (List ℕ)) (commit : OpenCommit)
+    → Known (begun_from os first commit)
+begun_known os None commit = tt
+begun_known os (Some id) commit = changed_known (started_from os id commit)
+
+message_known : (mark : Option ℕ) (message : List ℕ) (w : Workspace)
+    (said : Option CommandHeader) → HasCommitter said
+    → Known (and_then (now_open said) (λ said. commit_opened mark message said w))
+message_known mark message w None there = absurd there
+message_known mark message w (Some said) there =
+    then_known (and_then (now_open said.committer) (λ committer. Ok (header_of mark said committer)))
+    _ (by_committer said.committer there) (λ header.
+    then_known (branch_set w.branches header.ref (tip_for (tip_commit w.branches header.ref))) _
+    (branch_known w.branches header.ref (tip_for (tip_commit w.branches header.ref))) (λ branches.
+    then_known (begun_from w.objects (tip_commit w.branches header.ref) (begun header message)) _
+    (begun_known w.objects (tip_commit w.branches header.ref) (begun header message))
+    (λ opening. tt)))
+  where
+    by_committer : (committer : Option (List ℕ)) → IsThere committer
+        → Known (and_then (now_open committer) (λ committer.
+        Ok (header_of mark said committer)))
+    by_committer None there = absurd there
+    by_committer (Some committer) there = tt
+
+file_known : (digest : List ℕ → List ℕ) (bytes : List ℕ) (w : Workspace)
+    (inline : Option Inline) (commit : Option OpenCommit) → IsThere inline → IsThere commit
+    → Known (and_then (now_open inline) (λ file. and_then (now_open commit) (λ commit.
+    file_stored digest bytes file commit w)))
+file_known digest bytes w None commit there opened = absurd there
+file_known digest bytes w (Some file) None there opened = absurd opened
+file_known digest bytes w (Some file) (Some commit) there opened =
+    then_known (changed_or (contents_put digest w.objects file.mode file.path bytes commit)) _
+    (changed_known (contents_put digest w.objects file.mode file.path bytes commit)) (λ left. tt)
+
+placed_known : (from : CommitIsh) (w : Workspace) (said : Option CommandHeader) → IsThere said
+    → Known (and_then (now_open said) (λ said. branch_placed from said w))
+placed_known from w None there = absurd there
+placed_known from w (Some said) there =
+    then_known (tip_from w said.ref_name from) _ tip (λ tip. tt)
+  where
+    tip : Known (tip_from w said.ref_name from)
+    tip = by_test (is_zeros from)
+        (λ zeros. rw zeros tt)
+        (λ other. rw other (then_known (start_in w said.ref_name from) _
+        (start_known w said.ref_name from) (λ id. tt)))
+
+entry_known : (digest : List ℕ → List ℕ) (path : _) (w : Workspace)
+    (commit : Option OpenCommit) → IsThere commit
+    → Known (and_then (now_open commit) (λ commit. branch_entry_shown digest path commit w))
+entry_known digest path w None there = absurd there
+entry_known digest path w (Some commit) there =
+    then_known (changed_or (commit_entry_shown digest w.objects commit.files path)) _
+    (changed_known (commit_entry_shown digest w.objects commit.files path)) (λ shown. tt)
+
+-- ---- the groups of commands
+
+object_known : (digest : List ℕ → List ℕ) (command : ObjectCommand) (w : Workspace)
+    → FitsObject command w → Known (object_stored digest command w)
+unfolding object_stored
+object_known digest (acts.Blob mark contents) w fits =
+    then_known (room_for w.marks mark) _ (room_known w.marks mark) (λ _.
+    then_known (with_content digest (content_from kind.Blob contents) w.objects) _
+    (stored_known digest (content_from kind.Blob contents) w.objects) (λ os. tt))
+object_known digest (BeginTag ref) w fits = tt
+object_known digest (TagTarget target) w fits =
+    header_known (λ said. record said { target = target }) w (tag_there w.said fits)
+object_known digest (Tagger ident) w fits =
+    header_known (λ said. record said { tagger = Some ident }) w (tag_there w.said fits)
+object_known digest (acts.Tag mark message) w fits = tag_known digest mark message w w.said fits
+
+commit_line_known : (command : CommitCommand) (w : Workspace) → FitsCommit command w
+    → Known (commit_said command w)
+unfolding commit_said
+commit_line_known (Begin ref) w fits = tt
+commit_line_known (Author ident) w fits =
+    header_known (λ said. record said { author = Some ident }) w fits
+commit_line_known (Committer ident) w fits =
+    header_known (λ said. record said { committer = Some ident }) w fits
+commit_line_known (Encoding encoding) w fits =
+    header_known (λ said. record said { encoding = Some encoding }) w fits
+commit_line_known (Message mark message) w fits = message_known mark message w w.said fits
+commit_line_known (From from) w fits =
+    open_known (commit_started w from) w fits (λ commit.
+    then_known (start_in w commit.header.ref from) _ (start_known w commit.header.ref from)
+    (λ id. changed_known (started_from w.objects id commit)))
+commit_line_known (Merge other) w fits =
+    open_known (commit_merged w other) w fits (λ commit.
+    then_known (commit_in w other) _ (commit_known w other) (λ id. changed_known (merged id commit)))
+
+change_known : (digest : List ℕ → List ℕ) (change : FileChange) (w : Workspace)
+    → FitsChange change w → Known (files_changed digest change w)
+unfolding files_changed
+change_known digest (Modify file_mode object path) w fits =
+    open_known (λ commit. changed_or (modified w.objects w.marks file_mode object path commit)) w fits
+    (λ commit. changed_known (modified w.objects w.marks file_mode object path commit))
+change_known digest (ModifyInline file_mode path) w fits = tt
+change_known digest (InlineData bytes) w fits =
+    file_known digest bytes w w.inline w.commit fits.0 fits.1
+change_known digest (Delete path) w fits =
+    open_known (λ commit. Ok (deleted path commit)) w fits (λ commit. tt)
+change_known digest (Copy source path) w fits =
+    open_known (λ commit. changed_or (copied_to source path commit)) w fits
+    (λ commit. changed_known (copied_to source path commit))
+change_known digest (Rename source path) w fits =
+    open_known (λ commit. changed_or (renamed_to source path commit)) w fits
+    (λ commit. changed_known (renamed_to source path commit))
+change_known digest DeleteAll w fits =
+    open_known (λ commit. Ok (all_deleted commit)) w fits (λ commit. tt)
+
+ref_known : (command : RefCommand) (w : Workspace) → FitsRef command w → Known (ref_set command w)
+unfolding ref_set
+ref_known (Reset ref) w fits =
+    then_known (branch_set w.branches (ref_in w ref) Unborn) _
+    (branch_known w.branches (ref_in w ref) Unborn) (λ branches. tt)
+ref_known (ResetFrom from) w fits = placed_known from w w.said fits
+ref_known (Alias mark commit) w fits =
+    then_known (commit_in w commit) _ (commit_known w commit) (λ id.
+    then_known (room_for w.marks (Some mark)) _ (room_known w.marks (Some mark)) (λ _. tt))
+
+object_shown_known : (id : List ℕ) (found : Option Content) → Known (shown_object id found)
+object_shown_known id None = tt
+object_shown_known id (Some content) = by_kind content.kind
+  where
+    by_kind : (k : Kind) → Known (shown_content id k content.bytes)
+    by_kind kind.Blob = tt
+    by_kind kind.Tree = λ e. cc
+    by_kind kind.Commit = λ e. cc
+    by_kind kind.Tag = λ e. cc
+
+reply_known : (digest : List ℕ → List ℕ) (command : ReplyCommand) (w : Workspace)
+    → FitsReply command w → Known (replied digest command w)
+unfolding replied
+reply_known digest (GetMark mark) w fits =
+    then_known (marked_name w.marks mark) _ (marked_known w.marks mark) (λ id. tt)
+reply_known digest (CatBlob object) w fits =
+    then_known (referred_name w.marks object) _ (referred_known w.marks object) (λ id.
+    then_known (shown_object id (object_named id w.objects)) _
+    (object_shown_known id (object_named id w.objects)) (λ line. tt))
+reply_known digest (Ls root path) w fits =
+    then_known (entry_shown w.objects w.marks root path) _
+    (then_known (referred_name w.marks root) _ (referred_known w.marks root) (λ id.
+    then_known (tree_in w.objects id) _
+    (then_known (or_fault fault.ObjectUnknown (object_named id w.objects)) _
+    (or_known fault.ObjectUnknown (object_named id w.objects) (λ e. cc))
+    (λ _. resolved_known (peeled w.objects kind.Tree id))) (λ tree. tt))) (λ line. tt)
+reply_known digest (LsInCommit path) w fits = entry_known digest path w w.commit fits
+reply_known digest (Progress line) w fits = tt
+
+control_known : (command : ControlCommand) (w : Workspace) → Known (controlled command w)
+unfolding controlled
+control_known control.Checkpoint w =
+    by_test (fit (saved_refs w)) (λ few. rw few tt) (λ many. rw many (λ e. cc))
+control_known control.Done w =
+    by_test (fit (saved_refs w)) (λ few. rw few tt) (λ many. rw many (λ e. cc))
+control_known (control.Feature wanted) w = tt
+control_known (control.Head ref) w =
+    by_test (bytes_eq ref (codes "HEAD")) (λ is. rw is (λ e. cc)) (λ other. rw other tt)
+
+act_known : (digest : List ℕ → List ℕ) (act : Act) (w : Workspace) → Fits act w
+    → Known (after_act digest act w)
+unfolding after_act
+act_known digest Wait w fits = tt
+act_known digest (acts.Object command) w fits = object_known digest command w fits
+act_known digest (Commit command) w fits = commit_line_known command w fits
+act_known digest (Change change) w fits = change_known digest change w fits
+act_known digest (Ref command) w fits = ref_known command w fits
+act_known digest (Reply command) w fits = reply_known digest command w fits
+act_known digest (Control command) w fits = control_known command w
+
+pub not_refused : (digest : List ℕ → List ℕ) (act : Act) (w : Workspace) → Fits act w
+    → after_act digest act w ≢ Err (fault.Text text_fault.UnknownCommand)
+not_refused digest act w fits is = known (after_act digest act w) (act_known digest act w fits) is
+  where
+    known : (r : Result Effect Fault) → Known r → r ≢ Err (fault.Text text_fault.UnknownCommand)
+    known (Ok effect) nothing is = cc
+    known (Err e) other is = other (let same : e ≡ fault.Text text_fault.UnknownCommand = cc in same)

@@ -1,0 +1,29 @@
+use Rattle.std.proofs.Common.{refl, sym}
+use Rattle.tenant_tables.specs.Objects.{objects}
+use Rattle.open_commits.specs.Changes.{modified}
+use Rattle.open_commits.specs.OpenCommit.{shown_in}
+use Rattle.import_session.specs.Faults.{changed_or}
+use Rattle.import_session.specs.Changes.{files_changed}
+use Rattle.import_session.specs.Session.{state_shown}
+use Rattle.import_session.proofs.CommitLemmas.{changes_left, held_back, put_back}
+use Rattle.import_session.proofs.changes.modify.Goals as goal
+
+pub returns-clause-done : goal.returns-clause-done
+unfolding files_changed
+returns-clause-done g c refs out good =
+    let os = objects c.args.pool.now c.args.table.now.entries in
+    let old = shown_in os c.in-Some.commit in
+    put_back (state_shown c.args.state.now) (state_shown c.keep_open.new.state) c.args.pool.now
+    c.args.table.now refs (λ commit. changed_or (modified os c.args.state.now.marks.entries c.args.mode c.args.object
+    c.args.path.now commit)) c.args.state.now.commit
+    c.in-Some.commit c.modify.new.self out c.passed_on-changed.result (sym c.in-Some.ensures.value) refl
+    c.keep_open.ensures
+    (rw c.passed_on-changed.ensures (changes_left (modified os c.args.state.now.marks.entries c.args.mode c.args.object c.args.path.now old) old (shown_in os c.modify.new.self)
+    c.modify.result (c.modify.ensures.changes good)))
+
+pub returns-clause-held : goal.returns-clause-held
+returns-clause-held g c =
+    let os = objects c.args.pool.now c.args.table.now.entries in
+    rw c.passed_on-changed.ensures (held_back os (state_shown c.args.state.now)
+    (state_shown c.keep_open.new.state) c.modify.new.self c.modify.result c.keep_open.ensures
+    c.requires.held c.modify.ensures.held)

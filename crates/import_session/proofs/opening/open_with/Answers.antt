@@ -1,0 +1,22 @@
+use Rattle.std.proofs.Common.{◌≡◌, List, ℕ, Option, Ok, ap, sym, subst}
+use Rattle.open_commits.specs.OpenCommit.{begun, header_shown}
+use Rattle.stream_state.specs.Branches.{Branches, branch_set, tip_commit, tip_for}
+use Rattle.import_session.specs.Commits.{IsTipCommit}
+use Rattle.import_session.specs.Session.{StreamState, state_shown, workspace_in}
+use Rattle.import_session.proofs.CommitLemmas.{opened_by}
+use Rattle.import_session.proofs.SoundCommits.{tip_commit_is}
+use Rattle.import_session.proofs.opening.open_with.Goals as goal
+
+pub returns-clause-opened : goal.returns-clause-opened
+returns-clause-opened g c refs sound =
+    let workspace = workspace_in (state_shown c.args.state.now) c.args.pool.now c.args.table.now refs in
+    let placed = c.in_ok-first.ensures.placed in
+    let tip = subst (λ (first : Option (List ℕ)). IsTipCommit workspace.objects first) (sym placed.0)
+    (tip_commit_is g.N.Naming.digest_of workspace sound c.args.header.ref_name) in
+    opened_by workspace c.in_ok-first.first (tip_commit workspace.branches c.args.header.ref_name)
+    (begun (header_shown c.args.header) c.args.message.now) c.take_files-files.new.state.branches
+    c.begin.result placed.0
+    (subst (λ (branches : Branches). branch_set workspace.branches c.args.header.ref_name
+    (tip_for (tip_commit workspace.branches c.args.header.ref_name)) ≡ Ok branches)
+    (ap (λ (state : StreamState). state.branches) (sym c.take_files-files.ensures.state)) placed.2)
+    (c.begin.ensures.begun sound.objects tip)

@@ -1,0 +1,113 @@
+//! How a commit ends: git-fast-import(1), "commit".
+
+ghost use Rattle.std.specs.Prelude.{◌≡◌, None, OnOk};
+ghost use Rattle.git_model.specs.RefStore.{RefStore};
+ghost use Rattle.tenant_tables.specs.Objects.{objects};
+ghost use Rattle.tenant_tables.specs.Room.{HasHoldsLeftBeside};
+ghost use Rattle.tenant_tables.specs.IsBackedBy.{IsBackedBy};
+ghost use Rattle.open_commits.specs.OpenCommit.{shown_in, IsCommitHeld};
+ghost use Rattle.import_session.specs.Lent.{Keeps};
+ghost use Rattle.import_session.specs.Commits.{closed_where, commit_closed, open_closed};
+ghost use Rattle.import_session.specs.Session.{state_shown, workspace_in, KeepsCommitted, Leaves};
+ghost use Rattle.import_session.specs.Held.{FilesStand, KeepsBranchFiles};
+
+use crate::fault::fault_of;
+use crate::state::StreamState;
+use content_pool::Pool;
+use git_objects::Naming;
+use open_commits::OpenCommit;
+use stream_state::branches::Tip;
+use stream_state::fault::Fault;
+use stream_state::marks;
+use tenant_tables::Table;
+
+// Ends a commit, which is no longer the open one.
+fn close_commit<N: Naming>(
+    pool: &mut Pool<N>,
+    table: &mut Table,
+    state: &mut StreamState,
+    commit: &mut OpenCommit,
+) -> Result<(), Fault>
+    requires stands { IsBackedBy N.digest_of pool.old table.old.entries }
+    requires room { HasHoldsLeftBeside pool.old table.old.entries }
+    requires none { state.old.commit ≡ None }
+    requires held { IsCommitHeld (objects pool.old table.old.entries) commit.old }
+    ensures keeps { Keeps N.digest_of pool.old table.old pool.new table.new }
+    ensures room { HasHoldsLeftBeside pool.new table.new.entries }
+    ensures done { (refs : RefStore) → Leaves
+        (commit_closed N.digest_of (workspace_in (state_shown state.old) pool.old table.old refs)
+        (shown_in (objects pool.old table.old.entries) commit.old))
+        (workspace_in (state_shown state.new) pool.new table.new refs) result }
+    ensures files { KeepsBranchFiles (state_shown state.old) (state_shown state.new) }
+    ensures held { OnOk result (IsCommitHeld (objects pool.new table.new.entries) commit.new) }
+    ensures committed { KeepsCommitted pool.old table.old pool.new table.new }
+{
+    let _within = table.committed_len();
+    let mark = commit.header.mark;
+    let branch = commit.header.ref_name.try_clone(state.alloc)?;
+    marks::make_room(&mut state.marks, &mark)?;
+    let id = match commit.close(pool, table) {
+        Ok(id) => id,
+        Err(refusal) => return Err(fault_of(refusal)),
+    };
+    marks::set(&mut state.marks, mark, id);
+    Ok(state.branches.place(branch, Tip::At(id))?)
+}
+
+// Ends the open commit, if there is one, and leaves its files for the next one.
+fn close<N: Naming>(
+    pool: &mut Pool<N>,
+    table: &mut Table,
+    state: &mut StreamState,
+) -> Result<(), Fault>
+    requires stands { IsBackedBy N.digest_of pool.old table.old.entries }
+    requires room { HasHoldsLeftBeside pool.old table.old.entries }
+    requires held { FilesStand (state_shown state.old) pool.old table.old }
+    ensures keeps { Keeps N.digest_of pool.old table.old pool.new table.new }
+    ensures room { HasHoldsLeftBeside pool.new table.new.entries }
+    ensures done { (refs : RefStore) → Leaves
+        (let old = workspace_in (state_shown state.old) pool.old table.old refs in
+        open_closed N.digest_of old old.commit)
+        (workspace_in (state_shown state.new) pool.new table.new refs) result }
+    ensures committed { KeepsCommitted pool.old table.old pool.new table.new }
+    ensures held { OnOk result (FilesStand (state_shown state.new) pool.new table.new) }
+{
+    match state.commit.take() {
+        Some(mut commit) => {
+            let closed = close_commit(pool, table, state, &mut commit);
+            state.left = Some(commit.into_files());
+            closed
+        }
+        None => Ok(()),
+    }
+}
+
+/// Ends the open commit if the item ends it (`ends`): stores its trees, children first, and then
+/// the commit itself, sets its mark, and moves its branch to it: git-fast-import(1), "commit".
+///
+/// `Fault::Limit` (25) if there would be more than 4,194,304 marks, which is judged first. Then,
+/// object by object, `Fault::Limit` (25) if the contents are too long or the table is full, else
+/// `Fault::NameCollision` (24) if the table has another object of the name. `Fault::Memory` (90) if
+/// an allocation fails. The objects up to the last checkpoint stay in any case.
+pub fn close_where<N: Naming>(
+    ends: bool,
+    pool: &mut Pool<N>,
+    table: &mut Table,
+    state: &mut StreamState,
+) -> Result<(), Fault>
+    requires stands { IsBackedBy N.digest_of pool.old table.old.entries }
+    requires room { HasHoldsLeftBeside pool.old table.old.entries }
+    requires held { FilesStand (state_shown state.old) pool.old table.old }
+    ensures keeps { Keeps N.digest_of pool.old table.old pool.new table.new }
+    ensures room { HasHoldsLeftBeside pool.new table.new.entries }
+    ensures done { (refs : RefStore) → Leaves (closed_where N.digest_of ends
+        (workspace_in (state_shown state.old) pool.old table.old refs))
+        (workspace_in (state_shown state.new) pool.new table.new refs) result }
+    ensures committed { KeepsCommitted pool.old table.old pool.new table.new }
+    ensures held { OnOk result (FilesStand (state_shown state.new) pool.new table.new) }
+{
+    if !ends {
+        return Ok(());
+    }
+    close(pool, table, state)
+}

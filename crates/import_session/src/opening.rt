@@ -1,0 +1,194 @@
+//! How a commit opens, at its message: git-fast-import(1), "commit".
+
+ghost use Rattle.std.specs.Prelude.{◌≡◌, ◌≢◌, List, ℕ, None, Some, Ok, Err, IfOk, OnOk, MatchResult};
+ghost use Rattle.git_model.specs.GoodRepository.{AreObjects};
+ghost use Rattle.git_model.specs.RefStore.{RefStore};
+ghost use Rattle.git_model.specs.Repository.{Object};
+ghost use Rattle.tenant_tables.specs.Objects.{objects};
+ghost use Rattle.tenant_tables.specs.IsBackedBy.{IsBackedBy};
+ghost use Rattle.tree_build.specs.Branch.{IsBranch};
+ghost use Rattle.stream_grammar.specs.Acts.{Message};
+ghost use Rattle.open_commits.specs.OpenCommit.{begun, commit_held, header_shown, shown_in, IsCommitHeld};
+ghost use Rattle.stream_state.specs.Branches.{branch_set, tip_commit, tip_for};
+ghost use Rattle.import_session.specs.Workspace.{quiet};
+ghost use Rattle.import_session.specs.Commits.{begun_from, commit_said, header_said, opened_with, started_or_cleared, IsTipCommit};
+ghost use Rattle.import_session.specs.Session.{state_shown, workspace_in, CarriesOut, Leaves};
+ghost use Rattle.import_session.specs.Held.{FilesStand, HoldsFiles};
+ghost use Rattle.import_session.specs.Sound.{IsSound};
+
+use crate::fault::passed_on;
+use crate::state::{StreamState, keep_open, not_open};
+use content_pool::Pool;
+use git_objects::{Name, Naming};
+use open_commits::{Header, OpenCommit};
+use std::alloc::Global;
+use stream_grammar::Mark;
+use stream_state::branches::{tip_commit, tip_for};
+use stream_state::command_header::CommandHeader;
+use stream_state::encoding::bytes_of;
+use stream_state::fault::Fault;
+use tenant_refs::{RefName, Refs};
+use tenant_tables::Table;
+use tree_build::Files;
+
+// The header that the lines before the message give. One of them must name a committer.
+fn header_said(mark: Option<Mark>, said: CommandHeader) -> Result<Header, Fault>
+    ensures { MatchResult result
+        (λ header. header_said mark said ≡ Ok (header_shown header))
+        (λ fault. header_said mark said ≡ Err fault) }
+{
+    let CommandHeader {
+        ref_name,
+        author,
+        committer,
+        encoding,
+        ..
+    } = said;
+    let Some(committer) = committer else {
+        return Err(not_open());
+    };
+    let encoding = bytes_of(encoding);
+    Ok(Header {
+        ref_name,
+        mark,
+        author,
+        committer,
+        encoding,
+    })
+}
+
+// Takes the files that the last commit left, or no files if it left none.
+fn take_files(state: &mut StreamState) -> Files
+    ensures branch { (os : List Object) → HoldsFiles os (state_shown state.old)
+        → IsBranch os result }
+    ensures state { state_shown state.new ≡ record (state_shown state.old) { left = None } }
+{
+    match state.left.take() {
+        Some(files) => files,
+        None => Files::new(state.alloc),
+    }
+}
+
+// Starts a new commit from the commit that its branch was at, or without files.
+fn start<N: Naming>(
+    pool: &Pool<N>,
+    table: &Table,
+    first: Option<Name>,
+    commit: &mut OpenCommit,
+) -> Result<(), Fault>
+    requires stands { IsBackedBy N.digest_of pool.now table.now.entries }
+    requires held { IsCommitHeld (objects pool.now table.now.entries) commit.old }
+    ensures started { let os = objects pool.now table.now.entries in AreObjects N.digest_of os
+        → IsTipCommit os first → Leaves (started_or_cleared os first (shown_in os commit.old))
+        (shown_in os commit.new) result }
+    ensures held { OnOk result (IsCommitHeld (objects pool.now table.now.entries) commit.new) }
+{
+    match first {
+        Some(id) => passed_on(commit.start_from(pool, table, id)),
+        None => {
+            commit.delete_all();
+            Ok(())
+        }
+    }
+}
+
+// Begins a commit whose first parent is the commit that its branch was at. Directories of that
+// commit that are open in these files stay open.
+fn begin<N: Naming>(
+    pool: &Pool<N>,
+    table: &Table,
+    alloc: Global,
+    header: Header,
+    message: &[u8],
+    first: Option<Name>,
+    files: Files,
+) -> Result<OpenCommit, Fault>
+    requires stands { IsBackedBy N.digest_of pool.now table.now.entries }
+    requires files { IsBranch (objects pool.now table.now.entries) files }
+    ensures begun { let os = objects pool.now table.now.entries in AreObjects N.digest_of os
+        → IsTipCommit os first → let new = begun (header_shown header) message.now in
+        MatchResult result (λ commit. begun_from os first new ≡ Ok (shown_in os commit))
+        (λ fault. fault ≢ Fault.Memory → begun_from os first new ≡ Err fault) }
+    ensures held { IfOk result (λ commit. IsCommitHeld (objects pool.now table.now.entries) commit) }
+{
+    let mut commit = OpenCommit::begin(alloc, header, message, files)?;
+    start(pool, table, first, &mut commit)?;
+    Ok(commit)
+}
+
+// Makes the branch one of the stream's, and returns the commit that it was at.
+fn place_tip(state: &mut StreamState, ref_name: &RefName) -> Result<Option<Name>, Fault>
+    ensures placed { let old = state_shown state.old in
+        let first = tip_commit old.branches ref_name.now in MatchResult result
+        (λ stood. (stood ≡ first) × (state_shown state.new ≡ record old {
+          branches =
+              state.new.branches;
+        })
+        × (branch_set old.branches ref_name.now (tip_for first) ≡ Ok state.new.branches))
+        (λ fault. fault ≢ Fault.Memory
+        → branch_set old.branches ref_name.now (tip_for first) ≡ Err fault) }
+{
+    let first = tip_commit(&state.branches, ref_name);
+    let branch = ref_name.try_clone(state.alloc)?;
+    state.branches.set(branch, tip_for(&first))?;
+    Ok(first)
+}
+
+// Opens a commit on a branch, and makes the branch one of the stream's.
+fn open_with<N: Naming>(
+    pool: &Pool<N>,
+    table: &Table,
+    state: &mut StreamState,
+    header: Header,
+    message: &[u8],
+) -> Result<OpenCommit, Fault>
+    requires stands { IsBackedBy N.digest_of pool.now table.now.entries }
+    requires held { FilesStand (state_shown state.old) pool.now table.now }
+    ensures opened { (refs : RefStore) → let old = state_shown state.old in
+        let workspace = workspace_in old pool.now table.now refs in
+        IsSound N.digest_of workspace → MatchResult result
+        (λ commit. opened_with workspace message.now (header_shown header)
+        ≡ quiet (workspace_in (record old {
+          branches = state.new.branches;
+          said = None;
+          commit = Some (commit_held commit);
+        }) pool.now table.now refs))
+        (λ fault. fault ≢ Fault.Memory
+        → opened_with workspace message.now (header_shown header) ≡ Err fault) }
+    ensures state { OnOk result (state_shown state.new
+        ≡ record (state_shown state.old) { branches = state.new.branches; left = None }) }
+    ensures held { IfOk result (λ commit. IsCommitHeld (objects pool.now table.now.entries) commit) }
+{
+    let alloc = state.alloc;
+    let first = place_tip(state, &header.ref_name)?;
+    let files = take_files(state);
+    begin(pool, table, alloc, header, message, first, files)
+}
+
+// Opens a commit, at its message.
+#[tactic(auto, unfolding(crate::specs::Commits::commit_said))]
+pub fn open_commit<N: Naming>(
+    pool: &Pool<N>,
+    table: &Table,
+    refs: &Refs,
+    state: &mut StreamState,
+    mark: Option<Mark>,
+    message: &[u8],
+) -> Result<(), Fault>
+    requires stands { IsBackedBy N.digest_of pool.now table.now.entries }
+    requires held { FilesStand (state_shown state.old) pool.now table.now }
+    ensures done { (out : List ℕ) → IsSound N.digest_of
+        (workspace_in (state_shown state.old) pool.now table.now refs.now) → CarriesOut
+        (commit_said (Message mark message.now)
+        (workspace_in (state_shown state.old) pool.now table.now refs.now))
+        (workspace_in (state_shown state.new) pool.now table.now refs.now) out out result }
+    ensures held { OnOk result (FilesStand (state_shown state.new) pool.now table.now) }
+{
+    let Some(said) = state.said.take() else {
+        return Err(not_open());
+    };
+    let header = header_said(mark, said)?;
+    let commit = open_with(pool, table, state, header, message)?;
+    keep_open(state, commit);
+    Ok(())
+}

@@ -1,0 +1,8 @@
+use Rattle.std.proofs.Common.{◌+◌, ◌*◌, length}
+use Rattle.tree_build.proofs.putting.+putting.Given as goal
+
+abbrev pub decreases-put_along : goal.decreases-put_along
+decreases-put_along g l = 2 * length l.path.now
+
+abbrev pub decreases-put_inside : goal.decreases-put_inside
+decreases-put_inside g l = 2 * length l.rest.now + 1

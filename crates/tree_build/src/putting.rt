@@ -1,0 +1,157 @@
+//! Putting a file at a path in one walk.
+//!
+//! Each directory on the way is opened, and a name is looked for once in it. What stands at the
+//! path, below it, or at a prefix of it is removed, and its files are counted.
+
+ghost use Rattle.std.specs.Prelude.{◌≡◌, ◌≢◌, ◌≤◌, [], length, IfOk, OnOk};
+ghost use Rattle.git_model.specs.Limits.{files_limit};
+ghost use Rattle.git_paths.specs.Paths.{IsComponent};
+ghost use Rattle.tenant_tables.specs.Objects.{objects};
+ghost use Rattle.tenant_tables.specs.IsBackedBy.{IsBackedBy};
+ghost use Rattle.file_maps.specs.StoredFiles.{stored_files};
+ghost use Rattle.tree_build.specs.Shape.{shape_files, held_files};
+ghost use Rattle.tree_build.specs.Branch.{IsDirectory, IsShape, IsHeld, closed_along, closed_from};
+ghost use Rattle.tree_build.specs.Nodes.{held, shape_of};
+ghost use Rattle.tree_build.specs.Searches.{AreOrdered};
+ghost use Rattle.tree_build.specs.Editing.{inserted};
+ghost use Rattle.tree_build.specs.Opened.{ReadsMore};
+ghost use Rattle.tree_build.specs.Putting.{file_held, new_node, has_more, leads_into, PutsAlong, PutsHeld};
+
+use crate::component::{Component, has_components};
+use crate::counting::count;
+use crate::dir::{Dir, Node};
+use crate::names::{insert, place_of};
+use crate::opening::open;
+use crate::placing::{place, put_instead};
+use content_pool::Pool;
+use file_maps::Entry;
+use git_objects::{Memory, Naming};
+use git_paths::Components;
+use std::alloc::Global;
+use tenant_tables::Table;
+
+fn has_more(path: &Components<'_>) -> bool
+    ensures { result ≡ has_more path.now }
+{
+    !path.as_bytes().is_empty()
+}
+
+// Whether the rest of a path leads into a node. If it does not, the node is replaced.
+fn leads_into(node: &Node, rest: &Components<'_>) -> bool
+    ensures { result ≡ leads_into (held node.now).what rest.now }
+{
+    match node {
+        Node::File(_) => false,
+        _ => has_more(rest),
+    }
+}
+
+// What is put under a name: the file, or a new directory that has it at the rest of the path.
+fn new_node(alloc: Global, rest: &Components<'_>, entry: Entry) -> Result<Node, Memory>
+    ensures { IfOk result (λ n. held n ≡ new_node rest.now (file_held entry)) }
+{
+    if !has_more(rest) {
+        return Ok(Node::File(entry));
+    }
+    let mut dir = Dir::empty(alloc);
+    place(alloc, &mut dir, rest, Node::File(entry))?;
+    Ok(Node::Opened(dir))
+}
+
+// Puts an entry where there is none of its name.
+fn put_new(
+    alloc: Global,
+    entries: &mut Vec<(Component, Node)>,
+    name: &[u8],
+    rest: &Components<'_>,
+    entry: Entry,
+) -> Result<(), Memory>
+    requires name { IsComponent name.now }
+    requires ordered { AreOrdered (shape_of entries.old.items) }
+    ensures { OnOk result (shape_of entries.new.items
+        ≡ inserted name.now (new_node rest.now (file_held entry)) (shape_of entries.old.items)) }
+{
+    let node = new_node(alloc, rest, entry)?;
+    insert(entries, Component::new(alloc, name)?, node)
+}
+
+/// Puts a file at a path below a directory, and answers how many files it took the place of. Takes
+/// memory for the names on the way, and for the entries of the directories that it opens.
+#[cycle(putting)]
+#[tactic(auto, using(crate::proofs::Searched::ordered))]
+pub(crate) fn put_along<N: Naming>(
+    alloc: Global,
+    pool: &Pool<N>,
+    table: &Table,
+    dir: &mut Dir,
+    path: &Components<'_>,
+    entry: Entry,
+    reads: &mut u64,
+) -> Result<usize, Memory>
+    requires stands { IsBackedBy N.digest_of pool.now table.now.entries }
+    requires sound { IsShape (objects pool.now table.now.entries) dir.old.entries }
+    requires few { length (shape_files (stored_files (objects pool.now table.now.entries))
+        dir.old.entries) ≤ files_limit }
+    requires some { path.now ≢ [] }
+    ensures puts { IfOk result (λ gone. PutsAlong (objects pool.now table.now.entries) path.now
+        (file_held entry) dir.old dir.new gone) }
+    ensures reads { ReadsMore reads.old reads.new (closed_along dir.old.entries path.now) }
+{
+    let Some((name, rest)) = path.split_first() else {
+        return Ok(0);
+    };
+    has_components(path);
+    dir.tree = None;
+    let Some(at) = place_of(&dir.entries, name) else {
+        put_new(alloc, &mut dir.entries, name, &rest, entry)?;
+        return Ok(0);
+    };
+    if leads_into(&dir.entries[at].1, &rest) {
+        return put_inside(
+            alloc,
+            pool,
+            table,
+            &mut dir.entries[at].1,
+            &rest,
+            entry,
+            reads,
+        );
+    }
+    let gone = count(pool, table, &dir.entries[at].1);
+    put_instead(&mut dir.entries, at, name, new_node(alloc, &rest, entry)?)?;
+    Ok(gone)
+}
+
+/// Puts a file at a path below a node that is a directory.
+#[cycle(putting)]
+pub(crate) fn put_inside<N: Naming>(
+    alloc: Global,
+    pool: &Pool<N>,
+    table: &Table,
+    node: &mut Node,
+    rest: &Components<'_>,
+    entry: Entry,
+    reads: &mut u64,
+) -> Result<usize, Memory>
+    requires stands { IsBackedBy N.digest_of pool.now table.now.entries }
+    requires directory { IsDirectory (held node.old).what }
+    requires sound { IsHeld (objects pool.now table.now.entries) (held node.old) }
+    requires few { length (held_files (stored_files (objects pool.now table.now.entries))
+        (held node.old)) ≤ files_limit }
+    requires some { rest.now ≢ [] }
+    ensures puts { IfOk result (λ gone. PutsHeld (objects pool.now table.now.entries) rest.now
+        (file_held entry) (held node.old) (held node.new) gone) }
+    ensures reads { ReadsMore reads.old reads.new (closed_from (held node.old) rest.now) }
+{
+    match node {
+        Node::File(_) => Ok(0),
+        Node::Opened(dir) => put_along(alloc, pool, table, dir, rest, entry, reads),
+        Node::Unopened(id) => {
+            *reads = reads.saturating_add(1);
+            let mut dir = open(alloc, pool, table, id)?;
+            let gone = put_along(alloc, pool, table, &mut dir, rest, entry, reads)?;
+            *node = Node::Opened(dir);
+            Ok(gone)
+        }
+    }
+}
