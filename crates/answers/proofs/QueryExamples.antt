@@ -1,15 +1,17 @@
 -- Queries, and texts that are none.
 use Rattle.std.specs.Prelude.{◌≡◌, [], Ok, Err, refl, codes}
 use Rattle.revisions.specs.ExpressionReading.{count_of, braced, after_caret, suffix_of, with_byte, expression_of}
-use Rattle.answers.specs.declared.query.Query.TheVariants.{RevParse, Refs}
+use Rattle.answers.specs.declared.query.Query.TheVariants.{Object, Repository}
+use Rattle.answers.specs.declared.query.ObjectQuery.TheVariants.{RevParse}
+use Rattle.answers.specs.declared.query.RepositoryQuery.TheVariants.{Refs}
 use Rattle.answers.specs.declared.fault.Fault.TheVariants as fault
 use Rattle.answers.specs.Queries.{word_of, query_of}
 
-of_a_revision : query_of (codes "rev-parse @") ≡ Ok (RevParse (record { base = codes "@"; suffixes = [] }))
+of_a_revision : query_of (codes "rev-parse @") ≡ Ok (Object RevParse (record { base = codes "@"; suffixes = [] }))
 unfolding query_of word_of expression_of suffix_of after_caret braced count_of with_byte
 of_a_revision = refl
 
-alone : query_of (codes "refs") ≡ Ok Refs
+alone : query_of (codes "refs") ≡ Ok (Repository Refs)
 unfolding query_of word_of
 alone = refl
 

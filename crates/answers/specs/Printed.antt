@@ -1,6 +1,6 @@
 -- What is printed of objects and refs: git-rev-parse(1), git-cat-file(1), git-ls-tree(1),
 -- git-log(1), git-show-ref(1).
-use Rattle.std.specs.Prelude.{◌≡◌, ℕ, ◌≤◌, ◌||◌, not, Bool, List, ◌++◌, length, map, take, find, unwrap_or, All, codes, decimal}
+use Rattle.std.specs.Prelude.{◌≡◌, ℕ, ◌≤◌, ◌||◌, not, Bool, List, ◌++◌, length, map, take, find, unwrap_or, All, Option, None, Some, Result, Ok, Err, codes, decimal}
 use Rattle.std.specs.List.{flat_map, list_all, range_with_len}
 use Rattle.std.specs.Str.{bytes_eq}
 use Rattle.hex.specs.Hex.{encode_lower}
@@ -15,6 +15,8 @@ use Rattle.git_model.specs.StoredPath.{entries_of}
 use Rattle.git_model.specs.Tree.{TreeEntry}
 use Rattle.git_objects.specs.Listing.{listing}
 use Rattle.tenant_tables.specs.Abbreviation.{begins}
+use Rattle.answers.specs.declared.fault.Fault.{Fault}
+use Rattle.answers.specs.declared.fault.Fault.TheVariants as fault
 
 -- A line with its line end.
 abbrev pub line : List ℕ → List ℕ
@@ -56,15 +58,17 @@ content_text id content =
     line (encode_lower id ++ codes " " ++ kind_word content.kind ++ codes " "
     ++ decimal (length content.bytes)) ++ line content.bytes
 
-abbrev pub object_text : List Object → List ℕ → List ℕ
-object_text os id = content_text id (content_named id os)
+-- An object that is not there is an unknown revision.
+abbrev pub object_text : List ℕ → Option Content → Result (List ℕ) Fault
+object_text id None = Err fault.UnknownRevision
+object_text id (Some content) = Ok (content_text id content)
 
 -- Each direct entry of a tree, in its order, under its own name.
-abbrev pub entry_line : TreeEntry → List ℕ
-entry_line e = line (listing e.mode e.id e.name)
+abbrev pub tree_line : TreeEntry → List ℕ
+tree_line e = line (listing e.mode e.id e.name)
 
 abbrev pub tree_lines : List Object → List ℕ → List ℕ
-tree_lines os tree = flat_map entry_line (entries_of os tree)
+tree_lines os tree = flat_map tree_line (entries_of os tree)
 
 -- <name> SP <first line of the message> LF, for each commit.
 abbrev pub log_line : List Object → List ℕ → List ℕ

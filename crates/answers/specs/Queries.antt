@@ -9,7 +9,9 @@ use Rattle.revisions.specs.declared.commit_range.Range.{Range}
 use Rattle.revisions.specs.Expressions.{Expression}
 use Rattle.revisions.specs.ExpressionReading.{expression_of, range_of}
 use Rattle.answers.specs.declared.query.Query.{Query}
-use Rattle.answers.specs.declared.query.Query.TheVariants.{RevParse, Abbrev, Cat, Ls, Log, Refs, Head, Export}
+use Rattle.answers.specs.declared.query.Query.TheVariants.{Object, Log, Repository}
+use Rattle.answers.specs.declared.query.ObjectQuery.TheVariants.{RevParse, Abbrev, Cat, Ls}
+use Rattle.answers.specs.declared.query.RepositoryQuery.TheVariants.{Refs, Head, Export}
 use Rattle.answers.specs.declared.query.Word.{Word}
 use Rattle.answers.specs.declared.query.Word.TheVariants as words
 use Rattle.answers.specs.declared.fault.Fault.{Fault}
@@ -26,14 +28,14 @@ after_space text = option_map (λ i. drop (i + 1) text) (position is_space text)
 -- A query begins with one of these words, compared whole.
 unfoldable pub word_of : List ℕ → Option Word
 word_of word =
-    if bytes_eq word (codes "rev-parse") then Some words.RevParse
-    else if bytes_eq word (codes "abbrev") then Some words.Abbrev
-    else if bytes_eq word (codes "cat") then Some words.Cat
-    else if bytes_eq word (codes "ls") then Some words.Ls
+    if bytes_eq word (codes "rev-parse") then Some (words.Object RevParse)
+    else if bytes_eq word (codes "abbrev") then Some (words.Object Abbrev)
+    else if bytes_eq word (codes "cat") then Some (words.Object Cat)
+    else if bytes_eq word (codes "ls") then Some (words.Object Ls)
     else if bytes_eq word (codes "log") then Some words.Log
-    else if bytes_eq word (codes "refs") then Some words.Refs
-    else if bytes_eq word (codes "head") then Some words.Head
-    else if bytes_eq word (codes "export") then Some words.Export
+    else if bytes_eq word (codes "refs") then Some (words.Repository Refs)
+    else if bytes_eq word (codes "head") then Some (words.Repository Head)
+    else if bytes_eq word (codes "export") then Some (words.Repository Export)
     else None
 
 -- A word that takes a revision, one that takes a range, and one that takes nothing.
@@ -51,14 +53,9 @@ alone query (Some text) = None
 
 -- The query of each word with its argument.
 abbrev pub query_by : Word → Option (List ℕ) → Option Query
-query_by words.RevParse = of_revision RevParse
-query_by words.Abbrev = of_revision Abbrev
-query_by words.Cat = of_revision Cat
-query_by words.Ls = of_revision Ls
+query_by (words.Object asked) = of_revision (Object asked)
 query_by words.Log = of_range Log
-query_by words.Refs = alone Refs
-query_by words.Head = alone Head
-query_by words.Export = alone Export
+query_by (words.Repository asked) = alone (Repository asked)
 
 -- The query that a text is. The limit is judged first, then the word, then what stands after it.
 unfoldable pub query_of : List ℕ → Result Query Fault

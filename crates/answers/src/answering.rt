@@ -2,21 +2,23 @@
 
 ghost use Rattle.std.specs.Prelude.{◌≡◌, Ok, length, take, OnErr};
 ghost use Rattle.git_model.specs.GoodRepository.{AreObjects};
+ghost use Rattle.git_model.specs.Repository.{object_named};
 ghost use Rattle.tenant_tables.specs.Objects.{objects};
 ghost use Rattle.tenant_tables.specs.IsBackedBy.{IsBackedBy};
 ghost use Rattle.tenant_tables.specs.View.{in_sight};
 ghost use Rattle.tenant_tables.specs.declared.sight.Sight.TheVariants.{Committed};
 ghost use Rattle.revisions.specs.FirstParents.{IsFirstParentChain};
-ghost use Rattle.answers.specs.Answers.{answer_to, export_asked, log_asked, object_asked, told, tree_asked};
-ghost use Rattle.answers.specs.Faults.{Gives, Prints, and_then};
-ghost use Rattle.answers.specs.Printed.{line, log_lines, name_line, object_text, shortest_prefix, tree_lines};
+ghost use Rattle.answers.specs.Answers.{answer_to, export_asked, log_asked, object_asked, told, told_of_object, told_of_repository};
+ghost use Rattle.answers.specs.Faults.{Prints, and_then};
+ghost use Rattle.answers.specs.Printed.{line, log_lines, object_text, shortest_prefix};
+ghost use Rattle.answers.specs.declared.query.ObjectQuery.TheVariants.{Ls};
 
 use crate::abbreviating::shortest_prefix;
 use crate::fault::Fault;
 use crate::log_printing::append_log;
 use crate::object_printing::{append_object, append_tree};
 use crate::printing::{append_line, append_name};
-use crate::query::Query;
+use crate::query::{ObjectQuery, Query, RepositoryQuery};
 use crate::query_reading::read_query;
 use crate::ref_printing::append_refs;
 use content_pool::Pool;
@@ -27,66 +29,90 @@ use std::alloc::Global;
 use tenant_refs::Refs;
 use tenant_tables::{Objects, Sight, Table};
 
-// The object that an expression names.
-fn resolve<N: Naming>(
-    alloc: Global,
+fn tell_prefix<N: Naming>(
     objects: &Objects<'_, N>,
-    refs: &Refs,
-    chain: &mut FirstParentCache,
-    of: &Expression<'_>,
-) -> Result<Name, Fault>
-    ensures found { AreObjects N.digest_of objects.now → IsFirstParentChain objects.now chain.old
-        → Gives result
-        (object_asked (record { objects = objects.now; refs = refs.now }) of.now) }
-    ensures chain { AreObjects N.digest_of objects.now → IsFirstParentChain objects.now chain.old
-        → IsFirstParentChain objects.now chain.new }
+    id: Name,
+    out: &mut Vec<u8>,
+) -> Result<(), Fault>
+    ensures told { AreObjects N.digest_of objects.now → Prints
+        (Ok (line (shortest_prefix objects.now id))) out.old.items out.new.items result }
+    ensures kept { take (length out.old.items) out.new.items ≡ out.old.items }
 {
-    let id = resolve_expression(alloc, objects, refs, chain, of)?;
-    Ok(id)
+    let digits = shortest_prefix(objects, &id);
+    append_line(&id.to_hex()[..digits], out)?;
+    Ok(())
 }
 
-fn tell_prefix<N: Naming>(
+fn tell_contents<N: Naming>(
+    objects: &Objects<'_, N>,
+    id: Name,
+    out: &mut Vec<u8>,
+) -> Result<(), Fault>
+    ensures told { Prints (object_text id (object_named id objects.now))
+        out.old.items out.new.items result }
+    ensures kept { take (length out.old.items) out.new.items ≡ out.old.items }
+{
+    match objects.get(&id) {
+        Some((kind, contents)) => Ok(append_object(id, kind, contents, out)?),
+        None => Err(Fault::UnknownRevision),
+    }
+}
+
+fn tell_tree<N: Naming>(
+    alloc: Global,
+    objects: &Objects<'_, N>,
+    id: Name,
+    out: &mut Vec<u8>,
+) -> Result<(), Fault>
+    ensures told { AreObjects N.digest_of objects.now → Prints
+        (told_of_object objects.now id Ls) out.old.items out.new.items result }
+    ensures kept { take (length out.old.items) out.new.items ≡ out.old.items }
+{
+    let tree = peel(alloc, objects, Kind::Tree, id)?;
+    append_tree(alloc, objects, &tree, out)?;
+    Ok(())
+}
+
+// Appends what is asked about the object of this name.
+fn tell_of_object<N: Naming>(
+    alloc: Global,
+    objects: &Objects<'_, N>,
+    id: Name,
+    asked: ObjectQuery,
+    out: &mut Vec<u8>,
+) -> Result<(), Fault>
+    ensures told { AreObjects N.digest_of objects.now → Prints
+        (told_of_object objects.now id asked) out.old.items out.new.items result }
+    ensures kept { take (length out.old.items) out.new.items ≡ out.old.items }
+{
+    match asked {
+        ObjectQuery::RevParse => Ok(append_name(id, out)?),
+        ObjectQuery::Abbrev => tell_prefix(objects, id, out),
+        ObjectQuery::Cat => tell_contents(objects, id, out),
+        ObjectQuery::Ls => tell_tree(alloc, objects, id, out),
+    }
+}
+
+// Appends what is asked about the object that an expression names.
+fn tell_object<N: Naming>(
     alloc: Global,
     objects: &Objects<'_, N>,
     refs: &Refs,
     chain: &mut FirstParentCache,
+    asked: ObjectQuery,
     of: &Expression<'_>,
     out: &mut Vec<u8>,
 ) -> Result<(), Fault>
     ensures told { AreObjects N.digest_of objects.now → IsFirstParentChain objects.now chain.old
         → Prints
         (and_then (object_asked (record { objects = objects.now; refs = refs.now }) of.now)
-        (λ id. Ok (line (shortest_prefix objects.now id)))) out.old.items out.new.items result }
+        (λ id. told_of_object objects.now id asked)) out.old.items out.new.items result }
     ensures kept { take (length out.old.items) out.new.items ≡ out.old.items }
     ensures chain { AreObjects N.digest_of objects.now → IsFirstParentChain objects.now chain.old
         → IsFirstParentChain objects.now chain.new }
 {
-    let id = resolve(alloc, objects, refs, chain, of)?;
-    let digits = shortest_prefix(objects, &id);
-    append_line(&id.to_hex()[..digits], out)?;
-    Ok(())
-}
-
-fn tell_tree<N: Naming>(
-    alloc: Global,
-    objects: &Objects<'_, N>,
-    refs: &Refs,
-    chain: &mut FirstParentCache,
-    of: &Expression<'_>,
-    out: &mut Vec<u8>,
-) -> Result<(), Fault>
-    ensures told { AreObjects N.digest_of objects.now → IsFirstParentChain objects.now chain.old
-        → Prints
-        (and_then (tree_asked (record { objects = objects.now; refs = refs.now }) of.now)
-        (λ tree. Ok (tree_lines objects.now tree))) out.old.items out.new.items result }
-    ensures kept { take (length out.old.items) out.new.items ≡ out.old.items }
-    ensures chain { AreObjects N.digest_of objects.now → IsFirstParentChain objects.now chain.old
-        → IsFirstParentChain objects.now chain.new }
-{
-    let id = resolve(alloc, objects, refs, chain, of)?;
-    let tree = peel(alloc, objects, Kind::Tree, id)?;
-    append_tree(alloc, objects, &tree, out)?;
-    Ok(())
+    let id = resolve_expression(alloc, objects, refs, chain, of)?;
+    tell_of_object(alloc, objects, id, asked, out)
 }
 
 fn tell_log<N: Naming>(
@@ -110,48 +136,6 @@ fn tell_log<N: Naming>(
     Ok(())
 }
 
-fn tell_name<N: Naming>(
-    alloc: Global,
-    objects: &Objects<'_, N>,
-    refs: &Refs,
-    chain: &mut FirstParentCache,
-    of: &Expression<'_>,
-    out: &mut Vec<u8>,
-) -> Result<(), Fault>
-    ensures told { AreObjects N.digest_of objects.now → IsFirstParentChain objects.now chain.old
-        → Prints
-        (and_then (object_asked (record { objects = objects.now; refs = refs.now }) of.now)
-        (λ id. Ok (name_line id))) out.old.items out.new.items result }
-    ensures kept { take (length out.old.items) out.new.items ≡ out.old.items }
-    ensures chain { AreObjects N.digest_of objects.now → IsFirstParentChain objects.now chain.old
-        → IsFirstParentChain objects.now chain.new }
-{
-    let id = resolve(alloc, objects, refs, chain, of)?;
-    append_name(id, out)?;
-    Ok(())
-}
-
-fn tell_object<N: Naming>(
-    alloc: Global,
-    objects: &Objects<'_, N>,
-    refs: &Refs,
-    chain: &mut FirstParentCache,
-    of: &Expression<'_>,
-    out: &mut Vec<u8>,
-) -> Result<(), Fault>
-    ensures told { AreObjects N.digest_of objects.now → IsFirstParentChain objects.now chain.old
-        → Prints
-        (and_then (object_asked (record { objects = objects.now; refs = refs.now }) of.now)
-        (λ id. Ok (object_text objects.now id))) out.old.items out.new.items result }
-    ensures kept { take (length out.old.items) out.new.items ≡ out.old.items }
-    ensures chain { AreObjects N.digest_of objects.now → IsFirstParentChain objects.now chain.old
-        → IsFirstParentChain objects.now chain.new }
-{
-    let id = resolve(alloc, objects, refs, chain, of)?;
-    append_object(objects, id, out)?;
-    Ok(())
-}
-
 fn tell_export<N: Naming>(
     alloc: Global,
     objects: &Objects<'_, N>,
@@ -166,6 +150,26 @@ fn tell_export<N: Naming>(
     match append_export(alloc, objects, refs, out) {
         Ok(()) => Ok(()),
         Err(refusal) => Err(refusal.into()),
+    }
+}
+
+// Appends what is asked about the whole repository.
+fn tell_of_repository<N: Naming>(
+    alloc: Global,
+    objects: &Objects<'_, N>,
+    refs: &Refs,
+    asked: RepositoryQuery,
+    out: &mut Vec<u8>,
+) -> Result<(), Fault>
+    ensures told { AreObjects N.digest_of objects.now → Prints
+        (told_of_repository (record { objects = objects.now; refs = refs.now }) asked)
+        out.old.items out.new.items result }
+    ensures kept { take (length out.old.items) out.new.items ≡ out.old.items }
+{
+    match asked {
+        RepositoryQuery::Refs => Ok(append_refs(refs, out)?),
+        RepositoryQuery::Head => Ok(append_line(refs.head(), out)?),
+        RepositoryQuery::Export => tell_export(alloc, objects, refs, out),
     }
 }
 
@@ -187,14 +191,9 @@ fn tell<N: Naming>(
         → IsFirstParentChain objects.now chain.new }
 {
     match query {
-        Query::RevParse(of) => tell_name(alloc, objects, refs, chain, of, out),
-        Query::Abbrev(of) => tell_prefix(alloc, objects, refs, chain, of, out),
-        Query::Cat(of) => tell_object(alloc, objects, refs, chain, of, out),
-        Query::Ls(of) => tell_tree(alloc, objects, refs, chain, of, out),
+        Query::Object(asked, of) => tell_object(alloc, objects, refs, chain, *asked, of, out),
         Query::Log(range) => tell_log(alloc, objects, refs, chain, range, out),
-        Query::Refs => Ok(append_refs(refs, out)?),
-        Query::Head => Ok(append_line(refs.head(), out)?),
-        Query::Export => tell_export(alloc, objects, refs, out),
+        Query::Repository(asked) => tell_of_repository(alloc, objects, refs, *asked, out),
     }
 }
 

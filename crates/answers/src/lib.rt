@@ -14,5 +14,5 @@ mod ref_printing;
 
 pub use answering::{answer, answer_along};
 pub use fault::Fault;
-pub use query::Query;
+pub use query::{ObjectQuery, Query, RepositoryQuery};
 pub use query_reading::read_query;

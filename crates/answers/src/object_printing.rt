@@ -10,7 +10,7 @@ ghost use Rattle.git_model.specs.StoredPath.{entries_in};
 ghost use Rattle.git_model.specs.Tree.{TreeEntry as Entry, CanWriteTree, tree_contents};
 ghost use Rattle.git_model.specs.TreeReading.{tree_read};
 ghost use Rattle.git_objects.specs.Parts.{entries_of, entry_of};
-ghost use Rattle.answers.specs.Printed.{content_text, entry_line, line, object_text, tree_lines};
+ghost use Rattle.answers.specs.Printed.{content_text, line, tree_line, tree_lines};
 
 use git_objects::{
     Kind, Memory, Name, Naming, TreeEntry, append_listing, append_parts, kind_word, read_tree,
@@ -35,8 +35,8 @@ fn append_sized(id: Name, word: &[u8], contents: &[u8], out: &mut Vec<u8>) -> Re
     )
 }
 
-// Appends the name, the kind and the size of an object, and its contents.
-fn append_content(id: Name, kind: Kind, contents: &[u8], out: &mut Vec<u8>) -> Result<(), Memory>
+/// Appends an object: its name, kind and size on a line, and its contents with a line end.
+pub fn append_object(id: Name, kind: Kind, contents: &[u8], out: &mut Vec<u8>) -> Result<(), Memory>
     ensures written { OnOk result (out.new.items
         ≡ out.old.items ++ content_text id (content_from kind contents.now)) }
     ensures kept { take (length out.old.items) out.new.items ≡ out.old.items }
@@ -44,25 +44,9 @@ fn append_content(id: Name, kind: Kind, contents: &[u8], out: &mut Vec<u8>) -> R
     append_sized(id, kind_word(kind), contents, out)
 }
 
-/// Appends an object: its name, kind and size on a line, and its contents with a line end. A name
-/// without an object is printed as an empty blob.
-pub fn append_object<N: Naming>(
-    objects: &Objects<'_, N>,
-    id: Name,
-    out: &mut Vec<u8>,
-) -> Result<(), Memory>
-    ensures written { OnOk result (out.new.items ≡ out.old.items ++ object_text objects.now id) }
-    ensures kept { take (length out.old.items) out.new.items ≡ out.old.items }
-{
-    match objects.get(&id) {
-        Some((kind, contents)) => append_content(id, kind, contents, out),
-        None => append_content(id, Kind::Blob, b"", out),
-    }
-}
-
 fn append_entry(entry: &TreeEntry<'_>, out: &mut Vec<u8>) -> Result<(), Memory>
     ensures written { OnOk result (out.new.items ≡ out.old.items
-        ++ entry_line (entry_of entry.now)) }
+        ++ tree_line (entry_of entry.now)) }
     ensures kept { take (length out.old.items) out.new.items ≡ out.old.items }
 {
     append_listing(entry.mode, entry.id, entry.name, out)?;
@@ -72,7 +56,7 @@ fn append_entry(entry: &TreeEntry<'_>, out: &mut Vec<u8>) -> Result<(), Memory>
 
 fn append_entries(entries: &[TreeEntry<'_>], out: &mut Vec<u8>) -> Result<(), Memory>
     ensures written { OnOk result (out.new.items
-        ≡ out.old.items ++ flat_map entry_line (entries_of entries.now)) }
+        ≡ out.old.items ++ flat_map tree_line (entries_of entries.now)) }
     ensures kept { take (length out.old.items) out.new.items ≡ out.old.items }
 {
     for entry in entries {
@@ -85,7 +69,7 @@ fn append_entries(entries: &[TreeEntry<'_>], out: &mut Vec<u8>) -> Result<(), Me
 fn append_tree_contents(alloc: Global, contents: &[u8], out: &mut Vec<u8>) -> Result<(), Memory>
     ensures written { (es : List Entry) → CanWriteTree es → contents.now ≡ tree_contents es
         → OnOk result (out.new.items
-        ≡ out.old.items ++ flat_map entry_line (tree_read contents.now)) }
+        ≡ out.old.items ++ flat_map tree_line (tree_read contents.now)) }
     ensures kept { take (length out.old.items) out.new.items ≡ out.old.items }
 {
     match read_tree(alloc, contents)? {
@@ -102,7 +86,7 @@ fn append_entries_in(
     out: &mut Vec<u8>,
 ) -> Result<(), Memory>
     ensures written { (os : List Object) → IsValid os kind contents.now → OnOk result
-        (out.new.items ≡ out.old.items ++ flat_map entry_line (entries_in kind contents.now)) }
+        (out.new.items ≡ out.old.items ++ flat_map tree_line (entries_in kind contents.now)) }
     ensures kept { take (length out.old.items) out.new.items ≡ out.old.items }
 {
     match kind {

@@ -5,16 +5,30 @@ use revisions::{Expression, Range};
 /// A query, as its text is read. Nothing is looked up yet.
 #[derive(Drop)]
 pub enum Query<'a> {
-    /// The name of an object: git-rev-parse(1).
-    RevParse(Expression<'a>),
-    /// The shortest prefix of its name that begins no other: git-rev-parse(1), --short=4.
-    Abbrev(Expression<'a>),
-    /// The object itself: git-cat-file(1), --batch.
-    Cat(Expression<'a>),
-    /// The direct entries of its tree: git-ls-tree(1).
-    Ls(Expression<'a>),
+    /// What is asked about the object that an expression names.
+    Object(ObjectQuery, Expression<'a>),
     /// The commits of a range: git-log(1), --format='%H %s'.
     Log(Range<Expression<'a>>),
+    /// What is asked about the whole repository.
+    Repository(RepositoryQuery),
+}
+
+/// What is asked about an object.
+#[derive(Clone, Copy)]
+pub enum ObjectQuery {
+    /// Its name: git-rev-parse(1).
+    RevParse,
+    /// The shortest prefix of its name that begins no other: git-rev-parse(1), --short=4.
+    Abbrev,
+    /// The object itself: git-cat-file(1), --batch.
+    Cat,
+    /// The direct entries of its tree: git-ls-tree(1).
+    Ls,
+}
+
+/// What is asked about a whole repository.
+#[derive(Clone, Copy)]
+pub enum RepositoryQuery {
     /// All refs with the names that they hold: git-show-ref(1).
     Refs,
     /// The ref that HEAD names: git-symbolic-ref(1).
@@ -26,12 +40,7 @@ pub enum Query<'a> {
 /// The word that a query begins with.
 #[derive(Clone, Copy)]
 pub enum Word {
-    RevParse,
-    Abbrev,
-    Cat,
-    Ls,
+    Object(ObjectQuery),
     Log,
-    Refs,
-    Head,
-    Export,
+    Repository(RepositoryQuery),
 }

@@ -11,7 +11,7 @@ ghost use Rattle.answers.specs.Faults.{Gives, or_fault};
 ghost use Rattle.answers.specs.Queries.{after_space, is_space, query_by, query_of, word_of};
 
 use crate::fault::Fault;
-use crate::query::{Query, Word};
+use crate::query::{ObjectQuery, Query, RepositoryQuery, Word};
 use revisions::{Expression, read_range};
 use std::alloc::Global;
 
@@ -57,13 +57,13 @@ fn word_of(word: &[u8]) -> Option<Word>
     ensures { result ≡ word_of word.now }
 {
     if word == b"rev-parse".as_slice() {
-        Some(Word::RevParse)
+        Some(Word::Object(ObjectQuery::RevParse))
     } else if word == b"abbrev".as_slice() {
-        Some(Word::Abbrev)
+        Some(Word::Object(ObjectQuery::Abbrev))
     } else if word == b"cat".as_slice() {
-        Some(Word::Cat)
+        Some(Word::Object(ObjectQuery::Cat))
     } else if word == b"ls".as_slice() {
-        Some(Word::Ls)
+        Some(Word::Object(ObjectQuery::Ls))
     } else {
         other_word_of(word)
     }
@@ -78,11 +78,11 @@ fn other_word_of(word: &[u8]) -> Option<Word>
     if word == b"log".as_slice() {
         Some(Word::Log)
     } else if word == b"refs".as_slice() {
-        Some(Word::Refs)
+        Some(Word::Repository(RepositoryQuery::Refs))
     } else if word == b"head".as_slice() {
-        Some(Word::Head)
+        Some(Word::Repository(RepositoryQuery::Head))
     } else if word == b"export".as_slice() {
-        Some(Word::Export)
+        Some(Word::Repository(RepositoryQuery::Export))
     } else {
         None
     }
@@ -93,13 +93,8 @@ fn alone<'a>(word: Word) -> Result<Query<'a>, Fault>
     ensures { Gives result (or_fault fault.MalformedQuery (query_by word None)) }
 {
     match word {
-        Word::Refs => Ok(Query::Refs),
-        Word::Head => Ok(Query::Head),
-        Word::Export => Ok(Query::Export),
-        Word::RevParse => Err(Fault::MalformedQuery),
-        Word::Abbrev => Err(Fault::MalformedQuery),
-        Word::Cat => Err(Fault::MalformedQuery),
-        Word::Ls => Err(Fault::MalformedQuery),
+        Word::Repository(asked) => Ok(Query::Repository(asked)),
+        Word::Object(_) => Err(Fault::MalformedQuery),
         Word::Log => Err(Fault::MalformedQuery),
     }
 }
@@ -109,14 +104,9 @@ fn read_asking<'a>(alloc: Global, word: Word, text: &'a [u8]) -> Result<Query<'a
     ensures { Gives result (or_fault fault.MalformedQuery (query_by word (Some text.now))) }
 {
     match word {
-        Word::RevParse => Ok(Query::RevParse(read_expression(alloc, text)?)),
-        Word::Abbrev => Ok(Query::Abbrev(read_expression(alloc, text)?)),
-        Word::Cat => Ok(Query::Cat(read_expression(alloc, text)?)),
-        Word::Ls => Ok(Query::Ls(read_expression(alloc, text)?)),
+        Word::Object(asked) => Ok(Query::Object(asked, read_expression(alloc, text)?)),
         Word::Log => read_log(alloc, text),
-        Word::Refs => Err(Fault::MalformedQuery),
-        Word::Head => Err(Fault::MalformedQuery),
-        Word::Export => Err(Fault::MalformedQuery),
+        Word::Repository(_) => Err(Fault::MalformedQuery),
     }
 }
 

@@ -29,11 +29,11 @@ waits digest w = refl
 -- a blob that is not refused
 pub blob-stored : (digest : List ℕ → List ℕ) (w : Workspace) (mark : ℕ) (id bytes : List ℕ)
     → id ≡ name_by digest (content_from kind.Blob bytes)
-    → room_for w.marks (Some mark) ≡ Ok tt
+    → room_for w.stream.marks (Some mark) ≡ Ok tt
     → store_fault id (content_from kind.Blob bytes) w.objects ≡ None
     → after_act digest (ObjectAct (Blob (Some mark) bytes)) w ≡ quiet (record w {
       objects = with_object id (content_from kind.Blob bytes) w.objects;
-      marks = with_mark w.marks (Some mark) id;
+      stream = record w.stream { marks = with_mark w.stream.marks (Some mark) id };
     })
 unfolding after_act object_stored
 blob-stored digest w mark id bytes named room unrefused =

@@ -1,5 +1,5 @@
 -- A reached commit that is told ends, and is told then.
-use Rattle.std.proofs.Common.{◌≡◌, ℕ, true, List, [], ◌∷◌, ◌++◌, Option, None, Some, Result, Ok, refl, sym, ap, ◌∙◌, inr, arith}
+use Rattle.std.proofs.Common.{◌≡◌, ℕ, true, List, [], ◌∷◌, ◌++◌, Option, Some, Result, Ok, refl, sym, ap, ◌∙◌, inr, arith}
 use Rattle.git_model.specs.declared.kind.Kind.TheVariants as kind
 use Rattle.git_model.specs.Commit.{Commit}
 use Rattle.git_model.specs.CommitReading.{commit_read}
@@ -18,7 +18,8 @@ use Rattle.import_session.specs.Commits.{closed_at, closed_where}
 use Rattle.stream_state.specs.Faults.{and_then}
 use Rattle.import_session.specs.Faults.{changed_or}
 use Rattle.stream_state.specs.Marks.{room_for, with_mark}
-use Rattle.import_session.specs.Workspace.{Workspace}
+use Rattle.stream_state.specs.OpenCommand.{Changes}
+use Rattle.import_session.specs.Workspace.{Workspace, with_command}
 use Rattle.export_text.specs.ExportActs.{number_of}
 use Rattle.export_text.specs.ExportItems.{scratch}
 use Rattle.export_laws.specs.Commits.{commit_told, workspace_with}
@@ -35,16 +36,16 @@ moved tip id = refl
 
 -- an end that is not refused
 ends : (digest : List ℕ → List ℕ) (w : Workspace) (commit : OpenCommit) (end : Closed)
-    → room_for w.marks commit.header.mark ≡ Ok tt → closed digest w.objects commit ≡ Ok end
-    → closed_where digest true (record w { commit = Some commit })
-    ≡ Ok (closed_at (record w { commit = Some commit }) commit.header end)
+    → room_for w.stream.marks commit.header.mark ≡ Ok tt → closed digest w.objects commit ≡ Ok end
+    → closed_where digest true (with_command w (Changes commit))
+    ≡ Ok (closed_at (with_command w (Changes commit)) commit.header end)
 ends digest w commit end room is =
     ap (λ (r : Result Unit Fault).
     and_then r (λ _. and_then (changed_or (closed digest w.objects commit)) (λ end.
-    Ok (closed_at (record w { commit = Some commit }) commit.header end)))) room
+    Ok (closed_at (with_command w (Changes commit)) commit.header end)))) room
     ∙ ap (λ (r : Result Closed CommitFault).
     and_then (changed_or r) (λ end.
-    Ok (closed_at (record w { commit = Some commit }) commit.header end))) is
+    Ok (closed_at (with_command w (Changes commit)) commit.header end))) is
 
 -- What its end leaves.
 abbrev pub next : (List ℕ → List ℕ) → Repository → List ℕ → List ℕ → Told → Told
@@ -53,7 +54,6 @@ next digest repository id bytes told = record {
   marks = with_mark told.marks (Some (number_of repository.objects id)) id;
   branches = (scratch, At id) ∷ [];
   tags = told.tags;
-  said = None;
 }
 
 module _ (digest : List ℕ → List ℕ) (repository : Repository) (good : AreObjects digest repository.objects)

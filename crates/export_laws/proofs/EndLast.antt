@@ -10,7 +10,7 @@ use Rattle.import_session.specs.Workspace.{Workspace, quiet}
 use Rattle.export_laws.proofs.EndCarried.{running}
 
 module _ (digest : List ℕ → List ℕ) (last done : Workspace) (p : Parsing)
-    (outside : end_of p ≡ Ok false) (may : last.needs_done ≡ false)
+    (outside : end_of p ≡ Ok false) (may : last.stream.needs_done ≡ false)
     (ends : checkpoint last ≡ quiet done) where
   ends-so : finished digest (Runs (running last p) (Rest false []))
       ≡ end_left last (checkpoint last)

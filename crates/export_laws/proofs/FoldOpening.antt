@@ -37,7 +37,7 @@ module _ (digest : List ℕ → List ℕ) where
   forces = refl
 
   sets-head : (ref : List ℕ) (workspace : Workspace) → bytes_eq ref (codes "HEAD") ≡ false
-      → after_act digest (Control (control.Head ref)) workspace ≡ quiet (record workspace { head = Some ref })
+      → after_act digest (Control (control.Head ref)) workspace ≡ quiet (record workspace { stream = record workspace.stream { head = Some ref } })
   unfolding after_act controlled
   sets-head ref workspace other = rw other refl
 

@@ -1,5 +1,5 @@
 -- All is saved: the scratch branch is given up, and the checkpoint leaves the refs of the tags.
-use Rattle.std.proofs.Common.{◌≡◌, ℕ, true, nat_le, List, [], ◌∷◌, length, Option, Some, refl, sym, ap, ◌∙◌, inl, inr}
+use Rattle.std.proofs.Common.{◌≡◌, ℕ, true, nat_le, List, [], ◌∷◌, length, Option, refl, sym, ap, ◌∙◌, inl, inr}
 use Rattle.std.specs.Str.{bytes_eq}
 use Rattle.std.specs.FinMap as finmap
 use Rattle.std.proofs.lemmas.Bool.{cases_Bool, le-leb}
@@ -16,14 +16,14 @@ use Rattle.import_session.specs.Checkpoints.{checkpointed, saved_refs}
 use Rattle.import_session.specs.Meaning.{after_act}
 use Rattle.import_session.specs.Controls.{controlled}
 use Rattle.stream_state.specs.Tags.{PendingTags}
-use Rattle.stream_state.specs.CommandHeader.{said_of}
+use Rattle.stream_state.specs.OpenCommand as open_command
 use Rattle.import_session.specs.Workspace.{Workspace, quiet}
 use Rattle.export_text.specs.ExportActs.{saving_acts}
 use Rattle.export_text.specs.ExportItems.{scratch}
 use Rattle.export_text.specs.Reached.{is_exportable, reached_objects}
 use Rattle.export_laws.specs.Leaving.{Leaves, nothing}
 use Rattle.export_laws.specs.Saved.{IsSaved}
-use Rattle.export_laws.specs.Told.{AreTold, Told, tags_of, workspace_of}
+use Rattle.export_laws.specs.Told.{AreTold, Told, stream_told, tags_of, workspace_of}
 use Rattle.export_laws.specs.Whole.{head_told}
 use Rattle.export_laws.proofs.Acts.{asked}
 use Rattle.export_laws.proofs.OpenLines.{resets}
@@ -36,8 +36,10 @@ saving-well = (scratch-well, (tt, tt))
 -- the scratch branch is given up
 abbrev given_up : Option (List ℕ) → Told → Workspace
 given_up head told = record (workspace_of head told) {
-  branches = (scratch, Unborn) ∷ [];
-  said = Some (said_of scratch);
+  stream = record (stream_told head told) {
+    branches = (scratch, Unborn) ∷ [];
+    command = open_command.Reset scratch;
+  };
 }
 
 -- ---- the checkpoint
@@ -88,14 +90,7 @@ module _ (digest : List ℕ → List ℕ) (repository : Repository) (told : Told
     of_tags = λ ref id h.
         of-tags repository ref id (ap (λ (refs : RefMap). finmap.get refs ref) (sym saved-refs) ∙ h);
     head = saved-head;
-    marks = refl;
-    branches = refl;
-    tags = refl;
-    commit = refl;
-    inline = refl;
-    next_head = refl;
-    forces = refl;
-    needs_done = refl;
+    stream = refl;
   }
     where
       saved-head : saved.refs.head ≡ repository.refs.head

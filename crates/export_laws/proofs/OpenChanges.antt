@@ -67,11 +67,11 @@ held-by os k id (Some c) e h =
 
 blob-named : (os : List Object) (w : Workspace) (id : List ℕ) → IsToldAs os w id kind.Blob
     → (m : FileMode) → dataref os m id ≡ dataref os mode.Regular id
-    → blob_of w.objects w.marks (dataref os m id) ≡ Ok id
+    → blob_of w.objects w.stream.marks (dataref os m id) ≡ Ok id
 blob-named os w id told m same =
-    ap (blob_of w.objects w.marks) same
+    ap (blob_of w.objects w.stream.marks) same
     ∙ ap (λ (r : Result (List ℕ) CommitFault). commit_then r (held_as w.objects kind.Blob))
-    (marked-alike w.marks (number_of os id) id told.mark)
+    (marked-alike w.stream.marks (number_of os id) id told.mark)
     ∙ held-by w.objects kind.Blob id (object_named id w.objects) refl told.is
 
 -- ---- one file
@@ -93,17 +93,17 @@ modifies : (os : List Object) (w : Workspace) (m : FileMode) (id : List ℕ) (pa
     (commit next : OpenCommit) → m ≢ mode.Directory
     → (m ≢ mode.Gitlink → IsToldAs os w id kind.Blob)
     → file_put path (entry_of m id) commit ≡ Ok next
-    → modified w.objects w.marks m (dataref os m id) path commit ≡ Ok next
+    → modified w.objects w.stream.marks m (dataref os m id) path commit ≡ Ok next
 modifies os w mode.Directory id path commit next no_tree blob put = absurd (no_tree refl)
 modifies os w mode.Gitlink id path commit next no_tree blob put = put
 modifies os w mode.Regular id path commit next no_tree blob put =
-    named-put (blob_of w.objects w.marks (dataref os mode.Regular id)) mode.Regular id path commit next
+    named-put (blob_of w.objects w.stream.marks (dataref os mode.Regular id)) mode.Regular id path commit next
     (blob-named os w id (blob (λ e. cc)) mode.Regular refl) put
 modifies os w mode.Executable id path commit next no_tree blob put =
-    named-put (blob_of w.objects w.marks (dataref os mode.Executable id)) mode.Executable id path commit next
+    named-put (blob_of w.objects w.stream.marks (dataref os mode.Executable id)) mode.Executable id path commit next
     (blob-named os w id (blob (λ e. cc)) mode.Executable refl) put
 modifies os w mode.Symlink id path commit next no_tree blob put =
-    named-put (blob_of w.objects w.marks (dataref os mode.Symlink id)) mode.Symlink id path commit next
+    named-put (blob_of w.objects w.stream.marks (dataref os mode.Symlink id)) mode.Symlink id path commit next
     (blob-named os w id (blob (λ e. cc)) mode.Symlink refl) put
 
 file-told : (digest : List ℕ → List ℕ) (os : List Object) (w : Workspace) (f : Path × Entry)

@@ -9,12 +9,11 @@ use Rattle.file_maps.specs.StoredFiles.{commit_map}
 use Rattle.stream_grammar.specs.Acts.{Wait, Commit as CommitAct, Ref}
 use Rattle.stream_grammar.specs.Acts.{Begin, Author, Committer, Encoding, Message}
 use Rattle.stream_grammar.specs.Acts.{Reset}
-use Rattle.stream_grammar.specs.Names.{Expression}
 use Rattle.open_commits.specs.OpenCommit.{Header, OpenCommit as Open, begun}
 use Rattle.stream_state.specs.declared.branches.Tip.{Tip}
 use Rattle.stream_state.specs.declared.branches.Tip.TheVariants.{Unborn, Deleted, At}
 use Rattle.stream_state.specs.declared.fault.Fault.{Fault}
-use Rattle.stream_state.specs.declared.command_header.CommandHeader.{CommandHeader}
+use Rattle.stream_state.specs.declared.headers.CommitHeader.{CommitHeader}
 use Rattle.stream_state.specs.Branches.{branch_set, has_branch_room, ref_meant, tip_commit, tip_for, Branches}
 use Rattle.import_session.specs.Commits.{begun_from, commit_said}
 use Rattle.stream_state.specs.Faults.{and_then}
@@ -22,8 +21,9 @@ use Rattle.import_session.specs.Faults.{changed_or}
 use Rattle.import_session.specs.Meaning.{after_act}
 use Rattle.import_session.specs.Refs.{ref_set}
 use Rattle.import_session.specs.Sound.{IsStreamBranch}
-use Rattle.stream_state.specs.CommandHeader.{said_of}
-use Rattle.import_session.specs.Workspace.{Workspace, quiet}
+use Rattle.stream_state.specs.Headers.{new_commit_header}
+use Rattle.stream_state.specs.OpenCommand as open_command
+use Rattle.import_session.specs.Workspace.{Workspace, quiet, with_command}
 use Rattle.export_text.specs.ExportActs.{asks, asks_if, encoding_act}
 use Rattle.export_text.specs.ExportItems.{scratch}
 use Rattle.export_laws.specs.Leaving.{Leaves, nothing}
@@ -41,57 +41,59 @@ scratch-set branches (inl none) tip = rw none refl
 scratch-set branches (inr found) tip = rw found.1 refl
 
 -- a reset leaves it unborn
-pub resets : (digest : List ℕ → List ℕ) (w : Workspace) → IsScratchAlone w.branches
+pub resets : (digest : List ℕ → List ℕ) (w : Workspace) → IsScratchAlone w.stream.branches
     → after_act digest (Ref (Reset scratch)) w
-    ≡ quiet (record w { branches = (scratch, Unborn) ∷ []; said = Some (said_of scratch) })
+    ≡ quiet (record w {
+      stream = record w.stream { branches = (scratch, Unborn) ∷ []; command = open_command.Reset scratch };
+    })
 unfolding after_act ref_set ref_meant
 resets digest w alone =
     ap (λ (r : Result Branches Fault). and_then r (λ branches.
-    quiet (record w { branches = branches; said = Some (said_of scratch) })))
-    (scratch-set w.branches alone Unborn)
+    quiet (record w {
+      stream = record w.stream { branches = branches; command = open_command.Reset scratch };
+    })))
+    (scratch-set w.stream.branches alone Unborn)
 
 -- ---- the lines before the message
 
-abbrev with_said : Workspace → CommandHeader → Workspace
-with_said w said = record w { said = Some said }
+abbrev with_header : Workspace → CommitHeader → Workspace
+with_header w header = with_command w (open_command.Commit header)
 
-abbrev said_by : List ℕ → List ℕ → Option (List ℕ) → CommandHeader
+abbrev said_by : List ℕ → List ℕ → Option (List ℕ) → CommitHeader
 said_by author committer encoding = record {
   ref_name = scratch;
   author = Some author;
   committer = Some committer;
   encoding = encoding;
-  target = Expression [];
-  tagger = None;
 }
 
 begins : (digest : List ℕ → List ℕ) (w : Workspace)
-    → after_act digest (CommitAct (Begin scratch)) w ≡ quiet (with_said w (said_of scratch))
+    → after_act digest (CommitAct (Begin scratch)) w ≡ quiet (with_header w (new_commit_header scratch))
 unfolding after_act commit_said ref_meant
 begins digest w = refl
 
-authors : (digest : List ℕ → List ℕ) (w : Workspace) (said : CommandHeader) (ident : List ℕ)
-    → after_act digest (CommitAct (Author ident)) (with_said w said)
-    ≡ quiet (with_said w (record said { author = Some ident }))
+authors : (digest : List ℕ → List ℕ) (w : Workspace) (said : CommitHeader) (ident : List ℕ)
+    → after_act digest (CommitAct (Author ident)) (with_header w said)
+    ≡ quiet (with_header w (record said { author = Some ident }))
 unfolding after_act commit_said
 authors digest w said ident = refl
 
-committers : (digest : List ℕ → List ℕ) (w : Workspace) (said : CommandHeader) (ident : List ℕ)
-    → after_act digest (CommitAct (Committer ident)) (with_said w said)
-    ≡ quiet (with_said w (record said { committer = Some ident }))
+committers : (digest : List ℕ → List ℕ) (w : Workspace) (said : CommitHeader) (ident : List ℕ)
+    → after_act digest (CommitAct (Committer ident)) (with_header w said)
+    ≡ quiet (with_header w (record said { committer = Some ident }))
 unfolding after_act commit_said
 committers digest w said ident = refl
 
-encodings : (digest : List ℕ → List ℕ) (w : Workspace) (said : CommandHeader) (text : List ℕ)
-    → after_act digest (CommitAct (Encoding text)) (with_said w said)
-    ≡ quiet (with_said w (record said { encoding = Some text }))
+encodings : (digest : List ℕ → List ℕ) (w : Workspace) (said : CommitHeader) (text : List ℕ)
+    → after_act digest (CommitAct (Encoding text)) (with_header w said)
+    ≡ quiet (with_header w (record said { encoding = Some text }))
 unfolding after_act commit_said
 encodings digest w said text = refl
 
 encoding-said : (digest : List ℕ → List ℕ) (w : Workspace) (author committer : List ℕ)
     (encoding : Option (List ℕ))
-    → Leaves digest (asks_if encoding_act encoding) (with_said w (said_by author committer None))
-    (with_said w (said_by author committer encoding))
+    → Leaves digest (asks_if encoding_act encoding) (with_header w (said_by author committer None))
+    (with_header w (said_by author committer encoding))
 encoding-said digest w author committer None = nothing _
 encoding-said digest w author committer (Some text) =
     asked digest _ _ _ _ _ (encodings digest w (said_by author committer None) text) (nothing _)
@@ -100,12 +102,12 @@ lines-said : (digest : List ℕ → List ℕ) (w : Workspace) (author committer 
     (encoding : Option (List ℕ))
     → Leaves digest
     (asks (CommitAct (Begin scratch)) ∷ asks Wait ∷ asks (CommitAct (Author author)) ∷ asks (CommitAct (Committer committer))
-    ∷ asks_if encoding_act encoding) w (with_said w (said_by author committer encoding))
+    ∷ asks_if encoding_act encoding) w (with_header w (said_by author committer encoding))
 lines-said digest w author committer encoding =
     asked digest _ _ _ _ _ (begins digest w)
     (asked digest _ _ _ _ _ (waits digest _)
-    (asked digest _ _ _ _ _ (authors digest w (said_of scratch) author)
-    (asked digest _ _ _ _ _ (committers digest w (record (said_of scratch) { author = Some author }) committer)
+    (asked digest _ _ _ _ _ (authors digest w (new_commit_header scratch) author)
+    (asked digest _ _ _ _ _ (committers digest w (record (new_commit_header scratch) { author = Some author }) committer)
     (encoding-said digest w author committer encoding))))
 
 -- ---- its message
@@ -119,37 +121,43 @@ header_by mark author committer encoding = record {
   encoding = encoding;
 }
 
-opens : (digest : List ℕ → List ℕ) (w : Workspace) → IsScratchAlone w.branches
+opens : (digest : List ℕ → List ℕ) (w : Workspace) → IsScratchAlone w.stream.branches
     → (mark : Option ℕ) (message author committer : List ℕ) (encoding : Option (List ℕ)) (opening : Open)
-    → begun_from w.objects (tip_commit w.branches scratch) (begun (header_by mark author committer encoding) message) ≡ Ok opening
-    → after_act digest (CommitAct (Message mark message)) (with_said w (said_by author committer encoding))
+    → begun_from w.objects (tip_commit w.stream.branches scratch) (begun (header_by mark author committer encoding) message) ≡ Ok opening
+    → after_act digest (CommitAct (Message mark message)) (with_header w (said_by author committer encoding))
     ≡ quiet (record w {
-      branches = (scratch, tip_for (tip_commit w.branches scratch)) ∷ [];
-      said = None;
-      commit = Some opening;
+      stream = record w.stream {
+        branches = (scratch, tip_for (tip_commit w.stream.branches scratch)) ∷ [];
+        command = open_command.Changes opening;
+      };
     })
 unfolding after_act commit_said
 opens digest w alone mark message author committer encoding opening is =
-    let tip = tip_for (tip_commit w.branches scratch) in
+    let tip = tip_for (tip_commit w.stream.branches scratch) in
     let new = begun (header_by mark author committer encoding) message in
     ap (λ (r : Result Branches Fault). and_then r (λ branches.
-    and_then (begun_from w.objects (tip_commit w.branches scratch) new) (λ opening.
-    quiet (record w { branches = branches; said = None; commit = Some opening }))))
-    (scratch-set w.branches alone tip)
+    and_then (begun_from w.objects (tip_commit w.stream.branches scratch) new) (λ opening.
+    quiet (record w {
+      stream = record w.stream { branches = branches; command = open_command.Changes opening };
+    }))))
+    (scratch-set w.stream.branches alone tip)
     ∙ ap (λ (r : Result Open Fault). and_then r (λ opening.
-    quiet (record w { branches = (scratch, tip) ∷ []; said = None; commit = Some opening }))) is
+    quiet (record w {
+      stream = record w.stream { branches = (scratch, tip) ∷ []; command = open_command.Changes opening };
+    }))) is
 
 -- The lines of a commit up to its message leave it open.
-pub opened : (digest : List ℕ → List ℕ) (w : Workspace) → IsScratchAlone w.branches
+pub opened : (digest : List ℕ → List ℕ) (w : Workspace) → IsScratchAlone w.stream.branches
     → (mark : Option ℕ) (message author committer : List ℕ) (encoding : Option (List ℕ)) (opening : Open)
-    → begun_from w.objects (tip_commit w.branches scratch) (begun (header_by mark author committer encoding) message) ≡ Ok opening
+    → begun_from w.objects (tip_commit w.stream.branches scratch) (begun (header_by mark author committer encoding) message) ≡ Ok opening
     → Leaves digest
     ((asks (CommitAct (Begin scratch)) ∷ asks Wait ∷ asks (CommitAct (Author author)) ∷ asks (CommitAct (Committer committer))
     ∷ asks_if encoding_act encoding) ++ asks (CommitAct (Message mark message)) ∷ []) w
     (record w {
-      branches = (scratch, tip_for (tip_commit w.branches scratch)) ∷ [];
-      said = None;
-      commit = Some opening;
+      stream = record w.stream {
+        branches = (scratch, tip_for (tip_commit w.stream.branches scratch)) ∷ [];
+        command = open_command.Changes opening;
+      };
     })
 opened digest w alone mark message author committer encoding opening is =
     both digest (lines-said digest w author committer encoding)

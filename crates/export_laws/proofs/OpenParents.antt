@@ -26,7 +26,8 @@ use Rattle.stream_state.specs.Faults.{and_then, resolved_or}
 use Rattle.import_session.specs.Faults.{changed_or}
 use Rattle.stream_state.specs.Marks.{marked_name}
 use Rattle.import_session.specs.Meaning.{after_act}
-use Rattle.import_session.specs.Workspace.{Workspace, quiet}
+use Rattle.stream_state.specs.OpenCommand.{Changes}
+use Rattle.import_session.specs.Workspace.{Workspace, quiet, with_command}
 use Rattle.export_text.specs.ExportActs.{merges, number_of, parent_acts}
 use Rattle.export_laws.specs.Leaving.{Leaves, nothing}
 use Rattle.export_laws.proofs.Acts.{asked}
@@ -34,11 +35,11 @@ use Rattle.export_laws.proofs.Acts.{asked}
 -- An object of a repository is there under its mark, with its kind.
 pub record IsToldAs (os : List Object) (w : Workspace) (id : List ℕ) (k : Kind) : Type 0 where
   pub is : kind_named id w.objects ≡ Some k
-  pub mark : marked_name w.marks (number_of os id) ≡ Ok id
+  pub mark : marked_name w.stream.marks (number_of os id) ≡ Ok id
 
 -- A workspace with this commit open.
 abbrev pub with_open : Workspace → OpenCommit → Workspace
-with_open w commit = record w { commit = Some commit }
+with_open w commit = with_command w (Changes commit)
 
 -- ---- a mark of a commit means it
 

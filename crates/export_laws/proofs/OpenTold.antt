@@ -25,13 +25,13 @@ use Rattle.stream_state.specs.declared.branches.Tip.{Tip}
 use Rattle.stream_state.specs.declared.branches.Tip.TheVariants.{Unborn}
 use Rattle.stream_state.specs.Branches.{tip_commit, tip_for}
 use Rattle.import_session.specs.Sound.{IsSound}
-use Rattle.stream_state.specs.CommandHeader.{said_of}
+use Rattle.stream_state.specs.OpenCommand as open_command
 use Rattle.import_session.specs.Workspace.{Workspace}
 use Rattle.export_text.specs.ExportActs.{asks, asks_if, encoding_act, file_acts, fresh_acts, head_acts_of, number_of, parent_acts}
 use Rattle.export_text.specs.ExportItems.{scratch}
 use Rattle.export_laws.specs.Commits.{commit_told, header_told, workspace_with}
 use Rattle.export_laws.specs.Leaving.{Leaves, nothing}
-use Rattle.export_laws.specs.Told.{AreTold, Told, workspace_of}
+use Rattle.export_laws.specs.Told.{AreTold, Told, stream_told, workspace_of}
 use Rattle.export_laws.proofs.Acts.{asked, both}
 use Rattle.export_laws.proofs.FilesPut.{files-put}
 use Rattle.export_laws.proofs.Known.{IsEarlier, IsKnown, known, reached-on}
@@ -46,9 +46,9 @@ abbrev pub acts_before_end : List Object → List ℕ → Commit → List Done
 acts_before_end os id c = head_acts_of c ++ asks (CommitAct (Message (Some (number_of os id)) c.message)) ∷ []
     ++ parent_acts os c.parents ++ file_acts os c.tree
 
--- What was told stays, but that the branch of commits stands so, and nothing is said.
+-- What was told, with the branch of commits at this tip.
 abbrev pub at_tip : Told → Tip → Told
-at_tip told tip = record told { branches = (scratch, tip) ∷ []; said = None }
+at_tip told tip = record told { branches = (scratch, tip) ∷ [] }
 
 -- These acts leave the commit open as it is told, whatever HEAD is to name.
 pub record IsOpened (digest : List ℕ → List ℕ) (os : List Object) (id : List ℕ) (c : Commit)
@@ -173,8 +173,10 @@ module _ (digest : List ℕ → List ℕ) (repository : Repository) (good : AreO
 
   abbrev reset_at : Option (List ℕ) → Workspace
   reset_at head = record (workspace_of head told) {
-    branches = (scratch, Unborn) ∷ [];
-    said = Some (said_of scratch);
+    stream = record (stream_told head told) {
+      branches = (scratch, Unborn) ∷ [];
+      command = open_command.Reset scratch;
+    };
   }
 
   begun-by : (ps : List (List ℕ))

@@ -14,6 +14,8 @@ use Rattle.stream_state.specs.Branches.{tip_of, Branches}
 use Rattle.stream_state.specs.Checkpoints.{by_head, by_tags, fit}
 use Rattle.import_session.specs.Checkpoints.{by_branches, checkpoint, checkpointed, kept_lines, saved_refs}
 use Rattle.stream_state.specs.Tags.{PendingTags}
+use Rattle.open_commits.specs.OpenCommit.{OpenCommit}
+use Rattle.stream_state.specs.StreamOf.{StreamOf}
 use Rattle.import_session.specs.Workspace.{Workspace, quiet}
 use Rattle.export_text.specs.ExportActs.{removal_acts}
 use Rattle.export_text.specs.ExportItems.{scratch}
@@ -60,31 +62,51 @@ module _ (digest : List ℕ → List ℕ) (repository : Repository) (good : AreO
   abbrev goal : RefStore
   goal = repository.refs
 
+  -- what the stream has of its own
+  saved-marks : saved.stream.marks ≡ told.marks
+  saved-marks = ap (λ (s : StreamOf OpenCommit). s.marks) is.stream
+
+  saved-branches : saved.stream.branches ≡ (scratch, Unborn) ∷ []
+  saved-branches = ap (λ (s : StreamOf OpenCommit). s.branches) is.stream
+
+  saved-tags : saved.stream.tags ≡ []
+  saved-tags = ap (λ (s : StreamOf OpenCommit). s.tags) is.stream
+
+  saved-head : saved.stream.head ≡ None
+  saved-head = ap (λ (s : StreamOf OpenCommit). s.head) is.stream
+
+  forced : saved.stream.forces ≡ true
+  forced = ap (λ (s : StreamOf OpenCommit). s.forces) is.stream
+
+  done-asked : saved.stream.needs_done ≡ false
+  done-asked = ap (λ (s : StreamOf OpenCommit). s.needs_done) is.stream
+
   few : length (listed_refs goal) + length (tag_refs repository) ≤ 65535
   few = leb-true (length (listed_refs goal) + length (tag_refs repository)) 65535 exportable
 
   fewer : length (extra_tag_refs repository) ≤ length (tag_refs repository)
   fewer = length-filter-le (is_missing goal) (tag_refs repository)
 
-  first : Removed digest saved goal [] (extra_tag_refs repository) saved.branches saved.said
+  first : Removed digest saved goal [] (extra_tag_refs repository) saved.stream.branches saved.stream.command
   first =
-      removed digest saved goal [] (extra_tag_refs repository) saved.branches saved.said (extras repository)
-      (let one = ap (λ (l : Branches). length l) is.branches in omega (arith, few, fewer, one))
-      (subst (λ (b : Branches). Agree goal b []) (sym is.branches) (agree-first goal))
+      removed digest saved goal [] (extra_tag_refs repository) saved.stream.branches saved.stream.command (extras repository)
+      (let one = ap (λ (l : Branches). length l) saved-branches in omega (arith, few, fewer, one))
+      (subst (λ (b : Branches). Agree goal b []) (sym saved-branches) (agree-first goal))
 
-  then-set : AreSet digest repository good refs told all saved is.objects is.marks (listed_refs goal) first.left [] first.last
+  then-set : AreSet digest repository good refs told all saved is.objects saved-marks (listed_refs goal) first.left [] first.last
   then-set =
-      are-set digest repository good refs told all saved is.objects is.marks (listed_refs goal) first.left [] first.last
+      are-set digest repository good refs told all saved is.objects saved-marks (listed_refs goal) first.left [] first.last
       (each-ref repository)
-      (let one = ap (λ (l : Branches). length l) is.branches in
+      (let one = ap (λ (l : Branches). length l) saved-branches in
       let more = first.few in omega (arith, few, fewer, one, more))
       (omega (arith, few)) first.agree
 
   last : Workspace
   last = state saved then-set.left then-set.waiting then-set.last
 
-  from-saved : state saved saved.branches [] saved.said ≡ saved
-  from-saved = ap (λ (t : PendingTags). state saved saved.branches t saved.said) (sym is.tags)
+  from-saved : state saved saved.stream.branches [] saved.stream.command ≡ saved
+  from-saved =
+      ap (λ (t : PendingTags). state saved saved.stream.branches t saved.stream.command) (sym saved-tags)
 
   leaves : Leaves digest (acts_of_refs repository) saved last
   unfolding last
@@ -145,16 +167,16 @@ module _ (digest : List ℕ → List ℕ) (repository : Repository) (good : AreO
     | inl waits ↦ tags-set goal q then-set.waiting branched then-set.agree.holds waits
     | inr other ↦
         tags-agree goal q then-set.waiting branched then-set.agree.holds
-        (branches-saved last is.forces then-set.left saved.refs q then-set.agree.distinct
+        (branches-saved last forced then-set.left saved.refs q then-set.agree.distinct
         ∙ by-tip q other (tip_of then-set.left q) refl)
   ]
 
   same-refs : saved_refs last ≡ goal
   unfolding last
   same-refs =
-      ap (by_head (by_tags branched then-set.waiting)) is.next_head
+      ap (by_head (by_tags branched then-set.waiting)) saved-head
       ∙ one-store (by_tags branched then-set.waiting) goal same-targets
-      (tags-head then-set.waiting branched ∙ branches-head last is.forces then-set.left saved.refs ∙ is.head)
+      (tags-head then-set.waiting branched ∙ branches-head last forced then-set.left saved.refs ∙ is.head)
 
   fits : fit (saved_refs last) ≡ true
   fits =
@@ -162,9 +184,9 @@ module _ (digest : List ℕ → List ℕ) (repository : Repository) (good : AreO
       ∙ le-leb (length (listed_refs goal)) refs_limit
       (let len = len-entries goal.refs in let within = refs.few in omega (arith, len, within))
 
-  prints : kept_lines last last.branches ≡ []
+  prints : kept_lines last last.stream.branches ≡ []
   unfolding last
-  prints = nothing-printed last is.forces last.branches
+  prints = nothing-printed last forced last.stream.branches
 
   ends : checkpoint last ≡ quiet (checkpointed last)
   ends = rw (fits, prints) refl
@@ -174,7 +196,7 @@ module _ (digest : List ℕ → List ℕ) (repository : Repository) (good : AreO
   refs-left = record {
     last = last;
     leaves = leaves;
-    needs_done = is.needs_done;
+    needs_done = done-asked;
     done = checkpointed last;
     ends = ends;
     refs = same-refs;

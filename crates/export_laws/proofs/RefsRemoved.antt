@@ -1,15 +1,16 @@
 -- Refs that are taken away, in turn.
-use Rattle.std.proofs.Common.{◌≡◌, ℕ, ◌+◌, ◌*◌, ◌<◌, ◌≤◌, true, false, codes, length, replicate, List, [], ◌∷◌, Option, None, Some, refl, ap, ◌∙◌, inl, inr, arith}
+use Rattle.std.proofs.Common.{◌≡◌, ℕ, ◌+◌, ◌*◌, ◌<◌, ◌≤◌, true, false, codes, length, replicate, List, [], ◌∷◌, None, Some, refl, ap, ◌∙◌, inl, inr, arith}
 use Rattle.std.specs.List.{AllByRecursion, flat_map, list_any}
 use Rattle.std.specs.Str.{bytes_eq}
 use Rattle.std.proofs.lemmas.Bool.{cases_Bool, false≢true}
 use Rattle.git_model.specs.RefStore.{RefStore, target_of}
 use Rattle.stream_grammar.specs.Names.{Expression}
 use Rattle.stream_state.specs.declared.branches.Tip.TheVariants.{Unborn, Deleted}
-use Rattle.stream_state.specs.declared.command_header.CommandHeader.{CommandHeader}
+use Rattle.open_commits.specs.OpenCommit.{OpenCommit}
 use Rattle.stream_state.specs.Branches.{branch_limit, tip_of, with_branch, Branches}
 use Rattle.stream_state.specs.Tags.{PendingTags}
-use Rattle.stream_state.specs.CommandHeader.{said_of}
+use Rattle.stream_state.specs.OpenCommand as open_command
+use Rattle.stream_state.specs.OpenCommand.{OpenCommand}
 use Rattle.import_session.specs.Workspace.{Workspace}
 use Rattle.export_text.specs.ExportActs.{removal_acts}
 use Rattle.export_laws.specs.Leaving.{Leaves, nothing}
@@ -25,10 +26,10 @@ pub record IsExtra (goal : RefStore) (ref : List ℕ) : Type 0 where
 
 module _ (digest : List ℕ → List ℕ) (saved : Workspace) (goal : RefStore) (tags : PendingTags) where
   -- What the removal of some refs leaves.
-  pub record Removed (refs : List (List ℕ)) (branches : Branches) (said : Option CommandHeader) : Type 0 where
+  pub record Removed (refs : List (List ℕ)) (branches : Branches) (command : OpenCommand OpenCommit) : Type 0 where
     pub left : Branches
-    pub last : Option CommandHeader
-    pub leaves : Leaves digest (flat_map removal_acts refs) (state saved branches tags said)
+    pub last : OpenCommand OpenCommit
+    pub leaves : Leaves digest (flat_map removal_acts refs) (state saved branches tags command)
         (state saved left tags last)
     pub agree : Agree goal left tags
     pub each : (q : List ℕ) → list_any (bytes_eq q) refs ≡ true → tip_of left q ≡ Some Deleted
@@ -36,29 +37,29 @@ module _ (digest : List ℕ → List ℕ) (saved : Workspace) (goal : RefStore) 
         → tip_of left q ≡ Some Deleted
     pub few : length left ≤ length branches + 2 * length refs
 
-  pub removed : (refs : List (List ℕ)) (branches : Branches) (said : Option CommandHeader)
+  pub removed : (refs : List (List ℕ)) (branches : Branches) (command : OpenCommand OpenCommit)
       → AllByRecursion (IsExtra goal) refs → length branches + 2 * length refs < branch_limit
-      → Agree goal branches tags → Removed refs branches said
-  removed [] branches said h few agree = record {
+      → Agree goal branches tags → Removed refs branches command
+  removed [] branches command h few agree = record {
     left = branches;
-    last = said;
-    leaves = nothing (state saved branches tags said);
+    last = command;
+    leaves = nothing (state saved branches tags command);
     agree = agree;
     each = λ q any. absurd (false≢true any);
     kept = λ q none is. is;
     few = omega arith;
   }
-  removed (ref ∷ refs) branches said h few agree =
+  removed (ref ∷ refs) branches command h few agree =
       let longer = placed-few branches ref Deleted in
-      let rest = removed refs (placed branches ref Deleted) None h.1 (omega (arith, few, longer))
+      let rest = removed refs (placed branches ref Deleted) open_command.Nothing h.1 (omega (arith, few, longer))
       (agree-placed goal branches tags ref Deleted h.0.none agree) in
       record {
         left = rest.left;
         last = rest.last;
         leaves =
             both digest
-            (reset-leaves digest saved branches tags said ref (Expression (replicate 40 48)) Deleted h.0.name (omega (arith, few))
-            (to-none (state saved (with_branch branches ref Unborn) tags (Some (said_of ref))) ref))
+            (reset-leaves digest saved branches tags command ref (Expression (replicate 40 48)) Deleted h.0.name (omega (arith, few))
+            (to-none (state saved (with_branch branches ref Unborn) tags (open_command.Reset ref)) ref))
             rest.leaves;
         agree = rest.agree;
         each = λ q any. elim (cases_Bool (bytes_eq q ref)) [

@@ -1,5 +1,5 @@
 -- A reset to no commit, and one to a commit.
-use Rattle.std.proofs.Common.{◌≡◌, ℕ, ◌<◌, ◌≤◌, ◌+◌, true, false, cond, codes, is_some, length, replicate, List, Option, None, Some, Result, Ok, refl, sym, ap, ◌∙◌, inl, inr, arith}
+use Rattle.std.proofs.Common.{◌≡◌, ℕ, ◌<◌, ◌≤◌, ◌+◌, true, false, cond, codes, is_some, length, replicate, List, Some, Result, Ok, refl, sym, ap, ◌∙◌, inl, inr, arith}
 use Rattle.std.specs.Str.{bytes_eq}
 use Rattle.std.proofs.lemmas.Bool.{cases_Bool, lt-ltb}
 use Rattle.git_model.specs.declared.kind.Kind.TheVariants as kind
@@ -9,13 +9,14 @@ use Rattle.stream_grammar.specs.Acts.{Reset, ResetFrom}
 use Rattle.stream_grammar.specs.Names.{CommitIsh, Marked, Expression}
 use Rattle.stream_state.specs.declared.branches.Tip.{Tip}
 use Rattle.stream_state.specs.declared.branches.Tip.TheVariants.{Unborn, Deleted, At}
-use Rattle.stream_state.specs.declared.command_header.CommandHeader.{CommandHeader}
+use Rattle.open_commits.specs.OpenCommit.{OpenCommit}
 use Rattle.stream_state.specs.Branches.{branch_limit, has_branch_room, ref_meant, tip_of, with_branch, Branches}
 use Rattle.import_session.specs.Meaning.{after_act}
 use Rattle.import_session.specs.Refs.{is_zeros, ref_set, tip_from}
 use Rattle.stream_state.specs.Tags.{PendingTags}
-use Rattle.stream_state.specs.CommandHeader.{said_of}
-use Rattle.import_session.specs.Workspace.{Workspace, quiet}
+use Rattle.stream_state.specs.OpenCommand as open_command
+use Rattle.stream_state.specs.OpenCommand.{OpenCommand}
+use Rattle.import_session.specs.Workspace.{Workspace, quiet, with_command}
 use Rattle.stream_state.specs.declared.fault.Fault.{Fault}
 use Rattle.stream_state.specs.Faults.{and_then}
 use Rattle.export_text.specs.ExportActs.{number_of, reset_acts}
@@ -26,9 +27,10 @@ use Rattle.export_laws.proofs.OpenParents.{IsToldAs, commit-meant}
 use Rattle.export_laws.proofs.RefsBranches.{placed-found, placed-length, twice}
 
 -- What changes while refs are set, of a workspace where all is saved.
-abbrev pub state : Workspace → Branches → PendingTags → Option CommandHeader → Workspace
-state saved branches tags said =
-    record saved { branches = branches; tags = tags; said = said }
+abbrev pub state : Workspace → Branches → PendingTags → OpenCommand OpenCommit → Workspace
+state saved branches tags command = record saved {
+  stream = record saved.stream { branches = branches; tags = tags; command = command };
+}
 
 -- ---- the branch of a reset
 
@@ -61,30 +63,40 @@ has-room branches ref few = elim (cases_Bool (is_some (tip_of branches ref))) [
 -- ---- its acts
 
 begins : (digest : List ℕ → List ℕ) (w : Workspace) (ref : List ℕ)
-    → bytes_eq ref (codes "HEAD") ≡ false → has_branch_room w.branches ref ≡ true
+    → bytes_eq ref (codes "HEAD") ≡ false → has_branch_room w.stream.branches ref ≡ true
     → after_act digest (Ref (Reset ref)) w
-    ≡ quiet (record w { branches = with_branch w.branches ref Unborn; said = Some (said_of ref) })
+    ≡ quiet (record w {
+      stream = record w.stream {
+        branches = with_branch w.stream.branches ref Unborn;
+        command = open_command.Reset ref;
+      };
+    })
 unfolding after_act ref_set ref_meant
 begins digest w ref name room = rw (name, room) refl
 
 places : (digest : List ℕ → List ℕ) (w : Workspace) (ref : List ℕ) (to : CommitIsh) (tip : Tip)
-    → tip_from (record w { said = Some (said_of ref) }) ref to ≡ Ok tip
-    → after_act digest (Ref (ResetFrom to)) (record w { said = Some (said_of ref) })
-    ≡ quiet (record w { branches = with_branch w.branches ref tip; said = None })
+    → tip_from (with_command w (open_command.Reset ref)) ref to ≡ Ok tip
+    → after_act digest (Ref (ResetFrom to)) (with_command w (open_command.Reset ref))
+    ≡ quiet (record w {
+      stream = record w.stream {
+        branches = with_branch w.stream.branches ref tip;
+        command = open_command.Nothing;
+      };
+    })
 unfolding after_act ref_set
 places digest w ref to tip is = rw is refl
 
 pub reset-leaves : (digest : List ℕ → List ℕ) (saved : Workspace) (branches : Branches)
-    (tags : PendingTags) (said : Option CommandHeader) (ref : List ℕ) (to : CommitIsh) (tip : Tip)
+    (tags : PendingTags) (command : OpenCommand OpenCommit) (ref : List ℕ) (to : CommitIsh) (tip : Tip)
     → bytes_eq ref (codes "HEAD") ≡ false → length branches < branch_limit
-    → tip_from (state saved (with_branch branches ref Unborn) tags (Some (said_of ref))) ref to ≡ Ok tip
-    → Leaves digest (reset_acts ref to) (state saved branches tags said)
-    (state saved (placed branches ref tip) tags None)
-reset-leaves digest saved branches tags said ref to tip name few is =
+    → tip_from (state saved (with_branch branches ref Unborn) tags (open_command.Reset ref)) ref to ≡ Ok tip
+    → Leaves digest (reset_acts ref to) (state saved branches tags command)
+    (state saved (placed branches ref tip) tags open_command.Nothing)
+reset-leaves digest saved branches tags command ref to tip name few is =
     asked digest (Ref (Reset ref)) _ _ _ _
-    (begins digest (state saved branches tags said) ref name (has-room branches ref few))
+    (begins digest (state saved branches tags command) ref name (has-room branches ref few))
     (asked digest (Ref (ResetFrom to)) _ _ _ _
-    (places digest (state saved (with_branch branches ref Unborn) tags None) ref to tip is)
+    (places digest (state saved (with_branch branches ref Unborn) tags open_command.Nothing) ref to tip is)
     (asked digest Wait _ _ _ _ (waits digest _) (nothing _)))
 
 -- ---- what it is reset to

@@ -27,7 +27,7 @@ alike : {A : Type 0} (b : Bool) (x : A) → x ≡ cond b x x
 alike true x = refl
 alike false x = refl
 
-module _ (w : Workspace) (forced : w.forces ≡ true) where
+module _ (w : Workspace) (forced : w.stream.forces ≡ true) where
   always : (tip : List ℕ) (old : Option (List ℕ)) → may_set w tip old ≡ true
   always tip None = refl
   always tip (Some old) = rw forced refl

@@ -18,11 +18,12 @@ use Rattle.git_model.specs.TagReading.{tag_read}
 use Rattle.tenant_tables.specs.Adding.{store_fault}
 use Rattle.stream_grammar.specs.Names.{Marked}
 use Rattle.stream_state.specs.declared.branches.Tip.TheVariants.{Unborn, Deleted, At}
-use Rattle.stream_state.specs.declared.command_header.CommandHeader.{CommandHeader}
+use Rattle.open_commits.specs.OpenCommit.{OpenCommit}
 use Rattle.stream_state.specs.Branches.{branch_limit, tip_of, with_branch, Branches}
 use Rattle.stream_state.specs.Marks.{marked_name, Marks}
 use Rattle.stream_state.specs.Tags.{tag_limit, PendingTags}
-use Rattle.stream_state.specs.CommandHeader.{said_of}
+use Rattle.stream_state.specs.OpenCommand as open_command
+use Rattle.stream_state.specs.OpenCommand.{OpenCommand}
 use Rattle.import_session.specs.Workspace.{Workspace}
 use Rattle.export_text.specs.ExportActs.{acts_of_ref, number_of, ref_acts, tag_acts}
 use Rattle.export_text.specs.Reached.{tag_ref}
@@ -41,7 +42,7 @@ use Rattle.export_laws.proofs.TagsTold.{IsWritten, tag-written}
 module _ (digest : List ℕ → List ℕ) (repository : Repository) (good : AreObjects digest repository.objects)
     (refs : AreRefs repository.objects repository.refs) (told : Told)
     (all : AreTold repository repository.objects told) (saved : Workspace)
-    (objects : saved.objects ≡ told.objects) (marks : saved.marks ≡ told.marks) where
+    (objects : saved.objects ≡ told.objects) (marks : saved.stream.marks ≡ told.marks) where
   abbrev os : List Object
   os = repository.objects
 
@@ -50,11 +51,11 @@ module _ (digest : List ℕ → List ℕ) (repository : Repository) (good : AreO
 
   -- What the acts of some refs leave.
   pub record AreSet (es : List (List ℕ × List ℕ)) (branches : Branches) (tags : PendingTags)
-      (said : Option CommandHeader) : Type 0 where
+      (command : OpenCommand OpenCommit) : Type 0 where
     pub left : Branches
     pub waiting : PendingTags
-    pub last : Option CommandHeader
-    pub leaves : Leaves digest (flat_map (acts_of_ref os) es) (state saved branches tags said)
+    pub last : OpenCommand OpenCommit
+    pub leaves : Leaves digest (flat_map (acts_of_ref os) es) (state saved branches tags command)
         (state saved left waiting last)
     pub agree : Agree goal left waiting
     pub each : (q : List ℕ) → list_any (λ (e : List ℕ × List ℕ). bytes_eq q e.0) es ≡ true
@@ -65,11 +66,11 @@ module _ (digest : List ℕ → List ℕ) (repository : Repository) (good : AreO
 
   -- What those of one leave.
   record OneSet (e : List ℕ × List ℕ) (branches : Branches) (tags : PendingTags)
-      (said : Option CommandHeader) : Type 0 where
+      (command : OpenCommand OpenCommit) : Type 0 where
     left : Branches
     waiting : PendingTags
-    leaves : Leaves digest (acts_of_ref os e) (state saved branches tags said)
-        (state saved left waiting None)
+    leaves : Leaves digest (acts_of_ref os e) (state saved branches tags command)
+        (state saved left waiting open_command.Nothing)
     agree : Agree goal left waiting
     here : IsSet left waiting e.0
     kept : (q : List ℕ) → IsSet branches tags q → IsSet left waiting q
@@ -86,7 +87,7 @@ module _ (digest : List ℕ → List ℕ) (repository : Repository) (good : AreO
       ∙ ap (λ (x : Kind). ref_acts os ref id x c.bytes) is
 
   module _ (e : List ℕ × List ℕ) (is : IsRef repository e) (branches : Branches) (tags : PendingTags)
-      (said : Option CommandHeader) (agree : Agree goal branches tags) where
+      (command : OpenCommand OpenCommit) (agree : Agree goal branches tags) where
     -- ---- a commit
 
     module _ (commit : kind_named e.1 os ≡ Some kind.Commit) (few : length branches < branch_limit) where
@@ -104,17 +105,17 @@ module _ (digest : List ℕ → List ℕ) (repository : Repository) (good : AreO
           ap (kind_named e.1) objects
           ∙ ap (option_map (λ (c : Content). c.kind)) there.object ∙ ap Some of.kind
 
-      commit-leaves : Leaves digest (acts_of_ref os e) (state saved branches tags said)
-          (state saved (placed branches e.0 (At e.1)) tags None)
+      commit-leaves : Leaves digest (acts_of_ref os e) (state saved branches tags command)
+          (state saved (placed branches e.0 (At e.1)) tags open_command.Nothing)
       commit-leaves =
-          subst (λ (acts : List _). Leaves digest acts (state saved branches tags said) (state saved (placed branches e.0 (At e.1)) tags None))
+          subst (λ (acts : List _). Leaves digest acts (state saved branches tags command) (state saved (placed branches e.0 (At e.1)) tags open_command.Nothing))
           (sym (acts-by e.0 e.1 of.content kind.Commit of.named of.kind))
-          (reset-leaves digest saved branches tags said e.0 (Marked (number_of os e.1)) (At e.1)
+          (reset-leaves digest saved branches tags command e.0 (Marked (number_of os e.1)) (At e.1)
           (named-apart e.0 (refs.names e.0 e.1 is.holds)) few
-          (to-marked os (state saved (with_branch branches e.0 Unborn) tags (Some (said_of e.0))) e.0 e.1
+          (to-marked os (state saved (with_branch branches e.0 Unborn) tags (open_command.Reset e.0)) e.0 e.1
           (record { is = commit-there; mark = ap (λ (m : Marks). marked_name m (number_of os e.1)) marks ∙ there.mark })))
 
-      commit-set : OneSet e branches tags said
+      commit-set : OneSet e branches tags command
       commit-set = record {
         left = placed branches e.0 (At e.1);
         waiting = tags;
@@ -173,7 +174,7 @@ module _ (digest : List ℕ → List ℕ) (repository : Repository) (good : AreO
       now : IsStored repository told.objects e.1 content
       now = stored repository told.objects all.objects good.few e.1 content named is.reached what.is.short
 
-      may : MayTag digest (state saved branches tags said) None t (number_of os t.target)
+      may : MayTag digest (state saved branches tags command) None t (number_of os t.target)
       may = record {
         target = ap (λ (m : Marks). marked_name m (number_of os t.target)) marks ∙ target-there.mark;
         kind_is =
@@ -201,13 +202,15 @@ module _ (digest : List ℕ → List ℕ) (repository : Repository) (good : AreO
       abbrev left-with : List ℕ → List ℕ → List Object → List ℕ → Workspace
       left-with contents id held ref = record saved {
         objects = held;
-        branches = branches;
-        tags = tags ++ (ref, id) ∷ [];
-        said = None;
+        stream = record saved.stream {
+          branches = branches;
+          tags = tags ++ (ref, id) ∷ [];
+          command = open_command.Nothing;
+        };
       }
 
-      leaves-so : tagged_in digest (state saved branches tags said) None t
-          ≡ state saved branches (tags ++ e ∷ []) None
+      leaves-so : tagged_in digest (state saved branches tags command) None t
+          ≡ state saved branches (tags ++ e ∷ []) open_command.Nothing
       leaves-so =
           ap (λ (b : List ℕ). left-with b (name_by digest (content_from kind.Tag b))
           (with_object (name_by digest (content_from kind.Tag b)) (content_from kind.Tag b) saved.objects) (tag_ref t.name)) (sym written.text)
@@ -215,15 +218,15 @@ module _ (digest : List ℕ → List ℕ) (repository : Repository) (good : AreO
           ∙ ap (λ (held : List Object). left-with bytes e.1 held (tag_ref t.name)) stays
           ∙ ap (λ (ref : List ℕ). left-with bytes e.1 saved.objects ref) ref-is
 
-      tag-leaves-so : Leaves digest (acts_of_ref os e) (state saved branches tags said)
-          (state saved branches (tags ++ e ∷ []) None)
+      tag-leaves-so : Leaves digest (acts_of_ref os e) (state saved branches tags command)
+          (state saved branches (tags ++ e ∷ []) open_command.Nothing)
       tag-leaves-so =
-          subst (λ (acts : List _). Leaves digest acts (state saved branches tags said) (state saved branches (tags ++ e ∷ []) None))
+          subst (λ (acts : List _). Leaves digest acts (state saved branches tags command) (state saved branches (tags ++ e ∷ []) open_command.Nothing))
           (sym (acts-by e.0 e.1 tag-of.content kind.Tag tag-of.named tag-of.kind))
-          (subst (Leaves digest (tag_acts os None t) (state saved branches tags said)) leaves-so
-          (tag-leaves digest (state saved branches tags said) (number_of os t.target) None t may))
+          (subst (Leaves digest (tag_acts os None t) (state saved branches tags command)) leaves-so
+          (tag-leaves digest (state saved branches tags command) (number_of os t.target) None t may))
 
-      tag-set : OneSet e branches tags said
+      tag-set : OneSet e branches tags command
       tag-set = record {
         left = branches;
         waiting = tags ++ e ∷ [];
@@ -236,7 +239,7 @@ module _ (digest : List ℕ → List ℕ) (repository : Repository) (good : AreO
         few_tags = let len = length-append tags (e ∷ []) in omega (arith, len);
       }
 
-    one-set : length branches < branch_limit → length tags < tag_limit → OneSet e branches tags said
+    one-set : length branches < branch_limit → length tags < tag_limit → OneSet e branches tags command
     one-set few few_tags = elim (refs.targets e.0 e.1 is.holds) [
       | inl commit ↦ commit-set commit few
       | inr tag ↦ tag-set tag.0 tag.1 tag.2 few_tags
@@ -245,24 +248,24 @@ module _ (digest : List ℕ → List ℕ) (repository : Repository) (good : AreO
   -- ---- all of them
 
   pub are-set : (es : List (List ℕ × List ℕ)) (branches : Branches) (tags : PendingTags)
-      (said : Option CommandHeader) → AllByRecursion (IsRef repository) es
+      (command : OpenCommand OpenCommit) → AllByRecursion (IsRef repository) es
       → length branches + 2 * length es < branch_limit → length tags + length es ≤ tag_limit
-      → Agree goal branches tags → AreSet es branches tags said
-  are-set [] branches tags said h few few_tags agree = record {
+      → Agree goal branches tags → AreSet es branches tags command
+  are-set [] branches tags command h few few_tags agree = record {
     left = branches;
     waiting = tags;
-    last = said;
-    leaves = nothing (state saved branches tags said);
+    last = command;
+    leaves = nothing (state saved branches tags command);
     agree = agree;
     each = λ q any. absurd (false≢true any);
     kept = λ q is. is;
     gone = λ q none is. is;
   }
-  are-set (e ∷ es) branches tags said h few few_tags agree =
-      let one = one-set e h.0 branches tags said agree (omega (arith, few)) (omega (arith, few_tags)) in
+  are-set (e ∷ es) branches tags command h few few_tags agree =
+      let one = one-set e h.0 branches tags command agree (omega (arith, few)) (omega (arith, few_tags)) in
       let longer = one.few in
       let more = one.few_tags in
-      let rest = are-set es one.left one.waiting None h.1 (omega (arith, few, longer)) (omega (arith, few_tags, more)) one.agree in
+      let rest = are-set es one.left one.waiting open_command.Nothing h.1 (omega (arith, few, longer)) (omega (arith, few_tags, more)) one.agree in
       record {
         left = rest.left;
         waiting = rest.waiting;

@@ -48,7 +48,5 @@ head-sound digest told old new named sound = record {
   marks = sound.marks;
   branches = sound.branches;
   tags = sound.tags;
-  said = sound.said;
-  commit = sound.commit;
-  inline = sound.inline;
+  command = sound.command;
 }

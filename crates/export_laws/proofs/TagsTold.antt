@@ -20,7 +20,7 @@ use Rattle.import_session.specs.Workspace.{Workspace}
 use Rattle.export_text.specs.ExportActs.{number_of, tag_acts}
 use Rattle.export_text.specs.Reached.{is_tag, reached_objects, reached_tags, tag_ref}
 use Rattle.export_laws.specs.Leaving.{Leaves}
-use Rattle.export_laws.specs.Told.{AreTold, IsThere, IsToldNext, Told, reached_among, tags_of, workspace_of}
+use Rattle.export_laws.specs.Told.{AreTold, IsThere, IsToldNext, Told, reached_among, stream_told, tags_of, workspace_of}
 use Rattle.export_laws.proofs.Known.{IsEarlier, IsKnown, known, reached-on}
 use Rattle.export_laws.proofs.MarksSet.{mark-room}
 use Rattle.export_laws.proofs.Next.{reached-last, tags-of-tag, told-next}
@@ -57,7 +57,6 @@ module _ (digest : List ℕ → List ℕ) (repository : Repository) (good : AreO
     marks = with_mark told.marks (Some mark) id;
     branches = told.branches;
     tags = told.tags ++ (tag_ref t.name, id) ∷ [];
-    said = None;
   }
 
   what : IsKnown digest repository.objects first o
@@ -113,9 +112,10 @@ module _ (digest : List ℕ → List ℕ) (repository : Repository) (good : AreO
   abbrev left : Option (List ℕ) → List ℕ → List ℕ → Workspace
   left head b i = record (workspace_of head told) {
     objects = with_object i (content_from kind.Tag b) told.objects;
-    marks = with_mark told.marks (Some mark) i;
-    tags = told.tags ++ (tag_ref t.name, i) ∷ [];
-    said = None;
+    stream = record (stream_told head told) {
+      marks = with_mark told.marks (Some mark) i;
+      tags = told.tags ++ (tag_ref t.name, i) ∷ [];
+    };
   }
 
   acts-leave : (head : Option (List ℕ))

@@ -6,7 +6,8 @@ use Rattle.file_maps.specs.StoredFiles.{stored_map}
 use Rattle.open_commits.specs.OpenCommit.{Header, OpenCommit}
 use Rattle.export_text.specs.ExportActs.{number_of}
 use Rattle.export_text.specs.ExportItems.{scratch}
-use Rattle.import_session.specs.Workspace.{Workspace}
+use Rattle.import_session.specs.Workspace.{Workspace, with_command}
+use Rattle.stream_state.specs.OpenCommand.{Changes}
 use Rattle.export_laws.specs.Told.{Told, workspace_of}
 
 -- What the lines before its message say: the commit is told on the scratch branch, with its mark,
@@ -31,4 +32,4 @@ commit_told os id c = record {
 
 -- The workspace with this commit open.
 abbrev pub workspace_with : Option (List ℕ) → Told → OpenCommit → Workspace
-workspace_with head told commit = record (workspace_of head told) { commit = Some commit }
+workspace_with head told commit = with_command (workspace_of head told) (Changes commit)

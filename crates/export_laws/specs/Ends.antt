@@ -28,7 +28,7 @@ pub record AreRefsLeft (digest : List ℕ → List ℕ) (repository : Repository
     (saved : Workspace) : Type 0 where
   pub last : Workspace
   pub leaves : Leaves digest (acts_of_refs repository) saved last
-  pub needs_done : last.needs_done ≡ false
+  pub needs_done : last.stream.needs_done ≡ false
   pub done : Workspace
   pub ends : checkpoint last ≡ quiet done
   pub refs : done.refs ≡ repository.refs

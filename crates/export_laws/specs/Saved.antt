@@ -6,22 +6,31 @@ use Rattle.git_model.specs.Repository.{Repository}
 use Rattle.export_text.specs.ExportItems.{scratch}
 use Rattle.export_text.specs.Reached.{tag_refs}
 use Rattle.stream_state.specs.declared.branches.Tip.TheVariants.{Unborn}
+use Rattle.open_commits.specs.OpenCommit.{OpenCommit}
+use Rattle.stream_state.specs.OpenCommand.{Reset}
+use Rattle.stream_state.specs.StreamOf.{StreamOf}
 use Rattle.import_session.specs.Workspace.{Workspace}
 use Rattle.export_laws.specs.Told.{Told}
 
+-- What the stream has of its own then: its marks, and the scratch branch, which was reset and is
+-- unborn. It updates refs by force, and nothing waits for the next checkpoint.
+abbrev pub stream_saved : Told → StreamOf OpenCommit
+stream_saved told = record {
+  marks = told.marks;
+  branches = (scratch, Unborn) ∷ [];
+  tags = [];
+  command = Reset scratch;
+  head = None;
+  forces = true;
+  needs_done = false;
+}
+
 -- All that was told is committed. The refs are those that the tags leave, and HEAD is that of the
--- repository. The scratch branch is unborn, and nothing waits for the next checkpoint.
+-- repository.
 pub record IsSaved (repository : Repository) (told : Told) (saved : Workspace) : Type 0 where
   pub objects : saved.objects ≡ told.objects
   pub committed : saved.committed ≡ length told.objects
   pub of_tags : (ref id : List ℕ) → target_of saved.refs ref ≡ Some id
       → Contains (tag_refs repository) ref
   pub head : saved.refs.head ≡ repository.refs.head
-  pub marks : saved.marks ≡ told.marks
-  pub branches : saved.branches ≡ (scratch, Unborn) ∷ []
-  pub tags : saved.tags ≡ []
-  pub commit : saved.commit ≡ None
-  pub inline : saved.inline ≡ None
-  pub next_head : saved.head ≡ None
-  pub forces : saved.forces ≡ true
-  pub needs_done : saved.needs_done ≡ false
+  pub stream : saved.stream ≡ stream_saved told

@@ -1,5 +1,5 @@
 -- What the acts of exported objects leave of a stream, object by object.
-use Rattle.std.specs.Prelude.{◌≡◌, ◌≢◌, ℕ, ◌≤◌, ◌⊎◌, false, true, List, [], ◌∷◌, ◌++◌, length, map, filter, Option, None, Some, Ok}
+use Rattle.std.specs.Prelude.{◌≡◌, ◌≢◌, ℕ, ◌≤◌, ◌⊎◌, false, true, List, [], ◌∷◌, ◌++◌, length, map, filter, Option, Some, Ok}
 use Rattle.std.specs.List.{IsDistinct}
 use Rattle.std.specs.Str.{bytes_eq}
 use Rattle.git_model.specs.declared.kind.Kind.TheVariants as kind
@@ -11,43 +11,48 @@ use Rattle.export_text.specs.ExportActs.{acts_of_object, number_of}
 use Rattle.export_text.specs.ExportItems.{scratch}
 use Rattle.export_text.specs.Reached.{is_tag, ref_of_tag}
 use Rattle.stream_state.specs.declared.branches.Tip.{Tip}
-use Rattle.stream_state.specs.declared.command_header.CommandHeader.{CommandHeader}
 use Rattle.stream_state.specs.Marks.{marked_name, Marks}
 use Rattle.stream_state.specs.Branches.{Branches}
 use Rattle.stream_state.specs.Tags.{PendingTags}
+use Rattle.stream_state.specs.OpenCommand.{Nothing}
+use Rattle.stream_state.specs.StreamOf.{StreamOf}
+use Rattle.open_commits.specs.OpenCommit.{OpenCommit}
 use Rattle.import_session.specs.Workspace.{Workspace}
 use Rattle.export_laws.specs.Leaving.{Leaves}
 
 -- What changes of a workspace while objects are told, as it is between two objects: the objects,
--- marks, branches and pending tags, and what was last said, which the next command forgets.
+-- marks, branches and pending tags. No command is open then.
 pub record Told : Type 0 where
   pub objects : List Object
   pub marks : Marks
   pub branches : Branches
   pub tags : PendingTags
-  pub said : Option CommandHeader
 
--- The workspace with these parts, in a stream that began with an empty repository: nothing is saved
--- yet, no commit is open, and refs are updated by force.
-abbrev pub workspace_of : Option (List ℕ) → Told → Workspace
-workspace_of head told = record {
-  objects = told.objects;
-  committed = 0;
-  refs = no_refs;
+-- What the stream has of its own then. It updates refs by force.
+abbrev pub stream_told : Option (List ℕ) → Told → StreamOf OpenCommit
+stream_told head told = record {
   marks = told.marks;
   branches = told.branches;
   tags = told.tags;
-  said = told.said;
-  commit = None;
-  inline = None;
+  command = Nothing;
   head = head;
   forces = true;
   needs_done = false;
 }
 
+-- The workspace with these parts, in a stream that began with an empty repository: nothing is saved
+-- yet.
+abbrev pub workspace_of : Option (List ℕ) → Told → Workspace
+workspace_of head told = record {
+  objects = told.objects;
+  committed = 0;
+  refs = no_refs;
+  stream = stream_told head told;
+}
+
 -- Before the first object.
 abbrev pub nothing_told : Told
-nothing_told = record { objects = []; marks = []; branches = []; tags = []; said = None }
+nothing_told = record { objects = []; marks = []; branches = []; tags = [] }
 
 -- Each object among these is one of the repository, under the same name, and some ref of the
 -- repository reaches it. No two have the same name.

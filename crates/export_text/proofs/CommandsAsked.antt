@@ -20,6 +20,11 @@ use Rattle.stream_lex.specs.Items.{Item, Line, Data, Blank}
 use Rattle.stream_grammar.specs.declared.data_ref.DataRef.TheVariants as data_ref
 use Rattle.stream_grammar.specs.declared.fault.Fault.{Fault}
 use Rattle.stream_grammar.specs.declared.part.Part.TheVariants as part
+use Rattle.stream_grammar.specs.declared.part.OpeningLine.TheVariants as opening
+use Rattle.stream_grammar.specs.declared.part.ControlLine.TheVariants as control_line
+use Rattle.stream_grammar.specs.declared.part.HeaderLine.TheVariants as header
+use Rattle.stream_grammar.specs.declared.part.CommitIshLine.TheVariants as commit_ish
+use Rattle.stream_grammar.specs.declared.part.ChangeLine.TheVariants as change_line
 use Rattle.stream_grammar.specs.declared.stage.Opened.{Opened}
 use Rattle.stream_grammar.specs.declared.stage.Opened.TheVariants as opened
 use Rattle.stream_grammar.specs.Texts.{read}
@@ -47,55 +52,55 @@ use Rattle.export_text.proofs.FilesAsked.{Refers, CanWritePath, file-asked}
 
 -- ---- the words of lines
 
-is-mark : (text : List ℕ) → part_of_line (codes "mark " ++ text) ≡ part.Mark
+is-mark : (text : List ℕ) → part_of_line (codes "mark " ++ text) ≡ part.Header header.Mark
 unfolding part_by_word
 is-mark text = refl
 
-is-from : (text : List ℕ) → part_of_line (codes "from " ++ text) ≡ part.From
+is-from : (text : List ℕ) → part_of_line (codes "from " ++ text) ≡ part.CommitIsh commit_ish.From
 unfolding part_by_word
 is-from text = refl
 
-is-merge : (text : List ℕ) → part_of_line (codes "merge " ++ text) ≡ part.Merge
+is-merge : (text : List ℕ) → part_of_line (codes "merge " ++ text) ≡ part.CommitIsh commit_ish.Merge
 unfolding part_by_word
 is-merge text = refl
 
-is-commit : (text : List ℕ) → part_of_line (codes "commit " ++ text) ≡ part.Commit
+is-commit : (text : List ℕ) → part_of_line (codes "commit " ++ text) ≡ part.Opening opening.Commit
 unfolding part_by_word
 is-commit text = refl
 
-is-tag : (text : List ℕ) → part_of_line (codes "tag " ++ text) ≡ part.Tag
+is-tag : (text : List ℕ) → part_of_line (codes "tag " ++ text) ≡ part.Opening opening.Tag
 unfolding part_by_word
 is-tag text = refl
 
-is-reset : (text : List ℕ) → part_of_line (codes "reset " ++ text) ≡ part.Reset
+is-reset : (text : List ℕ) → part_of_line (codes "reset " ++ text) ≡ part.Opening opening.Reset
 unfolding part_by_word
 is-reset text = refl
 
-is-author : (text : List ℕ) → part_of_line (codes "author " ++ text) ≡ part.Author
+is-author : (text : List ℕ) → part_of_line (codes "author " ++ text) ≡ part.Header header.Author
 unfolding part_by_word
 is-author text = refl
 
-is-committer : (text : List ℕ) → part_of_line (codes "committer " ++ text) ≡ part.Committer
+is-committer : (text : List ℕ) → part_of_line (codes "committer " ++ text) ≡ part.Header header.Committer
 unfolding part_by_word
 is-committer text = refl
 
-is-encoding : (text : List ℕ) → part_of_line (codes "encoding " ++ text) ≡ part.Encoding
+is-encoding : (text : List ℕ) → part_of_line (codes "encoding " ++ text) ≡ part.Header header.Encoding
 unfolding part_by_word
 is-encoding text = refl
 
-is-tagger : (text : List ℕ) → part_of_line (codes "tagger " ++ text) ≡ part.Tagger
+is-tagger : (text : List ℕ) → part_of_line (codes "tagger " ++ text) ≡ part.Header header.Tagger
 unfolding part_by_word
 is-tagger text = refl
 
-is-blob : part_of_line (codes "blob") ≡ part.Blob
+is-blob : part_of_line (codes "blob") ≡ part.Opening opening.Blob
 unfolding part_by_word
 is-blob = refl
 
-is-deleteall : part_of_line (codes "deleteall") ≡ part.DeleteAll
+is-deleteall : part_of_line (codes "deleteall") ≡ part.Change change_line.DeleteAll
 unfolding part_by_word
 is-deleteall = refl
 
-is-checkpoint : part_of_line (codes "checkpoint") ≡ part.Checkpoint
+is-checkpoint : part_of_line (codes "checkpoint") ≡ part.Control control_line.Checkpoint
 unfolding part_by_word
 is-checkpoint = refl
 
@@ -112,40 +117,40 @@ abbrev changes_left : List Term
 changes_left = any_number changes ∷ blank_left
 
 abbrev merges_left : List Term
-merges_left = any_number (part.Merge ∷ []) ∷ changes_left
+merges_left = any_number (part.CommitIsh commit_ish.Merge ∷ []) ∷ changes_left
 
 abbrev from_left : List Term
-from_left = perhaps part.From ∷ merges_left
+from_left = perhaps (part.CommitIsh commit_ish.From) ∷ merges_left
 
 abbrev message_left : List Term
 message_left = once part.Data ∷ from_left
 
 abbrev encoding_left : List Term
-encoding_left = perhaps part.Encoding ∷ message_left
+encoding_left = perhaps (part.Header header.Encoding) ∷ message_left
 
 abbrev committer_left : List Term
-committer_left = once part.Committer ∷ encoding_left
+committer_left = once (part.Header header.Committer) ∷ encoding_left
 
 abbrev author_left : List Term
-author_left = perhaps part.OriginalOid ∷ perhaps part.Author ∷ committer_left
+author_left = perhaps (part.Header header.OriginalOid) ∷ perhaps (part.Header header.Author) ∷ committer_left
 
 abbrev commit_left : List Term
-commit_left = perhaps part.Mark ∷ author_left
+commit_left = perhaps (part.Header header.Mark) ∷ author_left
 
 abbrev blob_data_left : List Term
-blob_data_left = perhaps part.OriginalOid ∷ once part.Data ∷ []
+blob_data_left = perhaps (part.Header header.OriginalOid) ∷ once part.Data ∷ []
 
 abbrev tag_data_left : List Term
 tag_data_left = once part.Data ∷ []
 
 abbrev tagger_left : List Term
-tagger_left = perhaps part.OriginalOid ∷ perhaps part.Tagger ∷ tag_data_left
+tagger_left = perhaps (part.Header header.OriginalOid) ∷ perhaps (part.Header header.Tagger) ∷ tag_data_left
 
 abbrev target_left : List Term
-target_left = once part.From ∷ tagger_left
+target_left = once (part.CommitIsh commit_ish.From) ∷ tagger_left
 
 abbrev reset_left : List Term
-reset_left = perhaps part.From ∷ blank_left
+reset_left = perhaps (part.CommitIsh commit_ish.From) ∷ blank_left
 
 abbrev effect : Option ℕ → Act → Effect
 effect mark act = record { mark = mark; act = act }
@@ -156,7 +161,7 @@ module _ (ref : List ℕ) (is : ref_of ref ≡ Ok ref) where
   reset-begins : (late : Bool)
       → Gives (idle late) (Line (codes "reset " ++ ref)) (asks (Ref (Reset ref))) (under_way opened.Reset None reset_left)
   reset-begins late =
-      begins (idle late) (codes "reset " ++ ref) part.Reset reset_left (Ref (Reset ref)) (is-reset ref)
+      begins (idle late) (codes "reset " ++ ref) (part.Opening opening.Reset) reset_left (Ref (Reset ref)) (is-reset ref)
       refl refl refl refl (ap (λ (r : Result (List ℕ) Fault). read r (λ x. Ok (Ref (Reset x)))) is)
 
 -- A checkpoint after a reset.
@@ -164,18 +169,18 @@ pub saving-asked : AsksAlone saving_items saving_acts
 saving-asked late = (
   true,
   then-more (reset-begins scratch scratch-read late)
-      (then-more (begins (under_way opened.Reset None reset_left) (codes "checkpoint") part.Checkpoint [] (Control control.Checkpoint) is-checkpoint refl refl refl refl refl)
+      (then-more (begins (under_way opened.Reset None reset_left) (codes "checkpoint") (part.Control control_line.Checkpoint) [] (Control control.Checkpoint) is-checkpoint refl refl refl refl refl)
       (nothing-asked (idle true))),
 )
 
 -- A ref is set to what a text says.
 pub reset-asked : (ref to : List ℕ) (commit : CommitIsh) → IsShortRefName ref
-    → line_effect opened.Reset None part.From (codes "from " ++ to) ≡ brings None (Ref (ResetFrom commit))
+    → line_effect opened.Reset None (part.CommitIsh commit_ish.From) (codes "from " ++ to) ≡ brings None (Ref (ResetFrom commit))
     → AsksAlone (Line (codes "reset " ++ ref) ∷ Line (codes "from " ++ to) ∷ Blank ∷ []) (reset_acts ref commit)
 reset-asked ref to commit is says late = (
   true,
   then-more (reset-begins ref (ref_of-Ok ref (inl is.name) is.short) late)
-      (then-more (inside (under_way opened.Reset None reset_left) (codes "from " ++ to) part.From blank_left (effect None (Ref (ResetFrom commit))) (is-from to) refl says)
+      (then-more (inside (under_way opened.Reset None reset_left) (codes "from " ++ to) (part.CommitIsh commit_ish.From) blank_left (effect None (Ref (ResetFrom commit))) (is-from to) refl says)
       (then-more (blank-inside (under_way opened.Reset None blank_left) [] refl) (nothing-asked (idle true)))),
 )
 
@@ -193,9 +198,9 @@ pub record CanWriteFile (f : Path × Entry) : Type 0 where
 -- What a line of a header brings, whose text is read.
 header-says : {A : Type 0} (act : A → Act) (mark : Option ℕ) {reading : Result A Fault} {value : A}
     → reading ≡ Ok value
-    → read (read reading (λ value. Ok (act value))) (λ act. brings mark act) ≡ brings mark (act value)
+    → read reading (λ value. brings mark (act value)) ≡ brings mark (act value)
 header-says {A} act mark is =
-    ap (λ (r : Result A Fault). read (read r (λ value. Ok (act value))) (λ act. brings mark act)) is
+    ap (λ (r : Result A Fault). read r (λ value. brings mark (act value))) is
 
 -- ---- marks
 
@@ -207,21 +212,21 @@ module _ (os : List Object) (few : length os ≤ objects_limit) where
   some id = omega arith
 
   mark-says : (now : Opened) (old : Option ℕ) (id : List ℕ)
-      → line_effect now old part.Mark (codes "mark " ++ mark_text os id)
+      → line_effect now old (part.Header header.Mark) (codes "mark " ++ mark_text os id)
       ≡ brings (Some (number_of os id)) Wait
   mark-says now old id =
       ap (λ (n : Result ℕ Fault). read n (λ n. brings (Some n) Wait))
       (mark_of-decimal (number_of os id) (some id) (fits id))
 
   from-says : (now : Opened) (mark : Option ℕ) (id : List ℕ)
-      → line_effect now mark part.From (codes "from " ++ mark_text os id)
+      → line_effect now mark (part.CommitIsh commit_ish.From) (codes "from " ++ mark_text os id)
       ≡ brings mark (from_act now (Marked (number_of os id)))
   from-says now mark id =
       ap (λ (c : Result CommitIsh Fault). read c (λ c. brings mark (from_act now c)))
       (commit_ish-mark (number_of os id) (some id) (fits id))
 
   merge-says : (now : Opened) (mark : Option ℕ) (id : List ℕ)
-      → line_effect now mark part.Merge (codes "merge " ++ mark_text os id)
+      → line_effect now mark (part.CommitIsh commit_ish.Merge) (codes "merge " ++ mark_text os id)
       ≡ brings mark (CommitAct (Merge (Marked (number_of os id))))
   merge-says now mark id =
       header-says (λ c. CommitAct (Merge c)) mark
@@ -238,20 +243,20 @@ module _ (os : List Object) (few : length os ≤ objects_limit) where
   pub blob-asked : (id bytes : List ℕ) → AsksAlone (blob_items os id bytes) (blob_acts os id bytes)
   blob-asked id bytes late = (
     true,
-    then-more (begins (idle late) (codes "blob") part.Blob (perhaps part.Mark ∷ blob_data_left) Wait is-blob refl refl refl refl refl)
-        (then-more (inside (under_way opened.Blob None (perhaps part.Mark ∷ blob_data_left)) (codes "mark " ++ mark_text os id) part.Mark blob_data_left (effect (Some (number_of os id)) Wait) (is-mark (mark_text os id)) refl (mark-says opened.Blob None id))
+    then-more (begins (idle late) (codes "blob") (part.Opening opening.Blob) (perhaps (part.Header header.Mark) ∷ blob_data_left) Wait is-blob refl refl refl refl refl)
+        (then-more (inside (under_way opened.Blob None (perhaps (part.Header header.Mark) ∷ blob_data_left)) (codes "mark " ++ mark_text os id) (part.Header header.Mark) blob_data_left (effect (Some (number_of os id)) Wait) (is-mark (mark_text os id)) refl (mark-says opened.Blob None id))
         (then-more (data-inside (under_way opened.Blob (Some (number_of os id)) blob_data_left) bytes [] refl) (nothing-asked (idle true)))),
   )
 
   -- ---- commits
 
   ident-says : (now : Opened) (mark : Option ℕ) (ident : List ℕ) → IsWrittenIdent ident
-      → line_effect now mark part.Author (codes "author " ++ ident) ≡ brings mark (CommitAct (Author ident))
+      → line_effect now mark (part.Header header.Author) (codes "author " ++ ident) ≡ brings mark (CommitAct (Author ident))
   ident-says now mark ident is =
       header-says (λ i. CommitAct (Author i)) mark (ident-read ident is)
 
   committer-says : (now : Opened) (mark : Option ℕ) (ident : List ℕ) → IsWrittenIdent ident
-      → line_effect now mark part.Committer (codes "committer " ++ ident)
+      → line_effect now mark (part.Header header.Committer) (codes "committer " ++ ident)
       ≡ brings mark (CommitAct (Committer ident))
   committer-says now mark ident is =
       header-says (λ i. CommitAct (Committer i)) mark (ident-read ident is)
@@ -272,7 +277,7 @@ module _ (os : List Object) (few : length os ≤ objects_limit) where
   encoding-ready mark (Some text) is = record {
     left = message_left;
     stands = refl;
-    asked = then-more (inside (under_way opened.Commit mark encoding_left) (codes "encoding " ++ text) part.Encoding message_left (effect mark (CommitAct (Encoding text))) (is-encoding text) refl
+    asked = then-more (inside (under_way opened.Commit mark encoding_left) (codes "encoding " ++ text) (part.Header header.Encoding) message_left (effect mark (CommitAct (Encoding text))) (is-encoding text) refl
         (header-says encoding_act mark (encoding-read text is)))
         (nothing-asked (under_way opened.Commit mark message_left));
   }
@@ -294,17 +299,17 @@ module _ (os : List Object) (few : length os ≤ objects_limit) where
       left = ready.left;
       stands = ready.stands;
       asked =
-          then-more (inside (under_way opened.Commit None commit_left) (codes "mark " ++ mark_text os id) part.Mark author_left (effect the_mark Wait) (is-mark (mark_text os id)) refl (mark-says opened.Commit None id))
-          (then-more (inside (under_way opened.Commit the_mark author_left) (codes "author " ++ c.author) part.Author committer_left (effect the_mark (CommitAct (Author c.author))) (is-author c.author) refl (ident-says opened.Commit the_mark c.author can.author))
-          (then-more (inside (under_way opened.Commit the_mark committer_left) (codes "committer " ++ c.committer) part.Committer encoding_left (effect the_mark (CommitAct (Committer c.committer))) (is-committer c.committer) refl (committer-says opened.Commit the_mark c.committer can.committer))
+          then-more (inside (under_way opened.Commit None commit_left) (codes "mark " ++ mark_text os id) (part.Header header.Mark) author_left (effect the_mark Wait) (is-mark (mark_text os id)) refl (mark-says opened.Commit None id))
+          (then-more (inside (under_way opened.Commit the_mark author_left) (codes "author " ++ c.author) (part.Header header.Author) committer_left (effect the_mark (CommitAct (Author c.author))) (is-author c.author) refl (ident-says opened.Commit the_mark c.author can.author))
+          (then-more (inside (under_way opened.Commit the_mark committer_left) (codes "committer " ++ c.committer) (part.Header header.Committer) encoding_left (effect the_mark (CommitAct (Committer c.committer))) (is-committer c.committer) refl (committer-says opened.Commit the_mark c.committer can.committer))
           ready.asked));
     }
 
-    commit-line : (now : Open) → fit part.Commit now.left ≡ Ends
+    commit-line : (now : Open) → fit (part.Opening opening.Commit) now.left ≡ Ends
         → is_commit now.opened ≡ false
         → Gives now (Line (codes "commit " ++ scratch)) (asks (CommitAct (Begin scratch))) (under_way opened.Commit None commit_left)
     commit-line now none outside =
-        begins now (codes "commit " ++ scratch) part.Commit commit_left (CommitAct (Begin scratch)) (is-commit scratch) none refl refl outside
+        begins now (codes "commit " ++ scratch) (part.Opening opening.Commit) commit_left (CommitAct (Begin scratch)) (is-commit scratch) none refl refl outside
         (ap (λ (r : Result (List ℕ) Fault). read r (λ x. Ok (CommitAct (Begin x)))) scratch-read)
 
     head-ready : (late : Bool) (parents : List (List ℕ))
@@ -324,14 +329,14 @@ module _ (os : List Object) (few : length os ≤ objects_limit) where
   -- A state of an open commit, where all files may be dropped.
   record Dropping (items : List Item) (acts : List Done) : Type 0 where
     left : List Term
-    stands : fit part.DeleteAll left ≡ Stands changes_left
+    stands : fit (part.Change change_line.DeleteAll) left ≡ Stands changes_left
     asked : Asks (under_way opened.Changes None from_left) items acts (under_way opened.Changes None left)
 
   merges-asked : (ids : List (List ℕ))
       → Asks (under_way opened.Changes None merges_left) (map (marked os (codes "merge ")) ids) (map (merges os) ids) (under_way opened.Changes None merges_left)
   merges-asked [] = nothing-asked (under_way opened.Changes None merges_left)
   merges-asked (id ∷ ids) =
-      then-more (inside (under_way opened.Changes None merges_left) (codes "merge " ++ mark_text os id) part.Merge merges_left (effect None (CommitAct (Merge (Marked (number_of os id))))) (is-merge (mark_text os id)) refl (merge-says opened.Changes None id))
+      then-more (inside (under_way opened.Changes None merges_left) (codes "merge " ++ mark_text os id) (part.CommitIsh commit_ish.Merge) merges_left (effect None (CommitAct (Merge (Marked (number_of os id))))) (is-merge (mark_text os id)) refl (merge-says opened.Changes None id))
       (merges-asked ids)
 
   parents-asked : (ids : List (List ℕ)) → Dropping (parent_items os ids) (parent_acts os ids)
@@ -343,7 +348,7 @@ module _ (os : List Object) (few : length os ≤ objects_limit) where
   parents-asked (first ∷ others) = record {
     left = merges_left;
     stands = refl;
-    asked = then-more (inside (under_way opened.Changes None from_left) (codes "from " ++ mark_text os first) part.From merges_left (effect None (from_act opened.Changes (Marked (number_of os first)))) (is-from (mark_text os first)) refl (from-says opened.Changes None first))
+    asked = then-more (inside (under_way opened.Changes None from_left) (codes "from " ++ mark_text os first) (part.CommitIsh commit_ish.From) merges_left (effect None (from_act opened.Changes (Marked (number_of os first)))) (is-from (mark_text os first)) refl (from-says opened.Changes None first))
         (merges-asked others);
   }
 
@@ -383,7 +388,7 @@ module _ (os : List Object) (few : length os ≤ objects_limit) where
         and-then (and-then (and-then (and-then head.asked
             (then-more (data-inside (under_way opened.Commit (Some (number_of os id)) head.left) c.message from_left head.stands) (nothing-asked (under_way opened.Changes None from_left))))
             parents.asked)
-            (then-more (inside (under_way opened.Changes None parents.left) (codes "deleteall") part.DeleteAll changes_left (effect None (Change DeleteAll)) is-deleteall parents.stands refl)
+            (then-more (inside (under_way opened.Changes None parents.left) (codes "deleteall") (part.Change change_line.DeleteAll) changes_left (effect None (Change DeleteAll)) is-deleteall parents.stands refl)
             (files-asked (listed (stored_map os c.tree)) files)))
             (then-more (blank-inside (under_way opened.Changes None changes_left) [] refl) (nothing-asked (idle true))),
       )
@@ -405,28 +410,28 @@ module _ (os : List Object) (few : length os ≤ objects_limit) where
   tagger-asked mark (Some ident) is = record {
     left = tag_data_left;
     stands = refl;
-    asked = then-more (inside (under_way opened.Tag mark tagger_left) (codes "tagger " ++ ident) part.Tagger tag_data_left (effect mark (ObjectAct (Tagger ident))) (is-tagger ident) refl
+    asked = then-more (inside (under_way opened.Tag mark tagger_left) (codes "tagger " ++ ident) (part.Header header.Tagger) tag_data_left (effect mark (ObjectAct (Tagger ident))) (is-tagger ident) refl
         (header-says tagger_act mark (ident-read ident is)))
         (nothing-asked (under_way opened.Tag mark tag_data_left));
   }
 
   target-asked : (now : Open) (front : List Item) (acts : List Done) (mark : Option ℕ) (left : List Term) (t : Tag)
-      → Asks now front acts (under_way opened.Tag mark left) → fit part.From left ≡ Stands tagger_left
+      → Asks now front acts (under_way opened.Tag mark left) → fit (part.CommitIsh commit_ish.From) left ≡ Stands tagger_left
       → CanWriteTag t
       → Asks now (front ++ marked os (codes "from ") t.target ∷ [] ++ line_if (codes "tagger ") t.tagger ++ Data t.message ∷ [])
       (acts ++ asks (ObjectAct (TagTarget (Marked (number_of os t.target)))) ∷ [] ++ asks_if tagger_act t.tagger ++ asks (ObjectAct (TagCommand mark t.message)) ∷ []) (idle true)
   target-asked now front acts mark left t begun stands can =
       let tagger = tagger-asked mark t.tagger can.tagger in
       and-then (and-then (and-then begun
-      (then-more (inside (under_way opened.Tag mark left) (codes "from " ++ mark_text os t.target) part.From tagger_left (effect mark (from_act opened.Tag (Marked (number_of os t.target)))) (is-from (mark_text os t.target)) stands (from-says opened.Tag mark t.target))
+      (then-more (inside (under_way opened.Tag mark left) (codes "from " ++ mark_text os t.target) (part.CommitIsh commit_ish.From) tagger_left (effect mark (from_act opened.Tag (Marked (number_of os t.target)))) (is-from (mark_text os t.target)) stands (from-says opened.Tag mark t.target))
       (nothing-asked (under_way opened.Tag mark tagger_left))))
       tagger.asked)
       (then-more (data-inside (under_way opened.Tag mark tagger.left) t.message [] tagger.stands) (nothing-asked (idle true)))
 
   tag-line : (late : Bool) (name : List ℕ) → IsShortRefName (tag_ref name)
-      → Gives (idle late) (Line (codes "tag " ++ name)) (asks (ObjectAct (BeginTag (tag_ref name)))) (under_way opened.Tag None (perhaps part.Mark ∷ target_left))
+      → Gives (idle late) (Line (codes "tag " ++ name)) (asks (ObjectAct (BeginTag (tag_ref name)))) (under_way opened.Tag None (perhaps (part.Header header.Mark) ∷ target_left))
   tag-line late name is =
-      begins (idle late) (codes "tag " ++ name) part.Tag (perhaps part.Mark ∷ target_left) (ObjectAct (BeginTag (tag_ref name))) (is-tag name) refl refl refl refl
+      begins (idle late) (codes "tag " ++ name) (part.Opening opening.Tag) (perhaps (part.Header header.Mark) ∷ target_left) (ObjectAct (BeginTag (tag_ref name))) (is-tag name) refl refl refl refl
       (ap (λ (r : Result (List ℕ) Fault). read r (λ x. Ok (ObjectAct (BeginTag x)))) (ref_of-Ok (tag_ref name) (inl is.name) is.short))
 
   pub tag-asked : (id : List ℕ) (t : Tag) → CanWriteTag t → length (tag_ref t.name) ≤ 1024
@@ -435,7 +440,7 @@ module _ (os : List Object) (few : length os ≤ objects_limit) where
     true,
     target-asked (idle late) (Line (codes "tag " ++ t.name) ∷ marked os (codes "mark ") id ∷ []) (asks (ObjectAct (BeginTag (tag_ref t.name))) ∷ asks Wait ∷ []) (Some (number_of os id)) target_left t
         (then-more (tag-line late t.name (record { name = can.name; short = short }))
-        (then-more (inside (under_way opened.Tag None (perhaps part.Mark ∷ target_left)) (codes "mark " ++ mark_text os id) part.Mark target_left (effect (Some (number_of os id)) Wait) (is-mark (mark_text os id)) refl (mark-says opened.Tag None id))
+        (then-more (inside (under_way opened.Tag None (perhaps (part.Header header.Mark) ∷ target_left)) (codes "mark " ++ mark_text os id) (part.Header header.Mark) target_left (effect (Some (number_of os id)) Wait) (is-mark (mark_text os id)) refl (mark-says opened.Tag None id))
         (nothing-asked (under_way opened.Tag (Some (number_of os id)) target_left)))) refl can,
   )
 
@@ -443,7 +448,7 @@ module _ (os : List Object) (few : length os ≤ objects_limit) where
       → AsksAlone (tag_items os None t) (tag_acts os None t)
   tag-again t can short late = (
     true,
-    target-asked (idle late) (Line (codes "tag " ++ t.name) ∷ []) (asks (ObjectAct (BeginTag (tag_ref t.name))) ∷ []) None (perhaps part.Mark ∷ target_left) t
+    target-asked (idle late) (Line (codes "tag " ++ t.name) ∷ []) (asks (ObjectAct (BeginTag (tag_ref t.name))) ∷ []) None (perhaps (part.Header header.Mark) ∷ target_left) t
         (then-more (tag-line late t.name (record { name = can.name; short = short }))
-        (nothing-asked (under_way opened.Tag None (perhaps part.Mark ∷ target_left)))) refl can,
+        (nothing-asked (under_way opened.Tag None (perhaps (part.Header header.Mark) ∷ target_left)))) refl can,
   )

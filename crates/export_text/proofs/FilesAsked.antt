@@ -12,9 +12,10 @@ use Rattle.stream_lex.specs.Items.{Line}
 use Rattle.stream_grammar.specs.declared.data_ref.DataRef.{DataRef}
 use Rattle.stream_grammar.specs.declared.fault.Fault.{Fault}
 use Rattle.stream_grammar.specs.declared.part.Part.TheVariants as part
+use Rattle.stream_grammar.specs.declared.part.ChangeLine.TheVariants as change_line
 use Rattle.stream_grammar.specs.declared.stage.Opened.TheVariants as opened
 use Rattle.stream_grammar.specs.Texts.{read, required, first_word, after_space, dataref_of}
-use Rattle.stream_grammar.specs.Changes.{Path, mode_of, path_read, path_of, object_and_path, modified}
+use Rattle.stream_grammar.specs.Changes.{Path, mode_of, path_read, last_path, object_and_path, modified}
 use Rattle.stream_grammar.specs.Acts.{Act, Change, Effect, brings}
 use Rattle.stream_grammar.specs.Acts.{Modify}
 use Rattle.stream_grammar.specs.Grammar.{Term, Stands, fit, is_empty}
@@ -37,7 +38,7 @@ pub record CanWritePath (path : Path) : Type 0 where
 abbrev rest_of : List ℕ → Path → List ℕ
 rest_of word path = word ++ 32 ∷ quoted (joined path)
 
-path-read : (path : Path) → CanWritePath path → path_of (quoted (joined path)) ≡ Ok path
+path-read : (path : Path) → CanWritePath path → last_path (quoted (joined path)) ≡ Ok path
 path-read path can =
     ap (λ (r : Result (Path × List ℕ) PathFault). read (path_read r) (λ found. Ok found.0))
     (printed_is_read path can.components can.limits)
@@ -55,11 +56,11 @@ unfolding with_path before_path
 object-read word object path refers can =
     let rest : List ℕ = quoted (joined path) in
     let text : List ℕ = rest_of word path in
-    let first : object_and_path text ≡ read {B = DataRef × Path} (required (after_space text)) (λ r. before_path (path_of r) object) =
-    ap (λ (w : List ℕ). read {B = DataRef × Path} (dataref_of w) (λ o. read {B = DataRef × Path} (required (after_space text)) (λ r. before_path (path_of r) o))) (word-first word rest refers.no_space)
-    ∙ ap (λ (x : Result DataRef Fault). read {B = DataRef × Path} x (λ o. read {B = DataRef × Path} (required (after_space text)) (λ r. before_path (path_of r) o))) refers.is in
+    let first : object_and_path text ≡ read {B = DataRef × Path} (required (after_space text)) (λ r. before_path (last_path r) object) =
+    ap (λ (w : List ℕ). read {B = DataRef × Path} (dataref_of w) (λ o. read {B = DataRef × Path} (required (after_space text)) (λ r. before_path (last_path r) o))) (word-first word rest refers.no_space)
+    ∙ ap (λ (x : Result DataRef Fault). read {B = DataRef × Path} x (λ o. read {B = DataRef × Path} (required (after_space text)) (λ r. before_path (last_path r) o))) refers.is in
     first
-    ∙ ap (λ (r : Option (List ℕ)). read {B = DataRef × Path} (required r) (λ r. before_path (path_of r) object)) (rest-after word rest refers.no_space)
+    ∙ ap (λ (r : Option (List ℕ)). read {B = DataRef × Path} (required r) (λ r. before_path (last_path r) object)) (rest-after word rest refers.no_space)
     ∙ ap (λ (p : Result Path Fault). before_path p object) (path-read path can)
 
 mode-read : (m : FileMode) (rest : List ℕ) → mode_of (first_word (six_digits m ++ 32 ∷ rest)) ≡ Ok m
@@ -103,13 +104,13 @@ inline-other word path h other =
     ap (λ (w : List ℕ). bytes_eq w (codes "inline")) (word-first word (quoted (joined path)) h) ∙ other
 
 file-part : (m : FileMode) (word : List ℕ) (path : Path) → HasNoSpace word
-    → bytes_eq word (codes "inline") ≡ false → part_of_line (line_of m word path) ≡ part.Modify
+    → bytes_eq word (codes "inline") ≡ false → part_of_line (line_of m word path) ≡ part.Change change_line.Modify
 unfolding part_by_word
-file-part mode.Regular word path h other = ap (with_inline part.Modify) (inline-other word path h other)
-file-part mode.Executable word path h other = ap (with_inline part.Modify) (inline-other word path h other)
-file-part mode.Symlink word path h other = ap (with_inline part.Modify) (inline-other word path h other)
-file-part mode.Gitlink word path h other = ap (with_inline part.Modify) (inline-other word path h other)
-file-part mode.Directory word path h other = ap (with_inline part.Modify) (inline-other word path h other)
+file-part mode.Regular word path h other = ap (with_inline (part.Change change_line.Modify)) (inline-other word path h other)
+file-part mode.Executable word path h other = ap (with_inline (part.Change change_line.Modify)) (inline-other word path h other)
+file-part mode.Symlink word path h other = ap (with_inline (part.Change change_line.Modify)) (inline-other word path h other)
+file-part mode.Gitlink word path h other = ap (with_inline (part.Change change_line.Modify)) (inline-other word path h other)
+file-part mode.Directory word path h other = ap (with_inline (part.Change change_line.Modify)) (inline-other word path h other)
 
 -- The line as it is written.
 abbrev pub file_line : FileMode → List ℕ → Path → List ℕ
@@ -130,13 +131,13 @@ file-line mode.Directory word path =
 
 -- What the line asks for, in a commit where files may change.
 pub file-asked : (m : FileMode) (word : List ℕ) (object : DataRef) (path : Path) (left : List Term)
-    → Refers word object → CanWritePath path → fit part.Modify left ≡ Stands left
+    → Refers word object → CanWritePath path → fit (part.Change change_line.Modify) left ≡ Stands left
     → is_empty left ≡ false
     → Gives (under_way opened.Changes None left) (Line (file_line m word path)) (asks (Change (Modify m object path))) (under_way opened.Changes None left)
 file-asked m word object path left refers can fits some =
     subst (λ (t : List ℕ). Gives (under_way opened.Changes None left) (Line t) (asks (Change (Modify m object path))) (under_way opened.Changes None left))
     (sym (file-line m word path))
     (subst (λ (b : Bool). Gives (under_way opened.Changes None left) (Line (line_of m word path)) (record { ends_commit = b; act = Change (Modify m object path) }) (under_way opened.Changes None left)) some
-    (inside (under_way opened.Changes None left) (line_of m word path) part.Modify left (record { mark = None; act = Change (Modify m object path) })
+    (inside (under_way opened.Changes None left) (line_of m word path) (part.Change change_line.Modify) left (record { mark = None; act = Change (Modify m object path) })
     (file-part m word path refers.no_space refers.no_inline) fits
     (ap (λ (f : Result (FileMode × DataRef × Path) Fault). read {B = Effect} (read {B = Act} f (λ f. Ok (Change (Modify f.0 f.1 f.2)))) (λ act. brings None act)) (file-read m word object path refers can))))

@@ -8,8 +8,9 @@ use Rattle.stream_grammar.specs.declared.fault.Fault.{Fault}
 use Rattle.stream_grammar.specs.declared.feature.Feature.TheVariants as feature
 use Rattle.stream_grammar.specs.declared.part.Part.{Part}
 use Rattle.stream_grammar.specs.declared.part.Part.TheVariants as part
+use Rattle.stream_grammar.specs.declared.part.ControlLine.TheVariants as control_line
 use Rattle.stream_grammar.specs.Texts.{read}
-use Rattle.stream_grammar.specs.Features.{feature_of, in_time, setting_of}
+use Rattle.stream_grammar.specs.Features.{feature_of, in_time, option_of}
 use Rattle.stream_grammar.specs.declared.act.ControlCommand.TheVariants as control
 use Rattle.stream_grammar.specs.Acts.{Act, Control}
 use Rattle.stream_grammar.specs.Grammar.{fit}
@@ -28,12 +29,12 @@ unfolding step part_by_word feature_of in_time
 force-step = refl
 
 option-said : (head : List ℕ) → IsShortRefName head
-    → first_line_act false part.Setting (codes "option gitpool head " ++ head) ≡ Ok (Control (control.Head head))
-unfolding setting_of in_time
+    → first_line_act false (part.Control control_line.OptionCommand) (codes "option gitpool head " ++ head) ≡ Ok (Control (control.Head head))
+unfolding option_of in_time
 option-said head is =
     ap (λ (r : Result (List ℕ) Fault). read {B = Act} r (λ ref. Ok (Control (control.Head ref)))) (head-read head is.name is.short)
 
-option-part : (head : List ℕ) → part_of_line (codes "option gitpool head " ++ head) ≡ part.Setting
+option-part : (head : List ℕ) → part_of_line (codes "option gitpool head " ++ head) ≡ part.Control control_line.OptionCommand
 unfolding part_by_word
 option-part head = refl
 
@@ -43,7 +44,7 @@ option-step : (head : List ℕ) → IsShortRefName head
 unfolding step
 option-step head is =
     ap (λ (q : Part). step_by (idle false) q (Line (codes "option gitpool head " ++ head)) (fit q [])) (option-part head)
-    ∙ ap (opens (idle false) part.Setting []) (option-said head is)
+    ∙ ap (opens (idle false) (part.Control control_line.OptionCommand) []) (option-said head is)
 
 head-asked : (head : List ℕ) → IsShortRefName head
     → Asks (idle false) (head_items head) (head_acts head) (idle false)

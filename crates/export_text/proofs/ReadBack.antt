@@ -13,7 +13,7 @@ use Rattle.stream_lex.specs.declared.header.LineKind.TheVariants.{Counted}
 use Rattle.stream_lex.specs.Headers.{HasNoLineEnd, IsLine, header_kind, is_line_end, kind_of}
 use Rattle.stream_lex.specs.Items.{Item, Line, Data, Blank, Rest}
 use Rattle.stream_lex.specs.Reading.{reading}
-use Rattle.stream_lex.specs.Reads.{Reads, nothing_left, blank_line, line, data_and_line_end, counted}
+use Rattle.stream_lex.specs.Reads.{Reads, no_item, nothing_left, whole_line, blank_line, line, data_and_more, line_end, counted}
 use Rattle.stream_lex.proofs.Agrees.{read_so}
 use Rattle.stream_lex.proofs.Cases.{by_cases}
 use Rattle.stream_lex.proofs.Delimiters.{none_joined}
@@ -75,12 +75,12 @@ header_is_line n lt =
 
 pub read-back : (items : List Item) → All CanWriteItem items
     → Reads (items_text items) items (Rest false [])
-read-back [] can = nothing_left
+read-back [] can = no_item nothing_left
 read-back (Line text ∷ items) can =
     let one = All-head CanWriteItem (Line text) items can in
     subst (λ (bytes : List ℕ). Reads bytes (Line text ∷ items) (Rest false []))
     (sym (append_assoc text (10 ∷ []) (items_text items)))
-    (line text (items_text items) one.0 one.1 (read-back items (All-tail CanWriteItem (Line text) items can)))
+    (whole_line text (items_text items) one.0 (line text one.1) (read-back items (All-tail CanWriteItem (Line text) items can)))
 read-back (Data raw ∷ items) can =
     let small : length raw ≤ 67108864 = All-head CanWriteItem (Data raw) items can in
     let header : List ℕ = codes "data " ++ decimal (length raw) in
@@ -88,12 +88,13 @@ read-back (Data raw ∷ items) can =
     subst (λ (bytes : List ℕ). Reads bytes (Data raw ∷ items) (Rest false []))
     (sym (ap (λ (t : List ℕ). (t ++ 10 ∷ []) ++ items_text items) (append_assoc header (10 ∷ []) raw)
     ∙ append_assoc (header ++ 10 ∷ raw) (10 ∷ []) (items_text items)))
-    (data_and_line_end (header ++ 10 ∷ raw) raw (items_text items)
+    (data_and_more (header ++ 10 ∷ raw) raw (10 ∷ items_text items) (items_text items)
     (counted header raw (header_is_line (length raw) lt)
     (data_kind (decimal (length raw)) ∙ counted_header (length raw) lt) small)
-    (read-back items (All-tail CanWriteItem (Data raw) items can)))
+    (line_end (items_text items)) (read-back items (All-tail CanWriteItem (Data raw) items can)))
 read-back (Blank ∷ items) can =
-    blank_line (items_text items) (read-back items (All-tail CanWriteItem Blank items can))
+    whole_line [] (items_text items) (record { one_line = refl; within_limit = omega arith })
+    blank_line (read-back items (All-tail CanWriteItem Blank items can))
 
 pub reads-back : (items : List Item) → All CanWriteItem items
     → reading false (items_text items) ≡ record { items = items; tail = Rest false [] }

@@ -53,7 +53,7 @@ pub fn add_entries<N: Naming>(
     ensures same { OnErr result ((table.new ≡ table.old) × (pool.new ≡ pool.old)) }
 {
     let contents = contents_of(alloc, entries)?;
-    match table.add_tree(pool, &contents, summary) {
+    match table.add_tree_owned(pool, contents, summary) {
         Ok(id) => Ok(id),
         Err(refusal) => Err(as_fault(refusal)),
     }

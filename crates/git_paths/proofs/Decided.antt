@@ -9,7 +9,7 @@ use Rattle.std.proofs.lemmas.Slice.Eq.{bytes_eq-Decides}
 use Rattle.std.proofs.lemmas.List.Folds.{list_any_none}
 use Rattle.std.proofs.lemmas.List.Sums.{AllPass-from_list_all, list_all-from_AllPass}
 use Rattle.std.proofs.lemmas.List.Elements.{All-nil, All-cons, All-weaker}
-use Rattle.git_paths.specs.Paths.{IsComponent, IsPath, IsWithinLimits, is_slash, is_component, is_path, is_within_limits}
+use Rattle.git_paths.specs.Paths.{IsComponent, IsPath, IsWithinLimits, is_slash, is_part, is_component, is_path, is_within_limits}
 use Rattle.git_paths.proofs.Cases.{by_cases}
 
 -- no element passes a test that is not passed by any
@@ -29,7 +29,7 @@ same_not xs ys h = false_from_ne_true (bytes_eq xs ys) (λ e. h ((bytes_eq-Decid
 -- ---- a component
 
 pub IsComponent-from_test : (name : List ℕ) → is_component name ≡ true → IsComponent name
-unfolding is_component
+unfolding is_part
 IsComponent-from_test name h =
     let a = first_so _ (not (list_any is_slash name)) h in
     let b = first_so _ (not (list_any (λ b. eqb b 0) name)) a in
@@ -47,7 +47,7 @@ IsComponent-from_test name h =
     }
 
 pub test-from_IsComponent : (name : List ℕ) → IsComponent name → is_component name ≡ true
-unfolding is_component
+unfolding is_part
 test-from_IsComponent name h =
     let nul : list_any (λ b. eqb b 0) name ≡ false =
     list_any_none _ name

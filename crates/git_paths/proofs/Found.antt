@@ -8,7 +8,7 @@ use Rattle.git_paths.specs.declared.fault.Fault.TheVariants.{BadPath, Limit}
 use Rattle.git_paths.specs.Faults.{Gives}
 use Rattle.git_paths.specs.Paths.{IsPath, IsWithinLimits, joined, components_of, is_path, is_within_limits}
 use Rattle.git_paths.specs.Written.{Writes, BeginsWith, shown}
-use Rattle.git_paths.specs.Reading.{bytes_at, path_of, path_and_rest, judged, path_at}
+use Rattle.git_paths.specs.Reading.{bytes_at, path_within_limits, path_and_rest, judged, path_at}
 use Rattle.git_paths.proofs.Cases.{by_cases, parts}
 use Rattle.git_paths.proofs.Joined.{joined-components_of, components_of-joined}
 use Rattle.git_paths.proofs.Decided.{test-from_IsPath, IsWithinLimits-from_test, test-from_IsWithinLimits}
@@ -34,16 +34,16 @@ path_and_rest_done (Err e) path rest end h = absurd cc
 
 judged_done : (o : Option (List ℕ × List ℕ)) (path : List (List ℕ)) (end : List ℕ)
     → judged o ≡ done path end
-    → (bytes : List ℕ) × (o ≡ parts bytes end) × (path_of bytes ≡ Ok path)
+    → (bytes : List ℕ) × (o ≡ parts bytes end) × (path_within_limits bytes ≡ Ok path)
 judged_done None path end h = absurd cc
 judged_done (Some (bytes, rest)) path end h =
-    let both = path_and_rest_done (path_of bytes) path rest end h in
+    let both = path_and_rest_done (path_within_limits bytes) path rest end h in
     (bytes, ap (parts bytes) both.1, both.0)
 
-path_of_ok : (bytes : List ℕ) (path : List (List ℕ)) → path_of bytes ≡ Ok path
+path_within_limits_ok : (bytes : List ℕ) (path : List (List ℕ)) → path_within_limits bytes ≡ Ok path
     → (is_path path ≡ true) × (is_within_limits path ≡ true) × (components_of bytes ≡ path)
-unfolding path_of
-path_of_ok bytes path h =
+unfolding path_within_limits
+path_within_limits_ok bytes path h =
     by_cases (is_path (components_of bytes))
     (λ names. by_cases (is_within_limits (components_of bytes))
     (λ few.
@@ -58,7 +58,7 @@ pub path_at-done : (place : Place) (text : List ℕ) (path : List (List ℕ)) (r
     → (is_path path ≡ true) × IsWithinLimits path × Writes place text (joined path) rest
 path_at-done place text path rest h =
     let m = judged_done (bytes_at place text) path rest h in
-    let p = path_of_ok m.0 path m.2 in
+    let p = path_within_limits_ok m.0 path m.2 in
     let same : m.0 ≡ joined path = sym (joined-components_of m.0) ∙ ap joined p.2 in
     (p.0, IsWithinLimits-from_test path p.1, subst (λ (bs : List ℕ). Writes place text bs rest) same (Writes-from_bytes_at place text m.0 rest m.1))
 
@@ -69,10 +69,10 @@ found place text (Ok x) h path =
     let m = path_at-done place text x.0 x.1.now h in record { is_path = path; limits = m.1; written = m.2 }
 found place text (Err e) h path = tt
 
-path_of-joined : (path : List (List ℕ)) → IsPath path → IsWithinLimits path
-    → path_of (joined path) ≡ Ok path
-unfolding path_of
-path_of-joined path h limits =
+path_within_limits-joined : (path : List (List ℕ)) → IsPath path → IsWithinLimits path
+    → path_within_limits (joined path) ≡ Ok path
+unfolding path_within_limits
+path_within_limits-joined path h limits =
     rw (components_of-joined path h, test-from_IsPath path h, test-from_IsWithinLimits path limits) refl
 
 -- a path that is written at a place is read there
@@ -81,4 +81,4 @@ pub path_at-Writes : (place : Place) (text : List ℕ) (path : List (List ℕ)) 
     → path_at place text ≡ done path rest
 path_at-Writes place text path rest h limits w =
     ap judged (bytes_at-Writes w)
-    ∙ ap (λ (r : Result (List (List ℕ)) Fault). path_and_rest r rest) (path_of-joined path h limits)
+    ∙ ap (λ (r : Result (List (List ℕ)) Fault). path_and_rest r rest) (path_within_limits-joined path h limits)

@@ -47,11 +47,15 @@ joined_both (b ∷ top) (c ∷ rest) = (b ∷ top) ++ 47 ∷ c ∷ rest
 
 -- ---- the same three facts as tests
 
--- whether a name of bytes is a component
-unfoldable pub is_component : List ℕ → Bool
-is_component name =
+-- whether the bytes between two slashes are a component
+unfoldable pub is_part : List ℕ → Bool
+is_part name =
     not (bytes_eq name []) && not (bytes_eq name (codes ".")) && not (bytes_eq name (codes ".."))
-    && not (list_any (λ b. b == 0) name) && not (list_any is_slash name)
+    && not (list_any (λ b. b == 0) name)
+
+-- whether a name of bytes is a component
+abbrev pub is_component : List ℕ → Bool
+is_component name = is_part name && not (list_any is_slash name)
 
 -- whether each of these names is a component
 abbrev pub is_path : List (List ℕ) → Bool

@@ -91,8 +91,8 @@ bytes_at place (b ∷ text) =
 -- ---- as a path
 
 -- the path with some bytes, or the first rule that they break
-unfoldable pub path_of : List ℕ → Result (List (List ℕ)) Fault
-path_of bytes =
+unfoldable pub path_within_limits : List ℕ → Result (List (List ℕ)) Fault
+path_within_limits bytes =
     if is_path (components_of bytes)
     then (if is_within_limits (components_of bytes) then Ok (components_of bytes) else Err Limit)
     else Err BadPath
@@ -104,7 +104,7 @@ path_and_rest (Err e) rest = Err e
 
 abbrev pub judged : Parts → Result (List (List ℕ) × List ℕ) Fault
 judged None = Err BadPath
-judged (Some (bytes, rest)) = path_and_rest (path_of bytes) rest
+judged (Some (bytes, rest)) = path_and_rest (path_within_limits bytes) rest
 
 -- the path that a text begins with and the rest after it, or the fault
 abbrev pub path_at : Place → List ℕ → Result (List (List ℕ) × List ℕ) Fault

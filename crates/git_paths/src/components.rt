@@ -74,6 +74,7 @@ impl<'a> Components<'a> {
         Some((first, Components::of(others)))
     }
 
+    /// The components of a path's bytes.
     pub(crate) fn of(bytes: &'a [u8]) -> Components<'a>
         requires { IsPath (components_of bytes.now) }
         ensures { result ≡ components_of bytes.now }

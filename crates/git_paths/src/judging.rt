@@ -1,8 +1,8 @@
 //! Which bytes are a path, and which paths are within the limits.
 
 ghost use Rattle.std.specs.Prelude.{◌≡◌, ◌↔◌, ◌≤◌, ◌+◌, length, IsTrue, OnOk, IfErr, Ok, Err};
-ghost use Rattle.git_paths.specs.Paths.{IsComponent, is_component, is_path, is_within_limits, components_of};
-ghost use Rattle.git_paths.specs.Reading.{path_of};
+ghost use Rattle.git_paths.specs.Paths.{IsComponent, is_part, is_component, is_path, is_within_limits, components_of};
+ghost use Rattle.git_paths.specs.Reading.{path_within_limits};
 
 use crate::fault::Fault;
 
@@ -12,25 +12,31 @@ const MOST_BYTES: usize = 16383;
 /// The most components of a path.
 const MOST_COMPONENTS: usize = 256;
 
-// Whether a name can be a component of a path.
-#[tactic(auto, unfolding(crate::specs::Paths::is_component))]
-pub(crate) fn is_name(name: &[u8]) -> bool
-    ensures { result ≡ is_component name.now }
+// Whether bytes between two slashes are a component.
+#[tactic(auto, unfolding(crate::specs::Paths::is_part))]
+fn is_part(name: &[u8]) -> bool
+    ensures { result ≡ is_part name.now }
 {
-    !name.is_empty()
-        && name != b".".as_slice()
-        && name != b"..".as_slice()
-        && !name.contains(&0)
-        && !name.contains(&b'/')
+    match name {
+        [] | [b'.'] | [b'.', b'.'] => false,
+        _ => !name.contains(&0),
+    }
 }
 
-// Whether bytes are those of a path.
+fn is_name(name: &[u8]) -> bool
+    ensures { result ≡ is_component name.now }
+{
+    is_part(name) && !name.contains(&b'/')
+}
+
+/// Whether bytes are those of a path.
 pub(crate) fn are_names(bytes: &[u8]) -> bool
     ensures { result ≡ is_path (components_of bytes.now) }
 {
-    bytes.is_empty() || bytes.split(|b| *b == b'/').all(|name| is_name(name))
+    bytes.is_empty() || bytes.split(|b| *b == b'/').all(|part| is_part(part))
 }
 
+/// The number of components. Bytes that are there have one component more than slashes.
 pub(crate) fn count_components(bytes: &[u8]) -> usize
     ensures { result ≡ length (components_of bytes.now) }
 {
@@ -40,18 +46,20 @@ pub(crate) fn count_components(bytes: &[u8]) -> usize
     bytes.iter().filter(|b| **b == b'/').count() + 1
 }
 
-// Whether the path with these bytes is within the limits.
+/// Whether the path with these bytes is within the limits. There are at most as many slashes as
+/// bytes.
 pub(crate) fn are_few(bytes: &[u8]) -> bool
     ensures { result ≡ is_within_limits (components_of bytes.now) }
 {
-    bytes.len() <= MOST_BYTES && count_components(bytes) <= MOST_COMPONENTS
+    bytes.len() < MOST_COMPONENTS
+        || bytes.len() <= MOST_BYTES && count_components(bytes) <= MOST_COMPONENTS
 }
 
-// The first rule of paths that bytes break, if any: bad path comes before limit.
-#[tactic(auto, unfolding(crate::specs::Reading::path_of))]
+/// The first rule of paths that bytes break, if any: bad path comes before limit.
+#[tactic(auto, unfolding(crate::specs::Reading::path_within_limits))]
 pub(crate) fn judge(bytes: &[u8]) -> Result<(), Fault>
-    ensures ok { OnOk result (path_of bytes.now ≡ Ok (components_of bytes.now)) }
-    ensures err { IfErr result (λ e. path_of bytes.now ≡ Err e) }
+    ensures ok { OnOk result (path_within_limits bytes.now ≡ Ok (components_of bytes.now)) }
+    ensures err { IfErr result (λ e. path_within_limits bytes.now ≡ Err e) }
 {
     if !are_names(bytes) {
         return Err(Fault::BadPath);

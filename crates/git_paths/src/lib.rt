@@ -6,6 +6,7 @@ mod components;
 mod fault;
 mod judging;
 pub mod laws;
+mod letters;
 mod order;
 mod path;
 mod place;

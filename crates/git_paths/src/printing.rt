@@ -6,24 +6,14 @@ ghost use Rattle.std.specs.Prelude.{◌≡◌, [], ◌∷◌, ◌++◌, take, ve
 ghost use Rattle.std.specs.List.{flat_map};
 ghost use Rattle.git_paths.specs.Quoting.{letter_of_byte, is_special, escape, in_quotes, quoted};
 
+use crate::letters::LETTERS;
 use git_model::Memory;
 
-#[tactic(auto, unfolding(crate::specs::Quoting::letter_of_byte))]
 fn letter_of(byte: u8) -> Option<u8>
     ensures { result ≡ letter_of_byte byte }
 {
-    match byte {
-        7 => Some(b'a'),
-        8 => Some(b'b'),
-        9 => Some(b't'),
-        10 => Some(b'n'),
-        11 => Some(b'v'),
-        12 => Some(b'f'),
-        13 => Some(b'r'),
-        b'"' => Some(b'"'),
-        b'\\' => Some(b'\\'),
-        _ => None,
-    }
+    let entry = LETTERS.iter().find(|entry| entry.1 == byte)?;
+    Some(entry.0)
 }
 
 fn must_quote(byte: u8) -> bool

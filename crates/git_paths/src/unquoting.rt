@@ -8,24 +8,14 @@ ghost use Rattle.git_paths.specs.Quoting.{byte_of_letter, octal_value};
 ghost use Rattle.git_paths.specs.Reading.{unquoted, escaped, octals, are_octal, TakesByte};
 
 use crate::fault::Fault;
+use crate::letters::LETTERS;
 use std::alloc::Global;
 
-#[tactic(auto, unfolding(crate::specs::Quoting::byte_of_letter))]
 fn byte_of(letter: u8) -> Option<u8>
     ensures { result ≡ byte_of_letter letter }
 {
-    match letter {
-        b'a' => Some(7),
-        b'b' => Some(8),
-        b't' => Some(9),
-        b'n' => Some(10),
-        b'v' => Some(11),
-        b'f' => Some(12),
-        b'r' => Some(13),
-        b'"' => Some(b'"'),
-        b'\\' => Some(b'\\'),
-        _ => None,
-    }
+    let entry = LETTERS.iter().find(|entry| entry.0 == letter)?;
+    Some(entry.1)
 }
 
 fn octal_of(x: u8, y: u8, z: u8) -> Option<u8>

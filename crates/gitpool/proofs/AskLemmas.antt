@@ -77,6 +77,12 @@ asked-ok answer.Ok u e = refl
 asked-ok (answer.Fault code) u e = cc e
 asked-ok (answer.Memory items) u e = cc e
 
+-- no answer of a step blames the device
+never-device : (a : Answer) → Err fault.Device ≡ as_asked a → ⊥
+never-device answer.Ok e = cc e
+never-device (answer.Fault code) e = cc e
+never-device (answer.Memory items) e = cc e
+
 -- an Ask with no bytes before its reply
 module _ (digest : List ℕ → List ℕ) (tenant query : List ℕ) (s : Step) (a : Answer) (out out' : List ℕ) (before after : TenantStates)
     (named : name_of s ≡ tenant) (is : call_of s ≡ Ask query) (bad : has_bad_name s ≡ not (is_tenant_name tenant)) (none : out ≡ [])
@@ -120,27 +126,49 @@ module _ (digest : List ℕ → List ℕ) (tenant query : List ℕ) (s : Step) (
   -- it was refused, or memory ran out
   pub asks-refused : (state : State) (writer : Device) (e : AskFault) → Represents digest state (held_of tenant before) → Err e ≡ as_asked a
       → Asks digest tenant query before after writer writer (Err e)
-  asks-refused state writer e leads told = by a refl told
+  asks-refused state writer e leads told = by e told
     where
-      so : (x y : AskFault) → x ≡ y → Asks digest tenant query before after writer writer (Err y) → Asks digest tenant query before after writer writer (Err x)
-      so x y same asks = subst (λ (z : AskFault). Asks digest tenant query before after writer writer (Err z)) (sym same) asks
+      silent : (f : AskFault) → Err f ≡ as_asked a → IsAsked digest tenant query before after a []
+      silent f told = is-asked a [] refl (ask-silent state leads (λ ok.
+          let no : ◌≡◌ {A = Result Unit AskFault} (Err f) (Ok tt) = told ∙ ap as_asked ok in cc no))
 
-      by : (a' : Answer) → a ≡ a' → Err e ≡ as_asked a' → Asks digest tenant query before after writer writer (Err e)
-      by answer.Ok answers told = cc told
-      by (answer.Fault code) answers told =
-          let same : e ≡ fault.Step code = cc told in
-          so e (fault.Step code) same
-          (is-asked (answer.Fault code) [] answers (ask-silent state leads (λ ok. let no : answer.Fault code ≡ answer.Ok = sym answers ∙ ok in cc no)), refl)
-      by (answer.Memory items) answers told =
-          let same : e ≡ fault.Memory = cc told in
-          so e fault.Memory same
-          (items, is-asked (answer.Memory items) [] answers (ask-silent state leads (λ ok. let no : answer.Memory items ≡ answer.Ok = sym answers ∙ ok in cc no)), refl)
+      by : (f : AskFault) → Err f ≡ as_asked a
+          → Asks digest tenant query before after writer writer (Err f)
+      by (fault.Step code) told = record {
+        answer = a;
+        reply = [];
+        asked = silent (fault.Step code) told;
+        told = sym told;
+        written = (refl, refl);
+      }
+      by fault.Device told = absurd (never-device a told)
+      by fault.Memory told = record {
+        answer = a;
+        reply = [];
+        asked = silent fault.Memory told;
+        told = sym told;
+        written = (refl, refl);
+      }
 
   -- a write failed
   pub asks-unwritten : (writer writer' : Device) → a ≡ answer.Ok → AppendsFront writer.known writer'.known out' → HasFault writer.faults writer'.faults
       → Asks digest tenant query before after writer writer' (Err fault.Device)
-  asks-unwritten writer writer' ok front failed = (out', is-asked answer.Ok out' ok refl, front, failed)
+  asks-unwritten writer writer' ok front failed =
+      record {
+        answer = a;
+        reply = out';
+        asked = is-asked a out' refl refl;
+        told = ok;
+        written = (front, failed);
+      }
 
   pub asks-well : (writer writer' : Device) (u : Unit {0}) → a ≡ answer.Ok → Appends writer.known writer'.known out' → IsWell writer writer'
       → Asks digest tenant query before after writer writer' (Ok u)
-  asks-well writer writer' u ok written well = (out', is-asked answer.Ok out' ok refl, written, well)
+  asks-well writer writer' u ok written well =
+      record {
+        answer = a;
+        reply = out';
+        asked = is-asked a out' refl refl;
+        told = ap as_asked ok;
+        written = (written, well);
+      }

@@ -113,7 +113,7 @@ module _ (digest : List ℕ → List ℕ) (names : AnswersNames digest) (reposit
       by : (b : Bool) → g.at_end ≡ b → Keeps writer.known writer'.known
       by b is =
           front-none writer.known writer'.known (printed_so_far digest empty_repository g.bytes g.at_end)
-          (ap (printed_so_far digest empty_repository g.bytes) is ∙ none b is) g.written
+          (ap (printed_so_far digest empty_repository g.bytes) is ∙ none b is) g.written.front
 
   stopped : (reader reader' writer writer' : Device) → HasExport reader.known repository
       → IsStopped digest empty_repository AnyEffect reader reader' writer writer' → Keeps writer.known writer'.known

@@ -179,8 +179,7 @@ module _ (digest : List ℕ → List ℕ) (tenant : List ℕ) (repository : Repo
           at_end = false;
           effect = fed-more digest tenant before now after s.bytes piece s.fed taken;
           end = λ (none : false ≡ true). cc none;
-          written = front_after w' piece f.0;
-          whole = inl failed;
+          written = record { front = front_after w' piece f.0; whole = inl failed };
           blamed = inl (gives.well.well ∙ s.well.0, failed);
         },
         refl,
@@ -221,8 +220,15 @@ module _ (digest : List ℕ → List ℕ) (tenant : List ℕ) (repository : Repo
           at_end = false;
           effect = s.fed;
           end = λ (none : false ≡ true). cc none;
-          written = record { front = replies; rest = []; parts = sym (append-nil replies); appends = s.written };
-          whole = inr s.written;
+          written = record {
+            front = record {
+              front = replies;
+              rest = [];
+              parts = sym (append-nil replies);
+              appends = s.written;
+            };
+            whole = inr s.written;
+          };
           blamed = blamed;
         },
         refl,
@@ -325,8 +331,11 @@ module _ (digest : List ℕ → List ℕ) (tenant : List ℕ) (repository : Repo
         at_end = true;
         effect = fed_and_ended;
         end = λ (_ : true ≡ true). (s.well.0, s.last);
-        written = front_of_later w0.known w.known w'.known _ (end_in digest repository s.bytes).reply s.written front;
-        whole = inl blamed;
+        written = record {
+          front = front_of_later w0.known w.known w'.known _ (end_in digest repository s.bytes).reply
+              s.written front;
+          whole = inl blamed;
+        };
         blamed = inl (s.well.0, blamed);
       }
 
@@ -363,7 +372,6 @@ given_up digest tenant repository before after r r' w w' g = record {
   effect = subst (λ (b : Bool). HasFed digest tenant before after b g.0.bytes) (sym g.1) g.0.effect;
   end = g.0.end;
   written = g.0.written;
-  whole = g.0.whole;
   blamed = g.0.blamed;
 }
 
@@ -410,7 +418,6 @@ imports-effect digest repository D E r r' w w' (Err fault.Device) so i = record 
   effect = so i.at_end i.bytes i.effect;
   end = i.end;
   written = i.written;
-  whole = i.whole;
   blamed = i.blamed;
 }
 imports-effect digest repository D E r r' w w' (Err fault.Memory) so i = stopped-effect digest repository D E r r' w w' so i

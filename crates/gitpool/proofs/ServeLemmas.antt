@@ -17,6 +17,7 @@ use Rattle.service_steps.proofs.FrameLemmas.{none_read}
 use Rattle.service_steps.proofs.WriteLemmas.{front_of_later}
 use Rattle.tenant_service.specs.Headline.{Response, response_in, Run, IsIsolated, IsRefused}
 use Rattle.tenant_service.specs.TenantState.{TenantStates, held_of}
+use Rattle.gitpool.specs.Devices.{AppendsAsFar}
 use Rattle.gitpool.specs.Serving.{steps_text, answers_text, Served, AreAnswered, Serves}
 use Rattle.tenant_service.proofs.AccountLemmas.{all_whole}
 use Rattle.tenant_service.proofs.RunLemmas.{own-more, own-none}
@@ -69,40 +70,47 @@ answered : (digest : List ℕ → List ℕ) (before after : TenantStates) (r0 r 
     (s : SoFar digest before after r0 r w0 w count) → IsWell r r' → AreAnswered r0 r' w0 w s.run
 answered digest before after r0 r w0 w count r' s well = (s.written, (well ∙ s.read.well, s.well))
 
+all_so_far : (digest : List ℕ → List ℕ) (before after : TenantStates) (r0 r w0 w : Device)
+    (count : ℕ) (s : SoFar digest before after r0 r w0 w count) → AppendsAsFar w0 w (answers_text s.run)
+all_so_far digest before after r0 r w0 w count s = record {
+  front = whole_front w0.known w.known (answers_text s.run) s.written;
+  whole = inr s.written;
+}
+
 -- No further step was read.
 pub ends_at : (digest : List ℕ → List ℕ) (before after : TenantStates) (r0 r w0 w : Device) (count : ℕ) (r' : Device)
     → SoFar digest before after r0 r w0 w count → count < 2 ^ 32 → ReadsStep r (Ok None) r' → Serves digest before after r0 r' w0 w (Ok tt)
-ends_at digest before after r0 r w0 w count r' s few read = (
-  served_after digest before after r0 r w0 w count s few r' [] read.read.read,
-  refl,
-  read.end,
-  answered digest before after r0 r w0 w count r' s read.read.well,
-)
+ends_at digest before after r0 r w0 w count r' s few read = record {
+  served = served_after digest before after r0 r w0 w count s few r' [] read.read.read;
+  stopped = (refl, read.end);
+  written = answered digest before after r0 r w0 w count r' s read.read.well;
+}
 
 pub fails_at : (digest : List ℕ → List ℕ) (before after : TenantStates) (r0 r w0 w : Device) (count : ℕ) (r' : Device) (e : FrameFault)
     → SoFar digest before after r0 r w0 w count → count < 2 ^ 32 → ReadsStep r (Err e) r' → Serves digest before after r0 r' w0 w (Err e)
-fails_at digest before after r0 r w0 w count r' fault.BadFrame s few read = (
-  served_after digest before after r0 r w0 w count s few r' read.0 read.2.read,
-  read.1,
-  answered digest before after r0 r w0 w count r' s read.2.well,
-)
-fails_at digest before after r0 r w0 w count r' fault.CutOff s few read = (
-  served_after digest before after r0 r w0 w count s few r' read.0 read.2.read.read,
-  read.1,
-  read.2.end,
-  answered digest before after r0 r w0 w count r' s read.2.read.well,
-)
-fails_at digest before after r0 r w0 w count r' fault.Device s few read = (
-  served_after digest before after r0 r w0 w count s few r' read.0 read.2.read,
-  read.1,
-  record { front = whole_front w0.known w.known (answers_text s.run) s.written; whole = inr s.written },
-  inl (subst (λ (n : ℕ). HasFault n r'.faults) s.read.well read.2.fault, s.well),
-)
-fails_at digest before after r0 r w0 w count r' fault.Memory s few read = (
-  served_after digest before after r0 r w0 w count s few r' read.0 read.2.read,
-  read.1,
-  answered digest before after r0 r w0 w count r' s read.2.well,
-)
+fails_at digest before after r0 r w0 w count r' fault.BadFrame s few read = record {
+  served = served_after digest before after r0 r w0 w count s few r' read.0 read.2.read;
+  stopped = read.1;
+  written = answered digest before after r0 r w0 w count r' s read.2.well;
+}
+fails_at digest before after r0 r w0 w count r' fault.CutOff s few read = record {
+  served = served_after digest before after r0 r w0 w count s few r' read.0 read.2.read.read;
+  stopped = (read.1, read.2.end);
+  written = answered digest before after r0 r w0 w count r' s read.2.read.well;
+}
+fails_at digest before after r0 r w0 w count r' fault.Device s few read = record {
+  served = served_after digest before after r0 r w0 w count s few r' read.0 read.2.read;
+  stopped = read.1;
+  written = (
+    all_so_far digest before after r0 r w0 w count s,
+    inl (subst (λ (n : ℕ). HasFault n r'.faults) s.read.well read.2.fault, s.well),
+  );
+}
+fails_at digest before after r0 r w0 w count r' fault.Memory s few read = record {
+  served = served_after digest before after r0 r w0 w count s few r' read.0 read.2.read;
+  stopped = read.1;
+  written = answered digest before after r0 r w0 w count r' s read.2.well;
+}
 
 -- One text more.
 more_text : (text : Step × Response → List ℕ) (run : Run) (one : Step × Response) → flat_map text (run ++ one ∷ []) ≡ flat_map text run ++ text one
@@ -168,8 +176,9 @@ pub write_fails : (digest : List ℕ → List ℕ) (before between after : Tenan
     → AppendsFront w.known w'.known (answer_text told.answer told.reply) → HasFault w.faults w'.faults
     → Serves digest before after r0 r' w0 w' (Err fault.Device)
 write_fails digest before between after r0 r w0 w count r' w' told s few t front failed =
-    let blame : HasFault w0.faults w'.faults = subst (λ (n : ℕ). HasFault n w'.faults) s.well failed in (
-      record {
+    let blame : HasFault w0.faults w'.faults = subst (λ (n : ℕ). HasFault n w'.faults) s.well failed in
+    record {
+      served = record {
         run = s.run ++ (t.step, told) ∷ [];
         rest = [];
         own = t.own;
@@ -177,22 +186,25 @@ write_fails digest before between after r0 r w0 w count r' w' told s few t front
         good = t.good;
         read = subst (λ (l : List ℕ). HasRead r0 r' l) (sym (append-nil (steps_text (s.run ++ (t.step, told) ∷ [])))) t.read.read;
         bounded = let l = length-append s.run ((t.step, told) ∷ []) in let n = s.as_many in omega (arith, l, n, few);
-      },
-      none_read,
-      record {
-        front = subst (λ (l : List ℕ). AppendsFront w0.known w'.known l)
-            (sym (more_text (λ (x : Step × Response). answer_text x.1.answer x.1.reply) s.run (t.step, told)))
-            (front_of_later w0.known w.known w'.known (answers_text s.run) (answer_text told.answer told.reply) s.written front);
-        whole = inl blame;
-      },
-      inr (inl (t.read.well, blame)),
-    )
+      };
+      stopped = none_read;
+      written = (
+        record {
+          front = subst (λ (l : List ℕ). AppendsFront w0.known w'.known l)
+              (sym (more_text (λ (x : Step × Response). answer_text x.1.answer x.1.reply) s.run (t.step, told)))
+              (front_of_later w0.known w.known w'.known (answers_text s.run)
+              (answer_text told.answer told.reply) s.written front);
+          whole = inl blame;
+        },
+        inr (inl (t.read.well, blame)),
+      );
+    }
 
 -- As many frames were taken as one serving takes.
 pub limit_reached : (digest : List ℕ → List ℕ) (before after : TenantStates) (r0 r w0 w : Device) (count : ℕ)
     → SoFar digest before after r0 r w0 w count → count ≡ 2 ^ 32 → Serves digest before after r0 r w0 w (Err fault.Device)
-limit_reached digest before after r0 r w0 w count s all = (
-  record {
+limit_reached digest before after r0 r w0 w count s all = record {
+  served = record {
     run = s.run;
     rest = [];
     own = s.own;
@@ -200,8 +212,10 @@ limit_reached digest before after r0 r w0 w count s all = (
     good = s.good;
     read = subst (λ (l : List ℕ). HasRead r0 r l) (sym (append-nil (steps_text s.run))) s.read.read;
     bounded = let n = s.as_many in omega (arith, n, all);
-  },
-  none_read,
-  record { front = whole_front w0.known w.known (answers_text s.run) s.written; whole = inr s.written },
-  inr (inr ((s.read.well, s.well), s.as_many ∙ all)),
-)
+  };
+  stopped = none_read;
+  written = (
+    all_so_far digest before after r0 r w0 w count s,
+    inr (inr ((s.read.well, s.well), s.as_many ∙ all)),
+  );
+}

@@ -33,18 +33,25 @@ pub record IsAsked (digest : List ℕ → List ℕ) (tenant query : List ℕ) (b
   pub own : (name : List ℕ) → IsIsolated digest name (held_of name before)
       ((step, record { answer = answer; reply = reply }) ∷ []) (held_of name after)
 
--- What asking did, by its answer. Exactly the reply was written, or a prefix of it if a write
--- failed. If the query was refused, or memory ran out, there was no reply.
-abbrev pub Asks : (List ℕ → List ℕ) → List ℕ → List ℕ → TenantStates → TenantStates → Device → Device
-    → Result Unit AskFault → Type 0
-Asks digest tenant query before after writer writer' (Ok u) =
-    (reply : List ℕ) × IsAsked digest tenant query before after answer.Ok reply
-    × Appends writer.known writer'.known reply × IsWell writer writer'
-Asks digest tenant query before after writer writer' (Err (fault.Step code)) =
-    IsAsked digest tenant query before after (answer.Fault code) [] × (writer' ≡ writer)
-Asks digest tenant query before after writer writer' (Err fault.Device) =
-    (reply : List ℕ) × IsAsked digest tenant query before after answer.Ok reply
-    × AppendsFront writer.known writer'.known reply × HasFault writer.faults writer'.faults
-Asks digest tenant query before after writer writer' (Err fault.Memory) =
-    (items : ℕ) × IsAsked digest tenant query before after (answer.Memory items) []
-    × (writer' ≡ writer)
+-- The result of asking is the answer of the step; or the query was answered, and a write failed.
+abbrev pub IsResultOf : Answer → Result Unit AskFault → Type 0
+IsResultOf told (Err fault.Device) = told ≡ answer.Ok
+IsResultOf told result = as_asked told ≡ result
+
+-- What was written, by the result: exactly the reply, or a prefix of it if a write failed. If the
+-- query was refused, or memory ran out, there is no reply, and the writer is as it was.
+abbrev pub WritesReply : Result Unit AskFault → List ℕ → Device → Device → Type 0
+WritesReply (Ok u) reply writer writer' =
+    Appends writer.known writer'.known reply × IsWell writer writer'
+WritesReply (Err fault.Device) reply writer writer' =
+    AppendsFront writer.known writer'.known reply × HasFault writer.faults writer'.faults
+WritesReply (Err refusal) reply writer writer' = (reply ≡ []) × (writer' ≡ writer)
+
+-- What asking did: the service answered the query, and the reply was written.
+pub record Asks (digest : List ℕ → List ℕ) (tenant query : List ℕ) (before after : TenantStates)
+    (writer writer' : Device) (result : Result Unit AskFault) : Type 0 where
+  pub answer : Answer
+  pub reply : List ℕ
+  pub asked : IsAsked digest tenant query before after answer reply
+  pub told : IsResultOf answer result
+  pub written : WritesReply result reply writer writer'

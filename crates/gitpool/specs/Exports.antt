@@ -14,7 +14,7 @@ use Rattle.gitpool.specs.declared.import_fault.ImportFault.TheVariants as fault
 abbrev pub HasExport : Option (List ℕ) → Repository → Type 0
 HasExport known repository = known ≡ Some (export_text repository)
 
--- The stream was not refused: only a device that fails or a lack of memory can stop it.
+-- The stream was not refused: only a device that fails, or running out of memory, can stop it.
 abbrev pub IsNotRefused : Result Unit ImportFault → Type 0
 IsNotRefused (Ok u) = Unit {0}
 IsNotRefused (Err (fault.Stream code)) = ⊥

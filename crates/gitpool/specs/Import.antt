@@ -3,11 +3,11 @@ use Rattle.std.specs.Prelude.{◌≡◌, ◌≤◌, ◌+◌, ℕ, Bool, true, fa
 use Rattle.std.specs.Io.KnownBytes.{Appends, IsAtEnd}
 use Rattle.git_model.specs.Limits.{reads_limit}
 use Rattle.git_model.specs.Repository.{Repository}
-use Rattle.git_objects.specs.Device.{Device, HasRead, HasFault, IsWell, AppendsFront, counted_on}
+use Rattle.git_objects.specs.Device.{Device, HasRead, IsWell, AppendsFront, counted_on}
 use Rattle.import_session.specs.Stream.{Outcome, StreamStatus, Runs, Refused, End, finished}
 use Rattle.gitpool.specs.declared.import_fault.ImportFault.{ImportFault}
 use Rattle.gitpool.specs.declared.import_fault.ImportFault.TheVariants as fault
-use Rattle.gitpool.specs.Devices.{AreWell, HasReadFailed, HasWriteFailed}
+use Rattle.gitpool.specs.Devices.{AreWell, HasReadFailed, HasWriteFailed, AppendsAsFar}
 use Rattle.tenant_service.specs.Alone.{stream_of}
 use Rattle.tenant_service.specs.TenantState.{empty_repository}
 
@@ -89,10 +89,7 @@ pub record IsGivenUp (digest : List ℕ → List ℕ) (repository : Repository) 
   pub effect : Effect at_end bytes
   pub end : at_end ≡ true
       → IsWell reader reader' × (IsAtEnd reader'.known ⊎ IsSettled digest repository bytes)
-  pub written : AppendsFront writer.known writer'.known
-      (printed_so_far digest repository bytes at_end)
-  pub whole : HasFault writer.faults writer'.faults
-      ⊎ Appends writer.known writer'.known (printed_so_far digest repository bytes at_end)
+  pub written : AppendsAsFar writer writer' (printed_so_far digest repository bytes at_end)
   pub blamed : IsDevice digest repository bytes reader reader' writer writer'
 
 -- Memory ran out after a prefix of the replies was written. No call failed. The stream was ended,

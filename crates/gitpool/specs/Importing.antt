@@ -6,6 +6,8 @@ use Rattle.std.specs.Io.KnownBytes.{Appends, IsAtEnd}
 use Rattle.git_model.specs.Repository.{Repository}
 use Rattle.git_objects.specs.Device.{Device, HasRead, HasFault, IsWell, AppendsFront}
 use Rattle.import_session.specs.Stream.{Refused}
+use Rattle.service_steps.specs.declared.fault.ServiceFault.TheVariants as service
+use Rattle.service_steps.specs.Faults.{code_of}
 use Rattle.tenant_refs.specs.TenantName.{is_tenant_name}
 use Rattle.tenant_service.specs.Alone.{Call, Open, Feed, End, Streaming, stream_of, added}
 use Rattle.tenant_service.specs.Copying.{HasTaken}
@@ -61,11 +63,12 @@ CanOpen tenant all repository =
 -- Why no stream can be opened: the name is bad, or there is a stream already, running or dead.
 abbrev pub stream_refusal : TenantState → Option ℕ
 stream_refusal (Idle repository) = None
-stream_refusal (Busy status) = Some 31
+stream_refusal (Busy status) = Some (code_of service.StreamIsOpen)
 
 abbrev pub open_refusal : List ℕ → TenantStates → Option ℕ
 open_refusal tenant all =
-    if is_tenant_name tenant then stream_refusal (held_of tenant all) else Some 32
+    if is_tenant_name tenant then stream_refusal (held_of tenant all)
+    else Some (code_of service.BadTenantName)
 
 -- The Open was refused, and nothing was read or written.
 pub record IsUnopened (digest : List ℕ → List ℕ) (tenant : List ℕ) (before after : TenantStates)

@@ -3,13 +3,13 @@ use Rattle.std.specs.Prelude.{◌≡◌, ◌≤◌, ℕ, List, [], ◌++◌, len
 use Rattle.std.specs.List.{AllByRecursion, flat_map}
 use Rattle.std.specs.Io.KnownBytes.{Appends, IsAtEnd}
 use Rattle.git_model.specs.Limits.{frames_limit}
-use Rattle.git_objects.specs.Device.{Device, HasRead, HasFault, AppendsFront}
+use Rattle.git_objects.specs.Device.{Device, HasRead}
 use Rattle.service_steps.specs.declared.frame_fault.FrameFault.{FrameFault}
 use Rattle.service_steps.specs.declared.frame_fault.FrameFault.TheVariants as fault
 use Rattle.service_steps.specs.Frames.{frame_of, step_text, answer_text, IsGood, IsUnfinished, IsCutOff, IsBad}
 use Rattle.tenant_service.specs.Headline.{Run, IsIsolated, IsRefused}
 use Rattle.tenant_service.specs.TenantState.{TenantStates, held_of}
-use Rattle.gitpool.specs.Devices.{AreWell, HasReadFailed, HasWriteFailed}
+use Rattle.gitpool.specs.Devices.{AreWell, HasReadFailed, HasWriteFailed, AppendsAsFar}
 
 -- The frames of the steps of a run, and the frames of their answers.
 abbrev pub steps_text : Run → List ℕ
@@ -42,27 +42,25 @@ abbrev pub AreAnswered : Device → Device → Device → Device → Run → Typ
 AreAnswered reader reader' writer writer' run =
     Appends writer.known writer'.known (answers_text run) × AreWell reader reader' writer writer'
 
--- A prefix of the answers was written, and all of them if no write failed.
-pub record AppendsAsFar (writer writer' : Device) (bytes : List ℕ) : Type 0 where
-  pub front : AppendsFront writer.known writer'.known bytes
-  pub whole : HasFault writer.faults writer'.faults ⊎ Appends writer.known writer'.known bytes
+-- What was written, by the answer: all answers; or, if a device failed, a prefix of them, and all of
+-- them if no write failed.
+abbrev pub WritesAnswers : Result Unit FrameFault → Device → Device → Device → Device → Run → Type 0
+WritesAnswers (Err fault.Device) reader reader' writer writer' run =
+    AppendsAsFar writer writer' (answers_text run) × IsToBlame reader reader' writer writer' run
+WritesAnswers _ reader reader' writer writer' run = AreAnswered reader reader' writer writer' run
 
--- What serving did, by its answer.
-abbrev pub Serves : (List ℕ → List ℕ) → TenantStates → TenantStates → Device → Device → Device → Device
-    → Result Unit FrameFault → Type 0
-Serves digest before after reader reader' writer writer' (Ok u) =
-    (s : Served digest before after reader reader') × (s.rest ≡ []) × IsAtEnd reader'.known
-    × AreAnswered reader reader' writer writer' s.run
-Serves digest before after reader reader' writer writer' (Err fault.BadFrame) =
-    (s : Served digest before after reader reader') × IsBad s.rest
-    × AreAnswered reader reader' writer writer' s.run
-Serves digest before after reader reader' writer writer' (Err fault.CutOff) =
-    (s : Served digest before after reader reader') × IsCutOff s.rest × IsAtEnd reader'.known
-    × AreAnswered reader reader' writer writer' s.run
-Serves digest before after reader reader' writer writer' (Err fault.Device) =
-    (s : Served digest before after reader reader') × IsUnfinished s.rest
-    × AppendsAsFar writer writer' (answers_text s.run)
-    × IsToBlame reader reader' writer writer' s.run
-Serves digest before after reader reader' writer writer' (Err fault.Memory) =
-    (s : Served digest before after reader reader') × IsUnfinished s.rest
-    × AreAnswered reader reader' writer writer' s.run
+-- What was read after the last good frame, by the answer: nothing, if the input ends there; a bad
+-- frame, up to the byte that shows it; a frame that the end of the input cuts off; or a part of one.
+abbrev pub StopsReading : Result Unit FrameFault → List ℕ → Device → Type 0
+StopsReading (Ok u) rest reader = (rest ≡ []) × IsAtEnd reader.known
+StopsReading (Err fault.BadFrame) rest reader = IsBad rest
+StopsReading (Err fault.CutOff) rest reader = IsCutOff rest × IsAtEnd reader.known
+StopsReading (Err fault.Device) rest reader = IsUnfinished rest
+StopsReading (Err fault.Memory) rest reader = IsUnfinished rest
+
+-- What serving did: it took the steps of a run, stopped reading after them, and wrote their answers.
+pub record Serves (digest : List ℕ → List ℕ) (before after : TenantStates)
+    (reader reader' writer writer' : Device) (answer : Result Unit FrameFault) : Type 0 where
+  pub served : Served digest before after reader reader'
+  pub stopped : StopsReading answer served.rest reader'
+  pub written : WritesAnswers answer reader reader' writer writer' served.run

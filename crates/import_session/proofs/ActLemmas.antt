@@ -27,9 +27,9 @@ use Rattle.import_session.specs.Meaning.{after_act}
 use Rattle.import_session.specs.Objects.{blob_stored}
 use Rattle.stream_state.specs.Printing.{Shows}
 use Rattle.import_session.specs.Printing.{prints}
-use Rattle.import_session.specs.Session.{StreamState, workspace_in, CarriesOut, ReadsItem, Takes}
+use Rattle.import_session.specs.Session.{StreamState, marked, workspace_in, CarriesOut, ReadsItem, Takes}
 use Rattle.import_session.proofs.CommitLemmas.{carries_refused, memory_or}
-use Rattle.import_session.proofs.HeldLemmas.{commit_same}
+use Rattle.import_session.proofs.HeldLemmas.{command_same}
 
 -- the step that an effect makes
 abbrev pub stepped : Effect → Parsing → Bool → Step
@@ -214,9 +214,9 @@ pub blob_carried : (digest : List ℕ → List ℕ) (content : Content) (mark : 
     (out : List ℕ) → room_for before mark ≡ Ok tt → IsStored digest content p t q v id
     → after ≡ with_mark before mark id → FilesStand state p t
     → CarriesOut (blob_stored digest mark content
-    (workspace_in (record state { marks = before }) p t refs))
-    (workspace_in (record state { marks = after }) q v refs) out out (Ok tt)
+    (workspace_in (marked state before) p t refs))
+    (workspace_in (marked state after) q v refs) out out (Ok tt)
 blob_carried digest content mark id state before after p t q v refs out room stored marked holds =
-    let same = commit_same digest content (objects p t.entries) (objects q v.entries) stored.objects
-    state.commit holds.commit in
+    let same = command_same digest content (objects p t.entries) (objects q v.entries) stored.objects
+    state.stream.command holds.command in
     rw (room, stored.objects) (rw (marked, stored.name, stored.committed, same) refl, search rules)

@@ -53,30 +53,32 @@ headed_refs store (Some ref) = refl
 
 -- a checkpoint is carried out where the refs then are few enough
 few_saved : (b : Bool) (w left : Workspace) (out out' : List ℕ) → b ≡ true → checkpointed w ≡ left
-    → out' ≡ out ++ kept_lines w w.branches
+    → out' ≡ out ++ kept_lines w w.stream.branches
     → CarriesOut (cond b
-    (Ok (record { workspace = checkpointed w; reply = kept_lines w w.branches }))
+    (Ok (record { workspace = checkpointed w; reply = kept_lines w w.stream.branches }))
     (Err fault.Limit)) left out out' (Ok tt)
 few_saved b w left out out' few same printed = rw few (same, printed)
 
 pub well_saved : (state : StreamState) (head : Option (List ℕ)) (tags : PendingTags) (pool : Cells)
     (table new : View) (refs saved left : RefStore) (out out' : List ℕ)
     → let w = workspace_in state pool table refs in
-    saved ≡ by_tags (by_branches w refs state.branches) state.tags
+    saved ≡ by_tags (by_branches w refs state.stream.branches) state.stream.tags
     → length (listed_refs saved) ≤ refs_limit
-    → left ≡ by_head saved state.head → head ≡ None → tags ≡ []
+    → left ≡ by_head saved state.stream.head → head ≡ None → tags ≡ []
     → new ≡ record table { committed = length table.entries }
-    → out' ≡ out ++ kept_lines w state.branches
+    → out' ≡ out ++ kept_lines w state.stream.branches
     → CarriesOut (checkpoint w)
-    (workspace_in (record state { head = head; tags = tags }) pool new left) out out' (Ok tt)
+    (workspace_in (record state { stream = record state.stream { head = head; tags = tags } })
+    pool new left) out out' (Ok tt)
 well_saved state head tags pool table new refs saved left out out' is few headed none empty committed
     printed =
     let w = workspace_in state pool table refs in
-    let same : left ≡ saved_refs w = headed ∙ ap (λ (s : RefStore). by_head s state.head) is in
-    few_saved _ w (workspace_in (record state { head = head; tags = tags }) pool new left) out out'
+    let same : left ≡ saved_refs w = headed ∙ ap (λ (s : RefStore). by_head s state.stream.head) is in
+    few_saved _ w (workspace_in (record state { stream = record state.stream { head = head; tags = tags } })
+    pool new left) out out'
     (le-leb _ _ (subst (λ (s : RefStore). length (listed_refs s) ≤ refs_limit) same
     (subst (λ (s : RefStore). length (listed_refs s) ≤ refs_limit) (sym headed)
     (subst (λ (l : List (List ℕ × List ℕ)). length l ≤ refs_limit)
-    (sym (headed_refs saved state.head)) few))))
+    (sym (headed_refs saved state.stream.head)) few))))
     (rw (same, none, empty, committed, length-objects pool table.entries) refl)
     printed

@@ -1,7 +1,6 @@
 -- What changes of the open commit, and its message, leave of a workspace.
-use Rattle.std.proofs.Common.{◌≡◌, ◌≢◌, ◌⊎◌, inl, inr, ℕ, List, [], ◌∷◌, Option, None, Some, Result, Ok, Err, refl, sym, ap, subst, ◌∙◌, rules}
+use Rattle.std.proofs.Common.{◌≡◌, ◌≢◌, ◌⊎◌, inl, inr, ℕ, List, [], ◌∷◌, Option, None, Some, Result, Ok, Err, refl, sym, ap, subst, rules}
 use Rattle.std.specs.Prelude.{MatchResult, OnOk}
-use Rattle.std.specs.Option.{option_map}
 use Rattle.git_model.specs.RefStore.{RefStore}
 use Rattle.git_model.specs.Repository.{Object}
 use Rattle.content_pool.specs.Pool.{Cells}
@@ -16,20 +15,21 @@ use Rattle.open_commits.specs.declared.fault.Fault.TheVariants as commit_fault
 use Rattle.open_commits.specs.declared.open_commit.OpenCommit.{OpenCommit as LentCommit}
 use Rattle.open_commits.specs.Calls.{Changes}
 use Rattle.open_commits.specs.Parents.{changed_to, started_from}
-use Rattle.open_commits.specs.OpenCommit.{Header, HeldCommit, IsCommitHeld, OpenCommit, begun, begun_on, commit_held, commit_in, shown_in}
+use Rattle.open_commits.specs.OpenCommit.{Header, HeldCommit, OpenCommit, begun, begun_on, commit_held, commit_in, shown_in}
 use Rattle.stream_state.specs.declared.fault.Fault.{Fault}
 use Rattle.stream_state.specs.declared.fault.Fault.TheVariants as fault
-use Rattle.stream_state.specs.declared.command_header.CommandHeader.{CommandHeader}
+use Rattle.stream_state.specs.declared.headers.CommitHeader.{CommitHeader}
+use Rattle.stream_state.specs.declared.headers.InlineFile.{InlineFile}
+use Rattle.stream_state.specs.OpenCommand.{OpenCommand, Inline, changes_in, command_with}
+use Rattle.stream_state.specs.OpenCommand as open_command
 use Rattle.stream_state.specs.Faults.{and_then}
 use Rattle.import_session.specs.Faults.{changed_or}
 use Rattle.stream_state.specs.Branches.{Branches, branch_set, tip_for}
-use Rattle.import_session.specs.Workspace.{Effect, Workspace, quiet}
-use Rattle.import_session.specs.Lines.{in_commit, now_open}
-use Rattle.import_session.specs.Held.{HoldsFiles}
+use Rattle.import_session.specs.Workspace.{Effect, Workspace, quiet, with_command}
+use Rattle.import_session.specs.Lines.{in_changes}
 use Rattle.import_session.specs.Commits.{begun_from, commit_opened, header_said, opened_at, opened_with, started_or_cleared}
-use Rattle.import_session.specs.Session.{StreamState, workspace_in, CarriesOut, Leaves}
+use Rattle.import_session.specs.Session.{StreamState, branched, state_with, workspace_in, CarriesOut, Leaves}
 use Rattle.import_session.specs.Sound.{IsSound}
-use Rattle.import_session.proofs.HeldLemmas.{files_kept}
 
 -- ---- a commit is looked up, and then the open commit changes
 
@@ -78,48 +78,65 @@ carries_refused (Err refusal) new out out' f refused = λ other. let is = refuse
 
 -- ---- the open commit changes
 
+-- no commit after its message is one whatever it is held as
+no_changes_with : {Held Other : Type 0} (to : Held → Other) (command : OpenCommand Held)
+    (f : Fault) → changes_in command ≡ Err f → changes_in (command_with to command) ≡ Err f
+no_changes_with to (open_command.Changes held) f is = absurd (cc is)
+no_changes_with to open_command.Nothing f is = cc
+no_changes_with to (open_command.Commit header) f is = cc
+no_changes_with to (open_command.Tag header) f is = cc
+no_changes_with to (open_command.Reset ref) f is = cc
+no_changes_with to (open_command.Inline held file) f is = cc
+
+-- a line whose commit is not open
+pub not_changing : (state : StreamState) (new : Workspace) (p : Cells) (t : View) (refs : RefStore)
+    (later : OpenCommit → Result Effect Fault) (out : List ℕ) (e f : Fault) → f ≡ e
+    → changes_in state.stream.command ≡ Err e
+    → CarriesOut
+    (and_then (changes_in (workspace_in state p t refs).stream.command) later) new out out (Err f)
+not_changing state new p t refs later out e f same none =
+    carries_refused
+    (and_then (changes_in (workspace_in state p t refs).stream.command) later) new out out f
+    (λ other.
+    rw (no_changes_with (commit_in (objects p t.entries)) state.stream.command e none, same) refl)
+
 -- what a change leaves
 changed_open : (workspace : Workspace) (change : OpenCommit → Result OpenCommit Fault)
     (commit next : OpenCommit) (out : List ℕ) (result : Result Unit Fault)
-    → workspace.commit ≡ Some commit → Leaves (change commit) next result
-    → CarriesOut (in_commit change workspace) (record workspace { commit = Some next }) out out result
+    → workspace.stream.command ≡ open_command.Changes commit → Leaves (change commit) next result
+    → CarriesOut (in_changes change workspace) (with_command workspace (open_command.Changes next)) out out result
 changed_open workspace change commit next out (Ok u) held_is is =
     rw (held_is, is) (refl, search rules)
 changed_open workspace change commit next out (Err f) held_is refused =
-    carries_refused (in_commit change workspace) (record workspace { commit = Some next })
+    carries_refused (in_changes change workspace) (with_command workspace (open_command.Changes next))
     out out f (λ other. rw (held_is, refused other) refl)
 
 -- the same of a session that takes its commit out, and puts it back when it was changed
 pub put_back : (state left : StreamState) (p : Cells) (t : View) (refs : RefStore)
-    (change : OpenCommit → Result OpenCommit Fault) (held : Option LentCommit)
+    (change : OpenCommit → Result OpenCommit Fault)
     (commit next : LentCommit) (out : List ℕ) (result : Result Unit Fault)
-    → held ≡ Some commit → state.commit ≡ option_map commit_held held
-    → left ≡ record state { commit = Some (commit_held next) }
+    → state.stream.command ≡ open_command.Changes (commit_held commit)
+    → left ≡ state_with state (open_command.Changes (commit_held next))
     → Leaves (change (shown_in (objects p t.entries) commit)) (shown_in (objects p t.entries) next)
     result
-    → CarriesOut (in_commit change (workspace_in state p t refs)) (workspace_in left p t refs) out
+    → CarriesOut (in_changes change (workspace_in state p t refs)) (workspace_in left p t refs) out
     out result
-put_back state left p t refs change held commit next out result is commit_is left_is changed =
-    subst (λ (s : StreamState). CarriesOut (in_commit change (workspace_in state p t refs))
+put_back state left p t refs change commit next out result is left_is changed =
+    subst (λ (s : StreamState). CarriesOut (in_changes change (workspace_in state p t refs))
     (workspace_in s p t refs) out out result) (sym left_is)
     (changed_open (workspace_in state p t refs) change (shown_in (objects p t.entries) commit)
     (shown_in (objects p t.entries) next) out result
-    (ap (λ (c : Option HeldCommit). option_map (commit_in (objects p t.entries)) c)
-    (commit_is ∙ ap (λ (c : Option LentCommit). option_map commit_held c) is)) changed)
+    (ap (λ (c : OpenCommand HeldCommit). command_with (commit_in (objects p t.entries)) c) is) changed)
 
--- its files are held where the change was carried out
-pub held_back : (os : List Object) (state left : StreamState) (next : LentCommit)
-    (r : Result Unit CommitFault) → left ≡ record state { commit = Some (commit_held next) }
-    → HoldsFiles os state → (r ≢ Err commit_fault.Memory → IsCommitHeld os next)
-    → OnOk (changed_or r) (HoldsFiles os left)
-held_back os state left next (Ok u) left_is holds stands =
-    files_kept os (record state { commit = Some (commit_held next) }) left
-    (record {
-      commit = ap (λ (s : StreamState). s.commit) left_is;
-      left = ap (λ (s : StreamState). s.left) left_is;
-    })
-    (record { commit = stands (λ is. absurd (cc is)); left = holds.left })
-held_back os state left next (Err e) left_is holds stands = tt
+-- a file of it waits for its data
+pub file_waits : (state : StreamState) (p : Cells) (t : View) (refs : RefStore)
+    (commit : HeldCommit) (file : InlineFile) (out : List ℕ)
+    → state.stream.command ≡ open_command.Changes commit
+    → CarriesOut (and_then (changes_in (workspace_in state p t refs).stream.command)
+    (λ commit. quiet (with_command (workspace_in state p t refs) (Inline commit file))))
+    (workspace_in (state_with state (Inline commit file)) p t refs) out out (Ok tt)
+file_waits state p t refs commit file out is =
+    rw is (refl, search rules)
 
 -- ---- a commit opens
 
@@ -152,15 +169,16 @@ begun_refused wanted started e f same is refused other =
 
 pub opened_by : (workspace : Workspace) (stood first : Option (List ℕ)) (new : OpenCommit)
     (branches : Branches) (result : Result LentCommit Fault) → stood ≡ first
-    → branch_set workspace.branches new.header.ref (tip_for first) ≡ Ok branches
+    → branch_set workspace.stream.branches new.header.ref (tip_for first) ≡ Ok branches
     → MatchResult result
     (λ commit. begun_from workspace.objects stood new ≡ Ok (shown_in workspace.objects commit))
     (λ f. f ≢ fault.Memory → begun_from workspace.objects stood new ≡ Err f)
     → MatchResult result
     (λ commit. opened_at workspace first new ≡ quiet (record workspace {
-      branches = branches;
-      said = None;
-      commit = Some (shown_in workspace.objects commit);
+      stream = record workspace.stream {
+        branches = branches;
+        command = open_command.Changes (shown_in workspace.objects commit);
+      };
     }))
     (λ f. f ≢ fault.Memory → opened_at workspace first new ≡ Err f)
 opened_by workspace stood first new branches (Ok commit) same set is =
@@ -168,10 +186,11 @@ opened_by workspace stood first new branches (Ok commit) same set is =
 opened_by workspace stood first new branches (Err f) same set refused =
     λ other. rw (set, ← same, refused other) refl
 
--- what the lines before the message said is done with
-pub without_said : (digest : List ℕ → List ℕ) (workspace : Workspace) (said : Option CommandHeader)
-    → said ≡ None → IsSound digest workspace → IsSound digest (record workspace { said = said })
-without_said digest workspace said none sound = record {
+-- the header is taken out
+pub without_command : (digest : List ℕ → List ℕ) (workspace : Workspace)
+    (command : OpenCommand OpenCommit) → command ≡ open_command.Nothing → IsSound digest workspace
+    → IsSound digest (with_command workspace command)
+without_command digest workspace command none sound = record {
   objects = sound.objects;
   trees = sound.trees;
   refs = sound.refs;
@@ -179,34 +198,26 @@ without_said digest workspace said none sound = record {
   marks = sound.marks;
   branches = sound.branches;
   tags = sound.tags;
-  said = rw none tt;
-  commit = sound.commit;
-  inline = sound.inline;
+  command = rw none tt;
 }
 
 pub opened_refused : (workspace new : Workspace) (mark : Option ℕ) (message : List ℕ)
-    (held : Option CommandHeader) (said : CommandHeader) (header : Header) (e f : Fault) (out : List ℕ)
-    → held ≡ Some said → f ≡ e → header_said mark said ≡ Ok header
+    (said : CommitHeader) (header : Header) (e f : Fault) (out : List ℕ)
+    → f ≡ e → header_said mark said ≡ Ok header
     → (e ≢ fault.Memory → opened_with workspace message header ≡ Err e)
-    → CarriesOut (and_then (now_open held) (λ said. commit_opened mark message said workspace)) new out out (Err f)
-opened_refused workspace new mark message held said header e f out held_is same told refused =
-    carries_refused (and_then (now_open held) (λ said. commit_opened mark message said workspace)) new out out f
-    (λ other. rw (held_is, told, same, refused (rw same at other)) refl)
+    → CarriesOut (commit_opened mark message said workspace) new out out (Err f)
+opened_refused workspace new mark message said header e f out same told refused =
+    carries_refused (commit_opened mark message said workspace) new out out f
+    (λ other. rw (told, same, refused (rw same at other)) refl)
 
 pub opened_well : (state left : StreamState) (pool : Cells) (table : View) (refs : RefStore)
-    (branches : Branches) (mark : Option ℕ) (message : List ℕ) (held spent : Option CommandHeader)
-    (said : CommandHeader) (header : Header) (next : HeldCommit) (out : List ℕ)
-    → held ≡ Some said → spent ≡ None → header_said mark said ≡ Ok header
+    (branches : Branches) (spent : OpenCommand HeldCommit) (mark : Option ℕ) (message : List ℕ)
+    (said : CommitHeader) (header : Header) (next : HeldCommit) (out : List ℕ)
+    → header_said mark said ≡ Ok header
     → opened_with (workspace_in state pool table refs) message header
-    ≡ quiet (workspace_in (record state {
-      branches = branches;
-      said = None;
-      commit = Some next;
-    }) pool table refs)
-    → left ≡ record state { branches = branches; said = spent; left = None }
-    → CarriesOut (and_then (now_open held) (λ said.
-    commit_opened mark message said (workspace_in state pool table refs)))
-    (workspace_in (record left { commit = Some next }) pool table refs) out out (Ok tt)
-opened_well state left pool table refs branches mark message held spent said header next out held_is
-    none told opens left_is =
-    rw (held_is, told, opens) (rw (left_is, none) refl, search rules)
+    ≡ quiet (workspace_in (state_with (branched state branches) (open_command.Changes next)) pool table refs)
+    → left ≡ record (state_with (branched state branches) spent) { left = None }
+    → CarriesOut (commit_opened mark message said (workspace_in state pool table refs))
+    (workspace_in (state_with left (open_command.Changes next)) pool table refs) out out (Ok tt)
+opened_well state left pool table refs branches spent mark message said header next out told opens left_is =
+    rw (told, opens) (rw left_is refl, search rules)

@@ -1,17 +1,27 @@
 -- No act comes where its command is not open.
-use Rattle.std.proofs.Common.{◌≡◌, ◌≢◌, ℕ, Bool, true, false, ◌&&◌, ◌||◌, not, List, [], ◌∷◌, Option, Some, None, Result, Ok, Err, refl, sym, subst, ◌∙◌, ◌++◌, nat_le, length, codes}
+use Rattle.std.proofs.Common.{◌≡◌, ◌≢◌, ℕ, Bool, true, false, ◌&&◌, ◌||◌, not, List, [], ◌∷◌, Option, Some, None, Result, Ok, Err, refl, sym, subst, ◌∙◌}
 use Rattle.std.specs.Prelude.{IfOk}
 use Rattle.std.proofs.lemmas.Bool.{cond-true, false≢true}
 use Rattle.git_model.specs.Repository.{Repository, object_named}
 use Rattle.stream_lex.specs.Items.{Item, Line, Data, Blank}
 use Rattle.stream_grammar.specs.declared.fault.Fault.{Fault as TextFault}
-use Rattle.stream_grammar.specs.declared.feature.Setting.{Setting}
-use Rattle.stream_grammar.specs.declared.feature.Setting.TheVariants as setting
+use Rattle.stream_grammar.specs.declared.feature.OptionCommand.{OptionCommand}
+use Rattle.stream_grammar.specs.declared.feature.OptionCommand.TheVariants as option
 use Rattle.stream_grammar.specs.declared.part.Part.{Part}
 use Rattle.stream_grammar.specs.declared.part.Part.TheVariants as part
+use Rattle.stream_grammar.specs.declared.part.OpeningLine.TheVariants as opening_line
+use Rattle.stream_grammar.specs.declared.part.ReplyLine.{ReplyLine}
+use Rattle.stream_grammar.specs.declared.part.ReplyLine.TheVariants as reply_line
+use Rattle.stream_grammar.specs.declared.part.ControlLine.{ControlLine}
+use Rattle.stream_grammar.specs.declared.part.ControlLine.TheVariants as control_line
+use Rattle.stream_grammar.specs.declared.part.HeaderLine.TheVariants as header_line
+use Rattle.stream_grammar.specs.declared.part.CommitIshLine.TheVariants as commit_ish_line
+use Rattle.stream_grammar.specs.declared.part.ChangeLine.TheVariants as change_line
 use Rattle.stream_grammar.specs.declared.stage.BlobNext.TheVariants as blob
+use Rattle.stream_grammar.specs.declared.stage.CommitNext.{CommitNext}
 use Rattle.stream_grammar.specs.declared.stage.CommitNext.TheVariants as commit
 use Rattle.stream_grammar.specs.declared.stage.ChangeNext.TheVariants as change
+use Rattle.stream_grammar.specs.declared.stage.TagNext.{TagNext}
 use Rattle.stream_grammar.specs.declared.stage.TagNext.TheVariants as tag
 use Rattle.stream_grammar.specs.declared.stage.ResetNext.TheVariants as reset
 use Rattle.stream_grammar.specs.declared.stage.AliasNext.TheVariants as alias
@@ -22,11 +32,11 @@ use Rattle.stream_grammar.specs.declared.stage.Opened.TheVariants as opened
 use Rattle.stream_grammar.specs.Acts.{Act, Wait, Change, Ref, Reply, Effect as Given, brings}
 use Rattle.stream_grammar.specs.Acts.{Modify, ModifyInline, Delete, Copy, Rename, ResetFrom, Alias, CatBlob, Ls, LsInCommit}
 use Rattle.stream_grammar.specs.Acts as acts
-use Rattle.stream_grammar.specs.Changes.{modified, modified_inline, object_and_path, path_of, paths_of, encoding_of, is_quoted}
+use Rattle.stream_grammar.specs.Changes.{last_path, modified, modified_inline, object_and_path, paths_of, encoding_of, is_quoted}
 use Rattle.stream_grammar.specs.Commands.{Done, Open, Parsing, Step as Parsed, after, done_by, done_of, goes_on, is_commit, next_of, opened_after, opened_by, opens, step as parsed, step_by, step_outside}
-use Rattle.stream_grammar.specs.Features.{feature_of, in_time, quiet_of, head_of, setting_of}
+use Rattle.stream_grammar.specs.Features.{feature_of, in_time, quiet_of, head_of, option_of}
 use Rattle.stream_grammar.specs.Grammar.{Term, fit, Fit, Stands, Ends, Misses, is_empty, production_of}
-use Rattle.stream_grammar.specs.Lines.{alias_act, branch_entry_act, control_act, data_act, first_act, inner_effect, line_effect, option_act, single_act}
+use Rattle.stream_grammar.specs.Lines.{alias_act, control_act, data_act, first_act, inner_effect, line_effect, ls_act, option_act, reply_act}
 use Rattle.stream_grammar.specs.Names.{CommitIsh, commit_ish_of, ident_of, ref_of, tag_ref_of}
 use Rattle.stream_grammar.specs.Parts.{first_fit, fits, is_early, is_inline, part_by_word, part_of, part_of_line, with_inline, words}
 use Rattle.stream_grammar.specs.Stages.{opened_of, terms_of}
@@ -37,18 +47,19 @@ use Rattle.open_commits.specs.Changes.{all_deleted, contents_put, copied_to, del
 use Rattle.open_commits.specs.Showing.{entry_shown as commit_entry_shown}
 use Rattle.stream_state.specs.declared.branches.Tip.TheVariants.{Unborn}
 use Rattle.stream_state.specs.declared.fault.Fault.{Fault}
-use Rattle.stream_state.specs.declared.command_header.CommandHeader.{CommandHeader}
+use Rattle.stream_state.specs.declared.headers.CommitHeader.{CommitHeader}
+use Rattle.stream_state.specs.declared.headers.InlineFile.{InlineFile}
+use Rattle.stream_state.specs.OpenCommand.{OpenCommand, changes_in, commit_header_in, inline_in, tag_header_in}
+use Rattle.stream_state.specs.OpenCommand as open_command
 use Rattle.stream_state.specs.Branches.{branch_set, tip_commit, tip_for}
 use Rattle.stream_state.specs.Faults.{and_then, text_first}
-use Rattle.git_names.specs.StoredName.{names_ref}
-use Rattle.stream_state.specs.Tags.{is_tag_ref}
 use Rattle.stream_state.specs.Marks.{referred_name}
 use Rattle.stream_state.specs.Printing.{shown_object}
 use Rattle.stream_state.specs.Showing.{entry_shown}
 use Rattle.import_session.specs.CommitIshes.{ref_in}
 use Rattle.import_session.specs.Faults.{changed_or}
-use Rattle.import_session.specs.Workspace.{Effect, Workspace, opened as opened_on, quiet}
-use Rattle.import_session.specs.Lines.{in_commit, in_header, now_open}
+use Rattle.import_session.specs.Workspace.{Effect, Workspace, opened as opened_on, quiet, with_command}
+use Rattle.import_session.specs.Lines.{in_changes, in_commit_header, in_tag_header}
 use Rattle.import_session.specs.Objects.{object_stored}
 use Rattle.import_session.specs.Commits.{begun_from, closed_where, commit_merged, commit_opened, commit_said, commit_started, header_said}
 use Rattle.import_session.specs.Changes.{file_stored, files_changed}
@@ -57,68 +68,68 @@ use Rattle.import_session.specs.Replies.{replied}
 use Rattle.import_session.specs.Meaning.{after_act}
 use Rattle.import_session.specs.Stream.{Running, Step, begun, is_finish, step, taken as taken_by}
 use Rattle.import_session.proofs.ActLemmas.{step_running}
-use Rattle.import_session.specs.Fitting.{Fits, HasCommitter, IsAtStage, IsTag, IsInStep, IsOpenAt, IsThere}
+use Rattle.import_session.specs.Fitting.{Fits, HasCommitter, HasTarget, IsAtStage, IsChanging, IsCommit, IsCommitBefore, IsInStep, IsInline, IsOpenAt, IsReset, IsTag, IsTagBefore}
 
 -- ---- the stage after a part
 
 -- the stage after a part that stands; where it stands nowhere, any stage with terms
 abbrev next : Part → Stage → Stage
-next part.Mark (stage.Blob _) = stage.Blob blob.OriginalOid
-next part.Mark (stage.Commit _) = stage.Commit commit.OriginalOid
-next part.Mark (stage.Tag _) = stage.Tag tag.From
-next part.Mark (stage.Alias _) = stage.Alias alias.To
-next part.OriginalOid (stage.Blob _) = stage.Blob blob.Data
-next part.OriginalOid (stage.Commit _) = stage.Commit commit.Author
-next part.OriginalOid (stage.Tag _) = stage.Tag tag.Tagger
-next part.Author _ = stage.Commit commit.Committer
-next part.Committer _ = stage.Commit commit.Encoding
-next part.Encoding _ = stage.Commit commit.Data
+next (part.Header header_line.Mark) (stage.Blob _) = stage.Blob blob.OriginalOid
+next (part.Header header_line.Mark) (stage.Commit _) = stage.Commit commit.OriginalOid
+next (part.Header header_line.Mark) (stage.Tag _) = stage.Tag tag.From
+next (part.Header header_line.Mark) (stage.Alias _) = stage.Alias alias.To
+next (part.Header header_line.OriginalOid) (stage.Blob _) = stage.Blob blob.Data
+next (part.Header header_line.OriginalOid) (stage.Commit _) = stage.Commit commit.Author
+next (part.Header header_line.OriginalOid) (stage.Tag _) = stage.Tag tag.Tagger
+next (part.Header header_line.Author) _ = stage.Commit commit.Committer
+next (part.Header header_line.Committer) _ = stage.Commit commit.Encoding
+next (part.Header header_line.Encoding) _ = stage.Commit commit.Data
 next part.Data (stage.Blob _) = stage.Top
 next part.Data (stage.Commit _) = stage.Changes change.From
 next part.Data stage.Inline = stage.Changes change.Change
 next part.Data (stage.Tag _) = stage.Top
-next part.From (stage.Changes _) = stage.Changes change.Merge
-next part.From (stage.Tag _) = stage.Tag tag.OriginalOid
-next part.From (stage.Reset _) = stage.Reset reset.Blank
-next part.Merge _ = stage.Changes change.Merge
-next part.Tagger _ = stage.Tag tag.Data
-next part.To (stage.Alias _) = stage.Top
-next part.ModifyInline _ = stage.Inline
+next (part.CommitIsh commit_ish_line.From) (stage.Changes _) = stage.Changes change.Merge
+next (part.CommitIsh commit_ish_line.From) (stage.Tag _) = stage.Tag tag.OriginalOid
+next (part.CommitIsh commit_ish_line.From) (stage.Reset _) = stage.Reset reset.Blank
+next (part.CommitIsh commit_ish_line.Merge) _ = stage.Changes change.Merge
+next (part.Header header_line.Tagger) _ = stage.Tag tag.Data
+next (part.CommitIsh commit_ish_line.To) (stage.Alias _) = stage.Top
+next (part.Change change_line.ModifyInline) _ = stage.Inline
 next part.Blank _ = stage.Top
 next _ _ = stage.Changes change.Change
 
 -- the parts of each command
 abbrev belongs : Opened → Part → Bool
-belongs opened.Blob part.Mark = true
-belongs opened.Blob part.OriginalOid = true
+belongs opened.Blob (part.Header header_line.Mark) = true
+belongs opened.Blob (part.Header header_line.OriginalOid) = true
 belongs opened.Blob part.Data = true
-belongs opened.Commit part.Mark = true
-belongs opened.Commit part.OriginalOid = true
-belongs opened.Commit part.Author = true
-belongs opened.Commit part.Committer = true
-belongs opened.Commit part.Encoding = true
+belongs opened.Commit (part.Header header_line.Mark) = true
+belongs opened.Commit (part.Header header_line.OriginalOid) = true
+belongs opened.Commit (part.Header header_line.Author) = true
+belongs opened.Commit (part.Header header_line.Committer) = true
+belongs opened.Commit (part.Header header_line.Encoding) = true
 belongs opened.Commit part.Data = true
-belongs opened.Changes part.From = true
-belongs opened.Changes part.Merge = true
-belongs opened.Changes part.Modify = true
-belongs opened.Changes part.ModifyInline = true
-belongs opened.Changes part.Delete = true
-belongs opened.Changes part.Copy = true
-belongs opened.Changes part.Rename = true
-belongs opened.Changes part.DeleteAll = true
-belongs opened.Changes part.CatBlob = true
-belongs opened.Changes part.Ls = true
+belongs opened.Changes (part.CommitIsh commit_ish_line.From) = true
+belongs opened.Changes (part.CommitIsh commit_ish_line.Merge) = true
+belongs opened.Changes (part.Change change_line.Modify) = true
+belongs opened.Changes (part.Change change_line.ModifyInline) = true
+belongs opened.Changes (part.Change change_line.Delete) = true
+belongs opened.Changes (part.Change change_line.Copy) = true
+belongs opened.Changes (part.Change change_line.Rename) = true
+belongs opened.Changes (part.Change change_line.DeleteAll) = true
+belongs opened.Changes (part.Reply reply_line.CatBlob) = true
+belongs opened.Changes (part.Reply reply_line.Ls) = true
 belongs opened.Changes part.Blank = true
 belongs opened.Inline part.Data = true
-belongs opened.Tag part.Mark = true
-belongs opened.Tag part.OriginalOid = true
-belongs opened.Tag part.From = true
-belongs opened.Tag part.Tagger = true
+belongs opened.Tag (part.Header header_line.Mark) = true
+belongs opened.Tag (part.Header header_line.OriginalOid) = true
+belongs opened.Tag (part.CommitIsh commit_ish_line.From) = true
+belongs opened.Tag (part.Header header_line.Tagger) = true
 belongs opened.Tag part.Data = true
-belongs opened.Reset part.From = true
+belongs opened.Reset (part.CommitIsh commit_ish_line.From) = true
 belongs opened.Reset part.Blank = true
-belongs opened.Alias part.Mark = true
-belongs opened.Alias part.To = true
+belongs opened.Alias (part.Header header_line.Mark) = true
+belongs opened.Alias (part.CommitIsh commit_ish_line.To) = true
 belongs _ _ = false
 
 -- what stands belongs to the open command, and leaves the terms of the next stage
@@ -139,42 +150,42 @@ misses_not left is = absurd (cc is)
 moves : (at : Stage) (taken : Part) (left : List Term) → fit taken (terms_of at) ≡ Stands left
     → Moves taken at left
 moves stage.Top _ left is = ends_not left is
-moves (stage.Blob blob.Mark) part.Mark left is = record { own = refl; terms = left_is _ left is; kind = refl }
-moves (stage.Blob blob.Mark) part.OriginalOid left is = record { own = refl; terms = left_is _ left is; kind = refl }
+moves (stage.Blob blob.Mark) (part.Header header_line.Mark) left is = record { own = refl; terms = left_is _ left is; kind = refl }
+moves (stage.Blob blob.Mark) (part.Header header_line.OriginalOid) left is = record { own = refl; terms = left_is _ left is; kind = refl }
 moves (stage.Blob blob.Mark) part.Data left is = record { own = refl; terms = left_is _ left is; kind = refl }
 moves (stage.Blob blob.Mark) _ left is = misses_not left is
-moves (stage.Blob blob.OriginalOid) part.OriginalOid left is =
+moves (stage.Blob blob.OriginalOid) (part.Header header_line.OriginalOid) left is =
     record { own = refl; terms = left_is _ left is; kind = refl }
 moves (stage.Blob blob.OriginalOid) part.Data left is =
     record { own = refl; terms = left_is _ left is; kind = refl }
 moves (stage.Blob blob.OriginalOid) _ left is = misses_not left is
 moves (stage.Blob blob.Data) part.Data left is = record { own = refl; terms = left_is _ left is; kind = refl }
 moves (stage.Blob blob.Data) _ left is = misses_not left is
-moves (stage.Commit commit.Mark) part.Mark left is =
+moves (stage.Commit commit.Mark) (part.Header header_line.Mark) left is =
     record { own = refl; terms = left_is _ left is; kind = refl }
-moves (stage.Commit commit.Mark) part.OriginalOid left is =
+moves (stage.Commit commit.Mark) (part.Header header_line.OriginalOid) left is =
     record { own = refl; terms = left_is _ left is; kind = refl }
-moves (stage.Commit commit.Mark) part.Author left is =
+moves (stage.Commit commit.Mark) (part.Header header_line.Author) left is =
     record { own = refl; terms = left_is _ left is; kind = refl }
-moves (stage.Commit commit.Mark) part.Committer left is =
+moves (stage.Commit commit.Mark) (part.Header header_line.Committer) left is =
     record { own = refl; terms = left_is _ left is; kind = refl }
 moves (stage.Commit commit.Mark) _ left is = misses_not left is
-moves (stage.Commit commit.OriginalOid) part.OriginalOid left is =
+moves (stage.Commit commit.OriginalOid) (part.Header header_line.OriginalOid) left is =
     record { own = refl; terms = left_is _ left is; kind = refl }
-moves (stage.Commit commit.OriginalOid) part.Author left is =
+moves (stage.Commit commit.OriginalOid) (part.Header header_line.Author) left is =
     record { own = refl; terms = left_is _ left is; kind = refl }
-moves (stage.Commit commit.OriginalOid) part.Committer left is =
+moves (stage.Commit commit.OriginalOid) (part.Header header_line.Committer) left is =
     record { own = refl; terms = left_is _ left is; kind = refl }
 moves (stage.Commit commit.OriginalOid) _ left is = misses_not left is
-moves (stage.Commit commit.Author) part.Author left is =
+moves (stage.Commit commit.Author) (part.Header header_line.Author) left is =
     record { own = refl; terms = left_is _ left is; kind = refl }
-moves (stage.Commit commit.Author) part.Committer left is =
+moves (stage.Commit commit.Author) (part.Header header_line.Committer) left is =
     record { own = refl; terms = left_is _ left is; kind = refl }
 moves (stage.Commit commit.Author) _ left is = misses_not left is
-moves (stage.Commit commit.Committer) part.Committer left is =
+moves (stage.Commit commit.Committer) (part.Header header_line.Committer) left is =
     record { own = refl; terms = left_is _ left is; kind = refl }
 moves (stage.Commit commit.Committer) _ left is = misses_not left is
-moves (stage.Commit commit.Encoding) part.Encoding left is =
+moves (stage.Commit commit.Encoding) (part.Header header_line.Encoding) left is =
     record { own = refl; terms = left_is _ left is; kind = refl }
 moves (stage.Commit commit.Encoding) part.Data left is =
     record { own = refl; terms = left_is _ left is; kind = refl }
@@ -182,114 +193,114 @@ moves (stage.Commit commit.Encoding) _ left is = misses_not left is
 moves (stage.Commit commit.Data) part.Data left is =
     record { own = refl; terms = left_is _ left is; kind = refl }
 moves (stage.Commit commit.Data) _ left is = misses_not left is
-moves (stage.Changes change.From) part.From left is =
+moves (stage.Changes change.From) (part.CommitIsh commit_ish_line.From) left is =
     record { own = refl; terms = left_is _ left is; kind = refl }
-moves (stage.Changes change.From) part.Merge left is =
+moves (stage.Changes change.From) (part.CommitIsh commit_ish_line.Merge) left is =
     record { own = refl; terms = left_is _ left is; kind = refl }
-moves (stage.Changes change.From) part.Modify left is =
+moves (stage.Changes change.From) (part.Change change_line.Modify) left is =
     record { own = refl; terms = left_is _ left is; kind = refl }
-moves (stage.Changes change.From) part.ModifyInline left is =
+moves (stage.Changes change.From) (part.Change change_line.ModifyInline) left is =
     record { own = refl; terms = left_is _ left is; kind = refl }
-moves (stage.Changes change.From) part.Delete left is =
+moves (stage.Changes change.From) (part.Change change_line.Delete) left is =
     record { own = refl; terms = left_is _ left is; kind = refl }
-moves (stage.Changes change.From) part.Copy left is =
+moves (stage.Changes change.From) (part.Change change_line.Copy) left is =
     record { own = refl; terms = left_is _ left is; kind = refl }
-moves (stage.Changes change.From) part.Rename left is =
+moves (stage.Changes change.From) (part.Change change_line.Rename) left is =
     record { own = refl; terms = left_is _ left is; kind = refl }
-moves (stage.Changes change.From) part.DeleteAll left is =
+moves (stage.Changes change.From) (part.Change change_line.DeleteAll) left is =
     record { own = refl; terms = left_is _ left is; kind = refl }
-moves (stage.Changes change.From) part.CatBlob left is =
+moves (stage.Changes change.From) (part.Reply reply_line.CatBlob) left is =
     record { own = refl; terms = left_is _ left is; kind = refl }
-moves (stage.Changes change.From) part.Ls left is =
+moves (stage.Changes change.From) (part.Reply reply_line.Ls) left is =
     record { own = refl; terms = left_is _ left is; kind = refl }
 moves (stage.Changes change.From) part.Blank left is =
     record { own = refl; terms = left_is _ left is; kind = refl }
 moves (stage.Changes change.From) _ left is = ends_not left is
-moves (stage.Changes change.Merge) part.Merge left is =
+moves (stage.Changes change.Merge) (part.CommitIsh commit_ish_line.Merge) left is =
     record { own = refl; terms = left_is _ left is; kind = refl }
-moves (stage.Changes change.Merge) part.Modify left is =
+moves (stage.Changes change.Merge) (part.Change change_line.Modify) left is =
     record { own = refl; terms = left_is _ left is; kind = refl }
-moves (stage.Changes change.Merge) part.ModifyInline left is =
+moves (stage.Changes change.Merge) (part.Change change_line.ModifyInline) left is =
     record { own = refl; terms = left_is _ left is; kind = refl }
-moves (stage.Changes change.Merge) part.Delete left is =
+moves (stage.Changes change.Merge) (part.Change change_line.Delete) left is =
     record { own = refl; terms = left_is _ left is; kind = refl }
-moves (stage.Changes change.Merge) part.Copy left is =
+moves (stage.Changes change.Merge) (part.Change change_line.Copy) left is =
     record { own = refl; terms = left_is _ left is; kind = refl }
-moves (stage.Changes change.Merge) part.Rename left is =
+moves (stage.Changes change.Merge) (part.Change change_line.Rename) left is =
     record { own = refl; terms = left_is _ left is; kind = refl }
-moves (stage.Changes change.Merge) part.DeleteAll left is =
+moves (stage.Changes change.Merge) (part.Change change_line.DeleteAll) left is =
     record { own = refl; terms = left_is _ left is; kind = refl }
-moves (stage.Changes change.Merge) part.CatBlob left is =
+moves (stage.Changes change.Merge) (part.Reply reply_line.CatBlob) left is =
     record { own = refl; terms = left_is _ left is; kind = refl }
-moves (stage.Changes change.Merge) part.Ls left is =
+moves (stage.Changes change.Merge) (part.Reply reply_line.Ls) left is =
     record { own = refl; terms = left_is _ left is; kind = refl }
 moves (stage.Changes change.Merge) part.Blank left is =
     record { own = refl; terms = left_is _ left is; kind = refl }
 moves (stage.Changes change.Merge) _ left is = ends_not left is
-moves (stage.Changes change.Change) part.Modify left is =
+moves (stage.Changes change.Change) (part.Change change_line.Modify) left is =
     record { own = refl; terms = left_is _ left is; kind = refl }
-moves (stage.Changes change.Change) part.ModifyInline left is =
+moves (stage.Changes change.Change) (part.Change change_line.ModifyInline) left is =
     record { own = refl; terms = left_is _ left is; kind = refl }
-moves (stage.Changes change.Change) part.Delete left is =
+moves (stage.Changes change.Change) (part.Change change_line.Delete) left is =
     record { own = refl; terms = left_is _ left is; kind = refl }
-moves (stage.Changes change.Change) part.Copy left is =
+moves (stage.Changes change.Change) (part.Change change_line.Copy) left is =
     record { own = refl; terms = left_is _ left is; kind = refl }
-moves (stage.Changes change.Change) part.Rename left is =
+moves (stage.Changes change.Change) (part.Change change_line.Rename) left is =
     record { own = refl; terms = left_is _ left is; kind = refl }
-moves (stage.Changes change.Change) part.DeleteAll left is =
+moves (stage.Changes change.Change) (part.Change change_line.DeleteAll) left is =
     record { own = refl; terms = left_is _ left is; kind = refl }
-moves (stage.Changes change.Change) part.CatBlob left is =
+moves (stage.Changes change.Change) (part.Reply reply_line.CatBlob) left is =
     record { own = refl; terms = left_is _ left is; kind = refl }
-moves (stage.Changes change.Change) part.Ls left is =
+moves (stage.Changes change.Change) (part.Reply reply_line.Ls) left is =
     record { own = refl; terms = left_is _ left is; kind = refl }
 moves (stage.Changes change.Change) part.Blank left is =
     record { own = refl; terms = left_is _ left is; kind = refl }
 moves (stage.Changes change.Change) _ left is = ends_not left is
 moves stage.Inline part.Data left is = record { own = refl; terms = left_is _ left is; kind = refl }
 moves stage.Inline _ left is = misses_not left is
-moves (stage.Tag tag.Mark) part.Mark left is = record { own = refl; terms = left_is _ left is; kind = refl }
-moves (stage.Tag tag.Mark) part.From left is = record { own = refl; terms = left_is _ left is; kind = refl }
+moves (stage.Tag tag.Mark) (part.Header header_line.Mark) left is = record { own = refl; terms = left_is _ left is; kind = refl }
+moves (stage.Tag tag.Mark) (part.CommitIsh commit_ish_line.From) left is = record { own = refl; terms = left_is _ left is; kind = refl }
 moves (stage.Tag tag.Mark) _ left is = misses_not left is
-moves (stage.Tag tag.From) part.From left is = record { own = refl; terms = left_is _ left is; kind = refl }
+moves (stage.Tag tag.From) (part.CommitIsh commit_ish_line.From) left is = record { own = refl; terms = left_is _ left is; kind = refl }
 moves (stage.Tag tag.From) _ left is = misses_not left is
-moves (stage.Tag tag.OriginalOid) part.OriginalOid left is =
+moves (stage.Tag tag.OriginalOid) (part.Header header_line.OriginalOid) left is =
     record { own = refl; terms = left_is _ left is; kind = refl }
-moves (stage.Tag tag.OriginalOid) part.Tagger left is =
+moves (stage.Tag tag.OriginalOid) (part.Header header_line.Tagger) left is =
     record { own = refl; terms = left_is _ left is; kind = refl }
 moves (stage.Tag tag.OriginalOid) part.Data left is =
     record { own = refl; terms = left_is _ left is; kind = refl }
 moves (stage.Tag tag.OriginalOid) _ left is = misses_not left is
-moves (stage.Tag tag.Tagger) part.Tagger left is = record { own = refl; terms = left_is _ left is; kind = refl }
+moves (stage.Tag tag.Tagger) (part.Header header_line.Tagger) left is = record { own = refl; terms = left_is _ left is; kind = refl }
 moves (stage.Tag tag.Tagger) part.Data left is = record { own = refl; terms = left_is _ left is; kind = refl }
 moves (stage.Tag tag.Tagger) _ left is = misses_not left is
 moves (stage.Tag tag.Data) part.Data left is = record { own = refl; terms = left_is _ left is; kind = refl }
 moves (stage.Tag tag.Data) _ left is = misses_not left is
-moves (stage.Reset reset.From) part.From left is = record { own = refl; terms = left_is _ left is; kind = refl }
+moves (stage.Reset reset.From) (part.CommitIsh commit_ish_line.From) left is = record { own = refl; terms = left_is _ left is; kind = refl }
 moves (stage.Reset reset.From) part.Blank left is = record { own = refl; terms = left_is _ left is; kind = refl }
 moves (stage.Reset reset.From) _ left is = ends_not left is
 moves (stage.Reset reset.Blank) part.Blank left is = record { own = refl; terms = left_is _ left is; kind = refl }
 moves (stage.Reset reset.Blank) _ left is = ends_not left is
-moves (stage.Alias alias.Mark) part.Mark left is = record { own = refl; terms = left_is _ left is; kind = refl }
+moves (stage.Alias alias.Mark) (part.Header header_line.Mark) left is = record { own = refl; terms = left_is _ left is; kind = refl }
 moves (stage.Alias alias.Mark) _ left is = misses_not left is
-moves (stage.Alias alias.To) part.To left is = record { own = refl; terms = left_is _ left is; kind = refl }
+moves (stage.Alias alias.To) (part.CommitIsh commit_ish_line.To) left is = record { own = refl; terms = left_is _ left is; kind = refl }
 moves (stage.Alias alias.To) _ left is = misses_not left is
 
 -- the stage after a part that begins a command
 abbrev first : Part → Stage
-first part.Blob = stage.Blob blob.Mark
-first part.Commit = stage.Commit commit.Mark
-first part.Tag = stage.Tag tag.Mark
-first part.Reset = stage.Reset reset.From
-first part.Alias = stage.Alias alias.Mark
+first (part.Opening opening_line.Blob) = stage.Blob blob.Mark
+first (part.Opening opening_line.Commit) = stage.Commit commit.Mark
+first (part.Opening opening_line.Tag) = stage.Tag tag.Mark
+first (part.Opening opening_line.Reset) = stage.Reset reset.From
+first (part.Opening opening_line.Alias) = stage.Alias alias.Mark
 first _ = stage.Top
 
 first_terms : (taken : Part) (terms : List Term) → production_of taken ≡ Some terms
     → terms ≡ terms_of (first taken)
-first_terms part.Blob terms is = cc
+first_terms (part.Opening opening_line.Blob) terms is = cc
 first_terms _ terms is = cc
 
 first_kind : (taken : Part) → opened_by taken ≡ opened_of (first taken)
-first_kind part.Blob = refl
+first_kind (part.Opening opening_line.Blob) = refl
 first_kind _ = refl
 
 -- ---- the part of a line is neither data nor blank
@@ -317,8 +328,8 @@ word_line text = first_fit_line words text
     (tt, (tt, (tt, (tt, (tt, (tt, (tt, (tt, (tt, (tt, (tt, (tt, (tt, (tt, (tt, (tt, (tt, (tt, (tt, (tt, (tt, (tt, (tt, (tt, (tt, (tt, (tt, tt)))))))))))))))))))))))))))
 
 inline_line : (known : Part) (inline : Bool) → IsLine known → IsLine (with_inline known inline)
-inline_line part.Modify true is = tt
-inline_line part.Modify false is = tt
+inline_line (part.Change change_line.Modify) true is = tt
+inline_line (part.Change change_line.Modify) false is = tt
 inline_line _ inline is = is
 
 line_part : (text : List ℕ) → IsLine (part_of_line text)
@@ -328,8 +339,14 @@ line_part text = inline_line (part_by_word text) (is_inline text) (word_line tex
 goes_within : (at : Stage) (taken : Part) → taken ≢ part.Blank
     → is_commit (opened_of at) && is_empty (terms_of (next taken at)) ≡ false
 goes_within (stage.Changes n) part.Blank other = absurd (other refl)
+goes_within (stage.Changes n) (part.Header header_line.Mark) other = refl
+goes_within (stage.Changes n) (part.CommitIsh commit_ish_line.From) other = refl
+goes_within (stage.Changes n) (part.Change change_line.Modify) other = refl
 goes_within (stage.Changes n) _ other = refl
 goes_within stage.Inline part.Blank other = absurd (other refl)
+goes_within stage.Inline (part.Header header_line.Mark) other = refl
+goes_within stage.Inline (part.CommitIsh commit_ish_line.From) other = refl
+goes_within stage.Inline (part.Change change_line.Modify) other = refl
 goes_within stage.Inline _ other = refl
 goes_within _ taken other = refl
 
@@ -344,22 +361,6 @@ any_then : {A B : Type 0} (Q : B → Type 0) (r : Result A Fault) (next : A → 
     → ((value : A) → IfOk (next value) Q) → IfOk (and_then r next) Q
 any_then Q (Ok value) next later = later value
 any_then Q (Err e) next later = tt
-
-read_for : {A B : Type 0} (P : A → Type 0) (Q : B → Type 0) (reading : Result A TextFault)
-    (next : A → Result B TextFault) → IfOk reading P
-    → ((value : A) → P value → IfOk (next value) Q) → IfOk (read reading next) Q
-read_for P Q (Ok value) next is later = later value is
-read_for P Q (Err e) next is later = tt
-
--- a ref is what the line says
-ref_is : (text : List ℕ) (P : List ℕ → Type 0) → P text → IfOk (ref_of text) P
-unfolding ref_of
-ref_is text P is =
-    by_test (names_ref text)
-    (λ named. by_test (nat_le (length text) 1024)
-    (λ short. rw (named, short) is)
-    (λ long. rw (named, long) tt))
-    (λ unnamed. rw unnamed tt)
 
 -- read for an act, which is brought
 twice : {A : Type 0} (Q : Given → Type 0) (mark : Option ℕ) (reading : Result A TextFault)
@@ -377,80 +378,117 @@ with_ok : {A E : Type 0} (P Q : A → Type 0) (r : Result A E) → IfOk r P
 with_ok P Q (Ok value) is more = more value is
 with_ok P Q (Err e) is more = tt
 
+-- ---- what is open before a part, and after it
+
+named_commit : (command : OpenCommand OpenCommit) → HasCommitter command → IsCommit command
+named_commit (open_command.Commit header) named = tt
+named_commit _ named = absurd named
+
+commit_before : (n : CommitNext) (w : Workspace) → IsCommitBefore n w → IsCommit w.stream.command
+commit_before commit.Encoding w there = named_commit w.stream.command there
+commit_before commit.Data w there = named_commit w.stream.command there
+commit_before _ w there = there
+
+tag_with : (command : OpenCommand OpenCommit) → HasTarget command → IsTag command
+tag_with (open_command.Tag header) target = tt
+tag_with _ target = absurd target
+
+tag_before : (n : TagNext) (w : Workspace) → IsTagBefore n w → IsTag w.stream.command
+tag_before tag.Mark w there = there
+tag_before tag.From w there = there
+tag_before _ w there = tag_with w.stream.command there
+
 -- the header is there after a line of it
-abbrev SaidThere : Effect → Type 0
-SaidThere effect = IsThere effect.workspace.said
+abbrev HeaderThere : Effect → Type 0
+HeaderThere effect = IsCommit effect.workspace.stream.command
 
-abbrev CommitThere : Effect → Type 0
-CommitThere effect = IsThere effect.workspace.commit
-
-header_there : (more : CommandHeader → CommandHeader) (w : Workspace)
-    → IfOk (in_header more w) SaidThere
-header_there more w = any_then SaidThere (now_open w.said) _ (λ said. tt)
+header_there : (more : CommitHeader → CommitHeader) (w : Workspace)
+    → IfOk (in_commit_header more w) HeaderThere
+header_there more w = any_then HeaderThere (commit_header_in w.stream.command) _ (λ header. tt)
 
 -- a committer is named there after his line, and stays so
 abbrev Named : Effect → Type 0
-Named effect = IsThere effect.workspace.said × HasCommitter effect.workspace.said
+Named effect = HasCommitter effect.workspace.stream.command
 
 committer_there : (ident : List ℕ) (w : Workspace)
-    → IfOk (in_header (λ said. record said { committer = Some ident }) w) Named
-committer_there ident w = any_then Named (now_open w.said) _ (λ said. (tt, tt))
+    → IfOk (in_commit_header (λ header. record header { committer = Some ident }) w) Named
+committer_there ident w = any_then Named (commit_header_in w.stream.command) _ (λ header. tt)
 
-committer_stays : (encoding : List ℕ) (w : Workspace) → HasCommitter w.said
-    → IfOk (in_header (λ said. record said { encoding = Some encoding }) w) Named
-committer_stays encoding w named = by_said w.said named
+committer_stays : (encoding : List ℕ) (w : Workspace) → HasCommitter w.stream.command
+    → IfOk (in_commit_header (λ header. record header { encoding = Some encoding }) w) Named
+committer_stays encoding w named = by_command w.stream.command named
   where
-    by_said : (said : Option CommandHeader) → HasCommitter said
-        → IfOk (and_then (now_open said) (λ said.
-        quiet (record w { said = Some (record said { encoding = Some encoding }) }))) Named
-    by_said None named = tt
-    by_said (Some said) named = (tt, named)
+    by_command : (command : OpenCommand OpenCommit) → HasCommitter command
+        → IfOk (and_then (commit_header_in command) (λ header.
+        quiet (with_command w
+        (open_command.Commit (record header { encoding = Some encoding }))))) Named
+    by_command (open_command.Commit header) named = named
+    by_command _ named = tt
 
--- the tag is open after a line of it
-abbrev TagThere : Effect → Type 0
-TagThere effect = IsTag effect.workspace.said
+-- what a tag names is there after its line, and stays so
+abbrev TargetThere : Effect → Type 0
+TargetThere effect = HasTarget effect.workspace.stream.command
 
-tag_stays : (more : CommandHeader → CommandHeader)
-    → ((said : CommandHeader) → is_tag_ref said.ref_name ≡ true
-    → is_tag_ref (more said).ref_name ≡ true)
-    → (w : Workspace) → IsTag w.said → IfOk (in_header more w) TagThere
-tag_stays more keeps w there = by_said w.said there
+target_there : (target : CommitIsh) (w : Workspace)
+    → IfOk (in_tag_header (λ header. record header { target = Some target }) w) TargetThere
+target_there target w = any_then TargetThere (tag_header_in w.stream.command) _ (λ header. tt)
+
+target_stays : (ident : List ℕ) (w : Workspace) → HasTarget w.stream.command
+    → IfOk (in_tag_header (λ header. record header { tagger = Some ident }) w) TargetThere
+target_stays ident w target = by_command w.stream.command target
   where
-    by_said : (said : Option CommandHeader) → IsTag said
-        → IfOk (and_then (now_open said) (λ said.
-        quiet (record w { said = Some (more said) }))) TagThere
-    by_said None is = tt
-    by_said (Some said) is = keeps said is
+    by_command : (command : OpenCommand OpenCommit) → HasTarget command
+        → IfOk (and_then (tag_header_in command) (λ header.
+        quiet (with_command w (open_command.Tag (record header { tagger = Some ident })))))
+        TargetThere
+    by_command (open_command.Tag header) target = target
+    by_command _ target = tt
 
 -- the commit is there after a change of it, and after its message
+abbrev CommitThere : Effect → Type 0
+CommitThere effect = IsChanging effect.workspace.stream.command
+
 commit_there : (change : OpenCommit → Result OpenCommit Fault) (w : Workspace)
-    → IfOk (in_commit change w) CommitThere
+    → IfOk (in_changes change w) CommitThere
 commit_there change w =
-    any_then CommitThere (now_open w.commit) _ (λ commit.
+    any_then CommitThere (changes_in w.stream.command) _ (λ commit.
     any_then CommitThere (change commit) _ (λ next. tt))
 
 message_there : (mark : Option ℕ) (message : List ℕ) (w : Workspace)
-    → IfOk (and_then (now_open w.said) (λ said. commit_opened mark message said w)) CommitThere
+    → IfOk (and_then (commit_header_in w.stream.command) (λ said.
+    commit_opened mark message said w)) CommitThere
 message_there mark message w =
-    any_then CommitThere (now_open w.said) _ (λ said.
+    any_then CommitThere (commit_header_in w.stream.command) _ (λ said.
     any_then CommitThere (header_said mark said) _ (λ header.
     any_then CommitThere
-    (branch_set w.branches header.ref (tip_for (tip_commit w.branches header.ref))) _ (λ branches.
-    any_then CommitThere
-    (begun_from w.objects (tip_commit w.branches header.ref) (begun_commit header message)) _
+    (branch_set w.stream.branches header.ref (tip_for (tip_commit w.stream.branches header.ref))) _
+    (λ branches. any_then CommitThere
+    (begun_from w.objects (tip_commit w.stream.branches header.ref) (begun_commit header message)) _
     (λ opening. tt))))
 
-file_there : (digest : List ℕ → List ℕ) (bytes : List ℕ) (w : Workspace)
-    → IfOk (and_then (now_open w.inline) (λ file. and_then (now_open w.commit) (λ commit.
-    file_stored digest bytes file commit w))) CommitThere
-file_there digest bytes w =
-    any_then CommitThere (now_open w.inline) _ (λ file.
-    any_then CommitThere (now_open w.commit) _ (λ commit.
-    any_then CommitThere
-    (changed_or (contents_put digest w.objects file.mode file.path bytes commit)) _ (λ left. tt)))
+-- a file of it waits after its line, and no longer after its data
+inline_there : (file : InlineFile) (w : Workspace)
+    → IfOk (and_then (changes_in w.stream.command) (λ commit.
+    quiet (with_command w (open_command.Inline commit file))))
+    (λ effect. IsInline effect.workspace.stream.command)
+inline_there file w =
+    any_then (λ (effect : Effect). IsInline effect.workspace.stream.command)
+    (changes_in w.stream.command) _ (λ commit. tt)
 
-reset_there : (ref : List ℕ) (w : Workspace) → IfOk (branch_unborn ref w) SaidThere
-reset_there ref w = any_then SaidThere (branch_set w.branches ref Unborn) _ (λ branches. tt)
+file_there : (digest : List ℕ → List ℕ) (bytes : List ℕ) (w : Workspace)
+    → IfOk (and_then (inline_in w.stream.command) (λ inline.
+    file_stored digest bytes inline.0 inline.1 w)) CommitThere
+file_there digest bytes w =
+    any_then CommitThere (inline_in w.stream.command) _ (λ inline.
+    any_then CommitThere
+    (changed_or (contents_put digest w.objects inline.1.mode inline.1.path bytes inline.0)) _
+    (λ left. tt))
+
+reset_there : (ref : List ℕ) (w : Workspace)
+    → IfOk (branch_unborn ref w) (λ effect. IsReset effect.workspace.stream.command)
+reset_there ref w =
+    any_then (λ (effect : Effect). IsReset effect.workspace.stream.command)
+    (branch_set w.stream.branches ref Unborn) _ (λ branches. tt)
 
 -- ---- what a part of the open command gives
 
@@ -480,92 +518,87 @@ header_goes : (digest : List ℕ → List ℕ) (n : _) (taken : Part) (left : Li
 unfolding after_act commit_said
 header_goes digest n part.Data left is line mark text w there = absurd line
 header_goes digest n part.Blank left is line mark text w there = absurd line
-header_goes digest n part.Mark left is line mark text w there =
+header_goes digest n (part.Header header_line.Mark) left is line mark text w there =
     any_read (Goes digest (stage.Commit commit.OriginalOid) w) (mark_of (argument text)) _
-    (λ number. (tt, (there.0, tt)))
-header_goes digest n part.OriginalOid left is line mark text w there = (tt, (there.0, tt))
-header_goes digest n part.Author left is line mark text w there =
-    twice (Goes digest (stage.Commit commit.Committer) w) mark (ident_of (argument text))
-    (λ ident. acts.Commit (acts.Author ident))
+    (λ number. (tt, commit_before n w there))
+header_goes digest n (part.Header header_line.OriginalOid) left is line mark text w there =
+    (tt, commit_before n w there)
+header_goes digest n (part.Header header_line.Author) left is line mark text w there =
+    any_read (Goes digest (stage.Commit commit.Committer) w) (ident_of (argument text)) _
     (λ ident. (
-      there.0,
-      with_ok SaidThere
-          (λ effect. IsOpenAt (stage.Commit commit.Committer) effect.workspace)
-          (in_header (λ said. record said { author = Some ident }) w)
-          (header_there (λ said. record said { author = Some ident }) w) (λ effect said. (said, tt)),
+      commit_before n w there,
+      header_there (λ header. record header { author = Some ident }) w,
     ))
-header_goes digest n part.Committer left is line mark text w there =
-    twice (Goes digest (stage.Commit commit.Encoding) w) mark (ident_of (argument text))
-    (λ ident. acts.Commit (acts.Committer ident))
-    (λ ident. (there.0, committer_there ident w))
-header_goes digest commit.Encoding part.Encoding left is line mark text w there =
-    twice (Goes digest (stage.Commit commit.Data) w) mark (encoding_of (argument text))
-    (λ encoding. acts.Commit (acts.Encoding encoding))
-    (λ encoding. (there.0, committer_stays encoding w there.1))
-header_goes digest _ part.Encoding left is line mark text w there = absurd (cc is)
+header_goes digest n (part.Header header_line.Committer) left is line mark text w there =
+    any_read (Goes digest (stage.Commit commit.Encoding) w) (ident_of (argument text)) _
+    (λ ident. (commit_before n w there, committer_there ident w))
+header_goes digest commit.Encoding (part.Header header_line.Encoding) left is line mark text w there =
+    any_read (Goes digest (stage.Commit commit.Data) w) (encoding_of (argument text)) _
+    (λ encoding. (named_commit w.stream.command there, committer_stays encoding w there))
+header_goes digest _ (part.Header header_line.Encoding) left is line mark text w there = absurd (cc is)
 header_goes digest n taken left is line mark text w there =
     no_part (moves (stage.Commit n) taken left is).own
 
 -- lines of a commit after its message
 change_goes : (digest : List ℕ → List ℕ) (n : _) (taken : Part) (left : List Term)
     → fit taken (terms_of (stage.Changes n)) ≡ Stands left → IsLine taken → (mark : Option ℕ)
-    (text : List ℕ) (w : Workspace) → IsThere w.commit
+    (text : List ℕ) (w : Workspace) → IsChanging w.stream.command
     → LineGoes digest (stage.Changes n) taken mark text w
 unfolding after_act commit_said files_changed replied
 change_goes digest n part.Data left is line mark text w there = absurd line
 change_goes digest n part.Blank left is line mark text w there = absurd line
-change_goes digest n part.From left is line mark text w there =
+change_goes digest n (part.CommitIsh commit_ish_line.From) left is line mark text w there =
     any_read (Goes digest (stage.Changes change.Merge) w) (commit_ish_of (argument text)) _
     (λ from. (there, commit_there (commit_started w from) w))
-change_goes digest n part.Merge left is line mark text w there =
-    twice (Goes digest (stage.Changes change.Merge) w) mark (commit_ish_of (argument text))
-    (λ other. acts.Commit (acts.Merge other))
+change_goes digest n (part.CommitIsh commit_ish_line.Merge) left is line mark text w there =
+    any_read (Goes digest (stage.Changes change.Merge) w) (commit_ish_of (argument text)) _
     (λ other. (there, commit_there (commit_merged w other) w))
-change_goes digest n part.Modify left is line mark text w there =
+change_goes digest n (part.Change change_line.Modify) left is line mark text w there =
     twice (Goes digest (stage.Changes change.Change) w) mark (modified (argument text))
     (λ file. Change (Modify file.0 file.1 file.2))
     (λ file. (
       there,
       commit_there (λ commit.
-          changed_or (commit_modified w.objects w.marks file.0 file.1 file.2 commit)) w,
+          changed_or (commit_modified w.objects w.stream.marks file.0 file.1 file.2 commit)) w,
     ))
-change_goes digest n part.ModifyInline left is line mark text w there =
+change_goes digest n (part.Change change_line.ModifyInline) left is line mark text w there =
     twice (Goes digest stage.Inline w) mark (modified_inline (argument text))
-    (λ file. Change (ModifyInline file.0 file.1)) (λ file. (there, (tt, there)))
-change_goes digest n part.Delete left is line mark text w there =
-    twice (Goes digest (stage.Changes change.Change) w) mark (path_of (argument text))
+    (λ file. Change (ModifyInline file.0 file.1))
+    (λ file. (there, inline_there (record { mode = file.0; path = file.1 }) w))
+change_goes digest n (part.Change change_line.Delete) left is line mark text w there =
+    twice (Goes digest (stage.Changes change.Change) w) mark (last_path (argument text))
     (λ path. Change (Delete path))
     (λ path. (there, commit_there (λ commit. Ok (deleted path commit)) w))
-change_goes digest n part.Copy left is line mark text w there =
+change_goes digest n (part.Change change_line.Copy) left is line mark text w there =
     twice (Goes digest (stage.Changes change.Change) w) mark (paths_of (argument text))
     (λ paths. Change (Copy paths.0 paths.1))
     (λ paths. (there, commit_there (λ commit. changed_or (copied_to paths.0 paths.1 commit)) w))
-change_goes digest n part.Rename left is line mark text w there =
+change_goes digest n (part.Change change_line.Rename) left is line mark text w there =
     twice (Goes digest (stage.Changes change.Change) w) mark (paths_of (argument text))
     (λ paths. Change (Rename paths.0 paths.1))
     (λ paths. (there, commit_there (λ commit. changed_or (renamed_to paths.0 paths.1 commit)) w))
-change_goes digest n part.DeleteAll left is line mark text w there =
+change_goes digest n (part.Change change_line.DeleteAll) left is line mark text w there =
     (there, commit_there (λ commit. Ok (all_deleted commit)) w)
-change_goes digest n part.CatBlob left is line mark text w there =
+change_goes digest n (part.Reply reply_line.CatBlob) left is line mark text w there =
     twice (Goes digest (stage.Changes change.Change) w) mark (dataref_of (argument text))
     (λ object. Reply (CatBlob object))
     (λ object. (
       tt,
-      any_then CommitThere (referred_name w.marks object) _ (λ id.
+      any_then CommitThere (referred_name w.stream.marks object) _ (λ id.
           any_then CommitThere (shown_object id (object_named id w.objects)) _ (λ line. there)),
     ))
-change_goes digest n part.Ls left is line mark text w there =
+change_goes digest n (part.Reply reply_line.Ls) left is line mark text w there =
     ls_goes (is_quoted (argument text)) (argument text)
   where
     ls_goes : (quoted : Bool) (rest : List ℕ)
-        → IfOk (read (branch_entry_act quoted rest) (λ act. brings mark act))
+        → IfOk (read (ls_act quoted rest) (λ act. brings mark act))
         (Goes digest (stage.Changes change.Change) w)
     ls_goes true rest =
-        twice (Goes digest (stage.Changes change.Change) w) mark (path_of rest)
+        twice (Goes digest (stage.Changes change.Change) w) mark (last_path rest)
         (λ path. Reply (LsInCommit path))
         (λ path. (
           there,
-          any_then CommitThere (now_open w.commit) _ (λ commit.
+          any_then CommitThere (changes_in w.stream.command) _ (λ commit.
               any_then CommitThere
               (changed_or (commit_entry_shown digest w.objects commit.files path)) _ (λ shown. there)),
         ))
@@ -575,7 +608,7 @@ change_goes digest n part.Ls left is line mark text w there =
         (λ entry. (
           tt,
           any_then CommitThere
-              (entry_shown w.objects w.marks entry.0 entry.1) _ (λ line. there),
+              (entry_shown w.objects w.stream.marks entry.0 entry.1) _ (λ line. there),
         ))
 change_goes digest n taken left is line mark text w there =
     no_part (moves (stage.Changes n) taken left is).own
@@ -583,19 +616,24 @@ change_goes digest n taken left is line mark text w there =
 -- lines of a tag
 tag_goes : (digest : List ℕ → List ℕ) (n : _) (taken : Part) (left : List Term)
     → fit taken (terms_of (stage.Tag n)) ≡ Stands left → IsLine taken → (mark : Option ℕ)
-    (text : List ℕ) (w : Workspace) → IsTag w.said → LineGoes digest (stage.Tag n) taken mark text w
+    (text : List ℕ) (w : Workspace) → IsTagBefore n w
+    → LineGoes digest (stage.Tag n) taken mark text w
 unfolding after_act object_stored
 tag_goes digest n part.Data left is line mark text w there = absurd line
-tag_goes digest n part.Mark left is line mark text w there =
-    any_read (Goes digest (stage.Tag tag.From) w) (mark_of (argument text)) _ (λ number. (tt, there))
-tag_goes digest n part.From left is line mark text w there =
+tag_goes digest n (part.Header header_line.Mark) left is line mark text w there =
+    any_read (Goes digest (stage.Tag tag.From) w) (mark_of (argument text)) _
+    (λ number. (tt, tag_before n w there))
+tag_goes digest n (part.CommitIsh commit_ish_line.From) left is line mark text w there =
     any_read (Goes digest (stage.Tag tag.OriginalOid) w) (commit_ish_of (argument text)) _
-    (λ target. (there, tag_stays (λ said. record said { target = target }) (λ said is. is) w there))
-tag_goes digest n part.OriginalOid left is line mark text w there = (tt, there)
-tag_goes digest n part.Tagger left is line mark text w there =
-    twice (Goes digest (stage.Tag tag.Data) w) mark (ident_of (argument text))
-    (λ ident. acts.Object (acts.Tagger ident))
-    (λ ident. (there, tag_stays (λ said. record said { tagger = Some ident }) (λ said is. is) w there))
+    (λ target. (tag_before n w there, target_there target w))
+tag_goes digest tag.Mark (part.Header header_line.OriginalOid) left is line mark text w there = absurd (cc is)
+tag_goes digest tag.From (part.Header header_line.OriginalOid) left is line mark text w there = absurd (cc is)
+tag_goes digest _ (part.Header header_line.OriginalOid) left is line mark text w there = (tt, there)
+tag_goes digest tag.Mark (part.Header header_line.Tagger) left is line mark text w there = absurd (cc is)
+tag_goes digest tag.From (part.Header header_line.Tagger) left is line mark text w there = absurd (cc is)
+tag_goes digest _ (part.Header header_line.Tagger) left is line mark text w there =
+    any_read (Goes digest (stage.Tag tag.Data) w) (ident_of (argument text)) _
+    (λ ident. (tag_with w.stream.command there, target_stays ident w there))
 tag_goes digest n taken left is line mark text w there =
     no_part (moves (stage.Tag n) taken left is).own
 
@@ -610,18 +648,18 @@ good_line digest (stage.Changes n) taken left is line mark text w there =
 good_line digest (stage.Tag n) taken left is line mark text w there =
     tag_goes digest n taken left is line mark text w there
 good_line digest (stage.Blob n) part.Data left is line mark text w there = absurd line
-good_line digest (stage.Blob n) part.Mark left is line mark text w there =
+good_line digest (stage.Blob n) (part.Header header_line.Mark) left is line mark text w there =
     any_read (Goes digest (stage.Blob blob.OriginalOid) w) (mark_of (argument text)) _
     (λ number. (tt, tt))
-good_line digest (stage.Blob n) part.OriginalOid left is line mark text w there = (tt, tt)
+good_line digest (stage.Blob n) (part.Header header_line.OriginalOid) left is line mark text w there = (tt, tt)
 good_line digest (stage.Reset n) part.Blank left is line mark text w there = absurd line
-good_line digest (stage.Reset reset.From) part.From left is line mark text w there =
+good_line digest (stage.Reset reset.From) (part.CommitIsh commit_ish_line.From) left is line mark text w there =
     any_read (Goes digest (stage.Reset reset.Blank) w) (commit_ish_of (argument text)) _
     (λ from. (there, any_ok (after_act digest (Ref (ResetFrom from)) w)))
-good_line digest (stage.Reset reset.Blank) part.From left is line mark text w there = absurd (cc is)
-good_line digest (stage.Alias n) part.Mark left is line mark text w there =
+good_line digest (stage.Reset reset.Blank) (part.CommitIsh commit_ish_line.From) left is line mark text w there = absurd (cc is)
+good_line digest (stage.Alias n) (part.Header header_line.Mark) left is line mark text w there =
     any_read (Goes digest (stage.Alias alias.To) w) (mark_of (argument text)) _ (λ number. (tt, tt))
-good_line digest (stage.Alias n) part.To left is line mark text w there =
+good_line digest (stage.Alias n) (part.CommitIsh commit_ish_line.To) left is line mark text w there =
     any_read (Goes digest stage.Top w) (commit_ish_of (argument text)) _
     (λ commit. alias_goes digest mark commit w)
 good_line digest stage.Inline part.Data left is line mark text w there = absurd line
@@ -636,13 +674,15 @@ good_data : (digest : List ℕ → List ℕ) (at : Stage) (left : List Term)
 unfolding after_act commit_said files_changed
 good_data digest (stage.Blob n) left is mark contents w there =
     (tt, any_ok (after_act digest (acts.Object (acts.Blob mark contents)) w))
-good_data digest (stage.Tag n) left is mark contents w there =
+good_data digest (stage.Tag tag.Mark) left is mark contents w there = absurd (cc is)
+good_data digest (stage.Tag tag.From) left is mark contents w there = absurd (cc is)
+good_data digest (stage.Tag _) left is mark contents w there =
     (there, any_ok (after_act digest (acts.Object (acts.Tag mark contents)) w))
 good_data digest stage.Inline left is mark contents w there = (there, file_there digest contents w)
 good_data digest (stage.Commit commit.Encoding) left is mark contents w there =
-    (there.1, message_there mark contents w)
+    (there, message_there mark contents w)
 good_data digest (stage.Commit commit.Data) left is mark contents w there =
-    (there.1, message_there mark contents w)
+    (there, message_there mark contents w)
 good_data digest (stage.Commit _) left is mark contents w there = absurd (cc is)
 good_data digest at left is mark contents w there = no_part (moves at part.Data left is).own
 
@@ -657,38 +697,35 @@ good_blank digest w = (tt, tt)
 FitsAnywhere : Act → Type 0
 FitsAnywhere act = (w : Workspace) → Fits act w
 
-fits_option : (late : Bool) (whose : Setting) (line : List ℕ)
-    → IfOk (option_act late whose line) FitsAnywhere
+fits_option : (late : Bool) (whose : OptionCommand) (text : List ℕ)
+    → IfOk (option_act late whose text) FitsAnywhere
 unfolding FitsAnywhere
-fits_option late setting.Git line =
+fits_option late option.Git text =
     any_read FitsAnywhere (in_time late) _ (λ u.
-    any_read FitsAnywhere (quiet_of line) _ (λ v w. tt))
-fits_option late setting.Head line =
+    any_read FitsAnywhere (quiet_of text) _ (λ v w. tt))
+fits_option late option.Head text =
     any_read FitsAnywhere (in_time late) _ (λ u.
-    any_read FitsAnywhere (head_of (argument (argument line))) _ (λ ref w. tt))
-fits_option late setting.Other line = λ w. tt
+    any_read FitsAnywhere (head_of (argument (argument text))) _ (λ ref w. tt))
+fits_option late option.Other text = λ w. tt
 
-fits_control : (late : Bool) (command : Part) (text : List ℕ)
-    → IfOk (control_act late command text) FitsAnywhere
+fits_control : (late : Bool) (line : ControlLine) (text : List ℕ)
+    → IfOk (control_act late line text) FitsAnywhere
 unfolding FitsAnywhere
-fits_control late part.Feature text =
+fits_control late control_line.Feature text =
     any_read FitsAnywhere (in_time late) _ (λ u.
-    any_read FitsAnywhere (feature_of (argument text)) _ (λ feature w. tt))
-fits_control late part.Setting text =
-    fits_option late (setting_of (argument text)) (argument text)
+    any_read FitsAnywhere (feature_of text) _ (λ feature w. tt))
+fits_control late control_line.OptionCommand text = fits_option late (option_of text) text
 fits_control late _ text = λ w. tt
 
-fits_single : (late : Bool) (command : Part) (text : List ℕ)
-    → IfOk (single_act late command text) FitsAnywhere
+fits_reply : (line : ReplyLine) (text : List ℕ) → IfOk (reply_act false line text) FitsAnywhere
 unfolding FitsAnywhere
-fits_single late part.Progress text = λ w. tt
-fits_single late part.GetMark text =
+fits_reply reply_line.Progress text = λ w. tt
+fits_reply reply_line.GetMark text =
     any_read FitsAnywhere (mark_of (argument text)) _ (λ mark w. tt)
-fits_single late part.CatBlob text =
+fits_reply reply_line.CatBlob text =
     any_read FitsAnywhere (dataref_of (argument text)) _ (λ object w. tt)
-fits_single late part.Ls text =
+fits_reply reply_line.Ls text =
     any_read FitsAnywhere (object_and_path (argument text)) _ (λ entry w. tt)
-fits_single late command text = fits_control late command text
 
 abbrev Begins : (List ℕ → List ℕ) → Stage → Workspace → Act → Type 0
 Begins digest to w act =
@@ -697,20 +734,22 @@ Begins digest to w act =
 good_first_line : (digest : List ℕ → List ℕ) (late : Bool) (command : Part) (text : List ℕ)
     (w : Workspace) → IfOk (first_act late command (Line text)) (Begins digest (first command) w)
 unfolding after_act object_stored commit_said ref_set FitsAnywhere
-good_first_line digest late part.Commit text w =
+good_first_line digest late (part.Opening opening_line.Commit) text w =
     any_read (Begins digest (stage.Commit commit.Mark) w) (ref_of (argument text)) _
-    (λ ref. (tt, (tt, tt)))
-good_first_line digest late part.Tag text w =
-    read_for (λ ref. is_tag_ref ref ≡ true) (Begins digest (stage.Tag tag.Mark) w)
-    (tag_ref_of (argument text)) _
-    (ref_is (codes "refs/tags/" ++ argument text) (λ ref. is_tag_ref ref ≡ true) refl)
-    (λ ref is. (tt, is))
-good_first_line digest late part.Reset text w =
+    (λ ref. (tt, tt))
+good_first_line digest late (part.Opening opening_line.Tag) text w =
+    any_read (Begins digest (stage.Tag tag.Mark) w) (tag_ref_of (argument text)) _
+    (λ ref. (tt, tt))
+good_first_line digest late (part.Opening opening_line.Reset) text w =
     any_read (Begins digest (stage.Reset reset.From) w) (ref_of (argument text)) _
     (λ ref. (tt, reset_there (ref_in w ref) w))
-good_first_line digest late command text w =
-    with_ok FitsAnywhere (Begins digest (first command) w) (single_act late command text)
-    (fits_single late command text) (λ act fits. (fits w, any_ok (after_act digest act w)))
+good_first_line digest late (part.Reply line) text w =
+    with_ok FitsAnywhere (Begins digest stage.Top w) (reply_act false line text)
+    (fits_reply line text) (λ act fits. (fits w, any_ok (after_act digest act w)))
+good_first_line digest late (part.Control line) text w =
+    with_ok FitsAnywhere (Begins digest stage.Top w) (control_act late line (argument text))
+    (fits_control late line (argument text)) (λ act fits. (fits w, any_ok (after_act digest act w)))
+good_first_line digest late _ text w = (tt, tt)
 
 good_first : (digest : List ℕ → List ℕ) (late : Bool) (item : Item) (w : Workspace)
     → IfOk (first_act late (part_of item) item) (Begins digest (first (part_of item)) w)

@@ -1,7 +1,6 @@
 -- The files that a session holds stay what they are.
-use Rattle.std.proofs.Common.{◌≡◌, ℕ, List, Option, None, Some, Result, Ok, Err, refl, sym, ap, subst}
+use Rattle.std.proofs.Common.{◌≡◌, ℕ, List, Option, None, Some, Result, Ok, Err, refl, ap, subst}
 use Rattle.std.specs.Prelude.{IfSome, OnOk}
-use Rattle.std.specs.Option.{option_map}
 use Rattle.git_model.specs.Content.{Content, name_by}
 use Rattle.git_model.specs.Repository.{Object, with_object}
 use Rattle.tenant_tables.specs.declared.fault.Fault.{Fault as TableFault}
@@ -9,19 +8,12 @@ use Rattle.tenant_tables.specs.Adding.{store_fault}
 use Rattle.file_maps.specs.FileMap.{FileMap}
 use Rattle.tree_build.specs.Branch.{Branch, IsBranch, files_in}
 use Rattle.tree_build.proofs.Growing.{branch_stays}
-use Rattle.open_commits.specs.OpenCommit.{HeldCommit, Stands, commit_in}
+use Rattle.open_commits.specs.OpenCommit.{HeldCommit, OpenCommit, Stands, commit_in}
 use Rattle.stream_state.specs.declared.fault.Fault.{Fault}
+use Rattle.stream_state.specs.OpenCommand.{OpenCommand, Changes, Inline, command_with}
 use Rattle.stream_state.specs.Storing.{stored_or, with_content}
 use Rattle.import_session.specs.Session.{StreamState}
-use Rattle.import_session.specs.Held.{HoldsFiles, KeepsBranchFiles}
-
--- a call that changes neither leaves them standing
-pub files_kept : (os : List Object) (old new : StreamState) → KeepsBranchFiles old new → HoldsFiles os old
-    → HoldsFiles os new
-files_kept os old new keeps holds = record {
-  commit = subst (λ (commit : Option HeldCommit). IfSome commit (Stands os)) (sym keeps.commit) holds.commit;
-  left = subst (λ (left : Option Branch). IfSome left (IsBranch os)) (sym keeps.left) holds.left;
-}
+use Rattle.import_session.specs.Held.{HoldsFiles, HoldsOpen, KeepsBranchFiles}
 
 -- ---- where one object is stored
 
@@ -45,27 +37,31 @@ module _ (digest : List ℕ → List ℕ) (content : Content) (os more : List Ob
   left_grown None stands = tt
   left_grown (Some b) stands = (branch_grown b stands).0
 
-  commit_grown : (commit : Option HeldCommit) → IfSome commit (Stands os)
-      → IfSome commit (Stands more)
-  commit_grown None stands = tt
-  commit_grown (Some held) stands = (branch_grown held.files stands).0
+  command_grown : (command : OpenCommand HeldCommit) → HoldsOpen os command → HoldsOpen more command
+  command_grown (Changes held) stands = (branch_grown held.files stands).0
+  command_grown (Inline held file) stands = (branch_grown held.files stands).0
+  command_grown _ stands = tt
 
-  -- the open commit means what it meant
-  pub commit_same : (commit : Option HeldCommit) → IfSome commit (Stands os)
-      → option_map (commit_in more) commit ≡ option_map (commit_in os) commit
-  commit_same None stands = refl
-  commit_same (Some held) stands =
-      ap (λ (m : FileMap). Some (record (commit_in os held) { files = m }))
-      (branch_grown held.files stands).1
+  commit_same : (held : HeldCommit) → Stands os held → commit_in more held ≡ commit_in os held
+  commit_same held stands =
+      ap (λ (m : FileMap). record (commit_in os held) { files = m }) (branch_grown held.files stands).1
+
+  -- the open command means what it meant
+  pub command_same : (command : OpenCommand HeldCommit) → HoldsOpen os command
+      → command_with (commit_in more) command ≡ command_with (commit_in os) command
+  command_same (Changes held) stands = ap (λ (c : OpenCommit). Changes c) (commit_same held stands)
+  command_same (Inline held file) stands =
+      ap (λ (c : OpenCommit). Inline c file) (commit_same held stands)
+  command_same _ stands = refl
 
   pub files_grown : (state : StreamState) → HoldsFiles os state → HoldsFiles more state
   files_grown state holds = record {
-    commit = commit_grown state.commit holds.commit;
+    command = command_grown state.stream.command holds.command;
     left = left_grown state.left holds.left;
   }
 
 -- what stands in any case stands where a call was carried out
 pub still_held : {A : Type 0} (r : Result A Fault) (os : List Object) (old new : StreamState)
     → KeepsBranchFiles old new → HoldsFiles os old → OnOk r (HoldsFiles os new)
-still_held (Ok value) os old new keeps holds = files_kept os old new keeps holds
+still_held (Ok value) os old new keeps holds = keeps os holds
 still_held (Err e) os old new keeps holds = tt

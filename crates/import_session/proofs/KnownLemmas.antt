@@ -1,5 +1,5 @@
 -- An act that fits the workspace is not refused as no command.
-use Rattle.std.proofs.Common.{◌≡◌, ◌≢◌, ℕ, true, List, Option, Some, None, Result, Ok, Err, codes}
+use Rattle.std.proofs.Common.{◌≡◌, ◌≢◌, ℕ, List, Option, Some, None, Result, Ok, Err, codes}
 use Rattle.std.specs.Prelude.{IfErr, nat_lt, length}
 use Rattle.std.specs.Map.{lookup}
 use Rattle.std.specs.Prelude.{nat_eq}
@@ -39,8 +39,11 @@ use Rattle.stream_state.specs.declared.branches.Tip.{Tip}
 use Rattle.stream_state.specs.declared.branches.Tip.TheVariants.{Unborn}
 use Rattle.stream_state.specs.declared.fault.Fault.{Fault}
 use Rattle.stream_state.specs.declared.fault.Fault.TheVariants as fault
-use Rattle.stream_state.specs.declared.command_header.CommandHeader.{CommandHeader}
-use Rattle.stream_state.specs.declared.command_header.Inline.{Inline}
+use Rattle.stream_state.specs.declared.headers.CommitHeader.{CommitHeader}
+use Rattle.stream_state.specs.declared.headers.InlineFile.{InlineFile}
+use Rattle.stream_state.specs.declared.headers.TagHeader.{TagHeader}
+use Rattle.stream_state.specs.OpenCommand.{OpenCommand, already_said, changes_in, commit_header_in, inline_in, reset_in, tag_header_in}
+use Rattle.stream_state.specs.OpenCommand as open_command
 use Rattle.stream_state.specs.Branches.{Branches, branch_set, commit_at, has_branch_room, tip_commit, tip_for, tip_of}
 use Rattle.stream_state.specs.Checkpoints.{fit}
 use Rattle.stream_state.specs.Faults.{and_then, or_fault, resolved_or}
@@ -48,9 +51,9 @@ use Rattle.stream_state.specs.Marks.{Marks, found_mark, has_room, marked_name, r
 use Rattle.stream_state.specs.Printing.{shown_content, shown_object}
 use Rattle.stream_state.specs.Showing.{entry_shown, tree_in}
 use Rattle.stream_state.specs.Storing.{stored_or, with_content}
-use Rattle.stream_state.specs.Tags.{is_tag_ref, room_for_tag, tag_content, tag_is_open, tag_limit, tagged_kind}
-use Rattle.import_session.specs.Workspace.{Effect, Workspace, quiet}
-use Rattle.import_session.specs.Lines.{in_commit, in_header, now_open}
+use Rattle.stream_state.specs.Tags.{room_for_tag, tag_content, tag_limit, tagged_kind}
+use Rattle.import_session.specs.Workspace.{Effect, Workspace, quiet, with_command}
+use Rattle.import_session.specs.Lines.{in_changes, in_commit_header, in_tag_header}
 use Rattle.import_session.specs.Faults.{changed_or}
 use Rattle.import_session.specs.CommitIshes.{branch_or_expression, commit_in, is_branch, named_in, ref_in, start_in}
 use Rattle.import_session.specs.Tags.{tag_stored, tagged}
@@ -62,7 +65,7 @@ use Rattle.import_session.specs.Replies.{branch_entry_shown, replied}
 use Rattle.import_session.specs.Checkpoints.{saved_refs}
 use Rattle.import_session.specs.Controls.{controlled}
 use Rattle.import_session.specs.Meaning.{after_act}
-use Rattle.import_session.specs.Fitting.{Fits, FitsChange, FitsCommit, FitsObject, FitsRef, FitsReply, HasCommitter, IsTag, IsThere}
+use Rattle.import_session.specs.Fitting.{Fits, FitsChange, FitsCommit, FitsObject, FitsRef, FitsReply, HasCommitter, HasTarget, IsChanging, IsCommit, IsInline, IsReset, IsTag, IsThere}
 
 -- another refusal than that of a line whose command is not open
 abbrev IsOther : Fault → Type 0
@@ -134,8 +137,8 @@ branch_known branches ref tip =
     by_test (has_branch_room branches ref) (λ room. rw room tt) (λ full. rw full (λ is. cc))
 
 named_known : (w : Workspace) (commit : CommitIsh) → Known (named_in w commit)
-named_known w (Marked mark) = marked_known w.marks mark
-named_known w (Expression words) = by_tip (tip_of w.branches (ref_in w words))
+named_known w (Marked mark) = marked_known w.stream.marks mark
+named_known w (Expression words) = by_tip (tip_of w.stream.branches (ref_in w words))
   where
     by_tip : (tip : Option Tip) → Known (branch_or_expression w words tip)
     by_tip None = resolved_known (resolved w.objects w.refs words)
@@ -152,38 +155,57 @@ start_known w ref from =
 
 -- ---- lines of what is open
 
-header_known : (more : CommandHeader → CommandHeader) (w : Workspace) → IsThere w.said
-    → Known (in_header more w)
-header_known more w there = by_said w.said there
+said_known : {A : Type 0} (said : Option A) → IsThere said → Known (already_said said)
+said_known None there = absurd there
+said_known (Some value) there = tt
+
+commit_header_known : (more : CommitHeader → CommitHeader) (w : Workspace)
+    → IsCommit w.stream.command → Known (in_commit_header more w)
+commit_header_known more w there = by_command w.stream.command there
   where
-    by_said : (said : Option CommandHeader) → IsThere said
-        → Known (and_then (now_open said) (λ said.
-        quiet (record w { said = Some (more said) })))
-    by_said None there = absurd there
-    by_said (Some said) there = tt
+    by_command : (command : OpenCommand OpenCommit) → IsCommit command
+        → Known (and_then (commit_header_in command) (λ header.
+        quiet (with_command w (open_command.Commit (more header)))))
+    by_command (open_command.Commit header) there = tt
+    by_command _ there = absurd there
 
-tag_there : (said : Option CommandHeader) → IsTag said → IsThere said
-tag_there None is = is
-tag_there (Some said) is = tt
-
-open_known : (change : OpenCommit → Result OpenCommit Fault) (w : Workspace) → IsThere w.commit
-    → ((commit : OpenCommit) → Known (change commit)) → Known (in_commit change w)
-open_known change w there known = by_commit w.commit there
+tag_header_known : (more : TagHeader → TagHeader) (w : Workspace)
+    → IsTag w.stream.command → Known (in_tag_header more w)
+tag_header_known more w there = by_command w.stream.command there
   where
-    by_commit : (commit : Option OpenCommit) → IsThere commit
-        → Known (and_then (now_open commit) (λ commit. and_then (change commit) (λ next.
-        quiet (record w { commit = Some next }))))
-    by_commit None there = absurd there
-    by_commit (Some commit) there = then_known (change commit) _ (known commit) (λ next. tt)
+    by_command : (command : OpenCommand OpenCommit) → IsTag command
+        → Known (and_then (tag_header_in command) (λ header.
+        quiet (with_command w (open_command.Tag (more header)))))
+    by_command (open_command.Tag header) there = tt
+    by_command _ there = absurd there
 
-tagged_known : (mark : Option ℕ) (said : CommandHeader) (w : Workspace)
-    → is_tag_ref said.ref_name ≡ true → Known (tagged mark said w)
-tagged_known mark said w is =
-    then_known (tag_is_open said.ref_name) _ (rw is tt) (λ _.
-    then_known (named_in w said.target) _ (named_known w said.target) (λ target.
+open_known : (change : OpenCommit → Result OpenCommit Fault) (w : Workspace)
+    → IsChanging w.stream.command
+    → ((commit : OpenCommit) → Known (change commit)) → Known (in_changes change w)
+open_known change w there known = by_command w.stream.command there
+  where
+    by_command : (command : OpenCommand OpenCommit) → IsChanging command
+        → Known (and_then (changes_in command) (λ commit. and_then (change commit) (λ next.
+        quiet (with_command w (open_command.Changes next)))))
+    by_command (open_command.Changes commit) there =
+        then_known (change commit) _ (known commit) (λ next. tt)
+    by_command _ there = absurd there
+
+inline_known : (file : InlineFile) (w : Workspace) (command : OpenCommand OpenCommit)
+    → IsChanging command
+    → Known (and_then (changes_in command) (λ commit.
+    quiet (with_command w (open_command.Inline commit file))))
+inline_known file w (open_command.Changes commit) there = tt
+inline_known file w _ there = absurd there
+
+tagged_known : (mark : Option ℕ) (header : TagHeader) (w : Workspace)
+    → IsThere header.target → Known (tagged mark header w)
+tagged_known mark header w there =
+    then_known (already_said header.target) _ (said_known header.target there) (λ said.
+    then_known (named_in w said) _ (named_known w said) (λ target.
     then_known (tagged_kind (kind_named target w.objects)) _ (by_kind (kind_named target w.objects))
-    (λ target_kind. then_known (room_for w.marks mark) _ (room_known w.marks mark) (λ _.
-    then_known (room_for_tag w.tags) _ (by_test (nat_lt (length w.tags) tag_limit)
+    (λ target_kind. then_known (room_for w.stream.marks mark) _ (room_known w.stream.marks mark) (λ _.
+    then_known (room_for_tag w.stream.tags) _ (by_test (nat_lt (length w.stream.tags) tag_limit)
     (λ room. rw room tt) (λ full. rw full (λ e. cc))) (λ _. tt)))))
   where
     by_kind : (k : Option Kind) → Known (tagged_kind k)
@@ -194,13 +216,14 @@ tagged_known mark said w is =
     by_kind (Some kind.Tag) = tt
 
 tag_known : (digest : List ℕ → List ℕ) (mark : Option ℕ) (message : List ℕ) (w : Workspace)
-    (said : Option CommandHeader) → IsTag said
-    → Known (and_then (now_open said) (λ said. tag_stored digest mark message said w))
-tag_known digest mark message w None is = absurd is
-tag_known digest mark message w (Some said) is =
-    then_known (tagged mark said w) _ (tagged_known mark said w is) (λ target.
-    then_known (with_content digest (tag_content said message target.0 target.1) w.objects) _
-    (stored_known digest (tag_content said message target.0 target.1) w.objects) (λ os. tt))
+    (command : OpenCommand OpenCommit) → HasTarget command
+    → Known (and_then (tag_header_in command) (λ header.
+    tag_stored digest mark message header w))
+tag_known digest mark message w (open_command.Tag header) there =
+    then_known (tagged mark header w) _ (tagged_known mark header w there) (λ target.
+    then_known (with_content digest (tag_content header message target.0 target.1) w.objects) _
+    (stored_known digest (tag_content header message target.0 target.1) w.objects) (λ os. tt))
+tag_known digest mark message w _ there = absurd there
 
 begun_known : (os : List Object) (first : Option (List ℕ)) (commit : OpenCommit)
     → Known (begun_from os first commit)
@@ -208,53 +231,52 @@ begun_known os None commit = tt
 begun_known os (Some id) commit = changed_known (started_from os id commit)
 
 message_known : (mark : Option ℕ) (message : List ℕ) (w : Workspace)
-    (said : Option CommandHeader) → HasCommitter said
-    → Known (and_then (now_open said) (λ said. commit_opened mark message said w))
-message_known mark message w None there = absurd there
-message_known mark message w (Some said) there =
-    then_known (and_then (now_open said.committer) (λ committer. Ok (header_of mark said committer)))
-    _ (by_committer said.committer there) (λ header.
-    then_known (branch_set w.branches header.ref (tip_for (tip_commit w.branches header.ref))) _
-    (branch_known w.branches header.ref (tip_for (tip_commit w.branches header.ref))) (λ branches.
-    then_known (begun_from w.objects (tip_commit w.branches header.ref) (begun header message)) _
-    (begun_known w.objects (tip_commit w.branches header.ref) (begun header message))
+    (command : OpenCommand OpenCommit) → HasCommitter command
+    → Known (and_then (commit_header_in command) (λ said. commit_opened mark message said w))
+message_known mark message w (open_command.Commit said) there =
+    then_known (and_then (already_said said.committer) (λ committer.
+    Ok (header_of mark said committer))) _
+    (then_known (already_said said.committer) _ (said_known said.committer there)
+    (λ committer. tt)) (λ header.
+    then_known
+    (branch_set w.stream.branches header.ref (tip_for (tip_commit w.stream.branches header.ref))) _
+    (branch_known w.stream.branches header.ref (tip_for (tip_commit w.stream.branches header.ref)))
+    (λ branches.
+    then_known (begun_from w.objects (tip_commit w.stream.branches header.ref) (begun header message))
+    _ (begun_known w.objects (tip_commit w.stream.branches header.ref) (begun header message))
     (λ opening. tt)))
-  where
-    by_committer : (committer : Option (List ℕ)) → IsThere committer
-        → Known (and_then (now_open committer) (λ committer.
-        Ok (header_of mark said committer)))
-    by_committer None there = absurd there
-    by_committer (Some committer) there = tt
+message_known mark message w _ there = absurd there
 
 file_known : (digest : List ℕ → List ℕ) (bytes : List ℕ) (w : Workspace)
-    (inline : Option Inline) (commit : Option OpenCommit) → IsThere inline → IsThere commit
-    → Known (and_then (now_open inline) (λ file. and_then (now_open commit) (λ commit.
-    file_stored digest bytes file commit w)))
-file_known digest bytes w None commit there opened = absurd there
-file_known digest bytes w (Some file) None there opened = absurd opened
-file_known digest bytes w (Some file) (Some commit) there opened =
+    (command : OpenCommand OpenCommit) → IsInline command
+    → Known (and_then (inline_in command) (λ inline.
+    file_stored digest bytes inline.0 inline.1 w))
+file_known digest bytes w (open_command.Inline commit file) there =
     then_known (changed_or (contents_put digest w.objects file.mode file.path bytes commit)) _
     (changed_known (contents_put digest w.objects file.mode file.path bytes commit)) (λ left. tt)
+file_known digest bytes w _ there = absurd there
 
-placed_known : (from : CommitIsh) (w : Workspace) (said : Option CommandHeader) → IsThere said
-    → Known (and_then (now_open said) (λ said. branch_placed from said w))
-placed_known from w None there = absurd there
-placed_known from w (Some said) there =
-    then_known (tip_from w said.ref_name from) _ tip (λ tip. tt)
+placed_known : (from : CommitIsh) (w : Workspace) (command : OpenCommand OpenCommit)
+    → IsReset command
+    → Known (and_then (reset_in command) (λ ref. branch_placed from ref w))
+placed_known from w (open_command.Reset ref) there =
+    then_known (tip_from w ref from) _ tip (λ tip. tt)
   where
-    tip : Known (tip_from w said.ref_name from)
+    tip : Known (tip_from w ref from)
     tip = by_test (is_zeros from)
         (λ zeros. rw zeros tt)
-        (λ other. rw other (then_known (start_in w said.ref_name from) _
-        (start_known w said.ref_name from) (λ id. tt)))
+        (λ other. rw other (then_known (start_in w ref from) _
+        (start_known w ref from) (λ id. tt)))
+placed_known from w _ there = absurd there
 
 entry_known : (digest : List ℕ → List ℕ) (path : _) (w : Workspace)
-    (commit : Option OpenCommit) → IsThere commit
-    → Known (and_then (now_open commit) (λ commit. branch_entry_shown digest path commit w))
-entry_known digest path w None there = absurd there
-entry_known digest path w (Some commit) there =
+    (command : OpenCommand OpenCommit) → IsChanging command
+    → Known (and_then (changes_in command) (λ commit.
+    branch_entry_shown digest path commit w))
+entry_known digest path w (open_command.Changes commit) there =
     then_known (changed_or (commit_entry_shown digest w.objects commit.files path)) _
     (changed_known (commit_entry_shown digest w.objects commit.files path)) (λ shown. tt)
+entry_known digest path w _ there = absurd there
 
 -- ---- the groups of commands
 
@@ -262,27 +284,29 @@ object_known : (digest : List ℕ → List ℕ) (command : ObjectCommand) (w : W
     → FitsObject command w → Known (object_stored digest command w)
 unfolding object_stored
 object_known digest (acts.Blob mark contents) w fits =
-    then_known (room_for w.marks mark) _ (room_known w.marks mark) (λ _.
+    then_known (room_for w.stream.marks mark) _ (room_known w.stream.marks mark) (λ _.
     then_known (with_content digest (content_from kind.Blob contents) w.objects) _
     (stored_known digest (content_from kind.Blob contents) w.objects) (λ os. tt))
 object_known digest (BeginTag ref) w fits = tt
 object_known digest (TagTarget target) w fits =
-    header_known (λ said. record said { target = target }) w (tag_there w.said fits)
+    tag_header_known (λ header. record header { target = Some target }) w fits
 object_known digest (Tagger ident) w fits =
-    header_known (λ said. record said { tagger = Some ident }) w (tag_there w.said fits)
-object_known digest (acts.Tag mark message) w fits = tag_known digest mark message w w.said fits
+    tag_header_known (λ header. record header { tagger = Some ident }) w fits
+object_known digest (acts.Tag mark message) w fits =
+    tag_known digest mark message w w.stream.command fits
 
 commit_line_known : (command : CommitCommand) (w : Workspace) → FitsCommit command w
     → Known (commit_said command w)
 unfolding commit_said
 commit_line_known (Begin ref) w fits = tt
 commit_line_known (Author ident) w fits =
-    header_known (λ said. record said { author = Some ident }) w fits
+    commit_header_known (λ header. record header { author = Some ident }) w fits
 commit_line_known (Committer ident) w fits =
-    header_known (λ said. record said { committer = Some ident }) w fits
+    commit_header_known (λ header. record header { committer = Some ident }) w fits
 commit_line_known (Encoding encoding) w fits =
-    header_known (λ said. record said { encoding = Some encoding }) w fits
-commit_line_known (Message mark message) w fits = message_known mark message w w.said fits
+    commit_header_known (λ header. record header { encoding = Some encoding }) w fits
+commit_line_known (Message mark message) w fits =
+    message_known mark message w w.stream.command fits
 commit_line_known (From from) w fits =
     open_known (commit_started w from) w fits (λ commit.
     then_known (start_in w commit.header.ref from) _ (start_known w commit.header.ref from)
@@ -295,11 +319,12 @@ change_known : (digest : List ℕ → List ℕ) (change : FileChange) (w : Works
     → FitsChange change w → Known (files_changed digest change w)
 unfolding files_changed
 change_known digest (Modify file_mode object path) w fits =
-    open_known (λ commit. changed_or (modified w.objects w.marks file_mode object path commit)) w fits
-    (λ commit. changed_known (modified w.objects w.marks file_mode object path commit))
-change_known digest (ModifyInline file_mode path) w fits = tt
+    open_known (λ commit. changed_or (modified w.objects w.stream.marks file_mode object path commit)) w fits
+    (λ commit. changed_known (modified w.objects w.stream.marks file_mode object path commit))
+change_known digest (ModifyInline file_mode path) w fits =
+    inline_known (record { mode = file_mode; path = path }) w w.stream.command fits
 change_known digest (InlineData bytes) w fits =
-    file_known digest bytes w w.inline w.commit fits.0 fits.1
+    file_known digest bytes w w.stream.command fits
 change_known digest (Delete path) w fits =
     open_known (λ commit. Ok (deleted path commit)) w fits (λ commit. tt)
 change_known digest (Copy source path) w fits =
@@ -314,12 +339,12 @@ change_known digest DeleteAll w fits =
 ref_known : (command : RefCommand) (w : Workspace) → FitsRef command w → Known (ref_set command w)
 unfolding ref_set
 ref_known (Reset ref) w fits =
-    then_known (branch_set w.branches (ref_in w ref) Unborn) _
-    (branch_known w.branches (ref_in w ref) Unborn) (λ branches. tt)
-ref_known (ResetFrom from) w fits = placed_known from w w.said fits
+    then_known (branch_set w.stream.branches (ref_in w ref) Unborn) _
+    (branch_known w.stream.branches (ref_in w ref) Unborn) (λ branches. tt)
+ref_known (ResetFrom from) w fits = placed_known from w w.stream.command fits
 ref_known (Alias mark commit) w fits =
     then_known (commit_in w commit) _ (commit_known w commit) (λ id.
-    then_known (room_for w.marks (Some mark)) _ (room_known w.marks (Some mark)) (λ _. tt))
+    then_known (room_for w.stream.marks (Some mark)) _ (room_known w.stream.marks (Some mark)) (λ _. tt))
 
 object_shown_known : (id : List ℕ) (found : Option Content) → Known (shown_object id found)
 object_shown_known id None = tt
@@ -335,19 +360,20 @@ reply_known : (digest : List ℕ → List ℕ) (command : ReplyCommand) (w : Wor
     → FitsReply command w → Known (replied digest command w)
 unfolding replied
 reply_known digest (GetMark mark) w fits =
-    then_known (marked_name w.marks mark) _ (marked_known w.marks mark) (λ id. tt)
+    then_known (marked_name w.stream.marks mark) _ (marked_known w.stream.marks mark) (λ id. tt)
 reply_known digest (CatBlob object) w fits =
-    then_known (referred_name w.marks object) _ (referred_known w.marks object) (λ id.
+    then_known (referred_name w.stream.marks object) _ (referred_known w.stream.marks object) (λ id.
     then_known (shown_object id (object_named id w.objects)) _
     (object_shown_known id (object_named id w.objects)) (λ line. tt))
 reply_known digest (Ls root path) w fits =
-    then_known (entry_shown w.objects w.marks root path) _
-    (then_known (referred_name w.marks root) _ (referred_known w.marks root) (λ id.
+    then_known (entry_shown w.objects w.stream.marks root path) _
+    (then_known (referred_name w.stream.marks root) _ (referred_known w.stream.marks root) (λ id.
     then_known (tree_in w.objects id) _
     (then_known (or_fault fault.ObjectUnknown (object_named id w.objects)) _
     (or_known fault.ObjectUnknown (object_named id w.objects) (λ e. cc))
     (λ _. resolved_known (peeled w.objects kind.Tree id))) (λ tree. tt))) (λ line. tt)
-reply_known digest (LsInCommit path) w fits = entry_known digest path w w.commit fits
+reply_known digest (LsInCommit path) w fits =
+    entry_known digest path w w.stream.command fits
 reply_known digest (Progress line) w fits = tt
 
 control_known : (command : ControlCommand) (w : Workspace) → Known (controlled command w)

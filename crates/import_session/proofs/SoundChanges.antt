@@ -35,25 +35,36 @@ use Rattle.open_commits.specs.Parents.{changed_to, merged, started_from}
 use Rattle.open_commits.proofs.GoodCommits.{all_deleted_keeps, begun_is, change_keeps, contents_keep, copy_keeps, delete_keeps, longer_is, merge_keeps, rename_keeps, start_keeps}
 use Rattle.open_commits.proofs.GoodFiles.{contents_has, copied_has, deleted_has, modified_has, renamed_has, started_has}
 use Rattle.open_commits.proofs.StoredCommits.{stored_commit}
+use Rattle.stream_state.specs.OpenCommand.{OpenCommand}
+use Rattle.stream_state.specs.OpenCommand as open_command
 use Rattle.import_session.specs.Faults.{changed_or}
 use Rattle.import_session.specs.Workspace.{Workspace}
 use Rattle.import_session.specs.CommitIshes.{commit_in, start_in}
 use Rattle.import_session.specs.Commits.{begun_from, commit_merged, commit_started}
-use Rattle.import_session.specs.Sound.{IsOpen}
+use Rattle.import_session.specs.Sound.{IsOpen, IsSoundCommand}
 use Rattle.import_session.proofs.SoundCommits.{IsCommitOf, commit_good, start_good}
 use Rattle.import_session.proofs.SoundObjects.{by_test, then_good}
 
 -- ---- more objects
 
-pub open_grown : (os new : List Object) → Grows os new → (commit : Option OpenCommit)
-    → IfSome commit (IsOpen os) → IfSome commit (IsOpen new)
-open_grown os new grows None is = tt
-open_grown os new grows (Some commit) is = record {
+open_grown : (os new : List Object) → Grows os new → (commit : OpenCommit)
+    → IsOpen os commit → IsOpen new commit
+open_grown os new grows commit is = record {
   ref = is.ref;
   good = subst (λ (objects : List Object). IsGoodCommit objects commit) (sym grows.are)
       (longer_is os grows.more commit is.good);
   files = is.files;
 }
+
+pub command_grown : (os new : List Object) → Grows os new → (command : OpenCommand OpenCommit)
+    → IsSoundCommand os command → IsSoundCommand new command
+command_grown os new grows open_command.Nothing is = tt
+command_grown os new grows (open_command.Commit header) is = is
+command_grown os new grows (open_command.Tag header) is = is
+command_grown os new grows (open_command.Reset ref) is = is
+command_grown os new grows (open_command.Changes commit) is = open_grown os new grows commit is
+command_grown os new grows (open_command.Inline commit file) is =
+    (open_grown os new grows commit is.0, is.1)
 
 -- ---- the branch of a commit, which no change moves
 

@@ -88,9 +88,9 @@ tip_is os (Some Deleted) is = tt
 tip_is os (Some (At id)) is = is
 
 pub tip_commit_is : (digest : List ℕ → List ℕ) (workspace : Workspace) → IsSound digest workspace
-    → (ref : List ℕ) → IsTipCommit workspace.objects (tip_commit workspace.branches ref)
+    → (ref : List ℕ) → IsTipCommit workspace.objects (tip_commit workspace.stream.branches ref)
 tip_commit_is digest workspace sound ref =
-    tip_is workspace.objects (tip_of workspace.branches ref)
-    (lookup_has (IsTip workspace.objects) (bytes_eq ref) workspace.branches
+    tip_is workspace.objects (tip_of workspace.stream.branches ref)
+    (lookup_has (IsTip workspace.objects) (bytes_eq ref) workspace.stream.branches
     (All-weaker (IsStreamBranch workspace.objects) (λ branch. IsTip workspace.objects branch.1)
-    (λ branch is. is.tip) workspace.branches sound.branches))
+    (λ branch is. is.tip) workspace.stream.branches sound.branches))

@@ -23,7 +23,6 @@ use Rattle.git_model.specs.TagReading.{tag_read}
 use Rattle.git_model.proofs.GoodRefs.{kind_longer, no_refs_are}
 use Rattle.git_model.proofs.Growing.{none_are, taken_is}
 use Rattle.git_model.proofs.TagReadings.{tag_back}
-use Rattle.git_model.proofs.Texts.{begins_test}
 use Rattle.git_names.specs.Naming.{AnswersNames}
 use Rattle.stream_lex.specs.Items.{Item}
 use Rattle.stream_grammar.specs.declared.fault.Fault.{Fault as TextFault}
@@ -40,23 +39,27 @@ use Rattle.stream_grammar.specs.Acts.{Act, Wait, Commit, Change, Ref, Reply, Con
 use Rattle.stream_grammar.specs.Acts as acts
 use Rattle.stream_grammar.specs.Commands.{Done, done_by, end_of}
 use Rattle.stream_grammar.specs.Names.{CommitIsh}
-use Rattle.stream_grammar.specs.WellFormed.{NamesShortRef, IsWellFormed, IsWellFormedChange, IsWellFormedCommit, IsWellFormedControl, IsWellFormedObject, IsWellFormedRef}
+use Rattle.stream_grammar.specs.WellFormed.{NamesShortRef, IsTagRef, IsWellFormed, IsWellFormedChange, IsWellFormedCommit, IsWellFormedControl, IsWellFormedObject, IsWellFormedRef}
 use Rattle.stream_grammar.proofs.WellFormedActs.{well_formed}
 use Rattle.stream_state.specs.declared.branches.Tip.{Tip}
 use Rattle.stream_state.specs.declared.branches.Tip.TheVariants.{Unborn, Deleted, At}
 use Rattle.stream_state.specs.declared.fault.Fault.{Fault}
-use Rattle.stream_state.specs.declared.command_header.CommandHeader.{CommandHeader}
+use Rattle.stream_state.specs.declared.headers.CommitHeader.{CommitHeader}
+use Rattle.stream_state.specs.declared.headers.TagHeader.{TagHeader}
+use Rattle.stream_state.specs.declared.headers.InlineFile.{InlineFile}
 use Rattle.stream_state.specs.Faults.{and_then, text_first}
 use Rattle.import_session.specs.Faults.{changed_or}
 use Rattle.stream_state.specs.Branches.{Branches, branch_set, has_branch_room, head_in, ref_meant, with_branch, tip_commit, tip_for}
 use Rattle.stream_state.specs.Marks.{Marks, marked_name, referred_name, room_for, with_mark}
-use Rattle.stream_state.specs.CommandHeader.{said_of}
-use Rattle.import_session.specs.Workspace.{Workspace, Effect, opened, quiet}
+use Rattle.stream_state.specs.Headers.{new_commit_header, new_tag_header}
+use Rattle.stream_state.specs.OpenCommand.{OpenCommand, already_said, changes_in, commit_header_in, inline_in, reset_in, tag_header_in}
+use Rattle.stream_state.specs.OpenCommand as open_command
+use Rattle.import_session.specs.Workspace.{Workspace, Effect, opened, quiet, with_command}
 use Rattle.import_session.specs.CommitIshes.{commit_in, named_in, start_in, ref_in}
-use Rattle.import_session.specs.Lines.{in_commit, in_header, now_open}
+use Rattle.import_session.specs.Lines.{in_changes, in_commit_header, in_tag_header}
 use Rattle.import_session.specs.Refs.{alias_set, branch_placed, branch_unborn, is_zeros, ref_set, tip_from}
 use Rattle.stream_state.specs.Storing.{with_content}
-use Rattle.stream_state.specs.Tags.{is_tag_ref, room_for_tag, tag_content, tagged_kind}
+use Rattle.stream_state.specs.Tags.{room_for_tag, tag_content, tagged_kind}
 use Rattle.import_session.specs.Objects.{blob_stored, object_stored}
 use Rattle.import_session.specs.Tags.{tag_made, tag_stored, tagged}
 use Rattle.stream_state.specs.Checkpoints.{fit}
@@ -74,13 +77,12 @@ use Rattle.open_commits.specs.OpenCommit.{Header, OpenCommit as Opened, begun}
 use Rattle.open_commits.specs.Showing.{Shown, entry_shown}
 use Rattle.open_commits.proofs.FitCommits.{end_fits, entry_fits}
 use Rattle.open_commits.proofs.GoodCommits.{end_keeps as commit_end, entry_keeps}
-use Rattle.stream_state.specs.declared.command_header.Inline.{Inline}
 use Rattle.import_session.specs.Changes.{file_stored, files_changed}
 use Rattle.import_session.specs.Replies.{branch_entry_shown, entry_line, replied}
 use Rattle.import_session.specs.Commits.{begun_from, closed_at, closed_where, commit_merged, commit_opened, commit_said, commit_started, header_of, header_said, open_closed, opened_with}
 use Rattle.import_session.specs.Printing.{prints}
-use Rattle.import_session.proofs.SoundChanges.{IsReady, LeavesOpen, begun_open, cleared_open, commit_merged_open, commit_started_open, contents_open, copied_open, deleted_open, modified_open, open_grown, renamed_open}
-use Rattle.import_session.specs.Sound.{IsStreamBranch, IsOpen, IsPending, IsSound, IsSoundRepository, IsTip, IsWellFormedHeader}
+use Rattle.import_session.proofs.SoundChanges.{IsReady, LeavesOpen, begun_open, cleared_open, commit_merged_open, commit_started_open, command_grown, contents_open, copied_open, deleted_open, modified_open, renamed_open}
+use Rattle.import_session.specs.Sound.{IsCommitHeader, IsStreamBranch, IsOpen, IsPending, IsSound, IsSoundCommand, IsSoundRepository, IsTagHeader, IsTip}
 use Rattle.stream_state.specs.Showing.{entry_shown as stored_entry_shown}
 use Rattle.import_session.specs.Stream.{Running, Step, commands_end, last_checkpoint, session_end, step, taken, unless_done_missing}
 use Rattle.import_session.proofs.SoundCommits.{IsCommitOf, commit_good, start_good, tip_commit_is}
@@ -110,9 +112,7 @@ new_is_sound digest repository good = record {
   marks = All-nil _;
   branches = All-nil _;
   tags = All-nil _;
-  said = tt;
-  commit = tt;
-  inline = tt;
+  command = tt;
 }
 
 pub checkpoint_is_sound : (digest : List ℕ → List ℕ) (workspace : Workspace)
@@ -171,7 +171,7 @@ blob_keeps : (digest : List ℕ → List ℕ) → AnswersNames digest → (works
     → IfOk (blob_stored digest mark (content_from kind.Blob bytes) workspace) (LeavesSound digest)
 blob_keeps digest names workspace sound mark bytes =
     let content = content_from kind.Blob bytes in
-    then_any (LeavesSound digest) (room_for workspace.marks mark) _ (λ _.
+    then_any (LeavesSound digest) (room_for workspace.stream.marks mark) _ (λ _.
     then_good (HoldsFitting digest workspace.objects content) (LeavesSound digest)
     (with_content digest content workspace.objects) _
     (both_ok (λ objects. Holds digest workspace.objects objects content) (TreesFit []) _
@@ -184,14 +184,13 @@ blob_keeps digest names workspace sound mark bytes =
       refs = refs_grown workspace.objects objects keeps.grows workspace.committed workspace.refs
           sound.refs;
       next_head = sound.next_head;
-      marks = marks_with workspace.marks mark (name_by digest content) sound.marks
+      marks = marks_with workspace.stream.marks mark (name_by digest content) sound.marks
           (named_by digest names content);
-      branches = branches_longer workspace.objects objects keeps.grows workspace.branches
+      branches = branches_longer workspace.objects objects keeps.grows workspace.stream.branches
           sound.branches;
-      tags = tags_grown workspace.objects objects keeps.grows workspace.tags sound.tags;
-      said = sound.said;
-      commit = open_grown workspace.objects objects keeps.grows workspace.commit sound.commit;
-      inline = sound.inline;
+      tags = tags_grown workspace.objects objects keeps.grows workspace.stream.tags sound.tags;
+      command = command_grown workspace.objects objects keeps.grows workspace.stream.command
+          sound.command;
     }))
 
 -- ---- refs
@@ -212,41 +211,22 @@ head_named (Some ref) refs next saved = next
 
 meant_named : (workspace : Workspace) (digest : List ℕ → List ℕ) → IsSound digest workspace
     → (ref : List ℕ) → NamesShortRef ref
-    → IsShortRefName (ref_meant workspace.head workspace.refs ref)
+    → IsShortRefName (ref_meant workspace.stream.head workspace.refs ref)
 unfolding ref_meant
 meant_named workspace digest sound ref names =
     by_test (bytes_eq ref (codes "HEAD"))
-    (λ is. rw is (head_named workspace.head workspace.refs sound.next_head sound.refs.head))
+    (λ is. rw is (head_named workspace.stream.head workspace.refs sound.next_head sound.refs.head))
     (λ other. rw other (no_head ref names other))
 
--- ---- what the open command says
-
-with_said : (digest : List ℕ → List ℕ) (workspace : Workspace) (said : Option CommandHeader)
-    → IsSound digest workspace → IfSome said IsWellFormedHeader
-    → IsSound digest (record workspace { said = said })
-with_said digest workspace said sound well = record {
-  objects = sound.objects;
-  trees = sound.trees;
-  refs = sound.refs;
-  next_head = sound.next_head;
-  marks = sound.marks;
-  branches = sound.branches;
-  tags = sound.tags;
-  said = well;
-  commit = sound.commit;
-  inline = sound.inline;
-}
-
-newly_said : (ref : List ℕ) → IsShortRefName ref → IsWellFormedHeader (said_of ref)
-newly_said ref name = record { ref = name; author = tt; committer = tt; encoding = tt; tagger = tt }
-
--- ---- branches
+-- ---- the open command
 
 branches_keep : (digest : List ℕ → List ℕ) (workspace : Workspace) (branches : Branches)
-    (said : Option CommandHeader) → IsSound digest workspace
-    → All (IsStreamBranch workspace.objects) branches → IfSome said IsWellFormedHeader
-    → IsSound digest (record workspace { branches = branches; said = said })
-branches_keep digest workspace branches said sound good well = record {
+    (command : OpenCommand Opened) → IsSound digest workspace
+    → All (IsStreamBranch workspace.objects) branches → IsSoundCommand workspace.objects command
+    → IsSound digest (record workspace {
+      stream = record workspace.stream { branches = branches; command = command };
+    })
+branches_keep digest workspace branches command sound good is = record {
   objects = sound.objects;
   trees = sound.trees;
   refs = sound.refs;
@@ -254,10 +234,16 @@ branches_keep digest workspace branches said sound good well = record {
   marks = sound.marks;
   branches = good;
   tags = sound.tags;
-  said = well;
-  commit = sound.commit;
-  inline = sound.inline;
+  command = is;
 }
+
+command_keeps : (digest : List ℕ → List ℕ) (workspace : Workspace) (command : OpenCommand Opened)
+    → IsSound digest workspace → IsSoundCommand workspace.objects command
+    → IsSound digest (with_command workspace command)
+command_keeps digest workspace command sound is =
+    branches_keep digest workspace workspace.stream.branches command sound sound.branches is
+
+-- ---- branches
 
 branch_keeps : (os : List Object) (branches : Branches) (ref : List ℕ) (tip : Tip)
     → All (IsStreamBranch os) branches → IsStreamBranch os (ref, tip)
@@ -278,14 +264,14 @@ reset_keeps : (digest : List ℕ → List ℕ) (workspace : Workspace) → IsSou
     → (ref : List ℕ) → NamesShortRef ref
     → IfOk (branch_unborn (ref_in workspace ref) workspace) (LeavesSound digest)
 reset_keeps digest workspace sound ref names =
-    let meant = ref_meant workspace.head workspace.refs ref in
+    let meant = ref_meant workspace.stream.head workspace.refs ref in
     let name = meant_named workspace digest sound ref names in
     then_good (All (IsStreamBranch workspace.objects)) (LeavesSound digest)
-    (branch_set workspace.branches meant Unborn) _
-    (branch_set_keeps workspace.objects workspace.branches meant Unborn sound.branches
+    (branch_set workspace.stream.branches meant Unborn) _
+    (branch_set_keeps workspace.objects workspace.stream.branches meant Unborn sound.branches
     (record { name = name; tip = tt }))
-    (λ branches good. branches_keep digest workspace branches (Some (said_of meant)) sound good
-    (newly_said meant name))
+    (λ branches good. branches_keep digest workspace branches (open_command.Reset meant) sound good
+    name)
 
 -- 'from' in a reset
 tip_good : (digest : List ℕ → List ℕ) (workspace : Workspace) → IsSound digest workspace
@@ -299,16 +285,17 @@ tip_good digest workspace sound ref from =
     (start_good digest workspace sound.objects ref from) (λ id stands. stands)))
 
 placed_at : (digest : List ℕ → List ℕ) (workspace : Workspace) → IsSound digest workspace
-    → (from : CommitIsh) (said : Option CommandHeader) → IfSome said IsWellFormedHeader
-    → IfOk (and_then (now_open said) (λ said. branch_placed from said workspace))
+    → (from : CommitIsh) (command : OpenCommand Opened) → IsSoundCommand workspace.objects command
+    → IfOk (and_then (reset_in command) (λ ref. branch_placed from ref workspace))
     (LeavesSound digest)
-placed_at digest workspace sound from None well = tt
-placed_at digest workspace sound from (Some said) well =
-    then_good (IsTip workspace.objects) (LeavesSound digest) (tip_from workspace said.ref_name from) _
-    (tip_good digest workspace sound said.ref_name from)
-    (λ tip stands. branches_keep digest workspace (with_branch workspace.branches said.ref_name tip)
-    None sound (branch_keeps workspace.objects workspace.branches said.ref_name tip sound.branches
-    (record { name = well.ref; tip = stands })) tt)
+placed_at digest workspace sound from (open_command.Reset ref) name =
+    then_good (IsTip workspace.objects) (LeavesSound digest) (tip_from workspace ref from) _
+    (tip_good digest workspace sound ref from)
+    (λ tip stands. branches_keep digest workspace (with_branch workspace.stream.branches ref tip)
+    open_command.Nothing sound
+    (branch_keeps workspace.objects workspace.stream.branches ref tip sound.branches
+    (record { name = name; tip = stands })) tt)
+placed_at digest workspace sound from _ is = tt
 
 -- ---- aliases
 
@@ -317,33 +304,36 @@ alias_keeps : (digest : List ℕ → List ℕ) (workspace : Workspace) → IsSou
 alias_keeps digest workspace sound mark commit =
     then_good (IsCommitOf workspace.objects) (LeavesSound digest) (commit_in workspace commit) _
     (commit_good digest workspace sound.objects commit) (λ id stands.
-    then_any (LeavesSound digest) (room_for workspace.marks (Some mark)) _ (λ _. record {
+    then_any (LeavesSound digest) (room_for workspace.stream.marks (Some mark)) _ (λ _. record {
       objects = sound.objects;
       trees = sound.trees;
       refs = sound.refs;
       next_head = sound.next_head;
-      marks = marks_with workspace.marks (Some mark) id sound.marks
+      marks = marks_with workspace.stream.marks (Some mark) id sound.marks
           (there digest workspace.objects sound.objects id kind.Commit stands).name;
       branches = sound.branches;
       tags = sound.tags;
-      said = sound.said;
-      commit = sound.commit;
-      inline = sound.inline;
+      command = sound.command;
     }))
 
 -- ---- tags
 
-header_keeps : (digest : List ℕ → List ℕ) (workspace : Workspace) → IsSound digest workspace
-    → (more : CommandHeader → CommandHeader)
-    → ((said : CommandHeader) → IsWellFormedHeader said → IsWellFormedHeader (more said))
-    → IfOk (in_header more workspace) (LeavesSound digest)
-header_keeps digest workspace sound more keeps = by_said workspace.said sound.said
+tag_header_keeps : (digest : List ℕ → List ℕ) (workspace : Workspace) → IsSound digest workspace
+    → (more : TagHeader → TagHeader)
+    → ((header : TagHeader) → IsTagHeader header → IsTagHeader (more header))
+    → IfOk (in_tag_header more workspace) (LeavesSound digest)
+tag_header_keeps digest workspace sound more keeps =
+    by_command workspace.stream.command sound.command
   where
-    by_said : (said : Option CommandHeader) → IfSome said IsWellFormedHeader
-        → IfOk (and_then (now_open said) (λ said.
-        quiet (record workspace { said = Some (more said) }))) (LeavesSound digest)
-    by_said None well = tt
-    by_said (Some said) well = with_said digest workspace (Some (more said)) sound (keeps said well)
+    by_command : (command : OpenCommand Opened) → IsSoundCommand workspace.objects command
+        → IfOk (and_then (tag_header_in command) (λ header.
+        quiet (with_command workspace (open_command.Tag (more header))))) (LeavesSound digest)
+    by_command (open_command.Tag header) is =
+        command_keeps digest workspace (open_command.Tag (more header)) sound (keeps header is)
+    by_command _ is = tt
+
+new_tag : (ref : List ℕ) → IsTagRef ref → IsTagHeader (new_tag_header ref)
+new_tag ref is = record { ref = is; tagger = tt }
 
 -- what is tagged is there, and is no tree
 pub record IsTagged (os : List Object) (target : List ℕ) (target_kind : Kind) : Type 0 where
@@ -359,75 +349,75 @@ kind_tagged os target (Some kind.Blob) e = record { stands = e; no_tree = λ sam
 kind_tagged os target (Some kind.Tag) e = record { stands = e; no_tree = λ same. cc }
 
 -- the tag that is made
-abbrev tag_from : CommandHeader → List ℕ → List ℕ → Kind → Tag
-tag_from said message target target_kind = record {
+abbrev tag_from : TagHeader → List ℕ → List ℕ → Kind → Tag
+tag_from header message target target_kind = record {
   target = target;
   kind = target_kind;
-  name = drop (length (codes "refs/tags/")) said.ref_name;
-  tagger = said.tagger;
+  name = drop (length (codes "refs/tags/")) header.ref_name;
+  tagger = header.tagger;
   message = message;
 }
 
-ref_spelt : (said : CommandHeader) → is_tag_ref said.ref_name ≡ true
-    → said.ref_name ≡ codes "refs/tags/" ++ drop (length (codes "refs/tags/")) said.ref_name
-ref_spelt said is =
-    let begins = (begins_test said.ref_name (codes "refs/tags/")).0 is in
+ref_spelt : (header : TagHeader) → IsTagHeader header
+    → header.ref_name ≡ codes "refs/tags/" ++ drop (length (codes "refs/tags/")) header.ref_name
+ref_spelt header well =
+    let begins = well.ref.tag in
     begins.1 ∙ ap (λ (rest : List ℕ). codes "refs/tags/" ++ rest)
     (sym (ap (λ (ref : List ℕ). drop 10 ref) begins.1))
 
-tag_can : (said : CommandHeader) (message target : List ℕ) (target_kind : Kind) → IsWellFormedHeader said
-    → is_tag_ref said.ref_name ≡ true → IsObjectName target → target_kind ≢ kind.Tree
-    → CanWriteTag (tag_from said message target target_kind)
-tag_can said message target target_kind well is name no_tree =
+tag_can : (header : TagHeader) (message target : List ℕ) (target_kind : Kind) → IsTagHeader header
+    → IsObjectName target → target_kind ≢ kind.Tree
+    → CanWriteTag (tag_from header message target target_kind)
+tag_can header message target target_kind well name no_tree =
     record {
       target = name;
       kind = no_tree;
-      name = subst IsRefName (ref_spelt said is) well.ref.name;
+      name = subst IsRefName (ref_spelt header well) well.ref.name.name;
       tagger = well.tagger;
     }
 
 tag_written : (digest : List ℕ → List ℕ) (os : List Object) → AreObjects digest os
-    → (said : CommandHeader) (message target : List ℕ) (target_kind : Kind) → IsWellFormedHeader said
-    → is_tag_ref said.ref_name ≡ true → IsTagged os target target_kind
-    → CanWriteTag (tag_from said message target target_kind)
-tag_written digest os good said message target target_kind well is tagged =
-    tag_can said message target target_kind well is
+    → (header : TagHeader) (message target : List ℕ) (target_kind : Kind) → IsTagHeader header
+    → IsTagged os target target_kind
+    → CanWriteTag (tag_from header message target target_kind)
+tag_written digest os good header message target target_kind well tagged =
+    tag_can header message target target_kind well
     (there digest os good target target_kind tagged.stands).name tagged.no_tree
 
 -- it waits under its own name
-tag_held : (said : CommandHeader) (message target : List ℕ) (target_kind : Kind) → IsWellFormedHeader said
-    → is_tag_ref said.ref_name ≡ true → CanWriteTag (tag_from said message target target_kind)
+tag_held : (header : TagHeader) (message target : List ℕ) (target_kind : Kind) → IsTagHeader header
+    → CanWriteTag (tag_from header message target target_kind)
     → (os : List Object) (id : List ℕ)
-    → object_named id os ≡ Some (tag_content said message target target_kind)
-    → IsPending os (said.ref_name, id)
-tag_held said message target target_kind well is can os id held = record {
-  name = well.ref;
+    → object_named id os ≡ Some (tag_content header message target target_kind)
+    → IsPending os (header.ref_name, id)
+tag_held header message target target_kind well can os id held = record {
+  name = well.ref.name;
   named = (
-    drop (length (codes "refs/tags/")) said.ref_name,
-    ref_spelt said is,
+    drop (length (codes "refs/tags/")) header.ref_name,
+    ref_spelt header well,
     (
       ap (λ (o : Option Content). option_map (λ (c : Content). c.kind) o) held,
       ap (λ (o : Option Content). (tag_read (unwrap_or o no_content).bytes).name) held
-          ∙ ap (λ (t : Tag). t.name) (tag_back (tag_from said message target target_kind) can),
+          ∙ ap (λ (t : Tag). t.name) (tag_back (tag_from header message target target_kind) can),
     ),
   );
 }
 
 tag_storable : (digest : List ℕ → List ℕ) (os : List Object) → AreObjects digest os
-    → (said : CommandHeader) (message target : List ℕ) (target_kind : Kind) → IsWellFormedHeader said
-    → is_tag_ref said.ref_name ≡ true → IsTagged os target target_kind
-    → IsStorable os (tag_content said message target target_kind)
-tag_storable digest os good said message target target_kind well is tagged =
+    → (header : TagHeader) (message target : List ℕ) (target_kind : Kind) → IsTagHeader header
+    → IsTagged os target target_kind
+    → IsStorable os (tag_content header message target target_kind)
+tag_storable digest os good header message target target_kind well tagged =
     let stands = there digest os good target target_kind tagged.stands in
-    let tag = tag_from said message target target_kind in
-    let can = tag_written digest os good said message target target_kind well is tagged in
+    let tag = tag_from header message target target_kind in
+    let can = tag_written digest os good header message target target_kind well tagged in
     record {
       valid = (
         tag,
         record {
           writable = can;
           contents = refl;
-          short_name = subst (λ (ref : List ℕ). length ref ≤ 1024) (ref_spelt said is) well.ref.short;
+          short_name = subst (λ (ref : List ℕ). length ref ≤ 1024) (ref_spelt header well) well.ref.name.short;
         },
       );
       connected = subst (λ (t : Tag). All (StandsBefore os (length os)) (reference t.kind t.target ∷ []))
@@ -437,47 +427,39 @@ tag_storable digest os good said message target target_kind well is tagged =
           (All-nil (StandsBefore os (length os))));
     }
 
--- what is tagged, where a tag is open
-record IsTaggedBy (os : List Object) (said : CommandHeader) (target : List ℕ × Kind) : Type 0 where
-  is_open : is_tag_ref said.ref_name ≡ true
-  is_tagged : IsTagged os target.0 target.1
-
-tagged_good : (workspace : Workspace) (mark : Option ℕ) (said : CommandHeader)
-    → IfOk (tagged mark said workspace) (IsTaggedBy workspace.objects said)
-tagged_good workspace mark said = let P : List ℕ × Kind → Type 0 = IsTaggedBy workspace.objects said in
-    by_test (is_tag_ref said.ref_name)
-    (λ is. rw is (
-    then_any P (named_in workspace said.target) _ (λ target.
+tagged_good : (workspace : Workspace) (mark : Option ℕ) (header : TagHeader)
+    → IfOk (tagged mark header workspace) (λ target. IsTagged workspace.objects target.0 target.1)
+tagged_good workspace mark header =
+    let P : List ℕ × Kind → Type 0 = λ target. IsTagged workspace.objects target.0 target.1 in
+    then_any P (already_said header.target) _ (λ said.
+    then_any P (named_in workspace said) _ (λ target.
     then_good (IsTagged workspace.objects target) P
     (tagged_kind (kind_named target workspace.objects)) _
     (kind_tagged workspace.objects target (kind_named target workspace.objects) refl)
     (λ target_kind is_tagged.
-    then_any P (room_for workspace.marks mark) _ (λ _.
-    then_any P (room_for_tag workspace.tags) _ (λ _.
-    record { is_open = is; is_tagged = is_tagged }))))))
-    (λ other. rw other tt)
+    then_any P (room_for workspace.stream.marks mark) _ (λ _.
+    then_any P (room_for_tag workspace.stream.tags) _ (λ _. is_tagged)))))
 
 tag_keeps : (digest : List ℕ → List ℕ) → AnswersNames digest → (workspace : Workspace)
-    → IsSound digest workspace → (mark : Option ℕ) (message : List ℕ) (said : Option CommandHeader)
-    → IfSome said IsWellFormedHeader
-    → IfOk (and_then (now_open said) (λ said. tag_stored digest mark message said workspace))
+    → IsSound digest workspace → (mark : Option ℕ) (message : List ℕ)
+    (header : TagHeader) → IsTagHeader header
+    → IfOk (tag_stored digest mark message header workspace) (LeavesSound digest)
+tag_keeps digest names workspace sound mark message header well =
+    then_good (λ (target : List ℕ × Kind). IsTagged workspace.objects target.0 target.1)
     (LeavesSound digest)
-tag_keeps digest names workspace sound mark message None well = tt
-tag_keeps digest names workspace sound mark message (Some said) well =
-    then_good (IsTaggedBy workspace.objects said) (LeavesSound digest) (tagged mark said workspace) _
-    (tagged_good workspace mark said)
-    (λ target is. made target.0 target.1 is.is_open is.is_tagged)
+    (tagged mark header workspace) _ (tagged_good workspace mark header)
+    (λ target is. made target.0 target.1 is)
   where
-    made : (target : List ℕ) (target_kind : Kind) → is_tag_ref said.ref_name ≡ true
+    made : (target : List ℕ) (target_kind : Kind)
         → IsTagged workspace.objects target target_kind
-        → IfOk (tag_made digest mark said.ref_name (tag_content said message target target_kind)
+        → IfOk (tag_made digest mark header.ref_name (tag_content header message target target_kind)
         workspace) (LeavesSound digest)
-    made target target_kind is tagged =
+    made target target_kind tagged =
         let os = workspace.objects in
-        let content = tag_content said message target target_kind in
-        let storable = tag_storable digest os sound.objects said message target target_kind well is
+        let content = tag_content header message target target_kind in
+        let storable = tag_storable digest os sound.objects header message target target_kind well
         tagged in
-        let can = tag_written digest os sound.objects said message target target_kind well is tagged in
+        let can = tag_written digest os sound.objects header message target target_kind well tagged in
         then_good (HoldsFitting digest workspace.objects content) (LeavesSound digest)
         (with_content digest content workspace.objects) _
         (both_ok (λ objects. Holds digest workspace.objects objects content) (TreesFit []) _
@@ -489,19 +471,26 @@ tag_keeps digest names workspace sound mark message (Some said) well =
           refs = refs_grown workspace.objects objects keeps.grows workspace.committed workspace.refs
               sound.refs;
           next_head = sound.next_head;
-          marks = marks_with workspace.marks mark (name_by digest content) sound.marks
+          marks = marks_with workspace.stream.marks mark (name_by digest content) sound.marks
               (named_by digest names content);
-          branches = branches_longer workspace.objects objects keeps.grows workspace.branches
+          branches = branches_longer workspace.objects objects keeps.grows workspace.stream.branches
               sound.branches;
-          tags = All-push (IsPending objects) workspace.tags
-              (said.ref_name, name_by digest content)
-              (tags_grown workspace.objects objects keeps.grows workspace.tags sound.tags)
-              (tag_held said message target target_kind well is can objects (name_by digest content)
+          tags = All-push (IsPending objects) workspace.stream.tags
+              (header.ref_name, name_by digest content)
+              (tags_grown workspace.objects objects keeps.grows workspace.stream.tags sound.tags)
+              (tag_held header message target target_kind well can objects (name_by digest content)
               keeps.held);
-          said = tt;
-          commit = open_grown workspace.objects objects keeps.grows workspace.commit sound.commit;
-          inline = sound.inline;
+          command = tt;
         })
+
+tag_ends : (digest : List ℕ → List ℕ) → AnswersNames digest → (workspace : Workspace)
+    → IsSound digest workspace → (mark : Option ℕ) (message : List ℕ)
+    (command : OpenCommand Opened) → IsSoundCommand workspace.objects command
+    → IfOk (and_then (tag_header_in command) (λ header.
+    tag_stored digest mark message header workspace)) (LeavesSound digest)
+tag_ends digest names workspace sound mark message (open_command.Tag header) well =
+    tag_keeps digest names workspace sound mark message header well
+tag_ends digest names workspace sound mark message _ is = tt
 
 -- ---- checkpoints
 
@@ -517,9 +506,7 @@ checkpoint_keeps digest workspace sound =
       marks = sound.marks;
       branches = sound.branches;
       tags = All-nil _;
-      said = sound.said;
-      commit = sound.commit;
-      inline = sound.inline;
+      command = sound.command;
     }))
     (λ many. rw many tt)
 
@@ -529,7 +516,8 @@ feature_keeps : (digest : List ℕ → List ℕ) (workspace : Workspace) → IsS
     → (wanted : Feature) → IsSound digest (feature_set wanted workspace)
 feature_keeps digest workspace sound feature.Done = switched
   where
-    switched : IsSound digest (record workspace { needs_done = true })
+    switched : IsSound digest
+        (record workspace { stream = record workspace.stream { needs_done = true } })
     switched = record {
       objects = sound.objects;
       trees = sound.trees;
@@ -538,9 +526,7 @@ feature_keeps digest workspace sound feature.Done = switched
       marks = sound.marks;
       branches = sound.branches;
       tags = sound.tags;
-      said = sound.said;
-      commit = sound.commit;
-      inline = sound.inline;
+      command = sound.command;
     }
 feature_keeps digest workspace sound feature.Force = record {
   objects = sound.objects;
@@ -550,9 +536,7 @@ feature_keeps digest workspace sound feature.Force = record {
   marks = sound.marks;
   branches = sound.branches;
   tags = sound.tags;
-  said = sound.said;
-  commit = sound.commit;
-  inline = sound.inline;
+  command = sound.command;
 }
 feature_keeps digest workspace sound _ = sound
 
@@ -569,9 +553,7 @@ head_keeps digest workspace sound ref name =
       marks = sound.marks;
       branches = sound.branches;
       tags = sound.tags;
-      said = sound.said;
-      commit = sound.commit;
-      inline = sound.inline;
+      command = sound.command;
     }))
 
 -- a commit opens
@@ -585,31 +567,21 @@ opened_keeps : (digest : List ℕ → List ℕ) (workspace : Workspace) → IsSo
     → IfOk (opened_with workspace message header) (LeavesSound digest)
 opened_keeps digest workspace sound message header ready =
     let os = workspace.objects in
-    let first = tip_commit workspace.branches header.ref in
+    let first = tip_commit workspace.stream.branches header.ref in
     let is = tip_commit_is digest workspace sound header.ref in
     then_good (All (IsStreamBranch os)) (LeavesSound digest)
-    (branch_set workspace.branches header.ref (tip_for first)) _
-    (branch_set_keeps os workspace.branches header.ref (tip_for first) sound.branches
+    (branch_set workspace.stream.branches header.ref (tip_for first)) _
+    (branch_set_keeps os workspace.stream.branches header.ref (tip_for first) sound.branches
     (record { name = ready.ref; tip = first_tip os first is }))
     (λ branches all. then_good (IsOpen os) (LeavesSound digest)
     (begun_from os first (begun header message)) _
     (begun_open digest os sound.objects header message ready first is)
-    (λ commit good. record {
-      objects = sound.objects;
-      trees = sound.trees;
-      refs = sound.refs;
-      next_head = sound.next_head;
-      marks = sound.marks;
-      branches = all;
-      tags = sound.tags;
-      said = tt;
-      commit = good;
-      inline = sound.inline;
-    }))
+    (λ commit good.
+    branches_keep digest workspace branches (open_command.Changes commit) sound all good))
 
-header_can : (mark : Option ℕ) (said : CommandHeader) → IsWellFormedHeader said → (committer : Option (List ℕ))
-    → IfSome committer IsWrittenIdent
-    → IfOk (and_then (now_open committer) (λ committer. Ok (header_of mark said committer))) IsReady
+header_can : (mark : Option ℕ) (said : CommitHeader) → IsCommitHeader said
+    → (committer : Option (List ℕ)) → IfSome committer IsWrittenIdent
+    → IfOk (and_then (already_said committer) (λ committer. Ok (header_of mark said committer))) IsReady
 header_can mark said well None can = tt
 header_can mark said well (Some committer) can = record {
   ref = well.ref;
@@ -617,33 +589,45 @@ header_can mark said well (Some committer) can = record {
 }
 
 commit_keeps : (digest : List ℕ → List ℕ) (workspace : Workspace) → IsSound digest workspace
-    → (mark : Option ℕ) (message : List ℕ) (said : Option CommandHeader) → IfSome said IsWellFormedHeader
-    → IfOk (and_then (now_open said) (λ said. commit_opened mark message said workspace))
-    (LeavesSound digest)
-commit_keeps digest workspace sound mark message None well = tt
-commit_keeps digest workspace sound mark message (Some said) well =
+    → (mark : Option ℕ) (message : List ℕ) (command : OpenCommand Opened)
+    → IsSoundCommand workspace.objects command
+    → IfOk (and_then (commit_header_in command) (λ said.
+    commit_opened mark message said workspace)) (LeavesSound digest)
+commit_keeps digest workspace sound mark message (open_command.Commit said) well =
     then_good IsReady (LeavesSound digest) (header_said mark said) _
     (header_can mark said well said.committer well.committer)
     (λ header ready. opened_keeps digest workspace sound message header ready)
+commit_keeps digest workspace sound mark message _ is = tt
+
+commit_header_keeps : (digest : List ℕ → List ℕ) (workspace : Workspace)
+    → IsSound digest workspace → (more : CommitHeader → CommitHeader)
+    → ((header : CommitHeader) → IsCommitHeader header → IsCommitHeader (more header))
+    → IfOk (in_commit_header more workspace) (LeavesSound digest)
+commit_header_keeps digest workspace sound more keeps =
+    by_command workspace.stream.command sound.command
+  where
+    by_command : (command : OpenCommand Opened) → IsSoundCommand workspace.objects command
+        → IfOk (and_then (commit_header_in command) (λ header.
+        quiet (with_command workspace (open_command.Commit (more header))))) (LeavesSound digest)
+    by_command (open_command.Commit header) is =
+        command_keeps digest workspace (open_command.Commit (more header)) sound (keeps header is)
+    by_command _ is = tt
 
 -- what grew
 grown_by : (digest : List ℕ → List ℕ) (os new : List Object) → GrowGood digest os new → Grows os new
 grown_by digest os new grows = record { more = grows.more; are = grows.are }
 
 contents_sound : (digest : List ℕ → List ℕ) → AnswersNames digest → (workspace : Workspace)
-    → IsSound digest workspace → (bytes : List ℕ) (inline : Option Inline)
-    → IfSome inline (λ file. IsPath file.path) → (commit : Option Opened)
-    → IfSome commit (IsOpen workspace.objects)
-    → IfOk (and_then (now_open inline) (λ file. and_then (now_open commit) (λ commit.
-    file_stored digest bytes file commit workspace))) (LeavesSound digest)
-contents_sound digest names workspace sound bytes None of_tree commit is = tt
-contents_sound digest names workspace sound bytes (Some file) of_tree None is = tt
-contents_sound digest names workspace sound bytes (Some file) of_tree (Some commit) is =
+    → IsSound digest workspace → (bytes : List ℕ) (command : OpenCommand Opened)
+    → IsSoundCommand workspace.objects command
+    → IfOk (and_then (inline_in command) (λ inline.
+    file_stored digest bytes inline.0 inline.1 workspace)) (LeavesSound digest)
+contents_sound digest names workspace sound bytes (open_command.Inline commit file) is =
     let os = workspace.objects in
     then_good (λ left. LeavesOpen digest os left × TreesFit [] left.objects) (LeavesSound digest)
     (changed_or (contents_put digest os file.mode file.path bytes commit)) _
     (both_ok (LeavesOpen digest os) (λ left. TreesFit [] left.objects) _
-    (contents_open digest names os sound.objects commit is file.mode file.path of_tree bytes)
+    (contents_open digest names os sound.objects commit is.0 file.mode file.path is.1 bytes)
     (contents_left digest os sound.trees commit file.mode file.path bytes))
     (λ left both. let good = both.0 in record {
       objects = good.grows.good;
@@ -653,21 +637,19 @@ contents_sound digest names workspace sound bytes (Some file) of_tree (Some comm
       next_head = sound.next_head;
       marks = sound.marks;
       branches = branches_longer os left.objects (grown_by digest os left.objects good.grows)
-          workspace.branches sound.branches;
+          workspace.stream.branches sound.branches;
       tags = tags_grown os left.objects (grown_by digest os left.objects good.grows)
-          workspace.tags sound.tags;
-      said = sound.said;
-      commit = good.open_commit;
-      inline = tt;
+          workspace.stream.tags sound.tags;
+      command = good.open_commit;
     })
+contents_sound digest names workspace sound bytes _ is = tt
 
 entry_sound : (digest : List ℕ → List ℕ) → AnswersNames digest → (workspace : Workspace)
-    → IsSound digest workspace → (path : Path) (commit : Option Opened)
-    → IfSome commit (IsOpen workspace.objects)
-    → IfOk (and_then (now_open commit) (λ commit. branch_entry_shown digest path commit workspace))
-    (LeavesSound digest)
-entry_sound digest names workspace sound path None is = tt
-entry_sound digest names workspace sound path (Some commit) is =
+    → IsSound digest workspace → (path : Path) (command : OpenCommand Opened)
+    → IsSoundCommand workspace.objects command
+    → IfOk (and_then (changes_in command) (λ commit.
+    branch_entry_shown digest path commit workspace)) (LeavesSound digest)
+entry_sound digest names workspace sound path (open_command.Changes commit) is =
     by_shown (entry_shown digest workspace.objects commit.files path)
     (λ shown e. entry_keeps digest names workspace.objects sound.objects commit is.good is.files path
     shown e)
@@ -691,40 +673,41 @@ entry_sound digest names workspace sound path (Some commit) is =
               sound.refs;
           next_head = sound.next_head;
           marks = sound.marks;
-          branches = branches_longer workspace.objects shown.objects more workspace.branches
+          branches = branches_longer workspace.objects shown.objects more workspace.stream.branches
               sound.branches;
-          tags = tags_grown workspace.objects shown.objects more workspace.tags sound.tags;
-          said = sound.said;
-          commit = open_grown workspace.objects shown.objects more workspace.commit sound.commit;
-          inline = sound.inline;
+          tags = tags_grown workspace.objects shown.objects more workspace.stream.tags sound.tags;
+          command = command_grown workspace.objects shown.objects more workspace.stream.command
+              sound.command;
         }
+entry_sound digest names workspace sound path _ is = tt
 
 -- the open commit changes
 commit_changed : (digest : List ℕ → List ℕ) (workspace : Workspace) → IsSound digest workspace
     → (change : Opened → Result Opened Fault)
     → ((commit : Opened) → IsOpen workspace.objects commit
     → IfOk (change commit) (IsOpen workspace.objects))
-    → IfOk (in_commit change workspace) (LeavesSound digest)
-commit_changed digest workspace sound change keeps = by_commit workspace.commit sound.commit
+    → IfOk (in_changes change workspace) (LeavesSound digest)
+commit_changed digest workspace sound change keeps =
+    by_command workspace.stream.command sound.command
   where
-    by_commit : (commit : Option Opened) → IfSome commit (IsOpen workspace.objects)
-        → IfOk (and_then (now_open commit) (λ commit. and_then (change commit) (λ next.
-        quiet (record workspace { commit = Some next })))) (LeavesSound digest)
-    by_commit None is = tt
-    by_commit (Some commit) is =
+    by_command : (command : OpenCommand Opened) → IsSoundCommand workspace.objects command
+        → IfOk (and_then (changes_in command) (λ commit. and_then (change commit) (λ next.
+        quiet (with_command workspace (open_command.Changes next))))) (LeavesSound digest)
+    by_command (open_command.Changes commit) is =
         then_good (IsOpen workspace.objects) (LeavesSound digest) (change commit) _ (keeps commit is)
-        (λ next good. record {
-          objects = sound.objects;
-          trees = sound.trees;
-          refs = sound.refs;
-          next_head = sound.next_head;
-          marks = sound.marks;
-          branches = sound.branches;
-          tags = sound.tags;
-          said = sound.said;
-          commit = good;
-          inline = sound.inline;
-        })
+        (λ next good.
+        command_keeps digest workspace (open_command.Changes next) sound good)
+    by_command _ is = tt
+
+-- a file of it waits for its data
+inline_waits : (digest : List ℕ → List ℕ) (workspace : Workspace) → IsSound digest workspace
+    → (file : InlineFile) → IsPath file.path → (command : OpenCommand Opened)
+    → IsSoundCommand workspace.objects command
+    → IfOk (and_then (changes_in command) (λ commit.
+    quiet (with_command workspace (open_command.Inline commit file)))) (LeavesSound digest)
+inline_waits digest workspace sound file path (open_command.Changes commit) is =
+    command_keeps digest workspace (open_command.Inline commit file) sound (is, path)
+inline_waits digest workspace sound file path _ is = tt
 
 -- ---- the groups of commands
 
@@ -735,59 +718,51 @@ unfolding object_stored
 object_keeps digest names workspace sound (Blob mark bytes) well =
     blob_keeps digest names workspace sound mark bytes
 object_keeps digest names workspace sound (BeginTag ref) well =
-    with_said digest workspace (Some (said_of ref)) sound (newly_said ref well.name)
+    command_keeps digest workspace (open_command.Tag (new_tag_header ref)) sound (new_tag ref well)
 object_keeps digest names workspace sound (TagTarget target) well =
-    header_keeps digest workspace sound (λ said. record said { target = target }) (λ said is. record {
-      ref = is.ref;
-      author = is.author;
-      committer = is.committer;
-      encoding = is.encoding;
-      tagger = is.tagger;
-    })
+    tag_header_keeps digest workspace sound (λ header. record header { target = Some target })
+    (λ header is. record { ref = is.ref; tagger = is.tagger })
 object_keeps digest names workspace sound (Tagger ident) well =
-    header_keeps digest workspace sound (λ said. record said { tagger = Some ident }) (λ said is. record {
-      ref = is.ref;
-      author = is.author;
-      committer = is.committer;
-      encoding = is.encoding;
-      tagger = well;
-    })
+    tag_header_keeps digest workspace sound (λ header. record header { tagger = Some ident })
+    (λ header is. record { ref = is.ref; tagger = well })
 object_keeps digest names workspace sound (acts.Tag mark message) well =
-    tag_keeps digest names workspace sound mark message workspace.said sound.said
+    tag_ends digest names workspace sound mark message workspace.stream.command sound.command
 
 commit_command_keeps : (digest : List ℕ → List ℕ) (workspace : Workspace)
     → IsSound digest workspace → (command : CommitCommand) → IsWellFormedCommit command
     → IfOk (commit_said command workspace) (LeavesSound digest)
 unfolding commit_said
 commit_command_keeps digest workspace sound (Begin ref) well =
-    with_said digest workspace (Some (said_of (ref_in workspace ref))) sound
-    (newly_said (ref_in workspace ref) (meant_named workspace digest sound ref well))
+    command_keeps digest workspace (open_command.Commit (new_commit_header (ref_in workspace ref)))
+    sound (record {
+      ref = meant_named workspace digest sound ref well;
+      author = tt;
+      committer = tt;
+      encoding = tt;
+    })
 commit_command_keeps digest workspace sound (Author ident) well =
-    header_keeps digest workspace sound (λ said. record said { author = Some ident }) (λ said is. record {
+    commit_header_keeps digest workspace sound (λ header. record header { author = Some ident }) (λ header is. record {
       ref = is.ref;
       author = well;
       committer = is.committer;
       encoding = is.encoding;
-      tagger = is.tagger;
     })
 commit_command_keeps digest workspace sound (Committer ident) well =
-    header_keeps digest workspace sound (λ said. record said { committer = Some ident }) (λ said is. record {
+    commit_header_keeps digest workspace sound (λ header. record header { committer = Some ident }) (λ header is. record {
       ref = is.ref;
       author = is.author;
       committer = well;
       encoding = is.encoding;
-      tagger = is.tagger;
     })
 commit_command_keeps digest workspace sound (Encoding encoding) well =
-    header_keeps digest workspace sound (λ said. record said { encoding = Some encoding }) (λ said is. record {
+    commit_header_keeps digest workspace sound (λ header. record header { encoding = Some encoding }) (λ header is. record {
       ref = is.ref;
       author = is.author;
       committer = is.committer;
       encoding = well;
-      tagger = is.tagger;
     })
 commit_command_keeps digest workspace sound (Message mark message) well =
-    commit_keeps digest workspace sound mark message workspace.said sound.said
+    commit_keeps digest workspace sound mark message workspace.stream.command sound.command
 commit_command_keeps digest workspace sound (From from) well =
     commit_changed digest workspace sound (commit_started workspace from)
     (commit_started_open digest workspace sound.objects from)
@@ -801,23 +776,13 @@ change_keeps : (digest : List ℕ → List ℕ) → AnswersNames digest → (wor
 unfolding files_changed
 change_keeps digest names workspace sound (Modify file_mode object path) well =
     commit_changed digest workspace sound _
-    (modified_open digest workspace.objects sound.objects workspace.marks file_mode object well.0 path
+    (modified_open digest workspace.objects sound.objects workspace.stream.marks file_mode object well.0 path
     well.1.components)
-change_keeps digest names workspace sound (ModifyInline file_mode path) well = record {
-  objects = sound.objects;
-  trees = sound.trees;
-  refs = sound.refs;
-  next_head = sound.next_head;
-  marks = sound.marks;
-  branches = sound.branches;
-  tags = sound.tags;
-  said = sound.said;
-  commit = sound.commit;
-  inline = well.1.components;
-}
+change_keeps digest names workspace sound (ModifyInline file_mode path) well =
+    inline_waits digest workspace sound (record { mode = file_mode; path = path }) well.1.components
+    workspace.stream.command sound.command
 change_keeps digest names workspace sound (InlineData bytes) well =
-    contents_sound digest names workspace sound bytes workspace.inline sound.inline workspace.commit
-    sound.commit
+    contents_sound digest names workspace sound bytes workspace.stream.command sound.command
 change_keeps digest names workspace sound (Delete path) well =
     commit_changed digest workspace sound (λ commit. Ok (deleted path commit))
     (λ commit is. deleted_open workspace.objects commit is path)
@@ -837,7 +802,7 @@ ref_keeps : (digest : List ℕ → List ℕ) (workspace : Workspace) → IsSound
 unfolding ref_set
 ref_keeps digest workspace sound (Reset ref) well = reset_keeps digest workspace sound ref well
 ref_keeps digest workspace sound (ResetFrom from) well =
-    placed_at digest workspace sound from workspace.said sound.said
+    placed_at digest workspace sound from workspace.stream.command sound.command
 ref_keeps digest workspace sound (Alias mark commit) well =
     alias_keeps digest workspace sound mark commit
 
@@ -846,16 +811,16 @@ reply_keeps : (digest : List ℕ → List ℕ) → AnswersNames digest → (work
     → IfOk (replied digest command workspace) (LeavesSound digest)
 unfolding replied
 reply_keeps digest names workspace sound (GetMark mark) =
-    then_any (LeavesSound digest) (marked_name workspace.marks mark) _ (λ id. sound)
+    then_any (LeavesSound digest) (marked_name workspace.stream.marks mark) _ (λ id. sound)
 reply_keeps digest names workspace sound (CatBlob object) =
-    then_any (LeavesSound digest) (referred_name workspace.marks object) _ (λ id.
+    then_any (LeavesSound digest) (referred_name workspace.stream.marks object) _ (λ id.
     then_any (LeavesSound digest) (shown_object id (object_named id workspace.objects))
     (λ line. prints workspace line) (λ line. sound))
 reply_keeps digest names workspace sound (Ls root path) =
-    then_any (LeavesSound digest) (stored_entry_shown workspace.objects workspace.marks root path)
+    then_any (LeavesSound digest) (stored_entry_shown workspace.objects workspace.stream.marks root path)
     (λ line. prints workspace line) (λ line. sound)
 reply_keeps digest names workspace sound (LsInCommit path) =
-    entry_sound digest names workspace sound path workspace.commit sound.commit
+    entry_sound digest names workspace sound path workspace.stream.command sound.command
 reply_keeps digest names workspace sound (Progress line) = sound
 
 control_keeps : (digest : List ℕ → List ℕ) (workspace : Workspace) → IsSound digest workspace
@@ -889,12 +854,11 @@ act_keeps digest names workspace sound (Control command) well =
 -- ---- the end of a commit
 
 closed_keeps : (digest : List ℕ → List ℕ) → AnswersNames digest → (workspace : Workspace)
-    → IsSound digest workspace → (commit : Option Opened)
-    → IfSome commit (IsOpen workspace.objects)
-    → IfOk (open_closed digest workspace commit) (IsSound digest)
-closed_keeps digest names workspace sound None is = sound
-closed_keeps digest names workspace sound (Some commit) is =
-    then_any (IsSound digest) (room_for workspace.marks commit.header.mark) _ (λ _.
+    → IsSound digest workspace → (command : OpenCommand Opened)
+    → IsSoundCommand workspace.objects command
+    → IfOk (open_closed digest workspace command) (IsSound digest)
+closed_keeps digest names workspace sound (open_command.Changes commit) is =
+    then_any (IsSound digest) (room_for workspace.stream.marks commit.header.mark) _ (λ _.
     by_end (closed digest workspace.objects commit)
     (λ end e. commit_end digest names workspace.objects sound.objects commit is.good is.files end e)
     (λ end e. end_fits digest names workspace.objects sound.objects sound.trees commit is.good is.files
@@ -915,23 +879,22 @@ closed_keeps digest names workspace sound (Some commit) is =
           refs = refs_grown workspace.objects end.objects more workspace.committed workspace.refs
               sound.refs;
           next_head = sound.next_head;
-          marks = marks_with workspace.marks commit.header.mark end.id sound.marks
+          marks = marks_with workspace.stream.marks commit.header.mark end.id sound.marks
               (there digest end.objects held.grows.good end.id kind.Commit held.commit).name;
-          branches = branch_keeps end.objects workspace.branches commit.header.ref (At end.id)
-              (branches_longer workspace.objects end.objects more workspace.branches sound.branches)
+          branches = branch_keeps end.objects workspace.stream.branches commit.header.ref (At end.id)
+              (branches_longer workspace.objects end.objects more workspace.stream.branches sound.branches)
               (record { name = is.ref; tip = held.commit });
-          tags = tags_grown workspace.objects end.objects more workspace.tags sound.tags;
-          said = sound.said;
-          commit = tt;
-          inline = sound.inline;
+          tags = tags_grown workspace.objects end.objects more workspace.stream.tags sound.tags;
+          command = tt;
         }
+closed_keeps digest names workspace sound _ is = sound
 
 where_keeps : (digest : List ℕ → List ℕ) → AnswersNames digest → (ends : Bool)
     → (workspace : Workspace) → IsSound digest workspace
     → IfOk (closed_where digest ends workspace) (IsSound digest)
 where_keeps digest names false workspace sound = sound
 where_keeps digest names true workspace sound =
-    closed_keeps digest names workspace sound workspace.commit sound.commit
+    closed_keeps digest names workspace sound workspace.stream.command sound.command
 
 -- ---- items, and the end
 

@@ -180,10 +180,10 @@ pub saved_are : (digest : List ℕ → List ℕ) (workspace : Workspace) → IsS
     → fit (saved_refs workspace) ≡ true → AreRefs workspace.objects (saved_refs workspace)
 saved_are digest workspace sound few =
     let os = workspace.objects in
-    let branched = by_branches workspace workspace.refs workspace.branches in
+    let branched = by_branches workspace workspace.refs workspace.stream.branches in
     few_enough os (saved_refs workspace)
-    (head_good os (by_tags branched workspace.tags) workspace.head
-    (tags_good os workspace.tags branched
-    (branches_good workspace workspace.branches workspace.refs
+    (head_good os (by_tags branched workspace.stream.tags) workspace.stream.head
+    (tags_good os workspace.stream.tags branched
+    (branches_good workspace workspace.stream.branches workspace.refs
     (refs_good workspace.committed os workspace.refs sound.refs) sound.branches) sound.tags)
     sound.next_head) few

@@ -14,7 +14,7 @@ use Rattle.stream_state.specs.Checkpoints.{is_fast_forward, by_tags, by_head, fi
 abbrev pub may_set : Workspace → List ℕ → Option (List ℕ) → Bool
 may_set workspace tip None = true
 may_set workspace tip (Some old) =
-    workspace.forces || is_fast_forward workspace.objects old tip
+    workspace.stream.forces || is_fast_forward workspace.objects old tip
 
 abbrev pub moves : Workspace → List ℕ → List ℕ → Bool
 moves workspace ref tip = may_set workspace tip (target_of workspace.refs ref)
@@ -47,16 +47,15 @@ by_branches workspace store branches =
 -- then by the tags, then by HEAD.
 abbrev pub saved_refs : Workspace → RefStore
 saved_refs workspace = by_head
-    (by_tags (by_branches workspace workspace.refs workspace.branches) workspace.tags)
-    workspace.head
+    (by_tags (by_branches workspace workspace.refs workspace.stream.branches) workspace.stream.tags)
+    workspace.stream.head
 
 -- The refs and HEAD are saved, no tag waits any longer, and all objects so far are committed.
 abbrev pub checkpointed : Workspace → Workspace
 checkpointed workspace = record workspace {
   refs = saved_refs workspace;
-  tags = [];
-  head = None;
   committed = length workspace.objects;
+  stream = record workspace.stream { tags = []; head = None };
 }
 
 -- 'checkpoint': all of this, and the kept refs are printed; or nothing of it, if there would be too
@@ -66,6 +65,6 @@ checkpoint workspace =
     if fit (saved_refs workspace)
     then Ok (record {
       workspace = checkpointed workspace;
-      reply = kept_lines workspace workspace.branches;
+      reply = kept_lines workspace workspace.stream.branches;
     })
     else Err fault.Limit

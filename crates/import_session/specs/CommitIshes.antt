@@ -14,7 +14,7 @@ use Rattle.stream_state.specs.Branches.{ref_meant, tip_of, commit_at}
 
 -- The ref that words name, if they are a ref name.
 abbrev pub ref_in : Workspace → List ℕ → List ℕ
-ref_in workspace words = ref_meant workspace.head workspace.refs words
+ref_in workspace words = ref_meant workspace.stream.head workspace.refs words
 
 -- A branch of the stream stands for its commit. Any other words are an expression, over all objects
 -- so far and the refs as last saved.
@@ -25,9 +25,9 @@ branch_or_expression workspace words (Some tip) = or_fault fault.UnknownRevision
 
 -- The name of the object that a commit-ish stands for.
 abbrev pub named_in : Workspace → CommitIsh → Result (List ℕ) Fault
-named_in workspace (Marked mark) = marked_name workspace.marks mark
+named_in workspace (Marked mark) = marked_name workspace.stream.marks mark
 named_in workspace (Expression words) =
-    branch_or_expression workspace words (tip_of workspace.branches (ref_in workspace words))
+    branch_or_expression workspace words (tip_of workspace.stream.branches (ref_in workspace words))
 
 -- The commit that a commit-ish is peeled to.
 abbrev pub commit_in : Workspace → CommitIsh → Result (List ℕ) Fault

@@ -11,20 +11,21 @@ use Rattle.open_commits.specs.Parents.{started_from, merged}
 use Rattle.open_commits.specs.Ends.{Closed, closed}
 use Rattle.stream_state.specs.declared.branches.Tip.TheVariants.{At}
 use Rattle.stream_state.specs.declared.fault.Fault.{Fault}
-use Rattle.stream_state.specs.declared.command_header.CommandHeader.{CommandHeader}
+use Rattle.stream_state.specs.declared.headers.CommitHeader.{CommitHeader}
 use Rattle.stream_state.specs.Faults.{and_then}
 use Rattle.import_session.specs.Faults.{changed_or}
-use Rattle.stream_state.specs.CommandHeader.{said_of}
-use Rattle.import_session.specs.Workspace.{Workspace, Effect, quiet}
+use Rattle.stream_state.specs.Headers.{new_commit_header}
+use Rattle.stream_state.specs.OpenCommand.{OpenCommand, Nothing, Commit, Changes, already_said, commit_header_in}
+use Rattle.import_session.specs.Workspace.{Workspace, Effect, quiet, with_command}
 use Rattle.stream_state.specs.Marks.{room_for, with_mark}
 use Rattle.stream_state.specs.Branches.{branch_set, with_branch, tip_commit, tip_for}
-use Rattle.import_session.specs.Lines.{in_commit, in_header, now_open}
+use Rattle.import_session.specs.Lines.{in_changes, in_commit_header}
 use Rattle.import_session.specs.CommitIshes.{ref_in, commit_in, start_in}
 
 -- ---- its message
 
 -- The header that these lines give. One of them must name a committer.
-abbrev pub header_of : Option ℕ → CommandHeader → List ℕ → Header
+abbrev pub header_of : Option ℕ → CommitHeader → List ℕ → Header
 header_of mark said committer = record {
   ref = said.ref_name;
   mark = mark;
@@ -33,9 +34,9 @@ header_of mark said committer = record {
   encoding = said.encoding;
 }
 
-abbrev pub header_said : Option ℕ → CommandHeader → Result Header Fault
+abbrev pub header_said : Option ℕ → CommitHeader → Result Header Fault
 header_said mark said =
-    and_then (now_open said.committer) (λ committer. Ok (header_of mark said committer))
+    and_then (already_said said.committer) (λ committer. Ok (header_of mark said committer))
 
 -- That commit is the first parent.
 abbrev pub begun_from : List Object → Option (List ℕ) → OpenCommit → Result OpenCommit Fault
@@ -55,17 +56,25 @@ IsTipCommit objects first = IfSome first (λ id. kind_named id objects ≡ Some 
 -- A commit opens, and its branch is one of the stream's from then on.
 abbrev pub opened_at : Workspace → Option (List ℕ) → OpenCommit → Result Effect Fault
 opened_at workspace first commit =
-    and_then (branch_set workspace.branches commit.header.ref (tip_for first)) (λ branches.
+    and_then (branch_set workspace.stream.branches commit.header.ref (tip_for first)) (λ branches.
     and_then (begun_from workspace.objects first commit) (λ opening.
-    quiet (record workspace { branches = branches; said = None; commit = Some opening })))
+    quiet (record workspace {
+      stream = record workspace.stream { branches = branches; command = Changes opening };
+    })))
 
 abbrev pub opened_with : Workspace → List ℕ → Header → Result Effect Fault
 opened_with workspace message header =
-    opened_at workspace (tip_commit workspace.branches header.ref) (begun header message)
+    opened_at workspace (tip_commit workspace.stream.branches header.ref) (begun header message)
 
-abbrev pub commit_opened : Option ℕ → List ℕ → CommandHeader → Workspace → Result Effect Fault
+abbrev pub commit_opened : Option ℕ → List ℕ → CommitHeader → Workspace → Result Effect Fault
 commit_opened mark message said workspace =
     and_then (header_said mark said) (opened_with workspace message)
+
+-- 'data': the commit opens with this message.
+abbrev pub message_said : Option ℕ → List ℕ → Workspace → Result Effect Fault
+message_said mark message workspace =
+    and_then (commit_header_in workspace.stream.command) (λ said.
+    commit_opened mark message said workspace)
 
 -- ---- its lines
 
@@ -84,20 +93,19 @@ commit_merged workspace other commit =
 unfoldable pub commit_said : CommitCommand → Workspace → Result Effect Fault
 -- 'commit': names its branch.
 commit_said (Begin ref) workspace =
-    quiet (record workspace { said = Some (said_of (ref_in workspace ref)) })
+    quiet (with_command workspace (Commit (new_commit_header (ref_in workspace ref))))
 -- 'author', 'committer' and 'encoding'.
 commit_said (Author ident) workspace =
-    in_header (λ said. record said { author = Some ident }) workspace
+    in_commit_header (λ header. record header { author = Some ident }) workspace
 commit_said (Committer ident) workspace =
-    in_header (λ said. record said { committer = Some ident }) workspace
+    in_commit_header (λ header. record header { committer = Some ident }) workspace
 commit_said (Encoding encoding) workspace =
-    in_header (λ said. record said { encoding = Some encoding }) workspace
--- 'data': the commit opens with this message.
-commit_said (Message mark message) workspace =
-    and_then (now_open workspace.said) (λ said. commit_opened mark message said workspace)
+    in_commit_header (λ header. record header { encoding = Some encoding }) workspace
+-- 'data'.
+commit_said (Message mark message) workspace = message_said mark message workspace
 -- 'from' and 'merge'.
-commit_said (From from) workspace = in_commit (commit_started workspace from) workspace
-commit_said (Merge other) workspace = in_commit (commit_merged workspace other) workspace
+commit_said (From from) workspace = in_changes (commit_started workspace from) workspace
+commit_said (Merge other) workspace = in_changes (commit_merged workspace other) workspace
 
 -- ---- its end
 
@@ -105,25 +113,27 @@ commit_said (Merge other) workspace = in_commit (commit_merged workspace other) 
 abbrev pub closed_at : Workspace → Header → Closed → Workspace
 closed_at workspace header end = record workspace {
   objects = end.objects;
-  marks = with_mark workspace.marks header.mark end.id;
-  branches = with_branch workspace.branches header.ref (At end.id);
-  commit = None;
+  stream = record workspace.stream {
+    marks = with_mark workspace.stream.marks header.mark end.id;
+    branches = with_branch workspace.stream.branches header.ref (At end.id);
+    command = Nothing;
+  };
 }
 
 -- The end of a commit stores its trees, children first, and then the commit. The limit on marks is
 -- judged first.
 abbrev pub commit_closed : (List ℕ → List ℕ) → Workspace → OpenCommit → Result Workspace Fault
 commit_closed digest workspace commit =
-    and_then (room_for workspace.marks commit.header.mark) (λ _.
+    and_then (room_for workspace.stream.marks commit.header.mark) (λ _.
     and_then (changed_or (closed digest workspace.objects commit)) (λ end.
     Ok (closed_at workspace commit.header end)))
 
 -- The open commit ends, if there is one and the item ends it.
-abbrev pub open_closed : (List ℕ → List ℕ) → Workspace → Option OpenCommit
+abbrev pub open_closed : (List ℕ → List ℕ) → Workspace → OpenCommand OpenCommit
     → Result Workspace Fault
-open_closed digest workspace None = Ok workspace
-open_closed digest workspace (Some commit) = commit_closed digest workspace commit
+open_closed digest workspace (Changes commit) = commit_closed digest workspace commit
+open_closed digest workspace _ = Ok workspace
 
 abbrev pub closed_where : (List ℕ → List ℕ) → Bool → Workspace → Result Workspace Fault
 closed_where digest false workspace = Ok workspace
-closed_where digest true workspace = open_closed digest workspace workspace.commit
+closed_where digest true workspace = open_closed digest workspace workspace.stream.command

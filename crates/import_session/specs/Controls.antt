@@ -13,8 +13,10 @@ use Rattle.import_session.specs.Checkpoints.{checkpoint}
 
 -- A feature is a switch, or a promise of what is always there.
 abbrev pub feature_set : Feature → Workspace → Workspace
-feature_set feature.Done workspace = record workspace { needs_done = true }
-feature_set feature.Force workspace = record workspace { forces = true }
+feature_set feature.Done workspace =
+    record workspace { stream = record workspace.stream { needs_done = true } }
+feature_set feature.Force workspace =
+    record workspace { stream = record workspace.stream { forces = true } }
 feature_set _ workspace = workspace
 
 -- The ref that HEAD names, for this stream at once and for the repository from the next checkpoint.
@@ -22,7 +24,7 @@ feature_set _ workspace = workspace
 abbrev pub head_set : List ℕ → Workspace → Result Effect Fault
 head_set ref workspace =
     if bytes_eq ref (codes "HEAD") then Err (fault.Text text_fault.BadRefName)
-    else quiet (record workspace { head = Some ref })
+    else quiet (record workspace { stream = record workspace.stream { head = Some ref } })
 
 -- What a command of the stream itself leaves.
 unfoldable pub controlled : ControlCommand → Workspace → Result Effect Fault

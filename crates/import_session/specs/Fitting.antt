@@ -1,10 +1,12 @@
 -- No act comes where its command is not open. What git-fast-import(1) says of the order of lines is
 -- judged by the parser, before an act is carried out.
-use Rattle.std.specs.Prelude.{◌≡◌, true, Option, None, Some, IfOk}
+use Rattle.std.specs.Prelude.{◌≡◌, Option, None, Some, IfOk}
 use Rattle.stream_grammar.specs.declared.stage.CommitNext.{CommitNext}
 use Rattle.stream_grammar.specs.declared.stage.CommitNext.TheVariants as commit
 use Rattle.stream_grammar.specs.declared.stage.ResetNext.{ResetNext}
 use Rattle.stream_grammar.specs.declared.stage.ResetNext.TheVariants as reset
+use Rattle.stream_grammar.specs.declared.stage.TagNext.{TagNext}
+use Rattle.stream_grammar.specs.declared.stage.TagNext.TheVariants as tag
 use Rattle.stream_grammar.specs.declared.stage.Stage.{Stage}
 use Rattle.stream_grammar.specs.declared.stage.Stage.TheVariants as stage
 use Rattle.stream_grammar.specs.Stages.{opened_of, terms_of}
@@ -15,57 +17,83 @@ use Rattle.stream_grammar.specs.Acts.{FileChange, InlineData}
 use Rattle.stream_grammar.specs.Acts.{RefCommand, ResetFrom}
 use Rattle.stream_grammar.specs.Acts.{ReplyCommand, LsInCommit}
 use Rattle.stream_grammar.specs.Acts.{Act, Object, Commit, Change, Ref, Reply}
-use Rattle.stream_state.specs.declared.command_header.CommandHeader.{CommandHeader}
-use Rattle.stream_state.specs.Tags.{is_tag_ref}
+use Rattle.open_commits.specs.OpenCommit.{OpenCommit}
+use Rattle.stream_state.specs.OpenCommand.{OpenCommand}
+use Rattle.stream_state.specs.OpenCommand as open_command
 use Rattle.import_session.specs.Workspace.{Workspace}
 use Rattle.import_session.specs.Stream.{Running}
 
--- Something is open.
+-- Something was said.
 abbrev pub IsThere : {A : Type 0} → Option A → Type 0
 IsThere None = ⊥
-IsThere (Some opened) = Unit {0}
+IsThere (Some value) = Unit {0}
 
--- The lines of the open command have named a committer.
-abbrev pub HasCommitter : Option CommandHeader → Type 0
-HasCommitter None = ⊥
-HasCommitter (Some said) = IsThere said.committer
+-- The open command is a commit before its message.
+abbrev pub IsCommit : OpenCommand OpenCommit → Type 0
+IsCommit (open_command.Commit header) = Unit {0}
+IsCommit _ = ⊥
+
+-- Such a commit has named its committer.
+abbrev pub HasCommitter : OpenCommand OpenCommit → Type 0
+HasCommitter (open_command.Commit header) = IsThere header.committer
+HasCommitter _ = ⊥
 
 -- The open command is a tag.
-abbrev pub IsTag : Option CommandHeader → Type 0
-IsTag None = ⊥
-IsTag (Some said) = is_tag_ref said.ref_name ≡ true
+abbrev pub IsTag : OpenCommand OpenCommit → Type 0
+IsTag (open_command.Tag header) = Unit {0}
+IsTag _ = ⊥
+
+-- It has named what it tags.
+abbrev pub HasTarget : OpenCommand OpenCommit → Type 0
+HasTarget (open_command.Tag header) = IsThere header.target
+HasTarget _ = ⊥
+
+-- The open command is a reset before its `from`.
+abbrev pub IsReset : OpenCommand OpenCommit → Type 0
+IsReset (open_command.Reset ref) = Unit {0}
+IsReset _ = ⊥
+
+-- The open command is a commit after its message.
+abbrev pub IsChanging : OpenCommand OpenCommit → Type 0
+IsChanging (open_command.Changes commit) = Unit {0}
+IsChanging _ = ⊥
+
+-- A file of it waits for its data.
+abbrev pub IsInline : OpenCommand OpenCommit → Type 0
+IsInline (open_command.Inline commit file) = Unit {0}
+IsInline _ = ⊥
 
 -- ---- an act fits a workspace if the command that it belongs to is open there
 
--- The lines of a tag, and its message, need its header.
+-- The lines of a tag need its header, and its message needs what it tags.
 abbrev pub FitsObject : ObjectCommand → Workspace → Type 0
-FitsObject (TagTarget target) workspace = IsTag workspace.said
-FitsObject (Tagger ident) workspace = IsTag workspace.said
-FitsObject (Tag mark message) workspace = IsTag workspace.said
+FitsObject (TagTarget target) workspace = IsTag workspace.stream.command
+FitsObject (Tagger ident) workspace = IsTag workspace.stream.command
+FitsObject (Tag mark message) workspace = HasTarget workspace.stream.command
 FitsObject _ workspace = Unit {0}
 
 -- The lines of a commit need its header, its message needs a committer, and its parents need the
 -- open commit.
 abbrev pub FitsCommit : CommitCommand → Workspace → Type 0
 FitsCommit (Begin ref) workspace = Unit {0}
-FitsCommit (Message mark message) workspace = HasCommitter workspace.said
-FitsCommit (From from) workspace = IsThere workspace.commit
-FitsCommit (Merge other) workspace = IsThere workspace.commit
-FitsCommit _ workspace = IsThere workspace.said
+FitsCommit (Message mark message) workspace = HasCommitter workspace.stream.command
+FitsCommit (From from) workspace = IsChanging workspace.stream.command
+FitsCommit (Merge other) workspace = IsChanging workspace.stream.command
+FitsCommit _ workspace = IsCommit workspace.stream.command
 
 -- A change needs the open commit, and data need the file that waits for them.
 abbrev pub FitsChange : FileChange → Workspace → Type 0
-FitsChange (InlineData bytes) workspace = IsThere workspace.inline × IsThere workspace.commit
-FitsChange _ workspace = IsThere workspace.commit
+FitsChange (InlineData bytes) workspace = IsInline workspace.stream.command
+FitsChange _ workspace = IsChanging workspace.stream.command
 
 -- 'from' in a reset needs the reset.
 abbrev pub FitsRef : RefCommand → Workspace → Type 0
-FitsRef (ResetFrom from) workspace = IsThere workspace.said
+FitsRef (ResetFrom from) workspace = IsReset workspace.stream.command
 FitsRef _ workspace = Unit {0}
 
 -- 'ls' with a path alone needs the open commit.
 abbrev pub FitsReply : ReplyCommand → Workspace → Type 0
-FitsReply (LsInCommit path) workspace = IsThere workspace.commit
+FitsReply (LsInCommit path) workspace = IsChanging workspace.stream.command
 FitsReply _ workspace = Unit {0}
 
 abbrev pub Fits : Act → Workspace → Type 0
@@ -79,22 +107,28 @@ Fits _ workspace = Unit {0}
 -- ---- the parser and the workspace are in step
 
 -- Where the encoding or the message of a commit may come next, a committer is named.
-abbrev pub IsNamedBefore : CommitNext → Workspace → Type 0
-IsNamedBefore commit.Encoding workspace = HasCommitter workspace.said
-IsNamedBefore commit.Data workspace = HasCommitter workspace.said
-IsNamedBefore _ workspace = Unit {0}
+abbrev pub IsCommitBefore : CommitNext → Workspace → Type 0
+IsCommitBefore commit.Encoding workspace = HasCommitter workspace.stream.command
+IsCommitBefore commit.Data workspace = HasCommitter workspace.stream.command
+IsCommitBefore _ workspace = IsCommit workspace.stream.command
+
+-- Where a part of a tag after its `from` may come next, it has named what it tags.
+abbrev pub IsTagBefore : TagNext → Workspace → Type 0
+IsTagBefore tag.Mark workspace = IsTag workspace.stream.command
+IsTagBefore tag.From workspace = IsTag workspace.stream.command
+IsTagBefore _ workspace = HasTarget workspace.stream.command
 
 -- Where the 'from' of a reset may come next, the reset is open.
 abbrev pub IsResetBefore : ResetNext → Workspace → Type 0
-IsResetBefore reset.From workspace = IsThere workspace.said
+IsResetBefore reset.From workspace = IsReset workspace.stream.command
 IsResetBefore reset.Blank workspace = Unit {0}
 
 -- The workspace has open what the parser has.
 abbrev pub IsOpenAt : Stage → Workspace → Type 0
-IsOpenAt (stage.Commit next) workspace = IsThere workspace.said × IsNamedBefore next workspace
-IsOpenAt (stage.Changes next) workspace = IsThere workspace.commit
-IsOpenAt stage.Inline workspace = IsThere workspace.inline × IsThere workspace.commit
-IsOpenAt (stage.Tag next) workspace = IsTag workspace.said
+IsOpenAt (stage.Commit next) workspace = IsCommitBefore next workspace
+IsOpenAt (stage.Changes next) workspace = IsChanging workspace.stream.command
+IsOpenAt stage.Inline workspace = IsInline workspace.stream.command
+IsOpenAt (stage.Tag next) workspace = IsTagBefore next workspace
 IsOpenAt (stage.Reset next) workspace = IsResetBefore next workspace
 IsOpenAt _ workspace = Unit {0}
 

@@ -1,25 +1,27 @@
 -- What a line of a command needs: the command that it belongs to is open.
-use Rattle.std.specs.Prelude.{Option, Some, Result}
-use Rattle.stream_grammar.specs.declared.fault.Fault.TheVariants as text_fault
+use Rattle.std.specs.Prelude.{Result}
 use Rattle.open_commits.specs.OpenCommit.{OpenCommit}
 use Rattle.stream_state.specs.declared.fault.Fault.{Fault}
-use Rattle.stream_state.specs.declared.fault.Fault.TheVariants as fault
-use Rattle.stream_state.specs.declared.command_header.CommandHeader.{CommandHeader}
-use Rattle.stream_state.specs.Faults.{and_then, or_fault}
-use Rattle.import_session.specs.Workspace.{Workspace, Effect, quiet}
+use Rattle.stream_state.specs.declared.headers.CommitHeader.{CommitHeader}
+use Rattle.stream_state.specs.declared.headers.TagHeader.{TagHeader}
+use Rattle.stream_state.specs.Faults.{and_then}
+use Rattle.stream_state.specs.OpenCommand.{Commit, Tag, Changes, changes_in, commit_header_in, tag_header_in}
+use Rattle.import_session.specs.Workspace.{Workspace, Effect, quiet, with_command}
 
--- What must be open. A line that belongs to nothing open is no command.
-abbrev pub now_open : {A : Type 0} → Option A → Result A Fault
-now_open opened = or_fault (fault.Text text_fault.UnknownCommand) opened
+-- A line of a commit, before its message, adds to its header.
+abbrev pub in_commit_header : (CommitHeader → CommitHeader) → Workspace → Result Effect Fault
+in_commit_header more workspace =
+    and_then (commit_header_in workspace.stream.command) (λ header.
+    quiet (with_command workspace (Commit (more header))))
 
--- A line of a header adds to what the lines before it said.
-abbrev pub in_header : (CommandHeader → CommandHeader) → Workspace → Result Effect Fault
-in_header more workspace =
-    and_then (now_open workspace.said) (λ said.
-    quiet (record workspace { said = Some (more said) }))
+-- A line of a tag, before its message, adds to its header.
+abbrev pub in_tag_header : (TagHeader → TagHeader) → Workspace → Result Effect Fault
+in_tag_header more workspace =
+    and_then (tag_header_in workspace.stream.command) (λ header.
+    quiet (with_command workspace (Tag (more header))))
 
 -- A line of a commit, after its message, changes the open commit.
-abbrev pub in_commit : (OpenCommit → Result OpenCommit Fault) → Workspace → Result Effect Fault
-in_commit change workspace =
-    and_then (now_open workspace.commit) (λ commit.
-    and_then (change commit) (λ next. quiet (record workspace { commit = Some next })))
+abbrev pub in_changes : (OpenCommit → Result OpenCommit Fault) → Workspace → Result Effect Fault
+in_changes change workspace =
+    and_then (changes_in workspace.stream.command) (λ commit.
+    and_then (change commit) (λ next. quiet (with_command workspace (Changes next))))

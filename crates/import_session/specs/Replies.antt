@@ -13,11 +13,11 @@ use Rattle.open_commits.specs.Showing.{entry_shown as commit_entry_shown}
 use Rattle.stream_state.specs.declared.fault.Fault.{Fault}
 use Rattle.stream_state.specs.Faults.{and_then}
 use Rattle.stream_state.specs.Marks.{marked_name, referred_name}
+use Rattle.stream_state.specs.OpenCommand.{changes_in}
 use Rattle.stream_state.specs.Printing.{shown_object}
 use Rattle.stream_state.specs.Showing.{entry_shown}
 use Rattle.import_session.specs.Faults.{changed_or}
 use Rattle.import_session.specs.Workspace.{Workspace, Effect}
-use Rattle.import_session.specs.Lines.{now_open}
 use Rattle.import_session.specs.Printing.{prints}
 
 abbrev pub blob_shown : Workspace → List ℕ → Result Effect Fault
@@ -40,17 +40,17 @@ branch_entry_shown digest path commit workspace =
 unfoldable pub replied : (List ℕ → List ℕ) → ReplyCommand → Workspace → Result Effect Fault
 -- 'get-mark': the name of the object.
 replied digest (GetMark mark) workspace =
-    and_then (marked_name workspace.marks mark) (λ id. prints workspace (encode_lower id))
+    and_then (marked_name workspace.stream.marks mark) (λ id. prints workspace (encode_lower id))
 -- 'cat-blob': the name, the size and the bytes of the blob.
 replied digest (CatBlob object) workspace =
-    and_then (referred_name workspace.marks object) (λ id. blob_shown workspace id)
+    and_then (referred_name workspace.stream.marks object) (λ id. blob_shown workspace id)
 -- 'ls' with a dataref: what is at a path of its tree.
 replied digest (Ls root path) workspace =
-    and_then (entry_shown workspace.objects workspace.marks root path) (λ line.
+    and_then (entry_shown workspace.objects workspace.stream.marks root path) (λ line.
     prints workspace line)
 -- 'ls' with a path alone: what is there in the open commit, whose trees up to there are stored.
 replied digest (LsInCommit path) workspace =
-    and_then (now_open workspace.commit) (λ commit.
+    and_then (changes_in workspace.stream.command) (λ commit.
     branch_entry_shown digest path commit workspace)
 -- 'progress': the whole line.
 replied digest (Progress line) workspace = prints workspace line

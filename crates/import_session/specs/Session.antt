@@ -1,7 +1,6 @@
 -- A session: the part of a running stream that is neither in a table, nor in a pool, nor among
 -- refs.
-use Rattle.std.specs.Prelude.{◌≡◌, ◌≢◌, ℕ, List, [], ◌++◌, take, Option, None, Result, Ok, Err, Bool, false}
-use Rattle.std.specs.Option.{option_map}
+use Rattle.std.specs.Prelude.{◌≡◌, ◌≢◌, ℕ, List, ◌++◌, take, Option, None, Result, Ok, Err, Bool, false}
 use Rattle.git_model.specs.RefStore.{RefStore}
 use Rattle.git_model.specs.Repository.{Repository}
 use Rattle.content_pool.specs.Pool.{Cells}
@@ -13,61 +12,65 @@ use Rattle.stream_grammar.specs.Commands.{Done, Parsing, top}
 use Rattle.stream_grammar.specs.Shown.{done_shown}
 use Rattle.stream_state.specs.declared.fault.Fault.{Fault}
 use Rattle.stream_state.specs.declared.fault.Fault.TheVariants as fault
+use Rattle.import_session.specs.declared.open_command.OpenCommand.{OpenCommand as LentCommand}
+use Rattle.import_session.specs.declared.open_command.OpenCommand.TheVariants as lent
 use Rattle.import_session.specs.declared.state.StreamState.{StreamState as LentStreamState}
-use Rattle.stream_state.specs.declared.command_header.CommandHeader.{CommandHeader}
-use Rattle.stream_state.specs.declared.command_header.Inline.{Inline}
 use Rattle.tree_build.specs.Branch.{Branch}
 use Rattle.open_commits.specs.OpenCommit.{HeldCommit, commit_held, commit_in}
 use Rattle.stream_state.specs.Faults.{text_first}
 use Rattle.stream_state.specs.Marks.{Marks}
 use Rattle.stream_state.specs.Branches.{Branches}
-use Rattle.stream_state.specs.Tags.{PendingTags}
+use Rattle.stream_state.specs.OpenCommand.{OpenCommand, Nothing, Commit, Tag, Reset, Changes, Inline}
+use Rattle.stream_state.specs.StreamOf.{StreamOf, new_stream, stream_with}
 use Rattle.import_session.specs.Workspace.{Workspace, Effect}
 use Rattle.import_session.specs.Stream.{Running, Step}
 
 -- What a stream has of its own apart from its objects. The files of the open commit are held as a
 -- branch, and so are the files that the last commit left for the next one.
 pub record StreamState : Type 0 where
-  pub marks : Marks
-  pub branches : Branches
-  pub tags : PendingTags
-  pub said : Option CommandHeader
-  pub commit : Option HeldCommit
+  pub stream : StreamOf HeldCommit
   pub left : Option Branch
-  pub inline : Option Inline
-  pub head : Option (List ℕ)
-  pub forces : Bool
-  pub needs_done : Bool
 
--- The same, apart from where it is in memory.
-abbrev pub state_shown : LentStreamState → StreamState
-state_shown state = record {
+-- The open command, apart from where it is in memory.
+abbrev pub command_shown : LentCommand → OpenCommand HeldCommit
+command_shown lent.Nothing = Nothing
+command_shown (lent.Commit header) = Commit header
+command_shown (lent.Tag header) = Tag header
+command_shown (lent.Reset ref) = Reset ref
+command_shown (lent.Changes commit) = Changes (commit_held commit)
+command_shown (lent.Inline commit file) = Inline (commit_held commit) file
+
+-- The same of all that the stream has.
+abbrev pub stream_shown : LentStreamState → StreamOf HeldCommit
+stream_shown state = record {
   marks = state.marks.entries;
   branches = state.branches;
   tags = state.tags.items;
-  said = state.said;
-  commit = option_map commit_held state.commit;
-  left = state.left;
-  inline = state.inline;
+  command = command_shown state.command;
   head = state.head;
   forces = state.forces;
   needs_done = state.needs_done;
 }
 
+abbrev pub state_shown : LentStreamState → StreamState
+state_shown state = record { stream = stream_shown state; left = state.left }
+
 -- The state before the first item.
 abbrev pub empty_state : StreamState
-empty_state = record {
-  marks = [];
-  branches = [];
-  tags = [];
-  said = None;
-  commit = None;
-  left = None;
-  inline = None;
-  head = None;
-  forces = false;
-  needs_done = false;
-}
+empty_state = record { stream = new_stream; left = None }
+
+-- The same state with this command open.
+abbrev pub state_with : StreamState → OpenCommand HeldCommit → StreamState
+state_with state command =
+    record state { stream = record state.stream { command = command } }
+
+-- The same state with these branches, and with these marks.
+abbrev pub branched : StreamState → Branches → StreamState
+branched state branches =
+    record state { stream = record state.stream { branches = branches } }
+
+abbrev pub marked : StreamState → Marks → StreamState
+marked state marks = record state { stream = record state.stream { marks = marks } }
 
 -- What a session keeps between items.
 pub record SessionView : Type 0 where
@@ -82,15 +85,7 @@ workspace_in state pool table refs = record {
   objects = objects pool table.entries;
   committed = table.committed;
   refs = refs;
-  marks = state.marks;
-  branches = state.branches;
-  tags = state.tags;
-  said = state.said;
-  commit = option_map (commit_in (objects pool table.entries)) state.commit;
-  inline = state.inline;
-  head = state.head;
-  forces = state.forces;
-  needs_done = state.needs_done;
+  stream = stream_with (commit_in (objects pool table.entries)) state.stream;
 }
 
 -- The running stream that a session is part of.

@@ -10,12 +10,15 @@ use Rattle.git_model.specs.References.{kind_named}
 use Rattle.git_model.specs.GoodRepository.{AreObjects, AreRefs, IsShortRefName, IsTagNamed}
 use Rattle.git_paths.specs.Paths.{IsPath}
 use Rattle.tenant_tables.specs.Sums.{TreesFit}
+use Rattle.stream_grammar.specs.WellFormed.{IsTagRef}
 use Rattle.open_commits.specs.GoodCommits.{IsGoodCommit}
 use Rattle.open_commits.specs.OpenCommit.{OpenCommit}
 use Rattle.open_commits.specs.OpenFiles.{HasFiles}
 use Rattle.stream_state.specs.declared.branches.Tip.{Tip}
 use Rattle.stream_state.specs.declared.branches.Tip.TheVariants.{Unborn, Deleted, At}
-use Rattle.stream_state.specs.declared.command_header.CommandHeader.{CommandHeader}
+use Rattle.stream_state.specs.declared.headers.CommitHeader.{CommitHeader}
+use Rattle.stream_state.specs.declared.headers.TagHeader.{TagHeader}
+use Rattle.stream_state.specs.OpenCommand.{OpenCommand, Nothing, Commit, Tag, Reset, Changes, Inline}
 use Rattle.import_session.specs.Workspace.{Workspace}
 
 -- A repository that a stream may open on, and that it leaves: its objects are good, all trees are
@@ -41,13 +44,17 @@ pub record IsPending (objects : List Object) (tag : List ℕ × List ℕ) : Type
   pub name : IsShortRefName tag.0
   pub named : (own : List ℕ) × (tag.0 ≡ codes "refs/tags/" ++ own) × IsTagNamed objects tag.1 own
 
--- What the lines of the open command have said can be written.
-pub record IsWellFormedHeader (said : CommandHeader) : Type 0 where
-  pub ref : IsShortRefName said.ref_name
-  pub author : IfSome said.author IsWrittenIdent
-  pub committer : IfSome said.committer IsWrittenIdent
-  pub encoding : IfSome said.encoding IsEncoding
-  pub tagger : IfSome said.tagger IsWrittenIdent
+-- What the header lines of a commit have said can be written.
+pub record IsCommitHeader (header : CommitHeader) : Type 0 where
+  pub ref : IsShortRefName header.ref_name
+  pub author : IfSome header.author IsWrittenIdent
+  pub committer : IfSome header.committer IsWrittenIdent
+  pub encoding : IfSome header.encoding IsEncoding
+
+-- So can what those of a tag have said.
+pub record IsTagHeader (header : TagHeader) : Type 0 where
+  pub ref : IsTagRef header.ref_name
+  pub tagger : IfSome header.tagger IsWrittenIdent
 
 -- An open commit is good among the objects, the name of its branch may be set as a ref, and its
 -- files are those of a branch.
@@ -56,19 +63,26 @@ pub record IsOpen (objects : List Object) (commit : OpenCommit) : Type 0 where
   pub good : IsGoodCommit objects commit
   pub files : HasFiles commit
 
+-- What a command has said can be written, its commit is good, and a file that waits for its data has
+-- a path.
+abbrev pub IsSoundCommand : List Object → OpenCommand OpenCommit → Type 0
+IsSoundCommand objects Nothing = Unit {0}
+IsSoundCommand objects (Commit header) = IsCommitHeader header
+IsSoundCommand objects (Tag header) = IsTagHeader header
+IsSoundCommand objects (Reset ref) = IsShortRefName ref
+IsSoundCommand objects (Changes commit) = IsOpen objects commit
+IsSoundCommand objects (Inline commit file) = IsOpen objects commit × IsPath file.path
+
 -- A workspace is sound if all of these hold. Its objects are good, and all trees are within the
 -- limits. The refs as last saved are good among the objects of that time. The ref that HEAD is to
--- name may be set, marks stand for object names, branches are at commits of its objects or at none,
--- and pending tags are tags among its objects. What the open command has said can be written, the
--- open commit is good, and the file that waits for its data has a path.
+-- name may be set, and marks stand for object names. Branches are at commits of its objects or at
+-- none, and pending tags are tags among its objects. The open command is sound.
 pub record IsSound (digest : List ℕ → List ℕ) (workspace : Workspace) : Type 0 where
   pub objects : AreObjects digest workspace.objects
   pub trees : TreesFit [] workspace.objects
   pub refs : AreRefs (take workspace.committed workspace.objects) workspace.refs
-  pub next_head : IfSome workspace.head IsShortRefName
-  pub marks : All (λ mark. IsObjectName mark.1) workspace.marks
-  pub branches : All (IsStreamBranch workspace.objects) workspace.branches
-  pub tags : All (IsPending workspace.objects) workspace.tags
-  pub said : IfSome workspace.said IsWellFormedHeader
-  pub commit : IfSome workspace.commit (IsOpen workspace.objects)
-  pub inline : IfSome workspace.inline (λ file. IsPath file.path)
+  pub next_head : IfSome workspace.stream.head IsShortRefName
+  pub marks : All (λ mark. IsObjectName mark.1) workspace.stream.marks
+  pub branches : All (IsStreamBranch workspace.objects) workspace.stream.branches
+  pub tags : All (IsPending workspace.objects) workspace.stream.tags
+  pub command : IsSoundCommand workspace.objects workspace.stream.command

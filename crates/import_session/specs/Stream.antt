@@ -124,7 +124,7 @@ ended_by code repository = record { fault = Some code; reply = []; repository = 
 -- Otherwise the open commit ends, if there is one, and the end is a checkpoint.
 abbrev pub unless_done_missing : Workspace → Result Unit Fault
 unless_done_missing workspace =
-    if workspace.needs_done then Err fault.DoneMissing else Ok tt
+    if workspace.stream.needs_done then Err fault.DoneMissing else Ok tt
 
 abbrev pub commands_end : (List ℕ → List ℕ) → Running → Result Effect Fault
 commands_end digest now =

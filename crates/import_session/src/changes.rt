@@ -17,15 +17,16 @@ ghost use Rattle.import_session.specs.Changes.{files_changed};
 ghost use Rattle.import_session.specs.Session.{state_shown, workspace_in, CarriesOut, KeepsCommitted};
 ghost use Rattle.import_session.specs.Held.{FilesStand, HoldsFiles, KeepsBranchFiles};
 
-use crate::fault::{fault_of, passed_on};
-use crate::state::{StreamState, keep_open, not_open};
+use crate::fault::passed_on;
+use crate::open_command::{OpenCommand, not_open};
+use crate::state::{StreamState, keep_open};
 use content_pool::Pool;
 use git_model::FileMode;
 use git_objects::Naming;
 use git_paths::Path;
 use stream_grammar::{DataRef, FileChange};
-use stream_state::command_header::Inline;
 use stream_state::fault::Fault;
+use stream_state::headers::InlineFile;
 use tenant_tables::Table;
 
 // 'M'.
@@ -48,12 +49,10 @@ fn modify<N: Naming>(
         (workspace_in (state_shown state.new) pool.now table.now refs) out out result }
     ensures held { OnOk result (FilesStand (state_shown state.new) pool.now table.now) }
 {
-    let Some(mut commit) = state.commit.take() else {
+    let OpenCommand::Changes(commit) = &mut state.command else {
         return Err(not_open());
     };
-    let changed = passed_on(commit.modify(pool, table, &state.marks, mode, object, path));
-    keep_open(state, commit);
-    changed
+    passed_on(commit.modify(pool, table, &state.marks, mode, object, path))
 }
 
 // 'M' with 'inline': the next data is the contents of this file.
@@ -66,8 +65,9 @@ fn await_contents(state: &mut StreamState, mode: FileMode, path: &Path) -> Resul
         (workspace_in (state_shown state.new) pool table refs) out out result }
     ensures files { KeepsBranchFiles (state_shown state.old) (state_shown state.new) }
 {
+    let commit = state.command.take_changes()?;
     let path = path.copied(state.alloc)?;
-    state.inline = Some(Inline { mode, path });
+    state.command = OpenCommand::Inline(commit, InlineFile { mode, path });
     Ok(())
 }
 
@@ -90,19 +90,15 @@ fn put_contents<N: Naming>(
     ensures committed { KeepsCommitted pool.old table.old pool.new table.new }
     ensures held { OnOk result (FilesStand (state_shown state.new) pool.new table.new) }
 {
-    let Some(inline) = state.inline.take() else {
+    let OpenCommand::Inline(mut commit, file) = state.command.take() else {
         return Err(not_open());
     };
     // The files that the last commit left were taken when this one opened.
     state.left = None;
-    let Some(commit) = &mut state.commit else {
-        return Err(not_open());
-    };
     let _within = table.committed_len();
-    match commit.put_contents(pool, table, inline.mode, &inline.path, bytes) {
-        Ok(()) => Ok(()),
-        Err(refusal) => Err(fault_of(refusal)),
-    }
+    let put = passed_on(commit.put_contents(pool, table, file.mode, &file.path, bytes));
+    keep_open(state, commit);
+    put
 }
 
 // 'D'.
@@ -121,12 +117,10 @@ fn delete<N: Naming>(
         (workspace_in (state_shown state.new) pool.now table.now refs) out out result }
     ensures held { OnOk result (FilesStand (state_shown state.new) pool.now table.now) }
 {
-    let Some(mut commit) = state.commit.take() else {
+    let OpenCommand::Changes(commit) = &mut state.command else {
         return Err(not_open());
     };
-    let changed = passed_on(commit.delete(pool, table, path));
-    keep_open(state, commit);
-    changed
+    passed_on(commit.delete(pool, table, path))
 }
 
 // 'C'.
@@ -146,12 +140,10 @@ fn copy<N: Naming>(
         (workspace_in (state_shown state.new) pool.now table.now refs) out out result }
     ensures held { OnOk result (FilesStand (state_shown state.new) pool.now table.now) }
 {
-    let Some(mut commit) = state.commit.take() else {
+    let OpenCommand::Changes(commit) = &mut state.command else {
         return Err(not_open());
     };
-    let changed = passed_on(commit.copy(pool, table, source, path));
-    keep_open(state, commit);
-    changed
+    passed_on(commit.copy(pool, table, source, path))
 }
 
 // 'R'.
@@ -171,12 +163,10 @@ fn rename<N: Naming>(
         (workspace_in (state_shown state.new) pool.now table.now refs) out out result }
     ensures held { OnOk result (FilesStand (state_shown state.new) pool.now table.now) }
 {
-    let Some(mut commit) = state.commit.take() else {
+    let OpenCommand::Changes(commit) = &mut state.command else {
         return Err(not_open());
     };
-    let changed = passed_on(commit.rename(pool, table, source, path));
-    keep_open(state, commit);
-    changed
+    passed_on(commit.rename(pool, table, source, path))
 }
 
 // 'deleteall'.
@@ -189,11 +179,10 @@ fn delete_all(state: &mut StreamState) -> Result<(), Fault>
     ensures held { (os : List Object) → HoldsFiles os (state_shown state.old)
         → OnOk result (HoldsFiles os (state_shown state.new)) }
 {
-    let Some(mut commit) = state.commit.take() else {
+    let OpenCommand::Changes(commit) = &mut state.command else {
         return Err(not_open());
     };
     commit.delete_all();
-    keep_open(state, commit);
     Ok(())
 }
 

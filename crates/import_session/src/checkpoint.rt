@@ -86,9 +86,9 @@ fn add_branches<N: Naming>(
     ensures saved { AreObjects N.digest_of (objects pool.now table.now.entries) → OnOk result
         (let workspace = workspace_in (state_shown state.now) pool.now table.now refs.now in
         (with_changes refs.now saving.new.changes.items ≡ by_branches workspace
-        (with_changes refs.now saving.old.changes.items) workspace.branches)
+        (with_changes refs.now saving.old.changes.items) workspace.stream.branches)
         × (saving.new.kept.items
-        ≡ saving.old.kept.items ++ kept_lines workspace workspace.branches)) }
+        ≡ saving.old.kept.items ++ kept_lines workspace workspace.stream.branches)) }
     ensures refused { IfErr result (λ fault. fault ≡ Fault.Memory) }
 {
     for place in 0..state.branches.len() {
@@ -110,8 +110,8 @@ fn saving_of<N: Naming>(
         → IfOk result (λ saving.
         let workspace = workspace_in (state_shown state.now) pool.now table.now refs.now in
         (with_changes refs.now saving.changes.items ≡ by_tags
-        (by_branches workspace workspace.refs workspace.branches) workspace.tags)
-        × (saving.kept.items ≡ kept_lines workspace workspace.branches)) }
+        (by_branches workspace workspace.refs workspace.stream.branches) workspace.stream.tags)
+        × (saving.kept.items ≡ kept_lines workspace workspace.stream.branches)) }
     ensures refused { IfErr result (λ fault. fault ≡ Fault.Memory) }
 {
     let mut saving = Saving {

@@ -1,17 +1,19 @@
 //! How a commit ends: git-fast-import(1), "commit".
 
-ghost use Rattle.std.specs.Prelude.{◌≡◌, None, OnOk};
+ghost use Rattle.std.specs.Prelude.{◌≡◌, OnOk};
 ghost use Rattle.git_model.specs.RefStore.{RefStore};
 ghost use Rattle.tenant_tables.specs.Objects.{objects};
 ghost use Rattle.tenant_tables.specs.Room.{HasHoldsLeftBeside};
 ghost use Rattle.tenant_tables.specs.IsBackedBy.{IsBackedBy};
 ghost use Rattle.open_commits.specs.OpenCommit.{shown_in, IsCommitHeld};
+ghost use Rattle.stream_state.specs.OpenCommand.{Nothing};
 ghost use Rattle.import_session.specs.Lent.{Keeps};
 ghost use Rattle.import_session.specs.Commits.{closed_where, commit_closed, open_closed};
-ghost use Rattle.import_session.specs.Session.{state_shown, workspace_in, KeepsCommitted, Leaves};
-ghost use Rattle.import_session.specs.Held.{FilesStand, KeepsBranchFiles};
+ghost use Rattle.import_session.specs.Session.{command_shown, state_shown, workspace_in, KeepsCommitted, Leaves};
+ghost use Rattle.import_session.specs.Held.{FilesStand};
 
 use crate::fault::fault_of;
+use crate::open_command::OpenCommand;
 use crate::state::StreamState;
 use content_pool::Pool;
 use git_objects::Naming;
@@ -30,7 +32,7 @@ fn close_commit<N: Naming>(
 ) -> Result<(), Fault>
     requires stands { IsBackedBy N.digest_of pool.old table.old.entries }
     requires room { HasHoldsLeftBeside pool.old table.old.entries }
-    requires none { state.old.commit ≡ None }
+    requires none { command_shown state.old.command ≡ Nothing }
     requires held { IsCommitHeld (objects pool.old table.old.entries) commit.old }
     ensures keeps { Keeps N.digest_of pool.old table.old pool.new table.new }
     ensures room { HasHoldsLeftBeside pool.new table.new.entries }
@@ -38,7 +40,7 @@ fn close_commit<N: Naming>(
         (commit_closed N.digest_of (workspace_in (state_shown state.old) pool.old table.old refs)
         (shown_in (objects pool.old table.old.entries) commit.old))
         (workspace_in (state_shown state.new) pool.new table.new refs) result }
-    ensures files { KeepsBranchFiles (state_shown state.old) (state_shown state.new) }
+    ensures nothing { command_shown state.new.command ≡ Nothing }
     ensures held { OnOk result (IsCommitHeld (objects pool.new table.new.entries) commit.new) }
     ensures committed { KeepsCommitted pool.old table.old pool.new table.new }
 {
@@ -67,18 +69,21 @@ fn close<N: Naming>(
     ensures room { HasHoldsLeftBeside pool.new table.new.entries }
     ensures done { (refs : RefStore) → Leaves
         (let old = workspace_in (state_shown state.old) pool.old table.old refs in
-        open_closed N.digest_of old old.commit)
+        open_closed N.digest_of old old.stream.command)
         (workspace_in (state_shown state.new) pool.new table.new refs) result }
     ensures committed { KeepsCommitted pool.old table.old pool.new table.new }
     ensures held { OnOk result (FilesStand (state_shown state.new) pool.new table.new) }
 {
-    match state.commit.take() {
-        Some(mut commit) => {
+    match state.command.take() {
+        OpenCommand::Changes(mut commit) => {
             let closed = close_commit(pool, table, state, &mut commit);
             state.left = Some(commit.into_files());
             closed
         }
-        None => Ok(()),
+        other => {
+            state.command = other;
+            Ok(())
+        }
     }
 }
 

@@ -16,15 +16,16 @@ ghost use Rattle.import_session.specs.Session.{state_shown, workspace_in, Carrie
 
 use crate::commit_ishes::{commit_named, start_of};
 use crate::fault::passed_on;
+use crate::open_command::{OpenCommand, not_open};
 use crate::opening::open_commit;
-use crate::state::{StreamState, begin, keep_open, not_open};
+use crate::state::{StreamState, keep_open};
 use content_pool::Pool;
 use git_objects::Naming;
 use open_commits::OpenCommit;
 use stream_grammar::{CommitCommand, CommitIsh, Ident};
 use stream_state::branches::copy_meant;
-use stream_state::command_header::{set_encoding, set_ident};
 use stream_state::fault::Fault;
+use stream_state::headers::{CommitHeader, set_encoding, set_ident};
 use tenant_refs::{RefName, Refs};
 use tenant_tables::Table;
 
@@ -38,7 +39,7 @@ fn begin_commit(state: &mut StreamState, refs: &Refs, ref_name: &RefName) -> Res
     ensures files { KeepsBranchFiles (state_shown state.old) (state_shown state.new) }
 {
     let branch = copy_meant(state.alloc, &state.head, refs, ref_name)?;
-    begin(state, branch);
+    state.command = OpenCommand::Commit(CommitHeader::new(branch));
     Ok(())
 }
 
@@ -51,9 +52,9 @@ fn say_author(state: &mut StreamState, refs: &Refs, ident: &Ident) -> Result<(),
         (workspace_in (state_shown state.new) pool table refs.now) out out result }
     ensures files { KeepsBranchFiles (state_shown state.old) (state_shown state.new) }
 {
-    match &mut state.said {
-        Some(said) => set_ident(state.alloc, ident, &mut said.author),
-        None => Err(not_open()),
+    match &mut state.command {
+        OpenCommand::Commit(header) => set_ident(state.alloc, ident, &mut header.author),
+        _ => Err(not_open()),
     }
 }
 
@@ -66,9 +67,9 @@ fn say_committer(state: &mut StreamState, refs: &Refs, ident: &Ident) -> Result<
         (workspace_in (state_shown state.new) pool table refs.now) out out result }
     ensures files { KeepsBranchFiles (state_shown state.old) (state_shown state.new) }
 {
-    match &mut state.said {
-        Some(said) => set_ident(state.alloc, ident, &mut said.committer),
-        None => Err(not_open()),
+    match &mut state.command {
+        OpenCommand::Commit(header) => set_ident(state.alloc, ident, &mut header.committer),
+        _ => Err(not_open()),
     }
 }
 
@@ -81,9 +82,9 @@ fn say_encoding(state: &mut StreamState, refs: &Refs, encoding: &[u8]) -> Result
         (workspace_in (state_shown state.new) pool table refs.now) out out result }
     ensures files { KeepsBranchFiles (state_shown state.old) (state_shown state.new) }
 {
-    match &mut state.said {
-        Some(said) => set_encoding(state.alloc, encoding, &mut said.encoding),
-        None => Err(not_open()),
+    match &mut state.command {
+        OpenCommand::Commit(header) => set_encoding(state.alloc, encoding, &mut header.encoding),
+        _ => Err(not_open()),
     }
 }
 
@@ -150,9 +151,7 @@ fn start_open<N: Naming>(
         (workspace_in (state_shown state.new) pool.now table.now refs.now) out out result }
     ensures held { OnOk result (FilesStand (state_shown state.new) pool.now table.now) }
 {
-    let Some(mut commit) = state.commit.take() else {
-        return Err(not_open());
-    };
+    let mut commit = state.command.take_changes()?;
     let changed = start_from(pool, table, refs, state, &mut commit, from);
     keep_open(state, commit);
     changed
@@ -175,9 +174,7 @@ fn merge_open<N: Naming>(
         (workspace_in (state_shown state.new) pool.now table.now refs.now) out out result }
     ensures held { OnOk result (FilesStand (state_shown state.new) pool.now table.now) }
 {
-    let Some(mut commit) = state.commit.take() else {
-        return Err(not_open());
-    };
+    let mut commit = state.command.take_changes()?;
     let changed = merge(pool, table, refs, state, &mut commit, other);
     keep_open(state, commit);
     changed

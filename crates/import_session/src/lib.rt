@@ -14,6 +14,7 @@ mod controls;
 mod fault;
 pub mod laws;
 mod objects;
+mod open_command;
 mod opening;
 mod print;
 mod refs;

@@ -12,16 +12,17 @@ ghost use Rattle.stream_grammar.specs.Shown.{commit_shown, object_shown};
 ghost use Rattle.import_session.specs.Objects.{object_stored};
 ghost use Rattle.import_session.specs.Lent.{IsUnchanged, Keeps};
 ghost use Rattle.import_session.specs.Held.{FilesStand, KeepsBranchFiles};
-ghost use Rattle.import_session.specs.Session.{state_shown, workspace_in, CarriesOut, StreamState as StreamStateShown};
+ghost use Rattle.import_session.specs.Session.{marked, state_shown, workspace_in, CarriesOut, StreamState as StreamStateShown};
 
-use crate::state::{StreamState, begin, not_open};
+use crate::open_command::{OpenCommand, not_open};
+use crate::state::StreamState;
 use crate::tags::store_tag;
 use content_pool::Pool;
 use git_objects::{Kind, Name, Naming};
 use indexmap::IndexMap;
 use stream_grammar::{CommitIsh, Ident, Mark, ObjectCommand};
-use stream_state::command_header::{set_ident, set_target};
 use stream_state::fault::Fault;
+use stream_state::headers::{TagHeader, set_ident, set_target};
 use stream_state::marks;
 use stream_state::objects::store;
 use tenant_refs::{RefName, Refs};
@@ -42,8 +43,8 @@ fn store_marked<N: Naming>(
     ensures done { (state : StreamStateShown) (refs : RefStore) (out : List ℕ)
         → FilesStand state pool.old table.old → CarriesOut
         (object_stored N.digest_of (Blob mark contents.now)
-        (workspace_in (record state { marks = marks.old.entries }) pool.old table.old refs))
-        (workspace_in (record state { marks = marks.new.entries }) pool.new table.new refs)
+        (workspace_in (marked state marks.old.entries) pool.old table.old refs))
+        (workspace_in (marked state marks.new.entries) pool.new table.new refs)
         out out result }
     ensures held { (state : StreamStateShown) → FilesStand state pool.old table.old
         → FilesStand state pool.new table.new }
@@ -66,7 +67,7 @@ fn begin_tag(state: &mut StreamState, refs: &Refs, ref_name: &RefName) -> Result
     ensures files { KeepsBranchFiles (state_shown state.old) (state_shown state.new) }
 {
     let ref_name = ref_name.try_clone(state.alloc)?;
-    begin(state, ref_name);
+    state.command = OpenCommand::Tag(TagHeader::new(ref_name));
     Ok(())
 }
 
@@ -80,9 +81,9 @@ fn say_target(state: &mut StreamState, refs: &Refs, target: &CommitIsh<'_>) -> R
         (workspace_in (state_shown state.new) pool table refs.now) out out result }
     ensures files { KeepsBranchFiles (state_shown state.old) (state_shown state.new) }
 {
-    match &mut state.said {
-        Some(said) => set_target(state.alloc, target, &mut said.target),
-        None => Err(not_open()),
+    match &mut state.command {
+        OpenCommand::Tag(header) => set_target(state.alloc, target, &mut header.target),
+        _ => Err(not_open()),
     }
 }
 
@@ -96,9 +97,9 @@ fn say_tagger(state: &mut StreamState, refs: &Refs, ident: &Ident) -> Result<(),
         (workspace_in (state_shown state.new) pool table refs.now) out out result }
     ensures files { KeepsBranchFiles (state_shown state.old) (state_shown state.new) }
 {
-    match &mut state.said {
-        Some(said) => set_ident(state.alloc, ident, &mut said.tagger),
-        None => Err(not_open()),
+    match &mut state.command {
+        OpenCommand::Tag(header) => set_ident(state.alloc, ident, &mut header.tagger),
+        _ => Err(not_open()),
     }
 }
 

@@ -1,6 +1,6 @@
 //! How a commit opens, at its message: git-fast-import(1), "commit".
 
-ghost use Rattle.std.specs.Prelude.{◌≡◌, ◌≢◌, List, ℕ, None, Some, Ok, Err, IfOk, OnOk, MatchResult};
+ghost use Rattle.std.specs.Prelude.{◌≡◌, ◌≢◌, List, ℕ, None, Ok, Err, IfOk, OnOk, MatchResult};
 ghost use Rattle.git_model.specs.GoodRepository.{AreObjects};
 ghost use Rattle.git_model.specs.RefStore.{RefStore};
 ghost use Rattle.git_model.specs.Repository.{Object};
@@ -10,39 +10,40 @@ ghost use Rattle.tree_build.specs.Branch.{IsBranch};
 ghost use Rattle.stream_grammar.specs.Acts.{Message};
 ghost use Rattle.open_commits.specs.OpenCommit.{begun, commit_held, header_shown, shown_in, IsCommitHeld};
 ghost use Rattle.stream_state.specs.Branches.{branch_set, tip_commit, tip_for};
+ghost use Rattle.stream_state.specs.OpenCommand.{Changes};
 ghost use Rattle.import_session.specs.Workspace.{quiet};
 ghost use Rattle.import_session.specs.Commits.{begun_from, commit_said, header_said, opened_with, started_or_cleared, IsTipCommit};
-ghost use Rattle.import_session.specs.Session.{state_shown, workspace_in, CarriesOut, Leaves};
+ghost use Rattle.import_session.specs.Session.{branched, state_shown, state_with, workspace_in, CarriesOut, Leaves};
 ghost use Rattle.import_session.specs.Held.{FilesStand, HoldsFiles};
 ghost use Rattle.import_session.specs.Sound.{IsSound};
 
 use crate::fault::passed_on;
-use crate::state::{StreamState, keep_open, not_open};
+use crate::open_command::{OpenCommand, not_open};
+use crate::state::{StreamState, keep_open};
 use content_pool::Pool;
 use git_objects::{Name, Naming};
 use open_commits::{Header, OpenCommit};
 use std::alloc::Global;
 use stream_grammar::Mark;
 use stream_state::branches::{tip_commit, tip_for};
-use stream_state::command_header::CommandHeader;
 use stream_state::encoding::bytes_of;
 use stream_state::fault::Fault;
+use stream_state::headers::CommitHeader;
 use tenant_refs::{RefName, Refs};
 use tenant_tables::Table;
 use tree_build::Files;
 
 // The header that the lines before the message give. One of them must name a committer.
-fn header_said(mark: Option<Mark>, said: CommandHeader) -> Result<Header, Fault>
+fn header_said(mark: Option<Mark>, said: CommitHeader) -> Result<Header, Fault>
     ensures { MatchResult result
         (λ header. header_said mark said ≡ Ok (header_shown header))
         (λ fault. header_said mark said ≡ Err fault) }
 {
-    let CommandHeader {
+    let CommitHeader {
         ref_name,
         author,
         committer,
         encoding,
-        ..
     } = said;
     let Some(committer) = committer else {
         return Err(not_open());
@@ -119,14 +120,11 @@ fn begin<N: Naming>(
 // Makes the branch one of the stream's, and returns the commit that it was at.
 fn place_tip(state: &mut StreamState, ref_name: &RefName) -> Result<Option<Name>, Fault>
     ensures placed { let old = state_shown state.old in
-        let first = tip_commit old.branches ref_name.now in MatchResult result
-        (λ stood. (stood ≡ first) × (state_shown state.new ≡ record old {
-          branches =
-              state.new.branches;
-        })
-        × (branch_set old.branches ref_name.now (tip_for first) ≡ Ok state.new.branches))
+        let first = tip_commit old.stream.branches ref_name.now in MatchResult result
+        (λ stood. (stood ≡ first) × (state_shown state.new ≡ branched old state.new.branches)
+        × (branch_set old.stream.branches ref_name.now (tip_for first) ≡ Ok state.new.branches))
         (λ fault. fault ≢ Fault.Memory
-        → branch_set old.branches ref_name.now (tip_for first) ≡ Err fault) }
+        → branch_set old.stream.branches ref_name.now (tip_for first) ≡ Err fault) }
 {
     let first = tip_commit(&state.branches, ref_name);
     let branch = ref_name.try_clone(state.alloc)?;
@@ -148,15 +146,12 @@ fn open_with<N: Naming>(
         let workspace = workspace_in old pool.now table.now refs in
         IsSound N.digest_of workspace → MatchResult result
         (λ commit. opened_with workspace message.now (header_shown header)
-        ≡ quiet (workspace_in (record old {
-          branches = state.new.branches;
-          said = None;
-          commit = Some (commit_held commit);
-        }) pool.now table.now refs))
+        ≡ quiet (workspace_in (state_with (branched old state.new.branches)
+        (Changes (commit_held commit))) pool.now table.now refs))
         (λ fault. fault ≢ Fault.Memory
         → opened_with workspace message.now (header_shown header) ≡ Err fault) }
     ensures state { OnOk result (state_shown state.new
-        ≡ record (state_shown state.old) { branches = state.new.branches; left = None }) }
+        ≡ record (branched (state_shown state.old) state.new.branches) { left = None }) }
     ensures held { IfOk result (λ commit. IsCommitHeld (objects pool.now table.now.entries) commit) }
 {
     let alloc = state.alloc;
@@ -184,7 +179,7 @@ pub fn open_commit<N: Naming>(
         (workspace_in (state_shown state.new) pool.now table.now refs.now) out out result }
     ensures held { OnOk result (FilesStand (state_shown state.new) pool.now table.now) }
 {
-    let Some(said) = state.said.take() else {
+    let OpenCommand::Commit(said) = state.command.take() else {
         return Err(not_open());
     };
     let header = header_said(mark, said)?;

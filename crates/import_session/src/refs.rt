@@ -14,7 +14,8 @@ ghost use Rattle.import_session.specs.Held.{FilesStand, KeepsBranchFiles};
 ghost use Rattle.import_session.specs.Session.{state_shown, workspace_in, CarriesOut};
 
 use crate::commit_ishes::{commit_named, start_of};
-use crate::state::{StreamState, begin, not_open};
+use crate::open_command::{OpenCommand, not_open};
+use crate::state::StreamState;
 use content_pool::Pool;
 use git_objects::Naming;
 use stream_grammar::{CommitIsh, Mark, RefCommand};
@@ -31,9 +32,9 @@ fn set_unborn(state: &mut StreamState, refs: &Refs, branch: RefName) -> Result<(
         (workspace_in (state_shown state.new) pool table refs.now) out out result }
     ensures files { KeepsBranchFiles (state_shown state.old) (state_shown state.new) }
 {
-    let said = branch.try_clone(state.alloc)?;
+    let reset = branch.try_clone(state.alloc)?;
     state.branches.set(branch, Tip::Unborn)?;
-    begin(state, said);
+    state.command = OpenCommand::Reset(reset);
     Ok(())
 }
 
@@ -98,9 +99,8 @@ fn reset_to<N: Naming>(
         (workspace_in (state_shown state.new) pool.now table.now refs.now) out out result }
     ensures files { KeepsBranchFiles (state_shown state.old) (state_shown state.new) }
 {
-    let branch = match state.said.take() {
-        Some(said) => said.into_ref(),
-        None => return Err(not_open()),
+    let OpenCommand::Reset(branch) = state.command.take() else {
+        return Err(not_open());
     };
     let tip = tip_from(pool, table, refs, state, &branch, from)?;
     state.branches.place(branch, tip)?;

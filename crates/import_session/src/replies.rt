@@ -14,8 +14,9 @@ ghost use Rattle.import_session.specs.Held.{FilesStand};
 ghost use Rattle.import_session.specs.Session.{state_shown, workspace_in, CarriesOut, KeepsCommitted};
 
 use crate::fault::fault_of;
+use crate::open_command::{OpenCommand, not_open};
 use crate::print::print_entry;
-use crate::state::{StreamState, not_open};
+use crate::state::StreamState;
 use content_pool::Pool;
 use git_objects::Naming;
 use git_paths::Path;
@@ -50,7 +51,7 @@ fn show_entry<N: Naming>(
 {
     // The files that the last commit left were taken when this one opened.
     state.left = None;
-    let Some(commit) = &mut state.commit else {
+    let OpenCommand::Changes(commit) = &mut state.command else {
         return Err(not_open());
     };
     let _within = table.committed_len();

@@ -16,14 +16,15 @@ ghost use Rattle.import_session.specs.Held.{FilesStand};
 ghost use Rattle.import_session.specs.Session.{state_shown, workspace_in, CarriesOut};
 
 use crate::commit_ishes::named;
-use crate::state::{StreamState, not_open};
+use crate::open_command::{OpenCommand, not_open};
+use crate::state::StreamState;
 use content_pool::Pool;
 use git_objects::{Kind, Name, Naming};
 use stream_grammar::Mark;
-use stream_state::command_header::CommandHeader;
 use stream_state::fault::Fault;
+use stream_state::headers::TagHeader;
 use stream_state::marks;
-use stream_state::tags::{check_open, make_room, store_written, tagged_kind};
+use stream_state::tags::{make_room, store_written, tagged_kind};
 use tenant_refs::Refs;
 use tenant_tables::Table;
 
@@ -33,19 +34,21 @@ fn tagged<N: Naming>(
     table: &Table,
     refs: &Refs,
     state: &mut StreamState,
-    said: &CommandHeader,
+    header: &TagHeader,
     mark: &Option<Mark>,
 ) -> Result<(Name, Kind), Fault>
     requires { IsBackedBy N.digest_of pool.now table.now.entries }
     ensures tagged { AreObjects N.digest_of (objects pool.now table.now.entries) → Gives result
-        (tagged mark.now said.now
+        (tagged mark.now header.now
         (workspace_in (state_shown state.old) pool.now table.now refs.now)) }
     ensures mark { OnOk result (0 < spare state.new.marks) }
     ensures tag { OnOk result (length state.new.tags.items < vec_capacity state.new.tags) }
     ensures same { state_shown state.new ≡ state_shown state.old }
 {
-    check_open(&said.ref_name)?;
-    let target = named(pool, table, refs, state, &said.target.lent())?;
+    let Some(said) = &header.target else {
+        return Err(not_open());
+    };
+    let target = named(pool, table, refs, state, &said.lent())?;
     let kind = tagged_kind(pool, table, target)?;
     marks::make_room(&mut state.marks, mark)?;
     make_room(&mut state.tags)?;
@@ -73,12 +76,12 @@ pub fn store_tag<N: Naming>(
     ensures same { OnErr result (IsUnchanged pool.old table.old pool.new table.new) }
     ensures held { OnOk result (FilesStand (state_shown state.new) pool.new table.new) }
 {
-    let Some(said) = state.said.take() else {
+    let OpenCommand::Tag(header) = state.command.take() else {
         return Err(not_open());
     };
-    let (target, kind) = tagged(pool, table, refs, state, &said, &mark)?;
-    let id = store_written(pool, table, state.alloc, &said, target, kind, message)?;
+    let (target, kind) = tagged(pool, table, refs, state, &header, &mark)?;
+    let id = store_written(pool, table, state.alloc, &header, target, kind, message)?;
     marks::set(&mut state.marks, mark, id);
-    state.tags.push((said.ref_name, id)).unwrap();
+    state.tags.push((header.ref_name, id)).unwrap();
     Ok(())
 }

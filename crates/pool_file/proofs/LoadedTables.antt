@@ -98,7 +98,7 @@ own_left digest pool slots numbers i n slot l is below at =
 
 -- ---- a name that is new
 
-apart : (a b : List ℕ) → bytes_eq a b ≡ false → bytes_eq b a ≡ false
+pub apart : (a b : List ℕ) → bytes_eq a b ≡ false → bytes_eq b a ≡ false
 apart a b differ = by (bytes_eq b a) refl
   where
     by : (t : Bool) → bytes_eq b a ≡ t → bytes_eq b a ≡ false
@@ -274,7 +274,7 @@ module _ (digest : List ℕ → List ℕ) (p0 p : Cells) (slots numbers : List �
     live_before : IsLive p0 slot
     live_before = subst (IsLive p0) (sym at) (may.live n slot within)
 
-    same : content p slot ≡ content p0 slot
+    pub same : content p slot ≡ content p0 slot
     same = h.others.kept slot (let a = live_before in let b = held-nil slot in omega arith)
 
     new_here : entry_named o.id entries ≡ None

@@ -1,19 +1,30 @@
 -- Adding one object to the table of a tenant, which is made from the numbers in a file.
-use Rattle.std.specs.Prelude.{◌≡◌, ℕ, ◌<◌, ◌≤◌, List, [], ◌∷◌, ◌++◌, length, None}
+use Rattle.std.specs.Prelude.{◌≡◌, ℕ, ◌<◌, ◌≤◌, List, [], ◌∷◌, ◌++◌, length, Option, None, Some}
 use Rattle.std.specs.Map.{lookup}
 use Rattle.std.specs.Str.{bytes_eq}
 use Rattle.git_model.specs.Limits.{contents_limit, objects_limit}
 use Rattle.git_model.specs.Content.{Content, name_by}
 use Rattle.git_model.specs.Repository.{Object}
 use Rattle.content_pool.specs.Pool.{Cells, HasHoldsLeft, IsLive, content}
+use Rattle.tenant_tables.specs.declared.entry.Entry.{Entry}
+use Rattle.tenant_tables.specs.declared.summary.Summary.{Summary}
 use Rattle.tenant_tables.specs.View.{Entries, entry_named, summary_of}
 use Rattle.tenant_tables.specs.Objects.{objects}
 use Rattle.tenant_tables.specs.IsBackedBy.{IsBackedBy, PreservesOthers}
 use Rattle.pool_file_checks.specs.Sums.{Sums, SameSums, Fits, sums_with}
 
+-- The name and the slot of an entry.
+abbrev pub name_and_slot : List ℕ × Entry → List ℕ × ℕ
+name_and_slot e = (e.0, e.1.slot)
+
 -- The table and the sums have the same summary under each name.
 abbrev pub AreNoted : Sums → Entries → Type 0
 AreNoted sums entries = (id : List ℕ) → lookup (bytes_eq id) sums ≡ summary_of id entries
+
+-- The sums with one more, if there is one.
+abbrev pub with_sum : List ℕ → Option Summary → Sums → Sums
+with_sum id None sums = sums
+with_sum id (Some s) sums = (id, s) ∷ sums
 
 -- A content under its name.
 abbrev pub object_of : (List ℕ → List ℕ) → Content → Object

@@ -1,8 +1,10 @@
 //! Building what a good file says: its contents in one pool, and the tenants over it.
 
-ghost use Rattle.std.specs.Prelude.{◌≡◌, [], ◌∷◌, true, All, IfOk, OnOk};
+ghost use Rattle.std.specs.Prelude.{◌≡◌, ◌-◌, [], ◌∷◌, length, true, All, IfOk, IfSome, OnOk, slice_get};
+ghost use Rattle.std.specs.Option.{option_map};
 ghost use Rattle.content_pool.specs.Pool.{IsLive, IsVacant};
 ghost use Rattle.tenant_refs.specs.TenantName.{IsTenantName, is_tenant_name};
+ghost use Rattle.tenant_tables.specs.Trees.{IsSummed};
 ghost use Rattle.tenant_tables.specs.Room.{HasHoldsLeftBeside};
 ghost use Rattle.pool_file_format.specs.Shown.{objects_of, tenant_of, tenants_of, file_of};
 ghost use Rattle.pool_file_checks.specs.Checks.{Passes};
@@ -22,6 +24,7 @@ use pool_file_checks::Judged;
 use pool_file_format::{RawFile, RawTenant};
 use std::alloc::Global;
 use tenant_refs::TenantName;
+use tenant_tables::Table;
 
 fn read_tenant_name(text: &[u8]) -> TenantName
     requires { IsTenantName text.now }
@@ -38,17 +41,19 @@ fn build_tenant<N: Naming>(
     slots: &[Slot],
     names: &[Name],
     tenant: &RawTenant,
+    other: Option<&Table>,
 ) -> Result<Tenant, Memory>
     requires live { All (IsLive pool.old) slots.now }
     requires room { HasHoldsLeftBeside pool.old [] }
     requires named { names.now ≡ names_of N.digest_of (objects_at pool.old slots.now) }
     requires checked { IsChecked N.digest_of (objects_at pool.old slots.now)
         (tenant_of tenant.now) }
+    requires other { IfSome other (λ t. IsSummed pool.old t.now.entries) }
     ensures { IfOk result (λ t. Builds N.digest_of (objects_at pool.old slots.now)
         (tenant_of tenant.now) pool.old pool.new t) }
 {
     let name = read_tenant_name(&tenant.name);
-    let table = load_table(alloc, pool, slots, names, &tenant.numbers)?;
+    let table = load_table(alloc, pool, slots, names, &tenant.numbers, other)?;
     let refs = load_refs(alloc, &table, tenant)?;
     Ok(Tenant { name, table, refs })
 }
@@ -59,6 +64,17 @@ fn has_room<N: Naming>(pool: &Pool<N>, slots: &[Slot], tenants: &Vec<Tenant>)
     ensures { HasHoldsLeftBeside pool.now [] }
 {
     let _few = tenants.len();
+}
+
+// The table of the last tenant, if there is one.
+fn last_table(tenants: &[Tenant]) -> Option<&Table>
+    ensures { option_map (λ t. t.now) result
+        ≡ option_map (λ t. t.table) (slice_get tenants.now (length tenants.now - 1)) }
+{
+    match tenants.last() {
+        Some(tenant) => Some(&tenant.table),
+        None => None,
+    }
 }
 
 fn add_tenant<N: Naming>(
@@ -77,7 +93,7 @@ fn add_tenant<N: Naming>(
         (tenant_of tenant.now ∷ []) pool.new tenants.new.items) }
 {
     has_room(pool, slots, tenants);
-    let built = build_tenant(alloc, pool, slots, names, tenant)?;
+    let built = build_tenant(alloc, pool, slots, names, tenant, last_table(tenants))?;
     tenants.push(built)?;
     Ok(())
 }

@@ -2,7 +2,7 @@
 use Rattle.std.proofs.Common.{◌≡◌, ℕ, List, [], ◌++◌, Option, refl, sym, ap, subst, ◌∙◌, append_assoc, append-nil}
 use Rattle.std.specs.Io.KnownBytes.{Appends}
 use Rattle.byte_devices.specs.declared.counted.Counted.{Counted}
-use Rattle.byte_devices.specs.Device.{AppendsFront, HasFault, device_of, seen}
+use Rattle.byte_devices.specs.Device.{Device, AppendsFront, HasFault, device_of, seen}
 use Rattle.byte_devices.proofs.KnownBytes.{Appends-nil, Appends-trans}
 use Rattle.pool_file_format.specs.declared.digesting.Fed.{Fed}
 use Rattle.pool_file_format.specs.declared.gathering.HashingWriter.{HashingWriter}
@@ -27,28 +27,40 @@ earlier_front a b xs ys p = record {
   appends = p.appends;
 }
 
+-- What a contract sees of a counted writer whose bytes are known by `contents`.
+abbrev state : {W : Type 0} → (W → Option (List ℕ)) → Counted W → Device
+state contents a = seen (contents (device_of a)) a
+
+written_on : (a b c : Device) (xs ys : List ℕ) → HasWritten a b xs → HasWritten b c ys
+    → HasWritten a c (xs ++ ys)
+written_on a b c xs ys p q = record {
+  appends = Appends-trans a.known b.known c.known xs ys p.appends q.appends;
+  well = q.well ∙ p.well;
+}
+
+broken_later : (a b c : Device) (xs ys : List ℕ) → HasWritten a b xs → HasBroken b c ys
+    → HasBroken a c (xs ++ ys)
+broken_later a b c xs ys p q = record {
+  front = later_front a.known b.known c.known xs ys p.appends q.front;
+  fault = subst (λ (n : ℕ). HasFault n c.faults) p.well q.fault;
+}
+
+broken_earlier : (a b : Device) (xs ys : List ℕ) → HasBroken a b xs → HasBroken a b (xs ++ ys)
+broken_earlier a b xs ys p =
+    record { front = earlier_front a.known b.known xs ys p.front; fault = p.fault }
+
 pub writers_add_up : {W : Type 0} (contents : W → Option (List ℕ)) → AddsUp {S = Counted W}
-    (λ old new bytes. HasWritten (seen (contents (device_of old)) old)
-    (seen (contents (device_of new)) new) bytes)
-    (λ old new bytes. HasBroken (seen (contents (device_of old)) old)
-    (seen (contents (device_of new)) new) bytes)
+    (λ old new bytes. HasWritten (state contents old) (state contents new) bytes)
+    (λ old new bytes. HasBroken (state contents old) (state contents new) bytes)
 writers_add_up contents = record {
   none = λ a. record { appends = Appends-nil (contents (device_of a)); well = refl };
-  both = λ a b c xs ys p q. record {
-    appends = Appends-trans (contents (device_of a)) (contents (device_of b))
-        (contents (device_of c)) xs ys p.appends q.appends;
-    well = q.well ∙ p.well;
-  };
-  later = λ a b c xs ys p q. record {
-    front = later_front (contents (device_of a)) (contents (device_of b)) (contents (device_of c))
-        xs ys p.appends q.front;
-    fault = subst (λ (n : ℕ). HasFault n (seen (contents (device_of c)) c).faults) p.well q.fault;
-  };
-  earlier = λ a b xs ys p. record {
-    front = earlier_front (contents (device_of a)) (contents (device_of b)) xs ys p.front;
-    fault = p.fault;
-  };
+  both = λ a b c. written_on (state contents a) (state contents b) (state contents c);
+  later = λ a b c. broken_later (state contents a) (state contents b) (state contents c);
+  earlier = λ a b. broken_earlier (state contents a) (state contents b);
 }
+
+goes_nowhere : {D : Type 0} (Holds : D → List ℕ → Type 0) (a : D) → Goes Holds a a []
+goes_nowhere Holds a message h = subst (λ (l : List ℕ). Holds a l) (sym (append-nil message)) h
 
 goes_on : {D : Type 0} (Holds : D → List ℕ → Type 0) (a b c : D) (xs ys : List ℕ)
     → Goes Holds a b xs → Goes Holds b c ys → Goes Holds a c (xs ++ ys)
@@ -58,43 +70,37 @@ goes_on Holds a b c xs ys p q message h = subst (λ (l : List ℕ). Holds c l)
 pub fed_adds_up : {D : Type 0} (Holds : D → List ℕ → Type 0) → AddsUp {S = Fed D}
     (λ old new bytes. Goes Holds old.running new.running bytes) (λ old new bytes. ⊥)
 fed_adds_up Holds = record {
-  none = λ a message h. subst (λ (l : List ℕ). Holds a.running l) (sym (append-nil message)) h;
-  both = λ a b c xs ys p q. goes_on Holds a.running b.running c.running xs ys p q;
+  none = λ a. goes_nowhere Holds a.running;
+  both = λ a b c. goes_on Holds a.running b.running c.running;
   later = λ a b c xs ys p q. q;
   earlier = λ a b xs ys p. p;
 }
 
-pub digested_adds_up : {D S : Type 0} (Holds : D → List ℕ → Type 0) (Took Failed : Moves S)
-    → AddsUp Took Failed
-    → AddsUp {S = HashingWriter D S} (TookBoth Holds Took) (FailedBoth Failed)
-digested_adds_up Holds Took Failed laws = record {
-  none = λ a. (
-    refl,
-    (
-      refl,
-      (
-        λ message h. subst (λ (l : List ℕ). Holds a.running.now l)
-            (sym (append-nil message)) h,
-        laws.none a.sink.now,
-      ),
-    ),
-  );
-  both = λ a b c xs ys p q. (
-    q.0 ∙ p.0,
-    (
-      q.1.0 ∙ p.1.0,
-      (
-        goes_on Holds a.running.now b.running.now c.running.now xs ys p.1.1.0 q.1.1.0,
-        laws.both a.sink.now b.sink.now c.sink.now xs ys p.1.1.1 q.1.1.1,
-      ),
-    ),
-  );
-  later = λ a b c xs ys p q. (
-    q.0 ∙ p.0,
-    (q.1.0 ∙ p.1.0, laws.later a.sink.now b.sink.now c.sink.now xs ys p.1.1.1 q.1.1),
-  );
-  earlier = λ a b xs ys p. (p.0, (p.1.0, laws.earlier a.sink.now b.sink.now xs ys p.1.1));
-}
+module _ {D S : Type 0} (Holds : D → List ℕ → Type 0) (Took Failed : Moves S)
+    (laws : AddsUp Took Failed) where
+  both_none : (a : HashingWriter D S) → TookBoth Holds Took a a []
+  both_none a = (refl, (refl, (goes_nowhere Holds a.running.now, laws.none a.sink.now)))
+
+  both_on : (a b c : HashingWriter D S) (xs ys : List ℕ) → TookBoth Holds Took a b xs
+      → TookBoth Holds Took b c ys → TookBoth Holds Took a c (xs ++ ys)
+  both_on a b c xs ys p q =
+      let goes = goes_on Holds a.running.now b.running.now c.running.now xs ys p.1.1.0 q.1.1.0 in
+      let took = laws.both a.sink.now b.sink.now c.sink.now xs ys p.1.1.1 q.1.1.1 in
+      (q.0 ∙ p.0, (q.1.0 ∙ p.1.0, (goes, took)))
+
+  both_later : (a b c : HashingWriter D S) (xs ys : List ℕ) → TookBoth Holds Took a b xs
+      → FailedBoth Failed b c ys → FailedBoth Failed a c (xs ++ ys)
+  both_later a b c xs ys p q =
+      let failed = laws.later a.sink.now b.sink.now c.sink.now xs ys p.1.1.1 q.1.1 in
+      (q.0 ∙ p.0, (q.1.0 ∙ p.1.0, failed))
+
+  pub digested_adds_up : AddsUp {S = HashingWriter D S} (TookBoth Holds Took) (FailedBoth Failed)
+  digested_adds_up = record {
+    none = both_none;
+    both = both_on;
+    later = both_later;
+    earlier = λ a b xs ys p. (p.0, (p.1.0, laws.earlier a.sink.now b.sink.now xs ys p.1.1));
+  }
 
 -- A text `xs` was gathered: of what had waited and `xs`, the sink got `sent`, and the rest waits.
 -- If a text `ys` follows, `sent` is still the beginning of all three.
@@ -121,26 +127,41 @@ gathers_later Took Failed laws a b c waited between xs ys p q =
     subst (λ (l : List ℕ). Failed a c l) (sym (sent_before waited xs ys p.sent between p.parts))
     (laws.later a b c p.sent (between ++ ys) p.took q)
 
-pub gathered_adds_up : {S : Type 0} (Took Failed : Moves S) → AddsUp Took Failed
-    → AddsUp {S = Buffered S} (TookBlocks Took) (FailedBlocks Failed)
-gathered_adds_up Took Failed laws = record {
-  none = λ a. (
+module _ {S : Type 0} (Took Failed : Moves S) (laws : AddsUp Took Failed) where
+  blocks_none : (a : Buffered S) → TookBlocks Took a a []
+  blocks_none a = (
     refl,
     record { sent = []; took = laws.none a.sink.now; parts = append-nil a.block.items },
-  );
-  both = λ a b c xs ys p q. (
+  )
+
+  blocks_on : (a b c : Buffered S) (xs ys : List ℕ) → TookBlocks Took a b xs
+      → TookBlocks Took b c ys → TookBlocks Took a c (xs ++ ys)
+  blocks_on a b c xs ys p q = (
     q.0 ∙ p.0,
     gathers_both Took Failed laws a.sink.now b.sink.now c.sink.now
         a.block.items b.block.items c.block.items xs ys p.1 q.1,
-  );
-  later = λ a b c xs ys p q. (
+  )
+
+  blocks_later : (a b c : Buffered S) (xs ys : List ℕ) → TookBlocks Took a b xs
+      → FailedBlocks Failed b c ys → FailedBlocks Failed a c (xs ++ ys)
+  blocks_later a b c xs ys p q = (
     q.0 ∙ p.0,
     gathers_later Took Failed laws a.sink.now b.sink.now c.sink.now
         a.block.items b.block.items xs ys p.1 q.1,
-  );
-  earlier = λ a b xs ys p. (
+  )
+
+  blocks_earlier : (a b : Buffered S) (xs ys : List ℕ) → FailedBlocks Failed a b xs
+      → FailedBlocks Failed a b (xs ++ ys)
+  blocks_earlier a b xs ys p = (
     p.0,
     subst (λ (l : List ℕ). Failed a.sink.now b.sink.now l) (append_assoc a.block.items xs ys)
         (laws.earlier a.sink.now b.sink.now (a.block.items ++ xs) ys p.1),
-  );
-}
+  )
+
+  pub gathered_adds_up : AddsUp {S = Buffered S} (TookBlocks Took) (FailedBlocks Failed)
+  gathered_adds_up = record {
+    none = blocks_none;
+    both = blocks_on;
+    later = blocks_later;
+    earlier = blocks_earlier;
+  }

@@ -1,10 +1,10 @@
 //! What no clause says about refs: that calls succeed while there is memory, and the order of names
-//! that begin alike.
+//! that begin alike; and many changes beside git.
 
 use git_objects::Name;
 use std::alloc::Global;
 use std::test::Fail;
-use tenant_refs::{RefName, Refs};
+use tenant_refs::{ChangesFault, RefChange, RefName, Refs};
 
 // Refs in the order in which they are set, each with the byte that fills its target.
 const SET: &[(&[u8], u8)] = &[
@@ -24,6 +24,59 @@ const LISTED: &[(&[u8], u8)] = &[
 ];
 
 const MAIN_AND_TAG: &[(&[u8], u8)] = &[(b"refs/heads/m", 1), (b"refs/tags/v", 2)];
+
+// Refs before several changes.
+const BEFORE: &[(&[u8], u8)] = &[
+    (b"refs/heads/a", 1),
+    (b"refs/heads/k", 2),
+    (b"refs/heads/z", 3),
+    (b"refs/tags/v", 4),
+];
+
+// So many changes that they are merged: most of them in falling order, and some to one ref.
+const CHANGES: &[(&[u8], Option<u8>)] = &[
+    (b"refs/heads/z", Some(5)),
+    (b"refs/heads/y", Some(6)),
+    (b"refs/heads/x", Some(7)),
+    (b"refs/heads/w", Some(8)),
+    (b"refs/heads/v", Some(9)),
+    (b"refs/heads/u", Some(10)),
+    (b"refs/heads/a0", Some(11)),
+    (b"refs/heads/a.b", Some(12)),
+    (b"refs/heads/a-b", Some(13)),
+    (b"refs/heads/a", Some(14)),
+    (b"refs/heads/B", Some(15)),
+    (b"refs/heads/b", Some(16)),
+    (b"refs/heads/c", Some(17)),
+    (b"refs/heads/d", Some(18)),
+    (b"refs/heads/e", Some(19)),
+    (b"refs/heads/y", None),
+    (b"refs/heads/k", None),
+    (b"refs/heads/none", None),
+    (b"refs/heads/a", Some(21)),
+    (b"refs/heads/y", Some(22)),
+    (b"refs/heads/w", Some(23)),
+    (b"refs/heads/w", None),
+];
+
+// What `git for-each-ref` lists after a `git update-ref` for each of them in turn.
+const AFTER: &[(&[u8], u8)] = &[
+    (b"refs/heads/B", 15),
+    (b"refs/heads/a", 21),
+    (b"refs/heads/a-b", 13),
+    (b"refs/heads/a.b", 12),
+    (b"refs/heads/a0", 11),
+    (b"refs/heads/b", 16),
+    (b"refs/heads/c", 17),
+    (b"refs/heads/d", 18),
+    (b"refs/heads/e", 19),
+    (b"refs/heads/u", 10),
+    (b"refs/heads/v", 9),
+    (b"refs/heads/x", 7),
+    (b"refs/heads/y", 22),
+    (b"refs/heads/z", 5),
+    (b"refs/tags/v", 4),
+];
 
 fn set_all(alloc: Global, refs: &mut Refs, rows: &[(&[u8], u8)]) -> Result<(), Fail> {
     for (text, byte) in rows {
@@ -90,6 +143,40 @@ fn stays_beside_a_copy(alloc: Global, refs: &mut Refs) -> Result<bool, Fail> {
     Ok(is_changed && has_its_head && lists_all(refs, MAIN_AND_TAG))
 }
 
+fn changes_of(alloc: Global, rows: &[(&[u8], Option<u8>)]) -> Result<Vec<RefChange>, Fail> {
+    let mut changes = Vec::new(alloc);
+    for (text, byte) in rows {
+        let ref_name = RefName::read(alloc, text)?;
+        let target = byte.map(|byte| Name::from_bytes([byte; 20]));
+        changes.push(RefChange { ref_name, target })?;
+    }
+    Ok(changes)
+}
+
+// Makes the changes within a limit, and answers whether that is refused.
+fn is_limited(refs: &mut Refs, changes: Vec<RefChange>, limit: usize) -> bool {
+    match refs.change_all(changes, limit) {
+        Err(ChangesFault::Limit) => true,
+        _ => false,
+    }
+}
+
+// Whether the changes are refused where one ref too many would be left, and made where none is.
+fn are_merged(alloc: Global, refs: &mut Refs) -> Result<bool, Fail> {
+    set_all(alloc, refs, BEFORE)?;
+    let changes = changes_of(alloc, CHANGES)?;
+    let is_refused = is_limited(refs, changes, AFTER.len() - 1) && lists_all(refs, BEFORE);
+    let changes = changes_of(alloc, CHANGES)?;
+    Ok(is_refused && !is_limited(refs, changes, AFTER.len()) && lists_all(refs, AFTER))
+}
+
+fn new_refs_are_merged(alloc: Global) -> Result<bool, Fail> {
+    let mut refs = Refs::new(alloc);
+    let are_merged = are_merged(alloc, &mut refs);
+    drop(refs);
+    are_merged
+}
+
 fn new_refs_go_in_order(alloc: Global) -> Result<bool, Fail> {
     let mut refs = Refs::new(alloc);
     let goes = goes_in_order(alloc, &mut refs);
@@ -113,5 +200,11 @@ fn lists_refs_by_their_bytes(rt: HostRuntime) -> Result<(), Fail> {
 #[test]
 fn changes_a_copy_alone(rt: HostRuntime) -> Result<(), Fail> {
     assert!(rt; new_refs_stay_beside_a_copy(rt.alloc())?);
+    Ok(())
+}
+
+#[test]
+fn merges_many_changes(rt: HostRuntime) -> Result<(), Fail> {
+    assert!(rt; new_refs_are_merged(rt.alloc())?);
     Ok(())
 }

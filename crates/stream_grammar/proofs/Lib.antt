@@ -1,3 +1,4 @@
+pub mod Brought
 pub mod Filled
 pub mod InTurn
 pub mod Placed

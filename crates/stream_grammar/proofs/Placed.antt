@@ -3,8 +3,11 @@
 use Rattle.std.proofs.Common.{◌≡◌, refl, sym, ◌∙◌, ap, rules, true, false, IfSome, List, [], ◌∷◌, ◌++◌, Option, Some, None}
 use Rattle.stream_grammar.specs.declared.part.Part.{Part}
 use Rattle.stream_grammar.specs.declared.part.Part.TheVariants as part
+use Rattle.stream_grammar.specs.declared.part.OpeningLine.{OpeningLine}
+use Rattle.stream_grammar.specs.declared.part.OpeningLine.TheVariants as opening
+use Rattle.stream_grammar.specs.declared.part.ChangeLine.TheVariants as change
 use Rattle.stream_grammar.specs.Parts.{same}
-use Rattle.stream_grammar.specs.Grammar.{Term, Fit, Stands, Ends, Misses, production_of, accepts, is_free, left_after, used, fit, may_end}
+use Rattle.stream_grammar.specs.Grammar.{Term, Fit, Stands, Ends, Misses, production, production_of, accepts, is_free, left_after, used, fit, may_end}
 use Rattle.stream_grammar.specs.Grammar.{Often, Once, Perhaps, AnyNumber, once}
 use Rattle.stream_grammar.specs.Whole.{Fills, nothing_left, stays_empty, is_filled, AreCommands, none_left, one_first}
 use Rattle.stream_grammar.specs.Whole.{left_by, ArePlaced}
@@ -15,8 +18,8 @@ use Rattle.stream_grammar.proofs.Streams.{Continues, Fills-nil}
 -- A command of several lines stands in none of the terms.
 abbrev NoneBegins : List Term → Type 0
 NoneBegins terms =
-    NoneAccepts terms part.Blob × NoneAccepts terms part.Commit × NoneAccepts terms part.Tag
-    × NoneAccepts terms part.Reset × NoneAccepts terms part.Alias
+    NoneAccepts terms (part.Opening opening.Blob) × NoneAccepts terms (part.Opening opening.Commit) × NoneAccepts terms (part.Opening opening.Tag)
+    × NoneAccepts terms (part.Opening opening.Reset) × NoneAccepts terms (part.Opening opening.Alias)
 
 record Orderly (terms : List Term) : Type 0 where
   own : HaveOwnParts terms
@@ -26,7 +29,7 @@ NoneAccepts-after : (taken other : Part) (term : Term) (terms : List Term)
     → accepts (once part.Data) other ≡ false → NoneAccepts (term ∷ terms) other
     → NoneAccepts (left_after taken term terms) other
 NoneAccepts-after taken other term terms apart none =
-    by_test (same taken part.ModifyInline)
+    by_test (same taken (part.Change change.ModifyInline))
     (λ is. rw is (apart, NoneAccepts-used term.often term terms other none))
     (λ differs. rw differs (NoneAccepts-used term.often term terms other none))
 
@@ -36,11 +39,11 @@ Orderly-after taken term terms stands orderly =
     record {
       own = HaveOwnParts-after term terms taken stands orderly.own;
       alone = (
-        NoneAccepts-after taken part.Blob term terms refl orderly.alone.0,
-        NoneAccepts-after taken part.Commit term terms refl orderly.alone.1,
-        NoneAccepts-after taken part.Tag term terms refl orderly.alone.2,
-        NoneAccepts-after taken part.Reset term terms refl orderly.alone.3,
-        NoneAccepts-after taken part.Alias term terms refl orderly.alone.4,
+        NoneAccepts-after taken (part.Opening opening.Blob) term terms refl orderly.alone.0,
+        NoneAccepts-after taken (part.Opening opening.Commit) term terms refl orderly.alone.1,
+        NoneAccepts-after taken (part.Opening opening.Tag) term terms refl orderly.alone.2,
+        NoneAccepts-after taken (part.Opening opening.Reset) term terms refl orderly.alone.3,
+        NoneAccepts-after taken (part.Opening opening.Alias) term terms refl orderly.alone.4,
       );
     }
 
@@ -132,7 +135,7 @@ may_end-used Once term terms free end = end
 may_end-used Perhaps term terms free end = end
 may_end-used AnyNumber term terms free end = rw free end
 
-may_end-Stands : (taken : Part) (terms left : List Term) → same taken part.ModifyInline ≡ false
+may_end-Stands : (taken : Part) (terms left : List Term) → same taken (part.Change change.ModifyInline) ≡ false
     → may_end terms ≡ true → fit taken terms ≡ Stands left → may_end left ≡ true
 may_end-Stands taken [] left plain end stands = let absent : Ends ≡ Stands left = stands in cc
 may_end-Stands taken (term ∷ terms) left plain end stands =
@@ -147,42 +150,23 @@ may_end-Stands taken (term ∷ terms) left plain end stands =
     (λ bound. let absent : false ≡ true = rw bound at end in cc)
 
 -- The terms of each production are orderly.
+Orderly-opening : (line : OpeningLine) → Orderly (production line)
+Orderly-opening opening.Blob = record { own = search rules; alone = search rules }
+Orderly-opening opening.Commit = record { own = search rules; alone = search rules }
+Orderly-opening opening.Tag = record { own = search rules; alone = search rules }
+Orderly-opening opening.Reset = record { own = search rules; alone = search rules }
+Orderly-opening opening.Alias = record { own = search rules; alone = search rules }
+
 Orderly-command : (command : Part) → IfSome (production_of command) Orderly
-Orderly-command part.Blob = record { own = search rules; alone = search rules }
-Orderly-command part.Commit = record { own = search rules; alone = search rules }
-Orderly-command part.Tag = record { own = search rules; alone = search rules }
-Orderly-command part.Reset = record { own = search rules; alone = search rules }
-Orderly-command part.Alias = record { own = search rules; alone = search rules }
-Orderly-command part.Checkpoint = record { own = tt; alone = (tt, tt, tt, tt, tt) }
-Orderly-command part.Progress = record { own = tt; alone = (tt, tt, tt, tt, tt) }
-Orderly-command part.GetMark = record { own = tt; alone = (tt, tt, tt, tt, tt) }
-Orderly-command part.CatBlob = record { own = tt; alone = (tt, tt, tt, tt, tt) }
-Orderly-command part.Ls = record { own = tt; alone = (tt, tt, tt, tt, tt) }
-Orderly-command part.Done = record { own = tt; alone = (tt, tt, tt, tt, tt) }
-Orderly-command part.Feature = record { own = tt; alone = (tt, tt, tt, tt, tt) }
-Orderly-command part.Setting = record { own = tt; alone = (tt, tt, tt, tt, tt) }
-Orderly-command part.Mark = tt
-Orderly-command part.OriginalOid = tt
-Orderly-command part.Author = tt
-Orderly-command part.Committer = tt
-Orderly-command part.Encoding = tt
-Orderly-command part.From = tt
-Orderly-command part.Merge = tt
-Orderly-command part.Tagger = tt
-Orderly-command part.To = tt
-Orderly-command part.Modify = tt
-Orderly-command part.ModifyInline = tt
-Orderly-command part.Delete = tt
-Orderly-command part.Copy = tt
-Orderly-command part.Rename = tt
-Orderly-command part.DeleteAll = tt
-Orderly-command part.Data = tt
+Orderly-command (part.Opening line) = Orderly-opening line
+Orderly-command (part.Reply line) = record { own = tt; alone = (tt, tt, tt, tt, tt) }
+Orderly-command (part.Control line) = record { own = tt; alone = (tt, tt, tt, tt, tt) }
 Orderly-command part.Blank = record { own = tt; alone = (tt, tt, tt, tt, tt) }
-Orderly-command part.Unknown = tt
+Orderly-command _ = tt
 
 -- A command that may stand in another one has one line, and no data after it.
 IsAlone : Part → List Term → Type 0
-IsAlone command terms = (terms ≡ []) × (same command part.ModifyInline ≡ false)
+IsAlone command terms = (terms ≡ []) × (same command (part.Change change.ModifyInline) ≡ false)
 
 no_terms : (terms : List Term) → Some [] ≡ Some terms → terms ≡ []
 no_terms terms is = let whole : [] ≡ terms = cc in sym whole
@@ -193,42 +177,20 @@ no_command terms is = cc
 alone : (command : Part) (terms before left : List Term) → production_of command ≡ Some terms
     → NoneBegins before → fit command before ≡ Stands left → IsAlone command terms
 unfolding IsAlone
-alone part.Blob terms before left is none stands =
-    absurd (nowhere part.Blob before left none.0 stands)
-alone part.Commit terms before left is none stands =
-    absurd (nowhere part.Commit before left none.1 stands)
-alone part.Tag terms before left is none stands =
-    absurd (nowhere part.Tag before left none.2 stands)
-alone part.Reset terms before left is none stands =
-    absurd (nowhere part.Reset before left none.3 stands)
-alone part.Alias terms before left is none stands =
-    absurd (nowhere part.Alias before left none.4 stands)
-alone part.Checkpoint terms before left is none stands = (no_terms terms is, refl)
-alone part.Progress terms before left is none stands = (no_terms terms is, refl)
-alone part.GetMark terms before left is none stands = (no_terms terms is, refl)
-alone part.CatBlob terms before left is none stands = (no_terms terms is, refl)
-alone part.Ls terms before left is none stands = (no_terms terms is, refl)
-alone part.Done terms before left is none stands = (no_terms terms is, refl)
-alone part.Feature terms before left is none stands = (no_terms terms is, refl)
-alone part.Setting terms before left is none stands = (no_terms terms is, refl)
-alone part.Mark terms before left is none stands = absurd (no_command terms is)
-alone part.OriginalOid terms before left is none stands = absurd (no_command terms is)
-alone part.Author terms before left is none stands = absurd (no_command terms is)
-alone part.Committer terms before left is none stands = absurd (no_command terms is)
-alone part.Encoding terms before left is none stands = absurd (no_command terms is)
-alone part.From terms before left is none stands = absurd (no_command terms is)
-alone part.Merge terms before left is none stands = absurd (no_command terms is)
-alone part.Tagger terms before left is none stands = absurd (no_command terms is)
-alone part.To terms before left is none stands = absurd (no_command terms is)
-alone part.Modify terms before left is none stands = absurd (no_command terms is)
-alone part.ModifyInline terms before left is none stands = absurd (no_command terms is)
-alone part.Delete terms before left is none stands = absurd (no_command terms is)
-alone part.Copy terms before left is none stands = absurd (no_command terms is)
-alone part.Rename terms before left is none stands = absurd (no_command terms is)
-alone part.DeleteAll terms before left is none stands = absurd (no_command terms is)
-alone part.Data terms before left is none stands = absurd (no_command terms is)
+alone (part.Opening opening.Blob) terms before left is none stands =
+    absurd (nowhere (part.Opening opening.Blob) before left none.0 stands)
+alone (part.Opening opening.Commit) terms before left is none stands =
+    absurd (nowhere (part.Opening opening.Commit) before left none.1 stands)
+alone (part.Opening opening.Tag) terms before left is none stands =
+    absurd (nowhere (part.Opening opening.Tag) before left none.2 stands)
+alone (part.Opening opening.Reset) terms before left is none stands =
+    absurd (nowhere (part.Opening opening.Reset) before left none.3 stands)
+alone (part.Opening opening.Alias) terms before left is none stands =
+    absurd (nowhere (part.Opening opening.Alias) before left none.4 stands)
+alone (part.Reply line) terms before left is none stands = (no_terms terms is, refl)
+alone (part.Control line) terms before left is none stands = (no_terms terms is, refl)
 alone part.Blank terms before left is none stands = (no_terms terms is, refl)
-alone part.Unknown terms before left is none stands = absurd (no_command terms is)
+alone _ terms before left is none stands = absurd (no_command terms is)
 
 -- What is to be shown of the parts after one.
 abbrev AreLaterPlaced : List Part → Type 0

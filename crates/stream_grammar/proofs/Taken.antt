@@ -1,11 +1,14 @@
 -- Parts that fill the terms of a command are taken one by one, if no part may stand in two terms.
-use Rattle.std.proofs.Common.{◌≡◌, refl, sym, ◌∙◌, ap, rules, ℕ, Bool, true, false, nat_eq, IfSome, List, [], ◌∷◌, Option, Some, None}
-use Rattle.std.proofs.lemmas.Bool.{eqb-true}
+use Rattle.std.proofs.Common.{◌≡◌, refl, sym, ◌∙◌, ap, rules, ℕ, Bool, true, false, ◌&&◌, nat_eq, IfSome, List, [], ◌∷◌, Option, Some, None}
+use Rattle.std.proofs.lemmas.Bool.{and_parts, eqb-true}
 use Rattle.std.specs.List.{list_any}
 use Rattle.stream_grammar.specs.declared.part.Part.{Part}
-use Rattle.stream_grammar.specs.Parts.{index_of, same}
+use Rattle.stream_grammar.specs.Parts.{index_of, kind_index, same}
 use Rattle.stream_grammar.specs.declared.part.Part.TheVariants as part
-use Rattle.stream_grammar.specs.Grammar.{Term, Often, Once, Perhaps, AnyNumber, production_of, accepts, is_free, used, left_after, fit}
+use Rattle.stream_grammar.specs.declared.part.OpeningLine.{OpeningLine}
+use Rattle.stream_grammar.specs.declared.part.OpeningLine.TheVariants as opening
+use Rattle.stream_grammar.specs.declared.part.ChangeLine.TheVariants as change
+use Rattle.stream_grammar.specs.Grammar.{Term, Often, Once, Perhaps, AnyNumber, production, production_of, accepts, is_free, used, left_after, fit}
 use Rattle.stream_grammar.specs.Whole.{Fills, nothing_left, stays_empty, is_filled, left_by, left_by_parts, AreTaken}
 use Rattle.stream_grammar.proofs.Filled.{by_test}
 
@@ -29,7 +32,7 @@ abbrev pub HaveOwnParts : List Term → Type 0
 HaveOwnParts [] = Unit {0}
 HaveOwnParts (term ∷ terms) =
     StandElsewhere term.parts terms
-    × TakeNoData (accepts term part.ModifyInline) (term ∷ terms)
+    × TakeNoData (accepts term (part.Change change.ModifyInline)) (term ∷ terms)
     × HaveOwnParts terms
 
 HaveOwnParts-used : (often : Often) (term : Term) (terms : List Term)
@@ -44,12 +47,15 @@ NoneAccepts-used Once term terms part none = none.1
 NoneAccepts-used Perhaps term terms part none = none.1
 NoneAccepts-used AnyNumber term terms part none = none
 
--- A term goes by a part's index alone.
+-- A term goes by a part's kind and its place there alone.
 accepts-same : (term : Term) (part other : Part) → same part other ≡ true
     → accepts term part ≡ accepts term other
 accepts-same term part other is =
-    ap (λ (index : ℕ). list_any (λ p. nat_eq index (index_of p)) term.parts)
-    (eqb-true (index_of part) (index_of other) is)
+    let both = and_parts (nat_eq (kind_index part) (kind_index other)) (nat_eq (index_of part) (index_of other)) is in
+    ap (λ (kind : ℕ). list_any (λ p. nat_eq kind (kind_index p) && nat_eq (index_of part) (index_of p)) term.parts)
+    (eqb-true (kind_index part) (kind_index other) both.0)
+    ∙ ap (λ (index : ℕ). list_any (λ p. nat_eq (kind_index other) (kind_index p) && nat_eq index (index_of p)) term.parts)
+    (eqb-true (index_of part) (index_of other) both.1)
 
 NoneAccepts-same : (terms : List Term) (part other : Part) → same part other ≡ true
     → NoneAccepts terms other → NoneAccepts terms part
@@ -61,10 +67,10 @@ NoneAccepts-same (term ∷ terms) part other is none =
 pub HaveOwnParts-after : (term : Term) (terms : List Term) (taken : Part)
     → accepts term taken ≡ true → HaveOwnParts (term ∷ terms) → HaveOwnParts (left_after taken term terms)
 HaveOwnParts-after term terms taken stands own =
-    by_test (same taken part.ModifyInline)
+    by_test (same taken (part.Change change.ModifyInline))
     (λ is.
-    let takes : accepts term part.ModifyInline ≡ true =
-    sym (accepts-same term taken part.ModifyInline is) ∙ stands in
+    let takes : accepts term (part.Change change.ModifyInline) ≡ true =
+    sym (accepts-same term taken (part.Change change.ModifyInline) is) ∙ stands in
     let none : NoneAccepts (term ∷ terms) part.Data = rw takes at own.1 in
     rw is (
       (NoneAccepts-used term.often term terms part.Data none, tt),
@@ -123,37 +129,19 @@ AreTaken-filled _ _ own (is_filled term terms part parts stands fills) =
     record { left = later.left; after_parts = rw stands later.after_parts; end = later.end }
 
 -- Each command has a part of its own in each term.
+AreTaken-opening : (line : OpeningLine) (parts : List Part) → Fills (production line) parts
+    → AreTaken parts (production line)
+AreTaken-opening opening.Blob parts = AreTaken-filled _ parts (search rules)
+AreTaken-opening opening.Commit parts = AreTaken-filled _ parts (search rules)
+AreTaken-opening opening.Tag parts = AreTaken-filled _ parts (search rules)
+AreTaken-opening opening.Reset parts = AreTaken-filled _ parts (search rules)
+AreTaken-opening opening.Alias parts = AreTaken-filled _ parts (search rules)
+
 pub AreTaken-command : (command : Part)
     → IfSome (production_of command)
     (λ terms. (parts : List Part) → Fills terms parts → AreTaken parts terms)
-AreTaken-command part.Blob = λ parts. AreTaken-filled _ parts (search rules)
-AreTaken-command part.Commit = λ parts. AreTaken-filled _ parts (search rules)
-AreTaken-command part.Tag = λ parts. AreTaken-filled _ parts (search rules)
-AreTaken-command part.Reset = λ parts. AreTaken-filled _ parts (search rules)
-AreTaken-command part.Alias = λ parts. AreTaken-filled _ parts (search rules)
-AreTaken-command part.Checkpoint = λ parts. AreTaken-filled [] parts tt
-AreTaken-command part.Progress = λ parts. AreTaken-filled [] parts tt
-AreTaken-command part.GetMark = λ parts. AreTaken-filled [] parts tt
-AreTaken-command part.CatBlob = λ parts. AreTaken-filled [] parts tt
-AreTaken-command part.Ls = λ parts. AreTaken-filled [] parts tt
-AreTaken-command part.Done = λ parts. AreTaken-filled [] parts tt
-AreTaken-command part.Feature = λ parts. AreTaken-filled [] parts tt
-AreTaken-command part.Setting = λ parts. AreTaken-filled [] parts tt
+AreTaken-command (part.Opening line) = AreTaken-opening line
+AreTaken-command (part.Reply line) = λ parts. AreTaken-filled [] parts tt
+AreTaken-command (part.Control line) = λ parts. AreTaken-filled [] parts tt
 AreTaken-command part.Blank = λ parts. AreTaken-filled [] parts tt
-AreTaken-command part.Mark = tt
-AreTaken-command part.OriginalOid = tt
-AreTaken-command part.Author = tt
-AreTaken-command part.Committer = tt
-AreTaken-command part.Encoding = tt
-AreTaken-command part.From = tt
-AreTaken-command part.Merge = tt
-AreTaken-command part.Tagger = tt
-AreTaken-command part.To = tt
-AreTaken-command part.Modify = tt
-AreTaken-command part.ModifyInline = tt
-AreTaken-command part.Delete = tt
-AreTaken-command part.Copy = tt
-AreTaken-command part.Rename = tt
-AreTaken-command part.DeleteAll = tt
-AreTaken-command part.Data = tt
-AreTaken-command part.Unknown = tt
+AreTaken-command _ = tt

@@ -1,5 +1,5 @@
 -- What an item asks for is well formed.
-use Rattle.std.proofs.Common.{◌≡◌, ◌≢◌, ◌==◌, ◌++◌, ◌<◌, ◌≤◌, nat_le, nat_lt, not, length, codes, ℕ, Bool, true, false, List, [], Option, Some, None, Result, Ok, Err, refl, sym, ap, ◌∙◌, ◌*◌, subst, inl, inr, arith}
+use Rattle.std.proofs.Common.{◌≡◌, ◌≢◌, ◌==◌, ◌&&◌, ◌++◌, ◌<◌, ◌≤◌, nat_le, nat_lt, not, length, codes, ℕ, Bool, true, false, List, [], Option, Some, None, Result, Ok, Err, refl, sym, ap, ◌∙◌, ◌*◌, subst, inl, inr, arith}
 use Rattle.std.specs.Prelude.{IfOk}
 use Rattle.std.specs.Result.{result_unwrap_or}
 use Rattle.std.specs.List.{list_all}
@@ -25,12 +25,24 @@ use Rattle.git_paths.specs.declared.fault.Fault.{Fault as PathFault}
 use Rattle.git_paths.specs.declared.place.Place.{Place}
 use Rattle.git_paths.specs.declared.place.Place.TheVariants.{Source, Last}
 use Rattle.git_paths.specs.Paths.{components_of, is_path, is_within_limits}
-use Rattle.git_paths.specs.Reading.{Parts, bytes_at, judged, path_and_rest, path_at, path_of as path_of_bytes}
+use Rattle.git_paths.specs.Reading.{Parts, bytes_at, judged, path_and_rest, path_at, path_within_limits}
 use Rattle.git_paths.proofs.Decided.{IsPath-from_test, IsWithinLimits-from_test}
 use Rattle.stream_lex.specs.Items.{Item, Line, Data, Blank}
 use Rattle.stream_grammar.specs.declared.fault.Fault.{Fault}
-use Rattle.stream_grammar.specs.declared.feature.Setting.{Setting}
-use Rattle.stream_grammar.specs.declared.feature.Setting.TheVariants as setting
+use Rattle.stream_grammar.specs.declared.feature.OptionCommand.{OptionCommand}
+use Rattle.stream_grammar.specs.declared.feature.OptionCommand.TheVariants as option
+use Rattle.stream_grammar.specs.declared.part.OpeningLine.{OpeningLine}
+use Rattle.stream_grammar.specs.declared.part.OpeningLine.TheVariants as opening
+use Rattle.stream_grammar.specs.declared.part.ReplyLine.{ReplyLine}
+use Rattle.stream_grammar.specs.declared.part.ReplyLine.TheVariants as reply
+use Rattle.stream_grammar.specs.declared.part.ControlLine.{ControlLine}
+use Rattle.stream_grammar.specs.declared.part.ControlLine.TheVariants as control
+use Rattle.stream_grammar.specs.declared.part.HeaderLine.{HeaderLine}
+use Rattle.stream_grammar.specs.declared.part.HeaderLine.TheVariants as header
+use Rattle.stream_grammar.specs.declared.part.CommitIshLine.{CommitIshLine}
+use Rattle.stream_grammar.specs.declared.part.CommitIshLine.TheVariants as commit_ish
+use Rattle.stream_grammar.specs.declared.part.ChangeLine.{ChangeLine}
+use Rattle.stream_grammar.specs.declared.part.ChangeLine.TheVariants as change
 use Rattle.stream_grammar.specs.declared.part.Part.{Part}
 use Rattle.stream_grammar.specs.declared.part.Part.TheVariants as part
 use Rattle.stream_grammar.specs.declared.stage.Opened.{Opened}
@@ -38,15 +50,15 @@ use Rattle.stream_grammar.specs.declared.stage.Opened.TheVariants as opened
 use Rattle.stream_grammar.specs.declared.data_ref.DataRef.{DataRef}
 use Rattle.stream_grammar.specs.Texts.{read, argument, after_space, after_colon, first_word, required, idnum_of, mark_of, named, referred, dataref_of}
 use Rattle.stream_grammar.specs.Names.{CommitIsh, ref_of, tag_ref_of, ident_judged, ident_of, commit_ish_of}
-use Rattle.stream_grammar.specs.Changes.{Path, mode_of, mode_inline, path_read, path_of, paths_of, object_and_path, modified, inline_path, modified_inline, is_encoding, encoding_of, is_quoted}
-use Rattle.stream_grammar.specs.Features.{feature_of, in_time, quiet_of, head_of, setting_of}
-use Rattle.stream_grammar.specs.Acts.{Act, Effect}
+use Rattle.stream_grammar.specs.Changes.{Path, mode_of, mode_inline, path_read, last_path, paths_of, object_and_path, modified, inline_path, modified_inline, is_encoding, encoding_of, is_quoted}
+use Rattle.stream_grammar.specs.Features.{feature_of, in_time, quiet_of, head_of, option_of}
+use Rattle.stream_grammar.specs.Acts.{Act, Effect, brings}
 use Rattle.stream_grammar.specs.Grammar.{Fit, Stands, Ends, Misses, Term, production_of, fit}
 use Rattle.stream_grammar.specs.Parts.{part_of}
-use Rattle.stream_grammar.specs.Lines.{from_act, alias_act, data_act, entry_act, branch_entry_act}
-use Rattle.stream_grammar.specs.Lines.{change_act, change_or_reply_act, header_act}
+use Rattle.stream_grammar.specs.Lines.{from_act, alias_act, data_act}
+use Rattle.stream_grammar.specs.Lines.{header_effect, commit_ish_effect, change_act, ls_act, reply_act}
 use Rattle.stream_grammar.specs.Lines.{line_effect, inner_effect}
-use Rattle.stream_grammar.specs.Lines.{option_act, control_act, single_act, first_line_act, first_act}
+use Rattle.stream_grammar.specs.Lines.{option_act, control_act, opening_act, first_line_act, first_act}
 use Rattle.stream_grammar.specs.Commands.{Open, Done, Step, Parsing, step, step_by, step_outside, goes_on, opens, done_of, done_by}
 use Rattle.stream_grammar.specs.WellFormed.{NamesShortRef, IsTagRef, IsTreePath, IsReferred, HoldsContents, IsWellFormed}
 use Rattle.stream_grammar.proofs.Filled.{by_test}
@@ -142,9 +154,9 @@ good_encoding text =
 
 -- ---- paths and datarefs
 
-good_path_of_bytes : (bytes : List ℕ) → IfOk (path_of_bytes bytes) IsTreePath
-unfolding path_of_bytes
-good_path_of_bytes bytes =
+good_path_read : (bytes : List ℕ) → IfOk (path_within_limits bytes) IsTreePath
+unfolding path_within_limits
+good_path_read bytes =
     by_test (is_path (components_of bytes))
     (λ is. by_test (is_within_limits (components_of bytes))
     (λ short. rw (is, short) (record {
@@ -165,9 +177,9 @@ good_path_at place text = by_parts (bytes_at place text)
 
     by_parts : (parts : Parts) → IfOk (path_read (judged parts)) (λ found. IsTreePath found.0)
     by_parts None = tt
-    by_parts (Some (bytes, rest)) = by_path (path_of_bytes bytes) rest (good_path_of_bytes bytes)
+    by_parts (Some (bytes, rest)) = by_path (path_within_limits bytes) rest (good_path_read bytes)
 
-good_path : (text : List ℕ) → IfOk (path_of text) IsTreePath
+good_path : (text : List ℕ) → IfOk (last_path text) IsTreePath
 good_path text =
     good_read (λ (found : Path × List ℕ). IsTreePath found.0) IsTreePath (path_read (path_at Last text))
     (λ found. Ok found.0) (good_path_at Last text) (λ found h. h)
@@ -177,10 +189,10 @@ good_paths : (text : List ℕ)
 good_paths text =
     good_read (λ (found : Path × List ℕ). IsTreePath found.0)
     (λ (paths : Path × Path). IsTreePath paths.0 × IsTreePath paths.1) (path_read (path_at Source text))
-    (λ source. read (path_of source.1) (λ path. Ok (source.0, path)))
+    (λ source. read (last_path source.1) (λ path. Ok (source.0, path)))
     (good_path_at Source text)
     (λ source h. good_read IsTreePath
-    (λ (paths : Path × Path). IsTreePath paths.0 × IsTreePath paths.1) (path_of source.1)
+    (λ (paths : Path × Path). IsTreePath paths.0 × IsTreePath paths.1) (last_path source.1)
     (λ path. Ok (source.0, path)) (good_path source.1) (λ path p. (h, p)))
 
 -- what forty digits of a name decode to
@@ -213,7 +225,7 @@ good_object_and_path : (text : List ℕ) → IfOk (object_and_path text) IsPlace
 good_object_and_path text =
     good_read IsReferred IsPlaced (dataref_of (first_word text)) _ (good_dataref (first_word text))
     (λ object h. any_read IsPlaced (required (after_space text)) _
-    (λ rest. good_read IsTreePath IsPlaced (path_of rest) _ (good_path rest) (λ path p. (h, p))))
+    (λ rest. good_read IsTreePath IsPlaced (last_path rest) _ (good_path rest) (λ path p. (h, p))))
 
 good_modified : (text : List ℕ)
     → IfOk (modified text) (λ file. IsReferred file.1 × IsTreePath file.2)
@@ -247,52 +259,34 @@ good_modified_inline text =
 
 -- ---- acts
 
-good_entry_act : (text : List ℕ) → IfOk (entry_act text) IsWellFormed
-good_entry_act text =
+good_change_act : (line : ChangeLine) (text : List ℕ) → IfOk (change_act line text) IsWellFormed
+good_change_act change.Modify text =
+    good_read _ IsWellFormed (modified text) _ (good_modified text) (λ file h. h)
+good_change_act change.ModifyInline text =
+    good_read _ IsWellFormed (modified_inline text) _ (good_modified_inline text) (λ file h. h)
+good_change_act change.Delete text =
+    good_read _ IsWellFormed (last_path text) _ (good_path text) (λ path h. h)
+good_change_act change.Copy text =
+    good_read _ IsWellFormed (paths_of text) _ (good_paths text) (λ paths h. h)
+good_change_act change.Rename text =
+    good_read _ IsWellFormed (paths_of text) _ (good_paths text) (λ paths h. h)
+good_change_act change.DeleteAll text = tt
+
+good_ls_act : (path_alone : Bool) (text : List ℕ) → IfOk (ls_act path_alone text) IsWellFormed
+good_ls_act true text =
+    good_read IsTreePath IsWellFormed (last_path text) _ (good_path text) (λ path h. h)
+good_ls_act false text =
     good_read IsPlaced IsWellFormed (object_and_path text) _ (good_object_and_path text) (λ entry h. h)
 
-good_branch_entry_act : (quoted : Bool) (text : List ℕ)
-    → IfOk (branch_entry_act quoted text) IsWellFormed
-good_branch_entry_act true text =
-    good_read IsTreePath IsWellFormed (path_of text) _ (good_path text) (λ path h. h)
-good_branch_entry_act false text = good_entry_act text
-
-good_change_act : (taken : Part) (text : List ℕ) → IfOk (change_act taken text) IsWellFormed
-good_change_act part.Modify text =
-    good_read _ IsWellFormed (modified (argument text)) _ (good_modified (argument text)) (λ file h. h)
-good_change_act part.ModifyInline text =
-    good_read _ IsWellFormed (modified_inline (argument text)) _ (good_modified_inline (argument text))
-    (λ file h. h)
-good_change_act part.Delete text =
-    good_read _ IsWellFormed (path_of (argument text)) _ (good_path (argument text)) (λ path h. h)
-good_change_act part.Copy text =
-    good_read _ IsWellFormed (paths_of (argument text)) _ (good_paths (argument text)) (λ paths h. h)
-good_change_act part.Rename text =
-    good_read _ IsWellFormed (paths_of (argument text)) _ (good_paths (argument text)) (λ paths h. h)
-good_change_act part.DeleteAll text = tt
-good_change_act _ text = tt
-
-good_change_or_reply_act : (taken : Part) (text : List ℕ)
-    → IfOk (change_or_reply_act taken text) IsWellFormed
-good_change_or_reply_act part.CatBlob text =
+good_reply_act : (inside : Bool) (line : ReplyLine) (text : List ℕ)
+    → IfOk (reply_act inside line text) IsWellFormed
+good_reply_act inside reply.Progress text = tt
+good_reply_act inside reply.GetMark text =
+    any_read IsWellFormed (mark_of (argument text)) _ (λ mark. tt)
+good_reply_act inside reply.CatBlob text =
     good_read _ IsWellFormed (dataref_of (argument text)) _ (good_dataref (argument text)) (λ object h. h)
-good_change_or_reply_act part.Ls text =
-    good_branch_entry_act (is_quoted (argument text)) (argument text)
-good_change_or_reply_act taken text = good_change_act taken text
-
-good_header_act : (taken : Part) (text : List ℕ) → IfOk (header_act taken text) IsWellFormed
-good_header_act part.Author text =
-    good_read _ IsWellFormed (ident_of (argument text)) _ (good_ident (argument text)) (λ ident h. h)
-good_header_act part.Committer text =
-    good_read _ IsWellFormed (ident_of (argument text)) _ (good_ident (argument text)) (λ ident h. h)
-good_header_act part.Encoding text =
-    good_read _ IsWellFormed (encoding_of (argument text)) _ (good_encoding (argument text))
-    (λ encoding h. h)
-good_header_act part.Merge text =
-    any_read IsWellFormed (commit_ish_of (argument text)) _ (λ commit. tt)
-good_header_act part.Tagger text =
-    good_read _ IsWellFormed (ident_of (argument text)) _ (good_ident (argument text)) (λ ident h. h)
-good_header_act taken text = good_change_or_reply_act taken text
+good_reply_act inside reply.Ls text =
+    good_ls_act (inside && is_quoted (argument text)) (argument text)
 
 abbrev IsGood : Effect → Type 0
 IsGood effect = IsWellFormed effect.act
@@ -315,17 +309,44 @@ data_good opened.Inline mark contents = tt
 data_good opened.Tag mark contents = tt
 data_good _ mark contents = tt
 
+good_header_effect : (mark : Option ℕ) (line : HeaderLine) (text : List ℕ)
+    → IfOk (header_effect mark line text) IsGood
+good_header_effect mark header.Mark text = any_read IsGood (mark_of text) _ (λ number. tt)
+good_header_effect mark header.OriginalOid text = tt
+good_header_effect mark header.Author text =
+    good_read _ IsGood (ident_of text) _ (good_ident text) (λ ident h. h)
+good_header_effect mark header.Committer text =
+    good_read _ IsGood (ident_of text) _ (good_ident text) (λ ident h. h)
+good_header_effect mark header.Encoding text =
+    good_read _ IsGood (encoding_of text) _ (good_encoding text) (λ encoding h. h)
+good_header_effect mark header.Tagger text =
+    good_read _ IsGood (ident_of text) _ (good_ident text) (λ ident h. h)
+
+good_commit_ish_effect : (now : Opened) (mark : Option ℕ) (line : CommitIshLine) (text : List ℕ)
+    → IfOk (commit_ish_effect now mark line text) IsGood
+good_commit_ish_effect now mark commit_ish.From text =
+    any_read IsGood (commit_ish_of text) _ (λ commit. from_good now commit)
+good_commit_ish_effect now mark commit_ish.Merge text =
+    any_read IsGood (commit_ish_of text) _ (λ commit. tt)
+good_commit_ish_effect now mark commit_ish.To text =
+    any_read IsGood (commit_ish_of text) _ (λ commit. alias_good mark commit)
+
+-- what an act brings
+good_brings : (mark : Option ℕ) (act : Result Act Fault) → IfOk act IsWellFormed
+    → IfOk (read act (λ act. brings mark act)) IsGood
+good_brings mark (Ok act) good = good
+good_brings mark (Err e) good = tt
+
 good_line_effect : (now : Opened) (mark : Option ℕ) (taken : Part) (text : List ℕ)
     → IfOk (line_effect now mark taken text) IsGood
-good_line_effect now mark part.Mark text =
-    any_read IsGood (mark_of (argument text)) _ (λ number. tt)
-good_line_effect now mark part.From text =
-    any_read IsGood (commit_ish_of (argument text)) _ (λ commit. from_good now commit)
-good_line_effect now mark part.To text =
-    any_read IsGood (commit_ish_of (argument text)) _ (λ commit. alias_good mark commit)
-good_line_effect now mark taken text =
-    good_read IsWellFormed IsGood (header_act taken text) (λ act. Ok (record { mark = mark; act = act }))
-    (good_header_act taken text) (λ act h. h)
+good_line_effect now mark (part.Header line) text = good_header_effect mark line (argument text)
+good_line_effect now mark (part.CommitIsh line) text =
+    good_commit_ish_effect now mark line (argument text)
+good_line_effect now mark (part.Change line) text =
+    good_brings mark (change_act line (argument text)) (good_change_act line (argument text))
+good_line_effect now mark (part.Reply line) text =
+    good_brings mark (reply_act true line text) (good_reply_act true line text)
+good_line_effect now mark _ text = tt
 
 good_inner_effect : (now : Opened) (mark : Option ℕ) (part : Part) (item : Item)
     → IfOk (inner_effect now mark part item) IsGood
@@ -333,46 +354,42 @@ good_inner_effect now mark part (Line text) = good_line_effect now mark part tex
 good_inner_effect now mark part (Data contents) = data_good now mark contents
 good_inner_effect now mark part Blank = tt
 
-good_option_act : (late : Bool) (whose : Setting) (words : List ℕ)
+good_option_act : (late : Bool) (whose : OptionCommand) (words : List ℕ)
     → IfOk (option_act late whose words) IsWellFormed
-good_option_act late setting.Git words =
+good_option_act late option.Git words =
     any_read IsWellFormed (in_time late) _ (λ u.
     any_read IsWellFormed (quiet_of words) _ (λ v. tt))
-good_option_act late setting.Head words =
+good_option_act late option.Head words =
     any_read IsWellFormed (in_time late) _ (λ u.
     good_read IsShortRefName IsWellFormed (head_of (argument (argument words))) _
     (good_head (argument (argument words))) (λ ref h. h))
-good_option_act late setting.Other words = tt
+good_option_act late option.Other words = tt
 
-good_control_act : (late : Bool) (command : Part) (text : List ℕ)
-    → IfOk (control_act late command text) IsWellFormed
-good_control_act late part.Feature text =
+good_control_act : (late : Bool) (line : ControlLine) (text : List ℕ)
+    → IfOk (control_act late line text) IsWellFormed
+good_control_act late control.Checkpoint text = tt
+good_control_act late control.Done text = tt
+good_control_act late control.Feature text =
     any_read IsWellFormed (in_time late) _ (λ u.
-    any_read IsWellFormed (feature_of (argument text)) _ (λ feature. tt))
-good_control_act late part.Setting text =
-    good_option_act late (setting_of (argument text)) (argument text)
-good_control_act late _ text = tt
+    any_read IsWellFormed (feature_of text) _ (λ feature. tt))
+good_control_act late control.OptionCommand text = good_option_act late (option_of text) text
 
-good_single_act : (late : Bool) (command : Part) (text : List ℕ)
-    → IfOk (single_act late command text) IsWellFormed
-good_single_act late part.Progress text = tt
-good_single_act late part.GetMark text =
-    any_read IsWellFormed (mark_of (argument text)) _ (λ mark. tt)
-good_single_act late part.CatBlob text =
-    good_read _ IsWellFormed (dataref_of (argument text)) _ (good_dataref (argument text)) (λ object h. h)
-good_single_act late part.Ls text = good_entry_act (argument text)
-good_single_act late command text = good_control_act late command text
+good_opening_act : (line : OpeningLine) (text : List ℕ) → IfOk (opening_act line text) IsWellFormed
+good_opening_act opening.Blob text = tt
+good_opening_act opening.Commit text =
+    good_read _ IsWellFormed (ref_of text) _ (good_ref text) (λ ref h. h.0)
+good_opening_act opening.Tag text =
+    good_read IsTagRef IsWellFormed (tag_ref_of text) _ (good_tag_ref text) (λ ref h. h)
+good_opening_act opening.Reset text =
+    good_read _ IsWellFormed (ref_of text) _ (good_ref text) (λ ref h. h.0)
+good_opening_act opening.Alias text = tt
 
 good_first_line_act : (late : Bool) (command : Part) (text : List ℕ)
     → IfOk (first_line_act late command text) IsWellFormed
-good_first_line_act late part.Commit text =
-    good_read _ IsWellFormed (ref_of (argument text)) _ (good_ref (argument text)) (λ ref h. h.0)
-good_first_line_act late part.Tag text =
-    good_read IsTagRef IsWellFormed (tag_ref_of (argument text)) _ (good_tag_ref (argument text))
-    (λ ref h. h)
-good_first_line_act late part.Reset text =
-    good_read _ IsWellFormed (ref_of (argument text)) _ (good_ref (argument text)) (λ ref h. h.0)
-good_first_line_act late command text = good_single_act late command text
+good_first_line_act late (part.Opening line) text = good_opening_act line (argument text)
+good_first_line_act late (part.Reply line) text = good_reply_act false line text
+good_first_line_act late (part.Control line) text = good_control_act late line (argument text)
+good_first_line_act late _ text = tt
 
 good_first_act : (late : Bool) (part : Part) (item : Item)
     → IfOk (first_act late part item) IsWellFormed

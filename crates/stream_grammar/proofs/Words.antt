@@ -1,5 +1,5 @@
 -- What words say is no fault of an item's place.
-use Rattle.std.proofs.Common.{◌==◌, ◌||◌, ◌++◌, nat_le, length, codes, ℕ, Bool, true, false, List, Option, Some, None, Result, Ok, Err}
+use Rattle.std.proofs.Common.{◌==◌, ◌||◌, ◌&&◌, ◌++◌, nat_le, length, codes, ℕ, Bool, true, false, List, Option, Some, None, Result, Ok, Err}
 use Rattle.std.specs.Str.{bytes_eq}
 use Rattle.git_names.specs.StoredName.{names_ref}
 use Rattle.hex.specs.declared.error.FromHexError.{FromHexError}
@@ -14,19 +14,31 @@ use Rattle.git_paths.specs.Reading.{path_at}
 use Rattle.numerals.specs.Numbers.{number_of}
 use Rattle.stream_lex.specs.Items.{Item, Line, Data, Blank}
 use Rattle.stream_grammar.specs.declared.fault.Fault.{Fault}
-use Rattle.stream_grammar.specs.declared.feature.Setting.{Setting}
-use Rattle.stream_grammar.specs.declared.feature.Setting.TheVariants as setting
+use Rattle.stream_grammar.specs.declared.feature.OptionCommand.{OptionCommand}
+use Rattle.stream_grammar.specs.declared.feature.OptionCommand.TheVariants as option
+use Rattle.stream_grammar.specs.declared.part.OpeningLine.{OpeningLine}
+use Rattle.stream_grammar.specs.declared.part.OpeningLine.TheVariants as opening
+use Rattle.stream_grammar.specs.declared.part.ReplyLine.{ReplyLine}
+use Rattle.stream_grammar.specs.declared.part.ReplyLine.TheVariants as reply
+use Rattle.stream_grammar.specs.declared.part.ControlLine.{ControlLine}
+use Rattle.stream_grammar.specs.declared.part.ControlLine.TheVariants as control
+use Rattle.stream_grammar.specs.declared.part.HeaderLine.{HeaderLine}
+use Rattle.stream_grammar.specs.declared.part.HeaderLine.TheVariants as header
+use Rattle.stream_grammar.specs.declared.part.CommitIshLine.{CommitIshLine}
+use Rattle.stream_grammar.specs.declared.part.CommitIshLine.TheVariants as commit_ish
+use Rattle.stream_grammar.specs.declared.part.ChangeLine.{ChangeLine}
+use Rattle.stream_grammar.specs.declared.part.ChangeLine.TheVariants as change
 use Rattle.stream_grammar.specs.declared.part.Part.{Part}
 use Rattle.stream_grammar.specs.declared.part.Part.TheVariants as part
 use Rattle.stream_grammar.specs.declared.stage.Opened.{Opened}
 use Rattle.stream_grammar.specs.Texts.{read, argument, after_space, after_colon, first_word, required, numbered, marked, mark_of, named, referred, dataref_of}
 use Rattle.stream_grammar.specs.Names.{ref_of, ident_judged, ident_of, commit_at, commit_ish_of}
-use Rattle.stream_grammar.specs.Changes.{mode_of, mode_inline, path_read, path_of, paths_of, object_and_path, modified, inline_path, modified_inline, is_encoding, encoding_of, is_quoted}
-use Rattle.stream_grammar.specs.Features.{feature_of, in_time, quiet_of, head_of, setting_of}
-use Rattle.stream_grammar.specs.Acts.{Act, Effect}
-use Rattle.stream_grammar.specs.Lines.{entry_act, branch_entry_act, change_act, change_or_reply_act}
-use Rattle.stream_grammar.specs.Lines.{header_act, line_effect, inner_effect}
-use Rattle.stream_grammar.specs.Lines.{option_act, control_act, single_act, first_line_act, first_act}
+use Rattle.stream_grammar.specs.Changes.{mode_of, mode_inline, path_read, last_path, paths_of, object_and_path, modified, inline_path, modified_inline, is_encoding, encoding_of, is_quoted}
+use Rattle.stream_grammar.specs.Features.{feature_of, in_time, quiet_of, head_of, option_of}
+use Rattle.stream_grammar.specs.Acts.{Act, Effect, brings}
+use Rattle.stream_grammar.specs.Lines.{header_effect, commit_ish_effect, change_act, ls_act, reply_act}
+use Rattle.stream_grammar.specs.Lines.{line_effect, inner_effect}
+use Rattle.stream_grammar.specs.Lines.{option_act, control_act, opening_act, first_line_act, first_act}
 use Rattle.stream_grammar.specs.Whole.{FindsPlace}
 use Rattle.stream_grammar.proofs.Filled.{by_test}
 
@@ -108,19 +120,19 @@ found-path_read (Err path_fault.BadPath) = ((λ same. cc), (λ same. cc))
 found-path_read (Err path_fault.Limit) = ((λ same. cc), (λ same. cc))
 found-path_read (Err path_fault.Memory) = ((λ same. cc), (λ same. cc))
 
-found-path_of : (text : List ℕ) → FindsPlace (path_of text)
-found-path_of text = found-then _ _ (found-path_read (path_at Last text))
+found-last_path : (text : List ℕ) → FindsPlace (last_path text)
+found-last_path text = found-then _ _ (found-path_read (path_at Last text))
 
 found-paths_of : (text : List ℕ) → FindsPlace (paths_of text)
 found-paths_of text =
     found-read _ _ (found-path_read (path_at Source text))
-    (λ source. found-then _ _ (found-path_of source.1))
+    (λ source. found-then _ _ (found-last_path source.1))
 
 found-object_and_path : (text : List ℕ) → FindsPlace (object_and_path text)
 found-object_and_path text =
     found-read _ _ (found-dataref_of (first_word text)) (λ object.
     found-read _ _ (found-required (after_space text)) (λ rest.
-    found-then _ _ (found-path_of rest)))
+    found-then _ _ (found-last_path rest)))
 
 found-mode_of : (word : List ℕ) → FindsPlace (mode_of word)
 unfolding mode_of
@@ -149,7 +161,7 @@ found-modified text =
 
 found-inline_path : (text : List ℕ) → FindsPlace (inline_path text)
 found-inline_path text =
-    found-read _ _ (found-required (after_space text)) (λ rest. found-path_of rest)
+    found-read _ _ (found-required (after_space text)) (λ rest. found-last_path rest)
 
 found-modified_inline : (text : List ℕ) → FindsPlace (modified_inline text)
 found-modified_inline text =
@@ -184,47 +196,57 @@ found-feature_of word =
     by_test (bytes_eq word (codes "date-format=raw")) (λ is. rw is tt)
     (λ other. rw other ((λ same. cc), (λ same. cc)))))))))))))
 
-found-entry_act : (text : List ℕ) → FindsPlace (entry_act text)
-found-entry_act text = found-then _ _ (found-object_and_path text)
+found-header_effect : (mark : Option ℕ) (line : HeaderLine) (text : List ℕ)
+    → FindsPlace (header_effect mark line text)
+found-header_effect mark header.Mark text = found-then _ _ (found-mark_of text)
+found-header_effect mark header.OriginalOid text = tt
+found-header_effect mark header.Author text = found-then _ _ (found-ident_of text)
+found-header_effect mark header.Committer text = found-then _ _ (found-ident_of text)
+found-header_effect mark header.Encoding text = found-then _ _ (found-encoding_of text)
+found-header_effect mark header.Tagger text = found-then _ _ (found-ident_of text)
 
-found-branch_entry_act : (quoted : Bool) (text : List ℕ)
-    → FindsPlace (branch_entry_act quoted text)
-found-branch_entry_act true text = found-then _ _ (found-path_of text)
-found-branch_entry_act false text = found-entry_act text
+found-commit_ish_effect : (now : Opened) (mark : Option ℕ) (line : CommitIshLine) (text : List ℕ)
+    → FindsPlace (commit_ish_effect now mark line text)
+found-commit_ish_effect now mark commit_ish.From text = found-then _ _ (found-commit_ish_of text)
+found-commit_ish_effect now mark commit_ish.Merge text = found-then _ _ (found-commit_ish_of text)
+found-commit_ish_effect now mark commit_ish.To text = found-then _ _ (found-commit_ish_of text)
 
-found-change_act : (taken : Part) (text : List ℕ) → FindsPlace (change_act taken text)
-found-change_act part.Modify text = found-then _ _ (found-modified (argument text))
-found-change_act part.ModifyInline text = found-then _ _ (found-modified_inline (argument text))
-found-change_act part.Delete text = found-then _ _ (found-path_of (argument text))
-found-change_act part.Copy text = found-then _ _ (found-paths_of (argument text))
-found-change_act part.Rename text = found-then _ _ (found-paths_of (argument text))
-found-change_act part.DeleteAll text = tt
-found-change_act _ text = tt
+found-change_act : (line : ChangeLine) (text : List ℕ) → FindsPlace (change_act line text)
+found-change_act change.Modify text = found-then _ _ (found-modified text)
+found-change_act change.ModifyInline text = found-then _ _ (found-modified_inline text)
+found-change_act change.Delete text = found-then _ _ (found-last_path text)
+found-change_act change.Copy text = found-then _ _ (found-paths_of text)
+found-change_act change.Rename text = found-then _ _ (found-paths_of text)
+found-change_act change.DeleteAll text = tt
 
-found-change_or_reply_act : (taken : Part) (text : List ℕ)
-    → FindsPlace (change_or_reply_act taken text)
-found-change_or_reply_act part.CatBlob text = found-then _ _ (found-dataref_of (argument text))
-found-change_or_reply_act part.Ls text =
-    found-branch_entry_act (is_quoted (argument text)) (argument text)
-found-change_or_reply_act taken text = found-change_act taken text
+found-ls_act : (path_alone : Bool) (text : List ℕ) → FindsPlace (ls_act path_alone text)
+found-ls_act true text = found-then _ _ (found-last_path text)
+found-ls_act false text = found-then _ _ (found-object_and_path text)
 
-found-header_act : (taken : Part) (text : List ℕ) → FindsPlace (header_act taken text)
-found-header_act part.Author text = found-then _ _ (found-ident_of (argument text))
-found-header_act part.Committer text = found-then _ _ (found-ident_of (argument text))
-found-header_act part.Encoding text = found-then _ _ (found-encoding_of (argument text))
-found-header_act part.Merge text = found-then _ _ (found-commit_ish_of (argument text))
-found-header_act part.Tagger text = found-then _ _ (found-ident_of (argument text))
-found-header_act taken text = found-change_or_reply_act taken text
+found-reply_act : (inside : Bool) (line : ReplyLine) (text : List ℕ)
+    → FindsPlace (reply_act inside line text)
+found-reply_act inside reply.Progress text = tt
+found-reply_act inside reply.GetMark text = found-then _ _ (found-mark_of (argument text))
+found-reply_act inside reply.CatBlob text = found-then _ _ (found-dataref_of (argument text))
+found-reply_act inside reply.Ls text =
+    found-ls_act (inside && is_quoted (argument text)) (argument text)
+
+-- what an act brings
+found-brings : (mark : Option ℕ) (act : Result Act Fault) → FindsPlace act
+    → FindsPlace (read act (λ act. brings mark act))
+found-brings mark act found =
+    found-then {A = Act} {B = Effect} act (λ act. record { mark = mark; act = act }) found
 
 found-line_effect : (now : Opened) (mark : Option ℕ) (taken : Part) (text : List ℕ)
     → FindsPlace (line_effect now mark taken text)
-found-line_effect now mark part.Mark text = found-then _ _ (found-mark_of (argument text))
-found-line_effect now mark part.From text = found-then _ _ (found-commit_ish_of (argument text))
-found-line_effect now mark part.To text = found-then _ _ (found-commit_ish_of (argument text))
-found-line_effect now mark taken text =
-    let with_mark : Act → Effect = λ act. record { mark = mark; act = act } in
-    found-then {A = Act} {B = Effect} (header_act taken text) with_mark
-    (found-header_act taken text)
+found-line_effect now mark (part.Header line) text = found-header_effect mark line (argument text)
+found-line_effect now mark (part.CommitIsh line) text =
+    found-commit_ish_effect now mark line (argument text)
+found-line_effect now mark (part.Change line) text =
+    found-brings mark (change_act line (argument text)) (found-change_act line (argument text))
+found-line_effect now mark (part.Reply line) text =
+    found-brings mark (reply_act true line text) (found-reply_act true line text)
+found-line_effect now mark _ text = tt
 
 -- What an item brings in the open command.
 pub found-inner_effect : (now : Opened) (mark : Option ℕ) (part : Part) (item : Item)
@@ -233,38 +255,36 @@ found-inner_effect now mark part (Line text) = found-line_effect now mark part t
 found-inner_effect now mark part (Data contents) = tt
 found-inner_effect now mark part Blank = tt
 
-found-option_act : (late : Bool) (whose : Setting) (words : List ℕ)
+found-option_act : (late : Bool) (whose : OptionCommand) (words : List ℕ)
     → FindsPlace (option_act late whose words)
-found-option_act late setting.Git words =
+found-option_act late option.Git words =
     found-read _ _ (found-in_time late) (λ u. found-then _ _ (found-quiet_of words))
-found-option_act late setting.Head words =
+found-option_act late option.Head words =
     found-read _ _ (found-in_time late)
     (λ u. found-then _ _ (found-head_of (argument (argument words))))
-found-option_act late setting.Other words = tt
+found-option_act late option.Other words = tt
 
-found-control_act : (late : Bool) (command : Part) (text : List ℕ)
-    → FindsPlace (control_act late command text)
-found-control_act late part.Feature text =
-    found-read _ _ (found-in_time late) (λ u. found-then _ _ (found-feature_of (argument text)))
-found-control_act late part.Setting text =
-    found-option_act late (setting_of (argument text)) (argument text)
-found-control_act late _ text = tt
+found-control_act : (late : Bool) (line : ControlLine) (text : List ℕ)
+    → FindsPlace (control_act late line text)
+found-control_act late control.Checkpoint text = tt
+found-control_act late control.Done text = tt
+found-control_act late control.Feature text =
+    found-read _ _ (found-in_time late) (λ u. found-then _ _ (found-feature_of text))
+found-control_act late control.OptionCommand text = found-option_act late (option_of text) text
 
-found-single_act : (late : Bool) (command : Part) (text : List ℕ)
-    → FindsPlace (single_act late command text)
-found-single_act late part.Progress text = tt
-found-single_act late part.GetMark text = found-then _ _ (found-mark_of (argument text))
-found-single_act late part.CatBlob text = found-then _ _ (found-dataref_of (argument text))
-found-single_act late part.Ls text = found-entry_act (argument text)
-found-single_act late command text = found-control_act late command text
+found-opening_act : (line : OpeningLine) (text : List ℕ) → FindsPlace (opening_act line text)
+found-opening_act opening.Blob text = tt
+found-opening_act opening.Commit text = found-then _ _ (found-ref_of text)
+found-opening_act opening.Tag text = found-then _ _ (found-ref_of (codes "refs/tags/" ++ text))
+found-opening_act opening.Reset text = found-then _ _ (found-ref_of text)
+found-opening_act opening.Alias text = tt
 
 found-first_line_act : (late : Bool) (command : Part) (text : List ℕ)
     → FindsPlace (first_line_act late command text)
-found-first_line_act late part.Commit text = found-then _ _ (found-ref_of (argument text))
-found-first_line_act late part.Tag text =
-    found-then _ _ (found-ref_of (codes "refs/tags/" ++ argument text))
-found-first_line_act late part.Reset text = found-then _ _ (found-ref_of (argument text))
-found-first_line_act late command text = found-single_act late command text
+found-first_line_act late (part.Opening line) text = found-opening_act line (argument text)
+found-first_line_act late (part.Reply line) text = found-reply_act false line text
+found-first_line_act late (part.Control line) text = found-control_act late line (argument text)
+found-first_line_act late _ text = tt
 
 -- What an item asks for that begins a command.
 pub found-first_act : (late : Bool) (part : Part) (item : Item)

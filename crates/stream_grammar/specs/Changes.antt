@@ -45,21 +45,21 @@ path_read (Ok found) = Ok found
 path_read (Err e) = Err (fault_of_path e)
 
 -- The path that is the rest of a line: <path>
-abbrev pub path_of : List ℕ → Result Path Fault
-path_of text = read (path_read (path_at Last text)) (λ found. Ok found.0)
+abbrev pub last_path : List ℕ → Result Path Fault
+last_path text = read (path_read (path_at Last text)) (λ found. Ok found.0)
 
 -- A source with a space after it, and the path that is the rest of the line: <path> SP <path>
 abbrev pub paths_of : List ℕ → Result (Path × Path) Fault
 paths_of text =
     read (path_read (path_at Source text)) (λ source.
-    read (path_of source.1) (λ path. Ok (source.0, path)))
+    read (last_path source.1) (λ path. Ok (source.0, path)))
 
 -- <dataref> SP <path>
 abbrev pub object_and_path : List ℕ → Result (DataRef × Path) Fault
 object_and_path text =
     read (dataref_of (first_word text)) (λ object.
     read (required (after_space text)) (λ rest.
-    read (path_of rest) (λ path. Ok (object, path))))
+    read (last_path rest) (λ path. Ok (object, path))))
 
 -- <mode> SP <dataref> SP <path>
 abbrev pub modified : List ℕ → Result (FileMode × DataRef × Path) Fault
@@ -70,7 +70,7 @@ modified text =
 
 -- <mode> SP 'inline' SP <path>, where the rest of the line begins with 'inline'
 abbrev pub inline_path : List ℕ → Result Path Fault
-inline_path rest = read (required (after_space rest)) (λ text. path_of text)
+inline_path rest = read (required (after_space rest)) (λ text. last_path text)
 
 abbrev pub modified_inline : List ℕ → Result (FileMode × Path) Fault
 modified_inline text =

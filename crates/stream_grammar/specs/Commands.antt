@@ -6,6 +6,10 @@ use Rattle.stream_grammar.specs.declared.fault.Fault.{Fault}
 use Rattle.stream_grammar.specs.declared.fault.Fault.TheVariants as fault
 use Rattle.stream_grammar.specs.declared.part.Part.{Part}
 use Rattle.stream_grammar.specs.declared.part.Part.TheVariants as part
+use Rattle.stream_grammar.specs.declared.part.OpeningLine.{OpeningLine}
+use Rattle.stream_grammar.specs.declared.part.OpeningLine.TheVariants as opening
+use Rattle.stream_grammar.specs.declared.part.CommitIshLine.TheVariants as commit_ish
+use Rattle.stream_grammar.specs.declared.part.ChangeLine.TheVariants as change
 use Rattle.stream_grammar.specs.declared.stage.Opened.{Opened}
 use Rattle.stream_grammar.specs.declared.stage.Opened.TheVariants as opened
 use Rattle.stream_grammar.specs.Parts.{part_of, is_early}
@@ -48,18 +52,22 @@ opened_after_data _ = opened.Nothing
 -- Which command is open after a part of the open one.
 abbrev pub opened_after : Part → Opened → Opened
 opened_after part.Data now = opened_after_data now
-opened_after part.ModifyInline now = opened.Inline
-opened_after part.To now = opened.Nothing
+opened_after (part.Change change.ModifyInline) now = opened.Inline
+opened_after (part.CommitIsh commit_ish.To) now = opened.Nothing
 opened_after part.Blank now = opened.Nothing
 opened_after _ now = now
 
+-- Which command is open after its first line.
+abbrev pub opened_by_line : OpeningLine → Opened
+opened_by_line opening.Blob = opened.Blob
+opened_by_line opening.Commit = opened.Commit
+opened_by_line opening.Tag = opened.Tag
+opened_by_line opening.Reset = opened.Reset
+opened_by_line opening.Alias = opened.Alias
+
 -- Which command is open after a part that begins one. A command of one line is already over.
 abbrev pub opened_by : Part → Opened
-opened_by part.Blob = opened.Blob
-opened_by part.Commit = opened.Commit
-opened_by part.Tag = opened.Tag
-opened_by part.Reset = opened.Reset
-opened_by part.Alias = opened.Alias
+opened_by (part.Opening line) = opened_by_line line
 opened_by _ = opened.Nothing
 
 -- A part of the open command leaves these terms. A part that leaves no terms ends the command.

@@ -6,8 +6,8 @@ use Rattle.stream_grammar.specs.declared.fault.Fault.{Fault}
 use Rattle.stream_grammar.specs.declared.fault.Fault.TheVariants as fault
 use Rattle.stream_grammar.specs.declared.feature.Feature.{Feature}
 use Rattle.stream_grammar.specs.declared.feature.Feature.TheVariants as feature
-use Rattle.stream_grammar.specs.declared.feature.Setting.{Setting}
-use Rattle.stream_grammar.specs.declared.feature.Setting.TheVariants as setting
+use Rattle.stream_grammar.specs.declared.feature.OptionCommand.{OptionCommand}
+use Rattle.stream_grammar.specs.declared.feature.OptionCommand.TheVariants as option
 use Rattle.stream_grammar.specs.Names.{ref_of}
 
 -- A feature is one of these words, as a whole.
@@ -26,11 +26,11 @@ unfoldable pub in_time : Bool → Result Unit Fault
 in_time late = if late then Err fault.FeatureTooLate else Ok tt
 
 -- An option is one of Git, or sets HEAD of the gitpool repository, or is one of another system.
-unfoldable pub setting_of : List ℕ → Setting
-setting_of words =
-    if bytes_eq words (codes "git") || starts_with nat_eq words (codes "git ") then setting.Git
-    else if starts_with nat_eq words (codes "gitpool head ") then setting.Head
-    else setting.Other
+unfoldable pub option_of : List ℕ → OptionCommand
+option_of words =
+    if bytes_eq words (codes "git") || starts_with nat_eq words (codes "git ") then option.Git
+    else if starts_with nat_eq words (codes "gitpool head ") then option.Head
+    else option.Other
 
 -- The only option of Git that is supported is `quiet`.
 unfoldable pub quiet_of : List ℕ → Result Unit Fault

@@ -2,9 +2,13 @@
 use Rattle.std.specs.Prelude.{Bool, true, false, if◌then◌else◌, List, [], ◌∷◌, ◌++◌, Option, Some, None}
 use Rattle.std.specs.List.{list_any}
 use Rattle.stream_grammar.specs.declared.part.Part.{Part}
-use Rattle.stream_grammar.specs.declared.part.Part.TheVariants.{Blob, Commit, Tag, Reset, Alias, Checkpoint, Progress, GetMark, CatBlob, Ls, Done, Feature, Setting}
-use Rattle.stream_grammar.specs.declared.part.Part.TheVariants.{Mark, OriginalOid, Author, Committer, Encoding, From, Merge, Tagger, To}
-use Rattle.stream_grammar.specs.declared.part.Part.TheVariants.{Modify, ModifyInline, Delete, Copy, Rename, DeleteAll, Data, Blank, Unknown}
+use Rattle.stream_grammar.specs.declared.part.Part.TheVariants.{Opening, Reply, Control, Header, CommitIsh, Change, Data, Blank}
+use Rattle.stream_grammar.specs.declared.part.OpeningLine.{OpeningLine}
+use Rattle.stream_grammar.specs.declared.part.OpeningLine.TheVariants.{Blob, Commit, Tag, Reset, Alias}
+use Rattle.stream_grammar.specs.declared.part.ReplyLine.TheVariants.{CatBlob, Ls}
+use Rattle.stream_grammar.specs.declared.part.HeaderLine.TheVariants.{Mark, OriginalOid, Author, Committer, Encoding, Tagger}
+use Rattle.stream_grammar.specs.declared.part.CommitIshLine.TheVariants.{From, Merge, To}
+use Rattle.stream_grammar.specs.declared.part.ChangeLine.TheVariants.{Modify, ModifyInline, Delete, Copy, Rename, DeleteAll}
 use Rattle.stream_grammar.specs.Parts.{same}
 
 -- How often a part may come in its place.
@@ -31,61 +35,41 @@ any_number parts = record { often = AnyNumber; parts = parts }
 -- The parts that may come in the place of a change: 'M', 'D', 'C', 'R', 'deleteall', and 'cat-blob'
 -- and 'ls', which are commands too.
 abbrev pub changes : List Part
-changes = Modify ∷ ModifyInline ∷ Delete ∷ Copy ∷ Rename ∷ DeleteAll ∷ CatBlob ∷ Ls ∷ []
+changes =
+    Change Modify ∷ Change ModifyInline ∷ Change Delete ∷ Change Copy ∷ Change Rename
+    ∷ Change DeleteAll ∷ Reply CatBlob ∷ Reply Ls ∷ []
 
--- What comes after the first part of a command, in the order of the manual; none for a part that
--- begins no command. A word below stands for its line: 'mark' SP ':' <idnum> LF, and so on.
-abbrev pub production_of : Part → Option (List Term)
+-- What comes after the first line of a command, in the order of the manual. A word below stands for
+-- its line: 'mark' SP ':' <idnum> LF, and so on.
+abbrev pub production : OpeningLine → List Term
 -- 'blob' LF mark? original-oid? data
-production_of Blob = Some (perhaps Mark ∷ perhaps OriginalOid ∷ once Data ∷ [])
+production Blob = perhaps (Header Mark) ∷ perhaps (Header OriginalOid) ∷ once Data ∷ []
 -- 'commit' SP <ref> LF mark? original-oid? author? committer encoding? data
 --     from? merge* change* LF?
-production_of Commit =
-    Some (perhaps Mark ∷ perhaps OriginalOid ∷ perhaps Author ∷ once Committer ∷ perhaps Encoding
-    ∷ once Data ∷ perhaps From ∷ any_number (Merge ∷ []) ∷ any_number changes ∷ perhaps Blank ∷ [])
+production Commit =
+    perhaps (Header Mark) ∷ perhaps (Header OriginalOid) ∷ perhaps (Header Author)
+    ∷ once (Header Committer) ∷ perhaps (Header Encoding) ∷ once Data ∷ perhaps (CommitIsh From)
+    ∷ any_number (CommitIsh Merge ∷ []) ∷ any_number changes ∷ perhaps Blank ∷ []
 -- 'tag' SP <name> LF mark? from original-oid? tagger? data
-production_of Tag =
-    Some (perhaps Mark ∷ once From ∷ perhaps OriginalOid ∷ perhaps Tagger ∷ once Data ∷ [])
+production Tag =
+    perhaps (Header Mark) ∷ once (CommitIsh From) ∷ perhaps (Header OriginalOid)
+    ∷ perhaps (Header Tagger) ∷ once Data ∷ []
 -- 'reset' SP <ref> LF from? LF?
-production_of Reset = Some (perhaps From ∷ perhaps Blank ∷ [])
+production Reset = perhaps (CommitIsh From) ∷ perhaps Blank ∷ []
 -- 'alias' LF mark to
-production_of Alias = Some (once Mark ∷ once To ∷ [])
--- 'checkpoint' LF
-production_of Checkpoint = Some []
--- 'progress' SP <any> LF
-production_of Progress = Some []
--- 'get-mark' SP ':' <idnum> LF
-production_of GetMark = Some []
--- 'cat-blob' SP <dataref> LF
-production_of CatBlob = Some []
--- 'ls' SP <dataref> SP <path> LF
-production_of Ls = Some []
--- 'done' LF
-production_of Done = Some []
--- 'feature' SP <feature> ('=' <argument>)? LF
-production_of Feature = Some []
--- 'option' SP <option> LF
-production_of Setting = Some []
--- An optional LF between commands is a command without effect.
+production Alias = once (Header Mark) ∷ once (CommitIsh To) ∷ []
+
+-- What comes after the first part of a command; none for a part that stands inside commands alone.
+-- Nothing comes after a command of one line: 'progress' SP <any> LF, 'get-mark' SP ':' <idnum> LF,
+-- 'cat-blob' SP <dataref> LF, 'ls' SP <dataref> SP <path> LF, 'checkpoint' LF, 'done' LF,
+-- 'feature' SP <feature> ('=' <argument>)? LF, 'option' SP <option> LF. An optional LF between
+-- commands is a command without effect.
+abbrev pub production_of : Part → Option (List Term)
+production_of (Opening line) = Some (production line)
+production_of (Reply line) = Some []
+production_of (Control line) = Some []
 production_of Blank = Some []
--- These stand inside commands alone.
-production_of Mark = None
-production_of OriginalOid = None
-production_of Author = None
-production_of Committer = None
-production_of Encoding = None
-production_of From = None
-production_of Merge = None
-production_of Tagger = None
-production_of To = None
-production_of Modify = None
-production_of ModifyInline = None
-production_of Delete = None
-production_of Copy = None
-production_of Rename = None
-production_of DeleteAll = None
-production_of Data = None
-production_of Unknown = None
+production_of _ = None
 
 -- Whether a part may come in a term.
 abbrev pub accepts : Term → Part → Bool
@@ -105,7 +89,7 @@ used AnyNumber term terms = term ∷ terms
 
 -- 'M' SP <mode> SP 'inline' SP <path> LF data: its data come directly after it.
 abbrev pub due : Part → List Term
-due part = if same part ModifyInline then once Data ∷ [] else []
+due part = if same part (Change ModifyInline) then once Data ∷ [] else []
 
 -- The terms that are left after a term, the first of them, took a part.
 abbrev pub left_after : Part → Term → List Term → List Term

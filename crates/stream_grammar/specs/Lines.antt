@@ -1,17 +1,29 @@
 -- What an item asks for, by its words and its place; git-fast-import(1), "Commands".
-use Rattle.std.specs.Prelude.{ℕ, Bool, true, false, List, Option, Some, None, Result, Ok}
+use Rattle.std.specs.Prelude.{ℕ, Bool, true, false, ◌&&◌, List, Option, Some, None, Result, Ok}
 use Rattle.stream_lex.specs.Items.{Item, Line, Data, Blank}
 use Rattle.stream_grammar.specs.declared.fault.Fault.{Fault}
-use Rattle.stream_grammar.specs.declared.feature.Setting.{Setting}
-use Rattle.stream_grammar.specs.declared.feature.Setting.TheVariants as setting
+use Rattle.stream_grammar.specs.declared.feature.OptionCommand.{OptionCommand}
+use Rattle.stream_grammar.specs.declared.feature.OptionCommand.TheVariants as option
+use Rattle.stream_grammar.specs.declared.part.OpeningLine.{OpeningLine}
+use Rattle.stream_grammar.specs.declared.part.OpeningLine.TheVariants as opening
+use Rattle.stream_grammar.specs.declared.part.ReplyLine.{ReplyLine}
+use Rattle.stream_grammar.specs.declared.part.ReplyLine.TheVariants as reply
+use Rattle.stream_grammar.specs.declared.part.ControlLine.{ControlLine}
+use Rattle.stream_grammar.specs.declared.part.ControlLine.TheVariants as control
+use Rattle.stream_grammar.specs.declared.part.HeaderLine.{HeaderLine}
+use Rattle.stream_grammar.specs.declared.part.HeaderLine.TheVariants as header
+use Rattle.stream_grammar.specs.declared.part.CommitIshLine.{CommitIshLine}
+use Rattle.stream_grammar.specs.declared.part.CommitIshLine.TheVariants as commit_ish
+use Rattle.stream_grammar.specs.declared.part.ChangeLine.{ChangeLine}
+use Rattle.stream_grammar.specs.declared.part.ChangeLine.TheVariants as change
 use Rattle.stream_grammar.specs.declared.part.Part.{Part}
 use Rattle.stream_grammar.specs.declared.part.Part.TheVariants as part
 use Rattle.stream_grammar.specs.declared.stage.Opened.{Opened}
 use Rattle.stream_grammar.specs.declared.stage.Opened.TheVariants as opened
 use Rattle.stream_grammar.specs.Texts.{read, argument, mark_of, dataref_of}
 use Rattle.stream_grammar.specs.Names.{CommitIsh, ref_of, tag_ref_of, ident_of, commit_ish_of}
-use Rattle.stream_grammar.specs.Features.{feature_of, in_time, setting_of, quiet_of, head_of}
-use Rattle.stream_grammar.specs.declared.act.ControlCommand.TheVariants as control
+use Rattle.stream_grammar.specs.Features.{feature_of, in_time, option_of, quiet_of, head_of}
+use Rattle.stream_grammar.specs.declared.act.ControlCommand.TheVariants as command
 use Rattle.stream_grammar.specs.Acts.{Act, Wait, Object, Commit, Change, Ref, Reply, Control}
 use Rattle.stream_grammar.specs.Acts.{Effect, brings}
 use Rattle.stream_grammar.specs.Acts.{Blob, BeginTag, TagTarget, Tagger, Tag}
@@ -20,7 +32,7 @@ use Rattle.stream_grammar.specs.Acts.{Modify, ModifyInline, InlineData}
 use Rattle.stream_grammar.specs.Acts.{Delete, Copy, Rename, DeleteAll}
 use Rattle.stream_grammar.specs.Acts.{Reset, ResetFrom, Alias}
 use Rattle.stream_grammar.specs.Acts.{GetMark, CatBlob, Ls, LsInCommit, Progress}
-use Rattle.stream_grammar.specs.Changes.{path_of, paths_of, object_and_path, is_quoted}
+use Rattle.stream_grammar.specs.Changes.{last_path, paths_of, object_and_path, is_quoted}
 use Rattle.stream_grammar.specs.Changes.{modified, modified_inline, encoding_of}
 
 -- A `from` says, by the open command, where a commit starts, the target of a tag, or the commit
@@ -36,60 +48,64 @@ abbrev pub alias_act : Option ℕ → CommitIsh → Act
 alias_act (Some mark) commit = Ref (Alias mark commit)
 alias_act None commit = Wait
 
--- 'ls' with a dataref.
-abbrev pub entry_act : List ℕ → Result Act Fault
-entry_act text = read (object_and_path text) (λ entry. Ok (Reply (Ls entry.0 entry.1)))
+-- A line of a header. A mark becomes that of the open command; an original-oid asks for nothing.
+abbrev pub header_effect : Option ℕ → HeaderLine → List ℕ → Result Effect Fault
+header_effect mark header.Mark text = read (mark_of text) (λ number. brings (Some number) Wait)
+header_effect mark header.OriginalOid text = brings mark Wait
+header_effect mark header.Author text =
+    read (ident_of text) (λ ident. brings mark (Commit (Author ident)))
+header_effect mark header.Committer text =
+    read (ident_of text) (λ ident. brings mark (Commit (Committer ident)))
+header_effect mark header.Encoding text =
+    read (encoding_of text) (λ encoding. brings mark (Commit (Encoding encoding)))
+header_effect mark header.Tagger text =
+    read (ident_of text) (λ ident. brings mark (Object (Tagger ident)))
 
--- 'ls' in a commit, where a quoted path may come alone.
-abbrev pub branch_entry_act : Bool → List ℕ → Result Act Fault
-branch_entry_act true text = read (path_of text) (λ path. Ok (Reply (LsInCommit path)))
-branch_entry_act false text = entry_act text
+-- A line with a commit-ish. The act of a `from` depends on the open command, and that of a `to` on
+-- the mark, which it uses up.
+abbrev pub commit_ish_effect : Opened → Option ℕ → CommitIshLine → List ℕ → Result Effect Fault
+commit_ish_effect now mark commit_ish.From text =
+    read (commit_ish_of text) (λ commit. brings mark (from_act now commit))
+commit_ish_effect now mark commit_ish.Merge text =
+    read (commit_ish_of text) (λ commit. brings mark (Commit (Merge commit)))
+commit_ish_effect now mark commit_ish.To text =
+    read (commit_ish_of text) (λ commit. brings None (alias_act mark commit))
 
--- A line in the place of a change. Every other line asks for nothing: an original-oid.
-abbrev pub change_act : Part → List ℕ → Result Act Fault
-change_act part.Modify text =
-    read (modified (argument text)) (λ file. Ok (Change (Modify file.0 file.1 file.2)))
-change_act part.ModifyInline text =
-    read (modified_inline (argument text)) (λ file. Ok (Change (ModifyInline file.0 file.1)))
-change_act part.Delete text = read (path_of (argument text)) (λ path. Ok (Change (Delete path)))
-change_act part.Copy text =
-    read (paths_of (argument text)) (λ paths. Ok (Change (Copy paths.0 paths.1)))
-change_act part.Rename text =
-    read (paths_of (argument text)) (λ paths. Ok (Change (Rename paths.0 paths.1)))
-change_act part.DeleteAll text = Ok (Change DeleteAll)
-change_act _ text = Ok Wait
+-- A line that changes the files of a commit.
+abbrev pub change_act : ChangeLine → List ℕ → Result Act Fault
+change_act change.Modify text =
+    read (modified text) (λ file. Ok (Change (Modify file.0 file.1 file.2)))
+change_act change.ModifyInline text =
+    read (modified_inline text) (λ file. Ok (Change (ModifyInline file.0 file.1)))
+change_act change.Delete text = read (last_path text) (λ path. Ok (Change (Delete path)))
+change_act change.Copy text = read (paths_of text) (λ paths. Ok (Change (Copy paths.0 paths.1)))
+change_act change.Rename text = read (paths_of text) (λ paths. Ok (Change (Rename paths.0 paths.1)))
+change_act change.DeleteAll text = Ok (Change DeleteAll)
 
--- 'cat-blob' and 'ls' may come in the place of a change.
-abbrev pub change_or_reply_act : Part → List ℕ → Result Act Fault
-change_or_reply_act part.CatBlob text =
+-- 'ls' with a path alone, which is one of the open commit, or with a dataref and a path.
+abbrev pub ls_act : Bool → List ℕ → Result Act Fault
+ls_act true text = read (last_path text) (λ path. Ok (Reply (LsInCommit path)))
+ls_act false text = read (object_and_path text) (λ entry. Ok (Reply (Ls entry.0 entry.1)))
+
+-- A command that prints something. Inside a commit the path of an `ls` may come alone, in quotes.
+abbrev pub reply_act : Bool → ReplyLine → List ℕ → Result Act Fault
+reply_act inside reply.Progress text = Ok (Reply (Progress text))
+reply_act inside reply.GetMark text =
+    read (mark_of (argument text)) (λ mark. Ok (Reply (GetMark mark)))
+reply_act inside reply.CatBlob text =
     read (dataref_of (argument text)) (λ object. Ok (Reply (CatBlob object)))
-change_or_reply_act part.Ls text = branch_entry_act (is_quoted (argument text)) (argument text)
-change_or_reply_act part text = change_act part text
+reply_act inside reply.Ls text = ls_act (inside && is_quoted (argument text)) (argument text)
 
--- A line that gives a header of the commit or tag, or one in the place of a change.
-abbrev pub header_act : Part → List ℕ → Result Act Fault
-header_act part.Author text =
-    read (ident_of (argument text)) (λ ident. Ok (Commit (Author ident)))
-header_act part.Committer text =
-    read (ident_of (argument text)) (λ ident. Ok (Commit (Committer ident)))
-header_act part.Encoding text =
-    read (encoding_of (argument text)) (λ encoding. Ok (Commit (Encoding encoding)))
-header_act part.Merge text =
-    read (commit_ish_of (argument text)) (λ commit. Ok (Commit (Merge commit)))
-header_act part.Tagger text =
-    read (ident_of (argument text)) (λ ident. Ok (Object (Tagger ident)))
-header_act part text = change_or_reply_act part text
-
--- A line inside the open command, which may have a mark. The act of a `from` depends on the open
--- command, and that of a `to` on the mark.
+-- A line inside the open command, which may have a mark. No other part is a line inside a command.
 abbrev pub line_effect : Opened → Option ℕ → Part → List ℕ → Result Effect Fault
-line_effect now mark part.Mark text =
-    read (mark_of (argument text)) (λ number. brings (Some number) Wait)
-line_effect now mark part.From text =
-    read (commit_ish_of (argument text)) (λ commit. brings mark (from_act now commit))
-line_effect now mark part.To text =
-    read (commit_ish_of (argument text)) (λ commit. brings None (alias_act mark commit))
-line_effect now mark part text = read (header_act part text) (λ act. brings mark act)
+line_effect now mark (part.Header line) text = header_effect mark line (argument text)
+line_effect now mark (part.CommitIsh line) text =
+    commit_ish_effect now mark line (argument text)
+line_effect now mark (part.Change line) text =
+    read (change_act line (argument text)) (λ act. brings mark act)
+line_effect now mark (part.Reply line) text =
+    read (reply_act true line text) (λ act. brings mark act)
+line_effect now mark _ text = brings mark Wait
 
 -- Data, by the open command. The other commands have no data.
 abbrev pub data_act : Opened → Option ℕ → List ℕ → Act
@@ -106,42 +122,37 @@ inner_effect now mark part (Data contents) = brings None (data_act now mark cont
 inner_effect now mark part Blank = brings None Wait
 
 -- An option, by the system whose option it is. Those of other systems are ignored.
-abbrev pub option_act : Bool → Setting → List ℕ → Result Act Fault
-option_act late setting.Git words =
+abbrev pub option_act : Bool → OptionCommand → List ℕ → Result Act Fault
+option_act late option.Git words =
     read (in_time late) (λ _. read (quiet_of words) (λ _. Ok Wait))
-option_act late setting.Head words =
+option_act late option.Head words =
     read (in_time late) (λ _.
-    read (head_of (argument (argument words))) (λ ref. Ok (Control (control.Head ref))))
-option_act late setting.Other words = Ok Wait
+    read (head_of (argument (argument words))) (λ ref. Ok (Control (command.Head ref))))
+option_act late option.Other words = Ok Wait
 
--- A command of the stream itself. The first line of a blob or an alias asks for nothing yet.
-abbrev pub control_act : Bool → Part → List ℕ → Result Act Fault
-control_act late part.Checkpoint text = Ok (Control control.Checkpoint)
-control_act late part.Done text = Ok (Control control.Done)
-control_act late part.Feature text =
+-- A command that is about the stream itself.
+abbrev pub control_act : Bool → ControlLine → List ℕ → Result Act Fault
+control_act late control.Checkpoint text = Ok (Control command.Checkpoint)
+control_act late control.Done text = Ok (Control command.Done)
+control_act late control.Feature text =
     read (in_time late) (λ _.
-    read (feature_of (argument text)) (λ feature. Ok (Control (control.Feature feature))))
-control_act late part.Setting text = option_act late (setting_of (argument text)) (argument text)
-control_act late _ text = Ok Wait
+    read (feature_of text) (λ feature. Ok (Control (command.Feature feature))))
+control_act late control.OptionCommand text = option_act late (option_of text) text
 
--- A command of one line: one that prints something, or one of the stream itself.
-abbrev pub single_act : Bool → Part → List ℕ → Result Act Fault
-single_act late part.Progress text = Ok (Reply (Progress text))
-single_act late part.GetMark text =
-    read (mark_of (argument text)) (λ mark. Ok (Reply (GetMark mark)))
-single_act late part.CatBlob text =
-    read (dataref_of (argument text)) (λ object. Ok (Reply (CatBlob object)))
-single_act late part.Ls text = entry_act (argument text)
-single_act late part text = control_act late part text
+-- The first line of a command of several lines. That of a blob or an alias asks for nothing yet.
+abbrev pub opening_act : OpeningLine → List ℕ → Result Act Fault
+opening_act opening.Blob text = Ok Wait
+opening_act opening.Commit text = read (ref_of text) (λ ref. Ok (Commit (Begin ref)))
+opening_act opening.Tag text = read (tag_ref_of text) (λ ref. Ok (Object (BeginTag ref)))
+opening_act opening.Reset text = read (ref_of text) (λ ref. Ok (Ref (Reset ref)))
+opening_act opening.Alias text = Ok Wait
 
--- A line that begins a command.
+-- A line that begins a command. No other part is a line that begins one.
 abbrev pub first_line_act : Bool → Part → List ℕ → Result Act Fault
-first_line_act late part.Commit text =
-    read (ref_of (argument text)) (λ ref. Ok (Commit (Begin ref)))
-first_line_act late part.Tag text =
-    read (tag_ref_of (argument text)) (λ ref. Ok (Object (BeginTag ref)))
-first_line_act late part.Reset text = read (ref_of (argument text)) (λ ref. Ok (Ref (Reset ref)))
-first_line_act late part text = single_act late part text
+first_line_act late (part.Opening line) text = opening_act line (argument text)
+first_line_act late (part.Reply line) text = reply_act false line text
+first_line_act late (part.Control line) text = control_act late line (argument text)
+first_line_act late _ text = Ok Wait
 
 -- An item that begins a command.
 abbrev pub first_act : Bool → Part → Item → Result Act Fault

@@ -1,44 +1,82 @@
 -- Parts: the kind of an item, by its first word, and of an `M` line by its third word too; by the
 -- commands of git-fast-import(1).
-use Rattle.std.specs.Prelude.{ℕ, Bool, true, false, nat_eq, if◌then◌else◌, List, [], ◌∷◌, codes}
+use Rattle.std.specs.Prelude.{ℕ, Bool, true, false, ◌&&◌, nat_eq, if◌then◌else◌, List, [], ◌∷◌, ◌++◌, codes}
 use Rattle.std.specs.List.{starts_with, ends_with}
 use Rattle.std.specs.Str.{bytes_eq}
 use Rattle.stream_lex.specs.Items.{Item, Line, Data, Blank}
 use Rattle.stream_grammar.specs.Texts.{argument, first_word}
+use Rattle.stream_grammar.specs.declared.part.OpeningLine.{OpeningLine}
+use Rattle.stream_grammar.specs.declared.part.OpeningLine.TheVariants as opening
+use Rattle.stream_grammar.specs.declared.part.ReplyLine.{ReplyLine}
+use Rattle.stream_grammar.specs.declared.part.ReplyLine.TheVariants as reply
+use Rattle.stream_grammar.specs.declared.part.ControlLine.{ControlLine}
+use Rattle.stream_grammar.specs.declared.part.ControlLine.TheVariants as control
+use Rattle.stream_grammar.specs.declared.part.HeaderLine.{HeaderLine}
+use Rattle.stream_grammar.specs.declared.part.HeaderLine.TheVariants as header
+use Rattle.stream_grammar.specs.declared.part.CommitIshLine.{CommitIshLine}
+use Rattle.stream_grammar.specs.declared.part.CommitIshLine.TheVariants as commit_ish
+use Rattle.stream_grammar.specs.declared.part.ChangeLine.{ChangeLine}
+use Rattle.stream_grammar.specs.declared.part.ChangeLine.TheVariants as change
 use Rattle.stream_grammar.specs.declared.part.Part.{Part}
 use Rattle.stream_grammar.specs.declared.part.Part.TheVariants as part
 
 -- The lines of the manual, each by its first word and the space after it, or by the whole line if
--- that has no space. First those that begin a command, then those inside one.
+-- that has no space. First the lines that change the files of a commit:
+abbrev pub change_words : List (List ℕ × Part)
+change_words =
+    (codes "M ", part.Change change.Modify)
+    ∷ (codes "D ", part.Change change.Delete)
+    ∷ (codes "C ", part.Change change.Copy)
+    ∷ (codes "R ", part.Change change.Rename)
+    ∷ (codes "deleteall", part.Change change.DeleteAll) ∷ []
+
+-- The lines inside a command that say something about its object:
+abbrev pub header_words : List (List ℕ × Part)
+header_words =
+    (codes "mark ", part.Header header.Mark)
+    ∷ (codes "original-oid ", part.Header header.OriginalOid)
+    ∷ (codes "author ", part.Header header.Author)
+    ∷ (codes "committer ", part.Header header.Committer)
+    ∷ (codes "encoding ", part.Header header.Encoding)
+    ∷ (codes "tagger ", part.Header header.Tagger) ∷ []
+
+-- The lines inside a command that name a commit:
+abbrev pub commit_ish_words : List (List ℕ × Part)
+commit_ish_words =
+    (codes "from ", part.CommitIsh commit_ish.From)
+    ∷ (codes "merge ", part.CommitIsh commit_ish.Merge)
+    ∷ (codes "to ", part.CommitIsh commit_ish.To) ∷ []
+
+-- The first lines of the commands of several lines:
+abbrev pub opening_words : List (List ℕ × Part)
+opening_words =
+    (codes "blob", part.Opening opening.Blob)
+    ∷ (codes "commit ", part.Opening opening.Commit)
+    ∷ (codes "tag ", part.Opening opening.Tag)
+    ∷ (codes "reset ", part.Opening opening.Reset)
+    ∷ (codes "alias", part.Opening opening.Alias) ∷ []
+
+-- The commands of one line that print something:
+abbrev pub reply_words : List (List ℕ × Part)
+reply_words =
+    (codes "progress ", part.Reply reply.Progress)
+    ∷ (codes "get-mark ", part.Reply reply.GetMark)
+    ∷ (codes "cat-blob ", part.Reply reply.CatBlob)
+    ∷ (codes "ls ", part.Reply reply.Ls) ∷ []
+
+-- The commands of one line that are about the stream itself:
+abbrev pub control_words : List (List ℕ × Part)
+control_words =
+    (codes "checkpoint", part.Control control.Checkpoint)
+    ∷ (codes "done", part.Control control.Done)
+    ∷ (codes "feature ", part.Control control.Feature)
+    ∷ (codes "option ", part.Control control.OptionCommand) ∷ []
+
+-- All of them. No line fits two of these words.
 abbrev pub words : List (List ℕ × Part)
 words =
-    (codes "blob", part.Blob)
-    ∷ (codes "commit ", part.Commit)
-    ∷ (codes "tag ", part.Tag)
-    ∷ (codes "reset ", part.Reset)
-    ∷ (codes "alias", part.Alias)
-    ∷ (codes "checkpoint", part.Checkpoint)
-    ∷ (codes "progress ", part.Progress)
-    ∷ (codes "get-mark ", part.GetMark)
-    ∷ (codes "cat-blob ", part.CatBlob)
-    ∷ (codes "ls ", part.Ls)
-    ∷ (codes "done", part.Done)
-    ∷ (codes "feature ", part.Feature)
-    ∷ (codes "option ", part.Setting)
-    ∷ (codes "mark ", part.Mark)
-    ∷ (codes "original-oid ", part.OriginalOid)
-    ∷ (codes "author ", part.Author)
-    ∷ (codes "committer ", part.Committer)
-    ∷ (codes "encoding ", part.Encoding)
-    ∷ (codes "from ", part.From)
-    ∷ (codes "merge ", part.Merge)
-    ∷ (codes "tagger ", part.Tagger)
-    ∷ (codes "to ", part.To)
-    ∷ (codes "M ", part.Modify)
-    ∷ (codes "D ", part.Delete)
-    ∷ (codes "C ", part.Copy)
-    ∷ (codes "R ", part.Rename)
-    ∷ (codes "deleteall", part.DeleteAll) ∷ []
+    change_words ++ header_words ++ commit_ish_words
+    ++ opening_words ++ reply_words ++ control_words
 
 -- A line fits a word: it begins with a word that ends in a space, and is equal to any other word.
 abbrev pub fits : List ℕ → List ℕ → Bool
@@ -59,7 +97,8 @@ is_inline text = bytes_eq (first_word (argument (argument text))) (codes "inline
 
 -- The data of an `M` line whose third word is `inline` come after it.
 abbrev pub with_inline : Part → Bool → Part
-with_inline part.Modify inline = if inline then part.ModifyInline else part.Modify
+with_inline (part.Change change.Modify) inline =
+    if inline then part.Change change.ModifyInline else part.Change change.Modify
 with_inline known inline = known
 
 -- The part of a line.
@@ -74,45 +113,74 @@ part_of Blank = part.Blank
 
 -- A `feature` may still come after features, options and blank lines.
 abbrev pub is_early : Part → Bool
-is_early part.Feature = true
-is_early part.Setting = true
+is_early (part.Control control.Feature) = true
+is_early (part.Control control.OptionCommand) = true
 is_early part.Blank = true
 is_early _ = false
 
--- The place of a part in the list of all parts.
-abbrev pub index_of : Part → ℕ
-index_of part.Blob = 0
-index_of part.Commit = 1
-index_of part.Tag = 2
-index_of part.Reset = 3
-index_of part.Alias = 4
-index_of part.Checkpoint = 5
-index_of part.Progress = 6
-index_of part.GetMark = 7
-index_of part.CatBlob = 8
-index_of part.Ls = 9
-index_of part.Done = 10
-index_of part.Feature = 11
-index_of part.Setting = 12
-index_of part.Mark = 13
-index_of part.OriginalOid = 14
-index_of part.Author = 15
-index_of part.Committer = 16
-index_of part.Encoding = 17
-index_of part.From = 18
-index_of part.Merge = 19
-index_of part.Tagger = 20
-index_of part.To = 21
-index_of part.Modify = 22
-index_of part.ModifyInline = 23
-index_of part.Delete = 24
-index_of part.Copy = 25
-index_of part.Rename = 26
-index_of part.DeleteAll = 27
-index_of part.Data = 28
-index_of part.Blank = 29
-index_of part.Unknown = 30
+-- The place of a line among those of its kind.
+abbrev pub opening_index : OpeningLine → ℕ
+opening_index opening.Blob = 0
+opening_index opening.Commit = 1
+opening_index opening.Tag = 2
+opening_index opening.Reset = 3
+opening_index opening.Alias = 4
 
--- Whether two parts are one.
+abbrev pub reply_index : ReplyLine → ℕ
+reply_index reply.Progress = 0
+reply_index reply.GetMark = 1
+reply_index reply.CatBlob = 2
+reply_index reply.Ls = 3
+
+abbrev pub control_index : ControlLine → ℕ
+control_index control.Checkpoint = 0
+control_index control.Done = 1
+control_index control.Feature = 2
+control_index control.OptionCommand = 3
+
+abbrev pub header_index : HeaderLine → ℕ
+header_index header.Mark = 0
+header_index header.OriginalOid = 1
+header_index header.Author = 2
+header_index header.Committer = 3
+header_index header.Encoding = 4
+header_index header.Tagger = 5
+
+abbrev pub commit_ish_index : CommitIshLine → ℕ
+commit_ish_index commit_ish.From = 0
+commit_ish_index commit_ish.Merge = 1
+commit_ish_index commit_ish.To = 2
+
+abbrev pub change_index : ChangeLine → ℕ
+change_index change.Modify = 0
+change_index change.ModifyInline = 1
+change_index change.Delete = 2
+change_index change.Copy = 3
+change_index change.Rename = 4
+change_index change.DeleteAll = 5
+
+-- The place of a part among those of its kind.
+abbrev pub index_of : Part → ℕ
+index_of (part.Opening line) = opening_index line
+index_of (part.Reply line) = reply_index line
+index_of (part.Control line) = control_index line
+index_of (part.Header line) = header_index line
+index_of (part.CommitIsh line) = commit_ish_index line
+index_of (part.Change line) = change_index line
+index_of _ = 0
+
+-- The place of a kind among all kinds of parts.
+abbrev pub kind_index : Part → ℕ
+kind_index (part.Opening line) = 0
+kind_index (part.Reply line) = 1
+kind_index (part.Control line) = 2
+kind_index (part.Header line) = 3
+kind_index (part.CommitIsh line) = 4
+kind_index (part.Change line) = 5
+kind_index part.Data = 6
+kind_index part.Blank = 7
+kind_index part.Unknown = 8
+
+-- Whether two parts are one: they are of one kind, and the same of that kind.
 abbrev pub same : Part → Part → Bool
-same a b = nat_eq (index_of a) (index_of b)
+same a b = nat_eq (kind_index a) (kind_index b) && nat_eq (index_of a) (index_of b)

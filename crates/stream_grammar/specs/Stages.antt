@@ -1,7 +1,10 @@
 -- The stages of the parser: each stands for the terms that are left of a production.
-use Rattle.std.specs.Prelude.{◌≡◌, ℕ, List, [], ◌++◌, Option, Some, None, drop}
+use Rattle.std.specs.Prelude.{◌≡◌, ℕ, List, [], ◌++◌, drop}
 use Rattle.stream_grammar.specs.declared.part.Part.{Part}
 use Rattle.stream_grammar.specs.declared.part.Part.TheVariants as part
+use Rattle.stream_grammar.specs.declared.part.OpeningLine.{OpeningLine}
+use Rattle.stream_grammar.specs.declared.part.OpeningLine.TheVariants as opening
+use Rattle.stream_grammar.specs.declared.part.ChangeLine.TheVariants as change_line
 use Rattle.stream_grammar.specs.declared.stage.BlobNext.{BlobNext}
 use Rattle.stream_grammar.specs.declared.stage.BlobNext.TheVariants as blob
 use Rattle.stream_grammar.specs.declared.stage.CommitNext.{CommitNext}
@@ -20,50 +23,45 @@ use Rattle.stream_grammar.specs.declared.stage.Opened.{Opened}
 use Rattle.stream_grammar.specs.declared.stage.Opened.TheVariants as opened
 use Rattle.stream_grammar.specs.declared.stage.Fit.{Fit as StageFit}
 use Rattle.stream_grammar.specs.declared.stage.Fit.TheVariants as found
-use Rattle.stream_grammar.specs.Grammar.{Term, production_of, due, Fit, Stands, Ends, Misses}
+use Rattle.stream_grammar.specs.Grammar.{Term, production, due, Fit, Stands, Ends, Misses}
 use Rattle.stream_grammar.specs.Commands.{opened_after}
 
--- The terms of a production; none if there is no production.
-abbrev pub terms : Option (List Term) → List Term
-terms None = []
-terms (Some all) = all
-
 -- The terms of a command from the n-th on.
-abbrev pub from_term : ℕ → Part → List Term
-from_term n part = drop n (terms (production_of part))
+abbrev pub from_term : ℕ → OpeningLine → List Term
+from_term n line = drop n (production line)
 
 abbrev pub blob_terms : BlobNext → List Term
-blob_terms blob.Mark = from_term 0 part.Blob
-blob_terms blob.OriginalOid = from_term 1 part.Blob
-blob_terms blob.Data = from_term 2 part.Blob
+blob_terms blob.Mark = from_term 0 opening.Blob
+blob_terms blob.OriginalOid = from_term 1 opening.Blob
+blob_terms blob.Data = from_term 2 opening.Blob
 
 abbrev pub commit_terms : CommitNext → List Term
-commit_terms commit.Mark = from_term 0 part.Commit
-commit_terms commit.OriginalOid = from_term 1 part.Commit
-commit_terms commit.Author = from_term 2 part.Commit
-commit_terms commit.Committer = from_term 3 part.Commit
-commit_terms commit.Encoding = from_term 4 part.Commit
-commit_terms commit.Data = from_term 5 part.Commit
+commit_terms commit.Mark = from_term 0 opening.Commit
+commit_terms commit.OriginalOid = from_term 1 opening.Commit
+commit_terms commit.Author = from_term 2 opening.Commit
+commit_terms commit.Committer = from_term 3 opening.Commit
+commit_terms commit.Encoding = from_term 4 opening.Commit
+commit_terms commit.Data = from_term 5 opening.Commit
 
 abbrev pub change_terms : ChangeNext → List Term
-change_terms change.From = from_term 6 part.Commit
-change_terms change.Merge = from_term 7 part.Commit
-change_terms change.Change = from_term 8 part.Commit
+change_terms change.From = from_term 6 opening.Commit
+change_terms change.Merge = from_term 7 opening.Commit
+change_terms change.Change = from_term 8 opening.Commit
 
 abbrev pub tag_terms : TagNext → List Term
-tag_terms tag.Mark = from_term 0 part.Tag
-tag_terms tag.From = from_term 1 part.Tag
-tag_terms tag.OriginalOid = from_term 2 part.Tag
-tag_terms tag.Tagger = from_term 3 part.Tag
-tag_terms tag.Data = from_term 4 part.Tag
+tag_terms tag.Mark = from_term 0 opening.Tag
+tag_terms tag.From = from_term 1 opening.Tag
+tag_terms tag.OriginalOid = from_term 2 opening.Tag
+tag_terms tag.Tagger = from_term 3 opening.Tag
+tag_terms tag.Data = from_term 4 opening.Tag
 
 abbrev pub reset_terms : ResetNext → List Term
-reset_terms reset.From = from_term 0 part.Reset
-reset_terms reset.Blank = from_term 1 part.Reset
+reset_terms reset.From = from_term 0 opening.Reset
+reset_terms reset.Blank = from_term 1 opening.Reset
 
 abbrev pub alias_terms : AliasNext → List Term
-alias_terms alias.Mark = from_term 0 part.Alias
-alias_terms alias.To = from_term 1 part.Alias
+alias_terms alias.Mark = from_term 0 opening.Alias
+alias_terms alias.To = from_term 1 opening.Alias
 
 -- The terms that are left at a stage.
 abbrev pub terms_of : Stage → List Term
@@ -71,7 +69,7 @@ terms_of stage.Top = []
 terms_of (stage.Blob next) = blob_terms next
 terms_of (stage.Commit next) = commit_terms next
 terms_of (stage.Changes next) = change_terms next
-terms_of stage.Inline = due part.ModifyInline ++ change_terms change.Change
+terms_of stage.Inline = due (part.Change change_line.ModifyInline) ++ change_terms change.Change
 terms_of (stage.Tag next) = tag_terms next
 terms_of (stage.Reset next) = reset_terms next
 terms_of (stage.Alias next) = alias_terms next

@@ -46,8 +46,8 @@ fn mode_inline(mode: FileMode) -> Result<FileMode, Fault>
 
 /// Reads the path that is the rest of a line. `Fault::BadPath` (10) if it is malformed, else
 /// `Fault::Limit` (25) if it is too long.
-pub fn path_of(alloc: Global, text: &[u8]) -> Result<Path, Fault>
-    ensures { Gives (λ path. path) result (changes.path_of text.now) }
+pub fn last_path(alloc: Global, text: &[u8]) -> Result<Path, Fault>
+    ensures { Gives (λ path. path) result (changes.last_path text.now) }
 {
     match Path::read(alloc, text, Place::Last) {
         Ok((path, _)) => Ok(path),
@@ -57,13 +57,13 @@ pub fn path_of(alloc: Global, text: &[u8]) -> Result<Path, Fault>
     }
 }
 
-/// Reads a source and a path, each as `path_of` does. A fault of the source comes first.
+/// Reads a source and a path, each as `last_path` does. A fault of the source comes first.
 pub fn paths_of(alloc: Global, text: &[u8]) -> Result<(Path, Path), Fault>
     ensures { Gives (λ paths. paths) result (changes.paths_of text.now) }
 {
     match Path::read(alloc, text, Place::Source) {
         Ok((source, rest)) => {
-            let path = path_of(alloc, rest)?;
+            let path = last_path(alloc, rest)?;
             Ok((source, path))
         }
         Err(git_paths::Fault::BadPath) => Err(Fault::BadPath),
@@ -73,14 +73,14 @@ pub fn paths_of(alloc: Global, text: &[u8]) -> Result<(Path, Path), Fault>
 }
 
 /// Reads a dataref, a space and a path. Faults 3 and 12 for the dataref, 3 without the space, then
-/// those of `path_of`.
+/// those of `last_path`.
 pub fn object_and_path(alloc: Global, text: &[u8]) -> Result<(DataRef, Path), Fault>
     ensures { Gives (λ file. file) result (changes.object_and_path text.now) }
 {
     let object = dataref_of(first_word(text))?;
     match after_space(text) {
         Some(rest) => {
-            let path = path_of(alloc, rest)?;
+            let path = last_path(alloc, rest)?;
             Ok((object, path))
         }
         None => Err(Fault::Malformed),
@@ -107,13 +107,13 @@ fn inline_path(alloc: Global, rest: &[u8]) -> Result<Path, Fault>
     ensures { Gives (λ path. path) result (changes.inline_path rest.now) }
 {
     match after_space(rest) {
-        Some(text) => path_of(alloc, text),
+        Some(text) => last_path(alloc, text),
         None => Err(Fault::Malformed),
     }
 }
 
 /// Reads a mode, `inline` and a path. Fault 23 for the mode, 3 without a space or if the mode is
-/// not that of a file, then those of `path_of`.
+/// not that of a file, then those of `last_path`.
 pub fn modified_inline(alloc: Global, text: &[u8]) -> Result<(FileMode, Path), Fault>
     ensures { Gives (λ file. file) result (changes.modified_inline text.now) }
 {

@@ -22,9 +22,9 @@ pub enum Feature {
     RawDates,
 }
 
-/// The system whose option a line sets.
+/// An `option` command, by the system whose option it is.
 #[derive(Clone, Copy)]
-pub enum Setting {
+pub enum OptionCommand {
     /// Git's.
     Git,
     /// The `head` option of gitpool: the ref that HEAD points to.
@@ -67,17 +67,17 @@ pub fn feature_of(word: &[u8]) -> Result<Feature, Fault>
     }
 }
 
-/// Tells whose option these words set.
-#[tactic(auto, unfolding(crate::specs::Features::setting_of))]
-pub fn setting_of(words: &[u8]) -> Setting
-    ensures { result ≡ features.setting_of words.now }
+/// Tells whose option these words are.
+#[tactic(auto, unfolding(crate::specs::Features::option_of))]
+pub fn option_of(words: &[u8]) -> OptionCommand
+    ensures { result ≡ features.option_of words.now }
 {
     if words == b"git".as_slice() || words.starts_with(b"git ") {
-        Setting::Git
+        OptionCommand::Git
     } else if words.starts_with(b"gitpool head ") {
-        Setting::Head
+        OptionCommand::Head
     } else {
-        Setting::Other
+        OptionCommand::Other
     }
 }
 

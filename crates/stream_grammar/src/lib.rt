@@ -43,4 +43,6 @@ pub use git_names::{Ident, Name, RefName};
 pub use git_paths::Path;
 pub use mark::Mark;
 pub use parser::Parser;
-pub use part::{Part, part_of};
+pub use part::{
+    ChangeLine, CommitIshLine, ControlLine, HeaderLine, OpeningLine, Part, ReplyLine, part_of,
+};

@@ -7,20 +7,22 @@ ghost use Rattle.stream_grammar.specs.Faults.{Gives};
 ghost use Rattle.stream_grammar.specs.Features as features;
 ghost use Rattle.stream_grammar.specs.Lines as lines;
 ghost use Rattle.stream_grammar.specs.Names.{commit_ish_of};
-ghost use Rattle.stream_grammar.specs.Acts.{Commit, Encoding, Merge};
-ghost use Rattle.stream_grammar.specs.Changes.{encoding_of, is_encoding, is_quoted};
+ghost use Rattle.stream_grammar.specs.Acts.{Commit, Merge};
+ghost use Rattle.stream_grammar.specs.Changes as changes;
 ghost use Rattle.stream_grammar.specs.Texts.{read};
 ghost use Rattle.stream_grammar.specs.Shown.{act_shown, Brings};
 
 use crate::act::{
     Act, CommitCommand, ControlCommand, FileChange, ObjectCommand, RefCommand, ReplyCommand,
 };
-use crate::changes::{is_quoted, modified, modified_inline, object_and_path, path_of, paths_of};
+use crate::changes::{is_quoted, last_path, modified, modified_inline, object_and_path, paths_of};
 use crate::fault::Fault;
-use crate::feature::{Setting, feature_of, in_time, quiet_of, setting_of};
+use crate::feature::{OptionCommand, feature_of, in_time, option_of, quiet_of};
 use crate::mark::Mark;
 use crate::names::{commit_ish_of, head_of, ident_of, ref_of, tag_ref_of};
-use crate::part::Part;
+use crate::part::{
+    ChangeLine, CommitIshLine, ControlLine, HeaderLine, OpeningLine, Part, ReplyLine,
+};
 use crate::stage::Opened;
 use crate::text::{argument, dataref_of, mark_of};
 use std::alloc::Global;
@@ -52,63 +54,14 @@ fn alias_act(mark: Option<Mark>, text: &[u8]) -> Result<Act<'_>, Fault>
     }
 }
 
-// An `ls` with a dataref.
-fn entry_act(alloc: Global, text: &[u8]) -> Result<Act<'_>, Fault>
-    ensures { Gives act_shown result (lines.entry_act text.now) }
+// A `merge`.
+fn merge_act(text: &[u8]) -> Result<Act<'_>, Fault>
+    ensures { Gives act_shown result
+        (read (commit_ish_of text.now) (λ commit. Ok (Commit (Merge commit)))) }
 {
-    let (root, path) = object_and_path(alloc, text)?;
-    Ok(Act::Reply(ReplyCommand::Ls { root, path }))
-}
-
-// An `ls` in a commit.
-fn branch_entry_act(alloc: Global, text: &[u8]) -> Result<Act<'_>, Fault>
-    ensures { Gives act_shown result (lines.branch_entry_act (is_quoted text.now) text.now) }
-{
-    if is_quoted(text) {
-        Ok(Act::Reply(ReplyCommand::LsInCommit(path_of(alloc, text)?)))
-    } else {
-        entry_act(alloc, text)
-    }
-}
-
-// A line that changes the files of a commit, or a line that asks for nothing.
-fn change_act(alloc: Global, part: Part, line: &[u8]) -> Result<Act<'_>, Fault>
-    ensures { Gives act_shown result (lines.change_act part line.now) }
-{
-    match part {
-        Part::Modify => {
-            let (mode, object, path) = modified(alloc, argument(line))?;
-            Ok(Act::Change(FileChange::Modify { mode, object, path }))
-        }
-        Part::ModifyInline => {
-            let (mode, path) = modified_inline(alloc, argument(line))?;
-            Ok(Act::Change(FileChange::ModifyInline { mode, path }))
-        }
-        Part::Delete => Ok(Act::Change(FileChange::Delete(path_of(alloc, argument(line))?))),
-        Part::Copy => {
-            let (source, path) = paths_of(alloc, argument(line))?;
-            Ok(Act::Change(FileChange::Copy { source, path }))
-        }
-        Part::Rename => {
-            let (source, path) = paths_of(alloc, argument(line))?;
-            Ok(Act::Change(FileChange::Rename { source, path }))
-        }
-        Part::DeleteAll => Ok(Act::Change(FileChange::DeleteAll)),
-        _ => Ok(Act::Wait),
-    }
-}
-
-// A line in the place of a change: a change, or one that prints something.
-fn change_or_reply_act(alloc: Global, part: Part, line: &[u8]) -> Result<Act<'_>, Fault>
-    ensures { Gives act_shown result (lines.change_or_reply_act part line.now) }
-{
-    match part {
-        Part::CatBlob => {
-            let object = dataref_of(argument(line))?;
-            Ok(Act::Reply(ReplyCommand::CatBlob(object)))
-        }
-        Part::Ls => branch_entry_act(alloc, argument(line)),
-        _ => change_act(alloc, part, line),
+    match commit_ish_of(text) {
+        Ok(commit) => Ok(Act::Commit(CommitCommand::Merge(commit))),
+        Err(fault) => Err(fault),
     }
 }
 
@@ -121,59 +74,124 @@ fn is_one_line(text: &[u8]) -> bool
 
 // Whether a text has at least one byte and no line end.
 fn is_encoding(text: &[u8]) -> bool
-    ensures { result ≡ is_encoding text.now }
+    ensures { result ≡ changes.is_encoding text.now }
 {
     !text.is_empty() && is_one_line(text)
 }
 
 // An encoding.
-fn encoding_act(text: &[u8]) -> Result<Act<'_>, Fault>
-    ensures { Gives act_shown result
-        (read (encoding_of text.now) (λ encoding. Ok (Commit (Encoding encoding)))) }
+fn encoding_of(text: &[u8]) -> Result<&[u8], Fault>
+    ensures { Gives (λ encoding. encoding.now) result (changes.encoding_of text.now) }
 {
     if is_encoding(text) {
-        Ok(Act::Commit(CommitCommand::Encoding(text)))
+        Ok(text)
     } else {
         Err(Fault::Malformed)
     }
 }
 
-// A `merge`.
-fn merge_act(text: &[u8]) -> Result<Act<'_>, Fault>
-    ensures { Gives act_shown result
-        (read (commit_ish_of text.now) (λ commit. Ok (Commit (Merge commit)))) }
+// A line of a header, by the text after its word.
+fn header_act<'a>(
+    alloc: Global,
+    mark: &mut Option<Mark>,
+    line: HeaderLine,
+    text: &'a [u8],
+) -> Result<Act<'a>, Fault>
+    ensures brings { Brings result mark.new (lines.header_effect mark.old line text.now) }
+    ensures same { OnErr result (mark.new ≡ mark.old) }
 {
-    match commit_ish_of(text) {
-        Ok(commit) => Ok(Act::Commit(CommitCommand::Merge(commit))),
-        Err(fault) => Err(fault),
+    match line {
+        HeaderLine::Mark => {
+            *mark = Some(mark_of(text)?);
+            Ok(Act::Wait)
+        }
+        HeaderLine::OriginalOid => Ok(Act::Wait),
+        HeaderLine::Author => Ok(Act::Commit(CommitCommand::Author(ident_of(alloc, text)?))),
+        HeaderLine::Committer => Ok(Act::Commit(CommitCommand::Committer(ident_of(alloc, text)?))),
+        HeaderLine::Encoding => Ok(Act::Commit(CommitCommand::Encoding(encoding_of(text)?))),
+        HeaderLine::Tagger => Ok(Act::Object(ObjectCommand::Tagger(ident_of(alloc, text)?))),
     }
 }
 
-// A line that gives a header of the commit or tag, or one in the place of a change.
-fn header_act(alloc: Global, part: Part, line: &[u8]) -> Result<Act<'_>, Fault>
-    ensures { Gives act_shown result (lines.header_act part line.now) }
+// A line with a commit-ish, by the text after its word.
+fn commit_ish_act<'a>(
+    opened: Opened,
+    mark: &mut Option<Mark>,
+    line: CommitIshLine,
+    text: &'a [u8],
+) -> Result<Act<'a>, Fault>
+    ensures brings { Brings result mark.new
+        (lines.commit_ish_effect opened mark.old line text.now) }
+    ensures same { OnErr result (mark.new ≡ mark.old) }
 {
-    match part {
-        Part::Author => {
-            let ident = ident_of(alloc, argument(line))?;
-            Ok(Act::Commit(CommitCommand::Author(ident)))
+    match line {
+        CommitIshLine::From => from_act(opened, text),
+        CommitIshLine::Merge => merge_act(text),
+        CommitIshLine::To => {
+            let act = alias_act(*mark, text)?;
+            *mark = None;
+            Ok(act)
         }
-        Part::Committer => {
-            let ident = ident_of(alloc, argument(line))?;
-            Ok(Act::Commit(CommitCommand::Committer(ident)))
-        }
-        Part::Encoding => encoding_act(argument(line)),
-        Part::Merge => merge_act(argument(line)),
-        Part::Tagger => {
-            let ident = ident_of(alloc, argument(line))?;
-            Ok(Act::Object(ObjectCommand::Tagger(ident)))
-        }
-        _ => change_or_reply_act(alloc, part, line),
     }
 }
 
-// A line inside the open command, which may have a mark. The act of a `from` depends on the open
-// command, and that of a `to` on the mark.
+// A line that changes the files of a commit, by the text after its word.
+fn change_act(alloc: Global, line: ChangeLine, text: &[u8]) -> Result<Act<'_>, Fault>
+    ensures { Gives act_shown result (lines.change_act line text.now) }
+{
+    match line {
+        ChangeLine::Modify => {
+            let (mode, object, path) = modified(alloc, text)?;
+            Ok(Act::Change(FileChange::Modify { mode, object, path }))
+        }
+        ChangeLine::ModifyInline => {
+            let (mode, path) = modified_inline(alloc, text)?;
+            Ok(Act::Change(FileChange::ModifyInline { mode, path }))
+        }
+        ChangeLine::Delete => Ok(Act::Change(FileChange::Delete(last_path(alloc, text)?))),
+        ChangeLine::Copy => {
+            let (source, path) = paths_of(alloc, text)?;
+            Ok(Act::Change(FileChange::Copy { source, path }))
+        }
+        ChangeLine::Rename => {
+            let (source, path) = paths_of(alloc, text)?;
+            Ok(Act::Change(FileChange::Rename { source, path }))
+        }
+        ChangeLine::DeleteAll => Ok(Act::Change(FileChange::DeleteAll)),
+    }
+}
+
+// An `ls` with a path alone, or with a dataref and a path.
+fn ls_act(alloc: Global, path_alone: bool, text: &[u8]) -> Result<Act<'_>, Fault>
+    ensures { Gives act_shown result (lines.ls_act path_alone text.now) }
+{
+    if path_alone {
+        Ok(Act::Reply(ReplyCommand::LsInCommit(last_path(alloc, text)?)))
+    } else {
+        let (root, path) = object_and_path(alloc, text)?;
+        Ok(Act::Reply(ReplyCommand::Ls { root, path }))
+    }
+}
+
+// A command that prints something, inside a commit or not.
+fn reply_act<'a>(
+    alloc: Global,
+    inside: bool,
+    reply: ReplyLine,
+    line: &'a [u8],
+) -> Result<Act<'a>, Fault>
+    ensures { Gives act_shown result (lines.reply_act inside reply line.now) }
+{
+    let text = argument(line);
+    match reply {
+        ReplyLine::Progress => Ok(Act::Reply(ReplyCommand::Progress(line))),
+        ReplyLine::GetMark => Ok(Act::Reply(ReplyCommand::GetMark(mark_of(text)?))),
+        ReplyLine::CatBlob => Ok(Act::Reply(ReplyCommand::CatBlob(dataref_of(text)?))),
+        ReplyLine::Ls => ls_act(alloc, inside && is_quoted(text), text),
+    }
+}
+
+// A line inside the open command, which may have a mark.
 fn line_act<'a>(
     alloc: Global,
     opened: Opened,
@@ -185,17 +203,13 @@ fn line_act<'a>(
     ensures same { OnErr result (mark.new ≡ mark.old) }
 {
     match part {
-        Part::Mark => {
-            *mark = Some(mark_of(argument(line))?);
+        Part::Header(header) => header_act(alloc, mark, header, argument(line)),
+        Part::CommitIsh(kind) => commit_ish_act(opened, mark, kind, argument(line)),
+        Part::Change(change) => change_act(alloc, change, argument(line)),
+        Part::Reply(reply) => reply_act(alloc, true, reply, line),
+        Part::Opening(_) | Part::Control(_) | Part::Data | Part::Blank | Part::Unknown => {
             Ok(Act::Wait)
         }
-        Part::From => from_act(opened, argument(line)),
-        Part::To => {
-            let act = alias_act(*mark, argument(line))?;
-            *mark = None;
-            Ok(act)
-        }
-        _ => header_act(alloc, part, line),
     }
 }
 
@@ -247,49 +261,52 @@ pub fn inner_act<'a>(
 // An option, by the system whose option it is.
 fn option_act<'a>(alloc: Global, late: bool, words: &'a [u8]) -> Result<Act<'a>, Fault>
     ensures { Gives act_shown result
-        (lines.option_act late (features.setting_of words.now) words.now) }
+        (lines.option_act late (features.option_of words.now) words.now) }
 {
-    match setting_of(words) {
-        Setting::Git => {
+    match option_of(words) {
+        OptionCommand::Git => {
             in_time(late)?;
             quiet_of(words)?;
             Ok(Act::Wait)
         }
-        Setting::Head => {
+        OptionCommand::Head => {
             in_time(late)?;
             let head = head_of(alloc, argument(argument(words)))?;
             Ok(Act::Control(ControlCommand::Head(head)))
         }
-        Setting::Other => Ok(Act::Wait),
+        OptionCommand::Other => Ok(Act::Wait),
     }
 }
 
-// A command of the stream itself. The first line of a blob or an alias asks for nothing yet.
-fn control_act<'a>(alloc: Global, late: bool, part: Part, line: &'a [u8]) -> Result<Act<'a>, Fault>
-    ensures { Gives act_shown result (lines.control_act late part line.now) }
+// A command that is about the stream itself, by the text after its word.
+fn control_act<'a>(
+    alloc: Global,
+    late: bool,
+    line: ControlLine,
+    text: &'a [u8],
+) -> Result<Act<'a>, Fault>
+    ensures { Gives act_shown result (lines.control_act late line text.now) }
 {
-    match part {
-        Part::Checkpoint => Ok(Act::Control(ControlCommand::Checkpoint)),
-        Part::Done => Ok(Act::Control(ControlCommand::Done)),
-        Part::Feature => {
+    match line {
+        ControlLine::Checkpoint => Ok(Act::Control(ControlCommand::Checkpoint)),
+        ControlLine::Done => Ok(Act::Control(ControlCommand::Done)),
+        ControlLine::Feature => {
             in_time(late)?;
-            Ok(Act::Control(ControlCommand::Feature(feature_of(argument(line))?)))
+            Ok(Act::Control(ControlCommand::Feature(feature_of(text)?)))
         }
-        Part::Setting => option_act(alloc, late, argument(line)),
-        _ => Ok(Act::Wait),
+        ControlLine::OptionCommand => option_act(alloc, late, text),
     }
 }
 
-// A command of one line: one that prints something, or one of the stream itself.
-fn single_act<'a>(alloc: Global, late: bool, part: Part, line: &'a [u8]) -> Result<Act<'a>, Fault>
-    ensures { Gives act_shown result (lines.single_act late part line.now) }
+// The first line of a command of several lines, by the text after its word.
+fn opening_act<'a>(alloc: Global, line: OpeningLine, text: &'a [u8]) -> Result<Act<'a>, Fault>
+    ensures { Gives act_shown result (lines.opening_act line text.now) }
 {
-    match part {
-        Part::Progress => Ok(Act::Reply(ReplyCommand::Progress(line))),
-        Part::GetMark => Ok(Act::Reply(ReplyCommand::GetMark(mark_of(argument(line))?))),
-        Part::CatBlob => Ok(Act::Reply(ReplyCommand::CatBlob(dataref_of(argument(line))?))),
-        Part::Ls => entry_act(alloc, argument(line)),
-        _ => control_act(alloc, late, part, line),
+    match line {
+        OpeningLine::Commit => Ok(Act::Commit(CommitCommand::Begin(ref_of(alloc, text)?))),
+        OpeningLine::Tag => Ok(Act::Object(ObjectCommand::BeginTag(tag_ref_of(alloc, text)?))),
+        OpeningLine::Reset => Ok(Act::Ref(RefCommand::Reset(ref_of(alloc, text)?))),
+        OpeningLine::Blob | OpeningLine::Alias => Ok(Act::Wait),
     }
 }
 
@@ -303,19 +320,11 @@ fn first_line_act<'a>(
     ensures { Gives act_shown result (lines.first_line_act late part line.now) }
 {
     match part {
-        Part::Commit => {
-            let branch = ref_of(alloc, argument(line))?;
-            Ok(Act::Commit(CommitCommand::Begin(branch)))
-        }
-        Part::Tag => {
-            let tag = tag_ref_of(alloc, argument(line))?;
-            Ok(Act::Object(ObjectCommand::BeginTag(tag)))
-        }
-        Part::Reset => {
-            let branch = ref_of(alloc, argument(line))?;
-            Ok(Act::Ref(RefCommand::Reset(branch)))
-        }
-        _ => single_act(alloc, late, part, line),
+        Part::Opening(opening) => opening_act(alloc, opening, argument(line)),
+        Part::Reply(reply) => reply_act(alloc, false, reply, line),
+        Part::Control(control) => control_act(alloc, late, control, argument(line)),
+        Part::Header(_) | Part::CommitIsh(_) | Part::Change(_) => Ok(Act::Wait),
+        Part::Data | Part::Blank | Part::Unknown => Ok(Act::Wait),
     }
 }
 

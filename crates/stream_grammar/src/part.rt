@@ -12,29 +12,75 @@ use stream_lex::Item;
 /// says whether data follow.
 #[derive(Clone, Copy, PartialEq, Eq)]
 pub enum Part {
+    /// The first line of a command of several lines.
+    Opening(OpeningLine),
+    /// A command of one line that prints something.
+    Reply(ReplyLine),
+    /// A command of one line that is about the stream itself.
+    Control(ControlLine),
+    /// A line inside a command that says something about its object.
+    Header(HeaderLine),
+    /// A line inside a command that names a commit.
+    CommitIsh(CommitIshLine),
+    /// A line that changes the files of a commit.
+    Change(ChangeLine),
+    Data,
+    Blank,
+    /// A line whose first word is none of the above.
+    Unknown,
+}
+
+/// The first line of a command of several lines: git-fast-import(1), "Commands".
+#[derive(Clone, Copy, PartialEq, Eq)]
+pub enum OpeningLine {
     Blob,
     Commit,
     Tag,
     Reset,
     Alias,
-    Checkpoint,
+}
+
+/// A command of one line that prints something.
+#[derive(Clone, Copy, PartialEq, Eq)]
+pub enum ReplyLine {
     Progress,
     GetMark,
     CatBlob,
     Ls,
+}
+
+/// A command of one line that is about the stream itself.
+#[derive(Clone, Copy, PartialEq, Eq)]
+pub enum ControlLine {
+    Checkpoint,
     Done,
     Feature,
     /// A line that begins with `option`.
-    Setting,
+    OptionCommand,
+}
+
+/// A line of a blob, a commit, a tag or an alias that says something about its object.
+#[derive(Clone, Copy, PartialEq, Eq)]
+pub enum HeaderLine {
     Mark,
     OriginalOid,
     Author,
     Committer,
     Encoding,
+    Tagger,
+}
+
+/// A line with a commit-ish: git-fast-import(1), "from", "merge" and "alias".
+#[derive(Clone, Copy, PartialEq, Eq)]
+pub enum CommitIshLine {
     From,
     Merge,
-    Tagger,
     To,
+}
+
+/// A line that changes the files of a commit: git-fast-import(1), "filemodify" to "filedeleteall".
+#[derive(Clone, Copy, PartialEq, Eq)]
+pub enum ChangeLine {
     /// A line that begins with `M` and names the contents by a mark or an object name.
     Modify,
     /// A line that begins with `M` and has `inline` there: the contents are the data after it.
@@ -43,42 +89,38 @@ pub enum Part {
     Copy,
     Rename,
     DeleteAll,
-    Data,
-    Blank,
-    /// A line whose first word is none of the above.
-    Unknown,
 }
 
 // Each part by the first word of its line and the space after it, or by the whole line if that has
-// no space.
+// no space. The words that most lines begin with come first.
 const WORDS: &[(&[u8], Part)] = &[
-    (b"blob", Part::Blob),
-    (b"commit ", Part::Commit),
-    (b"tag ", Part::Tag),
-    (b"reset ", Part::Reset),
-    (b"alias", Part::Alias),
-    (b"checkpoint", Part::Checkpoint),
-    (b"progress ", Part::Progress),
-    (b"get-mark ", Part::GetMark),
-    (b"cat-blob ", Part::CatBlob),
-    (b"ls ", Part::Ls),
-    (b"done", Part::Done),
-    (b"feature ", Part::Feature),
-    (b"option ", Part::Setting),
-    (b"mark ", Part::Mark),
-    (b"original-oid ", Part::OriginalOid),
-    (b"author ", Part::Author),
-    (b"committer ", Part::Committer),
-    (b"encoding ", Part::Encoding),
-    (b"from ", Part::From),
-    (b"merge ", Part::Merge),
-    (b"tagger ", Part::Tagger),
-    (b"to ", Part::To),
-    (b"M ", Part::Modify),
-    (b"D ", Part::Delete),
-    (b"C ", Part::Copy),
-    (b"R ", Part::Rename),
-    (b"deleteall", Part::DeleteAll),
+    (b"M ", Part::Change(ChangeLine::Modify)),
+    (b"D ", Part::Change(ChangeLine::Delete)),
+    (b"C ", Part::Change(ChangeLine::Copy)),
+    (b"R ", Part::Change(ChangeLine::Rename)),
+    (b"deleteall", Part::Change(ChangeLine::DeleteAll)),
+    (b"mark ", Part::Header(HeaderLine::Mark)),
+    (b"original-oid ", Part::Header(HeaderLine::OriginalOid)),
+    (b"author ", Part::Header(HeaderLine::Author)),
+    (b"committer ", Part::Header(HeaderLine::Committer)),
+    (b"encoding ", Part::Header(HeaderLine::Encoding)),
+    (b"tagger ", Part::Header(HeaderLine::Tagger)),
+    (b"from ", Part::CommitIsh(CommitIshLine::From)),
+    (b"merge ", Part::CommitIsh(CommitIshLine::Merge)),
+    (b"to ", Part::CommitIsh(CommitIshLine::To)),
+    (b"blob", Part::Opening(OpeningLine::Blob)),
+    (b"commit ", Part::Opening(OpeningLine::Commit)),
+    (b"tag ", Part::Opening(OpeningLine::Tag)),
+    (b"reset ", Part::Opening(OpeningLine::Reset)),
+    (b"alias", Part::Opening(OpeningLine::Alias)),
+    (b"progress ", Part::Reply(ReplyLine::Progress)),
+    (b"get-mark ", Part::Reply(ReplyLine::GetMark)),
+    (b"cat-blob ", Part::Reply(ReplyLine::CatBlob)),
+    (b"ls ", Part::Reply(ReplyLine::Ls)),
+    (b"checkpoint", Part::Control(ControlLine::Checkpoint)),
+    (b"done", Part::Control(ControlLine::Done)),
+    (b"feature ", Part::Control(ControlLine::Feature)),
+    (b"option ", Part::Control(ControlLine::OptionCommand)),
 ];
 
 // Whether a line fits a word: it begins with a word that ends in a space, and is equal to a word
@@ -118,7 +160,9 @@ fn part_of_line(line: &[u8]) -> Part
     ensures { result ≡ parts.part_of_line line.now }
 {
     match part_by_word(line) {
-        Part::Modify if is_inline(line) => Part::ModifyInline,
+        Part::Change(ChangeLine::Modify) if is_inline(line) => {
+            Part::Change(ChangeLine::ModifyInline)
+        }
         part => part,
     }
 }
@@ -139,5 +183,8 @@ pub fn part_of(item: Item<'_>) -> Part
 pub fn is_early(part: Part) -> bool
     ensures { result ≡ parts.is_early part }
 {
-    matches!(part, Part::Feature | Part::Setting | Part::Blank)
+    matches!(
+        part,
+        Part::Control(ControlLine::Feature | ControlLine::OptionCommand) | Part::Blank
+    )
 }

@@ -3,11 +3,11 @@
 ghost use Rattle.std.specs.Prelude.{◌≡◌, IfSome};
 ghost use Rattle.std.specs.Option.{option_map};
 ghost use Rattle.stream_grammar.specs.declared.stage.Opened.TheVariants as opened;
-ghost use Rattle.stream_grammar.specs.Commands.{opened_by};
-ghost use Rattle.stream_grammar.specs.Grammar.{fit, may_end, is_empty, production_of};
+ghost use Rattle.stream_grammar.specs.Commands.{opened_by, opened_by_line};
+ghost use Rattle.stream_grammar.specs.Grammar.{fit, may_end, is_empty, production, production_of};
 ghost use Rattle.stream_grammar.specs.Stages as stages;
 
-use crate::part::Part;
+use crate::part::{ChangeLine, CommitIshLine, HeaderLine, OpeningLine, Part, ReplyLine};
 
 /// The first part of a blob that may come next.
 #[derive(Clone, Copy)]
@@ -124,8 +124,10 @@ fn fit_in_blob(next: BlobNext, part: Part) -> Fit
     ensures opened { stages.KeepsOpened opened.Blob part result }
 {
     match (part, next) {
-        (Part::Mark, BlobNext::Mark) => Fit::Stands(Stage::Blob(BlobNext::OriginalOid)),
-        (Part::OriginalOid, BlobNext::Mark | BlobNext::OriginalOid) => {
+        (Part::Header(HeaderLine::Mark), BlobNext::Mark) => Fit::Stands(Stage::Blob(
+            BlobNext::OriginalOid,
+        )),
+        (Part::Header(HeaderLine::OriginalOid), BlobNext::Mark | BlobNext::OriginalOid) => {
             Fit::Stands(Stage::Blob(BlobNext::Data))
         }
         (Part::Data, _) => Fit::Stands(Stage::Top),
@@ -140,13 +142,17 @@ fn fit_in_commit(next: CommitNext, part: Part) -> Fit
 {
     use CommitNext::{Author, Committer, Data, Encoding, Mark, OriginalOid};
     match (part, next) {
-        (Part::Mark, Mark) => Fit::Stands(Stage::Commit(OriginalOid)),
-        (Part::OriginalOid, Mark | OriginalOid) => Fit::Stands(Stage::Commit(Author)),
-        (Part::Author, Mark | OriginalOid | Author) => Fit::Stands(Stage::Commit(Committer)),
-        (Part::Committer, Mark | OriginalOid | Author | Committer) => {
+        (Part::Header(HeaderLine::Mark), Mark) => Fit::Stands(Stage::Commit(OriginalOid)),
+        (Part::Header(HeaderLine::OriginalOid), Mark | OriginalOid) => Fit::Stands(Stage::Commit(
+            Author,
+        )),
+        (Part::Header(HeaderLine::Author), Mark | OriginalOid | Author) => Fit::Stands(
+            Stage::Commit(Committer),
+        ),
+        (Part::Header(HeaderLine::Committer), Mark | OriginalOid | Author | Committer) => {
             Fit::Stands(Stage::Commit(Encoding))
         }
-        (Part::Encoding, Encoding) => Fit::Stands(Stage::Commit(Data)),
+        (Part::Header(HeaderLine::Encoding), Encoding) => Fit::Stands(Stage::Commit(Data)),
         (Part::Data, Encoding | Data) => Fit::Stands(Stage::Changes(ChangeNext::From)),
         _ => Fit::Misses,
     }
@@ -158,21 +164,16 @@ fn fit_in_changes(next: ChangeNext, part: Part) -> Fit
     ensures opened { stages.KeepsOpened opened.Changes part result }
 {
     match (part, next) {
-        (Part::From, ChangeNext::From) => Fit::Stands(Stage::Changes(ChangeNext::Merge)),
-        (Part::Merge, ChangeNext::From | ChangeNext::Merge) => {
+        (Part::CommitIsh(CommitIshLine::From), ChangeNext::From) => Fit::Stands(Stage::Changes(
+            ChangeNext::Merge,
+        )),
+        (Part::CommitIsh(CommitIshLine::Merge), ChangeNext::From | ChangeNext::Merge) => {
             Fit::Stands(Stage::Changes(ChangeNext::Merge))
         }
-        (Part::ModifyInline, _) => Fit::Stands(Stage::Inline),
-        (
-            Part::Modify
-            | Part::Delete
-            | Part::Copy
-            | Part::Rename
-            | Part::DeleteAll
-            | Part::CatBlob
-            | Part::Ls,
-            _,
-        ) => Fit::Stands(Stage::Changes(ChangeNext::Change)),
+        (Part::Change(ChangeLine::ModifyInline), _) => Fit::Stands(Stage::Inline),
+        (Part::Change(_) | Part::Reply(ReplyLine::CatBlob | ReplyLine::Ls), _) => {
+            Fit::Stands(Stage::Changes(ChangeNext::Change))
+        }
         (Part::Blank, _) => Fit::Stands(Stage::Top),
         _ => Fit::Ends,
     }
@@ -195,12 +196,14 @@ fn fit_in_tag(next: TagNext, part: Part) -> Fit
     ensures opened { stages.KeepsOpened opened.Tag part result }
 {
     match (part, next) {
-        (Part::Mark, TagNext::Mark) => Fit::Stands(Stage::Tag(TagNext::From)),
-        (Part::From, TagNext::Mark | TagNext::From) => {
+        (Part::Header(HeaderLine::Mark), TagNext::Mark) => Fit::Stands(Stage::Tag(TagNext::From)),
+        (Part::CommitIsh(CommitIshLine::From), TagNext::Mark | TagNext::From) => {
             Fit::Stands(Stage::Tag(TagNext::OriginalOid))
         }
-        (Part::OriginalOid, TagNext::OriginalOid) => Fit::Stands(Stage::Tag(TagNext::Tagger)),
-        (Part::Tagger, TagNext::OriginalOid | TagNext::Tagger) => {
+        (Part::Header(HeaderLine::OriginalOid), TagNext::OriginalOid) => Fit::Stands(Stage::Tag(
+            TagNext::Tagger,
+        )),
+        (Part::Header(HeaderLine::Tagger), TagNext::OriginalOid | TagNext::Tagger) => {
             Fit::Stands(Stage::Tag(TagNext::Data))
         }
         (Part::Data, TagNext::OriginalOid | TagNext::Tagger | TagNext::Data) => {
@@ -216,7 +219,9 @@ fn fit_in_reset(next: ResetNext, part: Part) -> Fit
     ensures opened { stages.KeepsOpened opened.Reset part result }
 {
     match (part, next) {
-        (Part::From, ResetNext::From) => Fit::Stands(Stage::Reset(ResetNext::Blank)),
+        (Part::CommitIsh(CommitIshLine::From), ResetNext::From) => Fit::Stands(Stage::Reset(
+            ResetNext::Blank,
+        )),
         (Part::Blank, _) => Fit::Stands(Stage::Top),
         _ => Fit::Ends,
     }
@@ -228,8 +233,10 @@ fn fit_in_alias(next: AliasNext, part: Part) -> Fit
     ensures opened { stages.KeepsOpened opened.Alias part result }
 {
     match (part, next) {
-        (Part::Mark, AliasNext::Mark) => Fit::Stands(Stage::Alias(AliasNext::To)),
-        (Part::To, AliasNext::To) => Fit::Stands(Stage::Top),
+        (Part::Header(HeaderLine::Mark), AliasNext::Mark) => Fit::Stands(Stage::Alias(
+            AliasNext::To,
+        )),
+        (Part::CommitIsh(CommitIshLine::To), AliasNext::To) => Fit::Stands(Stage::Top),
         _ => Fit::Misses,
     }
 }
@@ -251,43 +258,29 @@ pub fn fit_of(stage: Stage, part: Part) -> Fit
     }
 }
 
+// The stage after the first line of a command of several lines.
+fn opening_stage(line: OpeningLine) -> Stage
+    ensures terms { stages.terms_of result ≡ production line }
+    ensures opened { stages.opened_of result ≡ opened_by_line line }
+{
+    match line {
+        OpeningLine::Blob => Stage::Blob(BlobNext::Mark),
+        OpeningLine::Commit => Stage::Commit(CommitNext::Mark),
+        OpeningLine::Tag => Stage::Tag(TagNext::Mark),
+        OpeningLine::Reset => Stage::Reset(ResetNext::From),
+        OpeningLine::Alias => Stage::Alias(AliasNext::Mark),
+    }
+}
+
 /// The stage after the first part of a command; `None` for a part that begins no command.
 pub fn first_stage(part: Part) -> Option<Stage>
     ensures terms { option_map stages.terms_of result ≡ production_of part }
     ensures opened { IfSome result (λ stage. stages.opened_of stage ≡ opened_by part) }
 {
     match part {
-        Part::Blob => Some(Stage::Blob(BlobNext::Mark)),
-        Part::Commit => Some(Stage::Commit(CommitNext::Mark)),
-        Part::Tag => Some(Stage::Tag(TagNext::Mark)),
-        Part::Reset => Some(Stage::Reset(ResetNext::From)),
-        Part::Alias => Some(Stage::Alias(AliasNext::Mark)),
-        Part::Checkpoint
-        | Part::Progress
-        | Part::GetMark
-        | Part::CatBlob
-        | Part::Ls
-        | Part::Done
-        | Part::Feature
-        | Part::Setting
-        | Part::Blank => Some(Stage::Top),
-        Part::Mark
-        | Part::OriginalOid
-        | Part::Author
-        | Part::Committer
-        | Part::Encoding
-        | Part::From
-        | Part::Merge
-        | Part::Tagger
-        | Part::To
-        | Part::Modify
-        | Part::ModifyInline
-        | Part::Delete
-        | Part::Copy
-        | Part::Rename
-        | Part::DeleteAll
-        | Part::Data
-        | Part::Unknown => None,
+        Part::Opening(line) => Some(opening_stage(line)),
+        Part::Reply(_) | Part::Control(_) | Part::Blank => Some(Stage::Top),
+        Part::Header(_) | Part::CommitIsh(_) | Part::Change(_) | Part::Data | Part::Unknown => None,
     }
 }
 

@@ -5,9 +5,9 @@ use Rattle.std.proofs.lemmas.List.{take_at, drop_at, append-nil}
 use Rattle.stream_lex.specs.declared.fault.Fault.TheVariants.{LineTooLong, BadData, Limit}
 use Rattle.stream_lex.specs.declared.header.LineKind.{LineKind}
 use Rattle.stream_lex.specs.declared.header.LineKind.TheVariants.{Empty, Comment, Counted, Delimited, BadHeader, Other}
-use Rattle.stream_lex.specs.Items.{Item, Line, Data, Blank, Tail, Rest, Failed, before}
+use Rattle.stream_lex.specs.Items.{Item, Line, Data, Blank, Tail, Rest, Failed, before, after_items}
 use Rattle.stream_lex.specs.Headers.{HasNoLineEnd, IsLine, kind_of, delimiter_of}
-use Rattle.stream_lex.specs.Reads.{OtherLines, no_lines, one_more, IsData, counted, delimited, IsUnfinishedData, counted_so_far, delimited_so_far, IsTooLargeData, counted_too_large, delimited_too_large, Reads, nothing_left, unfinished_line, line_too_long, comment, blank_line, line, bad_header, unfinished_data, data_too_large, data_at_end, data_and_line_end, data_and_more}
+use Rattle.stream_lex.specs.Reads.{OtherLines, no_lines, one_more, IsData, counted, delimited, IsUnfinishedData, counted_so_far, delimited_so_far, IsTooLargeData, counted_too_large, delimited_too_large, Leaves, nothing_left, unfinished_line, line_too_long, bad_header, unfinished_data, data_too_large, LineGives, comment, blank_line, line, ContinuesWith, line_end as skipped_line_end, other_byte, Reads, no_item, whole_line as reads_whole_line, data_at_end, data_and_more}
 use Rattle.stream_lex.specs.Reading.{Stops, Gives, first_of, whole_line, before_delimiter, data_before, reading}
 use Rattle.stream_lex.proofs.LineEnds.{line_length-append_none}
 use Rattle.stream_lex.proofs.Delimiters.{none_in-drop, option_map-same, before-other_line, before-delimiter_line, before-no_line, option_map-twice}
@@ -121,31 +121,41 @@ data_and {text = text} {raw = raw} is rest =
     reading-gives (text ++ rest) false (Data raw) (length text) (stands-false (text ++ rest)) (data_first is rest)
     ∙ ap (λ l. before (Data raw) (reading true l)) (drop_at text rest (length text) refl)
 
--- each case of the relation is the plain program's
-pub read_so : {bytes : List ℕ} {items : List Item} {tail : Tail} → Reads bytes items tail
-    → reading false bytes ≡ record { items = items; tail = tail }
-read_so nothing_left = walk-nil 0 false
-read_so (unfinished_line text is some) = reading-stops text false (Rest false text) (stands-false text) (first-unfinished text (omega (arith, is.one_line, is.within_limit)) (omega (arith, is.one_line)))
-read_so (line_too_long text rest none long_text) =
+-- each case of the relations is the plain program's
+no_item_so : {bytes : List ℕ} {tail : Tail} → Leaves bytes tail
+    → reading false bytes ≡ record { items = []; tail = tail }
+no_item_so nothing_left = walk-nil 0 false
+no_item_so (unfinished_line text is some) = reading-stops text false (Rest false text) (stands-false text) (first-unfinished text (omega (arith, is.one_line, is.within_limit)) (omega (arith, is.one_line)))
+no_item_so (line_too_long text rest none long_text) =
     reading-stops (text ++ rest) false (Failed LineTooLong) (stands-false (text ++ rest)) (first-too_long (text ++ rest) (omega (arith, line_length-append_none text rest none)))
-read_so (comment text rest is kind later) =
-    reading-skips (text ++ 10 ∷ rest) false (length text + 1) (stands-false (text ++ 10 ∷ rest)) (line_is text rest Comment is kind)
-    ∙ ap (reading false) (after_line text rest) ∙ read_so later
-read_so (blank_line rest later) =
-    reading-gives (10 ∷ rest) false Blank 1 refl (line_is [] rest Empty (record { one_line = refl; within_limit = omega arith }) kind-nil)
-    ∙ ap (before Blank) (read_so later)
-read_so (line text rest is kind later) =
-    reading-gives (text ++ 10 ∷ rest) false (Line text) (length text + 1) (stands-false (text ++ 10 ∷ rest)) (line_is text rest Other is kind)
-    ∙ ap (λ l. before (Line text) (reading false l)) (after_line text rest) ∙ ap (before (Line text)) (read_so later)
-read_so (bad_header text rest is kind) =
+no_item_so (bad_header text rest is kind) =
     reading-stops (text ++ 10 ∷ rest) false (Failed BadData) (stands-false (text ++ 10 ∷ rest)) (line_is text rest BadHeader is kind)
-read_so (unfinished_data text is) = reading-stops text false (Rest false text) (stands-false text) (unfinished_first is)
-read_so (data_too_large text rest is) =
+no_item_so (unfinished_data text is) = reading-stops text false (Rest false text) (stands-false text) (unfinished_first is)
+no_item_so (data_too_large text rest is) =
     let first = too_large_first is in
     reading-stops (text ++ rest) false (Failed Limit) (stands-false (text ++ rest)) (first-settled text rest (subst IsSettled (sym first) tt) ∙ first)
+
+line_so : {text : List ℕ} {given : List Item} → (rest : List ℕ) → IsLine text → LineGives text given
+    → reading false (text ++ 10 ∷ rest) ≡ after_items given (reading false rest)
+line_so rest is (comment text kind) =
+    reading-skips (text ++ 10 ∷ rest) false (length text + 1) (stands-false (text ++ 10 ∷ rest)) (line_is text rest Comment is kind)
+    ∙ ap (reading false) (after_line text rest)
+line_so rest is blank_line =
+    reading-gives (10 ∷ rest) false Blank 1 refl (line_is [] rest Empty is kind-nil)
+line_so rest is (line text kind) =
+    reading-gives (text ++ 10 ∷ rest) false (Line text) (length text + 1) (stands-false (text ++ 10 ∷ rest)) (line_is text rest Other is kind)
+    ∙ ap (λ l. before (Line text) (reading false l)) (after_line text rest)
+
+more_so : {more rest : List ℕ} → ContinuesWith more rest → reading true more ≡ reading false rest
+more_so (skipped_line_end rest) = walk-skip_one 10 rest true refl
+more_so (other_byte byte rest other) = reading-alike (byte ∷ rest) true (ne_eqb byte 10 other)
+
+pub read_so : {bytes : List ℕ} {items : List Item} {tail : Tail} → Reads bytes items tail
+    → reading false bytes ≡ record { items = items; tail = tail }
+read_so (no_item leaves) = no_item_so leaves
+read_so (reads_whole_line text rest {given = given} is gives later) =
+    line_so rest is gives ∙ ap (after_items given) (read_so later)
 read_so (data_at_end text raw is) =
     ap (reading false) (sym (append-nil text)) ∙ data_and is [] ∙ ap (before (Data raw)) (walk-nil 0 true)
-read_so (data_and_line_end text raw rest is later) =
-    data_and is (10 ∷ rest) ∙ ap (before (Data raw)) (walk-skip_one 10 rest true refl ∙ read_so later)
-read_so (data_and_more text raw rest byte is other later) =
-    data_and is (byte ∷ rest) ∙ ap (before (Data raw)) (reading-alike (byte ∷ rest) true (ne_eqb byte 10 other) ∙ read_so later)
+read_so (data_and_more text raw more rest is continues later) =
+    data_and is more ∙ ap (before (Data raw)) (more_so continues ∙ read_so later)

@@ -10,7 +10,7 @@ use Rattle.stream_lex.specs.declared.header.LineKind.TheVariants.{Empty, Comment
 use Rattle.stream_lex.specs.declared.fault.Fault.TheVariants.{LineTooLong, BadData, Limit}
 use Rattle.stream_lex.specs.Items.{Item, Line, Data, Blank, Tail, Rest, Failed}
 use Rattle.stream_lex.specs.Headers.{longest_line, largest_data, is_line_end, line_length, HasNoLineEnd, IsLine, kind_of, delimiter_of}
-use Rattle.stream_lex.specs.Reads.{OtherLines, no_lines, one_more, IsData, counted, delimited, counted_so_far, delimited_so_far, counted_too_large, delimited_too_large, Reads, nothing_left, unfinished_line, line_too_long, comment, blank_line, line, bad_header, unfinished_data, data_too_large, data_at_end, data_and_line_end, data_and_more}
+use Rattle.stream_lex.specs.Reads.{OtherLines, no_lines, one_more, IsData, counted, delimited, counted_so_far, delimited_so_far, counted_too_large, delimited_too_large, nothing_left, unfinished_line, line_too_long, bad_header, unfinished_data, data_too_large, comment, blank_line, line, line_end as skipped_line_end, other_byte, Reads, no_item, whole_line, data_at_end, data_and_more}
 use Rattle.stream_lex.proofs.Cases.{by_cases}
 use Rattle.stream_lex.proofs.LineEnds.{line_length-le}
 use Rattle.stream_lex.proofs.LineKinds.{kind-empty}
@@ -57,18 +57,18 @@ after_data {text = text} {raw = raw} is [] later =
 after_data {text = text} {raw = raw} is (byte ∷ rest) later = by_cases (is_line_end byte)
     (λ ends.
     let had = later rest (omega arith) in
-    subst (λ (b : ℕ). Has (text ++ b ∷ rest)) (sym (eqb-true byte 10 ends)) (Data raw ∷ had.0, had.1, data_and_line_end text raw rest is had.2))
+    subst (λ (b : ℕ). Has (text ++ b ∷ rest)) (sym (eqb-true byte 10 ends)) (Data raw ∷ had.0, had.1, data_and_more text raw (10 ∷ rest) rest is (skipped_line_end rest) had.2))
     (λ other.
     let had = later (byte ∷ rest) (omega arith) in
-    (Data raw ∷ had.0, had.1, data_and_more text raw rest byte is (λ e. false≢true (sym other ∙ eq-eqb byte 10 e)) had.2))
+    (Data raw ∷ had.0, had.1, data_and_more text raw (byte ∷ rest) (byte ∷ rest) is (other_byte byte rest (λ e. false≢true (sym other ∙ eq-eqb byte 10 e))) had.2))
 
 -- a counted data
 counted_has : (header rest : List ℕ) (size : ℕ) → IsLine header → kind_of header ≡ Counted size
     → ((later : List ℕ) → length later ≤ length rest → Has later) → Has (header ++ 10 ∷ rest)
 counted_has header rest size is kind later = ⊎_elim
-    (λ large. subst Has (append_assoc header (10 ∷ []) rest) ([], Failed Limit, data_too_large (header ++ 10 ∷ []) rest (counted_too_large header size is kind large)))
+    (λ large. subst Has (append_assoc header (10 ∷ []) rest) ([], Failed Limit, no_item (data_too_large (header ++ 10 ∷ []) rest (counted_too_large header size is kind large))))
     (λ small. ⊎_elim
-    (λ short. ([], Rest false (header ++ 10 ∷ rest), unfinished_data (header ++ 10 ∷ rest) (counted_so_far header rest size is kind small short)))
+    (λ short. ([], Rest false (header ++ 10 ∷ rest), no_item (unfinished_data (header ++ 10 ∷ rest) (counted_so_far header rest size is kind small short))))
     (λ whole.
     let raw = take size rest in
     let long : length raw ≡ size = length-take-le size rest whole in
@@ -87,10 +87,10 @@ delimited_has : (header : List ℕ) {front : List ℕ} (back : List ℕ) → IsL
 delimited_has header back is kind (no_delimiter lines text others none) enough later = ⊎_elim
     (λ short.
     subst (λ (l : List ℕ). Has (header ++ 10 ∷ l)) (sym (append-nil (lines ++ text)) ∙ ap (λ l. (lines ++ text) ++ l) (sym short.1))
-    ([], Rest false (header ++ 10 ∷ (lines ++ text)), unfinished_data (header ++ 10 ∷ (lines ++ text)) (delimited_so_far header lines text is kind others none short.0)))
+    ([], Rest false (header ++ 10 ∷ (lines ++ text)), no_item (unfinished_data (header ++ 10 ∷ (lines ++ text)) (delimited_so_far header lines text is kind others none short.0))))
     (λ full.
     subst Has (append_assoc header (10 ∷ (lines ++ text)) back)
-    ([], Failed Limit, data_too_large (header ++ 10 ∷ (lines ++ text)) back (delimited_too_large header lines text is kind others none full)))
+    ([], Failed Limit, no_item (data_too_large (header ++ 10 ∷ (lines ++ text)) back (delimited_too_large header lines text is kind others none full))))
     enough
 delimited_has header back is kind (delimiter_line lines remaining others) enough later =
     let delimiter = delimiter_of header in
@@ -124,18 +124,18 @@ line_has : (text rest : List ℕ) (kind : LineKind) → IsLine text → kind_of 
     → ((later : List ℕ) → length later ≤ length rest → Has later) → Has (text ++ 10 ∷ rest)
 line_has text rest Empty is kind later =
     let had = later rest (omega arith) in
-    subst (λ (l : List ℕ). Has (l ++ 10 ∷ rest)) (sym (nil_from_length text (kind-empty text kind))) (Blank ∷ had.0, had.1, blank_line rest had.2)
-line_has text rest Comment is kind later = let had = later rest (omega arith) in (had.0, had.1, comment text rest is kind had.2)
+    subst (λ (l : List ℕ). Has (l ++ 10 ∷ rest)) (sym (nil_from_length text (kind-empty text kind))) (Blank ∷ had.0, had.1, whole_line [] rest (record { one_line = refl; within_limit = omega arith }) blank_line had.2)
+line_has text rest Comment is kind later = let had = later rest (omega arith) in (had.0, had.1, whole_line text rest is (comment text kind) had.2)
 line_has text rest (Counted size) is kind later = counted_has text rest size is kind later
 line_has text rest Delimited is kind later = delimited_line text rest is kind later
-line_has text rest BadHeader is kind later = ([], Failed BadData, bad_header text rest is kind)
-line_has text rest Other is kind later = let had = later rest (omega arith) in (Line text ∷ had.0, had.1, line text rest is kind had.2)
+line_has text rest BadHeader is kind later = ([], Failed BadData, no_item (bad_header text rest is kind))
+line_has text rest Other is kind later = let had = later rest (omega arith) in (Line text ∷ had.0, had.1, whole_line text rest is (line text kind) had.2)
 
 no_line_end_before : (n : ℕ) (bytes : List ℕ) → n ≤ line_length bytes → HasNoLineEnd (take n bytes)
 no_line_end_before n bytes within = subst (λ (l : List ℕ). HasNoLineEnd l) (take-take n (line_length bytes) bytes within) (none_in-take n (take (line_length bytes) bytes) (none_in_line bytes))
 
 has : (n : ℕ) (bytes : List ℕ) → length bytes ≤ n → Has bytes
-has n [] short = ([], Rest false [], nothing_left)
+has n [] short = ([], Rest false [], no_item nothing_left)
 has zero (byte ∷ bytes) short = absurd (omega arith)
 has (suc n) (byte ∷ more) short =
     let bytes = byte ∷ more in
@@ -143,7 +143,7 @@ has (suc n) (byte ∷ more) short =
     ⊎_elim
     (λ long.
     subst Has (take-append-drop (longest_line + 1) bytes)
-    ([], Failed LineTooLong, line_too_long (take (longest_line + 1) bytes) (drop (longest_line + 1) bytes) (no_line_end_before (longest_line + 1) bytes (omega arith)) (length-take-le (longest_line + 1) bytes (omega (arith, line_length-le bytes)))))
+    ([], Failed LineTooLong, no_item (line_too_long (take (longest_line + 1) bytes) (drop (longest_line + 1) bytes) (no_line_end_before (longest_line + 1) bytes (omega arith)) (length-take-le (longest_line + 1) bytes (omega (arith, line_length-le bytes))))))
     (λ fits. ⊎_elim
     (λ found.
     let text = take end bytes in
@@ -152,7 +152,7 @@ has (suc n) (byte ∷ more) short =
     subst Has (sym (line_split bytes end refl found))
     (line_has text rest (kind_of text) is refl (λ later shorter. has n later (omega (arith, length-drop (end + 1) bytes)))))
     (λ none.
-    ([], Rest false bytes, unfinished_line bytes (record { one_line = omega (arith, line_length-le bytes); within_limit = omega (arith, line_length-le bytes) }) (λ e. cc)))
+    ([], Rest false bytes, no_item (unfinished_line bytes (record { one_line = omega (arith, line_length-le bytes); within_limit = omega (arith, line_length-le bytes) }) (λ e. cc))))
     (cases_lt end (length bytes)))
     (cases_lt longest_line end)
 

@@ -46,29 +46,36 @@ pub data IsTooLargeData : List ℕ → Type 0 where
       → length (lines ++ text) ≡ largest_data + length (delimiter_of header) + 1
       → IsTooLargeData (header ++ 10 ∷ (lines ++ text))
 
+-- The bytes of a stream so far, from the beginning of a line on, give no item and leave this tail.
+pub data Leaves : List ℕ → Tail → Type 0 where
+  nothing_left : Leaves [] (Rest false [])
+  unfinished_line : (text : List ℕ) → IsLine text → text ≢ [] → Leaves text (Rest false text)
+  line_too_long : (text rest : List ℕ) → HasNoLineEnd text → length text ≡ longest_line + 1
+      → Leaves (text ++ rest) (Failed LineTooLong)
+  bad_header : (text rest : List ℕ) → IsLine text → kind_of text ≡ BadHeader
+      → Leaves (text ++ 10 ∷ rest) (Failed BadData)
+  unfinished_data : (text : List ℕ) → IsUnfinishedData text → Leaves text (Rest false text)
+  data_too_large : (text rest : List ℕ) → IsTooLargeData text
+      → Leaves (text ++ rest) (Failed Limit)
+
+-- A whole line that is no data header gives these items: none if it is a comment.
+pub data LineGives : List ℕ → List Item → Type 0 where
+  comment : (text : List ℕ) → kind_of text ≡ Comment → LineGives text []
+  blank_line : LineGives [] (Blank ∷ [])
+  line : (text : List ℕ) → kind_of text ≡ Other → LineGives text (Line text ∷ [])
+
+-- After a data some bytes continue with these: a line end directly after the data is skipped.
+pub data ContinuesWith : List ℕ → List ℕ → Type 0 where
+  line_end : (rest : List ℕ) → ContinuesWith (10 ∷ rest) rest
+  other_byte : (byte : ℕ) (rest : List ℕ) → byte ≢ 10 → ContinuesWith (byte ∷ rest) (byte ∷ rest)
+
 -- The bytes of a stream so far, from the beginning of a line on, give these items and this tail.
 pub data Reads : List ℕ → List Item → Tail → Type 0 where
-  nothing_left : Reads [] [] (Rest false [])
-  unfinished_line : (text : List ℕ) → IsLine text → text ≢ [] → Reads text [] (Rest false text)
-  line_too_long : (text rest : List ℕ) → HasNoLineEnd text → length text ≡ longest_line + 1
-      → Reads (text ++ rest) [] (Failed LineTooLong)
-  comment : (text rest : List ℕ) {items : List Item} {tail : Tail}
-      → IsLine text → kind_of text ≡ Comment → Reads rest items tail
-      → Reads (text ++ 10 ∷ rest) items tail
-  blank_line : (rest : List ℕ) {items : List Item} {tail : Tail}
-      → Reads rest items tail → Reads (10 ∷ rest) (Blank ∷ items) tail
-  line : (text rest : List ℕ) {items : List Item} {tail : Tail}
-      → IsLine text → kind_of text ≡ Other → Reads rest items tail
-      → Reads (text ++ 10 ∷ rest) (Line text ∷ items) tail
-  bad_header : (text rest : List ℕ) → IsLine text → kind_of text ≡ BadHeader
-      → Reads (text ++ 10 ∷ rest) [] (Failed BadData)
-  unfinished_data : (text : List ℕ) → IsUnfinishedData text → Reads text [] (Rest false text)
-  data_too_large : (text rest : List ℕ) → IsTooLargeData text
-      → Reads (text ++ rest) [] (Failed Limit)
+  no_item : {bytes : List ℕ} {tail : Tail} → Leaves bytes tail → Reads bytes [] tail
+  whole_line : (text rest : List ℕ) {given items : List Item} {tail : Tail}
+      → IsLine text → LineGives text given → Reads rest items tail
+      → Reads (text ++ 10 ∷ rest) (given ++ items) tail
   data_at_end : (text raw : List ℕ) → IsData text raw → Reads text (Data raw ∷ []) (Rest true [])
-  data_and_line_end : (text raw rest : List ℕ) {items : List Item} {tail : Tail}
-      → IsData text raw → Reads rest items tail
-      → Reads (text ++ 10 ∷ rest) (Data raw ∷ items) tail
-  data_and_more : (text raw rest : List ℕ) (byte : ℕ) {items : List Item} {tail : Tail}
-      → IsData text raw → byte ≢ 10 → Reads (byte ∷ rest) items tail
-      → Reads (text ++ byte ∷ rest) (Data raw ∷ items) tail
+  data_and_more : (text raw more rest : List ℕ) {items : List Item} {tail : Tail}
+      → IsData text raw → ContinuesWith more rest → Reads rest items tail
+      → Reads (text ++ more) (Data raw ∷ items) tail

@@ -3,9 +3,11 @@
 pub mod Faults
 pub mod Marks
 pub mod Branches
-pub mod CommandHeader
+pub mod Headers
 pub mod Storing
 pub mod Tags
+pub mod OpenCommand
+pub mod StreamOf
 pub mod Checkpoints
 pub mod Showing
 pub mod Printing

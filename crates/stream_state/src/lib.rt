@@ -7,12 +7,12 @@
 
 pub mod branches;
 pub mod checkpoint;
-pub mod command_header;
 pub mod commit_ishes;
 pub mod encoding;
 pub mod entries;
 pub mod fault;
 pub mod head;
+pub mod headers;
 pub mod marks;
 pub mod objects;
 pub mod print;

@@ -9,12 +9,12 @@ ghost use Rattle.git_model.specs.References.{kind_named};
 ghost use Rattle.content_pool.specs.Pool.{HasHoldsLeft};
 ghost use Rattle.tenant_tables.specs.Objects.{objects};
 ghost use Rattle.tenant_tables.specs.IsBackedBy.{IsBackedBy};
-ghost use Rattle.stream_state.specs.Tags.{room_for_tag, tag_content, tag_is_open, tagged_kind};
+ghost use Rattle.stream_state.specs.Tags.{room_for_tag, tag_content, tagged_kind};
 ghost use Rattle.tenant_tables.specs.Lent.{Keeps};
 ghost use Rattle.stream_state.specs.Stored.{Stores};
 
-use crate::command_header::CommandHeader;
 use crate::fault::Fault;
+use crate::headers::TagHeader;
 use crate::objects::{find_content, store};
 use content_pool::Pool;
 use git_objects::{Kind, Name, Naming, TagParts, write_tag};
@@ -68,37 +68,26 @@ fn tagger_text(tagger: &Option<Ident>) -> Option<&[u8]>
 // The contents of the tag object.
 fn write(
     alloc: Global,
-    said: &CommandHeader,
+    header: &TagHeader,
     target: Name,
     kind: Kind,
     message: &[u8],
 ) -> Result<Vec<u8>, Fault>
     ensures written { IfOk result (λ bytes. content_from Kind.Tag bytes.items
-        ≡ tag_content said.now message.now target kind) }
+        ≡ tag_content header.now message.now target kind) }
     ensures refused { IfErr result (λ fault. fault ≡ Fault.Memory) }
 {
     let mut contents = Vec::new(alloc);
-    let ref_name = said.ref_name.as_bytes();
+    let ref_name = header.ref_name.as_bytes();
     let parts = TagParts {
         target,
         kind,
         name: &ref_name[TAGS.len().min(ref_name.len())..],
-        tagger: tagger_text(&said.tagger),
+        tagger: tagger_text(&header.tagger),
         message,
     };
     write_tag(&parts, &mut contents)?;
     Ok(contents)
-}
-
-/// A tag's ref begins with `refs/tags/`. With any other ref no tag is open.
-pub fn check_open(ref_name: &RefName) -> Result<(), Fault>
-    ensures { result ≡ tag_is_open ref_name.now }
-{
-    if ref_name.as_bytes().starts_with(TAGS) {
-        Ok(())
-    } else {
-        Err(Fault::Text(stream_grammar::Fault::UnknownCommand))
-    }
 }
 
 /// Writes a tag and stores it.
@@ -106,7 +95,7 @@ pub fn store_written<N: Naming>(
     pool: &mut Pool<N>,
     table: &mut Table,
     alloc: Global,
-    said: &CommandHeader,
+    header: &TagHeader,
     target: Name,
     kind: Kind,
     message: &[u8],
@@ -114,9 +103,9 @@ pub fn store_written<N: Naming>(
     requires stands { IsBackedBy N.digest_of pool.old table.old.entries }
     requires room { HasHoldsLeft pool.old }
     ensures keeps { Keeps N.digest_of pool.old table.old pool.new table.new }
-    ensures stores { Stores N.digest_of (tag_content said.now message.now target kind) pool.old
+    ensures stores { Stores N.digest_of (tag_content header.now message.now target kind) pool.old
         table.old pool.new table.new result }
 {
-    let contents = write(alloc, said, target, kind, message)?;
+    let contents = write(alloc, header, target, kind, message)?;
     store(pool, table, Kind::Tag, &contents)
 }

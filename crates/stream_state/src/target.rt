@@ -1,7 +1,6 @@
 //! What a tag names, as its line spells it: git-fast-import(1), "tag".
 
-ghost use Rattle.std.specs.Prelude.{◌≡◌, [], IfOk};
-ghost use Rattle.stream_grammar.specs.Names.{Expression};
+ghost use Rattle.std.specs.Prelude.{◌≡◌, IfOk};
 ghost use Rattle.stream_grammar.specs.Shown.{commit_shown};
 
 use git_objects::Memory;
@@ -27,16 +26,6 @@ impl Model for Target {
 }
 
 impl Target {
-    /// The target before its line is read: the empty expression. Allocates nothing.
-    pub fn new(alloc: Global) -> Target
-        ensures { result ≡ Expression [] }
-    {
-        Target {
-            mark: None,
-            words: Vec::new(alloc),
-        }
-    }
-
     /// A copy of the commit-ish of a line. `Memory` (90) if it cannot be allocated.
     pub fn copy_of(alloc: Global, said: &CommitIsh<'_>) -> Result<Target, Memory>
         ensures { IfOk result (λ target. target ≡ commit_shown said.now) }

@@ -14,10 +14,10 @@ use Rattle.git_model.specs.RefName.{is_ref_name}
 use Rattle.git_model.specs.RefStore.{RefMap, RefStore, first_head, with_ref, without_ref, ChangesRef}
 use Rattle.tenant_refs.proofs.Entries.{equal, put-gap, put-place, find-gap, find-place, find-out, is_sorted-out, before-sorted, after-sorted}
 
-abbrev bytes_cmp : List ℕ → List ℕ → Ordering
+abbrev pub bytes_cmp : List ℕ → List ℕ → Ordering
 bytes_cmp = slice_cmp nat_cmp
 
-bytes_exact : IsAntisymmetric bytes_cmp
+pub bytes_exact : IsAntisymmetric bytes_cmp
 bytes_exact = slice_cmp-IsAntisymmetric nat_cmp-IsAntisymmetric
 
 -- the map that a list of entries in order stands for
@@ -48,19 +48,19 @@ module _ {X : Type 0} where
   drop-past [] after x = refl
   drop-past (b ∷ bs) after x = drop-past bs after x
 
-  set-seam : (before after : List X) (x y : X) (i : ℕ) → length before ≡ i
+  pub set-seam : (before after : List X) (x y : X) (i : ℕ) → length before ≡ i
       → set (before ++ x ∷ after) i y ≡ before ++ y ∷ after
   set-seam before after x y i e =
       subst (λ n. set (before ++ x ∷ after) n y ≡ before ++ y ∷ after) e
       (set-length before after x y)
 
-  insert-seam : (before after : List X) (y : X) (i : ℕ) → length before ≡ i
+  pub insert-seam : (before after : List X) (y : X) (i : ℕ) → length before ≡ i
       → insert (before ++ after) i y ≡ before ++ y ∷ after
   insert-seam before after y i e =
       subst (λ n. insert (before ++ after) n y ≡ before ++ y ∷ after) e
       (rw (take-append_seam, drop-append_seam))
 
-  remove-seam : (before after : List X) (x : X) (i : ℕ) → length before ≡ i
+  pub remove-seam : (before after : List X) (x : X) (i : ℕ) → length before ≡ i
       → remove (before ++ x ∷ after) i ≡ before ++ after
   remove-seam before after x i e =
       subst (λ n. remove (before ++ x ∷ after) n ≡ before ++ after) e

@@ -1,6 +1,6 @@
 -- The position of a ref in a list of refs in the order of their bytes.
-use Rattle.std.specs.Prelude.{◌≡◌, ℕ, List, ◌∷◌, ◌++◌, length, IsTrue}
-use Rattle.std.specs.Ordering.{nat_cmp}
+use Rattle.std.specs.Prelude.{◌≡◌, ℕ, List, [], ◌∷◌, ◌++◌, length, IsTrue, Bool, false, not}
+use Rattle.std.specs.Ordering.{nat_cmp, is_lt}
 use Rattle.std.specs.FinMap.{is_sorted}
 use Rattle.std.specs.List.{AllByRecursion}
 use Rattle.std.specs.Cmp.Lexicographic.{slice_cmp}
@@ -31,3 +31,12 @@ pub record IsGapFor (entries : Entries) (ref : List ℕ) (position : ℕ) : Type
   pub position_is : length before ≡ position
   pub below : AllByRecursion (λ entry. slice_cmp nat_cmp ref entry.0 ≡ Greater) before
   pub above : AllByRecursion (λ entry. slice_cmp nat_cmp ref entry.0 ≡ Less) after
+
+-- The refs of all entries are above this ref.
+abbrev pub AreAbove : List ℕ → Entries → Type 0
+AreAbove ref entries = AllByRecursion (λ entry. slice_cmp nat_cmp ref entry.0 ≡ Less) entries
+
+-- Whether there is a first entry, and its ref is not above this ref.
+abbrev pub starts_up_to : List ℕ → Entries → Bool
+starts_up_to ref [] = false
+starts_up_to ref (entry ∷ rest) = not (is_lt (slice_cmp nat_cmp ref entry.0))

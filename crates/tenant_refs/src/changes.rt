@@ -1,8 +1,9 @@
 //! Several changes to refs: all are made, or none.
 
-ghost use Rattle.std.specs.Prelude.{◌≡◌, ◌≤◌, ◌<◌, length, IfErr, OnOk, OnErr, Err};
+ghost use Rattle.std.specs.Prelude.{◌≡◌, ◌+◌, ◌≤◌, ◌<◌, length, OnOk, OnErr, Err};
+ghost use Rattle.std.specs.Vec.{vec_len};
 ghost use Rattle.git_model.specs.RefStore.{listed_refs};
-ghost use Rattle.tenant_refs.specs.Changes.{with_target, with_changes};
+ghost use Rattle.tenant_refs.specs.Changes.{with_changes};
 
 use crate::changed_entries::change_entries;
 use crate::refs::Refs;
@@ -61,26 +62,6 @@ impl From<AllocError> for ChangesFault {
     }
 }
 
-// Makes one change.
-fn change(refs: &mut Refs, change: &RefChange) -> Result<(), Memory>
-    ensures { OnOk result (refs.new ≡ with_target refs.old change.now.ref_name change.now.target) }
-{
-    match change.target {
-        Some(target) => refs.set(&change.ref_name, target)?,
-        None => refs.remove(change.ref_name.as_bytes()),
-    }
-    Ok(())
-}
-
-fn change_each(refs: &mut Refs, changes: &[RefChange]) -> Result<(), Memory>
-    ensures { OnOk result (refs.new ≡ with_changes refs.old changes.now) }
-{
-    for one in changes {
-        change(refs, one)?;
-    }
-    Ok(())
-}
-
 impl Refs {
     /// Makes all changes in turn, or none. After them there are at most `limit` refs.
     ///
@@ -94,28 +75,25 @@ impl Refs {
             → limit < length (listed_refs (with_changes self.old changes.items)) }
     {
         // If there would be few enough refs even if every change added one, no count is needed.
-        if self.len().saturating_add(changes.len()) > limit {
-            return self.change_copy(&changes, limit);
+        if self.len() <= limit && changes.len() <= limit - self.len() {
+            return Ok(self.make(changes)?);
         }
-        self.entries.reserve(changes.len())?;
-        change_entries(&mut self.entries, changes);
-        Ok(())
-    }
-
-    // `change_all` on a copy, whose refs are counted after the changes.
-    fn change_copy(&mut self, changes: &[RefChange], limit: usize) -> Result<(), ChangesFault>
-        ensures changed { OnOk result (self.new ≡ with_changes self.old changes.now) }
-        ensures few { OnOk result (length (listed_refs self.new) ≤ limit) }
-        ensures refused { OnErr result (self.new ≡ self.old) }
-        ensures too_many { result ≡ Err ChangesFault.Limit
-            → limit < length (listed_refs (with_changes self.old changes.now)) }
-    {
         let mut changed = self.copy()?;
-        change_each(&mut changed, changes)?;
+        changed.make(changes)?;
         if changed.len() > limit {
             return Err(ChangesFault::Limit);
         }
         *self = changed;
         Ok(())
+    }
+
+    // Makes all changes in turn, or none if there is no room for them.
+    fn make(&mut self, changes: Vec<RefChange>) -> Result<(), Memory>
+        ensures changed { OnOk result (self.new ≡ with_changes self.old changes.items) }
+        ensures longer { length (listed_refs self.new)
+            ≤ length (listed_refs self.old) + vec_len changes }
+        ensures refused { OnErr result (self.new ≡ self.old) }
+    {
+        change_entries(self.alloc, &mut self.entries, changes)
     }
 }

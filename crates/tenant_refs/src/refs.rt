@@ -22,7 +22,7 @@ pub const FIRST_HEAD: &[u8] = b"refs/heads/main";
 /// and HEAD.
 #[derive(Drop)]
 pub struct Refs {
-    alloc: Global,
+    pub(crate) alloc: Global,
     pub(crate) entries: Vec<(RefName, Name)>,
     // `None` means `FIRST_HEAD`, so that `new` takes no memory.
     head: Option<RefName>,

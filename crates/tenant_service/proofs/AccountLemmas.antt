@@ -18,19 +18,20 @@ use Rattle.tenant_tables.proofs.HoldLemmas.{held-nil}
 use Rattle.tenant_tables.proofs.TableLemmas.{PreservesOthers-refl, other_stands, other_objects, objects-take}
 use Rattle.open_commits.specs.OpenCommit.{commit_in}
 use Rattle.revisions.specs.FirstParents.{IsFirstParentChain}
+use Rattle.stream_state.specs.StreamOf.{stream_with}
 use Rattle.import_session.specs.Session.{workspace_in}
 use Rattle.import_session.specs.Stream.{Runs, Refused}
 use Rattle.service_steps.specs.declared.answer.Answer.{Answer}
 use Rattle.tenant_service.specs.declared.tenant.OpenStream.{OpenStream}
 use Rattle.tenant_service.specs.declared.tenant.OpenStream.TheVariants as phase
 use Rattle.tenant_service.specs.declared.tenant.Tenant.{Tenant}
-use Rattle.tenant_service.specs.Alone.{Call, StepResult, turn}
+use Rattle.tenant_service.specs.Alone.{Call, StepResult, step_result}
 use Rattle.tenant_stream.specs.Carrying.{HasAmpleHoldsLeft}
 use Rattle.tenant_service.specs.Headline.{stop_told}
 use Rattle.tenant_service.specs.TenantState.{TenantState, Idle, Busy, empty_repository, held_of}
 use Rattle.tenant_service.specs.HeldSteps.{step_held}
 use Rattle.tenant_service.specs.Tenants.{Tenants, Stands, HoldsIn, kept_tail, held_in, holding_in, holdings, all_held, Accounts}
-use Rattle.tenant_service.specs.OneStep.{Takes, store, Serves}
+use Rattle.tenant_service.specs.OneStep.{Takes, Store, store, Serves, Calls}
 
 -- ---- tenants that a call did not touch
 
@@ -40,7 +41,7 @@ held_in-other (phase.Running stream) p q t r same =
     ap (λ (os : List Object). Busy (Runs (record {
       workspace = record (workspace_in stream.session.state p t r) {
         objects = os;
-        commit = option_map (commit_in os) stream.session.state.commit;
+        stream = stream_with (commit_in os) stream.session.state.stream;
       };
       parsing = stream.session.parsing;
       is_done = stream.session.is_done;
@@ -264,7 +265,8 @@ held-missing p name es none =
 -- a call that leaves all as it was
 pub serves-missing : (digest : List ℕ → List ℕ) (name : List ℕ) (call : Call) (p : Cells) (es new : Tenants) (answer : Answer) (out : List ℕ)
     → Accounts digest p es → lookup (bytes_eq name) es ≡ None → new ≡ es
-    → step_held digest call (stop_told answer) (Idle empty_repository) ≡ turn answer [] (Idle empty_repository)
+    → step_held digest call (stop_told answer) (Idle empty_repository)
+    ≡ step_result answer [] (Idle empty_repository)
     → Serves digest name call (store p es) answer out out (store p new)
 serves-missing digest name call p es new answer out h none same is =
     subst (λ (xs : Tenants). Serves digest name call (store p es) answer out out (store p xs)) (sym same)
@@ -325,6 +327,30 @@ serves-new digest name call p es new t answer out out' h named none same empty s
         ap (λ o. unwrap_or o (Idle empty_repository))
         (ap (lookup (bytes_eq name)) (map-append (λ (e : List ℕ × Tenant). (e.0, holding_in p e.1)) es ((name, t) ∷ []))
         ∙ lookup-found name (holdings p es) [] (holding_in p t) (lookup-holdings p name es ∙ ap (option_map (holding_in p)) none))
+
+-- a call under a good name
+pub calls-good : (digest : List ℕ → List ℕ) (given name : List ℕ) (call : Call) (before : Store)
+    (answer : Answer) (out out' : List ℕ) (after : Store)
+    → is_tenant_name given ≡ true → name ≡ given
+    → Serves digest name call before answer out out' after
+    → Calls digest (is_tenant_name given) given call before answer out out' after
+calls-good digest given name call before answer out out' after good same serves =
+    rw good (subst (λ (n : List ℕ). Serves digest n call before answer out out' after) same serves)
+
+-- one that prints nothing does so whatever was printed before
+pub serves-silent : (digest : List ℕ → List ℕ) (name : List ℕ) (call : Call) (before : Store)
+    (answer : Answer) (out : List ℕ) (after : Store)
+    → Serves digest name call before answer [] [] after
+    → Serves digest name call before answer out out after
+serves-silent digest name call before answer out after serves = record {
+  accounts = serves.accounts;
+  own = record {
+    answered = serves.own.answered;
+    printed = sym (append-nil out) ∙ ap (λ (reply : List ℕ). out ++ reply) serves.own.printed;
+    leaves = serves.own.leaves;
+  };
+  others = serves.others;
+}
 
 -- nothing at all
 pub Accounts-nil : (digest : List ℕ → List ℕ) (p : Cells) → IsVacant p → Accounts digest p []

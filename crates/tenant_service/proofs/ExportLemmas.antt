@@ -6,7 +6,7 @@ use Rattle.stream_lex.specs.Items.{Tail}
 use Rattle.export_text.specs.Export.{export_text}
 use Rattle.import_session.specs.Stream.{End as StreamEnd, Outcome, Running, StreamStatus, Runs, Refused, finished, last_checkpoint}
 use Rattle.service_steps.specs.declared.answer.Answer.TheVariants as answer
-use Rattle.tenant_service.specs.Alone.{Call, Open, Feed, End, StepResult, State, Closed, Streaming, turn, stream_of, closed, end_answer, ended, ended_well, fed_by, run_alone, unless_out_of_memory}
+use Rattle.tenant_service.specs.Alone.{Call, Open, Feed, End, StepResult, State, Closed, Streaming, step_result, stream_of, closed, end_answer, ended, ended_well, fed_by, run_alone, unless_out_of_memory}
 use Rattle.export_laws.specs.Copies.{CanBeCopied}
 use Rattle.export_laws.specs.Ends.{IsImported}
 use Rattle.export_laws.proofs.EndImported.{export-imported}
@@ -50,42 +50,42 @@ export-ends digest repository i =
 
 module _ (digest : List ℕ → List ℕ) (text : List ℕ) (left : Repository)
     (well : EndsWell digest text left) where
-  open-turn : run_alone digest Open None (Closed empty_repository)
-      ≡ turn answer.Ok [] (Streaming empty_repository [])
-  open-turn = refl
+  open-result : run_alone digest Open None (Closed empty_repository)
+      ≡ step_result answer.Ok [] (Streaming empty_repository [])
+  open-result = refl
 
-  pub feed-turn : run_alone digest (Feed text) None (Streaming empty_repository [])
-      ≡ turn answer.Ok [] (Streaming empty_repository text)
-  feed-turn =
+  pub feed-result : run_alone digest (Feed text) None (Streaming empty_repository [])
+      ≡ step_result answer.Ok [] (Streaming empty_repository text)
+  feed-result =
       let before = (stream_of digest empty_repository []).replies in
       ap (λ (o : Outcome). fed_by empty_repository text (drop (length before) o.replies) o.status) well.runs
-      ∙ ap (λ (reply : List ℕ). turn answer.Ok reply (Streaming empty_repository text)) (drop-nil (length before))
+      ∙ ap (λ (reply : List ℕ). step_result answer.Ok reply (Streaming empty_repository text)) (drop-nil (length before))
 
-  pub end-turn : run_alone digest End None (Streaming empty_repository text)
-      ≡ turn answer.Ok [] (Closed left)
-  end-turn =
+  pub end-result : run_alone digest End None (Streaming empty_repository text)
+      ≡ step_result answer.Ok [] (Closed left)
+  end-result =
       ap (λ (o : Outcome). closed Closed (ended digest None o.status)) well.runs
       ∙ ap (closed Closed) (by well.last.is_done)
     where
-      of_end : turn (end_answer (finished digest (Runs well.last well.tail)).fault)
+      of_end : step_result (end_answer (finished digest (Runs well.last well.tail)).fault)
           (finished digest (Runs well.last well.tail)).reply
           (finished digest (Runs well.last well.tail)).repository
-          ≡ turn answer.Ok [] left
-      of_end = ap (λ (e : StreamEnd). turn (end_answer e.fault) e.reply e.repository) well.ends
+          ≡ step_result answer.Ok [] left
+      of_end = ap (λ (e : StreamEnd). step_result (end_answer e.fault) e.reply e.repository) well.ends
 
       by : (b : Bool) → cond b (ended_well digest (Runs well.last well.tail))
           (unless_out_of_memory None (last_checkpoint well.last.workspace)
-          (ended_well digest (Runs well.last well.tail))) ≡ turn answer.Ok [] left
+          (ended_well digest (Runs well.last well.tail))) ≡ step_result answer.Ok [] left
       by true = of_end
       by false = of_end
 
-  told-first : (state next : State) (call : Call) (later : List (Call × Option ℕ)) → run_alone digest call None state ≡ turn answer.Ok [] next
+  told-first : (state next : State) (call : Call) (later : List (Call × Option ℕ)) → run_alone digest call None state ≡ step_result answer.Ok [] next
       → told_alone digest state ((call, None) ∷ later) ≡ told_ok ∷ told_alone digest next later
   unfolding told_alone
   told-first state next call later is =
       ap (λ (t : StepResult State). response_of t ∷ told_alone digest t.state later) is
 
-  left-first : (state next : State) (call : Call) (later : List (Call × Option ℕ)) → run_alone digest call None state ≡ turn answer.Ok [] next
+  left-first : (state next : State) (call : Call) (later : List (Call × Option ℕ)) → run_alone digest call None state ≡ step_result answer.Ok [] next
       → left_alone digest state ((call, None) ∷ later) ≡ left_alone digest next later
   unfolding left_alone
   left-first state next call later is = ap (λ (t : StepResult State). left_alone digest t.state later) is
@@ -101,18 +101,18 @@ module _ (digest : List ℕ → List ℕ) (text : List ℕ) (left : Repository)
   pub all-told : told_alone digest (Closed empty_repository) (import_steps text)
       ≡ told_ok ∷ told_ok ∷ told_ok ∷ []
   all-told =
-      told-first (Closed empty_repository) (Streaming empty_repository []) Open _ open-turn
+      told-first (Closed empty_repository) (Streaming empty_repository []) Open _ open-result
       ∙ ap (λ (told : List Response). told_ok ∷ told)
-      (told-first (Streaming empty_repository []) (Streaming empty_repository text) (Feed text) _ feed-turn
+      (told-first (Streaming empty_repository []) (Streaming empty_repository text) (Feed text) _ feed-result
       ∙ ap (λ (told : List Response). told_ok ∷ told)
-      (told-first (Streaming empty_repository text) (Closed left) End [] end-turn
+      (told-first (Streaming empty_repository text) (Closed left) End [] end-result
       ∙ ap (λ (told : List Response). told_ok ∷ told) (told-none (Closed left))))
 
   pub all-left : left_alone digest (Closed empty_repository) (import_steps text) ≡ Closed left
   all-left =
-      left-first (Closed empty_repository) (Streaming empty_repository []) Open _ open-turn
-      ∙ left-first (Streaming empty_repository []) (Streaming empty_repository text) (Feed text) _ feed-turn
-      ∙ left-first (Streaming empty_repository text) (Closed left) End [] end-turn
+      left-first (Closed empty_repository) (Streaming empty_repository []) Open _ open-result
+      ∙ left-first (Streaming empty_repository []) (Streaming empty_repository text) (Feed text) _ feed-result
+      ∙ left-first (Streaming empty_repository text) (Closed left) End [] end-result
       ∙ left-none (Closed left)
 
 -- an empty repository of its own takes a copy

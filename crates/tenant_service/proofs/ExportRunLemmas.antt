@@ -11,7 +11,8 @@ use Rattle.pool_file_checks.proofs.Keys.{key_cmp, key_exact}
 use Rattle.file_maps.proofs.Apart.{both_true}
 use Rattle.tenant_refs.specs.TenantName.{is_tenant_name}
 use Rattle.answers.specs.declared.fault.Fault.{Fault}
-use Rattle.answers.specs.declared.query.Query.TheVariants.{Export}
+use Rattle.answers.specs.declared.query.Query.TheVariants as what_is_asked
+use Rattle.answers.specs.declared.query.RepositoryQuery.TheVariants.{Export}
 use Rattle.answers.specs.Answers.{answer_to}
 use Rattle.answers.specs.Queries.{query_of, word_of}
 use Rattle.export_text.specs.Export.{export_text}
@@ -21,7 +22,7 @@ use Rattle.service_steps.specs.declared.answer.Answer.TheVariants as answer
 use Rattle.service_steps.specs.declared.fault.ServiceFault.TheVariants as fault
 use Rattle.service_steps.specs.declared.step.Step.{Step}
 use Rattle.service_steps.specs.declared.step.Step.TheVariants as step
-use Rattle.tenant_service.specs.Alone.{Call, Open, Feed, End, Ask, State, Closed, Streaming, StepResult, answered, asked, last_alone, run_alone, turn}
+use Rattle.tenant_service.specs.Alone.{Call, Open, Feed, End, Ask, State, Closed, Streaming, StepResult, answered, asked, last_alone, run_alone, step_result}
 use Rattle.export_laws.specs.Copies.{CanBeCopied, IsCopyOf}
 use Rattle.export_laws.specs.Ends.{IsImported}
 use Rattle.export_laws.proofs.EndImported.{export-imported}
@@ -32,7 +33,7 @@ use Rattle.tenant_service.specs.StepName.{name_of}
 use Rattle.tenant_service.specs.TenantState.{TenantState, TenantStates, Idle, Busy, Represents, empty_repository, held_of}
 use Rattle.tenant_service.specs.HeldObjects.{last_held}
 use Rattle.tenant_service.specs.Copies.{CopiesAs, HoldsCopy}
-use Rattle.tenant_service.proofs.ExportLemmas.{EndsWell, end-turn, export-ends, feed-turn}
+use Rattle.tenant_service.proofs.ExportLemmas.{EndsWell, end-result, export-ends, feed-result}
 use Rattle.tenant_service.specs.Tenants.{AreLed, AreSound}
 use Rattle.tenant_service.proofs.OwnLemmas.{last-leads}
 use Rattle.tenant_service.proofs.SoundLemmas.{last-sound}
@@ -131,7 +132,7 @@ module _ (digest : List ℕ → List ℕ) (tenant : List ℕ) (good : is_tenant_
 
 -- ---- the query
 
-export-query : query_of (codes "export") ≡ Ok Export
+export-query : query_of (codes "export") ≡ Ok (what_is_asked.Repository Export)
 unfolding query_of word_of
 export-query = refl
 
@@ -205,7 +206,7 @@ module _ (digest : List ℕ → List ℕ) (repository : Repository) (i : IsImpor
 
   -- an answer that is not the one told
   not-told : (taken : Step × Response) (code : ℕ) (state : State) (t : StepResult State)
-      → taken.1.answer ≡ answer.Fault code → taken.1 ≡ response_of t → t ≡ turn answer.Ok [] state → ⊥
+      → taken.1.answer ≡ answer.Fault code → taken.1 ≡ response_of t → t ≡ step_result answer.Ok [] state → ⊥
   not-told taken code state t is told ok =
       let a : answer.Fault code ≡ answer.Ok =
       sym is ∙ ap (λ (x : Response). x.answer) told ∙ ap (λ (x : StepResult State). x.answer) ok in cc a
@@ -228,18 +229,18 @@ module _ (digest : List ℕ → List ℕ) (repository : Repository) (i : IsImpor
       then a eq none =
           one-step digest to good End ended is None (ap stop_told eq ∙ none) before [] after g
 
-      turns : run_alone digest End None before ≡ turn answer.Ok [] (Closed i.left)
-      turns = end-turn digest (export_text repository) i.left well
+      results : run_alone digest End None before ≡ step_result answer.Ok [] (Closed i.left)
+      results = end-result digest (export_text repository) i.left well
 
       by : (a : Answer) → ended.1.answer ≡ a → CopiesAs a repository after
       by answer.Ok eq =
           held-copy digest repository i.left after
           (subst (λ (s : State). Represents digest s after)
-          (empty-left (run_alone digest End None before).state ∙ ap (λ (t : StepResult State). t.state) turns)
+          (empty-left (run_alone digest End None before).state ∙ ap (λ (t : StepResult State). t.state) results)
           (then answer.Ok eq refl).1.left) i.copy
       by (answer.Fault code) eq =
           absurd (not-told ended code (Closed i.left) (run_alone digest End None before) eq
-          (then (answer.Fault code) eq refl).0 turns)
+          (then (answer.Fault code) eq refl).0 results)
       by (answer.Memory items) eq = tt
 
   at-feed : (run : Run) (told : Answer) → IsFedAndEnded to (export_text repository) run told
@@ -262,19 +263,19 @@ module _ (digest : List ℕ → List ℕ) (repository : Repository) (i : IsImpor
           one-step digest to good (Feed text) fed h.0 None (ap stop_told eq ∙ none) before
           (ended ∷ []) after g
 
-      turns : run_alone digest (Feed text) None before
-          ≡ turn answer.Ok [] (Streaming empty_repository text)
-      turns = feed-turn digest text i.left well
+      results : run_alone digest (Feed text) None before
+          ≡ step_result answer.Ok [] (Streaming empty_repository text)
+      results = feed-result digest text i.left well
 
       by : (a : Answer) → fed.1.answer ≡ a
           → CopiesAs (first_refusal a ended.1.answer) repository after
       by answer.Ok eq =
           at-end ended h.1
           (subst (λ (s : State). Goes digest to s (ended ∷ []) after)
-          (ap (λ (t : StepResult State). t.state) turns) (then answer.Ok eq refl).1)
+          (ap (λ (t : StepResult State). t.state) results) (then answer.Ok eq refl).1)
       by (answer.Fault code) eq =
           absurd (not-told fed code (Streaming empty_repository text)
-          (run_alone digest (Feed text) None before) eq (then (answer.Fault code) eq refl).0 turns)
+          (run_alone digest (Feed text) None before) eq (then (answer.Fault code) eq refl).0 results)
       by (answer.Memory items) eq = tt
   at-feed (fed ∷ ended ∷ more ∷ run) told h g = absurd h
 
@@ -340,9 +341,9 @@ module _ (digest : List ℕ → List ℕ) (before after : TenantStates) (from to
   repository = last_held (held_of from before)
 
   -- what the query is told alone
-  asked-turn : run_alone digest (Ask (codes "export")) None state
-      ≡ turn answer.Ok (export_text repository) state
-  asked-turn =
+  asked-result : run_alone digest (Ask (codes "export")) None state
+      ≡ step_result answer.Ok (export_text repository) state
+  asked-result =
       ap (λ (r : Repository). answered (answer_to r (codes "export")) state) last
       ∙ ap (λ (r : Result (List ℕ) Fault). answered r state) (export-answer repository few)
 
@@ -363,7 +364,7 @@ module _ (digest : List ℕ → List ℕ) (before after : TenantStates) (from to
       then a eq none =
           (one-step digest from may.good_from (Ask (codes "export")) asked h.0 None
           (ap stop_told eq ∙ none) state run (held_of from after) whole).0
-          ∙ ap (λ (t : StepResult State). response_of t) asked-turn
+          ∙ ap (λ (t : StepResult State). response_of t) asked-result
 
       rest : Goes digest to (Closed empty_repository) run (held_of to after)
       rest =

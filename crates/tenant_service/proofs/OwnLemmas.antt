@@ -16,7 +16,7 @@ use Rattle.tenant_stream.specs.Carrying.{outcome_after}
 use Rattle.answers.specs.declared.fault.Fault.{Fault as Refusal}
 use Rattle.answers.specs.Answers.{answer_to}
 use Rattle.service_steps.specs.declared.answer.Answer.TheVariants as answer
-use Rattle.tenant_service.specs.Alone.{Call, Open, Feed, End, Ask, Restart, State, Closed, Streaming, Dead, StepResult, turn, Stopped, stop_at, stop_after, stream_of, last_of, feed_stop, open_alone, feed_alone, added, fed_by, fed, fed_well, fed_until, ended, closed, last_alone, answered, asked, run_alone}
+use Rattle.tenant_service.specs.Alone.{Call, Open, Feed, End, Ask, Restart, State, Closed, Streaming, Dead, StepResult, step_result, out_of_memory, Stopped, stop_at, stop_after, stream_of, last_of, feed_stop, open_alone, feed_alone, added, fed_by, fed, fed_well, fed_until, ended, closed, last_alone, answered, asked, run_alone}
 use Rattle.tenant_service.specs.Headline.{response_of}
 use Rattle.tenant_service.specs.TenantState.{TenantState, Idle, Busy, Represents}
 use Rattle.tenant_service.specs.HeldObjects.{last_held}
@@ -236,7 +236,8 @@ fed-goes digest repository all before later is =
     adds = drop-append_seam before later.replies
 
     by : (x : StreamStatus) → later.status ≡ x
-        → Meets digest (fed_by repository all (drop (length before) (before ++ later.replies)) x) (turn (standing_answer x) later.replies (Busy x))
+        → Meets digest (fed_by repository all (drop (length before) (before ++ later.replies)) x)
+        (step_result (standing_answer x) later.replies (Busy x))
     by (Runs now tail) stands = record {
       told = ap (λ (rs : List ℕ). record { answer = answer.Ok; reply = rs }) adds;
       leads = ap (λ (o : Outcome). o.status) is ∙ stands;
@@ -271,7 +272,7 @@ fed-meets digest repository bytes piece (Some count) now kept h =
         (fed-meets-well digest repository bytes piece now kept h)
     by alone (Some stopped) is =
         subst (λ (o : Option Stopped). Meets digest (fed_until before count o (fed_well digest repository bytes piece))
-        (turn (answer.Memory count) stopped.replies (Busy (Refused 90 stopped.repository)))) (sym is)
+        (step_result (answer.Memory count) stopped.replies (Busy (Refused out_of_memory stopped.repository)))) (sym is)
         (record {
           told = ap (λ (rs : List ℕ). record { answer = answer.Memory count; reply = rs }) (drop-append_seam before stopped.replies);
           leads = refl;

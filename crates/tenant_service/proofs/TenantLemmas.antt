@@ -21,7 +21,7 @@ use Rattle.tenant_stream.specs.declared.stream_error.StreamError.{StreamError}
 use Rattle.tenant_stream.specs.declared.stream_error.StreamError.TheVariants as stop
 use Rattle.tenant_service.specs.declared.tenant.OpenStream.{OpenStream}
 use Rattle.tenant_service.specs.declared.tenant.OpenStream.TheVariants as phase
-use Rattle.tenant_service.specs.Alone.{Open, Ask, End as EndCall, StepResult, turn, Stopped, answered, asked, unless_out_of_memory, ended, ended_well, end_answer, closed}
+use Rattle.tenant_service.specs.Alone.{Open, Feed, Ask, End as EndCall, StepResult, step_result, out_of_memory, Stopped, answered, asked, unless_out_of_memory, ended, ended_well, end_answer, closed}
 use Rattle.tenant_stream.specs.Carrying.{outcome_after, StreamView, new_stream, stream_in, Carries, Feeds, Stays, IsEnd, StopsAtEnd}
 use Rattle.tenant_service.specs.Headline.{stop_told}
 use Rattle.tenant_service.specs.TenantState.{TenantState, Idle, Busy, empty_repository}
@@ -150,11 +150,62 @@ took-refused digest now tail piece out out' code r left h same = record {
 -- and one after some items of which memory ran out
 pub took-stopped : (digest : List ℕ → List ℕ) (now last : Running) (tail : Tail) (piece out out' : List ℕ) (count : ℕ) (left : Repository)
     → StopsAfter digest now tail piece count out out' last → left ≡ last_checkpoint last.workspace
-    → Takes (fed_held digest piece (Some count) now tail) (answer.Memory count) out out' (Busy (Refused 90 left))
+    → Takes (fed_held digest piece (Some count) now tail) (answer.Memory count) out out' (Busy (Refused out_of_memory left))
 took-stopped digest now last tail piece out out' count left h same =
-    subst (λ (o : Option Stopped). Takes (held_until count o (gone_on (outcome_after digest now tail piece))) (answer.Memory count) out out' (Busy (Refused 90 left)))
+    subst (λ (o : Option Stopped). Takes (held_until count o (gone_on (outcome_after digest now tail piece))) (answer.Memory count) out out' (Busy (Refused out_of_memory left)))
     (sym h.stop)
-    (record { answered = refl; printed = h.printed; leaves = ap (λ (x : Repository). Busy (Refused 90 x)) (sym same) })
+    (record { answered = refl; printed = h.printed; leaves = ap (λ (x : Repository). Busy (Refused out_of_memory x)) (sym same) })
+
+-- ---- a piece, as the stream was fed
+
+module _ (digest : List ℕ → List ℕ) (old : OpenStream) (s s' : StreamView) (p q : Cells) (t u : View)
+    (r v : RefStore) (piece out out' : List ℕ) (is : old ≡ phase.Running s) where
+  abbrev fed : Result Unit StreamError → Type 0
+  fed result =
+      Feeds digest s.session.is_done (stream_in s p t r) s.tail piece out result
+      (stream_in s' q u v) s'.tail out'
+
+  pub fed-well : fed (Ok tt)
+      → Takes (step_held digest (Feed piece) None (held_in old p t r)) answer.Ok out out'
+      (Busy (standing_in s' q u v))
+  fed-well h =
+      subst (λ (x : OpenStream). Takes (step_held digest (Feed piece) None (held_in x p t r)) answer.Ok
+      out out' (Busy (standing_in s' q u v))) (sym is)
+      (took-goes digest (stream_in s p t r) (stream_in s' q u v) (kept_tail s) (kept_tail s') piece
+      out out' (fed-feeds digest s s' p q t u r v piece out out' (Ok tt) h))
+
+  -- and was rolled back afterwards
+  pub fed-refused : (code : ℕ) (new : OpenStream) (after : Cells) (w : View) (x : RefStore)
+      → new ≡ phase.Dead code
+      → repository_in after w x ≡ last_checkpoint (stream_in s' q u v).workspace
+      → (error : StreamError) → error ≡ stop.Fault code → fed (Err error)
+      → Takes (step_held digest (Feed piece) None (held_in old p t r)) (answer.Fault code) out out'
+      (held_in new after w x)
+  fed-refused code new after w x dead left error refused h =
+      subst (λ (y : OpenStream). Takes (step_held digest (Feed piece) None (held_in y p t r))
+      (answer.Fault code) out out' (held_in new after w x)) (sym is)
+      (subst (λ (y : OpenStream). Takes (step_held digest (Feed piece) None (Busy (standing_in s p t r)))
+      (answer.Fault code) out out' (held_in y after w x)) (sym dead)
+      (took-refused digest (stream_in s p t r) (kept_tail s) piece out out' code
+      (last_checkpoint (stream_in s' q u v).workspace) (repository_in after w x)
+      (fed-feeds digest s s' p q t u r v piece out out' (Err (stop.Fault code))
+      (subst (λ (e : StreamError). fed (Err e)) refused h)) left))
+
+  pub fed-stopped : (count : ℕ) (new : OpenStream) (after : Cells) (w : View) (x : RefStore)
+      → new ≡ phase.Dead out_of_memory
+      → repository_in after w x ≡ last_checkpoint (stream_in s' q u v).workspace
+      → (error : StreamError) → error ≡ stop.Memory count → fed (Err error)
+      → Takes (step_held digest (Feed piece) (Some count) (held_in old p t r)) (answer.Memory count)
+      out out' (held_in new after w x)
+  fed-stopped count new after w x dead left error ran_out h =
+      subst (λ (y : OpenStream). Takes (step_held digest (Feed piece) (Some count) (held_in y p t r))
+      (answer.Memory count) out out' (held_in new after w x)) (sym is)
+      (subst (λ (y : OpenStream). Takes (step_held digest (Feed piece) (Some count)
+      (Busy (standing_in s p t r))) (answer.Memory count) out out' (held_in y after w x)) (sym dead)
+      (took-stopped digest (stream_in s p t r) (stream_in s' q u v) (kept_tail s) piece out out' count
+      (repository_in after w x)
+      (fed-feeds digest s s' p q t u r v piece out out' (Err (stop.Memory count))
+      (subst (λ (e : StreamError). fed (Err e)) ran_out h)) left))
 
 -- a stream that ended
 ended-none : (digest : List ℕ → List ℕ) (now : Running) (tail : Tail) → ended digest None (Runs now tail) ≡ ended_well digest (Runs now tail)
@@ -198,7 +249,8 @@ took-ended_as digest ph new s p q t u r v fault out out' is after h =
 
 -- a stream whose end ran out of memory
 ended-stopped : (digest : List ℕ → List ℕ) (now : Running) (tail : Tail) → now.is_done ≡ false
-    → ended digest (Some 0) (Runs now tail) ≡ turn (answer.Memory 0) [] (last_checkpoint now.workspace)
+    → ended digest (Some 0) (Runs now tail)
+    ≡ step_result (answer.Memory 0) [] (last_checkpoint now.workspace)
 ended-stopped digest now tail running = rw running refl
 
 took-end_stopped : (digest : List ℕ → List ℕ) (s : StreamView) (p : Cells) (t : View) (r : RefStore) (count : ℕ) (out out' : List ℕ) (left : Repository)

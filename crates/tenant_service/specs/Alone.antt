@@ -10,6 +10,9 @@ use Rattle.answers.specs.Faults.{code_of}
 use Rattle.answers.specs.Answers.{answer_to}
 use Rattle.service_steps.specs.declared.answer.Answer.{Answer}
 use Rattle.service_steps.specs.declared.answer.Answer.TheVariants as answer
+use Rattle.service_steps.specs.declared.fault.ServiceFault.{ServiceFault}
+use Rattle.service_steps.specs.declared.fault.ServiceFault.TheVariants as fault
+use Rattle.service_steps.specs.Faults.{code_of as service_code}
 
 -- What a tenant may ask: git-fast-import(1) for Open, Feed and End, gitrevisions(7) for Ask.
 pub data Call : Type 0 where
@@ -26,22 +29,26 @@ pub data State : Type 0 where
   Streaming : Repository → List ℕ → State
   Dead : ℕ → Repository → State
 
--- What a call is answered, the bytes of its reply, and what it leaves.
+-- The answer to a call, the bytes of its reply, and what it leaves.
 pub record StepResult (S : Type 0) : Type 0 where
   pub answer : Answer
   pub reply : List ℕ
   pub state : S
 
-abbrev pub turn : {S : Type 0} → Answer → List ℕ → S → StepResult S
-turn answer reply state = record { answer = answer; reply = reply; state = state }
+abbrev pub step_result : {S : Type 0} → Answer → List ℕ → S → StepResult S
+step_result answer reply state = record { answer = answer; reply = reply; state = state }
 
 -- A call that is refused changes nothing.
 abbrev pub refused_under : {S : Type 0} → ℕ → S → StepResult S
-refused_under code state = turn (answer.Fault code) [] state
+refused_under code state = step_result (answer.Fault code) [] state
+
+-- So does a call that the service itself refuses.
+abbrev pub refused_by : {S : Type 0} → ServiceFault → S → StepResult S
+refused_by refusal state = refused_under (service_code refusal) state
 
 -- A call that needs memory may run out of it, and then leaves `left`. No other call may.
 abbrev pub unless_out_of_memory : {S : Type 0} → Option ℕ → S → StepResult S → StepResult S
-unless_out_of_memory (Some zero) left well = turn (answer.Memory 0) [] left
+unless_out_of_memory (Some zero) left well = step_result (answer.Memory 0) [] left
 unless_out_of_memory _ left well = well
 
 -- The stream of all bytes since Open.
@@ -79,18 +86,20 @@ stop_after digest now items count =
     stop_at first.replies first.status)
     else None
 
--- Open starts a stream, which has no bytes yet.
+-- Open starts a stream, which has no bytes yet. It is refused if there is one, even a dead one.
 abbrev pub open_alone : Option ℕ → State → StepResult State
 open_alone stop (Closed repository) =
-    unless_out_of_memory stop (Closed repository) (turn answer.Ok [] (Streaming repository []))
-open_alone stop (Streaming repository bytes) = refused_under 31 (Streaming repository bytes)
-open_alone stop (Dead code repository) = refused_under 31 (Dead code repository)
+    unless_out_of_memory stop (Closed repository)
+    (step_result answer.Ok [] (Streaming repository []))
+open_alone stop state = refused_by fault.StreamIsOpen state
 
 -- Feed prints what all bytes print beyond what was printed before. A fault in them makes the stream
 -- dead under the fault's number.
 abbrev pub fed_by : Repository → List ℕ → List ℕ → StreamStatus → StepResult State
-fed_by repository bytes reply (Runs now tail) = turn answer.Ok reply (Streaming repository bytes)
-fed_by repository bytes reply (Refused code left) = turn (answer.Fault code) reply (Dead code left)
+fed_by repository bytes reply (Runs now tail) =
+    step_result answer.Ok reply (Streaming repository bytes)
+fed_by repository bytes reply (Refused code left) =
+    step_result (answer.Fault code) reply (Dead code left)
 
 abbrev pub fed_well : (List ℕ → List ℕ) → Repository → List ℕ → List ℕ → StepResult State
 fed_well digest repository bytes piece =
@@ -105,10 +114,15 @@ feed_stop digest repository bytes piece count =
     let all = (reading false (bytes ++ piece)).items in
     stop_after digest (begun (opened repository)) all (length before + count)
 
--- If there is such a stop, the stream is dead under 90.
+-- The number of a stream that is dead because memory ran out.
+abbrev pub out_of_memory : ℕ
+out_of_memory = 90
+
+-- If there is such a stop, the stream is dead.
 abbrev pub fed_until : List ℕ → ℕ → Option Stopped → StepResult State → StepResult State
 fed_until before count (Some stopped) well =
-    turn (answer.Memory count) (added before stopped.replies) (Dead 90 stopped.repository)
+    step_result (answer.Memory count) (added before stopped.replies)
+    (Dead out_of_memory stopped.repository)
 fed_until before count None well = well
 
 abbrev pub fed : (List ℕ → List ℕ) → Option ℕ → Repository → List ℕ → List ℕ → StepResult State
@@ -118,7 +132,7 @@ fed digest (Some count) repository bytes piece =
     (feed_stop digest repository bytes piece count) (fed_well digest repository bytes piece)
 
 abbrev pub feed_alone : (List ℕ → List ℕ) → List ℕ → Option ℕ → State → StepResult State
-feed_alone digest piece stop (Closed repository) = refused_under 30 (Closed repository)
+feed_alone digest piece stop (Closed repository) = refused_by fault.NoStream (Closed repository)
 feed_alone digest piece stop (Streaming repository bytes) = fed digest stop repository bytes piece
 feed_alone digest piece stop (Dead code repository) = refused_under code (Dead code repository)
 
@@ -129,7 +143,8 @@ end_answer (Some code) = answer.Fault code
 
 abbrev pub ended_well : (List ℕ → List ℕ) → StreamStatus → StepResult Repository
 ended_well digest status =
-    let end = finished digest status in turn (end_answer end.fault) end.reply end.repository
+    let end = finished digest status in
+    step_result (end_answer end.fault) end.reply end.repository
 
 -- After `done`, and after a refusal, an end needs no memory.
 abbrev pub ended : (List ℕ → List ℕ) → Option ℕ → StreamStatus → StepResult Repository
@@ -140,10 +155,10 @@ ended digest stop (Runs now tail) =
     (ended_well digest (Runs now tail))
 
 abbrev pub closed : {S : Type 0} → (Repository → S) → StepResult Repository → StepResult S
-closed close t = turn t.answer t.reply (close t.state)
+closed close t = step_result t.answer t.reply (close t.state)
 
 abbrev pub end_alone : (List ℕ → List ℕ) → Option ℕ → State → StepResult State
-end_alone digest stop (Closed repository) = refused_under 30 (Closed repository)
+end_alone digest stop (Closed repository) = refused_by fault.NoStream (Closed repository)
 end_alone digest stop (Streaming repository bytes) =
     closed Closed (ended digest stop (stream_of digest repository bytes).status)
 end_alone digest stop (Dead code repository) =
@@ -158,7 +173,7 @@ last_alone digest (Dead code repository) = repository
 
 -- Ask answers from the repository at the last checkpoint, and changes nothing.
 abbrev pub answered : {S : Type 0} → Result (List ℕ) Fault → S → StepResult S
-answered (Ok text) state = turn answer.Ok text state
+answered (Ok text) state = step_result answer.Ok text state
 answered (Err refusal) state = refused_under (code_of refusal) state
 
 abbrev pub asked : {S : Type 0} → List ℕ → Option ℕ → Repository → S → StepResult S
@@ -172,4 +187,4 @@ run_alone digest Open stop state = open_alone stop state
 run_alone digest (Feed piece) stop state = feed_alone digest piece stop state
 run_alone digest End stop state = end_alone digest stop state
 run_alone digest (Ask query) stop state = asked query stop (last_alone digest state) state
-run_alone digest Restart stop state = turn answer.Ok [] (Closed (last_alone digest state))
+run_alone digest Restart stop state = step_result answer.Ok [] (Closed (last_alone digest state))

@@ -43,7 +43,7 @@ call_of (step.End given) = End
 call_of (step.Ask given query) = Ask query.now
 call_of step.Restart = Restart
 
--- A stop for want of memory is told by the answer, with the number of items before it.
+-- If a call ran out of memory, its answer says so, with the number of items before that.
 abbrev pub stop_told : Answer → Option ℕ
 stop_told answer.Ok = None
 stop_told (answer.Fault code) = None

@@ -8,7 +8,8 @@ use Rattle.import_session.specs.Stream.{Running, StreamStatus, Runs, Refused, Ou
 use Rattle.tenant_stream.specs.Carrying.{outcome_after}
 use Rattle.service_steps.specs.declared.answer.Answer.{Answer}
 use Rattle.service_steps.specs.declared.answer.Answer.TheVariants as answer
-use Rattle.tenant_service.specs.Alone.{Call, Open, Feed, End, Ask, Restart, StepResult, turn, refused_under, unless_out_of_memory, Stopped, stop_after, ended, closed, asked}
+use Rattle.service_steps.specs.declared.fault.ServiceFault.TheVariants as fault
+use Rattle.tenant_service.specs.Alone.{Call, Open, Feed, End, Ask, Restart, StepResult, step_result, refused_under, refused_by, unless_out_of_memory, out_of_memory, Stopped, stop_after, ended, closed, asked}
 use Rattle.tenant_service.specs.TenantState.{TenantState, Idle, Busy}
 use Rattle.tenant_service.specs.HeldObjects.{last_held}
 
@@ -18,12 +19,13 @@ standing_answer (Runs now tail) = answer.Ok
 standing_answer (Refused code repository) = answer.Fault code
 
 abbrev pub gone_on : Outcome → StepResult TenantState
-gone_on later = turn (standing_answer later.status) later.replies (Busy later.status)
+gone_on later = step_result (standing_answer later.status) later.replies (Busy later.status)
 
--- If there is a stop after so many of the items, the stream is dead under 90.
+-- If there is a stop after so many of the items, the stream is dead.
 abbrev pub held_until : ℕ → Option Stopped → StepResult TenantState → StepResult TenantState
 held_until count (Some stopped) well =
-    turn (answer.Memory count) stopped.replies (Busy (Refused 90 stopped.repository))
+    step_result (answer.Memory count) stopped.replies
+    (Busy (Refused out_of_memory stopped.repository))
 held_until count None well = well
 
 abbrev pub fed_held : (List ℕ → List ℕ) → List ℕ → Option ℕ → Running → Tail
@@ -37,17 +39,17 @@ fed_held digest piece (Some count) now tail =
 abbrev pub open_held : Option ℕ → TenantState → StepResult TenantState
 open_held stop (Idle repository) =
     unless_out_of_memory stop (Idle repository)
-    (turn answer.Ok [] (Busy (Runs (begun (opened repository)) (Rest false []))))
-open_held stop (Busy status) = refused_under 31 (Busy status)
+    (step_result answer.Ok [] (Busy (Runs (begun (opened repository)) (Rest false []))))
+open_held stop (Busy status) = refused_by fault.StreamIsOpen (Busy status)
 
 abbrev pub feed_held : (List ℕ → List ℕ) → List ℕ → Option ℕ → TenantState → StepResult TenantState
-feed_held digest piece stop (Idle repository) = refused_under 30 (Idle repository)
+feed_held digest piece stop (Idle repository) = refused_by fault.NoStream (Idle repository)
 feed_held digest piece stop (Busy (Runs now tail)) = fed_held digest piece stop now tail
 feed_held digest piece stop (Busy (Refused code repository)) =
     refused_under code (Busy (Refused code repository))
 
 abbrev pub end_held : (List ℕ → List ℕ) → Option ℕ → TenantState → StepResult TenantState
-end_held digest stop (Idle repository) = refused_under 30 (Idle repository)
+end_held digest stop (Idle repository) = refused_by fault.NoStream (Idle repository)
 end_held digest stop (Busy status) = closed Idle (ended digest stop status)
 
 abbrev pub step_held : (List ℕ → List ℕ) → Call → Option ℕ → TenantState → StepResult TenantState
@@ -55,4 +57,4 @@ step_held digest Open stop held = open_held stop held
 step_held digest (Feed piece) stop held = feed_held digest piece stop held
 step_held digest End stop held = end_held digest stop held
 step_held digest (Ask query) stop held = asked query stop (last_held held) held
-step_held digest Restart stop held = turn answer.Ok [] (Idle (last_held held))
+step_held digest Restart stop held = step_result answer.Ok [] (Idle (last_held held))

@@ -12,6 +12,8 @@ use Rattle.answers.specs.declared.fault.Fault.TheVariants as fault
 use Rattle.answers.specs.Faults.{code_of}
 use Rattle.service_steps.specs.declared.answer.Answer.{Answer}
 use Rattle.service_steps.specs.declared.answer.Answer.TheVariants as answers
+use Rattle.service_steps.specs.declared.fault.ServiceFault.TheVariants as service
+use Rattle.service_steps.specs.Faults.{code_of as service_code}
 use Rattle.service_steps.specs.declared.step.Step.{Step}
 use Rattle.service_steps.specs.declared.step.Step.TheVariants as step
 use Rattle.tenant_stream.specs.declared.stream_error.StreamError.{StreamError}
@@ -25,10 +27,9 @@ use Rattle.tenant_service.specs.HeldSteps.{step_held}
 use Rattle.tenant_service.specs.StepName.{name_of}
 use Rattle.tenant_service.specs.Tenants.{Tenants, Accounts, holdings}
 
--- A call was answered and printed as a turn says, and left what it says.
+-- A call was answered, printed and left what a step result says.
 pub record Takes (t : StepResult TenantState) (answer : Answer) (out out' : List ℕ)
-    (left : TenantState)
-    : Type 0 where
+    (left : TenantState) : Type 0 where
   pub answered : t.answer ≡ answer
   pub printed : out' ≡ out ++ t.reply
   pub leaves : t.state ≡ left
@@ -50,8 +51,7 @@ pub record StopsAfter (digest : List ℕ → List ℕ) (now : Running) (tail : T
 
 -- What came of a piece of a stream, which goes on or is given up.
 abbrev pub Fed : (List ℕ → List ℕ) → Running → Tail → List ℕ → List ℕ → Result Unit StreamError
-    → List ℕ
-    → Running → Tail → Type 0
+    → List ℕ → Running → Tail → Type 0
 Fed digest now tail piece out (Ok u) out' next kept =
     GoesTo digest now tail piece out out' (Runs next kept)
 Fed digest now tail piece out (Err (stop.Fault code)) out' next kept =
@@ -59,15 +59,10 @@ Fed digest now tail piece out (Err (stop.Fault code)) out' next kept =
 Fed digest now tail piece out (Err (stop.Memory count)) out' next kept =
     StopsAfter digest now tail piece count out out' next
 
--- The answer to a query that is refused. A lack of memory has an answer of its own.
+-- The answer to a query that is refused. Running out of memory has an answer of its own.
 abbrev pub refusal_told : Fault → Answer
 refusal_told fault.Memory = answers.Memory 0
-refusal_told fault.WrongKind = answers.Fault (code_of fault.WrongKind)
-refusal_told fault.UnknownRevision = answers.Fault (code_of fault.UnknownRevision)
-refusal_told fault.Ambiguous = answers.Fault (code_of fault.Ambiguous)
-refusal_told fault.Limit = answers.Fault (code_of fault.Limit)
-refusal_told fault.UnknownQuery = answers.Fault (code_of fault.UnknownQuery)
-refusal_told fault.MalformedQuery = answers.Fault (code_of fault.MalformedQuery)
+refusal_told refusal = answers.Fault (code_of refusal)
 
 -- The pool and all tenants, before a step or after it.
 pub record Store : Type 0 where
@@ -95,7 +90,7 @@ pub record Serves (digest : List ℕ → List ℕ) (name : List ℕ) (call : Cal
 pub record Refuses (digest : List ℕ → List ℕ) (before : Store) (answer : Answer)
     (out out' : List ℕ) (after : Store) : Type 0 where
   pub accounts : Accounts digest after.pool after.tenants
-  pub answered : answer ≡ answers.Fault 32
+  pub answered : answer ≡ answers.Fault (service_code service.BadTenantName)
   pub printed : out' ≡ out
   pub same : holdings after.pool after.tenants ≡ holdings before.pool before.tenants
 

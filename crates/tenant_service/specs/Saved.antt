@@ -45,7 +45,7 @@ pub record IsLoadedFrom (digest : List ℕ → List ℕ) (bytes : List ℕ) (hel
   pub has : HasJust all held
 
 -- The answer if the reader has these bytes, and the bytes that it has afterwards. Any answer may be
--- replaced by a fault of a device or a lack of memory.
+-- replaced by a fault of a device, or by running out of memory.
 abbrev pub LoadsAs : (List ℕ → List ℕ) → Option (List ℕ) → Result TenantStates Fault
     → Option (List ℕ) → Type 0
 LoadsAs digest None r new = Unit {0}

@@ -3,21 +3,19 @@
 //! The pool is lent, and holds other tenants' contents too. A call uses only the tenant's own
 //! table, and leaves the holds of all other tenants as they are.
 
-ghost use Rattle.std.specs.Prelude.{◌≡◌, ℕ, List, length, [], ◌∷◌, Ok, Err, OnOk};
+ghost use Rattle.std.specs.Prelude.{◌≡◌, ℕ, List, length, []};
 ghost use Rattle.tenant_tables.specs.IsBackedBy.{IsBackedBy, PreservesOthers};
 ghost use Rattle.content_pool.specs.Pool.{Cells};
-ghost use Rattle.import_session.specs.Held.{FilesStand};
 ghost use Rattle.import_session.specs.Session.{repository_in};
-ghost use Rattle.import_session.specs.Sound.{IsSound};
 ghost use Rattle.tenant_service.specs.Alone.{Open, Feed, End, Ask, Restart};
-ghost use Rattle.tenant_stream.specs.Carrying.{HasAmpleHoldsLeft, stream_in};
+ghost use Rattle.tenant_stream.specs.Carrying.{HasAmpleHoldsLeft};
 ghost use Rattle.tenant_service.specs.Headline.{stop_told};
 ghost use Rattle.tenant_service.specs.TenantState.{Idle, empty_repository};
 ghost use Rattle.tenant_service.specs.Soundness.{IsSoundTenantState};
 ghost use Rattle.tenant_service.specs.HeldSteps.{step_held};
 ghost use Rattle.tenant_service.specs.HeldObjects.{has_read_done, last_held};
-ghost use Rattle.tenant_service.specs.Tenants.{held_in, holding_in, kept_tail, Stands, IsSettled};
-ghost use Rattle.tenant_service.specs.OneStep.{Takes, Fed, refusal_told};
+ghost use Rattle.tenant_service.specs.Tenants.{holding_in, Stands, IsSettled};
+ghost use Rattle.tenant_service.specs.OneStep.{Takes, refusal_told};
 
 use answers::{Fault, answer_along};
 use content_pool::Pool;
@@ -112,31 +110,6 @@ pub fn give_up<N: Naming>(pool: &mut Pool<N>, tenant: &mut Tenant, phase: OpenSt
     set_phase(&mut tenant.phase, phase);
 }
 
-// Feeds a stream that runs.
-fn feed_stream<N: Naming>(
-    pool: &mut Pool<N>,
-    table: &mut Table,
-    refs: &mut Refs,
-    stream: &mut Stream,
-    piece: &[u8],
-    out: &mut Vec<u8>,
-) -> Result<(), StreamError>
-    requires stands { IsBackedBy N.digest_of pool.old table.old.entries }
-    requires room { HasAmpleHoldsLeft pool.old }
-    requires held { FilesStand stream.old.session.state pool.old table.old }
-    requires sound { IsSound N.digest_of
-        (stream_in stream.old pool.old table.old refs.old).workspace }
-    ensures stands { IsBackedBy N.digest_of pool.new table.new.entries }
-    ensures others { PreservesOthers pool.old table.old.entries pool.new table.new.entries }
-    ensures held { OnOk result (FilesStand stream.new.session.state pool.new table.new) }
-    ensures fed { Fed N.digest_of
-        (stream_in stream.old pool.old table.old refs.old) (kept_tail stream.old) piece.now
-        out.old.items result out.new.items
-        (stream_in stream.new pool.new table.new refs.new) (kept_tail stream.new) }
-{
-    stream.feed(pool, table, refs, piece, out)
-}
-
 /// Feeds the next bytes to the stream, and appends what they print to `out`.
 ///
 /// 30 if there is no stream. A dead stream answers its number again. A fault of the bytes, or
@@ -162,14 +135,7 @@ pub fn feed<N: Naming>(
         OpenStream::Dead(code) => return Answer::Fault(*code),
         OpenStream::Running(stream) => {
             tenant.chain.clear();
-            feed_stream(
-                pool,
-                &mut tenant.table,
-                &mut tenant.refs,
-                stream,
-                piece,
-                out,
-            )
+            stream.feed(pool, &mut tenant.table, &mut tenant.refs, piece, out)
         }
     };
     match fed {

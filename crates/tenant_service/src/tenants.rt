@@ -25,7 +25,8 @@ fn has_room<N: Naming>(pool: &Pool<N>, tenants: &IndexMap<TenantName, Tenant>)
     requires { Accounts N.digest_of pool.now tenants.now.entries }
     ensures { HasAmpleHoldsLeft pool.now }
 {
-    let _few = tenants.len();
+    let count = tenants.len();
+    prove!(count < 1 << 63);
 }
 
 /// Adds a tenant, whose name is new. `Memory` (90) if there is no room for it; then nothing has
@@ -48,90 +49,6 @@ pub fn add_tenant(
             drop(refused);
             Err(Memory)
         }
-    }
-}
-
-/// Feeds the stream of the tenant of this name, and appends what it prints to `out`. 30 if it has
-/// no stream.
-pub fn feed_one<N: Naming>(
-    pool: &mut Pool<N>,
-    tenants: &mut IndexMap<TenantName, Tenant>,
-    name: &TenantName,
-    piece: &[u8],
-    out: &mut Vec<u8>,
-) -> Answer
-    requires accounts { Accounts N.digest_of pool.old tenants.old.entries }
-    requires sound { AreSound N.digest_of (holdings pool.old tenants.old.entries) }
-    ensures { Serves N.digest_of name.now (Feed piece.now)
-        (store pool.old tenants.old.entries) result
-        out.old.items out.new.items (store pool.new tenants.new.entries) }
-{
-    has_room(pool, tenants);
-    match tenants.get_mut(name) {
-        Some(tenant) => feed(pool, tenant, piece, out),
-        None => ServiceFault::NoStream.answer(),
-    }
-}
-
-/// Ends the stream of the tenant of this name, and appends the reply of its end to `out`. 30 if it
-/// has no stream.
-pub fn end_one<N: Naming>(
-    pool: &mut Pool<N>,
-    tenants: &mut IndexMap<TenantName, Tenant>,
-    name: &TenantName,
-    out: &mut Vec<u8>,
-) -> Answer
-    requires accounts { Accounts N.digest_of pool.old tenants.old.entries }
-    requires sound { AreSound N.digest_of (holdings pool.old tenants.old.entries) }
-    ensures { Serves N.digest_of name.now End (store pool.old tenants.old.entries) result
-        out.old.items out.new.items (store pool.new tenants.new.entries) }
-{
-    has_room(pool, tenants);
-    match tenants.get_mut(name) {
-        Some(tenant) => end(pool, tenant, out),
-        None => ServiceFault::NoStream.answer(),
-    }
-}
-
-/// Answers a query of the tenant of this name, and appends the answer to `out`. What is held of
-/// every tenant stays as it was.
-pub fn ask_one<N: Naming>(
-    alloc: Global,
-    pool: &Pool<N>,
-    tenants: &mut IndexMap<TenantName, Tenant>,
-    name: &TenantName,
-    query: &[u8],
-    out: &mut Vec<u8>,
-) -> Answer
-    requires accounts { Accounts N.digest_of pool.now tenants.old.entries }
-    requires sound { AreSound N.digest_of (holdings pool.now tenants.old.entries) }
-    ensures { Serves N.digest_of name.now (Ask query.now)
-        (store pool.now tenants.old.entries) result out.old.items out.new.items
-        (store pool.now tenants.new.entries) }
-{
-    match tenants.get_mut(name) {
-        Some(tenant) => ask(alloc, pool, tenant, query, out),
-        None => ask_nobody(alloc, pool, query, out),
-    }
-}
-
-/// Opens a stream of the tenant of this name. 31 if it has one.
-///
-/// `Memory(0)` if there is no room for a tenant that was not seen before; then nothing has changed.
-pub fn open_one<N: Naming>(
-    alloc: Global,
-    pool: &Pool<N>,
-    tenants: &mut IndexMap<TenantName, Tenant>,
-    name: TenantName,
-) -> Answer
-    requires accounts { Accounts N.digest_of pool.now tenants.old.entries }
-    requires named { names_tenant name ≡ true }
-    ensures { Serves N.digest_of name Open (store pool.now tenants.old.entries) result
-        [] [] (store pool.now tenants.new.entries) }
-{
-    match tenants.get_mut(&name) {
-        Some(tenant) => open(alloc, pool, tenant),
-        None => open_new(alloc, pool, tenants, name),
     }
 }
 
@@ -199,8 +116,10 @@ pub fn name_of(tenant: &[u8]) -> Result<TenantName, ServiceFault>
     }
 }
 
-// Opens a stream of the tenant of this name. 32 if the name is bad.
-fn open_named<N: Naming>(
+// Opens a stream of the tenant of this name. 32 if the name is bad, and 31 if it has a stream.
+//
+// `Memory(0)` if there is no room for a tenant that was not seen before; then nothing has changed.
+fn open_stream<N: Naming>(
     alloc: Global,
     pool: &Pool<N>,
     tenants: &mut IndexMap<TenantName, Tenant>,
@@ -210,14 +129,19 @@ fn open_named<N: Naming>(
     ensures { (out : List ℕ) → Calls N.digest_of (names_tenant tenant.now) tenant.now Open
         (store pool.now tenants.old.entries) result out out (store pool.now tenants.new.entries) }
 {
-    match name_of(tenant) {
-        Ok(name) => open_one(alloc, pool, tenants, name),
-        Err(fault) => fault.answer(),
+    let name = match name_of(tenant) {
+        Ok(name) => name,
+        Err(fault) => return fault.answer(),
+    };
+    match tenants.get_mut(&name) {
+        Some(tenant) => open(alloc, pool, tenant),
+        None => open_new(alloc, pool, tenants, name),
     }
 }
 
-// Feeds the stream of the tenant of this name. 32 if the name is bad.
-fn feed_named<N: Naming>(
+// Feeds the stream of the tenant of this name, and appends what it prints to `out`. 32 if the name
+// is bad, and 30 if it has no stream.
+fn feed_stream<N: Naming>(
     pool: &mut Pool<N>,
     tenants: &mut IndexMap<TenantName, Tenant>,
     tenant: &[u8],
@@ -230,14 +154,20 @@ fn feed_named<N: Naming>(
         (store pool.old tenants.old.entries) result
         out.old.items out.new.items (store pool.new tenants.new.entries) }
 {
-    match name_of(tenant) {
-        Ok(name) => feed_one(pool, tenants, &name, bytes, out),
-        Err(fault) => fault.answer(),
+    let name = match name_of(tenant) {
+        Ok(name) => name,
+        Err(fault) => return fault.answer(),
+    };
+    has_room(pool, tenants);
+    match tenants.get_mut(&name) {
+        Some(tenant) => feed(pool, tenant, bytes, out),
+        None => ServiceFault::NoStream.answer(),
     }
 }
 
-// Ends the stream of the tenant of this name. 32 if the name is bad.
-fn end_named<N: Naming>(
+// Ends the stream of the tenant of this name, and appends the reply of its end to `out`. 32 if the
+// name is bad, and 30 if it has no stream.
+fn end_stream<N: Naming>(
     pool: &mut Pool<N>,
     tenants: &mut IndexMap<TenantName, Tenant>,
     tenant: &[u8],
@@ -249,14 +179,20 @@ fn end_named<N: Naming>(
         (store pool.old tenants.old.entries) result
         out.old.items out.new.items (store pool.new tenants.new.entries) }
 {
-    match name_of(tenant) {
-        Ok(name) => end_one(pool, tenants, &name, out),
-        Err(fault) => fault.answer(),
+    let name = match name_of(tenant) {
+        Ok(name) => name,
+        Err(fault) => return fault.answer(),
+    };
+    has_room(pool, tenants);
+    match tenants.get_mut(&name) {
+        Some(tenant) => end(pool, tenant, out),
+        None => ServiceFault::NoStream.answer(),
     }
 }
 
-// Answers a query of the tenant of this name. 32 if the name is bad.
-fn ask_named<N: Naming>(
+// Answers a query of the tenant of this name, and appends the answer to `out`. 32 if the name is
+// bad. What is held of every tenant stays as it was.
+fn answer_query<N: Naming>(
     alloc: Global,
     pool: &Pool<N>,
     tenants: &mut IndexMap<TenantName, Tenant>,
@@ -270,9 +206,13 @@ fn ask_named<N: Naming>(
         (store pool.now tenants.old.entries) result
         out.old.items out.new.items (store pool.now tenants.new.entries) }
 {
-    match name_of(tenant) {
-        Ok(name) => ask_one(alloc, pool, tenants, &name, query, out),
-        Err(fault) => fault.answer(),
+    let name = match name_of(tenant) {
+        Ok(name) => name,
+        Err(fault) => return fault.answer(),
+    };
+    match tenants.get_mut(&name) {
+        Some(tenant) => ask(alloc, pool, tenant, query, out),
+        None => ask_nobody(alloc, pool, query, out),
     }
 }
 
@@ -290,10 +230,10 @@ pub fn take_step<N: Naming>(
         out.old.items out.new.items (store pool.new tenants.new.entries) }
 {
     match step {
-        Step::Open { tenant } => open_named(alloc, pool, tenants, tenant),
-        Step::Feed { tenant, bytes } => feed_named(pool, tenants, tenant, bytes, out),
-        Step::End { tenant } => end_named(pool, tenants, tenant, out),
-        Step::Ask { tenant, query } => ask_named(alloc, pool, tenants, tenant, query, out),
+        Step::Open { tenant } => open_stream(alloc, pool, tenants, tenant),
+        Step::Feed { tenant, bytes } => feed_stream(pool, tenants, tenant, bytes, out),
+        Step::End { tenant } => end_stream(pool, tenants, tenant, out),
+        Step::Ask { tenant, query } => answer_query(alloc, pool, tenants, tenant, query, out),
         Step::Restart => {
             restart_all(pool, tenants);
             Answer::Ok

@@ -100,8 +100,7 @@ pub record Stops (digest : List ℕ → List ℕ) (now : Running) (old : Tail) (
 
 -- What came of the bytes of a tail, by the answer.
 abbrev pub Carries : (List ℕ → List ℕ) → Running → Tail → List ℕ → Result Unit StreamError
-    → Running → Tail
-    → List ℕ → Type 0
+    → Running → Tail → List ℕ → Type 0
 Carries digest now old out (Ok u) next new out' = Goes digest now old out next new out'
 Carries digest now old out (Err (stop.Fault code)) next new out' =
     Fails digest now old out code next out'
@@ -118,8 +117,7 @@ pub record Stays (now : Running) (old : Tail) (out : List ℕ) (result : Result 
 
 -- What came of a piece, by the answer. After `done` bytes are ignored.
 abbrev pub Feeds : (List ℕ → List ℕ) → Bool → Running → Tail → List ℕ → List ℕ
-    → Result Unit StreamError
-    → Running → Tail → List ℕ → Type 0
+    → Result Unit StreamError → Running → Tail → List ℕ → Type 0
 Feeds digest true now old piece out result next new out' = Stays now old out result next new out'
 Feeds digest false now old piece out result next new out' =
     Carries digest now (extended old piece) out result next new out'
@@ -141,8 +139,7 @@ pub record StopsAtEnd (now : Running) (out : List ℕ) (count : ℕ) (left : Rep
 
 -- How a stream ended, by the answer.
 abbrev pub EndsAs : (List ℕ → List ℕ) → Running → Tail → List ℕ → Result Unit StreamError
-    → Repository
-    → List ℕ → Type 0
+    → Repository → List ℕ → Type 0
 EndsAs digest now tail out (Ok u) left out' =
     IsEnd (finished digest (Runs now tail)) None out left out'
 EndsAs digest now tail out (Err (stop.Fault code)) left out' =

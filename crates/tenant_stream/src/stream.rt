@@ -63,7 +63,7 @@ fn carry<N: Naming>(
     }
 }
 
-// The stop of a stream whose lexer takes no further piece.
+// Why a stream stops whose lexer takes no further piece.
 fn unfed(fault: Fault) -> StreamError
     ensures { result ≡ unfed fault }
 {

@@ -14,7 +14,7 @@ pub enum StreamError {
     Memory(u64),
 }
 
-// The stop of a stream whose next item is refused, after `count` items of the call.
+// Why a stream stops whose next item is refused, after `count` items of the call.
 pub fn stop_of(fault: Fault, count: u64) -> StreamError
     ensures { result ≡ stop_of fault count }
 {

@@ -1,13 +1,14 @@
 //! The object table of a tenant.
 
-ghost use Rattle.std.specs.Prelude.{◌≡◌, ◌≢◌, ◌<◌, ◌≤◌, ◌-◌, [], length, take, Option, None, Some, position, slice_get, is_some, nat_le, OnOk, OnErr};
+ghost use Rattle.std.specs.Prelude.{◌≡◌, ◌≢◌, ◌<◌, ◌≤◌, ◌-◌, [], length, take, Option, None, Some, position, slice_get, is_some, nat_le, IfOk, OnOk, OnErr};
 ghost use Rattle.std.specs.List.{IsDistinct};
 ghost use Rattle.std.specs.Option.{option_map};
+ghost use Rattle.std.specs.Cow.{cow_slice_items};
 ghost use Rattle.std.specs.Str.{bytes_eq};
 ghost use Rattle.git_model.specs.Limits.{contents_limit, objects_limit};
 ghost use Rattle.git_model.specs.ObjectName.{object_name};
 ghost use Rattle.git_model.specs.Content.{content_from, name_by};
-ghost use Rattle.content_pool.specs.Pool.{HasHoldsLeft, IsLive, content};
+ghost use Rattle.content_pool.specs.Pool.{HasHoldsLeft, IsLive, Puts, content};
 ghost use Rattle.tenant_tables.specs.View.{names, entry_named, slot_of, summary_of, in_sight};
 ghost use Rattle.git_model.specs.Content.{same_content};
 ghost use Rattle.git_model.specs.Repository.{object_named};
@@ -28,6 +29,7 @@ use git_model::Kind;
 use git_names::{Memory, Name, Naming, has_twenty_bytes};
 use indexmap::IndexMap;
 use std::alloc::Global;
+use std::borrow::CowSlice;
 use std::collections::BTreeSet;
 use std::marker::Model;
 
@@ -55,6 +57,25 @@ impl Model for Table {
     ghost view = { λ t. record { entries = t.objects.entries; committed = t.committed } };
 
     ghost invariant = { λ t. IsTable t.objects.entries t.names t.committed };
+}
+
+// Holds a content in the pool. Owned bytes are stored without a copy.
+fn put<N: Naming>(
+    pool: &mut Pool<N>,
+    id: Name,
+    kind: Kind,
+    bytes: CowSlice<'_, u8>,
+) -> Result<Slot, Memory>
+    requires named { id ≡ object_name N.digest_of kind (cow_slice_items bytes) }
+    requires room { HasHoldsLeft pool.old }
+    ensures puts { IfOk result (λ slot. Puts pool.old pool.new slot
+        (content_from kind (cow_slice_items bytes.entry))) }
+    ensures err { OnErr result (pool.new ≡ pool.old) }
+{
+    match bytes {
+        CowSlice::Borrowed(bytes) => pool.put_named(id, kind, bytes),
+        CowSlice::Owned(bytes) => pool.put_owned(id, kind, bytes),
+    }
 }
 
 #[tactic(auto, unfolding(crate::specs::View::entry_named))]
@@ -196,7 +217,7 @@ impl Table {
             (content_from kind bytes.now) None pool.old self.old pool.new self.new) }
         ensures err { OnErr result ((self.new ≡ self.old) × (pool.new ≡ pool.old)) }
     {
-        self.store(pool, kind, bytes, None)
+        self.store(pool, kind, CowSlice::Borrowed(bytes), None)
     }
 
     /// Adds the tree with these contents and this summary, as `add` adds other objects, with the
@@ -222,7 +243,34 @@ impl Table {
             (Some summary) pool.old self.old pool.new self.new) }
         ensures err { OnErr result ((self.new ≡ self.old) × (pool.new ≡ pool.old)) }
     {
-        self.store(pool, Kind::Tree, bytes, Some(summary))
+        self.store(pool, Kind::Tree, CowSlice::Borrowed(bytes), Some(summary))
+    }
+
+    /// `add_tree` of bytes that the caller no longer needs, with the same faults: `Fault::Limit`
+    /// (25), `Fault::NameCollision` (24) and `Fault::Memory` (90). Table and pool are unchanged after
+    /// a fault.
+    ///
+    /// Contents that are new to the pool are stored without a copy, and capacity beyond the length
+    /// of the vector is given back. Otherwise the vector is freed.
+    pub fn add_tree_owned<N: Naming>(
+        &mut self,
+        pool: &mut Pool<N>,
+        bytes: Vec<u8>,
+        summary: Summary,
+    ) -> Result<Name, Fault>
+        requires stands { IsBackedBy N.digest_of pool.old self.old.entries }
+        requires room { HasHoldsLeft pool.old }
+        requires tree { FitsTree self.old.entries bytes.items summary }
+        ensures stands { IsBackedBy N.digest_of pool.new self.new.entries }
+        ensures others { PreservesOthers pool.old self.old.entries pool.new self.new.entries }
+        ensures answer { let c = content_from Kind.Tree bytes.items in
+            let id = name_by N.digest_of c in
+            Answers result id (store_fault id c (objects pool.old self.old.entries)) }
+        ensures ok { OnOk result (Adds N.digest_of (content_from Kind.Tree bytes.items)
+            (Some summary) pool.old self.old pool.new self.new) }
+        ensures err { OnErr result ((self.new ≡ self.old) × (pool.new ≡ pool.old)) }
+    {
+        self.store(pool, Kind::Tree, CowSlice::Owned(bytes), Some(summary))
     }
 
     // Adds an object with its summary. Only a tree has one.
@@ -230,25 +278,27 @@ impl Table {
         &mut self,
         pool: &mut Pool<N>,
         kind: Kind,
-        bytes: &[u8],
+        bytes: CowSlice<'_, u8>,
         summary: Option<Summary>,
     ) -> Result<Name, Fault>
         requires stands { IsBackedBy N.digest_of pool.old self.old.entries }
         requires room { HasHoldsLeft pool.old }
-        requires summed { SummedAfter self.old.entries (content_from kind bytes.now) summary }
+        requires summed { SummedAfter self.old.entries (content_from kind (cow_slice_items bytes))
+            summary }
         ensures stands { IsBackedBy N.digest_of pool.new self.new.entries }
         ensures others { PreservesOthers pool.old self.old.entries pool.new self.new.entries }
-        ensures answer { let c = content_from kind bytes.now in let id = name_by N.digest_of c in
+        ensures answer { let c = content_from kind (cow_slice_items bytes.entry) in
+            let id = name_by N.digest_of c in
             Answers result id (store_fault id c (objects pool.old self.old.entries)) }
-        ensures ok { OnOk result (Adds N.digest_of
-            (content_from kind bytes.now) summary pool.old self.old pool.new self.new) }
+        ensures ok { OnOk result (Adds N.digest_of (content_from kind (cow_slice_items bytes.entry))
+            summary pool.old self.old pool.new self.new) }
         ensures err { OnErr result ((self.new ≡ self.old) × (pool.new ≡ pool.old)) }
     {
         if bytes.len() > CONTENTS_LIMIT {
             return Err(Fault::Limit);
         }
-        let id = pool.name_of(kind, bytes)?;
-        let there = self.has_content(pool, &id, kind, bytes);
+        let id = pool.name_of(kind, bytes.as_slice())?;
+        let there = self.has_content(pool, &id, kind, bytes.as_slice());
         if there.unwrap_or(false) {
             return Ok(id);
         }
@@ -292,21 +342,21 @@ impl Table {
         pool: &mut Pool<N>,
         id: Name,
         kind: Kind,
-        bytes: &[u8],
+        bytes: CowSlice<'_, u8>,
         summary: Option<Summary>,
     ) -> Result<(), Memory>
-        requires named { id ≡ object_name N.digest_of kind bytes.now }
+        requires named { id ≡ object_name N.digest_of kind (cow_slice_items bytes) }
         requires new { entry_named id self.old.entries ≡ None }
         requires spare { length self.old.entries < objects_limit }
         requires room { HasHoldsLeft pool.old }
-        ensures ok { OnOk result (Pushes id
-            (content_from kind bytes.now) summary pool.old self.old pool.new self.new) }
+        ensures ok { OnOk result (Pushes id (content_from kind (cow_slice_items bytes.entry)) summary
+            pool.old self.old pool.new self.new) }
         ensures err { OnErr result ((self.new ≡ self.old) × (pool.new ≡ pool.old)) }
     {
         has_twenty_bytes(&id);
         self.objects.reserve(1)?;
         self.names.insert(id)?;
-        match pool.put_named(id, kind, bytes) {
+        match put(pool, id, kind, bytes) {
             Ok(slot) => {
                 self.objects.insert(id, Entry { slot, summary }).unwrap();
                 Ok(())

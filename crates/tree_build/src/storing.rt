@@ -218,7 +218,7 @@ fn rows_of<'a>(
     ensures ids { IfOk result (λ rows. AllByRecursion (λ e. IsObjectName e.id)
         (entries_of rows.items)) }
 {
-    let mut rows = Vec::new(alloc);
+    let mut rows = Vec::with_capacity(alloc, entries.len())?;
     for entry in entries {
         let row = row_of(entry);
         has_twenty_bytes(&row.id);

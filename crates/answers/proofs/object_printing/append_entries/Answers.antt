@@ -3,7 +3,7 @@ use Rattle.std.specs.List.{flat_map}
 use Rattle.std.proofs.lemmas.List.{take_all, take_at}
 use Rattle.git_objects.proofs.Kept.{kept_front}
 use Rattle.git_objects.specs.Parts.{entries_of}
-use Rattle.answers.specs.Printed.{entry_line}
+use Rattle.answers.specs.Printed.{tree_line}
 use Rattle.answers.proofs.object_printing.append_entries.Goals as goal
 
 pub returns-in_err-append_entry-clause-kept : goal.returns-in_err-append_entry-clause-kept
@@ -13,7 +13,7 @@ returns-in_err-append_entry-clause-kept c =
 pub returns-clause-written : goal.returns-clause-written
 returns-clause-written c =
     c.loop-entry.invariant
-    ∙ ap (λ entries. c.args.out.now.items ++ flat_map entry_line (entries_of entries))
+    ∙ ap (λ entries. c.args.out.now.items ++ flat_map tree_line (entries_of entries))
     (take_all c.loop-entry.entry-index c.args.entries.now c.loop-entry-test.false)
 
 pub returns-clause-kept : goal.returns-clause-kept

@@ -15,11 +15,11 @@ loop-place-preserved g c good =
       step.0
           ∙ ap (λ (store : RefStore).
           saved_by workspace store c.unwrap-branch.result.0.now c.unwrap-branch.result.1.now) before.0
-          ∙ saved_next workspace _ workspace.branches c.loop-place.place _ _
+          ∙ saved_next workspace _ workspace.stream.branches c.loop-place.place _ _
           (sym (rw c.unwrap-branch.ensures at c.at.ensures.branch)),
       step.1
           ∙ ap (λ (kept : List ℕ).
           kept ++ kept_by workspace c.unwrap-branch.result.0.now c.unwrap-branch.result.1.now) before.1
-          ∙ kept_next workspace _ workspace.branches c.loop-place.place _ _
+          ∙ kept_next workspace _ workspace.stream.branches c.loop-place.place _ _
           (sym (rw c.unwrap-branch.ensures at c.at.ensures.branch)),
     )

@@ -1,6 +1,6 @@
 use Rattle.std.proofs.Common.{sym}
 use Rattle.import_session.proofs.closing.close.Goals as goal
 
-pub returns-in-Some-clause-done : goal.returns-in-Some-clause-done
-returns-in-Some-clause-done g c refs =
-    rw (sym c.in-Some.ensures.value) (c.close_commit-closed.ensures.done refs)
+pub returns-in-Changes-clause-done : goal.returns-in-Changes-clause-done
+returns-in-Changes-clause-done g c refs =
+    rw (sym c.take.ensures.taken, c.in-Changes.is) (c.close_commit-closed.ensures.done refs)

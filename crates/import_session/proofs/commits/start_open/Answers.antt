@@ -1,9 +1,17 @@
-use Rattle.std.proofs.Common.{refl, sym}
+use Rattle.std.proofs.Common.{ap}
+use Rattle.std.proofs.lemmas.Result.{err_from_is_err_and}
 use Rattle.stream_grammar.specs.Shown.{commit_shown}
 use Rattle.import_session.specs.Commits.{commit_started, commit_said}
-use Rattle.import_session.specs.Session.{state_shown, workspace_in}
-use Rattle.import_session.proofs.CommitLemmas.{put_back}
+use Rattle.import_session.specs.Session.{command_shown, state_shown, workspace_in}
+use Rattle.import_session.proofs.CommitLemmas.{not_changing, put_back}
 use Rattle.import_session.proofs.commits.start_open.Goals as goal
+
+pub returns-in_err-commit-clause-done : goal.returns-in_err-commit-clause-done
+unfolding commit_said
+returns-in_err-commit-clause-done g c out good =
+    let failed = err_from_is_err_and c.from_residual.result c.from_residual.ensures.1 in
+    rw failed.1 (not_changing (state_shown c.args.state.now) _ c.args.pool.now c.args.table.now c.args.refs.now _ out
+    c.in_err-commit.field-0.0 failed.0 failed.2 c.in_err-commit.ensures.taken)
 
 pub returns-clause-done : goal.returns-clause-done
 unfolding commit_said
@@ -12,6 +20,6 @@ returns-clause-done g c out good =
     c.args.refs.now in
     put_back (state_shown c.args.state.now) (state_shown c.keep_open.new.state) c.args.pool.now
     c.args.table.now c.args.refs.now (commit_started workspace (commit_shown c.args.from.now))
-    c.args.state.now.commit c.in-Some.commit c.start_from-changed.new.commit out
-    c.start_from-changed.result (sym c.in-Some.ensures.value) refl c.keep_open.ensures
+    c.in_ok-commit.commit c.start_from-changed.new.commit out
+    c.start_from-changed.result (ap command_shown c.in_ok-commit.ensures.taken) c.keep_open.ensures
     (c.start_from-changed.ensures.done good)

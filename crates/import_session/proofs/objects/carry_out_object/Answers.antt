@@ -1,4 +1,3 @@
-use Rattle.std.proofs.Common.{refl}
 use Rattle.tenant_tables.specs.Objects.{objects}
 use Rattle.import_session.specs.Session.{state_shown}
 use Rattle.import_session.proofs.HeldLemmas.{still_held}
@@ -14,7 +13,7 @@ returns-in-Blob-clause-held g c =
     let state = state_shown c.args.state.now in
     still_held c.store_marked.result
     (objects c.store_marked.new.pool c.store_marked.new.table.entries) state _
-    (record { commit = refl; left = refl }) (c.store_marked.ensures.held state c.requires.held)
+    (λ os holds. record { command = holds.command; left = holds.left }) (c.store_marked.ensures.held state c.requires.held)
 
 pub returns-in-BeginTag-clause-held : goal.returns-in-BeginTag-clause-held
 returns-in-BeginTag-clause-held g c =

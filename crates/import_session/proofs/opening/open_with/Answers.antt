@@ -13,10 +13,10 @@ returns-clause-opened g c refs sound =
     let placed = c.in_ok-first.ensures.placed in
     let tip = subst (λ (first : Option (List ℕ)). IsTipCommit workspace.objects first) (sym placed.0)
     (tip_commit_is g.N.Naming.digest_of workspace sound c.args.header.ref_name) in
-    opened_by workspace c.in_ok-first.first (tip_commit workspace.branches c.args.header.ref_name)
+    opened_by workspace c.in_ok-first.first (tip_commit workspace.stream.branches c.args.header.ref_name)
     (begun (header_shown c.args.header) c.args.message.now) c.take_files-files.new.state.branches
     c.begin.result placed.0
-    (subst (λ (branches : Branches). branch_set workspace.branches c.args.header.ref_name
-    (tip_for (tip_commit workspace.branches c.args.header.ref_name)) ≡ Ok branches)
-    (ap (λ (state : StreamState). state.branches) (sym c.take_files-files.ensures.state)) placed.2)
+    (subst (λ (branches : Branches). branch_set workspace.stream.branches c.args.header.ref_name
+    (tip_for (tip_commit workspace.stream.branches c.args.header.ref_name)) ≡ Ok branches)
+    (ap (λ (state : StreamState). state.stream.branches) (sym c.take_files-files.ensures.state)) placed.2)
     (c.begin.ensures.begun sound.objects tip)

@@ -21,9 +21,9 @@ returns-in_err-make_room-clause-done g c out good =
     c.from_residual-in_err-make_room.ensures.1 in
     rw (p.1, p.2)
     (first_then (commit_in w (commit_shown c.args.commit.now)) c.in_ok-id.id
-    (λ id. and_then (room_for w.marks (Some c.args.mark)) (λ _.
-    quiet (record w { marks = with_mark w.marks (Some c.args.mark) id })))
+    (λ id. and_then (room_for w.stream.marks (Some c.args.mark)) (λ _.
+    quiet (record w { stream = record w.stream { marks = with_mark w.stream.marks (Some c.args.mark) id } })))
     left out out (Err c.in_err-make_room.field-0.0) (c.in_ok-id.ensures good)
-    (first_refused (room_for w.marks (Some c.args.mark)) (λ _.
-    quiet (record w { marks = with_mark w.marks (Some c.args.mark) c.in_ok-id.id }))
+    (first_refused (room_for w.stream.marks (Some c.args.mark)) (λ _.
+    quiet (record w { stream = record w.stream { marks = with_mark w.stream.marks (Some c.args.mark) c.in_ok-id.id } }))
     left out out c.in_err-make_room.field-0.0 c.in_err-make_room.ensures.room))

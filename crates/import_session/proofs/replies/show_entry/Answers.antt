@@ -28,4 +28,4 @@ returns-clause-committed g c =
     c.committed_len-within.ensures.within c.show_entry.ensures.adds
 
 pub returns-clause-held : goal.returns-clause-held
-returns-clause-held g c = record { commit = c.show_entry.ensures.held; left = tt }
+returns-clause-held g c = record { command = c.show_entry.ensures.held; left = tt }

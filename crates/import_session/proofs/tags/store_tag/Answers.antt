@@ -1,13 +1,15 @@
-use Rattle.std.proofs.Common.{◌≡◌, None, Option, ap, sym, true, ◌∙◌, rules}
+use Rattle.std.proofs.Common.{◌≡◌, ap, subst, sym, true, ◌∙◌, rules}
 use Rattle.std.specs.Prelude.{is_ok}
 use Rattle.std.proofs.lemmas.Result.{err_from_is_err_and}
 use Rattle.git_model.specs.Content.{name_by}
 use Rattle.tenant_tables.specs.Objects.{objects}
-use Rattle.stream_state.specs.declared.command_header.CommandHeader.{CommandHeader}
+use Rattle.stream_state.specs.OpenCommand.{Nothing}
 use Rattle.stream_state.specs.Tags.{tag_content}
+use Rattle.import_session.specs.declared.open_command.OpenCommand.{OpenCommand as LentCommand}
+use Rattle.import_session.specs.Held.{HoldsFiles}
 use Rattle.import_session.specs.Objects.{object_stored}
-use Rattle.import_session.specs.Session.{StreamState, state_shown, workspace_in}
-use Rattle.import_session.proofs.HeldLemmas.{commit_same, files_grown, files_kept}
+use Rattle.import_session.specs.Session.{command_shown, state_shown, state_with, workspace_in}
+use Rattle.import_session.proofs.HeldLemmas.{files_grown}
 use Rattle.import_session.proofs.TagLemmas.{tag_kept, tag_left, tag_not_stored, tag_refused}
 use Rattle.import_session.proofs.tags.store_tag.Goals as goal
 
@@ -17,8 +19,8 @@ returns-in_err-target-clause-done g c out good =
     let w = workspace_in (state_shown c.args.state.now) c.args.pool.now c.args.table.now
     c.args.refs.now in
     let p = err_from_is_err_and c.from_residual.result c.from_residual.ensures.1 in
-    rw (sym c.in-Some.ensures.value, p.1, p.2)
-    (tag_refused g.N.Naming.digest_of c.args.mark c.args.message.now c.in-Some.said w _ out
+    rw (sym c.take.ensures.taken, c.in-Tag.is, p.1, p.2)
+    (tag_refused g.N.Naming.digest_of c.args.mark c.args.message.now c.in-Tag.header w _ out
     c.in_err-target.field-0.0 (c.in_err-target.ensures.tagged good))
 
 pub returns-in_err-id-clause-done : goal.returns-in_err-id-clause-done
@@ -28,8 +30,8 @@ returns-in_err-id-clause-done g c out good =
     c.args.refs.now in
     let p = err_from_is_err_and c.from_residual-in_err-id.result
     c.from_residual-in_err-id.ensures.1 in
-    rw (sym c.in-Some.ensures.value, p.1, p.2)
-    (tag_not_stored g.N.Naming.digest_of c.args.mark c.args.message.now c.in-Some.said w _ out
+    rw (sym c.take.ensures.taken, c.in-Tag.is, p.1, p.2)
+    (tag_not_stored g.N.Naming.digest_of c.args.mark c.args.message.now c.in-Tag.header w _ out
     c.in_err-id.field-0.0 c.in_ok-target.target c.in_ok-target.kind
     (c.in_ok-target.ensures.tagged good) c.in_err-id.ensures.stores.refused)
 
@@ -38,37 +40,37 @@ unfolding object_stored
 returns-clause-done g c out good =
     let digest = g.N.Naming.digest_of in
     let state = state_shown c.args.state.now in
-    let said = c.in-Some.said in
+    let header = c.in-Tag.header in
     let w = workspace_in state c.args.pool.now c.args.table.now c.args.refs.now in
     let pool = c.store_written.new.pool in
     let table = c.store_written.new.table in
     let target = c.in_ok-target.target in
     let kind = c.in_ok-target.kind in
-    let tag = tag_content said c.args.message.now target kind in
+    let tag = tag_content header c.args.message.now target kind in
     let stored = c.in_ok-id.ensures.stores in
-    let left : state_shown c.tagged.new.state ≡ record state { said = None } =
-    c.tagged.ensures.same ∙ ap (λ (s : Option CommandHeader). record state { said = s }) c.take.ensures.after in
+    let left : state_shown c.tagged.new.state ≡ state_with state Nothing =
+    c.tagged.ensures.same
+    ∙ ap (λ (command : LentCommand). state_with state (command_shown command)) c.take.ensures.after in
     let pushed : is_ok c.push.result ≡ true = search rules in
     let tags = rw pushed at c.push.ensures.items in
-    rw (sym c.in-Some.ensures.value)
-    (tag_kept digest c.args.mark c.args.message.now said w _ out target kind
+    rw (sym c.take.ensures.taken, c.in-Tag.is)
+    (tag_kept digest c.args.mark c.args.message.now header w _ out target kind
     (objects pool table.entries) (c.in_ok-target.ensures.tagged good) stored.objects
-    (tag_left state (state_shown c.tagged.new.state) c.args.mark said.ref_name c.in_ok-id.id
+    (tag_left state (state_shown c.tagged.new.state) c.args.mark header.ref_name c.in_ok-id.id
     (name_by digest tag) c.set.new.marks.entries c.push.new.self.items c.args.pool.now
     c.args.table.now pool table c.args.refs.now left c.set.ensures tags
-    stored.name stored.committed
-    (commit_same digest tag (objects c.args.pool.now c.args.table.now.entries) (objects pool table.entries)
-    stored.objects state.commit c.requires.held.commit)))
+    stored.name stored.committed))
 
 pub returns-clause-held : goal.returns-clause-held
 returns-clause-held g c =
     let state = state_shown c.args.state.now in
     let more = objects c.store_written.new.pool c.store_written.new.table.entries in
-    let tag = tag_content c.in-Some.said c.args.message.now c.in_ok-target.target c.in_ok-target.kind in
-    files_kept more state _
-    (record {
-      commit = ap (λ (state : StreamState). state.commit) c.tagged.ensures.same;
-      left = ap (λ (state : StreamState). state.left) c.tagged.ensures.same;
-    })
-    (files_grown g.N.Naming.digest_of tag (objects c.args.pool.now c.args.table.now.entries) more
-    c.in_ok-id.ensures.stores.objects state c.requires.held)
+    let tag = tag_content c.in-Tag.header c.args.message.now c.in_ok-target.target c.in_ok-target.kind in
+    let left : state_shown c.tagged.new.state ≡ state_with state Nothing =
+    c.tagged.ensures.same
+    ∙ ap (λ (command : LentCommand). state_with state (command_shown command)) c.take.ensures.after in
+    let grown = files_grown g.N.Naming.digest_of tag
+    (objects c.args.pool.now c.args.table.now.entries) more c.in_ok-id.ensures.stores.objects
+    (state_with state Nothing) (record { command = tt; left = c.requires.held.left }) in
+    let stands = subst (HoldsFiles more) (sym left) grown in
+    record { command = stands.command; left = stands.left }

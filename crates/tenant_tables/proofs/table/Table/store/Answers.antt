@@ -1,36 +1,48 @@
-use Rattle.std.proofs.Common.{sym}
+use Rattle.std.proofs.Common.{sym, ap, ◌∙◌}
+use Rattle.git_model.specs.ObjectName.{object_name}
 use Rattle.tenant_tables.proofs.AddLemmas.{fault-long, fault-found, fault-full, fault-clash, fault-none, no_object, no_entry, found_adds, pushed}
 use Rattle.tenant_tables.proofs.TableLemmas.{length-objects}
 use Rattle.tenant_tables.proofs.table.Table.store.Goals as goal
 
-pub returns-then-bytes-gt-CONTENTS_LIMIT-clause-answer : goal.returns-then-bytes-gt-CONTENTS_LIMIT-clause-answer
-returns-then-bytes-gt-CONTENTS_LIMIT-clause-answer g c =
-    fault-long _ _ _ c.if-bytes-gt-CONTENTS_LIMIT.true
+pub returns-then-len-gt-CONTENTS_LIMIT-clause-answer : goal.returns-then-len-gt-CONTENTS_LIMIT-clause-answer
+returns-then-len-gt-CONTENTS_LIMIT-clause-answer g c =
+    fault-long _ _ _ (rw c.len.ensures at c.if-len-gt-CONTENTS_LIMIT.true)
 
 pub returns-then-unwrap_or-clause-answer : goal.returns-then-unwrap_or-clause-answer
-returns-then-unwrap_or-clause-answer g c = (
-  c.in_ok-id.ensures,
-  fault-found _ _ _ _
-      (rw c.in_ok-id.ensures at c.has_content-there.ensures) c.if-bytes-gt-CONTENTS_LIMIT.false
-      (sym c.if-unwrap_or.ensures),
-)
+returns-then-unwrap_or-clause-answer g c =
+    let named = c.in_ok-id.ensures
+    ∙ ap (object_name g.N.Naming.digest_of c.args.kind) c.as_slice.ensures.value in (
+      named,
+      fault-found _ _ _ _
+          (rw (named, c.as_slice-2.ensures.value) at c.has_content-there.ensures)
+          (rw c.len.ensures at c.if-len-gt-CONTENTS_LIMIT.false)
+          (sym c.if-unwrap_or.ensures),
+    )
 
 pub returns-then-unwrap_or-clause-ok : goal.returns-then-unwrap_or-clause-ok
 returns-then-unwrap_or-clause-ok g c =
-    found_adds _ _ _ _ _ _ _ c.has_content-there.ensures
-    (sym c.if-unwrap_or.ensures) c.in_ok-id.ensures c.requires.stands c.requires.summed
+    let named = c.in_ok-id.ensures
+    ∙ ap (object_name g.N.Naming.digest_of c.args.kind) c.as_slice.ensures.value in
+    found_adds _ _ _ _ _ _ _ (rw c.as_slice-2.ensures.value at c.has_content-there.ensures)
+    (sym c.if-unwrap_or.ensures) named c.requires.stands c.requires.summed
 
 pub returns-then-is_full-clause-answer : goal.returns-then-is_full-clause-answer
 returns-then-is_full-clause-answer g c =
+    let named = c.in_ok-id.ensures
+    ∙ ap (object_name g.N.Naming.digest_of c.args.kind) c.as_slice.ensures.value in
     fault-full _ _ _ _
-    (rw c.in_ok-id.ensures at c.has_content-there.ensures) c.if-bytes-gt-CONTENTS_LIMIT.false
+    (rw (named, c.as_slice-2.ensures.value) at c.has_content-there.ensures)
+    (rw c.len.ensures at c.if-len-gt-CONTENTS_LIMIT.false)
     (sym c.if-unwrap_or.ensures)
     _ (length-objects _ _) (sym c.if-is_full.ensures)
 
 pub returns-then-is_some-clause-answer : goal.returns-then-is_some-clause-answer
 returns-then-is_some-clause-answer g c =
+    let named = c.in_ok-id.ensures
+    ∙ ap (object_name g.N.Naming.digest_of c.args.kind) c.as_slice.ensures.value in
     fault-clash _ _ _ _
-    (rw c.in_ok-id.ensures at c.has_content-there.ensures) c.if-bytes-gt-CONTENTS_LIMIT.false
+    (rw (named, c.as_slice-2.ensures.value) at c.has_content-there.ensures)
+    (rw c.len.ensures at c.if-len-gt-CONTENTS_LIMIT.false)
     (sym c.if-unwrap_or.ensures)
     _ (length-objects _ _) (sym c.if-is_full.ensures) (sym c.if-is_some.ensures)
 
@@ -40,24 +52,30 @@ push_new-requires-clause-new g c =
 
 pub returns-clause-stands : goal.returns-clause-stands
 returns-clause-stands g c =
-    let there = c.in_ok-push_new.ensures.ok in
-    (pushed _ _ _ _ _ _ _ _ _ there.1 c.in_ok-id.ensures (no_entry _ _ _ (no_object _ _ _ _ c.has_content-there.ensures (sym c.if-is_some.ensures))) c.requires.stands c.requires.summed c.if-bytes-gt-CONTENTS_LIMIT.false).stands
+    let named = c.in_ok-id.ensures
+    ∙ ap (object_name g.N.Naming.digest_of c.args.kind) c.as_slice.ensures.value in
+    (pushed _ _ _ _ _ _ _ _ _ c.in_ok-push_new.ensures.ok.1 named (no_entry _ _ _ (no_object _ _ _ _ c.has_content-there.ensures (sym c.if-is_some.ensures))) c.requires.stands c.requires.summed (rw c.len.ensures at c.if-len-gt-CONTENTS_LIMIT.false)).stands
 
 pub returns-clause-others : goal.returns-clause-others
 returns-clause-others g c =
-    let there = c.in_ok-push_new.ensures.ok in
-    (pushed _ _ _ _ _ _ _ _ _ there.1 c.in_ok-id.ensures (no_entry _ _ _ (no_object _ _ _ _ c.has_content-there.ensures (sym c.if-is_some.ensures))) c.requires.stands c.requires.summed c.if-bytes-gt-CONTENTS_LIMIT.false).others
+    let named = c.in_ok-id.ensures
+    ∙ ap (object_name g.N.Naming.digest_of c.args.kind) c.as_slice.ensures.value in
+    (pushed _ _ _ _ _ _ _ _ _ c.in_ok-push_new.ensures.ok.1 named (no_entry _ _ _ (no_object _ _ _ _ c.has_content-there.ensures (sym c.if-is_some.ensures))) c.requires.stands c.requires.summed (rw c.len.ensures at c.if-len-gt-CONTENTS_LIMIT.false)).others
 
 pub returns-clause-answer : goal.returns-clause-answer
-returns-clause-answer g c = (
-  c.in_ok-id.ensures,
-  fault-none _ _ _ _
-      (rw c.in_ok-id.ensures at c.has_content-there.ensures) c.if-bytes-gt-CONTENTS_LIMIT.false
-      (sym c.if-unwrap_or.ensures)
-      _ (length-objects _ _) (sym c.if-is_full.ensures) (sym c.if-is_some.ensures),
-)
+returns-clause-answer g c =
+    let named = c.in_ok-id.ensures
+    ∙ ap (object_name g.N.Naming.digest_of c.args.kind) c.as_slice.ensures.value in (
+      named,
+      fault-none _ _ _ _
+          (rw (named, c.as_slice-2.ensures.value) at c.has_content-there.ensures)
+          (rw c.len.ensures at c.if-len-gt-CONTENTS_LIMIT.false)
+          (sym c.if-unwrap_or.ensures)
+          _ (length-objects _ _) (sym c.if-is_full.ensures) (sym c.if-is_some.ensures),
+    )
 
 pub returns-clause-ok : goal.returns-clause-ok
 returns-clause-ok g c =
-    let there = c.in_ok-push_new.ensures.ok in
-    (pushed _ _ _ _ _ _ _ _ _ there.1 c.in_ok-id.ensures (no_entry _ _ _ (no_object _ _ _ _ c.has_content-there.ensures (sym c.if-is_some.ensures))) c.requires.stands c.requires.summed c.if-bytes-gt-CONTENTS_LIMIT.false).adds
+    let named = c.in_ok-id.ensures
+    ∙ ap (object_name g.N.Naming.digest_of c.args.kind) c.as_slice.ensures.value in
+    (pushed _ _ _ _ _ _ _ _ _ c.in_ok-push_new.ensures.ok.1 named (no_entry _ _ _ (no_object _ _ _ _ c.has_content-there.ensures (sym c.if-is_some.ensures))) c.requires.stands c.requires.summed (rw c.len.ensures at c.if-len-gt-CONTENTS_LIMIT.false)).adds

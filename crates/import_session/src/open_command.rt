@@ -1,0 +1,59 @@
+//! The open command: git-fast-import(1), "commit", "tag" and "reset".
+
+ghost use Rattle.std.specs.Prelude.{◌≡◌, Err, MatchResult};
+ghost use Rattle.stream_grammar.specs.declared.fault.Fault.TheVariants as text_fault;
+ghost use Rattle.stream_state.specs.OpenCommand.{changes_in};
+ghost use Rattle.import_session.specs.Session.{command_shown};
+
+use open_commits::OpenCommit;
+use std::mem;
+use stream_state::fault::Fault;
+use stream_state::headers::{CommitHeader, InlineFile, TagHeader};
+use tenant_refs::RefName;
+
+/// The command that is open.
+#[derive(Drop)]
+pub enum OpenCommand {
+    /// No command.
+    Nothing,
+    /// A commit before its message.
+    Commit(CommitHeader),
+    /// A tag before its message.
+    Tag(TagHeader),
+    /// A reset before its `from`.
+    Reset(RefName),
+    /// A commit after its message.
+    Changes(OpenCommit),
+    /// A commit whose file waits for its data.
+    Inline(OpenCommit, InlineFile),
+}
+
+impl OpenCommand {
+    // Takes it out. Nothing is open then.
+    pub fn take(&mut self) -> OpenCommand
+        ensures taken { result ≡ self.old }
+        ensures after { self.new ≡ OpenCommand.Nothing }
+    {
+        mem::replace(self, OpenCommand::Nothing)
+    }
+
+    // Takes out a commit after its message. Nothing is open then.
+    pub fn take_changes(&mut self) -> Result<OpenCommit, Fault>
+        ensures taken { MatchResult result
+            (λ commit. self.old ≡ OpenCommand.Changes commit)
+            (λ fault. changes_in (command_shown self.old) ≡ Err fault) }
+        ensures after { self.new ≡ OpenCommand.Nothing }
+    {
+        match self.take() {
+            OpenCommand::Changes(commit) => Ok(commit),
+            _ => Err(not_open()),
+        }
+    }
+}
+
+// The refusal of a line whose command is not open. The parser lets no such line through.
+pub fn not_open() -> Fault
+    ensures { result ≡ Fault.Text text_fault.UnknownCommand }
+{
+    Fault::Text(stream_grammar::Fault::UnknownCommand)
+}
