@@ -33,7 +33,7 @@ pub blob-stored : (digest : List ℕ → List ℕ) (w : Workspace) (mark : ℕ) 
     → store_fault id (content_from kind.Blob bytes) w.objects ≡ None
     → after_act digest (ObjectAct (Blob (Some mark) bytes)) w ≡ quiet (record w {
       objects = with_object id (content_from kind.Blob bytes) w.objects;
-      stream = record w.stream { marks = with_mark w.stream.marks (Some mark) id };
+      stream = record w.stream { marks = with_mark w.stream.marks (Some mark) kind.Blob id };
     })
 unfolding after_act object_stored
 blob-stored digest w mark id bytes named room unrefused =
@@ -52,7 +52,7 @@ module _ (digest : List ℕ → List ℕ) (repository : Repository) (good : AreO
   abbrev next : Told
   next = record told {
     objects = with_object id (content_from kind.Blob bytes) told.objects;
-    marks = with_mark told.marks (Some mark) id;
+    marks = with_mark told.marks (Some mark) kind.Blob id;
   }
 
   what : IsKnown digest repository.objects first o

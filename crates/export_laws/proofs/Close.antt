@@ -51,7 +51,7 @@ ends digest w commit end room is =
 abbrev pub next : (List ℕ → List ℕ) → Repository → List ℕ → List ℕ → Told → Told
 next digest repository id bytes told = record {
   objects = left digest repository.objects id bytes told.objects;
-  marks = with_mark told.marks (Some (number_of repository.objects id)) id;
+  marks = with_mark told.marks (Some (number_of repository.objects id)) kind.Commit id;
   branches = (scratch, At id) ∷ [];
   tags = told.tags;
 }

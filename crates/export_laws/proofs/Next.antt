@@ -56,7 +56,7 @@ pub told-next : (repository : Repository) (first rest : List Object) (o : Object
     → AreOf repository next.objects
     → ((x : List ℕ) (d : Content) → object_named x old.objects ≡ Some d → object_named x next.objects ≡ Some d)
     → object_named o.id next.objects ≡ Some o.content
-    → next.marks ≡ with_mark old.marks (Some (number_of repository.objects o.id)) o.id
+    → next.marks ≡ with_mark old.marks (Some (number_of repository.objects o.id)) o.content.kind o.id
     → IsScratchAlone next.branches
     → next.tags ≡ tags_of (reached_among repository (first ++ o ∷ []))
     → AreTold repository (first ++ o ∷ []) next
@@ -71,10 +71,10 @@ told-next repository first rest o old next is here told of kept named marks bran
       })
       (λ same content. record {
         object = ap (λ (y : List ℕ). object_named y next.objects) same ∙ named ∙ ap Some (sym content);
-        mark = rw (marks, same) (mark-set old.marks (number_of repository.objects o.id) o.id);
+        mark = rw (marks, same, content) (mark-set old.marks (number_of repository.objects o.id) o.content.kind o.id);
       });
   few =
-      let longer = marks-longer old.marks (number_of repository.objects o.id) o.id in
+      let longer = marks-longer old.marks (number_of repository.objects o.id) o.content.kind o.id in
       let len = length-append first (o ∷ []) in
       let few = told.few in
       rw marks (omega (arith, longer, len, few));

@@ -1,33 +1,29 @@
 -- The files of an open commit: all go, and those of its tree are put one by one.
-use Rattle.std.proofs.Common.{◌≡◌, ◌≢◌, ℕ, Bool, true, nat_eq, if◌then◌else◌, List, [], ◌∷◌, map, Option, None, Some, Result, Ok, Err, refl, ap, ◌∙◌}
+use Rattle.std.proofs.Common.{◌≡◌, ◌≢◌, ℕ, Bool, true, if◌then◌else◌, List, [], ◌∷◌, map, Option, None, Result, Ok, Err, refl, ap, ◌∙◌}
 use Rattle.std.specs.FinMap as finmap
 use Rattle.std.specs.List.{AllByRecursion}
-use Rattle.std.specs.Map.{lookup}
-use Rattle.std.specs.Option.{option_map}
+use Rattle.std.specs.Str.{bytes_eq}
+use Rattle.std.proofs.lemmas.Slice.Eq.{bytes_eq-Decides}
 use Rattle.git_model.specs.declared.file_mode.FileMode.{FileMode}
 use Rattle.git_model.specs.declared.file_mode.FileMode.TheVariants as mode
-use Rattle.git_model.specs.declared.kind.Kind.{Kind}
 use Rattle.git_model.specs.declared.kind.Kind.TheVariants as kind
-use Rattle.git_model.specs.Content.{Content}
-use Rattle.git_model.specs.Peeling.{is_of}
-use Rattle.git_model.specs.Repository.{Object, object_named}
-use Rattle.git_model.proofs.Peelings.{is_of_kind}
+use Rattle.git_model.specs.Kind.{kind_word}
+use Rattle.git_model.specs.Repository.{Object}
 use Rattle.file_maps.specs.declared.entry.Entry.{Entry}
 use Rattle.file_maps.specs.Edits.{moved, put_at, put_fault}
 use Rattle.file_maps.specs.FileMap.{FileMap, Listed, Path}
+use Rattle.stream_grammar.specs.declared.marked_object.MarkedObject.{MarkedObject}
 use Rattle.stream_grammar.specs.Acts.{Change}
 use Rattle.stream_grammar.specs.Acts.{Modify, DeleteAll}
 use Rattle.open_commits.specs.declared.fault.Fault.{Fault as CommitFault}
 use Rattle.open_commits.specs.declared.fault.Fault.TheVariants as commit_fault
-use Rattle.open_commits.specs.Changes.{blob_of, entry_of, file_put, held_as, modified}
-use Rattle.open_commits.specs.Changes.{marked_name as name_by_mark}
+use Rattle.open_commits.specs.Changes.{blob_of, entry_of, file_put, modified, name_as}
 use Rattle.open_commits.specs.Faults.{and_then as commit_then, or_fault}
 use Rattle.open_commits.specs.OpenCommit.{OpenCommit}
 use Rattle.open_commits.specs.Parents.{changed_to}
 use Rattle.import_session.specs.Changes.{files_changed}
 use Rattle.stream_state.specs.Faults.{and_then}
 use Rattle.import_session.specs.Faults.{changed_or}
-use Rattle.stream_state.specs.Marks.{found_mark, marked_name, Marks}
 use Rattle.import_session.specs.Meaning.{after_act}
 use Rattle.import_session.specs.Workspace.{Workspace, quiet}
 use Rattle.export_text.specs.ExportActs.{act_of_file, asks, dataref, number_of}
@@ -43,36 +39,20 @@ pub record MayTell (os : List Object) (w : Workspace) (f : Path × Entry) : Type
 
 -- ---- what a file names
 
-found-is : (o : Option (List ℕ)) (id : List ℕ) → found_mark o ≡ Ok id → o ≡ Some id
-found-is None id h = cc
-found-is (Some other) id h = cc
-
-marked-alike : (marks : Marks) (n : ℕ) (id : List ℕ) → marked_name marks n ≡ Ok id
-    → name_by_mark marks n ≡ Ok id
-marked-alike marks n id is =
-    ap (or_fault commit_fault.MarkUnknown) (found-is (lookup (nat_eq n) marks) id is)
-
 abbrev if_so : List ℕ → Bool → Result (List ℕ) CommitFault
 if_so id yea = if yea then Ok id else Err commit_fault.WrongKind
 
-held-by : (os : List Object) (k : Kind) (id : List ℕ) (found : Option Content)
-    → object_named id os ≡ found → option_map (λ (c : Content). c.kind) found ≡ Some k
-    → held_as os k id ≡ Ok id
-held-by os k id None e h = cc
-held-by os k id (Some c) e h =
-    let yea : is_of os k id ≡ true = (is_of_kind os k id).1 (ap (option_map (λ (c : Content). c.kind)) e ∙ h) in
-    ap (λ (o : Option Content). commit_then (or_fault commit_fault.ObjectUnknown o)
-    (λ _. if_so id (is_of os k id))) e
-    ∙ ap (if_so id) yea
+is-blob : bytes_eq (kind_word kind.Blob) (kind_word kind.Blob) ≡ true
+is-blob = (bytes_eq-Decides (kind_word kind.Blob) (kind_word kind.Blob)).1 refl
 
 blob-named : (os : List Object) (w : Workspace) (id : List ℕ) → IsToldAs os w id kind.Blob
     → (m : FileMode) → dataref os m id ≡ dataref os mode.Regular id
     → blob_of w.objects w.stream.marks (dataref os m id) ≡ Ok id
 blob-named os w id told m same =
     ap (blob_of w.objects w.stream.marks) same
-    ∙ ap (λ (r : Result (List ℕ) CommitFault). commit_then r (held_as w.objects kind.Blob))
-    (marked-alike w.stream.marks (number_of os id) id told.mark)
-    ∙ held-by w.objects kind.Blob id (object_named id w.objects) refl told.is
+    ∙ ap (λ (found : Option MarkedObject). commit_then (or_fault commit_fault.MarkUnknown found)
+    (name_as kind.Blob)) told.mark
+    ∙ ap (if_so id) is-blob
 
 -- ---- one file
 

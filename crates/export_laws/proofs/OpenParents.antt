@@ -24,18 +24,19 @@ use Rattle.import_session.specs.Commits.{commit_said}
 use Rattle.import_session.specs.CommitIshes.{commit_in}
 use Rattle.stream_state.specs.Faults.{and_then, resolved_or}
 use Rattle.import_session.specs.Faults.{changed_or}
-use Rattle.stream_state.specs.Marks.{marked_name}
 use Rattle.import_session.specs.Meaning.{after_act}
 use Rattle.stream_state.specs.OpenCommand.{Changes}
 use Rattle.import_session.specs.Workspace.{Workspace, quiet, with_command}
 use Rattle.export_text.specs.ExportActs.{merges, number_of, parent_acts}
 use Rattle.export_laws.specs.Leaving.{Leaves, nothing}
+use Rattle.export_laws.specs.Told.{StandsFor}
 use Rattle.export_laws.proofs.Acts.{asked}
+use Rattle.export_laws.proofs.MarksSet.{named-by-mark}
 
 -- An object of a repository is there under its mark, with its kind.
 pub record IsToldAs (os : List Object) (w : Workspace) (id : List ℕ) (k : Kind) : Type 0 where
   pub is : kind_named id w.objects ≡ Some k
-  pub mark : marked_name w.stream.marks (number_of os id) ≡ Ok id
+  pub mark : StandsFor w.stream.marks (number_of os id) k id
 
 -- A workspace with this commit open.
 abbrev pub with_open : Workspace → OpenCommit → Workspace
@@ -57,7 +58,8 @@ peels os k id is = at-once (is_of os k) (next_to os k) (length os) id ((is_of_ki
 pub commit-meant : (os : List Object) (w : Workspace) (id : List ℕ) → IsToldAs os w id kind.Commit
     → commit_in w (Marked (number_of os id)) ≡ Ok id
 commit-meant os w id told =
-    ap (λ (r : Result (List ℕ) Fault). and_then r (λ id. resolved_or (peeled w.objects kind.Commit id))) told.mark
+    ap (λ (r : Result (List ℕ) Fault). and_then r (λ id. resolved_or (peeled w.objects kind.Commit id)))
+    (named-by-mark w.stream.marks (number_of os id) kind.Commit id told.mark)
     ∙ ap (λ (o : Option (List ℕ)). resolved_or (or_fault revision_fault.WrongKind o))
     (peels w.objects kind.Commit id told.is)
 

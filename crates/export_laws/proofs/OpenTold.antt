@@ -21,6 +21,7 @@ use Rattle.stream_grammar.specs.Acts.{Wait, Commit as CommitAct}
 use Rattle.stream_grammar.specs.Acts.{Begin, Author, Committer, Message}
 use Rattle.stream_grammar.specs.Commands.{Done}
 use Rattle.open_commits.specs.OpenCommit.{Header, OpenCommit as Open}
+use Rattle.stream_state.specs.Marks.{as_marked}
 use Rattle.stream_state.specs.declared.branches.Tip.{Tip}
 use Rattle.stream_state.specs.declared.branches.Tip.TheVariants.{Unborn}
 use Rattle.stream_state.specs.Branches.{tip_commit, tip_for}
@@ -69,7 +70,7 @@ module _ (repository : Repository) (first : List Object) (told : Told)
       let there = all.each id content is reached (λ tree. other (sym of ∙ tree)) in
       record {
         is = ap (option_map (λ (c : Content). c.kind)) there.object ∙ ap Some of;
-        mark = there.mark;
+        mark = there.mark ∙ ap (λ (k : Kind). Some (as_marked k id)) of;
       }
 
   there-by : (head : Option (List ℕ)) (tip : Tip) (k : Kind) → k ≢ kind.Tree → (id : List ℕ)

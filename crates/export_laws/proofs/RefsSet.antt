@@ -1,6 +1,7 @@
 -- Refs that are set, in turn: to a commit by a reset, and to a tag by the tag once more.
 use Rattle.std.proofs.Common.{◌≡◌, ◌≢◌, ℕ, ◌+◌, ◌*◌, ◌<◌, ◌≤◌, true, length, List, [], ◌∷◌, ◌++◌, Option, None, Some, refl, sym, ap, ◌∙◌, subst, inl, inr, arith}
-use Rattle.std.specs.Prelude.{unwrap_or}
+use Rattle.std.specs.Prelude.{nat_eq, unwrap_or}
+use Rattle.std.specs.Map.{lookup}
 use Rattle.std.specs.List.{AllByRecursion, flat_map, list_any}
 use Rattle.std.specs.Option.{option_map}
 use Rattle.std.specs.Str.{bytes_eq}
@@ -20,7 +21,7 @@ use Rattle.stream_grammar.specs.Names.{Marked}
 use Rattle.stream_state.specs.declared.branches.Tip.TheVariants.{Unborn, Deleted, At}
 use Rattle.open_commits.specs.OpenCommit.{OpenCommit}
 use Rattle.stream_state.specs.Branches.{branch_limit, tip_of, with_branch, Branches}
-use Rattle.stream_state.specs.Marks.{marked_name, Marks}
+use Rattle.stream_state.specs.Marks.{as_marked, marked_name, Marks}
 use Rattle.stream_state.specs.Tags.{tag_limit, PendingTags}
 use Rattle.stream_state.specs.OpenCommand as open_command
 use Rattle.stream_state.specs.OpenCommand.{OpenCommand}
@@ -28,8 +29,9 @@ use Rattle.import_session.specs.Workspace.{Workspace}
 use Rattle.export_text.specs.ExportActs.{acts_of_ref, number_of, ref_acts, tag_acts}
 use Rattle.export_text.specs.Reached.{tag_ref}
 use Rattle.export_laws.specs.Leaving.{Leaves, nothing}
-use Rattle.export_laws.specs.Told.{AreTold, IsThere, Told}
+use Rattle.export_laws.specs.Told.{AreTold, IsThere, StandsFor, Told}
 use Rattle.export_laws.proofs.Acts.{both}
+use Rattle.export_laws.proofs.MarksSet.{named-by-mark}
 use Rattle.export_laws.proofs.Known.{IsEarlier, IsKnown, known, reached-on}
 use Rattle.export_laws.proofs.RefsAgree.{Agree, IsSet, agree-placed, agree-tagged, deleted-kept, placed-here, set-kept, tagged-here, tagged-kept}
 use Rattle.export_laws.proofs.RefsHeld.{bytes-are}
@@ -105,6 +107,11 @@ module _ (digest : List ℕ → List ℕ) (repository : Repository) (good : AreO
           ap (kind_named e.1) objects
           ∙ ap (option_map (λ (c : Content). c.kind)) there.object ∙ ap Some of.kind
 
+      there-marked : StandsFor saved.stream.marks (number_of os e.1) kind.Commit e.1
+      there-marked =
+          ap (λ (m : Marks). lookup (nat_eq (number_of os e.1)) m) marks
+          ∙ there.mark ∙ ap (λ (k : Kind). Some (as_marked k e.1)) of.kind
+
       commit-leaves : Leaves digest (acts_of_ref os e) (state saved branches tags command)
           (state saved (placed branches e.0 (At e.1)) tags open_command.Nothing)
       commit-leaves =
@@ -113,7 +120,7 @@ module _ (digest : List ℕ → List ℕ) (repository : Repository) (good : AreO
           (reset-leaves digest saved branches tags command e.0 (Marked (number_of os e.1)) (At e.1)
           (named-apart e.0 (refs.names e.0 e.1 is.holds)) few
           (to-marked os (state saved (with_branch branches e.0 Unborn) tags (open_command.Reset e.0)) e.0 e.1
-          (record { is = commit-there; mark = ap (λ (m : Marks). marked_name m (number_of os e.1)) marks ∙ there.mark })))
+          (record { is = commit-there; mark = there-marked })))
 
       commit-set : OneSet e branches tags command
       commit-set = record {
@@ -176,7 +183,10 @@ module _ (digest : List ℕ → List ℕ) (repository : Repository) (good : AreO
 
       may : MayTag digest (state saved branches tags command) None t (number_of os t.target)
       may = record {
-        target = ap (λ (m : Marks). marked_name m (number_of os t.target)) marks ∙ target-there.mark;
+        target =
+            ap (λ (m : Marks). marked_name m (number_of os t.target)) marks
+            ∙ named-by-mark told.marks (number_of os t.target) target.content.kind t.target
+            target-there.mark;
         kind_is =
             ap (kind_named t.target) objects
             ∙ ap (option_map (λ (c : Content). c.kind)) target-there.object ∙ ap Some target.kind;

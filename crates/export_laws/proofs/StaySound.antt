@@ -10,7 +10,8 @@ use Rattle.stream_state.specs.declared.fault.Fault.{Fault}
 use Rattle.import_session.specs.Meaning.{after_act}
 use Rattle.import_session.specs.Sound.{IsSound}
 use Rattle.import_session.specs.Workspace.{Effect, Workspace, opened, quiet}
-use Rattle.import_session.proofs.SoundLemmas.{act_keeps, empty_is_sound, ended_sound, new_is_sound}
+use Rattle.import_session.proofs.SoundEnds.{ended_sound}
+use Rattle.session_laws.proofs.SoundLemmas.{act_keeps, empty_is_sound, new_is_sound}
 use Rattle.export_laws.specs.Leaving.{Leaves, nothing, first_act}
 use Rattle.export_laws.specs.Told.{Told, workspace_of}
 use Rattle.export_laws.specs.Whole.{nothing_there}

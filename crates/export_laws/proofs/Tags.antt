@@ -76,7 +76,7 @@ tagged_in digest w mark t =
     record w {
       objects = with_object (name_by digest c) c w.objects;
       stream = record w.stream {
-        marks = with_mark w.stream.marks mark (name_by digest c);
+        marks = with_mark w.stream.marks mark kind.Tag (name_by digest c);
         tags = w.stream.tags ++ (tag_ref t.name, name_by digest c) ∷ [];
         command = open_command.Nothing;
       };

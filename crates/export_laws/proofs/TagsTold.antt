@@ -22,7 +22,7 @@ use Rattle.export_text.specs.Reached.{is_tag, reached_objects, reached_tags, tag
 use Rattle.export_laws.specs.Leaving.{Leaves}
 use Rattle.export_laws.specs.Told.{AreTold, IsThere, IsToldNext, Told, reached_among, stream_told, tags_of, workspace_of}
 use Rattle.export_laws.proofs.Known.{IsEarlier, IsKnown, known, reached-on}
-use Rattle.export_laws.proofs.MarksSet.{mark-room}
+use Rattle.export_laws.proofs.MarksSet.{mark-room, named-by-mark}
 use Rattle.export_laws.proofs.Next.{reached-last, tags-of-tag, told-next}
 use Rattle.export_laws.proofs.Storing.{IsStored, stored}
 use Rattle.export_laws.proofs.Tags.{MayTag, tag-leaves}
@@ -54,7 +54,7 @@ module _ (digest : List ℕ → List ℕ) (repository : Repository) (good : AreO
   abbrev next : Told
   next = record {
     objects = with_object id (content_from kind.Tag bytes) told.objects;
-    marks = with_mark told.marks (Some mark) id;
+    marks = with_mark told.marks (Some mark) kind.Tag id;
     branches = told.branches;
     tags = told.tags ++ (tag_ref t.name, id) ∷ [];
   }
@@ -97,7 +97,9 @@ module _ (digest : List ℕ → List ℕ) (repository : Repository) (good : AreO
 
   may : (head : Option (List ℕ)) → MayTag digest (workspace_of head told) (Some mark) t (number_of repository.objects t.target)
   may head = record {
-    target = target-there.mark;
+    target =
+        named-by-mark told.marks (number_of repository.objects t.target) target.content.kind t.target
+        target-there.mark;
     kind_is = ap (option_map (λ (c : Content). c.kind)) target-there.object ∙ ap Some target.kind;
     no_tree = written.can.kind;
     marks = mark-room told.marks mark
@@ -113,7 +115,7 @@ module _ (digest : List ℕ → List ℕ) (repository : Repository) (good : AreO
   left head b i = record (workspace_of head told) {
     objects = with_object i (content_from kind.Tag b) told.objects;
     stream = record (stream_told head told) {
-      marks = with_mark told.marks (Some mark) i;
+      marks = with_mark told.marks (Some mark) kind.Tag i;
       tags = told.tags ++ (tag_ref t.name, i) ∷ [];
     };
   }

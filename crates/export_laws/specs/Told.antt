@@ -1,7 +1,9 @@
 -- What the acts of exported objects leave of a stream, object by object.
-use Rattle.std.specs.Prelude.{◌≡◌, ◌≢◌, ℕ, ◌≤◌, ◌⊎◌, false, true, List, [], ◌∷◌, ◌++◌, length, map, filter, Option, Some, Ok}
+use Rattle.std.specs.Prelude.{◌≡◌, ◌≢◌, ℕ, nat_eq, ◌≤◌, ◌⊎◌, false, true, List, [], ◌∷◌, ◌++◌, length, map, filter, Option, Some}
 use Rattle.std.specs.List.{IsDistinct}
+use Rattle.std.specs.Map.{lookup}
 use Rattle.std.specs.Str.{bytes_eq}
+use Rattle.git_model.specs.declared.kind.Kind.{Kind}
 use Rattle.git_model.specs.declared.kind.Kind.TheVariants as kind
 use Rattle.git_model.specs.Content.{Content}
 use Rattle.git_model.specs.Reach.{is_referred_to}
@@ -11,7 +13,7 @@ use Rattle.export_text.specs.ExportActs.{acts_of_object, number_of}
 use Rattle.export_text.specs.ExportItems.{scratch}
 use Rattle.export_text.specs.Reached.{is_tag, ref_of_tag}
 use Rattle.stream_state.specs.declared.branches.Tip.{Tip}
-use Rattle.stream_state.specs.Marks.{marked_name, Marks}
+use Rattle.stream_state.specs.Marks.{as_marked, Marks}
 use Rattle.stream_state.specs.Branches.{Branches}
 use Rattle.stream_state.specs.Tags.{PendingTags}
 use Rattle.stream_state.specs.OpenCommand.{Nothing}
@@ -63,10 +65,14 @@ pub record AreOf (repository : Repository) (objects : List Object) : Type 0 wher
       → is_referred_to repository id ≡ true
   pub distinct : IsDistinct bytes_eq (map (λ (o : Object). o.id) objects)
 
+-- A mark stands for the object of this name, with its kind.
+abbrev pub StandsFor : Marks → ℕ → Kind → List ℕ → Type 0
+StandsFor marks mark kind id = lookup (nat_eq mark) marks ≡ Some (as_marked kind id)
+
 -- An object is there, under its name and under its mark.
 pub record IsThere (os : List Object) (told : Told) (id : List ℕ) (content : Content) : Type 0 where
   pub object : object_named id told.objects ≡ Some content
-  pub mark : marked_name told.marks (number_of os id) ≡ Ok id
+  pub mark : StandsFor told.marks (number_of os id) content.kind id
 
 -- There is no branch except the one on which commits are told.
 abbrev pub IsScratchAlone : Branches → Type 0

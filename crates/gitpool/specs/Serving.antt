@@ -42,15 +42,16 @@ abbrev pub AreAnswered : Device → Device → Device → Device → Run → Typ
 AreAnswered reader reader' writer writer' run =
     Appends writer.known writer'.known (answers_text run) × AreWell reader reader' writer writer'
 
--- What was written, by the answer: all answers; or, if a device failed, a prefix of them, and all of
--- them if no write failed.
+-- What was written, by the answer: all answers; or, if a device failed, a prefix of them, and all
+-- of them if no write failed.
 abbrev pub WritesAnswers : Result Unit FrameFault → Device → Device → Device → Device → Run → Type 0
 WritesAnswers (Err fault.Device) reader reader' writer writer' run =
     AppendsAsFar writer writer' (answers_text run) × IsToBlame reader reader' writer writer' run
 WritesAnswers _ reader reader' writer writer' run = AreAnswered reader reader' writer writer' run
 
 -- What was read after the last good frame, by the answer: nothing, if the input ends there; a bad
--- frame, up to the byte that shows it; a frame that the end of the input cuts off; or a part of one.
+-- frame, up to the byte that shows it; a frame that the end of the input cuts off; or a part of
+-- one.
 abbrev pub StopsReading : Result Unit FrameFault → List ℕ → Device → Type 0
 StopsReading (Ok u) rest reader = (rest ≡ []) × IsAtEnd reader.known
 StopsReading (Err fault.BadFrame) rest reader = IsBad rest
@@ -58,7 +59,8 @@ StopsReading (Err fault.CutOff) rest reader = IsCutOff rest × IsAtEnd reader.kn
 StopsReading (Err fault.Device) rest reader = IsUnfinished rest
 StopsReading (Err fault.Memory) rest reader = IsUnfinished rest
 
--- What serving did: it took the steps of a run, stopped reading after them, and wrote their answers.
+-- What serving did: it took the steps of a run, stopped reading after them, and wrote their
+-- answers.
 pub record Serves (digest : List ℕ → List ℕ) (before after : TenantStates)
     (reader reader' writer writer' : Device) (answer : Result Unit FrameFault) : Type 0 where
   pub served : Served digest before after reader reader'

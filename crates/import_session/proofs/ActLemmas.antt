@@ -5,6 +5,7 @@ use Rattle.std.specs.Prelude.{OnOk}
 use Rattle.std.proofs.lemmas.Bool.{cond-true}
 use Rattle.stream_state.specs.declared.fault.Fault.{Fault}
 use Rattle.stream_state.specs.declared.fault.Fault.TheVariants as fault
+use Rattle.git_model.specs.declared.kind.Kind.TheVariants as kind
 use Rattle.git_model.specs.Content.{Content}
 use Rattle.git_model.specs.RefStore.{RefStore}
 use Rattle.content_pool.specs.Pool.{Cells}
@@ -196,7 +197,7 @@ item_answered digest w p k done new b out out' (Err e) reads carried finished =
     item_refused digest w p k done new (record { workspace = new; parsing = p; is_done = b })
     out out' e reads carried
 
--- what was given was no want of memory
+-- what was given was not that memory ran out
 pub no_memory : (given : Result LentDone TextFault) (done : LentDone)
     → ((by : Result Done TextFault) → Answers given by → ReadsItem (Ok done) by)
     → given ≢ Err text_fault.Memory
@@ -212,7 +213,7 @@ no_memory given done reads memory =
 pub blob_carried : (digest : List ℕ → List ℕ) (content : Content) (mark : Option ℕ) (id : List ℕ)
     (state : StreamState) (before after : Marks) (p : Cells) (t : View) (q : Cells) (v : View) (refs : RefStore)
     (out : List ℕ) → room_for before mark ≡ Ok tt → IsStored digest content p t q v id
-    → after ≡ with_mark before mark id → FilesStand state p t
+    → after ≡ with_mark before mark kind.Blob id → FilesStand state p t
     → CarriesOut (blob_stored digest mark content
     (workspace_in (marked state before) p t refs))
     (workspace_in (marked state after) q v refs) out out (Ok tt)

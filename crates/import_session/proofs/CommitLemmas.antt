@@ -10,6 +10,7 @@ use Rattle.file_maps.specs.declared.fault.Fault.{Fault as FilesFault}
 use Rattle.file_maps.specs.Edits.{put_fault}
 use Rattle.file_maps.specs.FileMap.{FileMap}
 use Rattle.file_maps.specs.StoredFiles.{commit_map, stored_files, tree_of_commit}
+use Rattle.kept_files.specs.declared.kept_files.Kept.{Kept}
 use Rattle.open_commits.specs.declared.fault.Fault.{Fault as CommitFault}
 use Rattle.open_commits.specs.declared.fault.Fault.TheVariants as commit_fault
 use Rattle.open_commits.specs.declared.open_commit.OpenCommit.{OpenCommit as LentCommit}
@@ -211,13 +212,13 @@ opened_refused workspace new mark message said header e f out same told refused 
     (λ other. rw (told, same, refused (rw same at other)) refl)
 
 pub opened_well : (state left : StreamState) (pool : Cells) (table : View) (refs : RefStore)
-    (branches : Branches) (spent : OpenCommand HeldCommit) (mark : Option ℕ) (message : List ℕ)
-    (said : CommitHeader) (header : Header) (next : HeldCommit) (out : List ℕ)
+    (branches : Branches) (spent : OpenCommand HeldCommit) (kept : List Kept) (mark : Option ℕ)
+    (message : List ℕ) (said : CommitHeader) (header : Header) (next : HeldCommit) (out : List ℕ)
     → header_said mark said ≡ Ok header
     → opened_with (workspace_in state pool table refs) message header
     ≡ quiet (workspace_in (state_with (branched state branches) (open_command.Changes next)) pool table refs)
-    → left ≡ record (state_with (branched state branches) spent) { left = None }
+    → left ≡ record (state_with (branched state branches) spent) { kept = kept }
     → CarriesOut (commit_opened mark message said (workspace_in state pool table refs))
     (workspace_in (state_with left (open_command.Changes next)) pool table refs) out out (Ok tt)
-opened_well state left pool table refs branches spent mark message said header next out told opens left_is =
+opened_well state left pool table refs branches spent kept mark message said header next out told opens left_is =
     rw (told, opens) (rw left_is refl, search rules)

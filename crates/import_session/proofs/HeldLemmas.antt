@@ -1,18 +1,27 @@
 -- The files that a session holds stay what they are.
 use Rattle.std.proofs.Common.{◌≡◌, ℕ, List, Option, None, Some, Result, Ok, Err, refl, ap, subst}
-use Rattle.std.specs.Prelude.{IfSome, OnOk}
+use Rattle.std.specs.Prelude.{OnOk}
+use Rattle.std.proofs.lemmas.List.Elements.{All-weaker}
 use Rattle.git_model.specs.Content.{Content, name_by}
 use Rattle.git_model.specs.Repository.{Object, with_object}
 use Rattle.tenant_tables.specs.declared.fault.Fault.{Fault as TableFault}
+use Rattle.content_pool.specs.Pool.{Cells}
 use Rattle.tenant_tables.specs.Adding.{store_fault}
+use Rattle.tenant_tables.specs.Objects.{objects}
+use Rattle.tenant_tables.specs.View.{View}
 use Rattle.file_maps.specs.FileMap.{FileMap}
 use Rattle.tree_build.specs.Branch.{Branch, IsBranch, files_in}
 use Rattle.tree_build.proofs.Growing.{branch_stays}
+use Rattle.kept_files.specs.declared.kept_files.Kept.{Kept}
+use Rattle.kept_files.specs.Kept.{AreBranches}
+use Rattle.open_commits.specs.declared.fault.Fault.{Fault as CommitFault}
+use Rattle.open_commits.specs.Calls.{AddsOnly}
 use Rattle.open_commits.specs.OpenCommit.{HeldCommit, OpenCommit, Stands, commit_in}
 use Rattle.stream_state.specs.declared.fault.Fault.{Fault}
 use Rattle.stream_state.specs.OpenCommand.{OpenCommand, Changes, Inline, command_with}
 use Rattle.stream_state.specs.Storing.{stored_or, with_content}
-use Rattle.import_session.specs.Session.{StreamState}
+use Rattle.import_session.specs.Faults.{changed_or}
+use Rattle.import_session.specs.Session.{StreamState, state_with}
 use Rattle.import_session.specs.Held.{HoldsFiles, HoldsOpen, KeepsBranchFiles}
 
 -- ---- where one object is stored
@@ -33,9 +42,10 @@ module _ (digest : List ℕ → List ℕ) (content : Content) (os more : List Ob
       (store_fault (name_by digest content) content os) is)
       (branch_stays (name_by digest content) content os b stands)
 
-  left_grown : (left : Option Branch) → IfSome left (IsBranch os) → IfSome left (IsBranch more)
-  left_grown None stands = tt
-  left_grown (Some b) stands = (branch_grown b stands).0
+  kept_grown : (kept : List Kept) → AreBranches os kept → AreBranches more kept
+  kept_grown kept stand =
+      All-weaker (λ commit. IsBranch os commit.files) (λ commit. IsBranch more commit.files)
+      (λ commit stands. (branch_grown commit.files stands).0) kept stand
 
   command_grown : (command : OpenCommand HeldCommit) → HoldsOpen os command → HoldsOpen more command
   command_grown (Changes held) stands = (branch_grown held.files stands).0
@@ -57,8 +67,29 @@ module _ (digest : List ℕ → List ℕ) (content : Content) (os more : List Ob
   pub files_grown : (state : StreamState) → HoldsFiles os state → HoldsFiles more state
   files_grown state holds = record {
     command = command_grown state.stream.command holds.command;
-    left = left_grown state.left holds.left;
+    kept = kept_grown state.kept holds.kept;
   }
+
+-- the files that are kept stay branches where objects are only added
+pub kept_stand : (p : Cells) (t : View) (q : Cells) (u : View) → AddsOnly p t q u
+    → (kept : List Kept) → AreBranches (objects p t.entries) kept
+    → AreBranches (objects q u.entries) kept
+kept_stand p t q u adds kept stand =
+    All-weaker (λ commit. IsBranch (objects p t.entries) commit.files)
+    (λ commit. IsBranch (objects q u.entries) commit.files)
+    (λ commit. adds.branches commit.files) kept stand
+
+-- what holds in any case holds where a call was carried out
+pub where_ok : {A B : Type 0} {P : Type 0} (r : Result A B) → P → OnOk r P
+where_ok (Ok value) holds = holds
+where_ok (Err e) holds = tt
+
+-- a commit that changed is the open one again, beside the files that are kept
+pub open_again : (os : List Object) (state : StreamState) (commit : HeldCommit)
+    (r : Result Unit CommitFault) → OnOk r (Stands os commit) → AreBranches os state.kept
+    → OnOk (changed_or r) (HoldsFiles os (state_with state (Changes commit)))
+open_again os state commit (Ok u) stands kept = record { command = stands; kept = kept }
+open_again os state commit (Err e) stands kept = tt
 
 -- what stands in any case stands where a call was carried out
 pub still_held : {A : Type 0} (r : Result A Fault) (os : List Object) (old new : StreamState)

@@ -1,4 +1,4 @@
-mod ActLemmas
+pub mod ActLemmas
 mod CheckpointLemmas
 mod CommittedLemmas
 mod LastLemmas
@@ -6,11 +6,5 @@ mod TagLemmas
 mod CommitLemmas
 mod HeldLemmas
 pub mod LentLemmas
-pub mod SoundObjects
-pub mod SoundTrees
 pub mod SoundCommits
-pub mod SoundRefs
-pub mod SoundChanges
-pub mod SoundLemmas
-pub mod FittingLemmas
-pub mod KnownLemmas
+pub mod SoundEnds

@@ -1,5 +1,5 @@
 -- What a commit-ish is peeled to is a commit of good objects.
-use Rattle.std.proofs.Common.{◌≡◌, ℕ, Bool, true, List, [], ◌∷◌, Option, None, Some, length, refl, All}
+use Rattle.std.proofs.Common.{◌≡◌, ℕ, Bool, true, false, List, [], ◌∷◌, Option, None, Some, Result, Ok, Err, length, refl, All}
 use Rattle.std.specs.Prelude.{IfOk, IfSome}
 use Rattle.std.specs.Map.{lookup}
 use Rattle.std.specs.Option.{option_and_then}
@@ -18,13 +18,32 @@ use Rattle.revisions.specs.Resolution.{peeled}
 use Rattle.stream_grammar.specs.Names.{CommitIsh}
 use Rattle.stream_state.specs.declared.branches.Tip.{Tip}
 use Rattle.stream_state.specs.declared.branches.Tip.TheVariants.{Unborn, Deleted, At}
-use Rattle.stream_state.specs.Faults.{resolved_or}
+use Rattle.stream_state.specs.declared.fault.Fault.{Fault}
+use Rattle.stream_state.specs.Faults.{and_then, resolved_or}
 use Rattle.import_session.specs.Workspace.{Workspace}
 use Rattle.stream_state.specs.Branches.{commit_at, tip_of, tip_commit}
 use Rattle.import_session.specs.CommitIshes.{commit_in, is_branch, named_in, start_in}
 use Rattle.import_session.specs.Commits.{IsTipCommit}
 use Rattle.import_session.specs.Sound.{IsStreamBranch, IsSound, IsTip}
-use Rattle.import_session.proofs.SoundObjects.{by_test, then_any}
+
+-- ---- what is carried out, and then what comes after it
+
+pub then_good : {A B : Type 0} (P : A → Type 0) (Q : B → Type 0) (r : Result A Fault)
+    (next : A → Result B Fault)
+    → IfOk r P → ((value : A) → P value → IfOk (next value) Q) → IfOk (and_then r next) Q
+then_good P Q (Ok value) next good goes_on = goes_on value good
+then_good P Q (Err e) next good goes_on = tt
+
+pub then_any : {A B : Type 0} (Q : B → Type 0) (r : Result A Fault) (next : A → Result B Fault)
+    → ((value : A) → IfOk (next value) Q) → IfOk (and_then r next) Q
+then_any Q (Ok value) next goes_on = goes_on value
+then_any Q (Err e) next goes_on = tt
+
+pub by_test : {P : Type 0} (test : Bool) → (test ≡ true → P) → (test ≡ false → P) → P
+by_test true holds fails = holds refl
+by_test false holds fails = fails refl
+
+-- ---- what a commit-ish stands for
 
 -- a commit is there
 abbrev pub IsCommitOf : List Object → List ℕ → Type 0

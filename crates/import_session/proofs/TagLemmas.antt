@@ -1,6 +1,7 @@
 -- What storing a tag leaves, and what refuses it.
 use Rattle.std.proofs.Common.{◌≡◌, ◌≢◌, ℕ, List, [], ◌∷◌, ◌++◌, Option, Ok, Err, refl, rules}
 use Rattle.git_model.specs.declared.kind.Kind.{Kind}
+use Rattle.git_model.specs.declared.kind.Kind.TheVariants as object_kind
 use Rattle.git_model.specs.Content.{name_by}
 use Rattle.git_model.specs.RefStore.{RefStore}
 use Rattle.git_model.specs.Repository.{Object}
@@ -27,7 +28,7 @@ stored_in digest mark message header w target kind os =
     record w {
       objects = os;
       stream = record w.stream {
-        marks = with_mark w.stream.marks mark name;
+        marks = with_mark w.stream.marks mark object_kind.Tag name;
         tags = w.stream.tags ++ (header.ref_name, name) ∷ [];
         command = Nothing;
       };
@@ -73,12 +74,12 @@ tag_kept digest mark message header w new out target kind os is stored left =
 -- what is left, by its parts
 pub tag_left : (state left : StreamState) (mark : Option ℕ) (ref id name : List ℕ) (marks : Marks)
     (tags : PendingTags) (p : Cells) (t : View) (q : Cells) (v : View) (refs : RefStore)
-    → left ≡ state_with state Nothing → marks ≡ with_mark left.stream.marks mark id
+    → left ≡ state_with state Nothing → marks ≡ with_mark left.stream.marks mark object_kind.Tag id
     → tags ≡ left.stream.tags ++ (ref, id) ∷ [] → id ≡ name → v.committed ≡ t.committed
     → record (workspace_in state p t refs) {
       objects = objects q v.entries;
       stream = record (workspace_in state p t refs).stream {
-        marks = with_mark state.stream.marks mark name;
+        marks = with_mark state.stream.marks mark object_kind.Tag name;
         tags = state.stream.tags ++ (ref, name) ∷ [];
         command = Nothing;
       };

@@ -1,4 +1,5 @@
--- What changes in the files of the open commit: git-fast-import(1), "filemodify" to "filedeleteall".
+-- What changes in the files of the open commit: git-fast-import(1), "filemodify" to
+-- "filedeleteall".
 use Rattle.std.specs.Prelude.{ℕ, List, Result, Ok}
 use Rattle.git_model.specs.declared.file_mode.FileMode.{FileMode}
 use Rattle.stream_grammar.specs.Changes.{Path}
@@ -38,12 +39,14 @@ unfoldable pub files_changed : (List ℕ → List ℕ) → FileChange → Worksp
 -- 'M': puts an object at a path.
 files_changed digest (Modify mode object path) workspace =
     in_changes (λ commit.
-    changed_or (modified workspace.objects workspace.stream.marks mode object path commit)) workspace
+    changed_or (modified workspace.objects workspace.stream.marks mode object path commit))
+    workspace
 -- 'M' with 'inline', and the 'data' after it.
 files_changed digest (ModifyInline mode path) workspace = file_awaited mode path workspace
 files_changed digest (InlineData bytes) workspace = file_given digest bytes workspace
 -- 'D'.
-files_changed digest (Delete path) workspace = in_changes (λ commit. Ok (deleted path commit)) workspace
+files_changed digest (Delete path) workspace =
+    in_changes (λ commit. Ok (deleted path commit)) workspace
 -- 'C'.
 files_changed digest (Copy source path) workspace =
     in_changes (λ commit. changed_or (copied_to source path commit)) workspace

@@ -114,7 +114,7 @@ abbrev pub closed_at : Workspace → Header → Closed → Workspace
 closed_at workspace header end = record workspace {
   objects = end.objects;
   stream = record workspace.stream {
-    marks = with_mark workspace.stream.marks header.mark end.id;
+    marks = with_mark workspace.stream.marks header.mark kind.Commit end.id;
     branches = with_branch workspace.stream.branches header.ref (At end.id);
     command = Nothing;
   };

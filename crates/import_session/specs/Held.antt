@@ -1,10 +1,10 @@
--- The files that a session holds: those of the open commit, and those that the last one left.
-use Rattle.std.specs.Prelude.{List, IfSome}
+-- The files that a session holds: those of the open commit, and of the last ones that ended.
+use Rattle.std.specs.Prelude.{List}
 use Rattle.git_model.specs.Repository.{Object}
 use Rattle.content_pool.specs.Pool.{Cells}
 use Rattle.tenant_tables.specs.Objects.{objects}
 use Rattle.tenant_tables.specs.View.{View}
-use Rattle.tree_build.specs.Branch.{IsBranch}
+use Rattle.kept_files.specs.Kept.{AreBranches}
 use Rattle.open_commits.specs.OpenCommit.{HeldCommit, Stands}
 use Rattle.stream_state.specs.OpenCommand.{OpenCommand, Changes, Inline}
 use Rattle.import_session.specs.Session.{StreamState}
@@ -15,15 +15,15 @@ HoldsOpen os (Changes commit) = Stands os commit
 HoldsOpen os (Inline commit file) = Stands os commit
 HoldsOpen os _ = Unit {0}
 
--- Both are branches among the objects: each tree that they name is one of them.
+-- All are branches among the objects: each tree that they name is one of them.
 pub record HoldsFiles (os : List Object) (state : StreamState) : Type 0 where
   pub command : HoldsOpen os state.stream.command
-  pub left : IfSome state.left (IsBranch os)
+  pub kept : AreBranches os state.kept
 
 -- The same among those of a table over a pool.
 abbrev pub FilesStand : StreamState → Cells → View → Type 0
 FilesStand state pool table = HoldsFiles (objects pool table.entries) state
 
--- Among whatever objects both were branches before a call, they are branches after it.
+-- Among whatever objects all were branches before a call, all are branches after it.
 abbrev pub KeepsBranchFiles : StreamState → StreamState → Type 0
 KeepsBranchFiles old new = (os : List Object) → HoldsFiles os old → HoldsFiles os new

@@ -1,6 +1,6 @@
--- In reading order: the faults, what a stream keeps, what its commands do, family by family, and the
--- stream from end to end; that no act comes where its command is not open, and what stays true of a
--- stream; then what a session holds, and what its calls keep and store.
+-- In reading order: the faults, what a stream keeps, what its commands do, family by family, and
+-- the stream from end to end; what stays true of a stream; then what a session holds, and what its
+-- calls keep and store.
 pub mod Faults
 pub mod Workspace
 pub mod CommitIshes
@@ -16,7 +16,6 @@ pub mod Checkpoints
 pub mod Controls
 pub mod Meaning
 pub mod Stream
-pub mod Fitting
 pub mod Sound
 pub mod Session
 pub mod Held

@@ -22,7 +22,7 @@ blob_stored digest mark content workspace =
     quiet (record workspace {
       objects = objects;
       stream = record workspace.stream {
-        marks = with_mark workspace.stream.marks mark (name_by digest content);
+        marks = with_mark workspace.stream.marks mark kind.Blob (name_by digest content);
       };
     })))
 

@@ -1,6 +1,7 @@
 -- Resets and aliases: git-fast-import(1), "reset" and "alias".
 use Rattle.std.specs.Prelude.{ℕ, Bool, false, if◌then◌else◌, List, replicate, Some, Result, Ok}
 use Rattle.std.specs.Str.{bytes_eq}
+use Rattle.git_model.specs.declared.kind.Kind.TheVariants as kind
 use Rattle.stream_grammar.specs.Acts.{RefCommand, Reset, ResetFrom, Alias}
 use Rattle.stream_grammar.specs.Names.{CommitIsh, Marked, Expression}
 use Rattle.stream_state.specs.declared.branches.Tip.{Tip}
@@ -52,7 +53,7 @@ alias_set mark commit workspace =
     and_then (room_for workspace.stream.marks (Some mark)) (λ _.
     quiet (record workspace {
       stream = record workspace.stream {
-        marks = with_mark workspace.stream.marks (Some mark) id;
+        marks = with_mark workspace.stream.marks (Some mark) kind.Commit id;
       };
     })))
 

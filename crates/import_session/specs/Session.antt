@@ -1,6 +1,6 @@
 -- A session: the part of a running stream that is neither in a table, nor in a pool, nor among
 -- refs.
-use Rattle.std.specs.Prelude.{◌≡◌, ◌≢◌, ℕ, List, ◌++◌, take, Option, None, Result, Ok, Err, Bool, false}
+use Rattle.std.specs.Prelude.{◌≡◌, ◌≢◌, ℕ, List, [], ◌++◌, take, Result, Ok, Err, Bool, false}
 use Rattle.git_model.specs.RefStore.{RefStore}
 use Rattle.git_model.specs.Repository.{Repository}
 use Rattle.content_pool.specs.Pool.{Cells}
@@ -15,7 +15,7 @@ use Rattle.stream_state.specs.declared.fault.Fault.TheVariants as fault
 use Rattle.import_session.specs.declared.open_command.OpenCommand.{OpenCommand as LentCommand}
 use Rattle.import_session.specs.declared.open_command.OpenCommand.TheVariants as lent
 use Rattle.import_session.specs.declared.state.StreamState.{StreamState as LentStreamState}
-use Rattle.tree_build.specs.Branch.{Branch}
+use Rattle.kept_files.specs.declared.kept_files.Kept.{Kept}
 use Rattle.open_commits.specs.OpenCommit.{HeldCommit, commit_held, commit_in}
 use Rattle.stream_state.specs.Faults.{text_first}
 use Rattle.stream_state.specs.Marks.{Marks}
@@ -26,10 +26,10 @@ use Rattle.import_session.specs.Workspace.{Workspace, Effect}
 use Rattle.import_session.specs.Stream.{Running, Step}
 
 -- What a stream has of its own apart from its objects. The files of the open commit are held as a
--- branch, and so are the files that the last commit left for the next one.
+-- branch, and so are the files of the last commits that ended.
 pub record StreamState : Type 0 where
   pub stream : StreamOf HeldCommit
-  pub left : Option Branch
+  pub kept : List Kept
 
 -- The open command, apart from where it is in memory.
 abbrev pub command_shown : LentCommand → OpenCommand HeldCommit
@@ -53,11 +53,11 @@ stream_shown state = record {
 }
 
 abbrev pub state_shown : LentStreamState → StreamState
-state_shown state = record { stream = stream_shown state; left = state.left }
+state_shown state = record { stream = stream_shown state; kept = state.kept }
 
 -- The state before the first item.
 abbrev pub empty_state : StreamState
-empty_state = record { stream = new_stream; left = None }
+empty_state = record { stream = new_stream; kept = [] }
 
 -- The same state with this command open.
 abbrev pub state_with : StreamState → OpenCommand HeldCommit → StreamState

@@ -4,14 +4,13 @@ use Rattle.std.specs.Prelude.{◌≡◌, ℕ, List, [], ◌++◌, take, All, Som
 use Rattle.git_model.specs.declared.kind.Kind.TheVariants as kind
 use Rattle.git_model.specs.Commit.{IsEncoding}
 use Rattle.git_model.specs.Ident.{IsWrittenIdent}
-use Rattle.git_model.specs.ObjectName.{IsObjectName}
 use Rattle.git_model.specs.Repository.{Object, Repository}
 use Rattle.git_model.specs.References.{kind_named}
 use Rattle.git_model.specs.GoodRepository.{AreObjects, AreRefs, IsShortRefName, IsTagNamed}
 use Rattle.git_paths.specs.Paths.{IsPath}
 use Rattle.tenant_tables.specs.Sums.{TreesFit}
 use Rattle.stream_grammar.specs.WellFormed.{IsTagRef}
-use Rattle.open_commits.specs.GoodCommits.{IsGoodCommit}
+use Rattle.open_commits.specs.GoodCommits.{AreMarks, IsGoodCommit}
 use Rattle.open_commits.specs.OpenCommit.{OpenCommit}
 use Rattle.open_commits.specs.OpenFiles.{HasFiles}
 use Rattle.stream_state.specs.declared.branches.Tip.{Tip}
@@ -63,8 +62,8 @@ pub record IsOpen (objects : List Object) (commit : OpenCommit) : Type 0 where
   pub good : IsGoodCommit objects commit
   pub files : HasFiles commit
 
--- What a command has said can be written, its commit is good, and a file that waits for its data has
--- a path.
+-- What a command has said can be written, its commit is good, and a file that waits for its data
+-- has a path.
 abbrev pub IsSoundCommand : List Object → OpenCommand OpenCommit → Type 0
 IsSoundCommand objects Nothing = Unit {0}
 IsSoundCommand objects (Commit header) = IsCommitHeader header
@@ -75,14 +74,14 @@ IsSoundCommand objects (Inline commit file) = IsOpen objects commit × IsPath fi
 
 -- A workspace is sound if all of these hold. Its objects are good, and all trees are within the
 -- limits. The refs as last saved are good among the objects of that time. The ref that HEAD is to
--- name may be set, and marks stand for object names. Branches are at commits of its objects or at
--- none, and pending tags are tags among its objects. The open command is sound.
+-- name may be set. Each mark stands for one of its objects, with its kind. Branches are at commits of
+-- its objects or at none, and pending tags are tags among its objects. The open command is sound.
 pub record IsSound (digest : List ℕ → List ℕ) (workspace : Workspace) : Type 0 where
   pub objects : AreObjects digest workspace.objects
   pub trees : TreesFit [] workspace.objects
   pub refs : AreRefs (take workspace.committed workspace.objects) workspace.refs
   pub next_head : IfSome workspace.stream.head IsShortRefName
-  pub marks : All (λ mark. IsObjectName mark.1) workspace.stream.marks
+  pub marks : AreMarks workspace.objects workspace.stream.marks
   pub branches : All (IsStreamBranch workspace.objects) workspace.stream.branches
   pub tags : All (IsPending workspace.objects) workspace.stream.tags
   pub command : IsSoundCommand workspace.objects workspace.stream.command

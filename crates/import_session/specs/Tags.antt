@@ -1,6 +1,7 @@
 -- What storing a tag does: git-fast-import(1), "tag".
 use Rattle.std.specs.Prelude.{ℕ, List, [], ◌∷◌, ◌++◌, Option, Result, Ok}
 use Rattle.git_model.specs.declared.kind.Kind.{Kind}
+use Rattle.git_model.specs.declared.kind.Kind.TheVariants as kind
 use Rattle.git_model.specs.Content.{Content, name_by}
 use Rattle.git_model.specs.References.{kind_named}
 use Rattle.stream_state.specs.declared.fault.Fault.{Fault}
@@ -21,7 +22,7 @@ tag_made digest mark ref tag workspace =
     quiet (record workspace {
       objects = objects;
       stream = record workspace.stream {
-        marks = with_mark workspace.stream.marks mark (name_by digest tag);
+        marks = with_mark workspace.stream.marks mark kind.Tag (name_by digest tag);
         tags = workspace.stream.tags ++ (ref, name_by digest tag) ∷ [];
         command = Nothing;
       };

@@ -65,9 +65,11 @@ fn await_contents(state: &mut StreamState, mode: FileMode, path: &Path) -> Resul
         (workspace_in (state_shown state.new) pool table refs) out out result }
     ensures files { KeepsBranchFiles (state_shown state.old) (state_shown state.new) }
 {
-    let commit = state.command.take_changes()?;
     let path = path.copied(state.alloc)?;
-    state.command = OpenCommand::Inline(commit, InlineFile { mode, path });
+    let commit = state.command.take_changes()?;
+    state
+        .command
+        .open(OpenCommand::Inline(commit, InlineFile { mode, path }));
     Ok(())
 }
 
@@ -90,11 +92,10 @@ fn put_contents<N: Naming>(
     ensures committed { KeepsCommitted pool.old table.old pool.new table.new }
     ensures held { OnOk result (FilesStand (state_shown state.new) pool.new table.new) }
 {
-    let OpenCommand::Inline(mut commit, file) = state.command.take() else {
-        return Err(not_open());
+    let (mut commit, file) = match state.command.take() {
+        OpenCommand::Inline(commit, file) => (commit, file),
+        other => return Err(other.refusal()),
     };
-    // The files that the last commit left were taken when this one opened.
-    state.left = None;
     let _within = table.committed_len();
     let put = passed_on(commit.put_contents(pool, table, file.mode, &file.path, bytes));
     keep_open(state, commit);

@@ -1,10 +1,11 @@
 //! How a commit ends: git-fast-import(1), "commit".
 
-ghost use Rattle.std.specs.Prelude.{◌≡◌, OnOk};
+ghost use Rattle.std.specs.Prelude.{◌≡◌, ◌≢◌, Ok, Err, MatchResult, OnOk};
 ghost use Rattle.git_model.specs.RefStore.{RefStore};
 ghost use Rattle.tenant_tables.specs.Objects.{objects};
 ghost use Rattle.tenant_tables.specs.Room.{HasHoldsLeftBeside};
 ghost use Rattle.tenant_tables.specs.IsBackedBy.{IsBackedBy};
+ghost use Rattle.kept_files.specs.Kept.{AreBranches};
 ghost use Rattle.open_commits.specs.OpenCommit.{shown_in, IsCommitHeld};
 ghost use Rattle.stream_state.specs.OpenCommand.{Nothing};
 ghost use Rattle.import_session.specs.Lent.{Keeps};
@@ -16,31 +17,34 @@ use crate::fault::fault_of;
 use crate::open_command::OpenCommand;
 use crate::state::StreamState;
 use content_pool::Pool;
-use git_objects::Naming;
+use git_objects::{Kind, Name, Naming};
 use open_commits::OpenCommit;
 use stream_state::branches::Tip;
 use stream_state::fault::Fault;
 use stream_state::marks;
 use tenant_tables::Table;
 
-// Ends a commit, which is no longer the open one.
+// Ends a commit, which is no longer the open one, and returns its name.
 fn close_commit<N: Naming>(
     pool: &mut Pool<N>,
     table: &mut Table,
     state: &mut StreamState,
     commit: &mut OpenCommit,
-) -> Result<(), Fault>
+) -> Result<Name, Fault>
     requires stands { IsBackedBy N.digest_of pool.old table.old.entries }
     requires room { HasHoldsLeftBeside pool.old table.old.entries }
     requires none { command_shown state.old.command ≡ Nothing }
     requires held { IsCommitHeld (objects pool.old table.old.entries) commit.old }
     ensures keeps { Keeps N.digest_of pool.old table.old pool.new table.new }
     ensures room { HasHoldsLeftBeside pool.new table.new.entries }
-    ensures done { (refs : RefStore) → Leaves
-        (commit_closed N.digest_of (workspace_in (state_shown state.old) pool.old table.old refs)
-        (shown_in (objects pool.old table.old.entries) commit.old))
-        (workspace_in (state_shown state.new) pool.new table.new refs) result }
+    ensures done { (refs : RefStore) → let wanted = commit_closed N.digest_of
+        (workspace_in (state_shown state.old) pool.old table.old refs)
+        (shown_in (objects pool.old table.old.entries) commit.old) in MatchResult result
+        (λ _. wanted ≡ Ok (workspace_in (state_shown state.new) pool.new table.new refs))
+        (λ fault. fault ≢ Fault.Memory → wanted ≡ Err fault) }
     ensures nothing { command_shown state.new.command ≡ Nothing }
+    ensures kept { AreBranches (objects pool.old table.old.entries) state.old.kept
+        → AreBranches (objects pool.new table.new.entries) state.new.kept }
     ensures held { OnOk result (IsCommitHeld (objects pool.new table.new.entries) commit.new) }
     ensures committed { KeepsCommitted pool.old table.old pool.new table.new }
 {
@@ -52,11 +56,12 @@ fn close_commit<N: Naming>(
         Ok(id) => id,
         Err(refusal) => return Err(fault_of(refusal)),
     };
-    marks::set(&mut state.marks, mark, id);
-    Ok(state.branches.place(branch, Tip::At(id))?)
+    marks::set(&mut state.marks, mark, Kind::Commit, id);
+    state.branches.place(branch, Tip::At(id))?;
+    Ok(id)
 }
 
-// Ends the open commit, if there is one, and leaves its files for the next one.
+// Ends the open commit, if there is one, and keeps its files for commits that start from it.
 fn close<N: Naming>(
     pool: &mut Pool<N>,
     table: &mut Table,
@@ -76,9 +81,9 @@ fn close<N: Naming>(
 {
     match state.command.take() {
         OpenCommand::Changes(mut commit) => {
-            let closed = close_commit(pool, table, state, &mut commit);
-            state.left = Some(commit.into_files());
-            closed
+            let id = close_commit(pool, table, state, &mut commit)?;
+            state.kept.keep(id, commit.into_files());
+            Ok(())
         }
         other => {
             state.command = other;

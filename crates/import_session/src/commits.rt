@@ -39,7 +39,9 @@ fn begin_commit(state: &mut StreamState, refs: &Refs, ref_name: &RefName) -> Res
     ensures files { KeepsBranchFiles (state_shown state.old) (state_shown state.new) }
 {
     let branch = copy_meant(state.alloc, &state.head, refs, ref_name)?;
-    state.command = OpenCommand::Commit(CommitHeader::new(branch));
+    state
+        .command
+        .open(OpenCommand::Commit(CommitHeader::new(branch)));
     Ok(())
 }
 

@@ -12,7 +12,6 @@ mod commit_ishes;
 mod commits;
 mod controls;
 mod fault;
-pub mod laws;
 mod objects;
 mod open_command;
 mod opening;

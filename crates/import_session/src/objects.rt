@@ -18,9 +18,9 @@ use crate::open_command::{OpenCommand, not_open};
 use crate::state::StreamState;
 use crate::tags::store_tag;
 use content_pool::Pool;
-use git_objects::{Kind, Name, Naming};
+use git_objects::{Kind, Naming};
 use indexmap::IndexMap;
-use stream_grammar::{CommitIsh, Ident, Mark, ObjectCommand};
+use stream_grammar::{CommitIsh, Ident, Mark, MarkedObject, ObjectCommand};
 use stream_state::fault::Fault;
 use stream_state::headers::{TagHeader, set_ident, set_target};
 use stream_state::marks;
@@ -33,7 +33,7 @@ use tenant_tables::Table;
 fn store_marked<N: Naming>(
     pool: &mut Pool<N>,
     table: &mut Table,
-    marks: &mut IndexMap<Mark, Name>,
+    marks: &mut IndexMap<Mark, MarkedObject>,
     mark: Option<Mark>,
     contents: &[u8],
 ) -> Result<(), Fault>
@@ -52,7 +52,7 @@ fn store_marked<N: Naming>(
 {
     marks::make_room(marks, &mark)?;
     let id = store(pool, table, Kind::Blob, contents)?;
-    marks::set(marks, mark, id);
+    marks::set(marks, mark, Kind::Blob, id);
     Ok(())
 }
 
@@ -67,7 +67,9 @@ fn begin_tag(state: &mut StreamState, refs: &Refs, ref_name: &RefName) -> Result
     ensures files { KeepsBranchFiles (state_shown state.old) (state_shown state.new) }
 {
     let ref_name = ref_name.try_clone(state.alloc)?;
-    state.command = OpenCommand::Tag(TagHeader::new(ref_name));
+    state
+        .command
+        .open(OpenCommand::Tag(TagHeader::new(ref_name)));
     Ok(())
 }
 

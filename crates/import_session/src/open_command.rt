@@ -29,6 +29,13 @@ pub enum OpenCommand {
 }
 
 impl OpenCommand {
+    // Opens another command in its place, and drops it.
+    pub fn open(&mut self, command: OpenCommand)
+        ensures { self.new ≡ command }
+    {
+        drop(mem::replace(self, command));
+    }
+
     // Takes it out. Nothing is open then.
     pub fn take(&mut self) -> OpenCommand
         ensures taken { result ≡ self.old }
@@ -46,8 +53,16 @@ impl OpenCommand {
     {
         match self.take() {
             OpenCommand::Changes(commit) => Ok(commit),
-            _ => Err(not_open()),
+            other => Err(other.refusal()),
         }
+    }
+
+    // The refusal of a line that belongs to another command. This one is dropped.
+    pub fn refusal(self) -> Fault
+        ensures { result ≡ Fault.Text text_fault.UnknownCommand }
+    {
+        drop(self);
+        not_open()
     }
 }
 

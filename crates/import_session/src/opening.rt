@@ -1,12 +1,13 @@
 //! How a commit opens, at its message: git-fast-import(1), "commit".
 
-ghost use Rattle.std.specs.Prelude.{◌≡◌, ◌≢◌, List, ℕ, None, Ok, Err, IfOk, OnOk, MatchResult};
+ghost use Rattle.std.specs.Prelude.{◌≡◌, ◌≢◌, List, ℕ, Ok, Err, IfOk, IfSome, OnOk, MatchResult};
 ghost use Rattle.git_model.specs.GoodRepository.{AreObjects};
 ghost use Rattle.git_model.specs.RefStore.{RefStore};
 ghost use Rattle.git_model.specs.Repository.{Object};
 ghost use Rattle.tenant_tables.specs.Objects.{objects};
 ghost use Rattle.tenant_tables.specs.IsBackedBy.{IsBackedBy};
 ghost use Rattle.tree_build.specs.Branch.{IsBranch};
+ghost use Rattle.kept_files.specs.Kept.{AreBranches};
 ghost use Rattle.stream_grammar.specs.Acts.{Message};
 ghost use Rattle.open_commits.specs.OpenCommit.{begun, commit_held, header_shown, shown_in, IsCommitHeld};
 ghost use Rattle.stream_state.specs.Branches.{branch_set, tip_commit, tip_for};
@@ -14,7 +15,7 @@ ghost use Rattle.stream_state.specs.OpenCommand.{Changes};
 ghost use Rattle.import_session.specs.Workspace.{quiet};
 ghost use Rattle.import_session.specs.Commits.{begun_from, commit_said, header_said, opened_with, started_or_cleared, IsTipCommit};
 ghost use Rattle.import_session.specs.Session.{branched, state_shown, state_with, workspace_in, CarriesOut, Leaves};
-ghost use Rattle.import_session.specs.Held.{FilesStand, HoldsFiles};
+ghost use Rattle.import_session.specs.Held.{FilesStand};
 ghost use Rattle.import_session.specs.Sound.{IsSound};
 
 use crate::fault::passed_on;
@@ -22,6 +23,7 @@ use crate::open_command::{OpenCommand, not_open};
 use crate::state::{StreamState, keep_open};
 use content_pool::Pool;
 use git_objects::{Name, Naming};
+use kept_files::KeptFiles;
 use open_commits::{Header, OpenCommit};
 use std::alloc::Global;
 use stream_grammar::Mark;
@@ -58,13 +60,25 @@ fn header_said(mark: Option<Mark>, said: CommitHeader) -> Result<Header, Fault>
     })
 }
 
-// Takes the files that the last commit left, or no files if it left none.
-fn take_files(state: &mut StreamState) -> Files
-    ensures branch { (os : List Object) → HoldsFiles os (state_shown state.old)
-        → IsBranch os result }
-    ensures state { state_shown state.new ≡ record (state_shown state.old) { left = None } }
+// Takes the files that are kept for this commit, if it is one.
+fn take_kept(kept: &mut KeptFiles, first: &Option<Name>) -> Option<Files>
+    ensures { (os : List Object) → AreBranches os kept.old
+        → AreBranches os kept.new × IfSome result (λ files. IsBranch os files) }
 {
-    match state.left.take() {
+    match first {
+        Some(id) => kept.take(id),
+        None => None,
+    }
+}
+
+// Takes the files that are kept for this commit, or no files if none are.
+fn take_files(state: &mut StreamState, first: &Option<Name>) -> Files
+    ensures branches { (os : List Object) → AreBranches os state.old.kept
+        → AreBranches os state.new.kept × IsBranch os result }
+    ensures state { state_shown state.new
+        ≡ record (state_shown state.old) { kept = state.new.kept } }
+{
+    match take_kept(&mut state.kept, first) {
         Some(files) => files,
         None => Files::new(state.alloc),
     }
@@ -110,7 +124,8 @@ fn begin<N: Naming>(
         → IsTipCommit os first → let new = begun (header_shown header) message.now in
         MatchResult result (λ commit. begun_from os first new ≡ Ok (shown_in os commit))
         (λ fault. fault ≢ Fault.Memory → begun_from os first new ≡ Err fault) }
-    ensures held { IfOk result (λ commit. IsCommitHeld (objects pool.now table.now.entries) commit) }
+    ensures held { IfOk result
+        (λ commit. IsCommitHeld (objects pool.now table.now.entries) commit) }
 {
     let mut commit = OpenCommit::begin(alloc, header, message, files)?;
     start(pool, table, first, &mut commit)?;
@@ -151,12 +166,14 @@ fn open_with<N: Naming>(
         (λ fault. fault ≢ Fault.Memory
         → opened_with workspace message.now (header_shown header) ≡ Err fault) }
     ensures state { OnOk result (state_shown state.new
-        ≡ record (branched (state_shown state.old) state.new.branches) { left = None }) }
-    ensures held { IfOk result (λ commit. IsCommitHeld (objects pool.now table.now.entries) commit) }
+        ≡ record (branched (state_shown state.old) state.new.branches) { kept = state.new.kept }) }
+    ensures kept { OnOk result (AreBranches (objects pool.now table.now.entries) state.new.kept) }
+    ensures held { IfOk result
+        (λ commit. IsCommitHeld (objects pool.now table.now.entries) commit) }
 {
     let alloc = state.alloc;
     let first = place_tip(state, &header.ref_name)?;
-    let files = take_files(state);
+    let files = take_files(state, &first);
     begin(pool, table, alloc, header, message, first, files)
 }
 
@@ -179,8 +196,9 @@ pub fn open_commit<N: Naming>(
         (workspace_in (state_shown state.new) pool.now table.now refs.now) out out result }
     ensures held { OnOk result (FilesStand (state_shown state.new) pool.now table.now) }
 {
-    let OpenCommand::Commit(said) = state.command.take() else {
-        return Err(not_open());
+    let said = match state.command.take() {
+        OpenCommand::Commit(said) => said,
+        other => return Err(other.refusal()),
     };
     let header = header_said(mark, said)?;
     let commit = open_with(pool, table, state, header, message)?;

@@ -14,10 +14,10 @@ ghost use Rattle.import_session.specs.Held.{FilesStand, KeepsBranchFiles};
 ghost use Rattle.import_session.specs.Session.{state_shown, workspace_in, CarriesOut};
 
 use crate::commit_ishes::{commit_named, start_of};
-use crate::open_command::{OpenCommand, not_open};
+use crate::open_command::OpenCommand;
 use crate::state::StreamState;
 use content_pool::Pool;
-use git_objects::Naming;
+use git_objects::{Kind, Naming};
 use stream_grammar::{CommitIsh, Mark, RefCommand};
 use stream_state::branches::{Tip, copy_meant};
 use stream_state::fault::Fault;
@@ -34,7 +34,7 @@ fn set_unborn(state: &mut StreamState, refs: &Refs, branch: RefName) -> Result<(
 {
     let reset = branch.try_clone(state.alloc)?;
     state.branches.set(branch, Tip::Unborn)?;
-    state.command = OpenCommand::Reset(reset);
+    state.command.open(OpenCommand::Reset(reset));
     Ok(())
 }
 
@@ -99,8 +99,9 @@ fn reset_to<N: Naming>(
         (workspace_in (state_shown state.new) pool.now table.now refs.now) out out result }
     ensures files { KeepsBranchFiles (state_shown state.old) (state_shown state.new) }
 {
-    let OpenCommand::Reset(branch) = state.command.take() else {
-        return Err(not_open());
+    let branch = match state.command.take() {
+        OpenCommand::Reset(branch) => branch,
+        other => return Err(other.refusal()),
     };
     let tip = tip_from(pool, table, refs, state, &branch, from)?;
     state.branches.place(branch, tip)?;
@@ -126,7 +127,7 @@ fn alias<N: Naming>(
 {
     let id = commit_named(pool, table, refs, state, commit)?;
     marks::make_room(&mut state.marks, &Some(mark))?;
-    marks::set(&mut state.marks, Some(mark), id);
+    marks::set(&mut state.marks, Some(mark), Kind::Commit, id);
     Ok(())
 }
 

@@ -49,8 +49,6 @@ fn show_entry<N: Naming>(
     ensures printed { OnErr result (out.new.items ≡ out.old.items) }
     ensures held { OnOk result (FilesStand (state_shown state.new) pool.new table.new) }
 {
-    // The files that the last commit left were taken when this one opened.
-    state.left = None;
     let OpenCommand::Changes(commit) = &mut state.command else {
         return Err(not_open());
     };

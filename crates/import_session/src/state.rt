@@ -9,25 +9,25 @@ ghost use Rattle.import_session.specs.Session.{empty_state, state_shown, state_w
 use crate::open_command::OpenCommand;
 use git_objects::Name;
 use indexmap::IndexMap;
+use kept_files::KeptFiles;
 use open_commits::OpenCommit;
 use std::alloc::Global;
-use stream_grammar::Mark;
+use stream_grammar::{Mark, MarkedObject};
 use stream_state::branches::Branches;
 use stream_state::head::Head;
 use tenant_refs::RefName;
-use tree_build::Files;
 
 /// What a stream has of its own apart from its objects.
 #[derive(Drop)]
 pub struct StreamState {
     pub alloc: Global,
-    pub marks: IndexMap<Mark, Name>,
+    pub marks: IndexMap<Mark, MarkedObject>,
     pub branches: Branches,
     // The tags that wait for the next checkpoint.
     pub tags: Vec<(RefName, Name)>,
     pub command: OpenCommand,
-    // The files of the last commit that ended, for a commit that starts from it.
-    pub left: Option<Files>,
+    // The files of the last commits that ended, for commits that start from them.
+    pub kept: KeptFiles,
     pub head: Option<Head>,
     pub forces: bool,
     pub needs_done: bool,
@@ -43,7 +43,7 @@ pub fn new_state(alloc: Global) -> StreamState
         branches: Branches::new(alloc),
         tags: Vec::new(alloc),
         command: OpenCommand::Nothing,
-        left: None,
+        kept: KeptFiles::new(alloc),
         head: None,
         forces: false,
         needs_done: false,
@@ -55,5 +55,5 @@ pub fn keep_open(state: &mut StreamState, commit: OpenCommit)
     ensures { state_shown state.new
         ≡ state_with (state_shown state.old) (Changes (commit_held commit)) }
 {
-    state.command = OpenCommand::Changes(commit);
+    state.command.open(OpenCommand::Changes(commit));
 }

@@ -76,12 +76,13 @@ pub fn store_tag<N: Naming>(
     ensures same { OnErr result (IsUnchanged pool.old table.old pool.new table.new) }
     ensures held { OnOk result (FilesStand (state_shown state.new) pool.new table.new) }
 {
-    let OpenCommand::Tag(header) = state.command.take() else {
-        return Err(not_open());
+    let header = match state.command.take() {
+        OpenCommand::Tag(header) => header,
+        other => return Err(other.refusal()),
     };
     let (target, kind) = tagged(pool, table, refs, state, &header, &mark)?;
     let id = store_written(pool, table, state.alloc, &header, target, kind, message)?;
-    marks::set(&mut state.marks, mark, id);
+    marks::set(&mut state.marks, mark, Kind::Tag, id);
     state.tags.push((header.ref_name, id)).unwrap();
     Ok(())
 }

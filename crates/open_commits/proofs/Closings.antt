@@ -20,7 +20,7 @@ use Rattle.open_commits.specs.Storing.{stored, trees_or}
 use Rattle.open_commits.specs.Ends.{Closed, closed, commit_of, commit_content}
 use Rattle.open_commits.specs.Calls.{Gives}
 
--- a refusal that is not want of memory comes from one that is not
+-- a refusal other than `Memory` comes from one other than `Memory`
 pub not_memory : (e : FilesFault) (f : Fault) → f ≡ editing_fault e → f ≢ fault.Memory
     → e ≢ files_fault.Memory
 not_memory e f is ne at = ne (is ∙ ap editing_fault at)

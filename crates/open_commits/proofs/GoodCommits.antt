@@ -54,10 +54,11 @@ use Rattle.open_commits.specs.Faults.{and_then, or_fault}
 use Rattle.open_commits.specs.OpenCommit.{Header, OpenCommit, begun}
 use Rattle.open_commits.specs.Storing.{stored, stored_or, trees_stored, trees_or}
 use Rattle.open_commits.specs.Parents.{changed_to, started_from, merged}
-use Rattle.open_commits.specs.Changes.{Marks, Left, marked_name, referred_name, held_as, link_of, tree_of, blob_of, entry_of, file_put, tree_put, modified, left_with, blob_put, contents_put, deleted, copied_to, renamed_to, all_deleted}
+use Rattle.open_commits.specs.Changes.{Marks, Left, marked_as, marked_object, held_as, link_of, tree_of, blob_of, entry_of, file_put, tree_put, modified, left_with, blob_put, contents_put, deleted, copied_to, renamed_to, all_deleted}
 use Rattle.open_commits.specs.Showing.{Shown, file_or_trees, found_shown, entry_shown}
 use Rattle.open_commits.specs.Ends.{Closed, closed, commit_of, commit_content}
-use Rattle.open_commits.specs.GoodCommits.{IsGoodHeader, IsGoodCommit, GrowGood, HoldsCommit}
+use Rattle.open_commits.specs.GoodCommits.{AreMarks, IsGoodHeader, IsGoodCommit, GrowGood, HoldsCommit}
+use Rattle.open_commits.proofs.MarkedObjects.{from_ok, marked_has}
 use Rattle.open_commits.proofs.Starting.{with_parent, starts}
 use Rattle.open_commits.proofs.StoredCommits.{stored_commit}
 
@@ -254,45 +255,46 @@ held-kind os wanted id n e =
 tree-kind : (os : List Object) (marks : Marks) (object : DataRef) (n : List ℕ)
     → tree_of os marks object ≡ Ok n → kind_named n os ≡ Some kind.Tree
 tree-kind os marks (data_ref.Mark m) n e =
-    let step = went (marked_name marks m) (λ _. Err fault.WrongKind) n e in absurd (cc step.then)
+    let step = went (marked_object marks m) (λ _. Err fault.WrongKind) n e in absurd (cc step.then)
 tree-kind os marks (data_ref.Name id) n e = held-kind os kind.Tree id n e
 
-blob-kind : (os : List Object) (marks : Marks) (object : DataRef) (n : List ℕ)
-    → blob_of os marks object ≡ Ok n → kind_named n os ≡ Some kind.Blob
-blob-kind os marks object n e =
-    let step = went (referred_name marks object) (held_as os kind.Blob) n e in
-    held-kind os kind.Blob step.value n step.then
+blob-kind : (os : List Object) (marks : Marks) → AreMarks os marks → (object : DataRef)
+    (n : List ℕ) → blob_of os marks object ≡ Ok n → kind_named n os ≡ Some kind.Blob
+blob-kind os marks set (data_ref.Mark m) n e =
+    from_ok (λ n. kind_named n os ≡ Some kind.Blob) (marked_as marks kind.Blob m) n e
+    (marked_has os marks set kind.Blob m)
+blob-kind os marks set (data_ref.Name id) n e = held-kind os kind.Blob id n e
 
 blob-put-good : (os : List Object) (commit next : OpenCommit) → IsGoodCommit os commit
-    → AreFiles (listed commit.files) → (marks : Marks) (m : FileMode) (object : DataRef)
-    (path : Path) → kind_of_mode m ≡ kind.Blob
+    → AreFiles (listed commit.files) → (marks : Marks) → AreMarks os marks → (m : FileMode)
+    (object : DataRef) (path : Path) → kind_of_mode m ≡ kind.Blob
     → and_then (blob_of os marks object) (λ id. file_put path (entry_of m id) commit) ≡ Ok next
     → IsGoodCommit os next
-blob-put-good os commit next h are marks m object path file is =
+blob-put-good os commit next h are marks set m object path file is =
     let step = went (blob_of os marks object) (λ id. file_put path (entry_of m id) commit) next is in
     file-put-good os commit next h are path (entry_of m step.value)
-    (λ _. blob-kind os marks object step.value step.was ∙ ap (λ (k : Kind). Some k) (sym file))
+    (λ _. blob-kind os marks set object step.value step.was ∙ ap (λ (k : Kind). Some k) (sym file))
     step.then
 
 pub change_keeps : (digest : List ℕ → List ℕ) (os : List Object) → AreObjects digest os
     → (commit next : OpenCommit) → IsGoodCommit os commit → AreFiles (listed commit.files)
-    → (marks : Marks) (m : FileMode) (object : DataRef) (path : Path)
+    → (marks : Marks) → AreMarks os marks → (m : FileMode) (object : DataRef) (path : Path)
     → modified os marks m object path commit ≡ Ok next → IsGoodCommit os next
-change_keeps digest os good commit next h are marks mode.Directory object path is =
+change_keeps digest os good commit next h are marks set mode.Directory object path is =
     let step = went (tree_of os marks object) (λ id. tree_put os path id commit) next is in
     tree-put-good digest os good commit next h are path step.value
     (tree-kind os marks object step.value step.was) step.then
-change_keeps digest os good commit next h are marks mode.Gitlink object path is =
-    let step = went (link_of os marks object)
+change_keeps digest os good commit next h are marks set mode.Gitlink object path is =
+    let step = went (link_of marks object)
     (λ id. file_put path (entry_of mode.Gitlink id) commit) next is in
     file-put-good os commit next h are path (entry_of mode.Gitlink step.value)
     (λ ne. absurd (ne refl)) step.then
-change_keeps digest os good commit next h are marks mode.Regular object path is =
-    blob-put-good os commit next h are marks mode.Regular object path refl is
-change_keeps digest os good commit next h are marks mode.Executable object path is =
-    blob-put-good os commit next h are marks mode.Executable object path refl is
-change_keeps digest os good commit next h are marks mode.Symlink object path is =
-    blob-put-good os commit next h are marks mode.Symlink object path refl is
+change_keeps digest os good commit next h are marks set mode.Regular object path is =
+    blob-put-good os commit next h are marks set mode.Regular object path refl is
+change_keeps digest os good commit next h are marks set mode.Executable object path is =
+    blob-put-good os commit next h are marks set mode.Executable object path refl is
+change_keeps digest os good commit next h are marks set mode.Symlink object path is =
+    blob-put-good os commit next h are marks set mode.Symlink object path refl is
 
 pub delete_keeps : (os : List Object) (commit : OpenCommit) → IsGoodCommit os commit
     → AreFiles (listed commit.files) → (path : Path) → IsGoodCommit os (deleted path commit)

@@ -30,10 +30,12 @@ use Rattle.open_commits.specs.declared.fault.Fault.{Fault}
 use Rattle.open_commits.specs.declared.fault.Fault.TheVariants as fault
 use Rattle.open_commits.specs.Faults.{and_then, or_fault}
 use Rattle.open_commits.specs.OpenCommit.{OpenCommit}
+use Rattle.open_commits.specs.GoodCommits.{AreMarks}
 use Rattle.open_commits.specs.OpenFiles.{HasFiles}
 use Rattle.open_commits.specs.Storing.{stored}
 use Rattle.open_commits.specs.Parents.{changed_to, started_from}
-use Rattle.open_commits.specs.Changes.{Left, Marks, blob_of, blob_put, contents_put, copied_to, deleted, entry_of, file_put, held_as, link_of, marked_name, modified, referred_name, renamed_to, tree_of, tree_put}
+use Rattle.open_commits.specs.Changes.{Left, Marks, blob_of, blob_put, contents_put, copied_to, deleted, entry_of, file_put, held_as, link_of, marked_as, marked_object, modified, renamed_to, tree_of, tree_put}
+use Rattle.open_commits.proofs.MarkedObjects.{marked_has}
 use Rattle.open_commits.proofs.Starting.{starts, with_parent}
 
 then_good : {A B : Type 0} (P : A → Type 0) (Q : B → Type 0) (r : Result A Fault)
@@ -106,7 +108,7 @@ module _ (digest : List ℕ → List ℕ) (os : List Object) (good : AreObjects 
   tree_has : (marks : Marks) (object : DataRef)
       → IfOk (tree_of os marks object) (λ n. kind_named n os ≡ Some kind.Tree)
   tree_has marks (data_ref.Mark mark) =
-      then_any (λ (n : List ℕ). kind_named n os ≡ Some kind.Tree) (marked_name marks mark) _ (λ _. tt)
+      then_any (λ (n : List ℕ). kind_named n os ≡ Some kind.Tree) (marked_object marks mark) _ (λ _. tt)
   tree_has marks (data_ref.Name id) = held_has os kind.Tree id
 
   named : (k : Kind) (r : Result (List ℕ) Fault) → IfOk r (λ n. kind_named n os ≡ Some k)
@@ -114,17 +116,20 @@ module _ (digest : List ℕ → List ℕ) (os : List Object) (good : AreObjects 
   named k (Ok n) held = name_of k n held
   named k (Err e) held = tt
 
-  blob_has : (marks : Marks) (object : DataRef) → IfOk (blob_of os marks object) IsObjectName
-  blob_has marks object =
-      then_any IsObjectName (referred_name marks object) _ (λ id.
-      named kind.Blob (held_as os kind.Blob id) (held_has os kind.Blob id))
+  mark_has : (marks : Marks) → AreMarks os marks → (k : Kind) (mark : ℕ)
+      → IfOk (marked_as marks k mark) IsObjectName
+  mark_has marks set k mark = named k (marked_as marks k mark) (marked_has os marks set k mark)
 
-  link_has : (marks : Marks) (object : DataRef) → IsReferred object
-      → IfOk (link_of os marks object) IsObjectName
-  link_has marks (data_ref.Mark mark) referred =
-      then_any IsObjectName (marked_name marks mark) _ (λ id.
-      named kind.Commit (held_as os kind.Commit id) (held_has os kind.Commit id))
-  link_has marks (data_ref.Name id) referred = referred
+  blob_has : (marks : Marks) → AreMarks os marks → (object : DataRef)
+      → IfOk (blob_of os marks object) IsObjectName
+  blob_has marks set (data_ref.Mark mark) = mark_has marks set kind.Blob mark
+  blob_has marks set (data_ref.Name id) =
+      named kind.Blob (held_as os kind.Blob id) (held_has os kind.Blob id)
+
+  link_has : (marks : Marks) → AreMarks os marks → (object : DataRef) → IsReferred object
+      → IfOk (link_of marks object) IsObjectName
+  link_has marks set (data_ref.Mark mark) referred = mark_has marks set kind.Commit mark
+  link_has marks set (data_ref.Name id) referred = referred
 
   put_named : (commit : OpenCommit) → HasFiles commit → (path : Path) → IsPath path
       → (m : FileMode) → m ≢ mode.Directory → (r : Result (List ℕ) Fault) → IfOk r IsObjectName
@@ -133,24 +138,25 @@ module _ (digest : List ℕ → List ℕ) (os : List Object) (good : AreObjects 
       then_good IsObjectName HasFiles r _ name (λ id n.
       file_put_has commit has path is (entry_of m id) file n)
 
-  pub modified_has : (commit : OpenCommit) → HasFiles commit → (marks : Marks) (m : FileMode)
-      (object : DataRef) → IsReferred object → (path : Path) → IsPath path
+  pub modified_has : (commit : OpenCommit) → HasFiles commit → (marks : Marks)
+      → AreMarks os marks → (m : FileMode) (object : DataRef) → IsReferred object
+      → (path : Path) → IsPath path
       → IfOk (modified os marks m object path commit) HasFiles
-  modified_has commit has marks mode.Directory object referred path is =
+  modified_has commit has marks set mode.Directory object referred path is =
       then_good (λ (n : List ℕ). kind_named n os ≡ Some kind.Tree) HasFiles (tree_of os marks object) _
       (tree_has marks object) (λ id k. tree_put_has digest os good commit has path is id k)
-  modified_has commit has marks mode.Gitlink object referred path is =
-      put_named commit has path is mode.Gitlink (λ e. cc) (link_of os marks object)
-      (link_has marks object referred)
-  modified_has commit has marks mode.Regular object referred path is =
+  modified_has commit has marks set mode.Gitlink object referred path is =
+      put_named commit has path is mode.Gitlink (λ e. cc) (link_of marks object)
+      (link_has marks set object referred)
+  modified_has commit has marks set mode.Regular object referred path is =
       put_named commit has path is mode.Regular (λ e. cc) (blob_of os marks object)
-      (blob_has marks object)
-  modified_has commit has marks mode.Executable object referred path is =
+      (blob_has marks set object)
+  modified_has commit has marks set mode.Executable object referred path is =
       put_named commit has path is mode.Executable (λ e. cc) (blob_of os marks object)
-      (blob_has marks object)
-  modified_has commit has marks mode.Symlink object referred path is =
+      (blob_has marks set object)
+  modified_has commit has marks set mode.Symlink object referred path is =
       put_named commit has path is mode.Symlink (λ e. cc) (blob_of os marks object)
-      (blob_has marks object)
+      (blob_has marks set object)
 
   parent_has : (id : List ℕ) (r : Result OpenCommit Fault) → IfOk r HasFiles
       → IfOk (with_parent id r) HasFiles

@@ -5,6 +5,7 @@ pub mod FileChanges
 pub mod StoredCommits
 pub mod Starting
 pub mod Staying
+pub mod MarkedObjects
 pub mod GoodFiles
 pub mod GoodCommits
 pub mod FitCommits

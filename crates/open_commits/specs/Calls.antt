@@ -4,6 +4,7 @@ use Rattle.git_model.specs.Repository.{Object}
 use Rattle.content_pool.specs.Pool.{Cells}
 use Rattle.tenant_tables.specs.Objects.{objects}
 use Rattle.tenant_tables.specs.View.{View}
+use Rattle.tree_build.specs.Branch.{Branch, IsBranch}
 use Rattle.open_commits.specs.declared.fault.Fault.{Fault}
 use Rattle.open_commits.specs.declared.fault.Fault.TheVariants as fault
 use Rattle.open_commits.specs.OpenCommit.{OpenCommit}
@@ -20,8 +21,11 @@ abbrev pub Gives : {A B : Type 0} → Result A Fault → (B → A) → Result B 
 Gives wanted left (Ok answer) = wanted ≡ Ok (left answer)
 Gives wanted left (Err e) = e ≢ fault.Memory → wanted ≡ Err e
 
--- Objects may have been added after those that were there, and none of them is committed.
+-- Objects may have been added after those that were there, and none of them is committed. What was
+-- a branch among the objects is one still.
 pub record AddsOnly (before : Cells) (old : View) (after : Cells) (new : View) : Type 0 where
+  pub branches : (b : Branch) → IsBranch (objects before old.entries) b
+      → IsBranch (objects after new.entries) b
   pub more : List Object
   pub objects : objects after new.entries ≡ objects before old.entries ++ more
   pub committed : new.committed ≡ old.committed

@@ -2,11 +2,13 @@
 use Rattle.std.specs.Prelude.{ℕ, nat_eq, if◌then◌else◌, List, [], ◌∷◌, Result, Ok, Err}
 use Rattle.std.specs.FinMap as finmap
 use Rattle.std.specs.Map.{lookup}
+use Rattle.std.specs.Str.{bytes_eq}
 use Rattle.git_model.specs.declared.file_mode.FileMode.{FileMode}
 use Rattle.git_model.specs.declared.file_mode.FileMode.TheVariants as mode
 use Rattle.git_model.specs.declared.kind.Kind.{Kind}
 use Rattle.git_model.specs.declared.kind.Kind.TheVariants as kind
 use Rattle.git_model.specs.Content.{Content, content_from, name_by}
+use Rattle.git_model.specs.Kind.{kind_word}
 use Rattle.git_model.specs.Peeling.{is_of}
 use Rattle.git_model.specs.Repository.{Object, object_named}
 use Rattle.file_maps.specs.declared.entry.Entry.{Entry}
@@ -15,6 +17,7 @@ use Rattle.file_maps.specs.FileMap.{Path}
 use Rattle.file_maps.specs.StoredFiles.{stored_files}
 use Rattle.stream_grammar.specs.declared.data_ref.DataRef.{DataRef}
 use Rattle.stream_grammar.specs.declared.data_ref.DataRef.TheVariants as data_ref
+use Rattle.stream_grammar.specs.declared.marked_object.MarkedObject.{MarkedObject}
 use Rattle.open_commits.specs.declared.fault.Fault.{Fault}
 use Rattle.open_commits.specs.declared.fault.Fault.TheVariants as fault
 use Rattle.open_commits.specs.Faults.{and_then, or_fault}
@@ -24,18 +27,22 @@ use Rattle.open_commits.specs.Parents.{changed_to}
 
 -- ---- what a change names
 
--- Marks: the number of each, and the name of its object.
+-- Marks: the number of each, and the object that it stands for.
 abbrev pub Marks : Type 0
-Marks = List (ℕ × List ℕ)
+Marks = List (ℕ × MarkedObject)
 
--- The name that a mark stands for.
-abbrev pub marked_name : Marks → ℕ → Result (List ℕ) Fault
-marked_name marks mark = or_fault fault.MarkUnknown (lookup (nat_eq mark) marks)
+-- The object that a mark stands for.
+abbrev pub marked_object : Marks → ℕ → Result MarkedObject Fault
+marked_object marks mark = or_fault fault.MarkUnknown (lookup (nat_eq mark) marks)
 
--- The name that a dataref stands for.
-abbrev pub referred_name : Marks → DataRef → Result (List ℕ) Fault
-referred_name marks (data_ref.Mark mark) = marked_name marks mark
-referred_name marks (data_ref.Name id) = Ok id
+-- Its name, if it is of a kind.
+abbrev pub name_as : Kind → MarkedObject → Result (List ℕ) Fault
+name_as wanted object =
+    if bytes_eq (kind_word object.kind) (kind_word wanted) then Ok object.name
+    else Err fault.WrongKind
+
+abbrev pub marked_as : Marks → Kind → ℕ → Result (List ℕ) Fault
+marked_as marks wanted mark = and_then (marked_object marks mark) (name_as wanted)
 
 -- The object of a name, which must be there and be of a kind.
 abbrev pub held_as : List Object → Kind → List ℕ → Result (List ℕ) Fault
@@ -44,20 +51,20 @@ held_as os wanted id =
     if is_of os wanted id then Ok id else Err fault.WrongKind)
 
 -- The object of a gitlink: a commit by its mark, or any name.
-abbrev pub link_of : List Object → Marks → DataRef → Result (List ℕ) Fault
-link_of os marks (data_ref.Mark mark) =
-    and_then (marked_name marks mark) (held_as os kind.Commit)
-link_of os marks (data_ref.Name id) = Ok id
+abbrev pub link_of : Marks → DataRef → Result (List ℕ) Fault
+link_of marks (data_ref.Mark mark) = marked_as marks kind.Commit mark
+link_of marks (data_ref.Name id) = Ok id
 
 -- The tree of a directory, by its name alone: no mark stands for a tree.
 abbrev pub tree_of : List Object → Marks → DataRef → Result (List ℕ) Fault
 tree_of os marks (data_ref.Mark mark) =
-    and_then (marked_name marks mark) (λ _. Err fault.WrongKind)
+    and_then (marked_object marks mark) (λ _. Err fault.WrongKind)
 tree_of os marks (data_ref.Name id) = held_as os kind.Tree id
 
 -- The blob of a file, by its mark or its name.
 abbrev pub blob_of : List Object → Marks → DataRef → Result (List ℕ) Fault
-blob_of os marks object = and_then (referred_name marks object) (held_as os kind.Blob)
+blob_of os marks (data_ref.Mark mark) = marked_as marks kind.Blob mark
+blob_of os marks (data_ref.Name id) = held_as os kind.Blob id
 
 -- ---- filemodify
 
@@ -82,7 +89,7 @@ abbrev pub modified : List Object → Marks → FileMode → DataRef → Path �
 modified os marks mode.Directory object path commit =
     and_then (tree_of os marks object) (λ id. tree_put os path id commit)
 modified os marks mode.Gitlink object path commit =
-    and_then (link_of os marks object) (λ id. file_put path (entry_of mode.Gitlink id) commit)
+    and_then (link_of marks object) (λ id. file_put path (entry_of mode.Gitlink id) commit)
 modified os marks file object path commit =
     and_then (blob_of os marks object) (λ id. file_put path (entry_of file id) commit)
 

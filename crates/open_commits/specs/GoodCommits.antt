@@ -8,7 +8,9 @@ use Rattle.git_model.specs.Ident.{IsWrittenIdent}
 use Rattle.git_model.specs.References.{kind_named}
 use Rattle.git_model.specs.Repository.{Object}
 use Rattle.file_maps.specs.FileMap.{listed}
+use Rattle.stream_grammar.specs.declared.marked_object.MarkedObject.{MarkedObject}
 use Rattle.file_maps.specs.HeldFiles.{IsFileHeld}
+use Rattle.open_commits.specs.Changes.{Marks}
 use Rattle.open_commits.specs.OpenCommit.{Header, OpenCommit}
 
 -- What a header says can be written.
@@ -25,6 +27,13 @@ pub record IsGoodCommit (os : List Object) (commit : OpenCommit) : Type 0 where
   pub parents : All (λ id. kind_named id os ≡ Some kind.Commit) commit.parents
   pub few_parents : length commit.parents ≤ parents_limit
   pub held : AllByRecursion (IsFileHeld os) (listed commit.files)
+
+-- Marks are good among objects if each stands for one of the objects, with its kind.
+abbrev pub IsMarked : List Object → MarkedObject → Type 0
+IsMarked os object = kind_named object.name os ≡ Some object.kind
+
+abbrev pub AreMarks : List Object → Marks → Type 0
+AreMarks os marks = All (λ mark. IsMarked os mark.1) marks
 
 -- Objects with more added after them, which are good.
 pub record GrowGood (digest : List ℕ → List ℕ) (os new : List Object) : Type 0 where

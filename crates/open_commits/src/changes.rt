@@ -19,7 +19,7 @@ use file_maps::Entry;
 use git_objects::{FileMode, Name, Naming};
 use git_paths::Path;
 use indexmap::IndexMap;
-use stream_grammar::{DataRef, Mark};
+use stream_grammar::{DataRef, Mark, MarkedObject};
 use tenant_tables::Table;
 
 fn gitlink_to(name: Name) -> Entry
@@ -37,8 +37,9 @@ impl OpenCommit {
     ///
     /// The mode says what the dataref must name: for a file a blob, for a gitlink a commit by its
     /// mark or any name, for a directory a tree by its name. `Fault::MarkUnknown` (13) if its mark
-    /// is not set, `Fault::ObjectUnknown` (14) if the table has no such object, `Fault::WrongKind`
-    /// (15) if the object is of another kind. Then `Fault::RootNotDirectory` (20) if anything but a
+    /// is not set, `Fault::ObjectUnknown` (14) if the table has no object of its name,
+    /// `Fault::WrongKind` (15) if the object is of another kind. A mark knows the kind of its
+    /// object, which is not looked up. Then `Fault::RootNotDirectory` (20) if anything but a
     /// tree would be at the root, and `Fault::Limit` (25) if a path would have more than 16,383
     /// bytes or 256 components, or the commit more than 1,048,576 files. The commit is unchanged
     /// after these. If an allocation fails, the answer is `Fault::Memory` (90); drop the commit
@@ -49,7 +50,7 @@ impl OpenCommit {
         &mut self,
         pool: &Pool<N>,
         table: &Table,
-        marks: &IndexMap<Mark, Name>,
+        marks: &IndexMap<Mark, MarkedObject>,
         mode: FileMode,
         object: DataRef,
         path: &Path,
@@ -68,7 +69,7 @@ impl OpenCommit {
                 self.put_tree(pool, table, path, &tree)
             }
             FileMode::Gitlink => {
-                let name = link_of(pool, table, marks, object)?;
+                let name = link_of(marks, object)?;
                 self.put_file(pool, table, path, gitlink_to(name))
             }
             _ => {

@@ -3,40 +3,38 @@
 ghost use Rattle.std.specs.Prelude.{◌≡◌};
 ghost use Rattle.tenant_tables.specs.Objects.{objects};
 ghost use Rattle.tenant_tables.specs.IsBackedBy.{IsBackedBy};
-ghost use Rattle.open_commits.specs.Changes.{marked_name, referred_name, held_as, link_of, tree_of, blob_of};
+ghost use Rattle.open_commits.specs.Changes.{blob_of, held_as, link_of, marked_as, marked_object, tree_of};
 
 use crate::fault::Fault;
 use content_pool::Pool;
 use git_objects::{Kind, Name, Naming};
 use indexmap::IndexMap;
-use stream_grammar::{DataRef, Mark};
+use stream_grammar::{DataRef, Mark, MarkedObject};
 use tenant_tables::{Objects, Sight, Table};
 
-fn find(marks: &IndexMap<Mark, Name>, mark: Mark) -> Result<Name, Fault>
-    ensures { result ≡ marked_name marks.now.entries mark }
+fn find(marks: &IndexMap<Mark, MarkedObject>, mark: Mark) -> Result<MarkedObject, Fault>
+    ensures { result ≡ marked_object marks.now.entries mark }
 {
     match marks.get(&mark) {
-        Some(id) => Ok(*id),
+        Some(object) => Ok(*object),
         None => Err(Fault::MarkUnknown),
     }
 }
 
-fn referred(marks: &IndexMap<Mark, Name>, object: DataRef) -> Result<Name, Fault>
-    ensures { result ≡ referred_name marks.now.entries object }
+// The object of this mark must be of this kind.
+fn marked_as(marks: &IndexMap<Mark, MarkedObject>, wanted: Kind, mark: Mark) -> Result<Name, Fault>
+    ensures { result ≡ marked_as marks.now.entries wanted mark }
 {
-    match object {
-        DataRef::Mark(mark) => find(marks, mark),
-        DataRef::Name(name) => Ok(name),
+    let object = find(marks, mark)?;
+    if object.kind == wanted {
+        Ok(object.name)
+    } else {
+        Err(Fault::WrongKind)
     }
 }
 
 // The table must have the object of this name, and it must be of this kind.
-pub fn held_as<N: Naming>(
-    pool: &Pool<N>,
-    table: &Table,
-    wanted: Kind,
-    id: Name,
-) -> Result<Name, Fault>
+fn held_as<N: Naming>(pool: &Pool<N>, table: &Table, wanted: Kind, id: Name) -> Result<Name, Fault>
     requires { IsBackedBy N.digest_of pool.now table.now.entries }
     ensures { result ≡ held_as (objects pool.now table.now.entries) wanted id }
 {
@@ -51,28 +49,24 @@ pub fn held_as<N: Naming>(
 pub fn blob_of<N: Naming>(
     pool: &Pool<N>,
     table: &Table,
-    marks: &IndexMap<Mark, Name>,
+    marks: &IndexMap<Mark, MarkedObject>,
     object: DataRef,
 ) -> Result<Name, Fault>
     requires { IsBackedBy N.digest_of pool.now table.now.entries }
     ensures { result ≡ blob_of (objects pool.now table.now.entries) marks.now.entries object }
 {
-    let id = referred(marks, object)?;
-    held_as(pool, table, Kind::Blob, id)
+    match object {
+        DataRef::Mark(mark) => marked_as(marks, Kind::Blob, mark),
+        DataRef::Name(id) => held_as(pool, table, Kind::Blob, id),
+    }
 }
 
 // The object of a gitlink: a commit by its mark, or any name.
-pub fn link_of<N: Naming>(
-    pool: &Pool<N>,
-    table: &Table,
-    marks: &IndexMap<Mark, Name>,
-    object: DataRef,
-) -> Result<Name, Fault>
-    requires { IsBackedBy N.digest_of pool.now table.now.entries }
-    ensures { result ≡ link_of (objects pool.now table.now.entries) marks.now.entries object }
+pub fn link_of(marks: &IndexMap<Mark, MarkedObject>, object: DataRef) -> Result<Name, Fault>
+    ensures { result ≡ link_of marks.now.entries object }
 {
     match object {
-        DataRef::Mark(mark) => held_as(pool, table, Kind::Commit, find(marks, mark)?),
+        DataRef::Mark(mark) => marked_as(marks, Kind::Commit, mark),
         DataRef::Name(id) => Ok(id),
     }
 }
@@ -81,7 +75,7 @@ pub fn link_of<N: Naming>(
 pub fn tree_of<N: Naming>(
     pool: &Pool<N>,
     table: &Table,
-    marks: &IndexMap<Mark, Name>,
+    marks: &IndexMap<Mark, MarkedObject>,
     object: DataRef,
 ) -> Result<Name, Fault>
     requires { IsBackedBy N.digest_of pool.now table.now.entries }

@@ -14,6 +14,7 @@ ghost use Rattle.stream_grammar.specs.WellFormed.{IsReferred};
 ghost use Rattle.file_maps.specs.FileMap.{Path};
 ghost use Rattle.file_maps.specs.StoredFiles.{tree_of_commit};
 ghost use Rattle.open_commits.specs.Changes.{Marks, contents_put, copied_to, deleted, modified, renamed_to};
+ghost use Rattle.open_commits.specs.GoodCommits.{AreMarks};
 ghost use Rattle.open_commits.specs.OpenCommit.{OpenCommit};
 ghost use Rattle.open_commits.specs.Parents.{started_from};
 ghost use Rattle.open_commits.specs.OpenFiles.{HasFiles};
@@ -25,8 +26,8 @@ pub fn changes_keep_file_maps()
         → kind_named (tree_of_commit os id) os ≡ Some kind.Tree
         → IfOk (started_from os id commit) HasFiles }
     ensures modified { (digest : List ℕ → List ℕ) (os : List Object) → AreObjects digest os
-        → (commit : OpenCommit) → HasFiles commit → (marks : Marks) (mode : FileMode)
-        (object : DataRef) → IsReferred object → (path : Path) → IsPath path
+        → (commit : OpenCommit) → HasFiles commit → (marks : Marks) → AreMarks os marks
+        → (mode : FileMode) (object : DataRef) → IsReferred object → (path : Path) → IsPath path
         → IfOk (modified os marks mode object path commit) HasFiles }
     ensures contents { (digest : List ℕ → List ℕ) → AnswersNames digest → (os : List Object)
         (commit : OpenCommit) → HasFiles commit → (mode : FileMode) (path : Path) → IsPath path

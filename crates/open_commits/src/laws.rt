@@ -15,7 +15,7 @@ ghost use Rattle.open_commits.specs.Parents.{started_from, merged};
 ghost use Rattle.open_commits.specs.Changes.{Marks, Left, modified, contents_put, deleted, copied_to, renamed_to, all_deleted};
 ghost use Rattle.open_commits.specs.Showing.{Shown, entry_shown};
 ghost use Rattle.open_commits.specs.Ends.{Closed, closed};
-ghost use Rattle.open_commits.specs.GoodCommits.{IsGoodHeader, IsGoodCommit, GrowGood, HoldsCommit};
+ghost use Rattle.open_commits.specs.GoodCommits.{AreMarks, IsGoodHeader, IsGoodCommit, GrowGood, HoldsCommit};
 
 /// A new commit is good if its header can be written.
 pub fn a_commit_begins_good()
@@ -44,11 +44,12 @@ pub fn a_merge_keeps_it()
         → merged id commit ≡ Ok next → IsGoodCommit os next }
 {}
 
-/// A good commit stays good when an object is put at a path.
+/// A good commit stays good when an object is put at a path. The marks must be good.
 pub fn a_change_keeps_it()
     ensures { (digest : List ℕ → List ℕ) (os : List Object) → AreObjects digest os
         → (commit next : OpenCommit) → IsGoodCommit os commit → AreFiles (listed commit.files)
-        → (marks : Marks) (mode : FileMode) (object : DataRef) (path : Path)
+        → (marks : Marks) → AreMarks os marks
+        → (mode : FileMode) (object : DataRef) (path : Path)
         → modified os marks mode object path commit ≡ Ok next → IsGoodCommit os next }
 {}
 

@@ -10,7 +10,7 @@ use indexmap::IndexMap;
 use open_commits::{Header, OpenCommit};
 use std::alloc::Global;
 use std::marker::Model;
-use stream_grammar::{DataRef, Mark};
+use stream_grammar::{DataRef, Mark, MarkedObject};
 use tenant_tables::{Fault, Table};
 use tree_build::Files;
 
@@ -33,7 +33,7 @@ struct Repository<N: Naming> {
     alloc: Global,
     pool: Pool<N>,
     table: Table,
-    marks: IndexMap<Mark, Name>,
+    marks: IndexMap<Mark, MarkedObject>,
     commit: Option<OpenCommit>,
 }
 
@@ -145,13 +145,18 @@ impl<N: Naming> Repository<N> {
 
     fn marked(&self, step: &[u8], place: usize) -> Option<Name> {
         let mark = mark_of(word(step, place))?;
-        self.marks.get(&mark).copied()
+        Some(self.marks.get(&mark)?.name)
+    }
+
+    // Whether the mark is set, which fails if memory ran out.
+    fn set_mark(&mut self, mark: Mark, kind: Kind, name: Name) -> bool {
+        self.marks.insert(mark, MarkedObject { name, kind }).is_ok()
     }
 
     fn add_blob(&mut self, step: &[u8]) -> Option<bool> {
         let mark = mark_of(word(step, 1))?;
         let id = self.added(word(step, 2)).ok()?;
-        Some(self.marks.insert(mark, id).is_ok())
+        Some(self.set_mark(mark, Kind::Blob, id))
     }
 
     // Adds a blob, and drops the open commit.
@@ -341,7 +346,7 @@ impl<N: Naming> Repository<N> {
     fn close(&mut self, step: &[u8]) -> Option<bool> {
         let mark = mark_of(word(step, 1))?;
         let id = self.closed()?;
-        let is_marked = self.marks.insert(mark, id).is_ok();
+        let is_marked = self.set_mark(mark, Kind::Commit, id);
         Some(is_marked && id.to_hex().as_slice() == word(step, 2))
     }
 

@@ -1,15 +1,14 @@
 -- Tenants that are built one after another over a pool that changes.
-use Rattle.std.proofs.Common.{◌≡◌, ℕ, zero, suc, ◌+◌, ◌<◌, ◌≤◌, ◌^◌, List, [], ◌∷◌, ◌++◌, map, length, Option, None, Some, refl, sym, ap, subst, ◌∙◌, append-nil, append_assoc, arith}
-use Rattle.std.specs.Prelude.{All, IfSome, slice_get}
-use Rattle.std.specs.Option.{option_map, unwrap_or}
+use Rattle.std.proofs.Common.{◌≡◌, ℕ, ◌+◌, ◌<◌, ◌≤◌, ◌^◌, List, [], ◌∷◌, ◌++◌, map, length, Option, None, Some, refl, sym, ap, subst, ◌∙◌, append-nil, append_assoc, arith}
+use Rattle.std.specs.Prelude.{All}
 use Rattle.std.specs.List.{AllByRecursion}
 use Rattle.std.proofs.lemmas.List.{map-append}
 use Rattle.std.proofs.lemmas.List.Elements.{All-nil, All-cons}
 use Rattle.std.proofs.lemmas.List.Sums.{sum_by-cons, sum_by_push}
 use Rattle.git_model.specs.Repository.{Object}
 use Rattle.content_pool.specs.Pool.{Cells, holds, content}
-use Rattle.tenant_tables.specs.View.{View, Entries, held}
-use Rattle.tenant_tables.specs.Trees.{IsSummed}
+use Rattle.tenant_tables.specs.View.{Entries, held}
+use Rattle.tenant_tables.specs.IsBackedBy.{IsBackedBy}
 use Rattle.tenant_tables.specs.Objects.{objects}
 use Rattle.tenant_tables.specs.Room.{HasHoldsLeftBeside}
 use Rattle.tenant_tables.proofs.HoldLemmas.{held-nil, Keeps, objects-kept}
@@ -93,27 +92,15 @@ module _ (p q : Cells) where
 
 -- ---- the last tenant
 
-each_got : {X : Type 0} (P : X → Type 0) (xs : List X) (i : ℕ) → AllByRecursion P xs → IfSome (slice_get xs i) P
-each_got P [] i all = tt
-each_got P (y ∷ ys) zero all = all.0
-each_got P (y ∷ ys) (suc i) all = each_got P ys i all.1
+each_last : {X : Type 0} (P : X → Type 0) (xs : List X) (x : X) → AllByRecursion P (xs ++ x ∷ []) → P x
+each_last P [] x all = all.0
+each_last P (y ∷ ys) x all = each_last P ys x all.1
 
-summed_by : {R : Type 0} (shown : R → View) (digest : List ℕ → List ℕ) (pool : Cells) (o : Option R)
-    (found : Option Tenant) → option_map shown o ≡ option_map (λ t. t.table) found
-    → IfSome found (IsBuilt digest pool) → IfSome o (λ r. IsSummed pool (shown r).entries)
-summed_by shown digest pool None found is built = tt
-summed_by shown digest pool (Some r) None is built = cc is
-summed_by shown digest pool (Some r) (Some t) is built =
-    let same : t.table ≡ shown r = sym (ap (λ (v : Option View). unwrap_or v (shown r)) is) in
-    subst (λ (v : View). IsSummed pool v.entries) same built.stands.summed
-
--- the table that was found is that of a tenant
-pub last_summed : {R : Type 0} (shown : R → View) (digest : List ℕ → List ℕ) (slots : List ℕ) (pool : Cells)
-    (ts : List Tenant) (i : ℕ) (o : Option R) → AreUnder digest slots pool ts
-    → option_map shown o ≡ option_map (λ t. t.table) (slice_get ts i)
-    → IfSome o (λ r. IsSummed pool (shown r).entries)
-last_summed shown digest slots pool ts i o under is =
-    summed_by shown digest pool o (slice_get ts i) is (each_got (IsBuilt digest pool) ts i under.each)
+pub last_stands : (digest : List ℕ → List ℕ) (slots : List ℕ) (pool : Cells) (all ts : List Tenant)
+    (t : Tenant) → AreUnder digest slots pool all → all ≡ ts ++ t ∷ []
+    → IsBackedBy digest pool t.table.entries
+last_stands digest slots pool all ts t under is =
+    (each_last (IsBuilt digest pool) ts t (subst (AllByRecursion (IsBuilt digest pool)) is under.each)).stands
 
 -- ---- one tenant more
 

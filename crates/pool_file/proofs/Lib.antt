@@ -5,6 +5,8 @@ pub mod Slots
 pub mod StoredContents
 pub mod LoadedTables
 pub mod Alike
+pub mod Starting
+pub mod Begun
 pub mod Built
 pub mod Filled
 pub mod Ordered

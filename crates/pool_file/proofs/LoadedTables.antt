@@ -79,7 +79,7 @@ module _ (pool : Cells) (slots : List ℕ) (n slot : ℕ) (l : n < length slots)
       λ i. record { id = name i; content = content_is i }
 
 -- the objects that are left from a place on
-own_left : (digest : List ℕ → List ℕ) (pool : Cells) (slots numbers : List ℕ) (i n slot : ℕ) → i < length numbers
+pub own_left : (digest : List ℕ → List ℕ) (pool : Cells) (slots numbers : List ℕ) (i n slot : ℕ) → i < length numbers
     → n ≡ get_or numbers i n → n < length slots → slot ≡ get_or slots n slot
     → drop i (own_objects digest (objects_at pool slots) numbers)
     ≡ object_of digest (content pool slot) ∷ drop (i + 1) (own_objects digest (objects_at pool slots) numbers)

@@ -1,5 +1,5 @@
 -- Adding one object to the table of a tenant, which is made from the numbers in a file.
-use Rattle.std.specs.Prelude.{◌≡◌, ℕ, ◌<◌, ◌≤◌, List, [], ◌∷◌, ◌++◌, length, Option, None, Some}
+use Rattle.std.specs.Prelude.{◌≡◌, ℕ, ◌<◌, ◌≤◌, List, [], ◌∷◌, ◌++◌, length, Option, None, Some, get_or, slice_get}
 use Rattle.std.specs.Map.{lookup}
 use Rattle.std.specs.Str.{bytes_eq}
 use Rattle.git_model.specs.Limits.{contents_limit, objects_limit}
@@ -8,14 +8,10 @@ use Rattle.git_model.specs.Repository.{Object}
 use Rattle.content_pool.specs.Pool.{Cells, HasHoldsLeft, IsLive, content}
 use Rattle.tenant_tables.specs.declared.entry.Entry.{Entry}
 use Rattle.tenant_tables.specs.declared.summary.Summary.{Summary}
-use Rattle.tenant_tables.specs.View.{Entries, entry_named, summary_of}
+use Rattle.tenant_tables.specs.View.{View, Entries, entry_named, summary_of}
 use Rattle.tenant_tables.specs.Objects.{objects}
 use Rattle.tenant_tables.specs.IsBackedBy.{IsBackedBy, PreservesOthers}
 use Rattle.pool_file_checks.specs.Sums.{Sums, SameSums, Fits, sums_with}
-
--- The name and the slot of an entry.
-abbrev pub name_and_slot : List ℕ × Entry → List ℕ × ℕ
-name_and_slot e = (e.0, e.1.slot)
 
 -- The table and the sums have the same summary under each name.
 abbrev pub AreNoted : Sums → Entries → Type 0
@@ -52,3 +48,19 @@ pub record Loads (digest : List ℕ → List ℕ) (slot : ℕ) (before : Cells) 
   pub noted : AreNoted more new
   pub trees : SameSums more (sums_with (content before slot).kind
       (name_by digest (content before slot)) (content before slot).bytes sums)
+
+-- So many first entries lie in the slots of as many first numbers.
+pub record BeginAlike (entries : Entries) (slots numbers : List ℕ) (count : ℕ) : Type 0 where
+  pub has : count ≤ length entries
+  pub few : count ≤ length numbers
+  pub alike : (i : ℕ) (x : List ℕ × Entry) → i < count → slice_get entries i ≡ Some x
+      → x.1.slot ≡ get_or slots (get_or numbers i 0) 0
+
+-- A table has the objects of the first numbers, all committed, and its holds are all that the pool
+-- has more.
+pub record Starts (digest : List ℕ → List ℕ) (slots numbers : List ℕ) (before after : Cells)
+    (table : View) : Type 0 where
+  pub stands : IsBackedBy digest after table.entries
+  pub others : PreservesOthers before [] after table.entries
+  pub committed : table.committed ≡ length table.entries
+  pub alike : BeginAlike table.entries slots numbers (length table.entries)

@@ -1,10 +1,9 @@
 //! Building what a good file says: its contents in one pool, and the tenants over it.
 
-ghost use Rattle.std.specs.Prelude.{◌≡◌, ◌-◌, [], ◌∷◌, length, true, All, IfOk, IfSome, OnOk, slice_get};
-ghost use Rattle.std.specs.Option.{option_map};
+ghost use Rattle.std.specs.Prelude.{◌≡◌, [], ◌∷◌, true, All, IfOk, OnOk};
 ghost use Rattle.content_pool.specs.Pool.{IsLive, IsVacant};
 ghost use Rattle.tenant_refs.specs.TenantName.{IsTenantName, is_tenant_name};
-ghost use Rattle.tenant_tables.specs.Trees.{IsSummed};
+ghost use Rattle.tenant_tables.specs.IsBackedBy.{IsBackedBy};
 ghost use Rattle.tenant_tables.specs.Room.{HasHoldsLeftBeside};
 ghost use Rattle.pool_file_format.specs.Shown.{objects_of, tenant_of, tenants_of, file_of};
 ghost use Rattle.pool_file_checks.specs.Checks.{Passes};
@@ -34,22 +33,24 @@ fn read_tenant_name(text: &[u8]) -> TenantName
     TenantName::read(text).unwrap()
 }
 
-// Builds a tenant of a file whose contents lie in these slots.
+// Builds a tenant of a file whose contents lie in these slots. It may share objects with another
+// table.
 fn build_tenant<N: Naming>(
     alloc: Global,
     pool: &mut Pool<N>,
     slots: &[Slot],
     names: &[Name],
     tenant: &RawTenant,
-    other: Option<&Table>,
+    other: &mut Table,
 ) -> Result<Tenant, Memory>
     requires live { All (IsLive pool.old) slots.now }
     requires room { HasHoldsLeftBeside pool.old [] }
     requires named { names.now ≡ names_of N.digest_of (objects_at pool.old slots.now) }
     requires checked { IsChecked N.digest_of (objects_at pool.old slots.now)
         (tenant_of tenant.now) }
-    requires other { IfSome other (λ t. IsSummed pool.old t.now.entries) }
-    ensures { IfOk result (λ t. Builds N.digest_of (objects_at pool.old slots.now)
+    requires other { IsBackedBy N.digest_of pool.old other.old.entries }
+    ensures same { other.new ≡ other.old }
+    ensures builds { IfOk result (λ t. Builds N.digest_of (objects_at pool.old slots.now)
         (tenant_of tenant.now) pool.old pool.new t) }
 {
     let name = read_tenant_name(&tenant.name);
@@ -66,17 +67,7 @@ fn has_room<N: Naming>(pool: &Pool<N>, slots: &[Slot], tenants: &Vec<Tenant>)
     let _few = tenants.len();
 }
 
-// The table of the last tenant, if there is one.
-fn last_table(tenants: &[Tenant]) -> Option<&Table>
-    ensures { option_map (λ t. t.now) result
-        ≡ option_map (λ t. t.table) (slice_get tenants.now (length tenants.now - 1)) }
-{
-    match tenants.last() {
-        Some(tenant) => Some(&tenant.table),
-        None => None,
-    }
-}
-
+// The last tenant is taken out while the new one is built, since the two may share objects.
 fn add_tenant<N: Naming>(
     alloc: Global,
     pool: &mut Pool<N>,
@@ -93,7 +84,14 @@ fn add_tenant<N: Naming>(
         (tenant_of tenant.now ∷ []) pool.new tenants.new.items) }
 {
     has_room(pool, slots, tenants);
-    let built = build_tenant(alloc, pool, slots, names, tenant, last_table(tenants))?;
+    let Some(mut last) = tenants.pop() else {
+        let mut none = Table::new(alloc);
+        let built = build_tenant(alloc, pool, slots, names, tenant, &mut none)?;
+        tenants.push(built)?;
+        return Ok(());
+    };
+    let built = build_tenant(alloc, pool, slots, names, tenant, &mut last.table)?;
+    tenants.push(last)?;
     tenants.push(built)?;
     Ok(())
 }

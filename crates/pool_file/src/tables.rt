@@ -1,17 +1,13 @@
 //! The table of a tenant, from the numbers of its objects in the file.
 
-ghost use Rattle.std.specs.Prelude.{◌≡◌, ◌<◌, ◌≤◌, [], length, All, IfOk, IfSome, OnOk, None, Some, slice_get};
+ghost use Rattle.std.specs.Prelude.{◌≡◌, ◌<◌, ◌≤◌, [], length, All, IfOk, OnOk, None, Some, slice_get};
 ghost use Rattle.std.specs.Bool.{OnTrue};
-ghost use Rattle.std.specs.List.{IsDistinct};
-ghost use Rattle.std.specs.Map.{keys_of};
 ghost use Rattle.std.specs.Option.{option_map};
-ghost use Rattle.std.specs.Str.{bytes_eq};
-ghost use Rattle.content_pool.specs.Pool.{IsLive, content};
+ghost use Rattle.content_pool.specs.Pool.{Cells, IsLive, content};
 ghost use Rattle.git_model.specs.Content.{name_by};
 ghost use Rattle.git_model.specs.GoodRepository.{objects_limit};
 ghost use Rattle.tenant_tables.specs.Objects.{objects};
 ghost use Rattle.tenant_tables.specs.Room.{HasHoldsLeftBeside};
-ghost use Rattle.tenant_tables.specs.View.{summary_of};
 ghost use Rattle.tenant_tables.specs.Trees.{IsSummed};
 ghost use Rattle.tenant_tables.specs.IsBackedBy.{IsBackedBy, PreservesOthers};
 ghost use Rattle.pool_file_checks.specs.Checks.{Passes};
@@ -19,7 +15,7 @@ ghost use Rattle.pool_file_checks.specs.Objects.{object_checks};
 ghost use Rattle.pool_file_checks.specs.Own.{own_objects, names_of, rows_of, AreDistinct};
 ghost use Rattle.pool_file_checks.specs.Sums.{Fits, SameSums, TreesFit, sums_with};
 ghost use Rattle.pool_file.specs.Building.{objects_at};
-ghost use Rattle.pool_file.specs.Tables.{CanLoad, Loads, name_and_slot, with_sum};
+ghost use Rattle.pool_file.specs.Tables.{AreNoted, BeginAlike, CanLoad, Loads, Starts, with_sum};
 
 use content_pool::{Pool, Slot};
 use git_names::{Memory, Name, Naming};
@@ -51,7 +47,7 @@ fn note_sum(
     }
 }
 
-// Notes the sum that another table has of an object; `None` if it is not a tree.
+// Notes the sum that a table has of an object; `None` if it is not a tree.
 fn note_known(
     sums: &mut IndexMap<Name, Summary>,
     id: Name,
@@ -65,74 +61,85 @@ fn note_known(
     Ok(())
 }
 
-// Notes the sum of the object in this slot. If another table is alike so far, it has the sum;
-// otherwise a tree is read.
-fn note_object<N: Naming>(
-    alloc: Global,
-    pool: &Pool<N>,
-    sums: &mut IndexMap<Name, Summary>,
-    like: Option<&Table>,
-    id: Name,
-    slot: Slot,
-) -> Result<(), Memory>
-    requires live { IsLive pool.now slot }
-    requires fits { let c = content pool.now slot in Fits c.kind c.bytes sums.old.entries }
-    requires like { IfSome like (λ t. let c = content pool.now slot in
-        with_sum id (summary_of id t.now.entries) sums.old.entries
-        ≡ sums_with c.kind id c.bytes sums.old.entries) }
-    ensures { let c = content pool.now slot in OnOk result
-        (SameSums sums.new.entries (sums_with c.kind id c.bytes sums.old.entries)) }
-{
-    match like {
-        Some(table) => note_known(sums, id, table.summary(&id)),
-        None => {
-            let (kind, bytes) = pool.get(slot);
-            note_sum(alloc, sums, id, kind, bytes)
-        }
-    }
-}
-
 // Adds the object with this name, whose content lies in this slot.
 fn load_object<N: Naming>(
     alloc: Global,
     pool: &mut Pool<N>,
     table: &mut Table,
     sums: &mut IndexMap<Name, Summary>,
-    like: Option<&Table>,
     id: Name,
     slot: Slot,
 ) -> Result<(), Memory>
     requires named { id ≡ name_by N.digest_of (content pool.old slot) }
     requires can { CanLoad N.digest_of pool.old table.old.entries sums.old.entries slot }
-    requires like { IfSome like (λ t. let c = content pool.old slot in
-        with_sum id (summary_of id t.now.entries) sums.old.entries
-        ≡ sums_with c.kind id c.bytes sums.old.entries) }
     ensures { OnOk result (Loads N.digest_of slot pool.old table.old.entries sums.old.entries
         pool.new table.new.entries sums.new.entries) }
 {
-    note_object(alloc, pool, sums, like, id, slot)?;
+    let (kind, bytes) = pool.get(slot);
+    note_sum(alloc, sums, id, kind, bytes)?;
     table.add_held(pool, id, slot, sums.get(&id).copied())
 }
 
-// Whether a table has the object with this name at this place, in this slot.
-fn has_at(table: &Table, place: usize, id: Name, slot: Slot) -> bool
-    ensures found { OnTrue result
-        (option_map name_and_slot (slice_get table.now.entries place) ≡ Some (id, slot)) }
-    ensures distinct { OnTrue result (IsDistinct bytes_eq (keys_of table.now.entries)) }
+// Whether the object at this place of a table lies in this slot.
+fn is_at(table: &Table, place: usize, slot: Slot) -> bool
+    ensures { OnTrue result
+        (option_map (λ e. e.1.slot) (slice_get table.now.entries place) ≡ Some slot) }
 {
-    place < table.len() && table.at(place) == Some((id, slot))
+    match table.at(place) {
+        Some((_, other)) => other == slot,
+        None => false,
+    }
 }
 
-// The other table, if it is alike here too: it has the same object at this place.
-fn still_like<'a>(like: Option<&'a Table>, place: usize, id: Name, slot: Slot) -> Option<&'a Table>
-    ensures { IfSome result (λ t. (like.entry ≡ Some t)
-        × IsDistinct bytes_eq (keys_of t.now.entries)
-        × (option_map name_and_slot (slice_get t.now.entries place) ≡ Some (id, slot))) }
+// How many of the first objects of a table lie in the slots of the first numbers.
+fn common_front(table: &Table, slots: &[Slot], numbers: &[u64]) -> usize
+    requires { All (λ n. n < length slots.now) numbers.now }
+    ensures { BeginAlike table.now.entries slots.now numbers.now result }
 {
-    match like {
-        Some(table) if has_at(table, place, id, slot) => Some(table),
-        _ => None,
+    for place in 0..numbers.len() {
+        let number = numbers[place] as usize;
+        if !is_at(table, place, slots[number]) {
+            return place;
+        }
     }
+    numbers.len()
+}
+
+// The table to which the objects of these numbers are added: as many of the first as the other
+// table has alike, if that is more than half of them, and else none.
+fn start_table<N: Naming>(
+    alloc: Global,
+    pool: &mut Pool<N>,
+    slots: &[Slot],
+    numbers: &[u64],
+    other: &mut Table,
+) -> Result<Table, Memory>
+    requires stands { IsBackedBy N.digest_of pool.old other.old.entries }
+    requires room { HasHoldsLeftBeside pool.old [] }
+    requires numbers { All (λ n. n < length slots.now) numbers.now }
+    ensures same { other.new ≡ other.old }
+    ensures ok { IfOk result
+        (λ table. Starts N.digest_of slots.now numbers.now pool.old pool.new table) }
+{
+    let count = common_front(other, slots, numbers);
+    if count <= numbers.len() / 2 {
+        return Ok(Table::new(alloc));
+    }
+    other.share(alloc, pool, count)
+}
+
+// The sums of the trees of a table.
+fn sums_of(alloc: Global, table: &Table) -> Result<IndexMap<Name, Summary>, Memory>
+    requires { (pool : Cells) × IsSummed pool table.now.entries }
+    ensures { IfOk result (λ sums. AreNoted sums.entries table.now.entries) }
+{
+    let mut sums = IndexMap::new(alloc);
+    for place in 0..table.len() {
+        if let Some(found) = table.at(place) {
+            note_known(&mut sums, found.0, table.summary(&found.0))?;
+        }
+    }
+    Ok(sums)
 }
 
 /// A table of the objects with these numbers, in their order and all committed. `slots` are those
@@ -142,15 +149,15 @@ fn still_like<'a>(like: Option<&'a Table>, place: usize, id: Name, slot: Slot) -
 /// The numbers are those of a tenant of a file that passed its checks. `Memory` (90) if there is no
 /// memory for the table; the pool may then hold some contents once more.
 ///
-/// `other` is the table of another tenant. As long as it has the same objects in the same order, it
-/// has the sums of their trees, and they are not read again.
+/// `other` is the table of another tenant, or an empty one. If it begins with more than half of
+/// these objects, in the same order, the tables share them in memory.
 pub fn load_table<N: Naming>(
     alloc: Global,
     pool: &mut Pool<N>,
     slots: &[Slot],
     names: &[Name],
     numbers: &[u64],
-    other: Option<&Table>,
+    other: &mut Table,
 ) -> Result<Table, Memory>
     requires live { All (IsLive pool.old) slots.now }
     requires room { HasHoldsLeftBeside pool.old [] }
@@ -162,21 +169,23 @@ pub fn load_table<N: Naming>(
         (rows_of (names_of N.digest_of (objects_at pool.old slots.now)) numbers.now) }
     requires trees { TreesFit []
         (own_objects N.digest_of (objects_at pool.old slots.now) numbers.now) }
-    requires other { IfSome other (λ t. IsSummed pool.old t.now.entries) }
+    requires other { IsBackedBy N.digest_of pool.old other.old.entries }
     ensures stands { IfOk result (λ table. IsBackedBy N.digest_of pool.new table.entries) }
     ensures others { IfOk result (λ table. PreservesOthers pool.old [] pool.new table.entries) }
     ensures objects { IfOk result (λ table. objects pool.new table.entries
         ≡ own_objects N.digest_of (objects_at pool.old slots.now) numbers.now) }
     ensures committed { IfOk result (λ table. table.committed ≡ length table.entries) }
+    ensures same { other.new ≡ other.old }
 {
-    let mut table = Table::new(alloc);
-    let mut sums = IndexMap::new(alloc);
-    let mut like = other;
-    for number in numbers {
-        let place = *number as usize;
+    let mut table = start_table(alloc, pool, slots, numbers, other)?;
+    if table.len() == numbers.len() {
+        return Ok(table);
+    }
+    let mut sums = sums_of(alloc, &table)?;
+    for position in table.len()..numbers.len() {
+        let place = numbers[position] as usize;
         let (id, slot) = (names[place], slots[place]);
-        like = still_like(like, table.len(), id, slot);
-        load_object(alloc, pool, &mut table, &mut sums, like, id, slot)?;
+        load_object(alloc, pool, &mut table, &mut sums, id, slot)?;
     }
     table.commit();
     Ok(table)

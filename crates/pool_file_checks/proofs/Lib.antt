@@ -5,7 +5,9 @@ pub mod TenantLemmas
 pub mod RefLemmas
 pub mod HeldLemmas
 pub mod SumLemmas
+pub mod GoodLemmas
 pub mod WholeLemmas
+pub mod QuickLemmas
 pub mod Members
 pub mod Keys
 pub mod Rising

@@ -9,6 +9,7 @@ pub mod Tenants
 pub mod FileRefs
 pub mod Held
 pub mod Whole
+pub mod Quick
 pub mod Repositories
 pub mod Saved
 pub mod Saving

@@ -8,14 +8,14 @@ ghost use Rattle.pool_file_checks.specs.Objects.{kind_byte, IsText, IsContent};
 use git_objects::{Kind, Memory, read_commit, read_tag, read_tree};
 use std::alloc::Global;
 
-// How many bytes an object may have.
-const CONTENTS_LIMIT: usize = 134_217_728;
+/// How many bytes an object may have.
+pub const CONTENTS_LIMIT: usize = 134_217_728;
 
-// How many parents a commit may have.
-const PARENTS_LIMIT: usize = 1024;
+/// How many parents a commit may have.
+pub const PARENTS_LIMIT: usize = 1024;
 
-// How many bytes the name of a tag may have. After `refs/tags/` it makes a ref name of 1,024.
-const TAG_NAME_LIMIT: usize = 1014;
+/// How many bytes the name of a tag may have. After `refs/tags/` it makes a ref name of 1,024.
+pub const TAG_NAME_LIMIT: usize = 1014;
 
 /// The kind of this byte of the file; `None` for a byte of no kind.
 pub fn kind_from(byte: u8) -> Option<Kind>

@@ -37,8 +37,8 @@ fn is_above(last: &RawObject, object: &RawObject) -> bool
     }
 }
 
-// Whether an object comes after the one before it.
-fn is_after(last: Option<&RawObject>, object: &RawObject) -> bool
+/// Whether an object comes after the one before it, by kind and then by contents.
+pub fn is_after(last: Option<&RawObject>, object: &RawObject) -> bool
     ensures { IsTrue result ↔ IsAfter (option_map (λ o. object_key (object_of o.now)) last.entry)
         (object_key (object_of object.now)) }
 {

@@ -6,6 +6,7 @@
 #![tactic(auto)]
 
 mod contents;
+mod good;
 mod held;
 mod judged;
 mod judging;
@@ -13,6 +14,7 @@ pub mod laws;
 mod naming;
 mod order;
 mod own;
+mod quick;
 mod references;
 mod refs;
 mod standing;

@@ -44,7 +44,7 @@ pub fn name_objects<N: Naming>(
     ensures { IfOk result (λ names. names.items
         ≡ names_of N.digest_of (objects_of objects.now)) }
 {
-    let mut names = Vec::new(alloc);
+    let mut names = Vec::with_capacity(alloc, objects.len())?;
     for object in objects {
         let id = name_of(alloc, naming, kind_of(object.kind), &object.bytes)?;
         names.push(id)?;

@@ -1,6 +1,7 @@
 //! The objects of one tenant, under their names.
 
-ghost use Rattle.std.specs.Prelude.{◌<◌, [], length, All, slice_index_or};
+ghost use Rattle.std.specs.Prelude.{◌≡◌, ◌<◌, [], length, All, slice_index_or};
+ghost use Rattle.std.specs.Bool.{OnTrue};
 ghost use Rattle.pool_file_checks.specs.Own.{rows_of};
 ghost use Rattle.pool_file_checks.specs.Indexing.{Adds, Indexes};
 ghost use Rattle.pool_file_format.specs.Taking.{shown};
@@ -33,6 +34,13 @@ fn add_object(index: &mut IndexMap<Name, usize>, names: &[Name], number: u64) ->
     }
 }
 
+/// Whether these are the same numbers.
+pub fn are_same(numbers: &[u64], others: &[u64]) -> bool
+    ensures { OnTrue result (numbers.now ≡ others.now) }
+{
+    numbers == others
+}
+
 /// An index of a tenant's objects: their numbers under their names, in the tenant's order. `names`
 /// are the names of all objects of the file, and `numbers` those of the tenant's objects.
 ///
@@ -46,7 +54,8 @@ pub fn index_objects(
     ensures { All (λ n. n < length names.now) numbers.now
         → Indexes (rows_of names.now numbers.now) (shown (λ index. index.entries) result) }
 {
-    let mut index = IndexMap::new(alloc);
+    let most = numbers.len().min(names.len());
+    let mut index = IndexMap::with_capacity(alloc, most)?;
     for number in numbers {
         add_object(&mut index, names, *number)?;
     }

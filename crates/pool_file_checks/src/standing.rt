@@ -15,8 +15,8 @@ use git_objects::{CommitParts, FileMode, Kind, TreeEntry, kind_of_mode};
 use indexmap::IndexMap;
 use pool_file_format::RawObject;
 
-// Whether the object with this number has this kind.
-fn is_kind(objects: &[RawObject], number: usize, kind: Kind) -> bool
+/// Whether the object with this number has this kind.
+pub fn is_kind(objects: &[RawObject], number: usize, kind: Kind) -> bool
     ensures { IsTrue result ↔ ((content_at (objects_of objects.now) number).kind ≡ kind) }
 {
     content_at(objects, number).0 == kind
@@ -42,7 +42,8 @@ pub fn stands_before(
     is_kind(objects, *number, kind)
 }
 
-fn entry_stands(
+/// Whether what an entry names stands before a place. A gitlink names nothing here.
+pub fn entry_stands(
     objects: &[RawObject],
     index: &IndexMap<Name, usize>,
     place: usize,

@@ -39,8 +39,8 @@ fn kept(sum: Summary) -> Option<Summary>
     if is_within(sum) { Some(sum) } else { None }
 }
 
-// The sum of no files.
-fn no_files() -> Summary
+/// The sum of no files.
+pub fn no_files() -> Summary
     ensures { result ≡ no_files }
 {
     Summary {
@@ -50,7 +50,8 @@ fn no_files() -> Summary
     }
 }
 
-fn one_file(name: &[u8]) -> Option<Summary>
+/// The sum of one file of this name, if it is within the limits.
+pub fn one_file(name: &[u8]) -> Option<Summary>
     ensures { SumWhere (IsWithin (one_file name.now)) (one_file name.now) result }
 {
     if name.len() > PATH_LIMIT as usize {
@@ -63,9 +64,9 @@ fn one_file(name: &[u8]) -> Option<Summary>
     })
 }
 
-// The sum of a directory's tree with the directory's name before each path; `None` if the tree has
-// no files or a limit is passed. A sum past a limit is not added to, so that nothing wraps.
-fn below(name: &[u8], tree: Summary) -> Option<Summary>
+/// The sum of a directory's tree with the directory's name before each path; `None` if the tree has
+/// no files or a limit is passed. A sum past a limit is not added to, so that nothing wraps.
+pub fn below(name: &[u8], tree: Summary) -> Option<Summary>
     ensures { SumWhere ((tree.files ≢ 0) × IsWithin (below name.now tree))
         (below name.now tree) result }
 {
@@ -79,7 +80,8 @@ fn below(name: &[u8], tree: Summary) -> Option<Summary>
     })
 }
 
-fn both(first: Summary, second: Summary) -> Option<Summary>
+/// The sum of both, if it is within the limits.
+pub fn both(first: Summary, second: Summary) -> Option<Summary>
     requires first { IsWithin first }
     requires second { IsWithin second }
     ensures { SumWhere (IsWithin (both first second)) (both first second) result }

@@ -2,7 +2,6 @@
 
 ghost use Rattle.std.specs.Prelude.{◌≡◌, ◌<◌, ℕ, List, length, All, None};
 ghost use Rattle.std.specs.Option.{option_map};
-ghost use Rattle.std.specs.Bool.{OnTrue};
 ghost use Rattle.pool_file_checks.specs.Checks.{Passes, Checked};
 ghost use Rattle.pool_file_checks.specs.Objects.{CanStore};
 ghost use Rattle.pool_file_checks.specs.Own.{names_of};
@@ -11,7 +10,8 @@ ghost use Rattle.pool_file_format.specs.Shown.{objects_of, tenant_of, tenants_of
 
 use crate::held::check_held;
 use crate::judging::check_objects;
-use crate::own::index_objects;
+use crate::own::{are_same, index_objects};
+use crate::quick::pass_file;
 use crate::references::check_references;
 use crate::refs::check_refs;
 use crate::sums::check_sums;
@@ -19,13 +19,6 @@ use crate::tenants::{check_name, check_numbers};
 use git_names::Name;
 use pool_file_format::{Fault, RawFile, RawObject, RawTenant};
 use std::alloc::Global;
-
-// Whether these are the same numbers.
-fn are_same(numbers: &[u64], others: &[u64]) -> bool
-    ensures { OnTrue result (numbers.now ≡ others.now) }
-{
-    numbers == others
-}
 
 // Judges the names of a tenant's objects, what they refer to, and the sizes of its trees.
 fn check_own(
@@ -105,6 +98,17 @@ fn check_tenants(
     Ok(())
 }
 
+// Makes all checks of a file in their order.
+fn check_in_order(alloc: Global, names: &[Name], file: &RawFile) -> Result<(), Fault>
+    ensures { (digest : List ℕ → List ℕ)
+        → names.now ≡ names_of digest (objects_of file.now.objects.items)
+        → Checked (file_checks digest (file_of file.now)) result }
+{
+    check_objects(alloc, &file.objects)?;
+    check_tenants(alloc, file.version, &file.objects, names, &file.tenants)?;
+    check_held(alloc, file.objects.as_slice().len(), &file.tenants)
+}
+
 /// Judges what a pool file says. `names` are the names of its objects, as `name_objects` answers
 /// them. If a tenant has the same numbers as the tenant before, their objects are judged once.
 ///
@@ -120,7 +124,9 @@ pub fn check_file(alloc: Global, names: &[Name], file: &RawFile) -> Result<(), F
         → names.now ≡ names_of digest (objects_of file.now.objects.items)
         → Checked (file_checks digest (file_of file.now)) result }
 {
-    check_objects(alloc, &file.objects)?;
-    check_tenants(alloc, file.version, &file.objects, names, &file.tenants)?;
-    check_held(alloc, file.objects.as_slice().len(), &file.tenants)
+    match pass_file(alloc, names, file) {
+        Ok(()) => Ok(()),
+        Err(Fault::Memory) => Err(Fault::Memory),
+        Err(_) => check_in_order(alloc, names, file),
+    }
 }

@@ -25,6 +25,7 @@ mod feature;
 pub mod laws;
 mod lines;
 mod mark;
+mod marked_object;
 mod names;
 mod parser;
 mod part;
@@ -42,6 +43,7 @@ pub use git_model::FileMode;
 pub use git_names::{Ident, Name, RefName};
 pub use git_paths::Path;
 pub use mark::Mark;
+pub use marked_object::MarkedObject;
 pub use parser::Parser;
 pub use part::{
     ChangeLine, CommitIshLine, ControlLine, HeaderLine, OpeningLine, Part, ReplyLine, part_of,

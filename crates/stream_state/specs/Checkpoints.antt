@@ -1,4 +1,5 @@
--- What a checkpoint compares and saves: git-fast-import(1), "checkpoint"; "fast-forward" of gitglossary(7).
+-- What a checkpoint compares and saves: git-fast-import(1), "checkpoint"; gitglossary(7),
+-- "fast-forward".
 use Rattle.std.specs.Prelude.{ℕ, nat_le, Bool, false, List, length, fold, Option, None, Some}
 use Rattle.git_model.specs.declared.kind.Kind.TheVariants as kind
 use Rattle.git_model.specs.GoodRepository.{refs_limit}

@@ -8,22 +8,27 @@ use Rattle.revisions.specs.declared.fault.Fault.TheVariants as revision_fault
 use Rattle.stream_state.specs.declared.fault.Fault.{Fault}
 use Rattle.stream_state.specs.declared.fault.Fault.TheVariants as fault
 
+-- The number of a fault of an object that an item names; 0 for any other fault.
+abbrev pub naming_code : Fault → ℕ
+naming_code fault.MarkUnknown = 13
+naming_code fault.ObjectUnknown = 14
+naming_code fault.WrongKind = 15
+naming_code fault.UnknownRevision = 16
+naming_code fault.Ambiguous = 17
+naming_code _ = 0
+
 -- The number of a fault.
 abbrev pub code_of : Fault → ℕ
 code_of (fault.Text text) = text_code text
 code_of fault.Malformed = 3
 code_of fault.DoneMissing = 7
-code_of fault.MarkUnknown = 13
-code_of fault.ObjectUnknown = 14
-code_of fault.WrongKind = 15
-code_of fault.UnknownRevision = 16
-code_of fault.Ambiguous = 17
 code_of fault.SourceMissing = 18
 code_of fault.BranchFromItself = 19
 code_of fault.RootNotDirectory = 20
 code_of fault.NameCollision = 24
 code_of fault.Limit = 25
 code_of fault.Memory = 90
+code_of naming = naming_code naming
 
 -- What the text of an item gives, or its fault as one of the stream.
 abbrev pub text_first : {A : Type 0} → Result A TextFault → Result A Fault

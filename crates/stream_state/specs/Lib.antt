@@ -1,5 +1,5 @@
--- In reading order: the faults, what a stream keeps, and what its commands do with it; then what calls
--- store, and how a line spells what a tag names.
+-- In reading order: the faults, what a stream keeps, and what its commands do with it; then what
+-- calls store, and how a line spells what a tag names.
 pub mod Faults
 pub mod Marks
 pub mod Branches

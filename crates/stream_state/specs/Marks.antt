@@ -4,19 +4,21 @@ use Rattle.std.specs.Prelude.{ℕ, ◌||◌, Bool, nat_eq, nat_lt, if◌then◌e
 use Rattle.std.specs.Map.{lookup}
 use Rattle.indexmap.specs.IndexMap.{insert_entry}
 use Rattle.stream_grammar.specs.declared.data_ref.DataRef.{DataRef}
+use Rattle.git_model.specs.declared.kind.Kind.{Kind}
 use Rattle.stream_grammar.specs.declared.data_ref.DataRef.TheVariants as data_ref
+use Rattle.stream_grammar.specs.declared.marked_object.MarkedObject.{MarkedObject}
 use Rattle.stream_state.specs.declared.fault.Fault.{Fault}
 use Rattle.stream_state.specs.declared.fault.Fault.TheVariants as fault
 use Rattle.std.specs.Prelude.{ℕ, Bool, List, length, Option, None, Result, Ok}
 
--- Marks: the number of each, and the name of its object.
+-- Marks: the number of each, and the object that it stands for.
 abbrev pub Marks : Type 0
-Marks = List (ℕ × List ℕ)
+Marks = List (ℕ × MarkedObject)
 
 -- The name of the object that a mark stands for.
-abbrev pub found_mark : Option (List ℕ) → Result (List ℕ) Fault
+abbrev pub found_mark : Option MarkedObject → Result (List ℕ) Fault
 found_mark None = Err fault.MarkUnknown
-found_mark (Some id) = Ok id
+found_mark (Some object) = Ok object.name
 
 abbrev pub marked_name : Marks → ℕ → Result (List ℕ) Fault
 marked_name marks mark = found_mark (lookup (nat_eq mark) marks)
@@ -34,7 +36,11 @@ abbrev pub room_for : Marks → Option ℕ → Result Unit Fault
 room_for marks None = Ok tt
 room_for marks (Some mark) = if has_room marks mark then Ok tt else Err fault.Limit
 
--- The marks after one is set, perhaps again.
-abbrev pub with_mark : Marks → Option ℕ → List ℕ → Marks
-with_mark marks None id = marks
-with_mark marks (Some mark) id = insert_entry nat_eq marks mark id
+-- An object of a kind, as marks keep it.
+abbrev pub as_marked : Kind → List ℕ → MarkedObject
+as_marked kind id = record { name = id; kind = kind }
+
+-- The marks after one is set, perhaps again, to an object of a kind.
+abbrev pub with_mark : Marks → Option ℕ → Kind → List ℕ → Marks
+with_mark marks None kind id = marks
+with_mark marks (Some mark) kind id = insert_entry nat_eq marks mark (as_marked kind id)

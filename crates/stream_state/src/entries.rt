@@ -22,7 +22,7 @@ use git_paths::Path;
 use indexmap::IndexMap;
 use revisions::entry_below;
 use std::alloc::Global;
-use stream_grammar::{DataRef, Mark};
+use stream_grammar::{DataRef, Mark, MarkedObject};
 use tenant_tables::{Objects, Sight, Table};
 
 fn append_entry(
@@ -109,7 +109,7 @@ pub fn print_stored<N: Naming>(
     alloc: Global,
     pool: &Pool<N>,
     table: &Table,
-    marks: &IndexMap<Mark, Name>,
+    marks: &IndexMap<Mark, MarkedObject>,
     root: DataRef,
     path: &Path,
     out: &mut Vec<u8>,

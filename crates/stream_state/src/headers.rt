@@ -1,4 +1,5 @@
-//! What the header lines of an open commit or tag have said: git-fast-import(1), "commit" and "tag".
+//! What the header lines of an open commit or tag have said: git-fast-import(1), "commit" and
+//! "tag".
 
 ghost use Rattle.std.specs.Prelude.{◌≡◌, Some, IfErr, OnOk};
 ghost use Rattle.stream_grammar.specs.Shown.{commit_shown};

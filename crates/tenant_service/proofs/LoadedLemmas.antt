@@ -13,7 +13,7 @@ use Rattle.content_pool.specs.Pool.{Cells}
 use Rattle.tenant_refs.specs.TenantName.{is_tenant_name}
 use Rattle.tenant_tables.specs.View.{held}
 use Rattle.import_session.specs.Sound.{IsSoundRepository}
-use Rattle.import_session.proofs.SoundLemmas.{empty_is_sound}
+use Rattle.session_laws.proofs.SoundLemmas.{empty_is_sound}
 use Rattle.pool_file_checks.specs.FileRefs.{AreRising}
 use Rattle.pool_file_checks.specs.Repositories.{Named}
 use Rattle.pool_file_checks.specs.Saving.{IsGood}

@@ -13,7 +13,7 @@ use Rattle.stream_lex.specs.Items.{Item, Tail, Rest}
 use Rattle.stream_lex.specs.Running.{more_of}
 use Rattle.import_session.specs.Stream.{Running, Outcome, StreamStatus, Runs, Refused, carried, last_checkpoint}
 use Rattle.import_session.specs.Sound.{IsSound, IsSoundRepository}
-use Rattle.import_session.proofs.SoundLemmas.{empty_is_sound, new_is_sound, checkpoint_is_sound}
+use Rattle.session_laws.proofs.SoundLemmas.{empty_is_sound, new_is_sound, checkpoint_is_sound}
 use Rattle.answers.specs.declared.fault.Fault.{Fault as Refusal}
 use Rattle.answers.specs.Answers.{answer_to}
 use Rattle.service_steps.specs.declared.answer.Answer.{Answer}

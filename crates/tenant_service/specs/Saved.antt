@@ -32,7 +32,8 @@ abbrev pub HasJust : List Named → TenantStates → Type 0
 HasJust all held = (tenant : List ℕ) → held_of tenant held ≡ Idle (repository_of tenant all)
 
 -- All of the bytes are read as some repositories, and the service holds just these.
-pub record IsReadFrom (digest : List ℕ → List ℕ) (bytes : List ℕ) (held : TenantStates) : Type 0 where
+pub record IsReadFrom (digest : List ℕ → List ℕ) (bytes : List ℕ) (held : TenantStates)
+    : Type 0 where
   pub all : List Named
   pub read : AreRead digest bytes all
   pub has : HasJust all held

@@ -114,7 +114,7 @@ tail_refused : (digest : List ℕ → List ℕ) (mid : Running) (rest : Tail) (f
 tail_refused digest mid rest f alike running more =
     ap (λ r. carried digest mid r.items r.tail) (alike more) ∙ carried_failed digest mid f running
 
--- a refusal that is no want of memory is the item's
+-- a refusal is the item's, unless memory ran out
 refused_by : (r : Result Step Fault) (next : Running) (out out' : List ℕ) (e : Fault)
     → e ≢ fault.Memory → Takes r next out out' (Err e) → r ≡ Err e
 refused_by (Ok s) next out out' e other taken = absurd (other taken)

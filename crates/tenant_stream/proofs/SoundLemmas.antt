@@ -10,7 +10,7 @@ use Rattle.stream_state.specs.declared.fault.Fault.{Fault}
 use Rattle.import_session.specs.Workspace.{Effect}
 use Rattle.import_session.specs.Stream.{Running, Step, Outcome, StreamStatus, Runs, Refused, at_tail, carried, end_left, ended_well, finished, going_on, last_checkpoint, running_end, session_end, step, tail_outcome}
 use Rattle.import_session.specs.Sound.{IsSound, IsSoundRepository}
-use Rattle.import_session.proofs.SoundLemmas.{item_keeps, end_keeps, checkpoint_is_sound}
+use Rattle.session_laws.proofs.SoundLemmas.{item_keeps, end_keeps, checkpoint_is_sound}
 use Rattle.tenant_stream.specs.declared.stream_error.StreamError.{StreamError}
 use Rattle.tenant_stream.specs.declared.stream_error.StreamError.TheVariants as stop
 use Rattle.tenant_stream.specs.Carrying.{StreamView, Advances, Carries, Ends, EndsAs, stream_in}

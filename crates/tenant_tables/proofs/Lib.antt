@@ -5,6 +5,8 @@ pub mod TableLemmas
 pub mod LentLemmas
 pub mod RoomLemmas
 pub mod IndexLemmas
+pub mod Joined
+pub mod Shared
 pub mod TreeTexts
 pub mod AddLemmas
 pub mod Abbreviations

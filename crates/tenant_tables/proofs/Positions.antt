@@ -1,9 +1,8 @@
 -- The objects in sight are the first of a table: where they stand, and what their slots hold.
-use Rattle.std.proofs.Common.{◌≡◌, ℕ, zero, suc, ◌+◌, ◌<◌, ◌≤◌, Bool, true, false, not, cond, min, nat_lt, List, [], ◌∷◌, length, take, slice_get, position, refl, sym, ap, subst, ◌∙◌, Option, Some, None, arith}
+use Rattle.std.proofs.Common.{◌≡◌, ℕ, zero, suc, ◌+◌, ◌<◌, ◌≤◌, not, cond, min, List, [], ◌∷◌, length, take, slice_get, position, refl, sym, ap, subst, ◌∙◌, Option, Some, None, arith}
 use Rattle.std.specs.List.{position_or_len}
 use Rattle.std.specs.Option.{option_map}
 use Rattle.std.specs.Str.{bytes_eq}
-use Rattle.std.proofs.lemmas.Bool.Decides.{nat_tests}
 use Rattle.std.proofs.lemmas.List.{length-take, take_min, take-map, length-map}
 use Rattle.std.proofs.Math.Seq.{take-length}
 use Rattle.git_model.specs.Content.{Content}
@@ -16,33 +15,11 @@ use Rattle.tenant_tables.specs.declared.sight.Sight.TheVariants as sight
 use Rattle.tenant_tables.specs.View.{View, Entries, names, in_sight}
 use Rattle.tenant_tables.specs.Objects.{objects}
 use Rattle.tenant_tables.specs.IsBackedBy.{IsBackedBy}
-use Rattle.tenant_tables.proofs.EntryLemmas.{position-found}
+use Rattle.tenant_tables.proofs.EntryLemmas.{missing, position-found, position-take}
 use Rattle.tenant_tables.proofs.HoldLemmas.{held-at}
 use Rattle.tenant_tables.proofs.TableLemmas.{length-objects}
 
 -- ---- places
-
-position-take : {K : Type 0} (test : K → Bool) (n : ℕ) (ks : List K)
-    → position_or_len test (take n ks) ≡ min n (position_or_len test ks)
-position-take test zero ks = omega arith
-position-take test (suc n) [] = omega arith
-position-take test (suc n) (k ∷ ks) = by (test k) (position-take test n ks)
-  where
-    by : (b : Bool) → position_or_len test (take n ks) ≡ min n (position_or_len test ks)
-        → cond (not b) (1 + position_or_len test (take n ks)) 0
-        ≡ min (suc n) (cond (not b) (1 + position_or_len test ks) 0)
-    by true h = omega arith
-    by false h = omega arith
-
-missing : {K : Type 0} (test : K → Bool) (ks : List K) → position test ks ≡ None
-    → length ks ≤ position_or_len test ks
-missing test ks h = by (nat_lt (position_or_len test ks) (length ks)) refl h
-  where
-    by : (b : Bool) → nat_lt (position_or_len test ks) (length ks) ≡ b
-        → cond b (Some (position_or_len test ks)) None ≡ None
-        → length ks ≤ position_or_len test ks
-    by true e none = cc none
-    by false e none = grind (arith, nat_tests, e)
 
 place_named : (p : Cells) (id : List ℕ) (es : Entries)
     → place_of id (objects p es) ≡ position_or_len (bytes_eq id) (names es)

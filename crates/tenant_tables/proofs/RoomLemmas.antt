@@ -1,5 +1,5 @@
 -- That the pool has room for a table, before and after its calls: for callers.
-use Rattle.std.proofs.Common.{ℕ, ◌+◌, ◌-◌, ◌<◌, ◌≤◌, ◌^◌, List, arith}
+use Rattle.std.proofs.Common.{ℕ, List, arith}
 use Rattle.content_pool.specs.Pool.{Cells, HasHoldsLeft, IsVacant}
 use Rattle.tenant_tables.specs.View.{Entries}
 use Rattle.tenant_tables.specs.IsBackedBy.{IsBackedBy, PreservesOthers}

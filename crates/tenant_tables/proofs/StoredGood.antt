@@ -1,21 +1,19 @@
 -- Good objects stay good where a content is stored that is valid among them.
-use Rattle.std.proofs.Common.{◌≡◌, ◌++◌, ◌<◌, ◌≤◌, nat_le, nat_lt, length, ℕ, Bool, true, false, List, [], ◌∷◌, Option, Some, None, refl, sym, ap, ◌∙◌, subst, inl, inr, All}
+use Rattle.std.proofs.Common.{◌≡◌, ◌++◌, ◌<◌, ◌≤◌, nat_le, nat_lt, length, ℕ, Bool, true, false, List, [], ◌∷◌, Option, Some, None, refl, sym, ap, ◌∙◌, subst, All}
 use Rattle.std.specs.Prelude.{is_some}
 use Rattle.std.specs.Option.{option_map, option_map_or}
-use Rattle.std.specs.Str.{bytes_eq}
-use Rattle.std.proofs.lemmas.Bool.{cases_Bool, leb-false, ltb-false}
+use Rattle.std.proofs.lemmas.Bool.{leb-false, ltb-false}
 use Rattle.std.proofs.lemmas.List.{append-nil}
 use Rattle.std.proofs.lemmas.Slice.Eq.{bytes_eq-Decides}
 use Rattle.git_model.specs.declared.kind.Kind.{Kind}
 use Rattle.git_model.specs.Content.{Content, name_by, same_content}
-use Rattle.git_model.specs.GoodRepository.{AreObjects, IsObject, IsValid, MayAdd, StandsBefore}
+use Rattle.git_model.specs.GoodRepository.{AreObjects, IsObject, IsValid, StandsBefore}
 use Rattle.git_model.specs.ObjectName.{IsObjectName}
-use Rattle.git_model.specs.References.{kind_named, place_of, object_at, references_in}
+use Rattle.git_model.specs.References.{kind_named, place_of, references_in}
 use Rattle.git_model.specs.Repository.{Object, has_object, object_named, with_object}
 use Rattle.git_model.proofs.Growing.{after_prefix, one_more}
 use Rattle.git_model.proofs.Places.{at_place, first_named, stands_at}
 use Rattle.content_pool.proofs.StoredLemmas.{same_content-decides}
-use Rattle.tenant_tables.specs.declared.fault.Fault.{Fault}
 use Rattle.tenant_tables.specs.declared.table.TheConstants.{CONTENTS_LIMIT, OBJECTS_LIMIT}
 use Rattle.tenant_tables.specs.Adding.{store_fault}
 

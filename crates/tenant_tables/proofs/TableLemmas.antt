@@ -5,7 +5,7 @@ use Rattle.std.proofs.lemmas.Bool.{cases_eq}
 use Rattle.std.proofs.lemmas.Bool.Decides.{nat_tests}
 use Rattle.std.proofs.Math.ListN.{get_or-append}
 use Rattle.std.proofs.Math.Seq.{take-append_seam}
-use Rattle.std.proofs.lemmas.List.{length-append, take-map}
+use Rattle.std.proofs.lemmas.List.{length-append, take-map, take-take, take_all}
 use Rattle.std.proofs.lemmas.List.Elements.{All-nil, All-push}
 use Rattle.git_model.specs.Content.{Content, name_by}
 use Rattle.content_pool.specs.Pool.{Cells, holds, content, IsLive, Puts, Releases}
@@ -273,3 +273,32 @@ pub length-objects : (p : Cells) (es : Entries) → length (objects p es) ≡ le
 unfolding objects
 length-objects p [] = refl
 length-objects p (x ∷ es) = ap (λ (n : ℕ). suc n) (length-objects p es)
+
+-- ---- the objects from a position on are released, the last one first
+
+pub record Released (digest : List ℕ → List ℕ) (p : Cells) (es : Entries) (n : ℕ) (q : Cells)
+    : Type 0 where
+  pub stands : IsBackedBy digest q (take n es)
+  pub others : PreservesOthers p es q (take n es)
+  pub left : objects q (take n es) ≡ take n (objects p es)
+
+pub Released-none : (digest : List ℕ → List ℕ) (p : Cells) (es : Entries) (n : ℕ)
+    → n ≡ length es → IsBackedBy digest p es → Released digest p es n p
+Released-none digest p es n size h =
+    let whole : take n es ≡ es = take_all n es (omega (arith, size)) in
+    let len = length-objects p es in record {
+      stands = rw whole h;
+      others = rw whole (PreservesOthers-refl p es);
+      left = rw whole (sym (take_all n (objects p es) (omega (arith, len, size))));
+    }
+
+pub Released-one : (digest : List ℕ → List ℕ) (p q r : Cells) (es : Entries) (i : ℕ)
+    → Released digest p es (i + 1) q → IsBackedBy digest r (take i es)
+    → PreservesOthers q (take (i + 1) es) r (take i es)
+    → objects r (take i es) ≡ take i (objects q (take (i + 1) es)) → Released digest p es i r
+Released-one digest p q r es i h stands others left = record {
+  stands = stands;
+  others = PreservesOthers-then p q r es (take (i + 1) es) (take i es) h.others others;
+  left =
+      left ∙ ap (λ os. take i os) h.left ∙ take-take i (i + 1) (objects p es) (omega arith);
+}

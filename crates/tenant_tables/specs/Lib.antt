@@ -4,6 +4,7 @@ pub mod View
 pub mod Objects
 pub mod IsBackedBy
 pub mod Lent
+pub mod Sharing
 pub mod Room
 pub mod Adding
 pub mod Trees

@@ -8,10 +8,13 @@
 
 mod abbreviation;
 mod entry;
+mod entry_list;
 mod fault;
 mod found;
+mod front;
 mod objects;
 mod places;
+mod sharing;
 mod sight;
 mod summary;
 mod table;

@@ -1,6 +1,6 @@
 //! The object table of a tenant.
 
-ghost use Rattle.std.specs.Prelude.{◌≡◌, ◌≢◌, ◌<◌, ◌≤◌, ◌-◌, [], length, take, Option, None, Some, position, slice_get, is_some, nat_le, IfOk, OnOk, OnErr};
+ghost use Rattle.std.specs.Prelude.{◌≡◌, ◌≢◌, ◌<◌, ◌≤◌, ◌+◌, [], length, take, Option, None, Some, position, slice_get, is_some, nat_le, IfOk, OnOk, OnErr};
 ghost use Rattle.std.specs.List.{IsDistinct};
 ghost use Rattle.std.specs.Option.{option_map};
 ghost use Rattle.std.specs.Cow.{cow_slice_items};
@@ -18,19 +18,18 @@ ghost use Rattle.tenant_tables.specs.Adding.{Answers, store_fault, Adds, Pushes,
 ghost use Rattle.tenant_tables.specs.Trees.{FitsTree, SummedAfter};
 ghost use Rattle.tenant_tables.specs.Abbreviation.{found_among};
 
-use crate::abbreviation::bounds;
 use crate::entry::Entry;
+use crate::entry_list::EntryList;
 use crate::fault::Fault;
-use crate::found::Found;
+use crate::found::{Found, both};
+use crate::front::Front;
 use crate::sight::Sight;
 use crate::summary::Summary;
 use content_pool::{Pool, Slot};
 use git_model::Kind;
-use git_names::{Memory, Name, Naming, has_twenty_bytes};
-use indexmap::IndexMap;
+use git_names::{Memory, Name, Naming};
 use std::alloc::Global;
 use std::borrow::CowSlice;
-use std::collections::BTreeSet;
 use std::marker::Model;
 
 /// The most bytes that the contents of one object may have.
@@ -43,39 +42,23 @@ pub const OBJECTS_LIMIT: usize = 4_194_304;
 /// after them those of the open stream.
 #[derive(Drop)]
 pub struct Table {
-    objects: IndexMap<Name, Entry>,
-    names: BTreeSet<Name>,
-    committed: usize,
+    pub(crate) front: Front,
+    pub(crate) own: EntryList,
 }
 
 impl Model for Table {
+    ghost use Rattle.std.specs.Prelude.{◌+◌, ◌++◌, length};
     ghost use Rattle.tenant_tables.specs.View.{View};
     ghost use Rattle.tenant_tables.specs.Index.{IsTable};
 
     ghost Value = { View };
 
-    ghost view = { λ t. record { entries = t.objects.entries; committed = t.committed } };
+    ghost view = { λ t. record {
+      entries = t.front ++ t.own.entries;
+      committed = length t.front + t.own.committed;
+    } };
 
-    ghost invariant = { λ t. IsTable t.objects.entries t.names t.committed };
-}
-
-// Holds a content in the pool. Owned bytes are stored without a copy.
-fn put<N: Naming>(
-    pool: &mut Pool<N>,
-    id: Name,
-    kind: Kind,
-    bytes: CowSlice<'_, u8>,
-) -> Result<Slot, Memory>
-    requires named { id ≡ object_name N.digest_of kind (cow_slice_items bytes) }
-    requires room { HasHoldsLeft pool.old }
-    ensures puts { IfOk result (λ slot. Puts pool.old pool.new slot
-        (content_from kind (cow_slice_items bytes.entry))) }
-    ensures err { OnErr result (pool.new ≡ pool.old) }
-{
-    match bytes {
-        CowSlice::Borrowed(bytes) => pool.put_named(id, kind, bytes),
-        CowSlice::Owned(bytes) => pool.put_owned(id, kind, bytes),
-    }
+    ghost invariant = { λ t. IsTable t.front t.own.entries (length t.front + t.own.committed) };
 }
 
 #[tactic(auto, unfolding(crate::specs::View::entry_named))]
@@ -86,9 +69,8 @@ impl Table {
         ensures committed { result.committed ≡ 0 }
     {
         Table {
-            objects: IndexMap::new(alloc),
-            names: BTreeSet::new(alloc),
-            committed: 0,
+            front: Front::none(),
+            own: EntryList::new(alloc),
         }
     }
 
@@ -97,19 +79,16 @@ impl Table {
     pub fn find(&self, id: &Name) -> Option<Slot>
         ensures { result ≡ slot_of id.now self.now.entries }
     {
-        self.objects.get(id).map(|entry| entry.slot)
+        self.look_up(id).map(|found| found.1.slot)
     }
 
     /// `find` among the committed objects only.
     pub fn find_committed(&self, id: &Name) -> Option<Slot>
         ensures { result ≡ slot_of id.now (take self.now.committed self.now.entries) }
     {
-        let objects = &self.objects;
-        let Some(place) = objects.get_index_of(id) else {
-            return None;
-        };
-        if place < self.committed {
-            Some(objects[place].slot)
+        let (place, entry) = self.look_up(id)?;
+        if place < self.committed_len() {
+            Some(entry.slot)
         } else {
             None
         }
@@ -120,7 +99,20 @@ impl Table {
     pub fn place(&self, id: &Name) -> Option<usize>
         ensures { result ≡ position (bytes_eq id.now) (names self.now.entries) }
     {
-        self.objects.get_index_of(id)
+        self.look_up(id).map(|found| found.0)
+    }
+
+    // The position of a name, and its entry.
+    fn look_up(&self, id: &Name) -> Option<(usize, Entry)>
+        ensures place { option_map (λ r. r.0) result
+            ≡ position (bytes_eq id.now) (names self.now.entries) }
+        ensures entry { option_map (λ r. r.1) result ≡ entry_named id.now self.now.entries }
+    {
+        if let Some(found) = self.front.look_up(id) {
+            return Some(found);
+        }
+        let (place, entry) = self.own.look_up(id)?;
+        Some((self.front.len() + place, entry))
     }
 
     /// The object name at this position, and where its contents lie in the pool; `None` from `len`
@@ -128,15 +120,26 @@ impl Table {
     pub fn at(&self, place: usize) -> Option<(Name, Slot)>
         ensures { result ≡ option_map (λ e. (e.0, e.1.slot)) (slice_get self.now.entries place) }
     {
-        let (id, entry) = self.objects.get_index(place)?;
-        Some((*id, entry.slot))
+        let (id, entry) = self.entry_at(place)?;
+        Some((id, entry.slot))
+    }
+
+    pub(crate) fn entry_at(&self, place: usize) -> Option<(Name, Entry)>
+        ensures { result ≡ slice_get self.now.entries place }
+    {
+        let shared = self.front.len();
+        if place < shared {
+            self.front.at(place)
+        } else {
+            self.own.at(place - shared)
+        }
     }
 
     /// The summary of the tree of this name; `None` for every other name.
     pub fn summary(&self, id: &Name) -> Option<Summary>
         ensures { result ≡ summary_of id.now self.now.entries }
     {
-        self.objects.get(id).and_then(|entry| entry.summary)
+        self.look_up(id).and_then(|found| found.1.summary)
     }
 
     /// How many objects the table has, at most 4,194,304. Their names are distinct.
@@ -145,7 +148,7 @@ impl Table {
         ensures limited { length self.now.entries ≤ objects_limit }
         ensures distinct { IsDistinct bytes_eq (names self.now.entries) }
     {
-        self.objects.len()
+        self.front.len() + self.own.len()
     }
 
     /// How many of them are committed.
@@ -153,7 +156,7 @@ impl Table {
         ensures value { result ≡ self.now.committed }
         ensures within { self.now.committed ≤ length self.now.entries }
     {
-        self.committed
+        self.front.len() + self.own.committed_len()
     }
 
     /// Looks up an abbreviated object name: `Found::One` if exactly one name in sight begins with
@@ -164,29 +167,15 @@ impl Table {
     pub fn starting_with(&self, digits: &[u8], sight: Sight) -> Found
         ensures { result ≡ found_among digits.now (names (in_sight sight self.now)) }
     {
-        let names = &self.names;
-        let Some((first, last)) = bounds(digits) else {
-            return Found::None;
+        let seen = match sight {
+            Sight::All => self.len(),
+            Sight::Committed => self.committed_len(),
         };
-        let mut found = Found::None;
-        for id in names.range(first..=last) {
-            if self.sees(id, sight) {
-                match found {
-                    Found::None => found = Found::One(*id),
-                    _ => return Found::Many,
-                }
-            }
-        }
-        found
-    }
-
-    fn sees(&self, id: &Name, sight: Sight) -> bool
-        ensures { result ≡ is_some (entry_named id.now (in_sight sight self.now)) }
-    {
-        match sight {
-            Sight::All => self.find(id).is_some(),
-            Sight::Committed => self.find_committed(id).is_some(),
-        }
+        let shared = self.front.starting_with(digits);
+        both(
+            shared,
+            self.own.starting_with(digits, seen - self.front.len()),
+        )
     }
 
     /// Adds the object of this kind, which is not a tree, with these contents, and answers its
@@ -336,7 +325,7 @@ impl Table {
         self.len() >= OBJECTS_LIMIT
     }
 
-    // Appends an object. Everything that may fail comes before the first change that is not undone.
+    // Appends an object.
     fn push_new<N: Naming>(
         &mut self,
         pool: &mut Pool<N>,
@@ -353,19 +342,8 @@ impl Table {
             pool.old self.old pool.new self.new) }
         ensures err { OnErr result ((self.new ≡ self.old) × (pool.new ≡ pool.old)) }
     {
-        has_twenty_bytes(&id);
-        self.objects.reserve(1)?;
-        self.names.insert(id)?;
-        match put(pool, id, kind, bytes) {
-            Ok(slot) => {
-                self.objects.insert(id, Entry { slot, summary }).unwrap();
-                Ok(())
-            }
-            Err(refused) => {
-                self.names.remove(&id);
-                Err(refused)
-            }
-        }
+        self.own.push_content(pool, id, kind, bytes, summary)?;
+        Ok(())
     }
 
     /// Adds an object whose content is already in a live slot of the pool, under a name that the
@@ -414,10 +392,7 @@ impl Table {
             pool.old self.old pool.new self.new slot) }
         ensures err { OnErr result ((self.new ≡ self.old) × (pool.new ≡ pool.old)) }
     {
-        has_twenty_bytes(&id);
-        self.objects.reserve(1)?;
-        self.names.insert(id)?;
-        self.objects.insert(id, Entry { slot, summary }).unwrap();
+        self.own.push(id, Entry { slot, summary })?;
         pool.hold(slot);
         Ok(())
     }
@@ -426,7 +401,7 @@ impl Table {
     pub fn commit(&mut self)
         ensures { self.new ≡ record self.old { committed = length self.old.entries } }
     {
-        self.committed = self.len();
+        self.own.commit();
     }
 
     /// Removes the objects after the committed prefix and releases their slots. Takes no memory.
@@ -442,29 +417,28 @@ impl Table {
         ensures objects { objects pool.new self.new.entries
             ≡ take self.old.committed (objects pool.old self.old.entries) }
     {
-        let committed = self.committed_len();
-        while self.len() > committed {
-            self.give_up_last(pool);
+        let kept = self.committed_len();
+        let mut count = self.len();
+        while count > kept {
+            count -= 1;
+            self.release_at(pool, count);
         }
+        self.own.roll_back();
     }
 
-    // Removes the last object and releases its slot.
-    fn give_up_last<N: Naming>(&mut self, pool: &mut Pool<N>)
-        requires stands { IsBackedBy N.digest_of pool.old self.old.entries }
-        requires open { self.old.committed < length self.old.entries }
-        ensures stands { IsBackedBy N.digest_of pool.new self.new.entries }
-        ensures others { PreservesOthers pool.old self.old.entries pool.new self.new.entries }
-        ensures entries { self.new ≡ record self.old {
-          entries = take
-              (length self.old.entries - 1) self.old.entries;
-        } }
-        ensures objects { objects pool.new self.new.entries
-            ≡ take (length self.old.entries - 1) (objects pool.old self.old.entries) }
+    // Releases the slot of the object at a position, when those after it are released.
+    fn release_at<N: Naming>(&self, pool: &mut Pool<N>, place: usize)
+        requires within { place < length self.now.entries }
+        requires stands { IsBackedBy N.digest_of pool.old (take (place + 1) self.now.entries) }
+        ensures stands { IsBackedBy N.digest_of pool.new (take place self.now.entries) }
+        ensures others { PreservesOthers pool.old (take (place + 1) self.now.entries) pool.new
+            (take place self.now.entries) }
+        ensures objects { objects pool.new (take place self.now.entries)
+            ≡ take place (objects pool.old (take (place + 1) self.now.entries)) }
     {
-        let Some((id, entry)) = self.objects.pop() else {
+        let Some((_, entry)) = self.entry_at(place) else {
             return;
         };
-        self.names.remove(&id);
         pool.release(entry.slot);
     }
 }

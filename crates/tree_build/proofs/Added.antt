@@ -1,7 +1,8 @@
 -- The tree of a directory in which each directory is stored.
-use Rattle.std.proofs.Common.{◌≡◌, ℕ, List, [], ◌∷◌, Result, Ok, Err, IfOk, sym, ap, ◌∙◌, subst}
+use Rattle.std.proofs.Common.{◌≡◌, ℕ, List, [], ◌∷◌, Result, Ok, Err, Some, IfOk, sym, ap, ◌∙◌, subst}
 use Rattle.std.specs.List.{AllByRecursion}
 use Rattle.git_model.specs.ObjectName.{IsObjectName}
+use Rattle.git_model.specs.Repository.{object_named}
 use Rattle.git_model.specs.Tree.{TreeEntry, tree_contents}
 use Rattle.content_pool.specs.Pool.{Cells}
 use Rattle.tenant_tables.specs.View.{View}
@@ -11,11 +12,14 @@ use Rattle.tenant_tables.specs.Trees.{IsTreeOf, FitsTree, tree_summary}
 use Rattle.tenant_tables.specs.declared.summary.Summary.{Summary}
 use Rattle.file_maps.specs.declared.fault.Fault.{Fault}
 use Rattle.file_maps.specs.FileMap.{Listed}
-use Rattle.file_maps.specs.Trees.{tree_name}
+use Rattle.file_maps.specs.Trees.{tree_content, tree_name}
 use Rattle.file_maps.specs.Storable.{AreStorable, files_summary}
 use Rattle.file_maps.specs.StoredFiles.{stored_files}
-use Rattle.file_maps.specs.StoredTree.{ListsTree}
-use Rattle.file_maps.specs.Storing.{StoresTrees}
+use Rattle.file_maps.specs.StoredTree.{HasTree, ListsTree}
+use Rattle.file_maps.specs.Storing.{StoresTrees, HasHoldsLeftBeside}
+use Rattle.file_maps.proofs.StandingGood.{trees-good}
+use Rattle.file_maps.proofs.StoredAgain.{unrefused-all}
+use Rattle.file_maps.proofs.StoringHeld.{adds-held}
 use Rattle.file_maps.proofs.Stored.{depth-bound, longest-bound}
 use Rattle.tree_build.specs.Branch.{IsShape}
 use Rattle.tree_build.specs.Shape.{Shape, shape_files}
@@ -76,3 +80,17 @@ module _ (digest : List ℕ → List ℕ) (p : Cells) (u : View) (stands : IsBac
         (subst (ListsTree (objects q v.entries) (tree_name digest (entries_of_shape s)))
         (sym (spread-parts (stored_files (objects p u.entries)) s)) t)
     rows-list q v (Err e) h = tt
+
+  -- a tree that is there already is kept
+  pub tree-kept : HasHoldsLeftBeside p u.entries → AllByRecursion (λ e. IsObjectName e.id) (entries_of_shape s) → (id : List ℕ)
+      → object_named id (objects p u.entries) ≡ Some (tree_content (entries_of_shape s))
+      → StoresTrees (Ok id) digest p u p u (entries_of_shape s ∷ []) (tree_name digest (entries_of_shape s))
+  tree-kept room ids id there =
+      let good = trees-good digest p u.entries stands in
+      let tree : HasTree (objects p u.entries) id (entries_of_shape s) = record { content = there; entries = (fits ids).writable } in
+      let name = good.named id (entries_of_shape s) tree in
+      let own = subst (λ (x : List ℕ). HasTree (objects p u.entries) x (entries_of_shape s)) name tree in (
+        name,
+        unrefused-all digest (objects p u.entries) good (entries_of_shape s ∷ []) (own, tt),
+        adds-held digest p u stands room (entries_of_shape s ∷ []) (own, tt),
+      )

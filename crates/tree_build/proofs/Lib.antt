@@ -18,6 +18,7 @@ pub mod Held
 pub mod Inside
 pub mod Added
 pub mod Places
+pub mod Begun
 pub mod Summing
 pub mod StoredParts
 pub mod Along

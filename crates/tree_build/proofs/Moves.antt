@@ -304,7 +304,7 @@ edits-renamed {A = A} result m old new files from to path same fs is clean h =
     by (Ok x) fault few h = (fault ∙ few, h.1)
     by (Err e) fault few h = λ memory. let no : None ≡ Some e = sym few ∙ (h memory).0 in cc no
 
--- a rename that may be is refused for want of memory alone
+-- a rename that may be is refused only if memory runs out
 pub branch-renamed : {A P : Type 0} (r : Result A Fault) (m old new : FileMap)
     → AreFiles (listed old) → (from to : Path) → IsPath to
     → path_fault (moved to (files_at old from)) ≡ None

@@ -5,13 +5,14 @@ ghost use Rattle.git_model.specs.Tree.{IsEntryName};
 ghost use Rattle.git_paths.specs.Paths.{IsComponent, IsPath};
 
 use git_paths::Components;
+use smallvec::SmallVec;
 use std::alloc::{AllocError, Global};
 use std::marker::Model;
 
-/// One component of a path.
+/// One component of a path. Up to 24 bytes are kept in the value itself.
 #[derive(Drop)]
 pub(crate) struct Component {
-    bytes: Vec<u8>,
+    bytes: SmallVec<u8, 24>,
 }
 
 impl Model for Component {
@@ -26,22 +27,22 @@ impl Model for Component {
 }
 
 impl Component {
-    /// A component of these bytes. Takes memory for them.
+    /// A component of these bytes. Takes memory for more than 24 of them.
     pub(crate) fn new(alloc: Global, name: &[u8]) -> Result<Component, AllocError>
         requires { IsEntryName name.now }
         ensures { IfOk result (λ c. c ≡ name.now) }
     {
         Ok(Component {
-            bytes: Vec::from_slice(alloc, name)?,
+            bytes: SmallVec::from_slice(alloc, name)?,
         })
     }
 
-    /// A copy. Takes memory for its bytes.
+    /// A copy. Takes memory for more than 24 bytes.
     pub(crate) fn copied(&self, alloc: Global) -> Result<Component, AllocError>
         ensures { IfOk result (λ c. c ≡ self.now) }
     {
         Ok(Component {
-            bytes: Vec::from_slice(alloc, self.bytes.as_slice())?,
+            bytes: SmallVec::from_slice(alloc, self.bytes.as_slice())?,
         })
     }
 

@@ -15,6 +15,7 @@ use git_objects::Name;
 use git_paths::Path;
 use std::alloc::Global;
 use std::marker::Model;
+use std::mem;
 
 /// The files of a branch. Trees are read only when a call needs them.
 ///
@@ -23,6 +24,9 @@ use std::marker::Model;
 pub struct Files {
     pub(crate) alloc: Global,
     pub(crate) root: Node,
+    /// The root before the last `clear`, until `store` stores the root. It means nothing: `store`
+    /// compares what it is about to write with its trees.
+    pub(crate) earlier: Option<Dir>,
     pub(crate) files: usize,
     pub(crate) reads: u64,
 }
@@ -40,6 +44,14 @@ impl Model for Files {
     ghost view = { λ f. record { root = held f.root; files = f.files; reads = f.reads } };
 }
 
+// The directory that a node is, if it was opened.
+fn opened(node: Node) -> Option<Dir> {
+    match node {
+        Node::Opened(dir) => Some(dir),
+        _ => None,
+    }
+}
+
 impl Files {
     /// A branch without files. Takes no memory; later calls take theirs from `alloc`.
     pub fn new(alloc: Global) -> Files
@@ -50,19 +62,24 @@ impl Files {
         Files {
             alloc,
             root: Node::Opened(Dir::empty(alloc)),
+            earlier: None,
             files: 0,
             reads: 0,
         }
     }
 
     /// Removes all files: git-fast-import(1), "filedeleteall". Takes no memory, and reads no tree.
+    ///
+    /// The opened directories stay in memory until `store` stores the root. A directory that has
+    /// the same entries by then is not written again.
     pub fn clear(&mut self)
         ensures files { (os : List Object) → files_in os self.new ≡ map.empty }
         ensures branch { (os : List Object) → IsBranch os self.new }
         ensures reads { self.new.reads ≡ self.old.reads }
         ensures open { (q : Path) → closed_from self.new.root q ≡ 0 }
     {
-        self.root = Node::Opened(Dir::empty(self.alloc));
+        let root = mem::replace(&mut self.root, Node::Opened(Dir::empty(self.alloc)));
+        self.earlier = opened(root);
         self.files = 0;
     }
 
@@ -84,8 +101,8 @@ impl Files {
         ensures { closed_from self.now.root path.now ≤ length path.now }
     {}
 
-    /// How many files there are.
-    pub(crate) fn file_count(&self) -> usize
+    /// How many files there are. Reads no tree.
+    pub fn file_count(&self) -> usize
         ensures { result ≡ self.now.files }
     {
         self.files

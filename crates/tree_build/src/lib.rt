@@ -12,6 +12,7 @@ mod extents;
 mod files;
 mod grafting;
 pub mod laws;
+mod matching;
 mod moving;
 mod names;
 mod naming;

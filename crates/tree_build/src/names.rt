@@ -135,6 +135,22 @@ pub(crate) fn place_of(entries: &[(Component, Node)], name: &[u8]) -> Option<usi
     }
 }
 
+/// The node of a directory's name, as a guess: among entries that are not in order it may be
+/// overlooked.
+pub(crate) fn node_like<'a>(entries: &'a [(Component, Node)], name: &[u8]) -> Option<&'a Node> {
+    let directory = ordered(name, FileMode::Directory);
+    let next = entries.partition_point(|other| !comes_before(&directory, other));
+    if next == 0 {
+        return None;
+    }
+    let entry = &entries[next - 1];
+    if is_named(entry, name) {
+        Some(&entry.1)
+    } else {
+        None
+    }
+}
+
 /// Puts an entry in its place among others. Takes memory for it.
 pub(crate) fn insert(
     entries: &mut Vec<(Component, Node)>,

@@ -18,7 +18,7 @@ ghost use Rattle.tree_build.specs.Standing.{IsFoundAt};
 ghost use Rattle.tree_build.specs.Stores.{bare, bare_held};
 
 use crate::component::Component;
-use crate::dir::Node;
+use crate::dir::{Dir, Node};
 use crate::files::Files;
 use crate::names::place_of;
 use crate::reading::stored_entry;
@@ -73,6 +73,7 @@ fn store_here<N: Naming>(
     pool: &mut Pool<N>,
     table: &mut Table,
     node: &mut Node,
+    earlier: Option<&Dir>,
 ) -> Result<Name, Fault>
     requires stands { IsBackedBy N.digest_of pool.old table.old.entries }
     requires room { HasHoldsLeftBeside pool.old table.old.entries }
@@ -92,7 +93,7 @@ fn store_here<N: Naming>(
     match node {
         Node::File(_) => store_none(alloc, pool, table),
         Node::Unopened(tree) => Ok(*tree),
-        Node::Opened(dir) => store_dir(alloc, pool, table, dir),
+        Node::Opened(dir) => store_dir(alloc, pool, table, dir, earlier),
     }
 }
 
@@ -103,6 +104,7 @@ fn store_path<N: Naming>(
     pool: &mut Pool<N>,
     table: &mut Table,
     node: &mut Node,
+    earlier: Option<&Dir>,
     path: &Components<'_>,
     reads: &mut u64,
 ) -> Result<Name, Fault>
@@ -124,7 +126,7 @@ fn store_path<N: Naming>(
     ensures bounded { reads.new ≤ reads.old + closed_from (held node.old) path.now }
 {
     let Some((name, rest)) = path.split_first() else {
-        return store_here(alloc, pool, table, node);
+        return store_here(alloc, pool, table, node, earlier);
     };
     match node {
         Node::File(_) => store_none(alloc, pool, table),
@@ -165,9 +167,17 @@ fn store_below<N: Naming>(
         (name.now ∷ rest.now) }
 {
     match place_of(entries, name) {
-        Some(place) => store_path(alloc, pool, table, &mut entries[place].1, rest, reads),
+        Some(place) => {
+            let node = &mut entries[place].1;
+            store_path(alloc, pool, table, node, None, rest, reads)
+        }
         None => store_none(alloc, pool, table),
     }
+}
+
+// The earlier root, where the root is to be stored. It is of no use after that.
+fn earlier_at(root: &mut Option<Dir>, at: &Path) -> Option<Dir> {
+    if at.is_root() { root.take() } else { None }
 }
 
 impl Files {
@@ -177,7 +187,8 @@ impl Files {
     /// `pool` and `table` hold the trees of this value, and no content has 2^64 - 2 holds besides
     /// those of the table. If no file is below the path, or a file is at it, the empty tree is
     /// stored and named. A tree that the table has is not added again, and a directory that is a
-    /// stored tree is not walked. Reads at most as many trees as the path has components.
+    /// stored tree is not walked. A directory that has the entries again that it had before `clear`
+    /// is not written. Reads at most as many trees as the path has components.
     ///
     /// The first tree that cannot be added decides the error: `Fault::Limit` (25) if its contents
     /// are too long or the table is full; else `Fault::NameCollision` (24) if the table has another
@@ -210,11 +221,13 @@ impl Files {
         ensures open { (q : Path) → closed_from self.new.root q ≤ closed_from self.old.root q }
     {
         self.walk_reads_few(at);
+        let earlier = earlier_at(&mut self.earlier, at);
         store_path(
             self.alloc,
             pool,
             table,
             &mut self.root,
+            earlier.as_ref(),
             &at.components(),
             &mut self.reads,
         )

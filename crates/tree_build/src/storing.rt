@@ -19,6 +19,7 @@ ghost use Rattle.tree_build.specs.Stores.{bare, bare_held, IsNamed, AreNamed, en
 
 use crate::component::Component;
 use crate::dir::{Dir, Node};
+use crate::matching::{earlier_of, tree_again};
 use crate::sums::summary_of;
 use content_pool::Pool;
 use file_maps::{Fault, add_entries};
@@ -27,13 +28,14 @@ use std::alloc::Global;
 use tenant_tables::Table;
 
 /// Stores the trees of an opened directory that are not stored yet, and answers the name of its own
-/// tree.
+/// tree. Where an earlier directory has the same tree, that is kept.
 #[cycle(storing)]
 pub(crate) fn store_dir<N: Naming>(
     alloc: Global,
     pool: &mut Pool<N>,
     table: &mut Table,
     dir: &mut Dir,
+    earlier: Option<&Dir>,
 ) -> Result<Name, Fault>
     requires stands { IsBackedBy N.digest_of pool.old table.old.entries }
     requires room { HasHoldsLeftBeside pool.old table.old.entries }
@@ -53,11 +55,11 @@ pub(crate) fn store_dir<N: Naming>(
     match dir.tree {
         Some(name) => Ok(name),
         None => {
-            match store_inside(alloc, pool, table, &mut dir.entries) {
+            match store_inside(alloc, pool, table, &mut dir.entries, earlier) {
                 Ok(()) => {}
                 Err(refusal) => return Err(refusal),
             }
-            let added = add_tree(alloc, pool, table, &dir.entries);
+            let added = add_tree(alloc, pool, table, &dir.entries, earlier);
             match added {
                 Ok(name) => dir.tree = Some(name),
                 Err(_) => {}
@@ -74,6 +76,7 @@ fn store_inside<N: Naming>(
     pool: &mut Pool<N>,
     table: &mut Table,
     entries: &mut Vec<(Component, Node)>,
+    earlier: Option<&Dir>,
 ) -> Result<(), Fault>
     requires stands { IsBackedBy N.digest_of pool.old table.old.entries }
     requires room { HasHoldsLeftBeside pool.old table.old.entries }
@@ -89,7 +92,7 @@ fn store_inside<N: Naming>(
     ensures named { OnOk result (AreNamed (shape_of entries.new.items)) }
 {
     for place in 0..entries.len() {
-        match store_at(alloc, pool, table, entries, place) {
+        match store_at(alloc, pool, table, entries, place, earlier) {
             Ok(()) => {}
             Err(refusal) => return Err(refusal),
         }
@@ -105,6 +108,7 @@ fn store_at<N: Naming>(
     table: &mut Table,
     entries: &mut Vec<(Component, Node)>,
     place: usize,
+    earlier: Option<&Dir>,
 ) -> Result<(), Fault>
     requires place { place < length entries.old.items }
     requires stands { IsBackedBy N.digest_of pool.old table.old.entries }
@@ -121,7 +125,8 @@ fn store_at<N: Naming>(
     ensures named { OnOk result (AreNamed (shape_of (take place entries.old.items)) → AreNamed
         (shape_of (take (place + 1) entries.new.items))) }
 {
-    store_node(alloc, pool, table, &mut entries[place].1)
+    let earlier = earlier_of(earlier, &entries[place]);
+    store_node(alloc, pool, table, &mut entries[place].1, earlier)
 }
 
 // Stores the trees of a node, if it is a directory.
@@ -131,6 +136,7 @@ fn store_node<N: Naming>(
     pool: &mut Pool<N>,
     table: &mut Table,
     node: &mut Node,
+    earlier: Option<&Dir>,
 ) -> Result<(), Fault>
     requires stands { IsBackedBy N.digest_of pool.old table.old.entries }
     requires room { HasHoldsLeftBeside pool.old table.old.entries }
@@ -149,15 +155,43 @@ fn store_node<N: Naming>(
     match node {
         Node::File(_) => Ok(()),
         Node::Unopened(_) => Ok(()),
-        Node::Opened(dir) => match store_dir(alloc, pool, table, dir) {
+        Node::Opened(dir) => match store_dir(alloc, pool, table, dir, earlier) {
             Ok(_) => Ok(()),
             Err(refusal) => Err(refusal),
         },
     }
 }
 
-// Adds the tree of a directory. The trees of the directories in it are stored already.
+// Adds the tree of a directory, unless it is that of an earlier one. The trees of the directories
+// in it are stored already.
 fn add_tree<N: Naming>(
+    alloc: Global,
+    pool: &mut Pool<N>,
+    table: &mut Table,
+    entries: &[(Component, Node)],
+    earlier: Option<&Dir>,
+) -> Result<Name, Fault>
+    requires stands { IsBackedBy N.digest_of pool.old table.old.entries }
+    requires room { HasHoldsLeftBeside pool.old table.old.entries }
+    requires sound { IsShape (objects pool.old table.old.entries) (shape_of entries.now) }
+    requires named { AreNamed (shape_of entries.now) }
+    requires storable { AreStorable (shape_files (stored_files
+        (objects pool.old table.old.entries)) (shape_of entries.now)) }
+    ensures stores { StoresTrees result N.digest_of pool.old table.old pool.new table.new
+        (entries_of_shape (shape_of entries.now) ∷ [])
+        (tree_name N.digest_of (entries_of_shape (shape_of entries.now))) }
+    ensures lists { IfOk result (λ id. ListsTree (objects pool.new table.new.entries) id
+        (shape_files (stored_files (objects pool.old table.old.entries)) (shape_of entries.now))) }
+{
+    match tree_again(pool, table, entries, earlier) {
+        Some(name) => Ok(name),
+        None => write_tree(alloc, pool, table, entries),
+    }
+}
+
+// Writes the tree of a directory and adds it. The trees of the directories in it are stored
+// already.
+fn write_tree<N: Naming>(
     alloc: Global,
     pool: &mut Pool<N>,
     table: &mut Table,
@@ -180,8 +214,8 @@ fn add_tree<N: Naming>(
     add_entries(alloc, pool, table, &rows, summary)
 }
 
-// An entry as a tree lists it.
-fn row_of<'a>(entry: &'a (Component, Node)) -> TreeEntry<'a>
+/// An entry as a tree lists it.
+pub(crate) fn row_of<'a>(entry: &'a (Component, Node)) -> TreeEntry<'a>
     requires { IsNamed (held entry.now.1).what }
     ensures { entry_of result ≡ entry_of_what entry.now.0 (held entry.now.1).what }
 {

@@ -6,7 +6,7 @@ use Rattle.git_model.specs.RefStore.{RefStore}
 use Rattle.revisions.specs.Logs.{range_log}
 use Rattle.import_session.specs.Sound.{IsSoundRepository}
 use Rattle.import_session.specs.Stream.{Runs, Refused}
-use Rattle.import_session.proofs.SoundLemmas.{checkpoint_is_sound}
+use Rattle.session_laws.proofs.SoundLemmas.{checkpoint_is_sound}
 use Rattle.tenant_service.specs.TenantState.{TenantState, Idle, Busy}
 use Rattle.tenant_service.specs.HeldObjects.{last_held}
 use Rattle.tenant_service.specs.Soundness.{IsSoundTenantState}

@@ -15,7 +15,7 @@ returns-clause-done g c state refs out holds =
     c.in_ok-id.id state c.args.marks.now.entries c.set.new.marks.entries c.args.pool.now
     c.args.table.now c.store.new.pool c.store.new.table refs out c.in_ok-make_room.ensures.room
     c.in_ok-id.ensures.stores
-    (c.set.ensures ∙ ap (λ (marks : Marks). with_mark marks c.args.mark c.in_ok-id.id)
+    (c.set.ensures ∙ ap (λ (marks : Marks). with_mark marks c.args.mark kind.Blob c.in_ok-id.id)
     c.make_room.ensures.same) holds
 
 pub returns-clause-held : goal.returns-clause-held

@@ -6,6 +6,7 @@ use Rattle.stream_state.specs.OpenCommand.{command_with}
 use Rattle.import_session.specs.declared.open_command.OpenCommand.{OpenCommand as LentCommand}
 use Rattle.import_session.specs.Session.{StreamState, command_shown, state_shown, workspace_in, CarriesOut}
 use Rattle.import_session.specs.Commits.{commit_opened, commit_said}
+use Rattle.import_session.specs.Held.{HoldsFiles}
 use Rattle.import_session.proofs.CommitLemmas.{opened_refused, opened_well, without_command}
 use Rattle.import_session.proofs.opening.open_commit.Goals as goal
 
@@ -39,6 +40,11 @@ returns-clause-done g c out sound =
     (workspace_in state c.args.pool.now c.args.table.now c.args.refs.now) out out (Ok tt))
     (sym c.keep_open.ensures)
     (opened_well (state_shown c.args.state.now) (state_shown c.open_with.new.state) c.args.pool.now c.args.table.now
-    c.args.refs.now c.open_with.new.state.branches (command_shown c.take.new.self) c.args.mark c.args.message.now
+    c.args.refs.now c.open_with.new.state.branches (command_shown c.take.new.self) c.open_with.new.state.kept c.args.mark c.args.message.now
     c.in-Commit.said (header_shown c.in_ok-header.header) (commit_held c.in_ok-commit.commit) out
     c.in_ok-header.ensures opens c.in_ok-commit.ensures.state))
+
+pub returns-clause-held : goal.returns-clause-held
+returns-clause-held g c =
+    subst (HoldsFiles (objects c.args.pool.now c.args.table.now.entries)) (sym c.keep_open.ensures)
+    (record { command = c.in_ok-commit.ensures.held; kept = c.in_ok-commit.ensures.kept })

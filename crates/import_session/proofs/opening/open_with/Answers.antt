@@ -1,11 +1,25 @@
 use Rattle.std.proofs.Common.{◌≡◌, List, ℕ, Option, Ok, ap, sym, subst}
 use Rattle.open_commits.specs.OpenCommit.{begun, header_shown}
+use Rattle.tenant_tables.specs.Objects.{objects}
 use Rattle.stream_state.specs.Branches.{Branches, branch_set, tip_commit, tip_for}
 use Rattle.import_session.specs.Commits.{IsTipCommit}
 use Rattle.import_session.specs.Session.{StreamState, state_shown, workspace_in}
 use Rattle.import_session.proofs.CommitLemmas.{opened_by}
+use Rattle.import_session.proofs.HeldLemmas.{where_ok}
 use Rattle.import_session.proofs.SoundCommits.{tip_commit_is}
 use Rattle.import_session.proofs.opening.open_with.Goals as goal
+
+pub begin-requires-clause-files : goal.begin-requires-clause-files
+begin-requires-clause-files g c =
+    let same = ap (λ (state : StreamState). state.kept) c.in_ok-first.ensures.placed.1 in
+    (c.take_files-files.ensures.branches
+    (objects c.args.pool.now c.args.table.now.entries) (rw same c.requires.held.kept)).1
+
+pub returns-clause-kept : goal.returns-clause-kept
+returns-clause-kept g c =
+    let same = ap (λ (state : StreamState). state.kept) c.in_ok-first.ensures.placed.1 in
+    where_ok c.begin.result (c.take_files-files.ensures.branches
+    (objects c.args.pool.now c.args.table.now.entries) (rw same c.requires.held.kept)).0
 
 pub returns-clause-opened : goal.returns-clause-opened
 returns-clause-opened g c refs sound =

@@ -1,5 +1,6 @@
 use Rattle.std.proofs.Common.{Some, Err}
 use Rattle.std.proofs.lemmas.Result.{err_from_is_err_and}
+use Rattle.git_model.specs.declared.kind.Kind.TheVariants as kind
 use Rattle.stream_grammar.specs.Shown.{commit_shown}
 use Rattle.stream_state.specs.Faults.{and_then}
 use Rattle.import_session.specs.Workspace.{quiet}
@@ -22,8 +23,8 @@ returns-in_err-make_room-clause-done g c out good =
     rw (p.1, p.2)
     (first_then (commit_in w (commit_shown c.args.commit.now)) c.in_ok-id.id
     (λ id. and_then (room_for w.stream.marks (Some c.args.mark)) (λ _.
-    quiet (record w { stream = record w.stream { marks = with_mark w.stream.marks (Some c.args.mark) id } })))
+    quiet (record w { stream = record w.stream { marks = with_mark w.stream.marks (Some c.args.mark) kind.Commit id } })))
     left out out (Err c.in_err-make_room.field-0.0) (c.in_ok-id.ensures good)
     (first_refused (room_for w.stream.marks (Some c.args.mark)) (λ _.
-    quiet (record w { stream = record w.stream { marks = with_mark w.stream.marks (Some c.args.mark) c.in_ok-id.id } }))
+    quiet (record w { stream = record w.stream { marks = with_mark w.stream.marks (Some c.args.mark) kind.Commit c.in_ok-id.id } }))
     left out out c.in_err-make_room.field-0.0 c.in_err-make_room.ensures.room))

@@ -2,6 +2,7 @@ use Rattle.std.proofs.Common.{arith, rules}
 use Rattle.std.proofs.lemmas.Grind.{common_steps}
 use Rattle.import_session.specs.Replies.{replied}
 use Rattle.import_session.proofs.CommittedLemmas.{committed_stay}
+use Rattle.import_session.proofs.HeldLemmas.{kept_stand}
 use Rattle.import_session.proofs.replies.show_entry.Goals as goal
 
 pub returns-clause-done : goal.returns-clause-done
@@ -28,4 +29,8 @@ returns-clause-committed g c =
     c.committed_len-within.ensures.within c.show_entry.ensures.adds
 
 pub returns-clause-held : goal.returns-clause-held
-returns-clause-held g c = record { command = c.show_entry.ensures.held; left = tt }
+returns-clause-held g c = record {
+  command = c.show_entry.ensures.held;
+  kept = kept_stand c.args.pool.now c.args.table.now c.show_entry.new.pool c.show_entry.new.table
+      c.show_entry.ensures.adds c.args.state.now.kept c.requires.held.kept;
+}

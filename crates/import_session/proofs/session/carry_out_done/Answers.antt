@@ -7,7 +7,7 @@ use Rattle.import_session.specs.Session.{state_shown, workspace_in}
 use Rattle.import_session.proofs.ActLemmas.{first_refused, first_then}
 use Rattle.import_session.proofs.LastLemmas.{in_any_case, last_kept}
 use Rattle.import_session.proofs.LentLemmas.{Keeps-then}
-use Rattle.import_session.proofs.SoundLemmas.{ended_sound}
+use Rattle.import_session.proofs.SoundEnds.{ended_sound}
 use Rattle.import_session.proofs.session.carry_out_done.Goals as goal
 
 pub returns-in_err-close_where-clause-carried : goal.returns-in_err-close_where-clause-carried

@@ -5,7 +5,7 @@ use Rattle.import_session.specs.Commits.{closed_where}
 use Rattle.import_session.specs.Session.{state_shown, workspace_in}
 use Rattle.import_session.proofs.ActLemmas.{first_refused, first_then}
 use Rattle.import_session.proofs.LastLemmas.{in_any_case, last_kept, same_entries, unchanged_committed}
-use Rattle.import_session.proofs.SoundLemmas.{ended_sound}
+use Rattle.import_session.proofs.SoundEnds.{ended_sound}
 use Rattle.import_session.proofs.session.save_at_end.Goals as goal
 
 pub returns-in_err-close_where-clause-saved : goal.returns-in_err-close_where-clause-saved

@@ -71,6 +71,6 @@ returns-clause-held g c =
     ∙ ap (λ (command : LentCommand). state_with state (command_shown command)) c.take.ensures.after in
     let grown = files_grown g.N.Naming.digest_of tag
     (objects c.args.pool.now c.args.table.now.entries) more c.in_ok-id.ensures.stores.objects
-    (state_with state Nothing) (record { command = tt; left = c.requires.held.left }) in
+    (state_with state Nothing) (record { command = tt; kept = c.requires.held.kept }) in
     let stands = subst (HoldsFiles more) (sym left) grown in
-    record { command = stands.command; left = stands.left }
+    record { command = stands.command; kept = stands.kept }

@@ -27,8 +27,8 @@ load_refs-requires-clause-counted g c =
     c.deref-2.result.now c.args.tenant.now.numbers.items c.load_table.new.pool
     c.in_ok-table.table.entries c.in_ok-table.ensures.objects c.deref-2.ensures.value
 
-pub returns : goal.returns
-returns g c =
+pub returns-clause-builds : goal.returns-clause-builds
+returns-clause-builds g c =
     let os = objects_at c.args.pool.now c.args.slots.now in
     let t = tenant_of c.args.tenant.now in
     let after = c.load_table.new.pool in

@@ -5,7 +5,7 @@ use Rattle.pool_file_checks.proofs.own.index_objects.Goals as goal
 
 pub returns-in_err-add_object : goal.returns-in_err-add_object
 returns-in_err-add_object c =
-    let p = err_from_is_err_and c.from_residual.result c.from_residual.ensures.1 in
+    let p = err_from_is_err_and c.from_residual-in_err-add_object.result c.from_residual-in_err-add_object.ensures.1 in
     let i = c.loop-number.number-index in let lt = c.loop-number-test.true in
     λ range. rw (p.1, p.2) (built_fails c.args.names.now c.args.numbers.now i c.loop-number.index.entries _ c.in_err-add_object.field-0.0 lt
     (c.loop-number.invariant range) (c.in_err-add_object.ensures (range i 0 lt)))

@@ -1,5 +1,5 @@
 use Rattle.std.proofs.Common.{sym, subst}
-use Rattle.import_session.proofs.SoundLemmas.{empty_is_sound}
+use Rattle.session_laws.proofs.SoundLemmas.{empty_is_sound}
 use Rattle.tenant_service.specs.TenantState.{TenantState}
 use Rattle.tenant_service.specs.Soundness.{IsSoundTenantState}
 use Rattle.tenant_service.proofs.tenant.ask_nobody.Goals as goal

@@ -2,7 +2,7 @@ use Rattle.std.proofs.Common.{◌≡◌, ◌⊎◌, sym, ap, subst, ◌∙◌}
 use Rattle.stream_lex.specs.declared.fault.Fault.TheVariants as Fault
 use Rattle.stream_lex.specs.Items.{Tail, Failed}
 use Rattle.import_session.specs.Session.{SessionView, running_in}
-use Rattle.import_session.proofs.SoundLemmas.{checkpoint_is_sound}
+use Rattle.session_laws.proofs.SoundLemmas.{checkpoint_is_sound}
 use Rattle.tenant_stream.specs.Carrying.{StreamView}
 use Rattle.tenant_stream.proofs.CarryLemmas.{unfed_feeds}
 use Rattle.tenant_stream.proofs.SoundLemmas.{carries_sound, sound_as}

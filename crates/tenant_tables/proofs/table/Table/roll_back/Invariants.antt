@@ -1,17 +1,13 @@
-use Rattle.std.proofs.Common.{◌≡◌, ◌≤◌, length, take}
-use Rattle.tenant_tables.specs.Objects.{objects}
-use Rattle.tenant_tables.specs.IsBackedBy.{IsBackedBy, PreservesOthers}
+use Rattle.std.proofs.Common.{◌≤◌, length}
+use Rattle.tenant_tables.proofs.TableLemmas.{Released}
 use Rattle.tenant_tables.proofs.table.Table.roll_back.Given as goal
 
-abbrev pub invariant-loop-self : goal.invariant-loop-self
-invariant-loop-self g l = record {
-  stands : IsBackedBy g.N.Naming.digest_of l.pool l.self.entries;
-  others : PreservesOthers l.fn.pool l.fn.self.entries l.pool l.self.entries;
-  entries : l.self.entries ≡ take (length l.self.entries) l.fn.self.entries;
-  objects : objects l.pool l.self.entries ≡ take (length l.self.entries) (objects l.fn.pool l.fn.self.entries);
-  committed : l.self.committed ≡ l.fn.self.committed;
-  within : l.fn.self.committed ≤ length l.self.entries;
+abbrev pub invariant-loop-count : goal.invariant-loop-count
+invariant-loop-count g l = record {
+  released : Released g.N.Naming.digest_of l.fn.pool l.fn.self.entries l.count l.pool;
+  within : l.kept ≤ l.count;
+  all : l.count ≤ length l.fn.self.entries;
 }
 
-abbrev pub decreases-loop-self : goal.decreases-loop-self
-decreases-loop-self g l = length l.self.entries
+abbrev pub decreases-loop-count : goal.decreases-loop-count
+decreases-loop-count g l = l.count

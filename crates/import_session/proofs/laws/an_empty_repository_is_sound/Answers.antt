@@ -1,5 +1,0 @@
-use Rattle.import_session.proofs.SoundLemmas.{empty_is_sound}
-use Rattle.import_session.proofs.laws.an_empty_repository_is_sound.Goals as goal
-
-pub returns : goal.returns
-returns c = empty_is_sound

@@ -1,5 +1,0 @@
-use Rattle.import_session.proofs.SoundLemmas.{checkpoint_is_sound}
-use Rattle.import_session.proofs.laws.each_checkpoint_is_sound.Goals as goal
-
-pub returns : goal.returns
-returns c = checkpoint_is_sound

@@ -1,5 +1,0 @@
-use Rattle.import_session.proofs.KnownLemmas.{not_refused}
-use Rattle.import_session.proofs.laws.no_fitting_act_is_unknown.Goals as goal
-
-pub returns : goal.returns
-returns c = not_refused

@@ -1,0 +1,179 @@
+//! A quick look at a whole file, in which each object of a tenant is read once.
+//!
+//! `Ok` says that all checks of a file hold. A refusal only says that they do not, or that the look
+//! does not tell: which refusal is the first is left to the checks in their order.
+
+ghost use Rattle.std.specs.Prelude.{◌≡◌, ◌↔◌, ◌<◌, ℕ, List, length, map, All, IsTrue, None, OnOk};
+ghost use Rattle.std.specs.Bool.{OnTrue};
+ghost use Rattle.std.specs.Option.{option_map};
+ghost use Rattle.pool_file_checks.specs.Checks.{Passes};
+ghost use Rattle.pool_file_checks.specs.FileRefs.{AreRising};
+ghost use Rattle.pool_file_checks.specs.Held.{numbers_of};
+ghost use Rattle.pool_file_checks.specs.Objects.{IsContent, object_key};
+ghost use Rattle.pool_file_checks.specs.Own.{content_at, names_of};
+ghost use Rattle.pool_file_checks.specs.Quick.{AreFound, HasKind};
+ghost use Rattle.pool_file_checks.specs.Whole.{one_tenant_checks, tenant_checks, file_checks};
+ghost use Rattle.pool_file_format.specs.Shown.{object_of, objects_of, tenant_of, tenants_of, file_of};
+
+use crate::contents::kind_from;
+use crate::good::are_good;
+use crate::held::check_held;
+use crate::judging::is_after;
+use crate::own::{are_same, index_objects};
+use crate::refs::check_refs;
+use crate::tenants::{check_name, check_numbers};
+use git_names::Name;
+use pool_file_format::{Fault, RawFile, RawObject, RawTenant, Refusal};
+use std::alloc::Global;
+
+fn has_kind(object: &RawObject) -> bool
+    ensures { OnTrue result (HasKind (object_of object.now)) }
+{
+    match kind_from(object.kind) {
+        Some(_) => true,
+        None => false,
+    }
+}
+
+// Whether each object has the byte of a kind.
+fn have_kinds(objects: &[RawObject]) -> bool
+    ensures { OnTrue result (All HasKind (objects_of objects.now)) }
+{
+    for object in objects {
+        if !has_kind(object) {
+            return false;
+        }
+    }
+    true
+}
+
+// Whether each object comes after the one before it.
+fn are_rising(objects: &[RawObject]) -> bool
+    ensures { OnTrue result (AreRising None (map object_key (objects_of objects.now))) }
+{
+    let mut last: Option<&RawObject> = None;
+    for object in objects {
+        if !is_after(last, object) {
+            return false;
+        }
+        last = Some(object);
+    }
+    true
+}
+
+// Both.
+fn are_in_order(objects: &[RawObject]) -> bool
+    ensures kinds { OnTrue result (All HasKind (objects_of objects.now)) }
+    ensures rising { OnTrue result (AreRising None (map object_key (objects_of objects.now))) }
+{
+    have_kinds(objects) && are_rising(objects)
+}
+
+// Passes the objects of a tenant.
+fn pass_own(
+    alloc: Global,
+    objects: &[RawObject],
+    names: &[Name],
+    numbers: &[u64],
+) -> Result<(), Fault>
+    ensures { (digest : List ℕ → List ℕ) → names.now ≡ names_of digest (objects_of objects.now)
+        → All (λ n. n < length objects.now) numbers.now
+        → OnOk result (AreFound digest (objects_of objects.now) numbers.now) }
+{
+    let index = index_objects(alloc, names, numbers)?;
+    if !are_good(alloc, objects, &index)? {
+        return Err(Fault::Refused(Refusal::BadObject));
+    }
+    Ok(())
+}
+
+// The same, after the objects of the numbers in `passed`: those are not read again.
+fn pass_unless_passed(
+    alloc: Global,
+    objects: &[RawObject],
+    names: &[Name],
+    passed: &[u64],
+    numbers: &[u64],
+) -> Result<(), Fault>
+    ensures { (digest : List ℕ → List ℕ) → names.now ≡ names_of digest (objects_of objects.now)
+        → All (λ n. n < length objects.now) numbers.now
+        → AreFound digest (objects_of objects.now) passed.now
+        → OnOk result (AreFound digest (objects_of objects.now) numbers.now) }
+{
+    if are_same(passed, numbers) {
+        return Ok(());
+    }
+    pass_own(alloc, objects, names, numbers)
+}
+
+fn pass_tenant(
+    alloc: Global,
+    version: u32,
+    objects: &[RawObject],
+    names: &[Name],
+    last: Option<&[u8]>,
+    passed: &[u64],
+    tenant: &RawTenant,
+) -> Result<(), Fault>
+    ensures checks { (digest : List ℕ → List ℕ)
+        → names.now ≡ names_of digest (objects_of objects.now)
+        → AreFound digest (objects_of objects.now) passed.now
+        → OnOk result (Passes (one_tenant_checks digest version (objects_of objects.now)
+        (option_map (λ o. o.now) last.entry) (tenant_of tenant.now))) }
+    ensures found { (digest : List ℕ → List ℕ)
+        → names.now ≡ names_of digest (objects_of objects.now)
+        → AreFound digest (objects_of objects.now) passed.now
+        → OnOk result (AreFound digest (objects_of objects.now) (tenant_of tenant.now).numbers) }
+{
+    check_name(version, last, tenant)?;
+    check_numbers(objects.len() as u64, tenant)?;
+    pass_unless_passed(alloc, objects, names, passed, &tenant.numbers)?;
+    check_refs(alloc, objects, tenant)?;
+    Ok(())
+}
+
+fn pass_tenants(
+    alloc: Global,
+    version: u32,
+    objects: &[RawObject],
+    names: &[Name],
+    tenants: &[RawTenant],
+) -> Result<(), Fault>
+    ensures checks { (digest : List ℕ → List ℕ)
+        → names.now ≡ names_of digest (objects_of objects.now)
+        → OnOk result (Passes (tenant_checks digest version (objects_of objects.now) None
+        (tenants_of tenants.now))) }
+    ensures contents { (digest : List ℕ → List ℕ)
+        → names.now ≡ names_of digest (objects_of objects.now)
+        → OnOk result (All (λ n. IsContent (content_at (objects_of objects.now) n))
+        (numbers_of (tenants_of tenants.now))) }
+{
+    let mut last: Option<&[u8]> = None;
+    let mut passed: &[u64] = &[];
+    for tenant in tenants {
+        pass_tenant(alloc, version, objects, names, last, passed, tenant)?;
+        last = Some(tenant.name.as_slice());
+        passed = tenant.numbers.as_slice();
+    }
+    Ok(())
+}
+
+/// Passes a file in which all is good. `names` are the names of its objects, as `name_objects`
+/// answers them. If a tenant has the same numbers as the tenant before, their objects are read
+/// once.
+///
+/// A refusal only says that the look does not tell; it need not be the first one of the file.
+/// `Memory` (90) if there is no memory for what is read or marked.
+///
+/// Nothing is changed.
+pub fn pass_file(alloc: Global, names: &[Name], file: &RawFile) -> Result<(), Fault>
+    ensures { (digest : List ℕ → List ℕ)
+        → names.now ≡ names_of digest (objects_of file.now.objects.items)
+        → OnOk result (Passes (file_checks digest (file_of file.now))) }
+{
+    if !are_in_order(&file.objects) {
+        return Err(Fault::Refused(Refusal::NotCanonical));
+    }
+    pass_tenants(alloc, file.version, &file.objects, names, &file.tenants)?;
+    check_held(alloc, file.objects.as_slice().len(), &file.tenants)
+}

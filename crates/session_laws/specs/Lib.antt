@@ -1,0 +1,2 @@
+-- That no act comes where its command is not open.
+pub mod Fitting

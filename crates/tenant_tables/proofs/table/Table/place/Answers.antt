@@ -1,5 +1,0 @@
-use Rattle.std.proofs.Common.{rules}
-use Rattle.tenant_tables.proofs.table.Table.place.Goals as goal
-
-pub returns : goal.returns
-returns c = search rules

@@ -1,0 +1,119 @@
+//! Directories that are stored trees again, as after `clear` and the same files.
+
+ghost use Rattle.std.specs.Prelude.{◌≡◌, ◌++◌, true, Some, IfSome};
+ghost use Rattle.git_model.specs.Tree.{entry_text, tree_contents};
+ghost use Rattle.git_model.specs.ObjectName.{IsObjectName};
+ghost use Rattle.git_model.specs.Repository.{object_named};
+ghost use Rattle.git_objects.specs.Parts.{entry_of};
+ghost use Rattle.std.specs.List.{AllByRecursion};
+ghost use Rattle.tenant_tables.specs.Objects.{objects};
+ghost use Rattle.tenant_tables.specs.IsBackedBy.{IsBackedBy};
+ghost use Rattle.file_maps.specs.Trees.{tree_content};
+ghost use Rattle.tree_build.specs.Nodes.{shape_of};
+ghost use Rattle.tree_build.specs.Stores.{AreNamed, entries_of_shape};
+
+use crate::component::Component;
+use crate::dir::{Dir, Node};
+use crate::names::node_like;
+use crate::storing::row_of;
+use content_pool::Pool;
+use git_objects::{Kind, Name, Naming, TreeEntry, has_twenty_bytes, mode_digits};
+use tenant_tables::{Objects, Sight, Table};
+
+// What comes after a text's front, if the text begins with it.
+fn after<'a>(text: &'a [u8], front: &[u8]) -> Option<&'a [u8]>
+    ensures { IfSome result (λ rest. text.now ≡ front.now ++ rest.now) }
+{
+    text.strip_prefix(front)
+}
+
+// What comes after an entry, if the contents of a tree begin with it.
+fn after_entry<'a>(contents: &'a [u8], entry: &TreeEntry<'_>) -> Option<&'a [u8]>
+    ensures { IfSome result (λ rest. contents.now ≡ entry_text (entry_of entry.now) ++ rest.now) }
+{
+    let rest = after(contents, mode_digits(entry.mode))?;
+    let rest = after(rest, b" ")?;
+    let rest = after(rest, entry.name)?;
+    let rest = after(rest, &[0])?;
+    after(rest, entry.id.as_bytes())
+}
+
+// Whether the contents of a tree list these entries and no others.
+fn lists(contents: &[u8], entries: &[(Component, Node)]) -> bool
+    requires { AreNamed (shape_of entries.now) }
+    ensures contents { result ≡ true
+        → contents.now ≡ tree_contents (entries_of_shape (shape_of entries.now)) }
+    ensures ids { result ≡ true
+        → AllByRecursion (λ e. IsObjectName e.id) (entries_of_shape (shape_of entries.now)) }
+{
+    let mut rest = contents;
+    for entry in entries {
+        let row = row_of(entry);
+        has_twenty_bytes(&row.id);
+        match after_entry(rest, &row) {
+            Some(more) => rest = more,
+            None => return false,
+        }
+    }
+    rest.is_empty()
+}
+
+// Whether a table has the tree of these entries under a name.
+fn is_tree_of<N: Naming>(
+    pool: &Pool<N>,
+    table: &Table,
+    id: &Name,
+    entries: &[(Component, Node)],
+) -> bool
+    requires stands { IsBackedBy N.digest_of pool.now table.now.entries }
+    requires named { AreNamed (shape_of entries.now) }
+    ensures there { result ≡ true → object_named id.now (objects pool.now table.now.entries)
+        ≡ Some (tree_content (entries_of_shape (shape_of entries.now))) }
+    ensures ids { result ≡ true
+        → AllByRecursion (λ e. IsObjectName e.id) (entries_of_shape (shape_of entries.now)) }
+{
+    match Objects::of(pool, table, Sight::All).get(id) {
+        Some((Kind::Tree, contents)) => lists(contents, entries),
+        _ => false,
+    }
+}
+
+/// The name of the tree of an earlier directory, if a table has these entries under it.
+pub(crate) fn tree_again<N: Naming>(
+    pool: &Pool<N>,
+    table: &Table,
+    entries: &[(Component, Node)],
+    earlier: Option<&Dir>,
+) -> Option<Name>
+    requires stands { IsBackedBy N.digest_of pool.now table.now.entries }
+    requires named { AreNamed (shape_of entries.now) }
+    ensures there { IfSome result (λ id. object_named id (objects pool.now table.now.entries)
+        ≡ Some (tree_content (entries_of_shape (shape_of entries.now)))) }
+    ensures ids { IfSome result
+        (λ id. AllByRecursion (λ e. IsObjectName e.id) (entries_of_shape (shape_of entries.now))) }
+{
+    let id = earlier?.tree?;
+    if is_tree_of(pool, table, &id, entries) {
+        Some(id)
+    } else {
+        None
+    }
+}
+
+/// What an entry that is an opened directory was earlier, as a guess.
+pub(crate) fn earlier_of<'a>(
+    earlier: Option<&'a Dir>,
+    entry: &(Component, Node),
+) -> Option<&'a Dir> {
+    match &entry.1 {
+        Node::Opened(_) => below(earlier?, entry.0.as_bytes()),
+        _ => None,
+    }
+}
+
+fn below<'a>(earlier: &'a Dir, name: &[u8]) -> Option<&'a Dir> {
+    match node_like(&earlier.entries, name)? {
+        Node::Opened(dir) => Some(dir),
+        _ => None,
+    }
+}
