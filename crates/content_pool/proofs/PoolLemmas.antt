@@ -10,7 +10,7 @@ use Rattle.std.proofs.lemmas.List.{get_or-set_same, get_or-set_other, get_or_pas
 use Rattle.slab.specs.Slab.{Slab, Updates}
 use Rattle.git_model.specs.Content.{Content, name_by}
 use Rattle.content_pool.specs.Pool.{Cells, cell, content_of, holds, content, IsLive, HoldsEachOnce, Puts, Releases}
-use Rattle.content_pool.specs.Index.{Buckets, bucket, times, one_at, is_named, IsPool, IsIndexed, Stores, Notes, Forgets}
+use Rattle.content_pool.specs.Index.{Buckets, prefix_of, bucket, times, one_at, has_prefix, IsPool, IsIndexed, Stores, Notes, Forgets}
 use Rattle.content_pool.proofs.IndexLemmas.{times_at_place, place_from_times}
 use Rattle.content_pool.specs.declared.stored.Stored.{Stored}
 
@@ -94,12 +94,12 @@ IsPool-once digest p sound s t live_s live_t same =
 -- A pool stays sound where each slot that stores something stored the same content before, and is
 -- held.
 pub IsPool-within : (digest : List ℕ → List ℕ) (p q : Cells) → IsPool digest p
-    → ((s : ℕ) (e : Stored) → cell q s ≡ Some e → (f : Stored) × (cell p s ≡ Some f) × (content_of e ≡ content_of f) × (e.id ≡ f.id) × (0 < e.holds))
+    → ((s : ℕ) (e : Stored) → cell q s ≡ Some e → (f : Stored) × (cell p s ≡ Some f) × (content_of e ≡ content_of f) × (e.prefix ≡ f.prefix) × (0 < e.holds))
     → IsPool digest q
 IsPool-within digest p q sound before =
     record {
       counted = λ s e is. (before s e is).4;
-      named = λ s e is. let b = before s e is in b.3 ∙ sound.named s b.0 b.1 ∙ ap (name_by digest) (sym b.2);
+      named = λ s e is. let b = before s e is in b.3 ∙ sound.named s b.0 b.1 ∙ ap (λ x. prefix_of (name_by digest x)) (sym b.2);
       distinct = λ s t e f is_e is_f same.
           let b = before s e is_e in
           let d = before t f is_f in
@@ -113,13 +113,13 @@ module _ (p q : Cells) (k : ℕ) (e : Stored) (n : ℕ) (was : cell p k ≡ Some
   IsPool-recounted digest sound positive = IsPool-within digest p q sound before
     where
       before : (s : ℕ) (f : Stored) → cell q s ≡ Some f
-          → (g : Stored) × (cell p s ≡ Some g) × (content_of f ≡ content_of g) × (f.id ≡ g.id) × (0 < f.holds)
+          → (g : Stored) × (cell p s ≡ Some g) × (content_of f ≡ content_of g) × (f.prefix ≡ g.prefix) × (0 < f.holds)
       before s f is =
           elim (cases_eq s k) [
             | inl same ↦
                 let now : record e { holds = n } ≡ f =
                 same_Some _ _ (sym w.here ∙ ap (cell q) (sym same) ∙ is) in
-                (e, ap (cell p) same ∙ was, sym (ap content_of now), sym (ap (λ (x : Stored). x.id) now), subst (λ (x : Stored). 0 < x.holds) now positive)
+                (e, ap (cell p) same ∙ was, sym (ap content_of now), sym (ap (λ (x : Stored). x.prefix) now), subst (λ (x : Stored). 0 < x.holds) now positive)
             | inr apart ↦
                 let old : cell p s ≡ Some f = sym (w.others s apart) ∙ is in
                 (f, old, refl, refl, sound.counted s f old)
@@ -128,7 +128,7 @@ module _ (p q : Cells) (k : ℕ) (e : Stored) (n : ℕ) (was : cell p k ≡ Some
   pub IsIndexed-recounted : (m : Buckets) → IsIndexed p m → IsIndexed q m
   IsIndexed-recounted m indexed name s = indexed name s ∙ ap (λ b. if b then 1 else 0) same_name
     where
-      same_name : is_named p s name ≡ is_named q s name
+      same_name : has_prefix p s name ≡ has_prefix q s name
       same_name =
           elim (cases_eq s k) [
             | inl same ↦ rw (same, was, w.here)
@@ -165,7 +165,7 @@ module _ (p q : Cells) (k : ℕ) (e : Stored) (was : cell p k ≡ Some e) (w : W
   IsPool-given_up digest sound = IsPool-within digest p q sound before
     where
       before : (s : ℕ) (f : Stored) → cell q s ≡ Some f
-          → (g : Stored) × (cell p s ≡ Some g) × (content_of f ≡ content_of g) × (f.id ≡ g.id) × (0 < f.holds)
+          → (g : Stored) × (cell p s ≡ Some g) × (content_of f ≡ content_of g) × (f.prefix ≡ g.prefix) × (0 < f.holds)
       before s f is =
           elim (cases_eq s k) [
             | inl same ↦ absurd (none-some f (sym w.here ∙ ap (cell q) (sym same) ∙ is))
@@ -174,16 +174,16 @@ module _ (p q : Cells) (k : ℕ) (e : Stored) (was : cell p k ≡ Some e) (w : W
                 (f, old, refl, refl, sound.counted s f old)
           ]
 
-  pub IsIndexed-given_up : (m m' : Buckets) → IsIndexed p m → Forgets m m' e.id k → IsIndexed q m'
+  pub IsIndexed-given_up : (m m' : Buckets) → IsIndexed p m → Forgets m m' e.prefix k → IsIndexed q m'
   IsIndexed-given_up m m' indexed forgets name s =
       elim (cases_eq s k) [
         | inl same ↦
-            rw (same, w.here) (omega (arith, one_at-here e.id name k, forgets.taken name k, at_k))
+            rw (same, w.here) (omega (arith, one_at-here e.prefix name k, forgets.taken name k, at_k))
         | inr apart ↦
-            rw (w.others s apart) (omega (arith, one_at-apart e.id name k s apart, forgets.taken name s, indexed name s))
+            rw (w.others s apart) (omega (arith, one_at-apart e.prefix name k s apart, forgets.taken name s, indexed name s))
       ]
     where
-      at_k : times (bucket m name) k ≡ (if bytes_eq e.id name then 1 else 0)
+      at_k : times (bucket m name) k ≡ (if bytes_eq e.prefix name then 1 else 0)
       at_k = indexed name k ∙ rw was
 
   pub Releases-given_up : e.holds ≡ 1 → Releases p q k
@@ -202,7 +202,7 @@ module _ (p q : Cells) (k : ℕ) (e : Stored) (was : cell p k ≡ None)
     (w : Writes p q k (Some e)) where
   -- A content that was not held is stored.
   pub IsPool-stored : (digest : List ℕ → List ℕ) → IsPool digest p
-      → e.id ≡ name_by digest (content_of e) → e.holds ≡ 1
+      → e.prefix ≡ prefix_of (name_by digest (content_of e)) → e.holds ≡ 1
       → ((s : ℕ) → IsLive p s → content p s ≡ content_of e → ⊥) → IsPool digest q
   IsPool-stored digest sound named once absent =
       record {
@@ -213,7 +213,7 @@ module _ (p q : Cells) (k : ℕ) (e : Stored) (was : cell p k ≡ None)
             ];
         named = λ s f is.
             elim (source s f is) [
-              | inl new ↦ subst (λ (x : Stored). x.id ≡ name_by digest (content_of x)) new.1 named
+              | inl new ↦ subst (λ (x : Stored). x.prefix ≡ prefix_of (name_by digest (content_of x))) new.1 named
               | inr old ↦ sound.named s f old
             ];
         distinct = λ s t f g is_f is_g same.
@@ -244,13 +244,13 @@ module _ (p q : Cells) (k : ℕ) (e : Stored) (was : cell p k ≡ None)
           absent s (subst (λ h. 0 < h) (sym (holds-at p s f is)) (sound.counted s f is))
           (content-at p s f is ∙ same)
 
-  pub IsIndexed-stored : (m m' : Buckets) → IsIndexed p m → Notes m m' e.id k → IsIndexed q m'
+  pub IsIndexed-stored : (m m' : Buckets) → IsIndexed p m → Notes m m' e.prefix k → IsIndexed q m'
   IsIndexed-stored m m' indexed notes name s =
       elim (cases_eq s k) [
         | inl same ↦
-            rw (same, w.here) (omega (arith, one_at-here e.id name k, notes.added name k, at_k))
+            rw (same, w.here) (omega (arith, one_at-here e.prefix name k, notes.added name k, at_k))
         | inr apart ↦
-            rw (w.others s apart) (omega (arith, one_at-apart e.id name k s apart, notes.added name s, indexed name s))
+            rw (w.others s apart) (omega (arith, one_at-apart e.prefix name k s apart, notes.added name s, indexed name s))
       ]
     where
       at_k : times (bucket m name) k ≡ 0
@@ -266,39 +266,40 @@ module _ (p q : Cells) (k : ℕ) (e : Stored) (was : cell p k ≡ None)
         other_contents = λ s apart. content-same p q s (w.others s apart);
       }
 
--- What is stored stands in the bucket of its object name.
+-- What is stored stands in the bucket of its prefix.
 pub times-at : (p : Cells) (m : Buckets) (s : ℕ) (e : Stored) → cell p s ≡ Some e → IsIndexed p m
-    → 0 < times (bucket m e.id) s
+    → 0 < times (bucket m e.prefix) s
 times-at p m s e is indexed =
-    let once : times (bucket m e.id) s ≡ (if bytes_eq e.id e.id then 1 else 0) =
-    indexed e.id s ∙ rw is in
-    omega (arith, rw ((bytes_decides e.id e.id).1 refl) at once)
+    let once : times (bucket m e.prefix) s ≡ (if bytes_eq e.prefix e.prefix then 1 else 0) =
+    indexed e.prefix s ∙ rw is in
+    omega (arith, rw ((bytes_decides e.prefix e.prefix).1 refl) at once)
 
 -- A slot in a bucket stores something.
-pub stored_in_bucket : (p : Cells) (m : Buckets) (id : List ℕ) → IsIndexed p m → (k : ℕ)
-    → k < length (bucket m id) → IsSome (cell p (get_or (bucket m id) k 0))
-stored_in_bucket p m id indexed k within =
-    let s : ℕ = get_or (bucket m id) k 0 in
-    by (cell p s) refl (subst (λ n. 0 < n) (indexed id s) (times_at_place (bucket m id) k within))
+pub stored_in_bucket : (p : Cells) (m : Buckets) (prefix : List ℕ) → IsIndexed p m → (k : ℕ)
+    → k < length (bucket m prefix) → IsSome (cell p (get_or (bucket m prefix) k 0))
+stored_in_bucket p m prefix indexed k within =
+    let s : ℕ = get_or (bucket m prefix) k 0 in
+    by (cell p s) refl (subst (λ n. 0 < n) (indexed prefix s) (times_at_place (bucket m prefix) k within))
   where
-    by : (o : Option Stored) → cell p (get_or (bucket m id) k 0) ≡ o
-        → 0 < (if is_named p (get_or (bucket m id) k 0) id then 1 else 0)
-        → IsSome (cell p (get_or (bucket m id) k 0))
+    by : (o : Option Stored) → cell p (get_or (bucket m prefix) k 0) ≡ o
+        → 0 < (if has_prefix p (get_or (bucket m prefix) k 0) prefix then 1 else 0)
+        → IsSome (cell p (get_or (bucket m prefix) k 0))
     by None is named = absurd (omega (arith, rw is at named))
     by (Some e) is named = rw is refl
 
 -- A content that is stored under no slot of its bucket is not held.
-pub held_nowhere : (digest : List ℕ → List ℕ) (p : Cells) (m : Buckets) (id : List ℕ) (c : Content)
-    → IsPool digest p → IsIndexed p m → id ≡ name_by digest c
-    → ((k : ℕ) → k < length (bucket m id) → Stores p (get_or (bucket m id) k 0) c → ⊥) → (s : ℕ)
+pub held_nowhere : (digest : List ℕ → List ℕ) (p : Cells) (m : Buckets) (prefix : List ℕ) (c : Content)
+    → IsPool digest p → IsIndexed p m → prefix ≡ prefix_of (name_by digest c)
+    → ((k : ℕ) → k < length (bucket m prefix) → Stores p (get_or (bucket m prefix) k 0) c → ⊥) → (s : ℕ)
     → IsLive p s → content p s ≡ c → ⊥
-held_nowhere digest p m id c sound indexed named nowhere s live same =
+held_nowhere digest p m prefix c sound indexed named nowhere s live same =
     let e = stored_at p s live in
     let is : content_of e.0 ≡ c = sym (content-at p s e.0 e.1) ∙ same in
-    let id_is : e.0.id ≡ id = sound.named s e.0 e.1 ∙ ap (name_by digest) is ∙ sym named in
-    let stands : 0 < times (bucket m id) s =
-    subst (λ n. 0 < times (bucket m n) s) id_is (times-at p m s e.0 e.1 indexed) in
-    let place = place_from_times (bucket m id) s stands in
+    let prefix_is : e.0.prefix ≡ prefix =
+    sound.named s e.0 e.1 ∙ ap (λ x. prefix_of (name_by digest x)) is ∙ sym named in
+    let stands : 0 < times (bucket m prefix) s =
+    subst (λ n. 0 < times (bucket m n) s) prefix_is (times-at p m s e.0 e.1 indexed) in
+    let place = place_from_times (bucket m prefix) s stands in
     nowhere place.0 place.1 (rw place.2 (record { stored = e.0; there = e.1; same = is }))
 
 -- A content that a slot stores is what the live slot holds.

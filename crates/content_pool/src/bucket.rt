@@ -1,28 +1,37 @@
-//! Buckets: the slots of the contents that have one object name.
+//! Buckets: the slots of the contents whose object names begin alike.
 //!
-//! Almost every bucket has one slot, which is stored inline. There are more only if names collide.
+//! Almost every bucket has one slot, which is stored inline. There are more only if the first bytes
+//! of names are the same.
 
 ghost use Rattle.std.specs.Prelude.{◌≡◌, ◌+◌, ◌<◌, ◌==◌, ◌∷◌, ◌++◌, ◌↔◌, if◌then◌else◌, ℕ, []};
-ghost use Rattle.std.specs.Prelude.{IsTrue, OnOk, OnErr, position};
+ghost use Rattle.std.specs.Prelude.{IsTrue, OnOk, OnErr, IfOk, position};
 ghost use Rattle.content_pool.specs.Index.{times};
 
 use git_names::Memory;
-use smallvec::SmallVec;
 use std::alloc::Global;
 use std::marker::Model;
+use std::slice::from_ref;
 
 /// The slots of one bucket. Contracts see the list.
 #[derive(Drop)]
 pub struct Bucket {
-    slots: SmallVec<usize, 1>,
+    slots: Slots,
+}
+
+#[derive(Drop)]
+enum Slots {
+    None,
+    One(usize),
+    Many(Box<Vec<usize>>),
 }
 
 impl Model for Bucket {
     ghost use Rattle.std.specs.Prelude.{ℕ, List};
+    ghost use Rattle.content_pool.specs.Index.{slots_of};
 
     ghost Value = { List ℕ };
 
-    ghost view = { λ bucket. bucket.slots.items };
+    ghost view = { λ bucket. slots_of bucket.slots };
 }
 
 fn index_of(slots: &[usize], slot: usize) -> Option<usize>
@@ -31,13 +40,32 @@ fn index_of(slots: &[usize], slot: usize) -> Option<usize>
     slots.iter().position(|other| *other == slot)
 }
 
+// Removes a slot of a list.
+fn remove_from(slots: &mut Vec<usize>, slot: usize)
+    requires { 0 < times slots.old.items slot }
+    ensures { (s : ℕ) → times slots.new.items s + (if slot == s then 1 else 0)
+        ≡ times slots.old.items s }
+{
+    if let Some(index) = index_of(slots.as_slice(), slot) {
+        slots.swap_remove(index);
+    }
+}
+
+// Two slots, in an allocation of their own.
+fn pair(alloc: Global, first: usize, second: usize) -> Result<Box<Vec<usize>>, Memory>
+    ensures { IfOk result (λ list. list.value.items ≡ first ∷ second ∷ []) }
+{
+    let list = Vec::from_slice(alloc, &[first, second])?;
+    Ok(Box::new(alloc, list)?)
+}
+
 impl Bucket {
     /// The bucket with this one slot. Takes no memory.
-    pub fn with_slot(alloc: Global, slot: usize) -> Bucket
+    pub fn with_slot(slot: usize) -> Bucket
         ensures { result ≡ slot ∷ [] }
     {
         Bucket {
-            slots: SmallVec::from_buf(alloc, [slot]),
+            slots: Slots::One(slot),
         }
     }
 
@@ -45,15 +73,23 @@ impl Bucket {
     pub fn slots(&self) -> &[usize]
         ensures { result.now ≡ self.now }
     {
-        self.slots.as_slice()
+        match &self.slots {
+            Slots::None => &[],
+            Slots::One(slot) => from_ref(slot),
+            Slots::Many(list) => list.as_slice(),
+        }
     }
 
     /// Adds a slot. `Memory` (90) if there is no room for it; the bucket is then unchanged.
-    pub fn add(&mut self, slot: usize) -> Result<(), Memory>
+    pub fn add(&mut self, alloc: Global, slot: usize) -> Result<(), Memory>
         ensures ok { OnOk result (self.new ≡ self.old ++ slot ∷ []) }
         ensures err { OnErr result (self.new ≡ self.old) }
     {
-        self.slots.push(slot)?;
+        match &mut self.slots {
+            Slots::None => self.slots = Slots::One(slot),
+            Slots::One(first) => self.slots = Slots::Many(pair(alloc, *first, slot)?),
+            Slots::Many(list) => list.push(slot)?,
+        }
         Ok(())
     }
 
@@ -62,8 +98,9 @@ impl Bucket {
         requires { 0 < times self.old slot }
         ensures { (s : ℕ) → times self.new s + (if slot == s then 1 else 0) ≡ times self.old s }
     {
-        if let Some(index) = index_of(self.slots.as_slice(), slot) {
-            self.slots.swap_remove(index);
+        match &mut self.slots {
+            Slots::Many(list) => remove_from(list, slot),
+            _ => self.slots = Slots::None,
         }
     }
 
@@ -71,6 +108,6 @@ impl Bucket {
     pub fn is_empty(&self) -> bool
         ensures { IsTrue result ↔ (self.now ≡ []) }
     {
-        self.slots.is_empty()
+        self.slots().is_empty()
     }
 }

@@ -9,6 +9,7 @@ mod bucket;
 mod bytes;
 mod index;
 mod pool;
+mod prefix;
 mod slot;
 mod stored;
 

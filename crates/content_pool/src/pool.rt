@@ -1,8 +1,8 @@
 //! The pool of contents that all tenants share, with a count of holds for each content.
 //!
-//! A content has one slot, from its first `put` until its last hold is released. The object name
-//! leads to a bucket of slots, and in the bucket kind and bytes decide, so nothing is assumed about
-//! collisions. The pool does not know who holds a slot, or whether the caller still has it.
+//! A content has one slot, from its first `put` until its last hold is released. The first bytes
+//! of the object name lead to a bucket of slots, and in the bucket kind and bytes decide, so nothing
+//! is assumed about collisions. The pool does not know who holds a slot, or whether the caller still has it.
 //!
 //! `put` of a blob `a` answers a slot. `put` of `a` again answers the same slot, which is then held
 //! twice. After two releases the slot is free, and the next new content is stored there.
@@ -21,6 +21,7 @@ ghost use Rattle.content_pool.specs.LiveContents.{live_contents, stored_sizes, L
 use crate::bucket::Bucket;
 use crate::bytes::Bytes;
 use crate::index::{forget, note};
+use crate::prefix::Prefix;
 use crate::slot::Slot;
 use crate::stored::Stored;
 use git_model::Kind;
@@ -40,7 +41,7 @@ pub struct Pool<N: Naming> {
     alloc: Global,
     naming: N,
     cells: Slab<Stored>,
-    buckets: HashMap<Name, Bucket>,
+    buckets: HashMap<Prefix, Bucket>,
 }
 
 impl<N: Naming> Model for Pool<N> {
@@ -188,7 +189,7 @@ impl<N: Naming> Pool<N> {
             return;
         }
         let given_up = self.cells.remove(slot.key);
-        forget(&mut self.buckets, given_up.id, slot.key);
+        forget(&mut self.buckets, given_up.prefix, slot.key);
     }
 
     /// The kind and the bytes of the content in a live slot. Takes no memory.
@@ -219,7 +220,8 @@ impl<N: Naming> Pool<N> {
             MatchOption result (IsAbsent self.now c)
             (λ slot. IsLive self.now slot × (content self.now slot ≡ c)) }
     {
-        let Some(bucket) = self.buckets.get(&id) else {
+        let prefix = Prefix::of(&id);
+        let Some(bucket) = self.buckets.get(&prefix) else {
             return None;
         };
         let key = key_of(&self.cells, bucket.slots(), kind, bytes)?;
@@ -237,9 +239,10 @@ impl<N: Naming> Pool<N> {
     {
         self.cells.reserve(1)?;
         let key = self.cells.vacant_key();
-        note(self.alloc, &mut self.buckets, id, key)?;
+        let prefix = Prefix::of(&id);
+        note(self.alloc, &mut self.buckets, prefix, key)?;
         self.cells.insert_reserved(Stored {
-            id,
+            prefix,
             kind,
             bytes,
             holds: 1,

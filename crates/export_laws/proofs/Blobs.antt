@@ -19,6 +19,7 @@ use Rattle.export_laws.proofs.Acts.{asked}
 use Rattle.export_laws.proofs.Known.{IsKnown, known}
 use Rattle.export_laws.proofs.MarksSet.{mark-room}
 use Rattle.export_laws.proofs.Next.{reached-last, tags-of-other, told-next}
+use Rattle.export_laws.proofs.OrderNames.{added-named}
 use Rattle.export_laws.proofs.Storing.{IsStored, stored}
 
 -- the command is not whole yet
@@ -79,5 +80,6 @@ module _ (digest : List ℕ → List ℕ) (repository : Repository) (good : AreO
         all.branches
         (all.tags
         ∙ sym (ap tags_of (reached-last repository first o reached)
-        ∙ tags-of-other (reached_among repository first) o refl));
+        ∙ tags-of-other (reached_among repository first) o refl)) reached
+        (added-named repository.objects id (content_from kind.Blob bytes) told.objects what.named);
   }

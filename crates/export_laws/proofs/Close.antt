@@ -24,7 +24,7 @@ use Rattle.export_text.specs.ExportActs.{number_of}
 use Rattle.export_text.specs.ExportItems.{scratch}
 use Rattle.export_laws.specs.Commits.{commit_told, workspace_with}
 use Rattle.export_laws.specs.Told.{AreTold, Told, reached_among, tags_of, workspace_of}
-use Rattle.export_laws.proofs.CloseContents.{closed-itself, left, left-has, left-kept, left-of}
+use Rattle.export_laws.proofs.CloseContents.{closed-itself, left, left-has, left-kept, left-of, left-order}
 use Rattle.export_laws.proofs.Known.{IsKnown, known}
 use Rattle.export_laws.proofs.MarksSet.{mark-room}
 use Rattle.export_laws.proofs.Next.{reached-last, tags-of-other, told-next}
@@ -97,4 +97,5 @@ module _ (digest : List ℕ → List ℕ) (repository : Repository) (good : AreO
       refl (inr (At id, refl))
       (all.tags
       ∙ sym (ap tags_of (reached-last repository first o reached)
-      ∙ tags-of-other (reached_among repository first) o refl))
+      ∙ tags-of-other (reached_among repository first) o refl)) reached
+      (left-order digest repository good first id bytes what reached told.objects all.objects)

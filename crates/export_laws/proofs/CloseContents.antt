@@ -1,5 +1,5 @@
 -- A reached commit that is told ends as itself: its trees and its contents are those that it had.
-use Rattle.std.proofs.Common.{◌≡◌, ℕ, true, List, Option, None, Some, Result, Ok, sym, ap, ◌∙◌}
+use Rattle.std.proofs.Common.{◌≡◌, ℕ, true, List, [], ◌∷◌, Option, None, Some, Result, Ok, sym, ap, ◌∙◌}
 use Rattle.std.specs.Option.{option_map}
 use Rattle.git_model.specs.declared.kind.Kind.TheVariants as kind
 use Rattle.git_model.specs.Commit.{Commit, commit_contents}
@@ -26,11 +26,14 @@ use Rattle.open_commits.specs.Faults.{and_then}
 use Rattle.open_commits.specs.OpenCommit.{OpenCommit}
 use Rattle.open_commits.specs.Storing.{stored as stored_by, stored_or, trees_or, trees_stored}
 use Rattle.export_laws.specs.Commits.{commit_told}
+use Rattle.export_laws.specs.Order.{names_with, trees_of, with_named}
 use Rattle.export_laws.specs.Told.{AreOf}
 use Rattle.export_laws.proofs.CloseStored.{AreStored, trees-stored}
 use Rattle.export_laws.proofs.CloseTrees.{trees-reached}
 use Rattle.export_laws.proofs.Known.{IsEarlier, IsKnown, reached-on}
 use Rattle.export_laws.proofs.OpenTrees.{files-listed}
+use Rattle.export_laws.proofs.OrderNames.{added-named, named-both}
+use Rattle.export_laws.proofs.OrderStored.{stored-trees}
 use Rattle.export_laws.proofs.Storing.{IsStored, object_of, stored}
 
 -- the bytes of a commit are those of what they read as
@@ -146,6 +149,15 @@ module _ (digest : List ℕ → List ℕ) (repository : Repository) (good : AreO
 
     pub left-of : AreOf repository more
     left-of = now.of
+
+    -- in which order they came
+    pub left-order : more ≡ with_named os (names_with os (object_of id (content_from kind.Commit bytes))) held
+    left-order =
+        ap (with_object id (content_from kind.Commit bytes))
+        (stored-trees digest repository good c.tree fs lists
+        (trees-reached digest repository good c.tree fs tree-reached lists) held)
+        ∙ added-named os id (content_from kind.Commit bytes) (with_named os (trees_of os c.tree) held) what.named
+        ∙ sym (named-both os (trees_of os c.tree) (id ∷ []) held)
 
     pub left-has : object_named id more ≡ Some (content_from kind.Commit bytes)
     left-has = now.named

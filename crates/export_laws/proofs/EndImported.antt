@@ -79,5 +79,6 @@ module _ (digest : List ℕ → List ℕ) (names : AnswersNames digest) (reposit
       refs = refs.refs;
       whole = subst (HasReached repository) (sym refs.objects) saved.whole;
       only = subst (AreOf repository) (sym refs.objects) saved.tells.objects;
+      order = refs.objects ∙ saved.tells.order;
     };
   }

@@ -19,11 +19,13 @@ use Rattle.stream_state.specs.Tags.{tag_limit}
 use Rattle.export_text.specs.ExportActs.{acts_of_object}
 use Rattle.export_text.specs.Reached.{reached_tags}
 use Rattle.export_laws.specs.Leaving.{Leaves, nothing}
+use Rattle.export_laws.specs.Order.{names_by, stored_with, with_named}
 use Rattle.export_laws.specs.Told.{AreTold, IsToldNext, Told, reached_among, tags_of, workspace_of}
 use Rattle.export_laws.proofs.Acts.{both}
 use Rattle.export_laws.proofs.Blobs.{blob-told}
 use Rattle.export_laws.proofs.CloseTold.{commit-told}
 use Rattle.export_laws.proofs.Next.{reached-last, tags-of-other}
+use Rattle.export_laws.proofs.OrderNames.{stored-last}
 use Rattle.export_laws.proofs.StaySound.{leaves-sound}
 use Rattle.export_laws.proofs.StayWell.{object-well}
 use Rattle.export_laws.proofs.Storing.{found-last}
@@ -36,13 +38,16 @@ module _ (repository : Repository) (first : List Object) (o : Object) (told : To
   passed-over : ((content : Content) → content ≡ o.content → is_referred_to repository o.id ≡ true
       → content.kind ≢ kind.Tree → ⊥)
       → tags_of (reached_among repository (first ++ o ∷ [])) ≡ tags_of (reached_among repository first)
+      → stored_with repository.objects (reached_among repository (first ++ o ∷ []))
+      ≡ stored_with repository.objects (reached_among repository first)
       → AreTold repository (first ++ o ∷ []) told
-  passed-over never tags = record {
+  passed-over never tags order = record {
     objects = all.objects;
     each = λ x d found reached other. found-last first o x d found
         (λ before. all.each x d before reached other)
         (λ same content.
         absurd (never d content (ap (is_referred_to repository) (sym same) ∙ reached) other));
+    order = all.order ∙ sym order;
     few =
         let few = all.few in let len = length-append first (o ∷ []) in omega (arith, few, len);
     branches = all.branches;
@@ -53,12 +58,16 @@ module _ (repository : Repository) (first : List Object) (o : Object) (told : To
   pub unreached : is_referred_to repository o.id ≡ false → AreTold repository (first ++ o ∷ []) told
   unreached nay =
       passed-over (λ d content reached other. false≢true (sym nay ∙ reached))
-      (ap tags_of (filter-append (λ (x : Object). is_referred_to repository x.id) first (o ∷ [])
-      ∙ ap (λ (l : List Object). reached_among repository first ++ l) none
-      ∙ append-nil (reached_among repository first)))
+      (ap tags_of same) (ap (stored_with repository.objects) same)
     where
       none : reached_among repository (o ∷ []) ≡ []
       none = rw nay refl
+
+      same : reached_among repository (first ++ o ∷ []) ≡ reached_among repository first
+      same =
+          filter-append (λ (x : Object). is_referred_to repository x.id) first (o ∷ [])
+          ∙ ap (λ (l : List Object). reached_among repository first ++ l) none
+          ∙ append-nil (reached_among repository first)
 
   -- a tree, which is told with the commits that have it
   pub passed-tree : is_referred_to repository o.id ≡ true → o.content.kind ≡ kind.Tree
@@ -67,6 +76,10 @@ module _ (repository : Repository) (first : List Object) (o : Object) (told : To
       passed-over (λ d content again other. other (ap (λ (c : Content). c.kind) content ∙ tree))
       (ap tags_of (reached-last repository first o reached)
       ∙ tags-of-other (reached_among repository first) o (ap (λ (k : Kind). no_tag k) tree))
+      (ap (stored_with repository.objects) (reached-last repository first o reached)
+      ∙ stored-last repository.objects (reached_among repository first) o
+      ∙ ap (λ (k : Kind). with_named repository.objects (names_by repository.objects o.id k o.content.bytes)
+      (stored_with repository.objects (reached_among repository first))) tree)
     where
       no_tag : Kind → Bool
       no_tag k = not (is_no_tag k)

@@ -78,6 +78,7 @@ none-told repository = record {
     distinct = tt;
   };
   each = λ id c e reached other. let none = nothing_named id in cc;
+  order = refl;
   few = omega arith;
   branches = inl refl;
   tags = refl;

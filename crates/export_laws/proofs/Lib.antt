@@ -3,6 +3,7 @@ pub mod Room
 pub mod Storing
 pub mod MarksSet
 pub mod Known
+pub mod OrderNames
 pub mod Next
 pub mod Blobs
 pub mod Tags
@@ -15,6 +16,11 @@ pub mod OpenParents
 pub mod OpenChanges
 pub mod OpenTold
 pub mod CloseTrees
+pub mod OrderTrees
+pub mod OrderStored
+pub mod OrderWhole
+pub mod OrderLaws
+pub mod OrderPlaces
 pub mod CloseStored
 pub mod CloseContents
 pub mod Close

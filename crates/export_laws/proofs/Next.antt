@@ -10,8 +10,10 @@ use Rattle.stream_state.specs.Marks.{with_mark}
 use Rattle.stream_state.specs.Tags.{PendingTags}
 use Rattle.export_text.specs.ExportActs.{number_of}
 use Rattle.export_text.specs.Reached.{is_tag, ref_of_tag}
+use Rattle.export_laws.specs.Order.{names_with, stored_with, with_named}
 use Rattle.export_laws.specs.Told.{AreOf, AreTold, IsScratchAlone, Told, reached_among, tags_of}
 use Rattle.export_laws.proofs.MarksSet.{mark-kept, mark-set, marks-longer}
+use Rattle.export_laws.proofs.OrderNames.{stored-last}
 use Rattle.export_laws.proofs.Storing.{found-last, named-longer}
 
 -- ---- the tags that wait
@@ -59,8 +61,10 @@ pub told-next : (repository : Repository) (first rest : List Object) (o : Object
     → next.marks ≡ with_mark old.marks (Some (number_of repository.objects o.id)) o.content.kind o.id
     → IsScratchAlone next.branches
     → next.tags ≡ tags_of (reached_among repository (first ++ o ∷ []))
+    → is_referred_to repository o.id ≡ true
+    → next.objects ≡ with_named repository.objects (names_with repository.objects o) old.objects
     → AreTold repository (first ++ o ∷ []) next
-told-next repository first rest o old next is here told of kept named marks branches tags = record {
+told-next repository first rest o old next is here told of kept named marks branches tags reached order = record {
   objects = of;
   each = λ x d found reached other. found-last first o x d found
       (λ before.
@@ -73,6 +77,11 @@ told-next repository first rest o old next is here told of kept named marks bran
         object = ap (λ (y : List ℕ). object_named y next.objects) same ∙ named ∙ ap Some (sym content);
         mark = rw (marks, same, content) (mark-set old.marks (number_of repository.objects o.id) o.content.kind o.id);
       });
+  order =
+      order
+      ∙ ap (with_named repository.objects (names_with repository.objects o)) told.order
+      ∙ sym (stored-last repository.objects (reached_among repository first) o)
+      ∙ ap (stored_with repository.objects) (sym (reached-last repository first o reached));
   few =
       let longer = marks-longer old.marks (number_of repository.objects o.id) o.content.kind o.id in
       let len = length-append first (o ∷ []) in

@@ -26,7 +26,7 @@ use Rattle.stream_state.specs.Faults.{and_then}
 use Rattle.import_session.specs.Faults.{changed_or}
 use Rattle.import_session.specs.Meaning.{after_act}
 use Rattle.import_session.specs.Workspace.{Workspace, quiet}
-use Rattle.export_text.specs.ExportActs.{act_of_file, asks, dataref, number_of}
+use Rattle.export_text.specs.ExportActs.{act_of_file, asks, dataref}
 use Rattle.export_laws.specs.Leaving.{Leaves, nothing}
 use Rattle.export_laws.specs.Putting.{Puts, nothing as none_put, first_file}
 use Rattle.export_laws.proofs.Acts.{asked}

@@ -24,6 +24,7 @@ use Rattle.export_laws.specs.Told.{AreTold, IsThere, IsToldNext, Told, reached_a
 use Rattle.export_laws.proofs.Known.{IsEarlier, IsKnown, known, reached-on}
 use Rattle.export_laws.proofs.MarksSet.{mark-room, named-by-mark}
 use Rattle.export_laws.proofs.Next.{reached-last, tags-of-tag, told-next}
+use Rattle.export_laws.proofs.OrderNames.{added-named}
 use Rattle.export_laws.proofs.Storing.{IsStored, stored}
 use Rattle.export_laws.proofs.Tags.{MayTag, tag-leaves}
 
@@ -138,5 +139,6 @@ module _ (digest : List ℕ → List ℕ) (repository : Repository) (good : AreO
         all.branches
         (ap (λ (l : PendingTags). l ++ (tag_ref t.name, id) ∷ []) all.tags
         ∙ sym (ap tags_of (reached-last repository first o reached)
-        ∙ tags-of-tag (reached_among repository first) o refl));
+        ∙ tags-of-tag (reached_among repository first) o refl)) reached
+        (added-named repository.objects id (content_from kind.Tag bytes) told.objects what.named);
   }

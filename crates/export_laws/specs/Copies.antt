@@ -10,6 +10,7 @@ use Rattle.stream_lex.specs.Headers.{largest_data}
 use Rattle.export_text.specs.Limits.{FitsLine, FitsTag}
 use Rattle.export_text.specs.Reached.{is_exportable, reached_tags}
 use Rattle.stream_state.specs.Tags.{tag_limit}
+use Rattle.export_laws.specs.Order.{copied_objects}
 use Rattle.export_laws.specs.Told.{AreOf}
 use Rattle.export_laws.specs.Whole.{HasReached}
 
@@ -37,8 +38,9 @@ pub record CanBeCopied (repository : Repository) : Type 0 where
   pub few_tags : length (reached_tags repository) ≤ tag_limit
 
 -- A copy has the same refs and HEAD, each object that these reach, with the same name and content,
--- and no other object.
+-- and no other object. Its objects come in the order of storing.
 pub record IsCopyOf (repository left : Repository) : Type 0 where
   pub refs : left.refs ≡ repository.refs
   pub whole : HasReached repository left.objects
   pub only : AreOf repository left.objects
+  pub order : left.objects ≡ copied_objects repository

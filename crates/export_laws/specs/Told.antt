@@ -21,6 +21,7 @@ use Rattle.stream_state.specs.StreamOf.{StreamOf}
 use Rattle.open_commits.specs.OpenCommit.{OpenCommit}
 use Rattle.import_session.specs.Workspace.{Workspace}
 use Rattle.export_laws.specs.Leaving.{Leaves}
+use Rattle.export_laws.specs.Order.{stored_with}
 
 -- What changes of a workspace while objects are told, as it is between two objects: the objects,
 -- marks, branches and pending tags. No command is open then.
@@ -88,12 +89,14 @@ tags_of os = map (λ o. (ref_of_tag o, o.id)) (filter is_tag os)
 
 -- The first objects of a repository were told. Those that a ref reaches are there with their marks,
 -- except trees. Nothing is there that the repository does not have, or that no ref reaches. The
--- tags wait for the next checkpoint.
+-- objects came in the order of the repository, each commit after its trees. The tags wait for the
+-- next checkpoint.
 pub record AreTold (repository : Repository) (first : List Object) (told : Told) : Type 0 where
   pub objects : AreOf repository told.objects
   pub each : (id : List ℕ) (content : Content) → object_named id first ≡ Some content
       → is_referred_to repository id ≡ true → content.kind ≢ kind.Tree
       → IsThere repository.objects told id content
+  pub order : told.objects ≡ stored_with repository.objects (reached_among repository first)
   pub few : length told.marks ≤ length first
   pub branches : IsScratchAlone told.branches
   pub tags : told.tags ≡ tags_of (reached_among repository first)

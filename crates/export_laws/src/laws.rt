@@ -1,13 +1,17 @@
 //! What the acts of exported objects leave when they are carried out one after another, in the
 //! stream of a repository that was empty.
 
-ghost use Rattle.std.specs.Prelude.{◌≡◌, ◌↔◌, ℕ, ◌≤◌, List, [], ◌∷◌, ◌++◌, length, true, Option};
+ghost use Rattle.std.specs.Prelude.{◌≡◌, ◌↔◌, ℕ, ◌<◌, ◌≤◌, List, [], ◌∷◌, ◌++◌, length, take};
+ghost use Rattle.std.specs.Prelude.{true, nat_eq, if◌then◌else◌, All, Option, Some, is_some};
 ghost use Rattle.std.specs.FinMap as finmap;
+ghost use Rattle.std.specs.List.{flat_map, list_any, range_with_len};
 ghost use Rattle.git_model.specs.declared.kind.Kind.TheVariants as kind;
 ghost use Rattle.git_model.specs.Content.{content_from};
 ghost use Rattle.git_model.specs.GoodRepository.{AreObjects, AreRefs};
 ghost use Rattle.git_model.specs.Reach.{is_referred_to};
-ghost use Rattle.git_model.specs.Repository.{Object, Repository};
+ghost use Rattle.git_model.specs.References.{kind_named, object_at};
+ghost use Rattle.git_model.specs.Repository.{Object, Repository, object_named};
+ghost use Rattle.git_model.specs.StoredPath.{entries_of};
 ghost use Rattle.git_names.specs.Naming.{AnswersNames};
 ghost use Rattle.tenant_tables.specs.Sums.{TreesFit};
 ghost use Rattle.file_maps.specs.FileMap.{AreFiles, FileMap, listed};
@@ -18,6 +22,8 @@ ghost use Rattle.stream_state.specs.Tags.{tag_limit};
 ghost use Rattle.import_session.specs.Workspace.{Workspace};
 ghost use Rattle.export_laws.specs.Copies.{CanBeCopied};
 ghost use Rattle.export_laws.specs.Ends.{AreRefsLeft, IsImported};
+ghost use Rattle.export_laws.specs.Order.{AreWhole, HasDirectories, IsTreeAdded, objects_at};
+ghost use Rattle.export_laws.specs.Order.{trees_by, trees_of, with_named};
 ghost use Rattle.export_laws.specs.Putting.{Puts};
 ghost use Rattle.export_laws.specs.Saved.{IsSaved};
 ghost use Rattle.export_laws.specs.Told.{AreTold, IsToldNext, Told, workspace_of};
@@ -110,7 +116,9 @@ pub fn refs_are_left()
 /// fast-import` would import it: no command is refused, nothing is printed, and the stream ends
 /// well. It leaves the refs and HEAD of the repository and no other refs; each object that these
 /// reach, with the same name, kind and bytes; and no other object. So each commit, tree, blob and
-/// tag has its name again.
+/// tag has its name again. They come in the order of the repository, but trees: those of a commit
+/// come right before it, unless they came earlier, each after those of its directories
+/// (`copied_objects`).
 ///
 /// The premises: the repository is sound, as every repository is that a stream leaves; no line and
 /// no data of its export is longer than a stream may have them; its refs are few enough for an
@@ -119,4 +127,40 @@ pub fn exports_are_imported()
     ensures { (digest : List ℕ → List ℕ) → AnswersNames digest → (repository : Repository)
         → IsSoundRepository digest repository → CanBeCopied repository
         → IsImported digest repository }
+{}
+
+/// The trees that come with a tree of a good repository are those that come with its directories,
+/// in the order of its entries, and then the tree itself (`order`).
+///
+/// If each tree among some objects has those of its directories there, a tree that is there adds
+/// nothing, nor do the trees below it. After any tree is added, with those below it, it is there,
+/// and again each tree has those of its directories there (`added`). That also stays true if an
+/// object is added whose directories are there, as it is if it has none (`whole`).
+pub fn trees_come_once()
+    ensures order { (digest : List ℕ → List ℕ) (os : List Object) → AreObjects digest os
+        → (tree : List ℕ) → kind_named tree os ≡ Some kind.Tree → trees_of os tree
+        ≡ flat_map (λ e. trees_by e.mode (trees_of os e.id)) (entries_of os tree) ++ tree ∷ [] }
+    ensures added { (digest : List ℕ → List ℕ) (os : List Object) → AreObjects digest os
+        → (tree : List ℕ) → kind_named tree os ≡ Some kind.Tree
+        → (held : List Object) → AreWhole os held → IsTreeAdded os held tree }
+    ensures whole { (os held : List Object) (id : List ℕ) → AreWhole os held
+        → HasDirectories held (entries_of os id) → AreWhole os (with_named os (id ∷ []) held) }
+{}
+
+/// The objects that a copy has so far can be kept as places in the repository: an object is there
+/// if its place is one of them (`there`), and adding it adds its place, unless that is there
+/// (`added`). The objects at the first places are the first objects (`first`).
+pub fn objects_are_added_by_place()
+    ensures there { (digest : List ℕ → List ℕ) (os : List Object) → AreObjects digest os
+        → (place : ℕ) → place < length os
+        → (places : List ℕ) → All (λ p. p < length os) places
+        → is_some (object_named (object_at place os).id (objects_at os places))
+        ≡ list_any (nat_eq place) places }
+    ensures added { (digest : List ℕ → List ℕ) (os : List Object) → AreObjects digest os
+        → (place : ℕ) → place < length os
+        → (places : List ℕ) → All (λ p. p < length os) places
+        → with_named os ((object_at place os).id ∷ []) (objects_at os places) ≡ objects_at os
+        (if list_any (nat_eq place) places then places else places ++ place ∷ []) }
+    ensures first { (os : List Object) (n : ℕ) → n ≤ length os
+        → objects_at os (range_with_len 0 n) ≡ take n os }
 {}

@@ -1,8 +1,9 @@
 //! The contents of commits: "commit object" in gitglossary(7).
 
-ghost use Rattle.std.specs.Prelude.{◌≡◌, ◌≢◌, ◌++◌, length, take, IfSome, IfOk, IsNone, IsSomeAnd, OnOk, OnErr, codes};
+ghost use Rattle.std.specs.Prelude.{◌≡◌, ◌≢◌, ℕ, List, ◌++◌, length, take, Some, IfSome, IfOk, IsNone, IsSomeAnd, OnOk, OnErr, codes};
 ghost use Rattle.std.specs.List.{flat_map};
 ghost use Rattle.std.specs.Option.{option_map, option_copied};
+ghost use Rattle.git_model.specs.ObjectName.{IsObjectName};
 ghost use Rattle.git_model.specs.Commit.{Commit, CanWriteCommit, commit_contents, name_line};
 ghost use Rattle.git_model.specs.CommitReading.{commit_read};
 ghost use Rattle.git_objects.specs.Parts.{commit_of};
@@ -143,4 +144,23 @@ pub fn read_commit(alloc: Global, contents: &[u8]) -> Result<Option<CommitParts<
         encoding,
         message,
     }))
+}
+
+/// Reads the first line of the contents of a commit, the name of its tree: "commit object" in
+/// gitglossary(7). The other lines are not read. Takes no memory.
+///
+/// `None` if the contents do not begin with `tree`, a space, 40 lowercase hexadecimal digits and a
+/// line end. The contents of a commit that can be written begin so.
+pub fn read_commit_tree(contents: &[u8]) -> Option<Name>
+    ensures found { IfSome result (λ tree. IsObjectName tree × ((rest : List ℕ)
+        × (contents.now ≡ name_line (codes "tree ") tree ++ rest))) }
+    ensures only { (tree rest : List ℕ) → IsObjectName tree
+        → contents.now ≡ name_line (codes "tree ") tree ++ rest → result ≡ Some tree }
+    ensures commit { (c : Commit) → CanWriteCommit c → contents.now ≡ commit_contents c
+        → result ≡ Some c.tree }
+{
+    let Some(first) = take_name_line(b"tree ", contents) else {
+        return None;
+    };
+    Some(first.0)
 }

@@ -15,7 +15,7 @@ mod tree;
 mod tree_entry;
 
 pub use byte_devices::{Counted, DeviceFault, FailingReader, FailingWriter, write_all};
-pub use commit::{CommitParts, read_commit, write_commit};
+pub use commit::{CommitParts, read_commit, read_commit_tree, write_commit};
 pub use git_model::{FileMode, Kind};
 pub use git_names::{
     Ident, IdentFault as Fault, Memory, Name, Naming, Sha1Naming, TailNaming, has_twenty_bytes,

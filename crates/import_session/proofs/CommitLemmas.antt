@@ -10,7 +10,7 @@ use Rattle.file_maps.specs.declared.fault.Fault.{Fault as FilesFault}
 use Rattle.file_maps.specs.Edits.{put_fault}
 use Rattle.file_maps.specs.FileMap.{FileMap}
 use Rattle.file_maps.specs.StoredFiles.{commit_map, stored_files, tree_of_commit}
-use Rattle.kept_files.specs.declared.kept_files.Kept.{Kept}
+use Rattle.kept_files.specs.declared.kept_files.KeptCommit.{KeptCommit}
 use Rattle.open_commits.specs.declared.fault.Fault.{Fault as CommitFault}
 use Rattle.open_commits.specs.declared.fault.Fault.TheVariants as commit_fault
 use Rattle.open_commits.specs.declared.open_commit.OpenCommit.{OpenCommit as LentCommit}
@@ -163,11 +163,6 @@ begun_on_first os None header message files = refl
 begun_on_first os (Some id) header message files =
     ap changed_or (started_alike os id message header files)
 
-pub begun_refused : (wanted started : Result OpenCommit Fault) (e f : Fault) → f ≡ e
-    → wanted ≡ started → (e ≢ fault.Memory → started ≡ Err e) → f ≢ fault.Memory → wanted ≡ Err f
-begun_refused wanted started e f same is refused other =
-    rw (same, is, refused (rw same at other)) refl
-
 pub opened_by : (workspace : Workspace) (stood first : Option (List ℕ)) (new : OpenCommit)
     (branches : Branches) (result : Result LentCommit Fault) → stood ≡ first
     → branch_set workspace.stream.branches new.header.ref (tip_for first) ≡ Ok branches
@@ -212,7 +207,7 @@ opened_refused workspace new mark message said header e f out same told refused 
     (λ other. rw (told, same, refused (rw same at other)) refl)
 
 pub opened_well : (state left : StreamState) (pool : Cells) (table : View) (refs : RefStore)
-    (branches : Branches) (spent : OpenCommand HeldCommit) (kept : List Kept) (mark : Option ℕ)
+    (branches : Branches) (spent : OpenCommand HeldCommit) (kept : List KeptCommit) (mark : Option ℕ)
     (message : List ℕ) (said : CommitHeader) (header : Header) (next : HeldCommit) (out : List ℕ)
     → header_said mark said ≡ Ok header
     → opened_with (workspace_in state pool table refs) message header

@@ -12,8 +12,8 @@ use Rattle.tenant_tables.specs.View.{View}
 use Rattle.file_maps.specs.FileMap.{FileMap}
 use Rattle.tree_build.specs.Branch.{Branch, IsBranch, files_in}
 use Rattle.tree_build.proofs.Growing.{branch_stays}
-use Rattle.kept_files.specs.declared.kept_files.Kept.{Kept}
-use Rattle.kept_files.specs.Kept.{AreBranches}
+use Rattle.kept_files.specs.declared.kept_files.KeptCommit.{KeptCommit}
+use Rattle.kept_files.specs.KeptCommits.{AreBranches}
 use Rattle.open_commits.specs.declared.fault.Fault.{Fault as CommitFault}
 use Rattle.open_commits.specs.Calls.{AddsOnly}
 use Rattle.open_commits.specs.OpenCommit.{HeldCommit, OpenCommit, Stands, commit_in}
@@ -42,7 +42,7 @@ module _ (digest : List ℕ → List ℕ) (content : Content) (os more : List Ob
       (store_fault (name_by digest content) content os) is)
       (branch_stays (name_by digest content) content os b stands)
 
-  kept_grown : (kept : List Kept) → AreBranches os kept → AreBranches more kept
+  kept_grown : (kept : List KeptCommit) → AreBranches os kept → AreBranches more kept
   kept_grown kept stand =
       All-weaker (λ commit. IsBranch os commit.files) (λ commit. IsBranch more commit.files)
       (λ commit stands. (branch_grown commit.files stands).0) kept stand
@@ -72,7 +72,7 @@ module _ (digest : List ℕ → List ℕ) (content : Content) (os more : List Ob
 
 -- the files that are kept stay branches where objects are only added
 pub kept_stand : (p : Cells) (t : View) (q : Cells) (u : View) → AddsOnly p t q u
-    → (kept : List Kept) → AreBranches (objects p t.entries) kept
+    → (kept : List KeptCommit) → AreBranches (objects p t.entries) kept
     → AreBranches (objects q u.entries) kept
 kept_stand p t q u adds kept stand =
     All-weaker (λ commit. IsBranch (objects p t.entries) commit.files)

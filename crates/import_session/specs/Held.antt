@@ -4,7 +4,7 @@ use Rattle.git_model.specs.Repository.{Object}
 use Rattle.content_pool.specs.Pool.{Cells}
 use Rattle.tenant_tables.specs.Objects.{objects}
 use Rattle.tenant_tables.specs.View.{View}
-use Rattle.kept_files.specs.Kept.{AreBranches}
+use Rattle.kept_files.specs.KeptCommits.{AreBranches}
 use Rattle.open_commits.specs.OpenCommit.{HeldCommit, Stands}
 use Rattle.stream_state.specs.OpenCommand.{OpenCommand, Changes, Inline}
 use Rattle.import_session.specs.Session.{StreamState}

@@ -15,7 +15,7 @@ use Rattle.stream_state.specs.declared.fault.Fault.TheVariants as fault
 use Rattle.import_session.specs.declared.open_command.OpenCommand.{OpenCommand as LentCommand}
 use Rattle.import_session.specs.declared.open_command.OpenCommand.TheVariants as lent
 use Rattle.import_session.specs.declared.state.StreamState.{StreamState as LentStreamState}
-use Rattle.kept_files.specs.declared.kept_files.Kept.{Kept}
+use Rattle.kept_files.specs.declared.kept_files.KeptCommit.{KeptCommit}
 use Rattle.open_commits.specs.OpenCommit.{HeldCommit, commit_held, commit_in}
 use Rattle.stream_state.specs.Faults.{text_first}
 use Rattle.stream_state.specs.Marks.{Marks}
@@ -29,7 +29,7 @@ use Rattle.import_session.specs.Stream.{Running, Step}
 -- branch, and so are the files of the last commits that ended.
 pub record StreamState : Type 0 where
   pub stream : StreamOf HeldCommit
-  pub kept : List Kept
+  pub kept : List KeptCommit
 
 -- The open command, apart from where it is in memory.
 abbrev pub command_shown : LentCommand → OpenCommand HeldCommit

@@ -1,11 +1,12 @@
 //! How a commit ends: git-fast-import(1), "commit".
 
-ghost use Rattle.std.specs.Prelude.{◌≡◌, ◌≢◌, Ok, Err, MatchResult, OnOk};
+ghost use Rattle.std.specs.Prelude.{◌≡◌, ◌≢◌, List, Ok, Err, MatchResult, OnOk};
 ghost use Rattle.git_model.specs.RefStore.{RefStore};
+ghost use Rattle.git_model.specs.Repository.{Object};
 ghost use Rattle.tenant_tables.specs.Objects.{objects};
 ghost use Rattle.tenant_tables.specs.Room.{HasHoldsLeftBeside};
 ghost use Rattle.tenant_tables.specs.IsBackedBy.{IsBackedBy};
-ghost use Rattle.kept_files.specs.Kept.{AreBranches};
+ghost use Rattle.kept_files.specs.KeptCommits.{AreBranches};
 ghost use Rattle.open_commits.specs.OpenCommit.{shown_in, IsCommitHeld};
 ghost use Rattle.stream_state.specs.OpenCommand.{Nothing};
 ghost use Rattle.import_session.specs.Lent.{Keeps};
@@ -18,6 +19,7 @@ use crate::open_command::OpenCommand;
 use crate::state::StreamState;
 use content_pool::Pool;
 use git_objects::{Kind, Name, Naming};
+use kept_files::KeptFiles;
 use open_commits::OpenCommit;
 use stream_state::branches::Tip;
 use stream_state::fault::Fault;
@@ -50,15 +52,40 @@ fn close_commit<N: Naming>(
 {
     let _within = table.committed_len();
     let mark = commit.header.mark;
-    let branch = commit.header.ref_name.try_clone(state.alloc)?;
     marks::make_room(&mut state.marks, &mark)?;
+    let branch = commit.header.ref_name.try_clone(state.alloc)?;
     let id = match commit.close(pool, table) {
         Ok(id) => id,
-        Err(refusal) => return Err(fault_of(refusal)),
+        Err(refusal) => {
+            drop(branch);
+            return Err(fault_of(refusal));
+        }
     };
     marks::set(&mut state.marks, mark, Kind::Commit, id);
     state.branches.place(branch, Tip::At(id))?;
     Ok(id)
+}
+
+// Keeps the files of a commit that ended under its name. One that was refused is dropped.
+fn keep_files(
+    kept: &mut KeptFiles,
+    commit: OpenCommit,
+    closed: Result<Name, Fault>,
+) -> Result<(), Fault>
+    ensures answer { MatchResult closed (λ _. result ≡ Ok tt) (λ fault. result ≡ Err fault) }
+    ensures branches { (os : List Object) → AreBranches os kept.old
+        → OnOk closed (IsCommitHeld os commit) → AreBranches os kept.new }
+{
+    match closed {
+        Ok(id) => {
+            kept.keep(id, commit.into_files());
+            Ok(())
+        }
+        Err(fault) => {
+            drop(commit);
+            Err(fault)
+        }
+    }
 }
 
 // Ends the open commit, if there is one, and keeps its files for commits that start from it.
@@ -81,12 +108,11 @@ fn close<N: Naming>(
 {
     match state.command.take() {
         OpenCommand::Changes(mut commit) => {
-            let id = close_commit(pool, table, state, &mut commit)?;
-            state.kept.keep(id, commit.into_files());
-            Ok(())
+            let closed = close_commit(pool, table, state, &mut commit);
+            keep_files(&mut state.kept, commit, closed)
         }
         other => {
-            state.command = other;
+            state.command.open(other);
             Ok(())
         }
     }

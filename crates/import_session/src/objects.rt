@@ -19,8 +19,8 @@ use crate::state::StreamState;
 use crate::tags::store_tag;
 use content_pool::Pool;
 use git_objects::{Kind, Naming};
-use indexmap::IndexMap;
-use stream_grammar::{CommitIsh, Ident, Mark, MarkedObject, ObjectCommand};
+use stream_grammar::{CommitIsh, Ident, Mark, ObjectCommand};
+use stream_marks::Marks;
 use stream_state::fault::Fault;
 use stream_state::headers::{TagHeader, set_ident, set_target};
 use stream_state::marks;
@@ -33,7 +33,7 @@ use tenant_tables::Table;
 fn store_marked<N: Naming>(
     pool: &mut Pool<N>,
     table: &mut Table,
-    marks: &mut IndexMap<Mark, MarkedObject>,
+    marks: &mut Marks,
     mark: Option<Mark>,
     contents: &[u8],
 ) -> Result<(), Fault>

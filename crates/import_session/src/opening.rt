@@ -7,7 +7,7 @@ ghost use Rattle.git_model.specs.Repository.{Object};
 ghost use Rattle.tenant_tables.specs.Objects.{objects};
 ghost use Rattle.tenant_tables.specs.IsBackedBy.{IsBackedBy};
 ghost use Rattle.tree_build.specs.Branch.{IsBranch};
-ghost use Rattle.kept_files.specs.Kept.{AreBranches};
+ghost use Rattle.kept_files.specs.KeptCommits.{AreBranches};
 ghost use Rattle.stream_grammar.specs.Acts.{Message};
 ghost use Rattle.open_commits.specs.OpenCommit.{begun, commit_held, header_shown, shown_in, IsCommitHeld};
 ghost use Rattle.stream_state.specs.Branches.{branch_set, tip_commit, tip_for};
@@ -128,8 +128,13 @@ fn begin<N: Naming>(
         (λ commit. IsCommitHeld (objects pool.now table.now.entries) commit) }
 {
     let mut commit = OpenCommit::begin(alloc, header, message, files)?;
-    start(pool, table, first, &mut commit)?;
-    Ok(commit)
+    match start(pool, table, first, &mut commit) {
+        Ok(()) => Ok(commit),
+        Err(fault) => {
+            drop(commit);
+            Err(fault)
+        }
+    }
 }
 
 // Makes the branch one of the stream's, and returns the commit that it was at.
@@ -172,7 +177,13 @@ fn open_with<N: Naming>(
         (λ commit. IsCommitHeld (objects pool.now table.now.entries) commit) }
 {
     let alloc = state.alloc;
-    let first = place_tip(state, &header.ref_name)?;
+    let first = match place_tip(state, &header.ref_name) {
+        Ok(first) => first,
+        Err(fault) => {
+            drop(header);
+            return Err(fault);
+        }
+    };
     let files = take_files(state, &first);
     begin(pool, table, alloc, header, message, first, files)
 }

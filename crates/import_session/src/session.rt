@@ -39,11 +39,23 @@ use tenant_tables::Table;
 ///
 /// Each call borrows the pool, the tenant's table and its refs. They must be the same from the
 /// first call to the last.
-#[derive(Drop)]
 pub struct Session {
     parser: Parser,
     state: StreamState,
     is_done: bool,
+}
+
+// Not derived, so that crates above need not prove again how its parts are dropped.
+impl Drop for Session {
+    fn drop(self) {
+        let Session {
+            parser,
+            state,
+            is_done: _,
+        } = self;
+        drop(parser);
+        drop(state);
+    }
 }
 
 impl Model for Session {
@@ -208,6 +220,7 @@ impl Session {
         };
         let carried = carry_out_done(pool, table, refs, &mut self.state, &done, out);
         self.is_done = is_finished(&carried, &done.act);
+        drop(done);
         carried
     }
 
@@ -265,5 +278,6 @@ impl Session {
         ensures refs { refs.new ≡ refs.old }
     {
         table.roll_back(pool);
+        drop(self);
     }
 }

@@ -8,11 +8,10 @@ ghost use Rattle.import_session.specs.Session.{empty_state, state_shown, state_w
 
 use crate::open_command::OpenCommand;
 use git_objects::Name;
-use indexmap::IndexMap;
 use kept_files::KeptFiles;
 use open_commits::OpenCommit;
 use std::alloc::Global;
-use stream_grammar::{Mark, MarkedObject};
+use stream_marks::Marks;
 use stream_state::branches::Branches;
 use stream_state::head::Head;
 use tenant_refs::RefName;
@@ -21,7 +20,7 @@ use tenant_refs::RefName;
 #[derive(Drop)]
 pub struct StreamState {
     pub alloc: Global,
-    pub marks: IndexMap<Mark, MarkedObject>,
+    pub marks: Marks,
     pub branches: Branches,
     // The tags that wait for the next checkpoint.
     pub tags: Vec<(RefName, Name)>,
@@ -39,7 +38,7 @@ pub fn new_state(alloc: Global) -> StreamState
 {
     StreamState {
         alloc,
-        marks: IndexMap::new(alloc),
+        marks: Marks::new(alloc),
         branches: Branches::new(alloc),
         tags: Vec::new(alloc),
         command: OpenCommand::Nothing,

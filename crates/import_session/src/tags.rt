@@ -2,7 +2,6 @@
 
 ghost use Rattle.std.specs.Prelude.{◌≡◌, ◌<◌, length, List, ℕ, OnOk, OnErr};
 ghost use Rattle.std.specs.Vec.{vec_capacity};
-ghost use Rattle.indexmap.specs.IndexMap.{spare};
 ghost use Rattle.git_model.specs.GoodRepository.{AreObjects};
 ghost use Rattle.content_pool.specs.Pool.{HasHoldsLeft};
 ghost use Rattle.tenant_tables.specs.Objects.{objects};
@@ -41,7 +40,7 @@ fn tagged<N: Naming>(
     ensures tagged { AreObjects N.digest_of (objects pool.now table.now.entries) → Gives result
         (tagged mark.now header.now
         (workspace_in (state_shown state.old) pool.now table.now refs.now)) }
-    ensures mark { OnOk result (0 < spare state.new.marks) }
+    ensures mark { OnOk result (0 < state.new.marks.spare) }
     ensures tag { OnOk result (length state.new.tags.items < vec_capacity state.new.tags) }
     ensures same { state_shown state.new ≡ state_shown state.old }
 {
@@ -80,8 +79,21 @@ pub fn store_tag<N: Naming>(
         OpenCommand::Tag(header) => header,
         other => return Err(other.refusal()),
     };
-    let (target, kind) = tagged(pool, table, refs, state, &header, &mark)?;
-    let id = store_written(pool, table, state.alloc, &header, target, kind, message)?;
+    let (target, kind) = match tagged(pool, table, refs, state, &header, &mark) {
+        Ok(tagged) => tagged,
+        Err(fault) => {
+            drop(header);
+            return Err(fault);
+        }
+    };
+    let stored = store_written(pool, table, state.alloc, &header, target, kind, message);
+    let id = match stored {
+        Ok(id) => id,
+        Err(fault) => {
+            drop(header);
+            return Err(fault);
+        }
+    };
     marks::set(&mut state.marks, mark, Kind::Tag, id);
     state.tags.push((header.ref_name, id)).unwrap();
     Ok(())

@@ -4,8 +4,8 @@ ghost use Rattle.std.specs.Prelude.{◌≡◌, ◌≢◌, ◌≤◌, ◌<◌, �
 ghost use Rattle.git_model.specs.Limits.{files_limit};
 ghost use Rattle.git_model.specs.Repository.{Object};
 ghost use Rattle.tree_build.specs.Branch.{IsBranch};
-ghost use Rattle.kept_files.specs.declared.kept_files.Kept.{Kept as KeptShown};
-ghost use Rattle.kept_files.specs.Kept.{Adds, AreBranches, TakesOut, commits_limit, files_of};
+ghost use Rattle.kept_files.specs.declared.kept_files.KeptCommit.{KeptCommit as KeptCommitShown};
+ghost use Rattle.kept_files.specs.KeptCommits.{Adds, AreBranches, TakesOut, commits_limit, files_of};
 
 use file_maps::FILES_LIMIT;
 use git_objects::Name;
@@ -18,7 +18,7 @@ const COMMITS_LIMIT: usize = 5;
 
 /// A commit that ended, and its files.
 #[derive(Drop)]
-pub struct Kept {
+pub struct KeptCommit {
     /// The object name of the commit.
     pub commit: Name,
     /// Its files. The directories that were read for it are open.
@@ -29,18 +29,25 @@ pub struct Kept {
 ///
 /// There are at most five commits, and together they have at most 1,048,576 files, unless there is
 /// only one.
-#[derive(Drop)]
 pub struct KeptFiles {
-    kept: Vec<Kept>,
+    kept: Vec<KeptCommit>,
+}
+
+// Not derived, so that crates above need not prove again how its parts are dropped.
+impl Drop for KeptFiles {
+    fn drop(self) {
+        let KeptFiles { kept } = self;
+        drop(kept);
+    }
 }
 
 impl Model for KeptFiles {
     ghost use Rattle.std.specs.Prelude.{List};
     ghost use Rattle.std.specs.Coded.{codes};
     ghost use Rattle.tree_build.specs.ShapeCode.{branch_code};
-    ghost use Rattle.kept_files.specs.declared.kept_files.Kept.{Kept};
+    ghost use Rattle.kept_files.specs.declared.kept_files.KeptCommit.{KeptCommit};
 
-    ghost Value = { List Kept };
+    ghost Value = { List KeptCommit };
 
     ghost coded = { Prim.hlevel (codes, branch_code) };
 
@@ -48,7 +55,7 @@ impl Model for KeptFiles {
 }
 
 // How many files the commits have together, or the largest `usize` if there are more.
-fn file_count(kept: &[Kept]) -> usize
+fn file_count(kept: &[KeptCommit]) -> usize
     ensures { result ≡ min (files_of kept.now) (2 ^ 64 - 1) }
 {
     let mut sum: usize = 0;
@@ -59,7 +66,7 @@ fn file_count(kept: &[Kept]) -> usize
 }
 
 // Whether one more commit with so many files may be kept.
-fn has_room(kept: &[Kept], files: usize) -> bool
+fn has_room(kept: &[KeptCommit], files: usize) -> bool
     ensures room { result ≡ true → 0 < length kept.now → (length kept.now < commits_limit)
         × (files_of kept.now + files ≤ files_limit) }
     ensures empty { kept.now ≡ [] → result ≡ true }
@@ -69,7 +76,7 @@ fn has_room(kept: &[Kept], files: usize) -> bool
 }
 
 // Drops the oldest commits until there is room for one more with so many files.
-fn make_room(kept: &mut Vec<Kept>, files: usize)
+fn make_room(kept: &mut Vec<KeptCommit>, files: usize)
     ensures stay { (gone : ℕ) × (kept.new.items ≡ drop gone kept.old.items) }
     ensures room { 0 < length kept.new.items → (length kept.new.items < commits_limit)
         × (files_of kept.new.items + files ≤ files_limit) }
@@ -80,16 +87,16 @@ fn make_room(kept: &mut Vec<Kept>, files: usize)
 }
 
 // Where the files of a commit are, if they are there.
-fn place_of(kept: &[Kept], commit: &Name) -> Option<usize>
+fn place_of(kept: &[KeptCommit], commit: &Name) -> Option<usize>
     ensures found { IfSome result (λ place. (place < length kept.now)
-        × ((other : KeptShown) → (slice_index_or kept.now place other).commit ≡ commit.now)) }
+        × ((other : KeptCommitShown) → (slice_index_or kept.now place other).commit ≡ commit.now)) }
     ensures none { IfNone result (All (λ kept. kept.commit ≢ commit.now) kept.now) }
 {
     kept.iter().position(|kept| kept.commit == *commit)
 }
 
 // Takes out the files of a commit, if they are there.
-fn take_from(kept: &mut Vec<Kept>, commit: &Name) -> Option<Files>
+fn take_from(kept: &mut Vec<KeptCommit>, commit: &Name) -> Option<Files>
     ensures taken { IfSome result (λ files.
         TakesOut (record { commit = commit.now; files = files }) kept.old.items kept.new.items) }
     ensures none { IfNone result (All (λ kept. kept.commit ≢ commit.now) kept.old.items) }
@@ -136,6 +143,6 @@ impl KeptFiles {
             → AreBranches os self.new }
     {
         make_room(&mut self.kept, files.file_count());
-        let _ = self.kept.push(Kept { commit, files });
+        let _ = self.kept.push(KeptCommit { commit, files });
     }
 }

@@ -1,32 +1,19 @@
 -- Numerals, and the numbers that they write.
 use Rattle.std.proofs.Common.{rules, arith, ◌≡◌, ◌<◌, ◌^◌, length, ℕ, true, List, Some, None, refl}
 use Rattle.std.proofs.lemmas.Bool.{lt-ltb, le-leb}
-use Rattle.std.proofs.lemmas.Fmt.{IsAscii-from_digits, decimal_nonempty, digits_decimal, digits_value-decimal, length-decimal-le}
+use Rattle.std.proofs.lemmas.Fmt.{decimal_nonempty, digits_decimal, digits_value-decimal, length-decimal-le}
 use Rattle.std.proofs.Common.{lit<}
 use Rattle.std.proofs.lemmas.Grind.{common_steps}
-use Rattle.std.proofs.lemmas.Str.{IsUtf8-from_ascii}
 use Rattle.std.proofs.lemmas.Str.Parse.{IsNumeralModel, numerals_by_value}
 use Rattle.std.specs.Char.{is_ascii_digit}
 use Rattle.std.specs.Fmt.{decimal}
 use Rattle.std.specs.List.{list_all}
-use Rattle.std.specs.Str.{IsUtf8}
 use Rattle.std.specs.Str.Parse.{digits_value}
 use Rattle.numerals.specs.Numbers.{is_numeral, in_64_bits, number_of}
 
 -- Texts of decimal digits, and the numbers that they write.
 pub decimals : IsNumeralModel (λ ds. list_all is_ascii_digit ds ≡ true) (digits_value 10)
 decimals = numerals_by_value (λ ds. list_all is_ascii_digit ds ≡ true) (search rules)
-
-pub is_numeral-digits : (text : List ℕ) → is_numeral text ≡ true
-    → list_all is_ascii_digit text ≡ true
-is_numeral-digits text is = grind (arith, common_steps)
-
-pub is_numeral-some : (text : List ℕ) → is_numeral text ≡ true → 0 < length text
-is_numeral-some text is = grind (arith, common_steps)
-
-pub IsUtf8-from_numeral : (text : List ℕ) → is_numeral text ≡ true → IsUtf8 text
-IsUtf8-from_numeral text is =
-    IsUtf8-from_ascii text (IsAscii-from_digits text (decimals.to text (is_numeral-digits text is)))
 
 pub in_64_bits-yes : (n : ℕ) → n < 2 ^ 64 → in_64_bits n ≡ Some n
 in_64_bits-yes n h = grind (arith, common_steps)

@@ -1,11 +1,10 @@
 //! Reads a decimal number.
 
-ghost use Rattle.std.specs.Prelude.{◌≡◌};
+ghost use Rattle.std.specs.Prelude.{◌≡◌, if◌then◌else◌, None};
 ghost use Rattle.std.specs.Char.{is_ascii_digit};
 ghost use Rattle.std.specs.List.{list_all};
+ghost use Rattle.std.specs.Str.Parse.{digits_value};
 ghost use Rattle.numerals.specs.Numbers as numbers;
-
-use std::str;
 
 /// Reads a decimal number as git-fast-import(1) writes counts, marks and seconds: 1 to 20 digits
 /// with a value below 2^64. Leading zeros are allowed.
@@ -15,24 +14,24 @@ use std::str;
 pub fn read_number(text: &[u8]) -> Option<u64>
     ensures { result ≡ numbers.number_of text.now }
 {
-    if !is_numeral(text) {
-        return None;
-    }
-    match str::from_utf8(text) {
-        Ok(digits) => digits.parse().ok(),
-        Err(_) => None,
+    if text.is_empty() || text.len() > 20 {
+        None
+    } else {
+        read_digits(text)
     }
 }
 
-// Whether the text is 1 to 20 decimal digits.
-fn is_numeral(text: &[u8]) -> bool
-    ensures { result ≡ numbers.is_numeral text.now }
+// The value of decimal digits, if it is below 2^64, and nothing for any other byte.
+fn read_digits(text: &[u8]) -> Option<u64>
+    ensures { result ≡ (if list_all is_ascii_digit text.now
+        then numbers.in_64_bits (digits_value 10 text.now) else None) }
 {
-    !text.is_empty() && text.len() <= 20 && are_digits(text)
-}
-
-fn are_digits(text: &[u8]) -> bool
-    ensures { result ≡ list_all is_ascii_digit text.now }
-{
-    text.iter().all(|byte| byte.is_ascii_digit())
+    let mut value: u64 = 0;
+    for byte in text {
+        if !byte.is_ascii_digit() {
+            return None;
+        }
+        value = value.checked_mul(10)?.checked_add((*byte - b'0') as u64)?;
+    }
+    Some(value)
 }

@@ -18,8 +18,8 @@ use content_pool::Pool;
 use file_maps::Entry;
 use git_objects::{FileMode, Name, Naming};
 use git_paths::Path;
-use indexmap::IndexMap;
-use stream_grammar::{DataRef, Mark, MarkedObject};
+use stream_grammar::DataRef;
+use stream_marks::Marks;
 use tenant_tables::Table;
 
 fn gitlink_to(name: Name) -> Entry
@@ -50,7 +50,7 @@ impl OpenCommit {
         &mut self,
         pool: &Pool<N>,
         table: &Table,
-        marks: &IndexMap<Mark, MarkedObject>,
+        marks: &Marks,
         mode: FileMode,
         object: DataRef,
         path: &Path,

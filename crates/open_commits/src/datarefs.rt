@@ -8,21 +8,21 @@ ghost use Rattle.open_commits.specs.Changes.{blob_of, held_as, link_of, marked_a
 use crate::fault::Fault;
 use content_pool::Pool;
 use git_objects::{Kind, Name, Naming};
-use indexmap::IndexMap;
 use stream_grammar::{DataRef, Mark, MarkedObject};
+use stream_marks::Marks;
 use tenant_tables::{Objects, Sight, Table};
 
-fn find(marks: &IndexMap<Mark, MarkedObject>, mark: Mark) -> Result<MarkedObject, Fault>
+fn find(marks: &Marks, mark: Mark) -> Result<MarkedObject, Fault>
     ensures { result ≡ marked_object marks.now.entries mark }
 {
-    match marks.get(&mark) {
+    match marks.get(mark) {
         Some(object) => Ok(*object),
         None => Err(Fault::MarkUnknown),
     }
 }
 
 // The object of this mark must be of this kind.
-fn marked_as(marks: &IndexMap<Mark, MarkedObject>, wanted: Kind, mark: Mark) -> Result<Name, Fault>
+fn marked_as(marks: &Marks, wanted: Kind, mark: Mark) -> Result<Name, Fault>
     ensures { result ≡ marked_as marks.now.entries wanted mark }
 {
     let object = find(marks, mark)?;
@@ -49,7 +49,7 @@ fn held_as<N: Naming>(pool: &Pool<N>, table: &Table, wanted: Kind, id: Name) -> 
 pub fn blob_of<N: Naming>(
     pool: &Pool<N>,
     table: &Table,
-    marks: &IndexMap<Mark, MarkedObject>,
+    marks: &Marks,
     object: DataRef,
 ) -> Result<Name, Fault>
     requires { IsBackedBy N.digest_of pool.now table.now.entries }
@@ -62,7 +62,7 @@ pub fn blob_of<N: Naming>(
 }
 
 // The object of a gitlink: a commit by its mark, or any name.
-pub fn link_of(marks: &IndexMap<Mark, MarkedObject>, object: DataRef) -> Result<Name, Fault>
+pub fn link_of(marks: &Marks, object: DataRef) -> Result<Name, Fault>
     ensures { result ≡ link_of marks.now.entries object }
 {
     match object {
@@ -75,7 +75,7 @@ pub fn link_of(marks: &IndexMap<Mark, MarkedObject>, object: DataRef) -> Result<
 pub fn tree_of<N: Naming>(
     pool: &Pool<N>,
     table: &Table,
-    marks: &IndexMap<Mark, MarkedObject>,
+    marks: &Marks,
     object: DataRef,
 ) -> Result<Name, Fault>
     requires { IsBackedBy N.digest_of pool.now table.now.entries }

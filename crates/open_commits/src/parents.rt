@@ -3,7 +3,6 @@
 ghost use Rattle.std.specs.Prelude.{◌≡◌, ◌≢◌, List, None, Some, Err, MatchResult, OnOk};
 ghost use Rattle.git_model.specs.declared.kind.Kind.TheVariants as kind;
 ghost use Rattle.git_model.specs.Commit.{Commit, CanWriteCommit, commit_contents};
-ghost use Rattle.git_model.specs.CommitReading.{commit_read};
 ghost use Rattle.git_model.specs.GoodRepository.{AreObjects};
 ghost use Rattle.git_model.specs.References.{kind_named};
 ghost use Rattle.git_model.specs.Repository.{Object};
@@ -18,7 +17,7 @@ ghost use Rattle.open_commits.specs.Calls.{Changes};
 use crate::fault::Fault;
 use crate::open_commit::OpenCommit;
 use content_pool::Pool;
-use git_objects::{Name, Naming, read_commit};
+use git_objects::{Name, Naming, read_commit_tree};
 use git_paths::Path;
 use std::alloc::Global;
 use tenant_tables::{Objects, Sight, Table};
@@ -27,24 +26,18 @@ use tenant_tables::{Objects, Sight, Table};
 pub const PARENTS_LIMIT: usize = 1024;
 
 // The name of the tree in a commit's contents.
-fn tree_in(alloc: Global, contents: &[u8]) -> Result<Name, Fault>
+fn tree_in(contents: &[u8]) -> Result<Name, Fault>
     ensures { (c : Commit) → CanWriteCommit c → contents.now ≡ commit_contents c
-        → MatchResult result (λ tree. tree ≡ (commit_read contents.now).tree)
-        (λ fault. fault ≡ Fault.Memory) }
+        → result ≡ Ok c.tree }
 {
-    match read_commit(alloc, contents)? {
-        Some(parts) => Ok(parts.tree),
+    match read_commit_tree(contents) {
+        Some(tree) => Ok(tree),
         None => Err(Fault::WrongKind),
     }
 }
 
 // The name of the tree of a commit in the table.
-fn tree_of_commit<N: Naming>(
-    alloc: Global,
-    pool: &Pool<N>,
-    table: &Table,
-    id: &Name,
-) -> Result<Name, Fault>
+fn tree_of_commit<N: Naming>(pool: &Pool<N>, table: &Table, id: &Name) -> Result<Name, Fault>
     requires stands { IsBackedBy N.digest_of pool.now table.now.entries }
     ensures { let os = objects pool.now table.now.entries in AreObjects N.digest_of os
         → kind_named id.now os ≡ Some kind.Commit
@@ -53,7 +46,7 @@ fn tree_of_commit<N: Naming>(
         (λ fault. fault ≡ Fault.Memory) }
 {
     match Objects::of(pool, table, Sight::All).get(id) {
-        Some((_, contents)) => tree_in(alloc, contents),
+        Some((_, contents)) => tree_in(contents),
         None => Err(Fault::ObjectUnknown),
     }
 }
@@ -87,7 +80,7 @@ impl OpenCommit {
             → tree_known self.old ≡ Some (tree_of_commit os id)
             → OnOk result ((commit_held self.new).files ≡ (commit_held self.old).files) }
     {
-        let tree = tree_of_commit(self.alloc, pool, table, &id)?;
+        let tree = tree_of_commit(pool, table, &id)?;
         self.put_tree(pool, table, &Path::root(self.alloc), &tree)?;
         self.parents.clear();
         self.parents.push(id)?;

@@ -6,11 +6,11 @@ use content_pool::Pool;
 use file_maps::Entry;
 use git_objects::{FileMode, Kind, Name, Naming, Sha1Naming};
 use git_paths::Path;
-use indexmap::IndexMap;
 use open_commits::{Header, OpenCommit};
 use std::alloc::Global;
 use std::marker::Model;
 use stream_grammar::{DataRef, Mark, MarkedObject};
+use stream_marks::Marks;
 use tenant_tables::{Fault, Table};
 use tree_build::Files;
 
@@ -33,7 +33,7 @@ struct Repository<N: Naming> {
     alloc: Global,
     pool: Pool<N>,
     table: Table,
-    marks: IndexMap<Mark, MarkedObject>,
+    marks: Marks,
     commit: Option<OpenCommit>,
 }
 
@@ -59,7 +59,7 @@ impl<N: Naming> Repository<N> {
             alloc,
             pool: Pool::new(alloc, naming),
             table: Table::new(alloc),
-            marks: IndexMap::new(alloc),
+            marks: Marks::new(alloc),
             commit: None,
         }
     }
@@ -145,12 +145,16 @@ impl<N: Naming> Repository<N> {
 
     fn marked(&self, step: &[u8], place: usize) -> Option<Name> {
         let mark = mark_of(word(step, place))?;
-        Some(self.marks.get(&mark)?.name)
+        Some(self.marks.get(mark)?.name)
     }
 
     // Whether the mark is set, which fails if memory ran out.
     fn set_mark(&mut self, mark: Mark, kind: Kind, name: Name) -> bool {
-        self.marks.insert(mark, MarkedObject { name, kind }).is_ok()
+        let has_room = self.marks.reserve().is_ok();
+        if has_room {
+            self.marks.set(mark, MarkedObject { name, kind });
+        }
+        has_room
     }
 
     fn add_blob(&mut self, step: &[u8]) -> Option<bool> {

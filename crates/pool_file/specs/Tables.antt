@@ -3,6 +3,9 @@ use Rattle.std.specs.Prelude.{◌≡◌, ℕ, ◌<◌, ◌≤◌, List, [], ◌�
 use Rattle.std.specs.Map.{lookup}
 use Rattle.std.specs.Str.{bytes_eq}
 use Rattle.git_model.specs.Limits.{contents_limit, objects_limit}
+use Rattle.git_model.specs.declared.kind.Kind.{Kind}
+use Rattle.git_model.specs.declared.kind.Kind.TheVariants as kind
+use Rattle.git_model.specs.TreeReading.{tree_read}
 use Rattle.git_model.specs.Content.{Content, name_by}
 use Rattle.git_model.specs.Repository.{Object}
 use Rattle.content_pool.specs.Pool.{Cells, HasHoldsLeft, IsLive, content}
@@ -11,7 +14,7 @@ use Rattle.tenant_tables.specs.declared.summary.Summary.{Summary}
 use Rattle.tenant_tables.specs.View.{View, Entries, entry_named, summary_of}
 use Rattle.tenant_tables.specs.Objects.{objects}
 use Rattle.tenant_tables.specs.IsBackedBy.{IsBackedBy, PreservesOthers}
-use Rattle.pool_file_checks.specs.Sums.{Sums, SameSums, Fits, sums_with}
+use Rattle.pool_file_checks.specs.Sums.{Sums, SameSums, Fits, sum_of_tree, sums_with}
 
 -- The table and the sums have the same summary under each name.
 abbrev pub AreNoted : Sums → Entries → Type 0
@@ -37,6 +40,25 @@ pub record CanLoad (digest : List ℕ → List ℕ) (pool : Cells) (entries : En
   pub short : length (content pool slot).bytes ≤ contents_limit
   pub noted : AreNoted sums entries
   pub fits : Fits (content pool slot).kind (content pool slot).bytes sums
+
+-- The summary, if the object is a tree.
+abbrev pub known_sum : Kind → Summary → Option Summary
+known_sum kind.Tree s = Some s
+known_sum kind.Blob s = None
+known_sum kind.Commit s = None
+known_sum kind.Tag s = None
+
+-- The sums with that of a content, if it is a tree.
+abbrev pub sums_on : (List ℕ → List ℕ) → Content → Sums → Sums
+sums_on digest c sums = sums_with c.kind (name_by digest c) c.bytes sums
+
+-- The object of a slot can be added to a table, and the summary is its own if it is a tree.
+pub record CanAdd (digest : List ℕ → List ℕ) (pool : Cells) (entries : Entries) (slot : ℕ)
+    (sum : Summary) : Type 0 where
+  pub noted : Sums
+  pub can : CanLoad digest pool entries noted slot
+  pub sum_is : (content pool slot).kind ≡ kind.Tree
+      → sum ≡ sum_of_tree noted (tree_read (content pool slot).bytes)
 
 -- The object was added, and its sum was noted if it is a tree.
 pub record Loads (digest : List ℕ → List ℕ) (slot : ℕ) (before : Cells) (old : Entries)

@@ -8,6 +8,7 @@ ghost use Rattle.tenant_tables.specs.Room.{HasHoldsLeftBeside};
 ghost use Rattle.pool_file_format.specs.Shown.{objects_of, tenant_of, tenants_of, file_of};
 ghost use Rattle.pool_file_checks.specs.Checks.{Passes};
 ghost use Rattle.pool_file_checks.specs.Own.{names_of};
+ghost use Rattle.pool_file_checks.specs.Quick.{KnowsSums};
 ghost use Rattle.pool_file_checks.specs.Whole.{file_checks};
 ghost use Rattle.pool_file_checks.specs.Saved.{saved_in};
 ghost use Rattle.pool_file.specs.Loading.{loaded_repositories, AreTenants};
@@ -19,7 +20,7 @@ use crate::tables::load_table;
 use crate::tenant::Tenant;
 use content_pool::{Pool, Slot};
 use git_names::{Memory, Name, Naming};
-use pool_file_checks::Judged;
+use pool_file_checks::{Judged, KnownSums};
 use pool_file_format::{RawFile, RawTenant};
 use std::alloc::Global;
 use tenant_refs::TenantName;
@@ -40,12 +41,14 @@ fn build_tenant<N: Naming>(
     pool: &mut Pool<N>,
     slots: &[Slot],
     names: &[Name],
+    known: &KnownSums,
     tenant: &RawTenant,
     other: &mut Table,
 ) -> Result<Tenant, Memory>
     requires live { All (IsLive pool.old) slots.now }
     requires room { HasHoldsLeftBeside pool.old [] }
     requires named { names.now ≡ names_of N.digest_of (objects_at pool.old slots.now) }
+    requires known { KnowsSums N.digest_of (objects_at pool.old slots.now) known.now }
     requires checked { IsChecked N.digest_of (objects_at pool.old slots.now)
         (tenant_of tenant.now) }
     requires other { IsBackedBy N.digest_of pool.old other.old.entries }
@@ -54,7 +57,7 @@ fn build_tenant<N: Naming>(
         (tenant_of tenant.now) pool.old pool.new t) }
 {
     let name = read_tenant_name(&tenant.name);
-    let table = load_table(alloc, pool, slots, names, &tenant.numbers, other)?;
+    let table = load_table(alloc, pool, slots, names, known, &tenant.numbers, other)?;
     let refs = load_refs(alloc, &table, tenant)?;
     Ok(Tenant { name, table, refs })
 }
@@ -73,11 +76,13 @@ fn add_tenant<N: Naming>(
     pool: &mut Pool<N>,
     slots: &[Slot],
     names: &[Name],
+    known: &KnownSums,
     tenants: &mut Vec<Tenant>,
     tenant: &RawTenant,
 ) -> Result<(), Memory>
     requires under { AreUnder N.digest_of slots.now pool.old tenants.old.items }
     requires named { names.now ≡ names_of N.digest_of (objects_at pool.old slots.now) }
+    requires known { KnowsSums N.digest_of (objects_at pool.old slots.now) known.now }
     requires checked { IsChecked N.digest_of (objects_at pool.old slots.now)
         (tenant_of tenant.now) }
     ensures { OnOk result (Adds N.digest_of slots.now pool.old tenants.old.items
@@ -86,11 +91,11 @@ fn add_tenant<N: Naming>(
     has_room(pool, slots, tenants);
     let Some(mut last) = tenants.pop() else {
         let mut none = Table::new(alloc);
-        let built = build_tenant(alloc, pool, slots, names, tenant, &mut none)?;
+        let built = build_tenant(alloc, pool, slots, names, known, tenant, &mut none)?;
         tenants.push(built)?;
         return Ok(());
     };
-    let built = build_tenant(alloc, pool, slots, names, tenant, &mut last.table)?;
+    let built = build_tenant(alloc, pool, slots, names, known, tenant, &mut last.table)?;
     tenants.push(last)?;
     tenants.push(built)?;
     Ok(())
@@ -101,18 +106,20 @@ fn add_tenants<N: Naming>(
     pool: &mut Pool<N>,
     slots: &[Slot],
     names: &[Name],
+    known: &KnownSums,
     tenants: &mut Vec<Tenant>,
     all: &[RawTenant],
 ) -> Result<(), Memory>
     requires under { AreUnder N.digest_of slots.now pool.old tenants.old.items }
     requires named { names.now ≡ names_of N.digest_of (objects_at pool.old slots.now) }
+    requires known { KnowsSums N.digest_of (objects_at pool.old slots.now) known.now }
     requires checked { All (IsChecked N.digest_of (objects_at pool.old slots.now))
         (tenants_of all.now) }
     ensures { OnOk result (Adds N.digest_of slots.now pool.old tenants.old.items
         (tenants_of all.now) pool.new tenants.new.items) }
 {
     for tenant in all {
-        add_tenant(alloc, pool, slots, names, tenants, tenant)?;
+        add_tenant(alloc, pool, slots, names, known, tenants, tenant)?;
     }
     Ok(())
 }
@@ -123,9 +130,11 @@ fn fill<N: Naming>(
     pool: &mut Pool<N>,
     tenants: &mut Vec<Tenant>,
     names: &[Name],
+    known: &KnownSums,
     file: RawFile,
 ) -> Result<(), Memory>
     requires named { names.now ≡ names_of N.digest_of (objects_of file.objects.items) }
+    requires known { KnowsSums N.digest_of (objects_of file.objects.items) known.now }
     requires vacant { IsVacant pool.old }
     requires none { tenants.old.items ≡ [] }
     requires checked { Passes (file_checks N.digest_of (file_of file)) }
@@ -139,14 +148,14 @@ fn fill<N: Naming>(
         tenants: all,
     } = file;
     let slots = store_contents(alloc, pool, names, objects)?;
-    add_tenants(alloc, pool, &slots, names, tenants, &all)?;
+    add_tenants(alloc, pool, &slots, names, known, tenants, &all)?;
     release_contents(pool, &slots);
     Ok(())
 }
 
 /// Builds what a judged file says: the pool that has each content once, and the tenants over it in
 /// the order of the file. Each content is moved into the pool, under the name that was made when
-/// the file was judged.
+/// the file was judged. A tree whose summary was found then is not read again.
 ///
 /// `Memory` (90) if there is no memory for them.
 pub fn build<N: Naming>(
@@ -156,14 +165,15 @@ pub fn build<N: Naming>(
 ) -> Result<(Pool<N>, Vec<Tenant>), Memory>
     requires named { judged.names.items
         ≡ names_of N.digest_of (objects_of judged.file.objects.items) }
+    requires known { KnowsSums N.digest_of (objects_of judged.file.objects.items) judged.known }
     requires checked { Passes (file_checks N.digest_of (file_of judged.file)) }
     ensures says { IfOk result
         (λ r. loaded_repositories r.0 r.1.items ≡ saved_in N.digest_of (file_of judged.file)) }
     ensures tenants { IfOk result (λ r. AreTenants N.digest_of r.0 r.1.items) }
 {
-    let Judged { file, names } = judged;
+    let Judged { file, names, known } = judged;
     let mut pool = Pool::new(alloc, naming);
     let mut tenants = Vec::new(alloc);
-    fill(alloc, &mut pool, &mut tenants, &names, file)?;
+    fill(alloc, &mut pool, &mut tenants, &names, &known, file)?;
     Ok((pool, tenants))
 }

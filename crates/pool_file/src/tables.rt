@@ -13,15 +13,16 @@ ghost use Rattle.tenant_tables.specs.IsBackedBy.{IsBackedBy, PreservesOthers};
 ghost use Rattle.pool_file_checks.specs.Checks.{Passes};
 ghost use Rattle.pool_file_checks.specs.Objects.{object_checks};
 ghost use Rattle.pool_file_checks.specs.Own.{own_objects, names_of, rows_of, AreDistinct};
+ghost use Rattle.pool_file_checks.specs.Quick.{AreSums, KnowsSums};
 ghost use Rattle.pool_file_checks.specs.Sums.{Fits, SameSums, TreesFit, sums_with};
 ghost use Rattle.pool_file.specs.Building.{objects_at};
-ghost use Rattle.pool_file.specs.Tables.{AreNoted, BeginAlike, CanLoad, Loads, Starts, with_sum};
+ghost use Rattle.pool_file.specs.Tables.{AreNoted, BeginAlike, CanAdd, CanLoad, Loads, Starts, known_sum, sums_on, with_sum};
 
 use content_pool::{Pool, Slot};
 use git_names::{Memory, Name, Naming};
 use git_objects::Kind;
 use indexmap::IndexMap;
-use pool_file_checks::add_sum;
+use pool_file_checks::{KnownSums, add_sum};
 use pool_file_format::Fault;
 use std::alloc::Global;
 use tenant_tables::{Summary, Table};
@@ -142,6 +143,85 @@ fn sums_of(alloc: Global, table: &Table) -> Result<IndexMap<Name, Summary>, Memo
     Ok(sums)
 }
 
+// What a table has of an object of this kind: the summary, if it is a tree.
+fn known_sum(kind: Kind, sum: Summary) -> Option<Summary>
+    ensures { result ≡ known_sum kind sum }
+{
+    match kind {
+        Kind::Tree => Some(sum),
+        Kind::Blob => None,
+        Kind::Commit => None,
+        Kind::Tag => None,
+    }
+}
+
+// Adds the object with this name, whose content lies in this slot. If it is a tree, this is its
+// summary.
+fn add_known<N: Naming>(
+    pool: &mut Pool<N>,
+    table: &mut Table,
+    id: Name,
+    slot: Slot,
+    sum: Summary,
+) -> Result<(), Memory>
+    requires named { id ≡ name_by N.digest_of (content pool.old slot) }
+    requires can { CanAdd N.digest_of pool.old table.old.entries slot sum }
+    ensures { (can : CanAdd N.digest_of pool.old table.old.entries slot sum) → OnOk result
+        (Loads N.digest_of slot pool.old table.old.entries can.noted pool.new table.new.entries
+        (sums_on N.digest_of (content pool.old slot) can.noted)) }
+{
+    let (kind, _) = pool.get(slot);
+    table.add_held(pool, id, slot, known_sum(kind, sum))
+}
+
+// A table of the objects with these numbers, whose summaries are known, as `load_table` makes it.
+fn known_table<N: Naming>(
+    alloc: Global,
+    pool: &mut Pool<N>,
+    slots: &[Slot],
+    names: &[Name],
+    numbers: &[u64],
+    sums: &[Summary],
+) -> Result<Table, Memory>
+    requires live { All (IsLive pool.old) slots.now }
+    requires room { HasHoldsLeftBeside pool.old [] }
+    requires named { names.now ≡ names_of N.digest_of (objects_at pool.old slots.now) }
+    requires contents { Passes (object_checks None (objects_at pool.old slots.now)) }
+    requires numbers { All (λ n. n < length slots.now) numbers.now }
+    requires few { length numbers.now ≤ objects_limit }
+    requires distinct { AreDistinct
+        (rows_of (names_of N.digest_of (objects_at pool.old slots.now)) numbers.now) }
+    requires trees { TreesFit []
+        (own_objects N.digest_of (objects_at pool.old slots.now) numbers.now) }
+    requires size { length sums.now ≡ length numbers.now }
+    requires known { AreSums [] sums.now
+        (own_objects N.digest_of (objects_at pool.old slots.now) numbers.now) }
+    ensures stands { IfOk result (λ table. IsBackedBy N.digest_of pool.new table.entries) }
+    ensures others { IfOk result (λ table. PreservesOthers pool.old [] pool.new table.entries) }
+    ensures objects { IfOk result (λ table. objects pool.new table.entries
+        ≡ own_objects N.digest_of (objects_at pool.old slots.now) numbers.now) }
+    ensures committed { IfOk result (λ table. table.committed ≡ length table.entries) }
+{
+    let mut made = Table::new(alloc);
+    for position in 0..numbers.len() {
+        let place = numbers[position] as usize;
+        let (slot, sum) = (slots[place], sums[position]);
+        add_known(pool, &mut made, names[place], slot, sum)?;
+    }
+    made.commit();
+    Ok(made)
+}
+
+// Whether the other table is empty, and the summaries of all objects with these numbers are known.
+fn are_known(known: &KnownSums, numbers: &[u64], other: &Table) -> bool
+    ensures size { OnTrue result (length known.now.sums.items ≡ length numbers.now) }
+    ensures numbers { OnTrue result (known.now.numbers.items ≡ numbers.now) }
+{
+    other.len() == 0
+        && known.sums.as_slice().len() == numbers.len()
+        && known.numbers.as_slice() == numbers
+}
+
 /// A table of the objects with these numbers, in their order and all committed. `slots` are those
 /// of the file's contents, and `names` are the names of its objects. The pool then holds the slot
 /// of each number once more, and no other slot.
@@ -150,12 +230,14 @@ fn sums_of(alloc: Global, table: &Table) -> Result<IndexMap<Name, Summary>, Memo
 /// memory for the table; the pool may then hold some contents once more.
 ///
 /// `other` is the table of another tenant, or an empty one. If it begins with more than half of
-/// these objects, in the same order, the tables share them in memory.
+/// these objects, in the same order, the tables share them in memory. If it is empty and `known` has
+/// the summaries of all of these objects, no tree is read.
 pub fn load_table<N: Naming>(
     alloc: Global,
     pool: &mut Pool<N>,
     slots: &[Slot],
     names: &[Name],
+    known: &KnownSums,
     numbers: &[u64],
     other: &mut Table,
 ) -> Result<Table, Memory>
@@ -169,6 +251,7 @@ pub fn load_table<N: Naming>(
         (rows_of (names_of N.digest_of (objects_at pool.old slots.now)) numbers.now) }
     requires trees { TreesFit []
         (own_objects N.digest_of (objects_at pool.old slots.now) numbers.now) }
+    requires known { KnowsSums N.digest_of (objects_at pool.old slots.now) known.now }
     requires other { IsBackedBy N.digest_of pool.old other.old.entries }
     ensures stands { IfOk result (λ table. IsBackedBy N.digest_of pool.new table.entries) }
     ensures others { IfOk result (λ table. PreservesOthers pool.old [] pool.new table.entries) }
@@ -177,6 +260,9 @@ pub fn load_table<N: Naming>(
     ensures committed { IfOk result (λ table. table.committed ≡ length table.entries) }
     ensures same { other.new ≡ other.old }
 {
+    if are_known(known, numbers, other) {
+        return known_table(alloc, pool, slots, names, numbers, &known.sums);
+    }
     let mut table = start_table(alloc, pool, slots, numbers, other)?;
     if table.len() == numbers.len() {
         return Ok(table);

@@ -1,5 +1,5 @@
 -- The objects of a tenant in turn, each read once.
-use Rattle.std.proofs.Common.{◌≡◌, ◌≢◌, ℕ, zero, suc, ◌<◌, ◌≤◌, ◌+◌, Bool, true, false, cond, List, [], ◌∷◌, ◌++◌, codes, drop, length, get_or, Option, None, Some, Result, Ok, Err, refl, sym, ap, subst, ◌∙◌, arith, inl, inr, drop-cons}
+use Rattle.std.proofs.Common.{◌≡◌, ◌≢◌, ℕ, zero, suc, ◌<◌, ◌≤◌, ◌+◌, Bool, true, false, cond, List, [], ◌∷◌, ◌++◌, codes, drop, length, get_or, Option, None, Some, Result, Ok, Err, refl, sym, ap, subst, ◌∙◌, append_assoc, append-nil, arith, inl, inr, drop-cons}
 use Rattle.std.specs.Prelude.{All, IfOk, IfSome, IsSomeAnd, slice_get}
 use Rattle.std.specs.Bool.{OnTrue}
 use Rattle.std.specs.List.{IsDistinct}
@@ -29,7 +29,7 @@ use Rattle.pool_file_format.specs.Format.{RawObject}
 use Rattle.pool_file_checks.specs.Objects.{IsContent, IsTreeText}
 use Rattle.pool_file_checks.specs.Own.{content_at, Rows, objects_in, AreDistinct}
 use Rattle.pool_file_checks.specs.Sums.{Sums, Fits, FitsAfter, HasFiles, TreesFit, sum_of_entry, sum_of_tree, sums_with}
-use Rattle.pool_file_checks.specs.Quick.{Joins, AreGood, AreKept, HasSum}
+use Rattle.pool_file_checks.specs.Quick.{Joins, AreGood, AreKept, AreSums, HasSum}
 use Rattle.pool_file_checks.proofs.OwnObjects.{ids, ids_of_rows, place_at, apart}
 
 -- ---- answers
@@ -119,6 +119,7 @@ pub record GoodSoFar (os : List Object) (place : ℕ) (kept : List Summary) : Ty
   pub sums : Sums
   pub are_kept : AreKept os place kept sums
   pub trees : TreesFit sums (drop place os) → TreesFit [] os
+  pub summed : (rest : List Summary) → AreSums sums rest (drop place os) → AreSums [] (kept ++ rest) os
 
 pub good_start : (os : List Object) (kept : List Summary) → kept ≡ [] → GoodSoFar os 0 kept
 good_start os kept none = record {
@@ -127,6 +128,7 @@ good_start os kept none = record {
   sums = [];
   are_kept = record { size = ap length none; each = λ id lt is. absurd (omega (arith, lt)) };
   trees = λ t. t;
+  summed = λ rest t. subst (λ (l : List Summary). AreSums [] (l ++ rest) os) (sym none) t;
 }
 
 left_here : (os : List Object) (place : ℕ) → place < length os → drop place os ≡ object_at place os ∷ drop (place + 1) os
@@ -245,6 +247,9 @@ good_on os place old new b distinct lt s holds content joins =
       sums = sums_with o.content.kind o.id o.content.bytes s.sums;
       are_kept = kept_on os place o.content.kind o.content.bytes old new s.sums j.sum refl distinct lt s.are_kept j.added h;
       trees = λ t. s.trees (subst (TreesFit s.sums) (sym (left_here os place lt)) (h.0, t));
+      summed = λ rest t.
+          subst (λ (l : List Summary). AreSums [] l os) (sym (append_assoc old (j.sum ∷ []) rest) ∙ ap (λ (l : List Summary). l ++ rest) (sym j.added))
+          (s.summed (j.sum ∷ rest) (subst (λ (l : List Object). AreSums s.sums (j.sum ∷ rest) l) (sym (left_here os place lt)) (h.1, t)));
     }
 
 pub good_end : (os : List Object) (place : ℕ) (kept : List Summary) → length os ≤ place → GoodSoFar os place kept → AreGood os
@@ -253,6 +258,9 @@ good_end os place kept past s = record {
   connected = λ i lt. s.connected i (omega (arith, past, lt));
   trees = s.trees (subst (TreesFit s.sums) (sym (drop_all place os past)) tt);
 }
+
+pub sums_end : (os : List Object) (place : ℕ) (kept : List Summary) → GoodSoFar os place kept → AreSums [] kept os
+sums_end os place kept s = subst (λ (l : List Summary). AreSums [] l os) (append-nil kept) (s.summed [] tt)
 
 pub own_distinct : (os : List RawObject) (rows : Rows) → AreDistinct rows → IsDistinct bytes_eq (ids (objects_in os rows))
 own_distinct os rows d = subst (IsDistinct bytes_eq) (sym (ids_of_rows os rows)) d

@@ -13,10 +13,11 @@ use Rattle.tenant_tables.specs.Trees.{no_files}
 use Rattle.pool_file_format.specs.Format.{RawObject}
 use Rattle.pool_file_checks.specs.Checks.{Passes}
 use Rattle.pool_file_checks.specs.Objects.{kind_byte, IsText, IsContent}
-use Rattle.pool_file_checks.specs.Own.{kind_of, content_at}
+use Rattle.pool_file_checks.specs.Own.{kind_of, content_at, own_objects}
 use Rattle.pool_file_checks.specs.Connecting.{AreConnected}
-use Rattle.pool_file_checks.specs.Sums.{Sums, Fits, TreesFit, sum_of_tree}
+use Rattle.pool_file_checks.specs.Sums.{Sums, Fits, TreesFit, sum_of_tree, sums_with}
 use Rattle.pool_file_checks.specs.Whole.{own_checks}
+use Rattle.pool_file_checks.specs.declared.known.KnownSums.{KnownSums}
 
 -- The byte is that of a kind.
 abbrev pub HasKind : RawObject → Type 0
@@ -54,3 +55,17 @@ pub record AreFound (digest : List ℕ → List ℕ) (os : List RawObject) (numb
     : Type 0 where
   pub contents : All (λ n. IsContent (content_at os n)) numbers
   pub own : Passes (own_checks digest os numbers)
+
+-- These are the summaries of the first objects, in turn after the trees so far: of each tree, its
+-- sum.
+abbrev pub AreSums : Sums → List Summary → List Object → Type 0
+AreSums sums [] os = Unit {0}
+AreSums sums (s ∷ kept) [] = ⊥
+AreSums sums (s ∷ kept) (o ∷ os) =
+    (o.content.kind ≡ kind.Tree → s ≡ sum_of_tree sums (tree_read o.content.bytes))
+    × AreSums (sums_with o.content.kind o.id o.content.bytes sums) kept os
+
+-- The summaries are those of the tenant's objects that have these numbers.
+abbrev pub KnowsSums : (List ℕ → List ℕ) → List RawObject → KnownSums → Type 0
+KnowsSums digest os known =
+    AreSums [] known.sums.items (own_objects digest os known.numbers.items)

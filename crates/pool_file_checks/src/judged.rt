@@ -6,25 +6,31 @@ ghost use Rattle.git_model.specs.Limits.{reads_limit};
 ghost use Rattle.pool_file_format.specs.Shown.{objects_of, file_of};
 ghost use Rattle.pool_file_format.specs.Taking.{shown};
 ghost use Rattle.pool_file_checks.specs.Own.{names_of};
+ghost use Rattle.pool_file_checks.specs.Quick.{KnowsSums};
 ghost use Rattle.pool_file_checks.specs.Judging.{Judges, Finds, ReadsTexts, IsBlamed};
 
-use crate::{check_file, name_objects};
+use crate::known::KnownSums;
+use crate::name_objects;
+use crate::whole::judge_file;
 use byte_devices::Counted;
 use git_names::Name;
 use pool_file_format::{Fault, RawFile, StreamingDigest, read_sealed};
 use std::alloc::Global;
 use std::io::Read;
 
-/// A file that passed its checks, and the names of its objects in their order.
+/// A file that passed its checks, the names of its objects in their order, and the summaries that
+/// are known of a tenant's objects.
 #[derive(Drop)]
 pub struct Judged {
     pub file: RawFile,
     pub names: Vec<Name>,
+    pub known: KnownSums,
 }
 
 /// Reads a pool file of either version up to the end of the input, checks its digest, and judges
-/// what it says. The naming makes the digest and the names of objects. The answer is the file and
-/// the names of its objects. Every file of repositories that can be saved is answered.
+/// what it says. The naming makes the digest and the names of objects. The answer is the file, the
+/// names of its objects, and the summaries that were found of a tenant's objects. Every file of
+/// repositories that can be saved is answered.
 ///
 /// - `Refused` with the first fault. First come the faults of the bytes, from left to right:
 ///   `NoPoolFile` (60) at the first byte that differs from `gitpool LF`, `UnknownVersion` (61) if
@@ -58,9 +64,12 @@ pub fn read_judged<N: StreamingDigest, R: Read>(
     // The name of each object, made once for every caller that needs it.
     ensures names { IfOk result
         (λ j. j.names.items ≡ names_of N.digest_of (objects_of j.file.objects.items)) }
+    // The summaries of a tenant's objects, for a caller that would else read its trees again.
+    ensures known { IfOk result
+        (λ j. KnowsSums N.digest_of (objects_of j.file.objects.items) j.known) }
 {
     let file = read_sealed(alloc, naming, reader)?;
     let names = name_objects(alloc, naming, &file.objects)?;
-    check_file(alloc, &names, &file)?;
-    Ok(Judged { file, names })
+    let known = judge_file(alloc, &names, &file)?;
+    Ok(Judged { file, names, known })
 }

@@ -1,15 +1,18 @@
 //! All checks of a pool file, in their order.
 
-ghost use Rattle.std.specs.Prelude.{◌≡◌, ◌<◌, ℕ, List, length, All, None};
+ghost use Rattle.std.specs.Prelude.{◌≡◌, ◌<◌, ℕ, List, length, All, IfOk, None};
 ghost use Rattle.std.specs.Option.{option_map};
 ghost use Rattle.pool_file_checks.specs.Checks.{Passes, Checked};
 ghost use Rattle.pool_file_checks.specs.Objects.{CanStore};
 ghost use Rattle.pool_file_checks.specs.Own.{names_of};
+ghost use Rattle.pool_file_checks.specs.Quick.{KnowsSums};
 ghost use Rattle.pool_file_checks.specs.Whole.{own_checks, one_tenant_checks, tenant_checks, file_checks};
 ghost use Rattle.pool_file_format.specs.Shown.{objects_of, tenant_of, tenants_of, file_of};
+ghost use Rattle.pool_file_format.specs.Taking.{shown};
 
 use crate::held::check_held;
 use crate::judging::check_objects;
+use crate::known::KnownSums;
 use crate::own::{are_same, index_objects};
 use crate::quick::pass_file;
 use crate::references::check_references;
@@ -109,6 +112,25 @@ fn check_in_order(alloc: Global, names: &[Name], file: &RawFile) -> Result<(), F
     check_held(alloc, file.objects.as_slice().len(), &file.tenants)
 }
 
+/// `check_file`, which also answers the summaries of a tenant's objects, if they were found.
+pub fn judge_file(alloc: Global, names: &[Name], file: &RawFile) -> Result<KnownSums, Fault>
+    ensures checks { (digest : List ℕ → List ℕ)
+        → names.now ≡ names_of digest (objects_of file.now.objects.items)
+        → Checked (file_checks digest (file_of file.now)) (shown (λ _. tt) result) }
+    ensures known { (digest : List ℕ → List ℕ)
+        → names.now ≡ names_of digest (objects_of file.now.objects.items)
+        → IfOk result (KnowsSums digest (objects_of file.now.objects.items)) }
+{
+    match pass_file(alloc, names, file) {
+        Ok(known) => Ok(known),
+        Err(Fault::Memory) => Err(Fault::Memory),
+        Err(_) => match check_in_order(alloc, names, file) {
+            Ok(()) => Ok(KnownSums::none(alloc)),
+            Err(refused) => Err(refused),
+        },
+    }
+}
+
 /// Judges what a pool file says. `names` are the names of its objects, as `name_objects` answers
 /// them. If a tenant has the same numbers as the tenant before, their objects are judged once.
 ///
@@ -124,9 +146,8 @@ pub fn check_file(alloc: Global, names: &[Name], file: &RawFile) -> Result<(), F
         → names.now ≡ names_of digest (objects_of file.now.objects.items)
         → Checked (file_checks digest (file_of file.now)) result }
 {
-    match pass_file(alloc, names, file) {
-        Ok(()) => Ok(()),
-        Err(Fault::Memory) => Err(Fault::Memory),
-        Err(_) => check_in_order(alloc, names, file),
+    match judge_file(alloc, names, file) {
+        Ok(_) => Ok(()),
+        Err(refused) => Err(refused),
     }
 }

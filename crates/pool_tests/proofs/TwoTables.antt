@@ -13,6 +13,7 @@ use Rattle.tenant_tables.specs.declared.fault.Fault.{Fault}
 use Rattle.tenant_tables.specs.declared.summary.Summary.{Summary}
 use Rattle.content_pool.specs.Pool.{Cells, HasHoldsLeft, IsVacant}
 use Rattle.tenant_tables.specs.IsBackedBy.{IsBackedBy, PreservesOthers, Share}
+use Rattle.tenant_tables.specs.Room.{HasHoldsLeftBeside}
 use Rattle.tenant_tables.specs.View.{View, Entries, summary_of}
 use Rattle.tenant_tables.proofs.HoldLemmas.{held-nil}
 use Rattle.tenant_tables.proofs.TableLemmas.{IsBackedBy-nil, other_stands}
@@ -31,6 +32,12 @@ pub Share-room : (digest : List ℕ → List ℕ) (p : Cells) (es fs : Entries) 
     → HasHoldsLeft p
 Share-room digest p es fs h s =
     let a = h.first.once s in let b = h.second.once s in let c = h.counts s in omega arith
+
+pub Share-room_for_all : (digest : List ℕ → List ℕ) (p : Cells) (es fs : Entries)
+    → Share digest p es fs → HasHoldsLeftBeside p []
+Share-room_for_all digest p es fs h s =
+    let a = h.first.once s in
+    let b = h.second.once s in let c = h.counts s in let n = held-nil s in omega arith
 
 -- a call of the first table keeps the second
 pub Share-first : (digest : List ℕ → List ℕ) (p q : Cells) (es gs fs : Entries)
@@ -55,6 +62,13 @@ Share-second digest p q es fs gs h stands others = record {
   second = stands;
   counts = λ s. let c = h.counts s in let r = others.rest s in omega arith;
 }
+
+-- the second table, which had nothing, has what it shares with the first
+pub Share-shared : (digest : List ℕ → List ℕ) (p q : Cells) (es fs gs : Entries)
+    → Share digest p es fs → fs ≡ [] → IsBackedBy digest q gs
+    → PreservesOthers p [] q gs → Share digest q es gs
+Share-shared digest p q es fs gs h none stands others =
+    Share-second digest p q es fs gs h stands (rw none others)
 
 -- one entry makes a tree
 pub one_entry : (e : TreeEntry) → IsEntryName e.name → IsObjectName e.id → CanWriteTree (e ∷ [])

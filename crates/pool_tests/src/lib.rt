@@ -1,7 +1,9 @@
-//! Tests of the pool, of tables and of refs, with a plain pool and a plain table to compare them
-//! with.
+//! Tests of the pool, of the index of names, of tables and of refs, with a plain pool and a plain
+//! table to compare them with.
 #![tactic(auto)]
 
+#[cfg(test)]
+mod names;
 #[cfg(test)]
 mod plain_pool;
 #[cfg(test)]

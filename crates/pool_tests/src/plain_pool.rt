@@ -9,7 +9,7 @@ ghost use Rattle.git_model.specs.ObjectName.{object_name};
 ghost use Rattle.git_model.specs.Content.{content_from};
 ghost use Rattle.content_pool.specs.Pool.{IsAbsent, content, content_of, IsLive, CanHold, HasHoldsLeft};
 ghost use Rattle.content_pool.specs.Pool.{HoldsEachOnce, IsVacant, Puts};
-ghost use Rattle.content_pool.specs.Index.{Stores};
+ghost use Rattle.content_pool.specs.Index.{Stores, prefix_of};
 ghost use Rattle.content_pool.specs.LiveContents.{live_contents, stored_sizes, ListsLive};
 
 use git_model::Kind;
@@ -27,12 +27,13 @@ struct Cell {
 }
 
 impl Model for Cell {
+    ghost use Rattle.content_pool.specs.Index.{prefix_of};
     ghost use Rattle.content_pool.specs.declared.stored.Stored.{Stored};
 
     ghost Value = { Stored };
 
     ghost view = { λ cell. record {
-      id = cell.id;
+      prefix = prefix_of cell.id;
       kind = cell.kind;
       bytes = cell.bytes.items;
       holds = cell.holds;
@@ -41,7 +42,8 @@ impl Model for Cell {
 
 impl Cell {
     fn new(id: Name, kind: Kind, bytes: Vec<u8>) -> Cell
-        ensures { result ≡ record { id = id; kind = kind; bytes = bytes.items; holds = 1 } }
+        ensures { result
+            ≡ record { prefix = prefix_of id; kind = kind; bytes = bytes.items; holds = 1 } }
     {
         Cell {
             id,

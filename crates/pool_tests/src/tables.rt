@@ -21,6 +21,10 @@ use two::{Case, Step, first_wrong};
 // `git hash-object` gave the digits.
 const HELLO: &[u8; 40] = b"ce013625030ba8dba906f756967f9e9ca394464a";
 
+const EMPTY: &[u8; 40] = b"e69de29bb2d1d6434b8b29ae775ad8c2e48c5391";
+
+const WORLD: &[u8; 40] = b"cc628ccd10742baea8241c5924df992b5c019f71";
+
 // Counted by hand: the name that `TailNaming` gives the blobs `ab` and `ba`. It is nineteen bytes
 // 0xab, and the sum modulo 256 of the bytes of `blob 2`, of a NUL, of `a` and of `b`.
 const AB: &[u8; 40] = b"abababababababababababababababababababb4";
@@ -75,6 +79,37 @@ const CASES: &[Case] = &[
             Step::Stored(1, 6),
             Step::RollBackSecond,
             Step::Stored(0, 0),
+        ],
+    },
+    Case {
+        does: "a table begins as another one does, and each goes its own way",
+        steps: &[
+            Step::AddFirst(b"hello\n", Ok(HELLO)),
+            Step::AddFirst(b"world\n", Ok(WORLD)),
+            Step::CommitFirst,
+            Step::ShareFirst(1),
+            Step::Lengths(2, 1),
+            Step::PlaceInSecond(WORLD, None),
+            Step::AddSecond(b"world\n", Ok(WORLD)),
+            Step::PlaceInSecond(WORLD, Some(1)),
+            Step::AddFirst(b"", Ok(EMPTY)),
+            Step::Stored(3, 12),
+            Step::RollBackSecond,
+            Step::RollBackFirst,
+            Step::Lengths(2, 1),
+            Step::PlaceInSecond(HELLO, Some(0)),
+            Step::Stored(2, 12),
+        ],
+    },
+    Case {
+        does: "a table holds what it took from one that is rolled back",
+        steps: &[
+            Step::AddFirst(b"hello\n", Ok(HELLO)),
+            Step::ShareFirst(1),
+            Step::RollBackFirst,
+            Step::Lengths(0, 1),
+            Step::PlaceInSecond(HELLO, Some(0)),
+            Step::Stored(1, 6),
         ],
     },
 ];

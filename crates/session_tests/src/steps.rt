@@ -63,6 +63,15 @@ const CASES: &str = "\
     stores a tag of a saved tag under the name that git gives it, which is not peeled;\
     blob|mark :1|=hello\n|tag v|from :1|tagger|=first\n|checkpoint|tag w|mark :2|from v|\
     =first\n|get-mark :2;4c39ad1f24f4ef86507078029968107ec512d77f\n;0;no;3;201;2;131#\
+    finds marks that are set in order, again and out of order;\
+    blob|mark :1|=one|blob|mark :2|=two|blob|mark :3|=three|blob|mark :2|=again|\
+    blob|mark :9|=nine|blob|mark :4|=four|blob|mark :3|=last|\
+    get-mark :1|get-mark :2|get-mark :3|get-mark :4|get-mark :9;\
+    43dd47ea691c90a5fa7827892c70241913351963\n\
+    d3dc34affe77fdb18e4beef9d9b3213d791358e5\n\
+    1c1206e8bf4337e96dad9a6d139628852077558d\n\
+    ea1f343c8a1248a4cc4eb47bc92953d0efddb510\n\
+    211a8281d12d0f8fb0ec1d95b2f0188930b5d22a\n;0;no;7;28;0;0#\
     stores nothing of an open commit, and gives it up;\
     commit refs/heads/m|committer|=first\n;;0;no;0;0;0;0#\
     stores the trees and the commit at its end;\

@@ -6,7 +6,7 @@ ghost use Rattle.stream_grammar.specs.Changes as changes;
 
 use crate::data_ref::DataRef;
 use crate::fault::Fault;
-use crate::text::{after_space, dataref_of, first_word};
+use crate::text::{dataref_of, split_word};
 use git_model::FileMode;
 use git_paths::{Path, Place};
 use std::alloc::Global;
@@ -77,8 +77,9 @@ pub fn paths_of(alloc: Global, text: &[u8]) -> Result<(Path, Path), Fault>
 pub fn object_and_path(alloc: Global, text: &[u8]) -> Result<(DataRef, Path), Fault>
     ensures { Gives (λ file. file) result (changes.object_and_path text.now) }
 {
-    let object = dataref_of(first_word(text))?;
-    match after_space(text) {
+    let (word, rest) = split_word(text);
+    let object = dataref_of(word)?;
+    match rest {
         Some(rest) => {
             let path = last_path(alloc, rest)?;
             Ok((object, path))
@@ -92,8 +93,9 @@ pub fn object_and_path(alloc: Global, text: &[u8]) -> Result<(DataRef, Path), Fa
 pub fn modified(alloc: Global, text: &[u8]) -> Result<(FileMode, DataRef, Path), Fault>
     ensures { Gives (λ file. file) result (changes.modified text.now) }
 {
-    let mode = mode_of(first_word(text))?;
-    match after_space(text) {
+    let (word, rest) = split_word(text);
+    let mode = mode_of(word)?;
+    match rest {
         Some(rest) => {
             let (object, path) = object_and_path(alloc, rest)?;
             Ok((mode, object, path))
@@ -106,7 +108,7 @@ pub fn modified(alloc: Global, text: &[u8]) -> Result<(FileMode, DataRef, Path),
 fn inline_path(alloc: Global, rest: &[u8]) -> Result<Path, Fault>
     ensures { Gives (λ path. path) result (changes.inline_path rest.now) }
 {
-    match after_space(rest) {
+    match split_word(rest).1 {
         Some(text) => last_path(alloc, text),
         None => Err(Fault::Malformed),
     }
@@ -117,8 +119,9 @@ fn inline_path(alloc: Global, rest: &[u8]) -> Result<Path, Fault>
 pub fn modified_inline(alloc: Global, text: &[u8]) -> Result<(FileMode, Path), Fault>
     ensures { Gives (λ file. file) result (changes.modified_inline text.now) }
 {
-    let mode = mode_of(first_word(text))?;
-    match after_space(text) {
+    let (word, rest) = split_word(text);
+    let mode = mode_of(word)?;
+    match rest {
         Some(rest) => {
             let mode = mode_inline(mode)?;
             let path = inline_path(alloc, rest)?;

@@ -39,13 +39,14 @@ pub fn first_word(line: &[u8]) -> &[u8]
     }
 }
 
-/// The text after the first space of a line, if it has one.
-pub fn after_space(line: &[u8]) -> Option<&[u8]>
-    ensures { option_copied result ≡ texts.after_space line.now }
+/// The first word of a line, and the text after the first space, if the line has one.
+pub fn split_word(line: &[u8]) -> (&[u8], Option<&[u8]>)
+    ensures word { result.0.now ≡ texts.first_word line.now }
+    ensures rest { option_copied result.1 ≡ texts.after_space line.now }
 {
     match space_in(line) {
-        Some(index) => Some(line.split_at(index + 1).1),
-        None => None,
+        Some(index) => (line.split_at(index).0, Some(line.split_at(index + 1).1)),
+        None => (line, None),
     }
 }
 

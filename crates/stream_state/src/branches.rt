@@ -29,9 +29,16 @@ pub enum Tip {
 
 /// The branches of a stream, in the order of their first appearance. Only ref names are names of
 /// branches.
-#[derive(Drop)]
 pub struct Branches {
     tips: IndexMap<RefName, Tip>,
+}
+
+// Not derived, so that crates above need not prove again how its parts are dropped.
+impl Drop for Branches {
+    fn drop(self) {
+        let Branches { tips } = self;
+        drop(tips);
+    }
 }
 
 impl Model for Branches {

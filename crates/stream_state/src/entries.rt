@@ -19,10 +19,10 @@ use crate::print::print_line;
 use content_pool::Pool;
 use git_objects::{FileMode, Kind, Memory, Name, Naming, TreeEntry, append_listing};
 use git_paths::Path;
-use indexmap::IndexMap;
 use revisions::entry_below;
 use std::alloc::Global;
-use stream_grammar::{DataRef, Mark, MarkedObject};
+use stream_grammar::DataRef;
+use stream_marks::Marks;
 use tenant_tables::{Objects, Sight, Table};
 
 fn append_entry(
@@ -109,7 +109,7 @@ pub fn print_stored<N: Naming>(
     alloc: Global,
     pool: &Pool<N>,
     table: &Table,
-    marks: &IndexMap<Mark, MarkedObject>,
+    marks: &Marks,
     root: DataRef,
     path: &Path,
     out: &mut Vec<u8>,

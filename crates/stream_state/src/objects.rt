@@ -21,8 +21,8 @@ use crate::marks;
 use crate::print::{print_blob, print_missing, print_name};
 use content_pool::Pool;
 use git_objects::{Kind, Name, Naming};
-use indexmap::IndexMap;
-use stream_grammar::{DataRef, Mark, MarkedObject};
+use stream_grammar::{DataRef, Mark};
+use stream_marks::Marks;
 use tenant_tables::Table;
 
 fn fault_of(fault: tenant_tables::Fault) -> Fault
@@ -105,7 +105,7 @@ pub fn print_object<N: Naming>(
 pub fn print_referred<N: Naming>(
     pool: &Pool<N>,
     table: &Table,
-    marks: &IndexMap<Mark, MarkedObject>,
+    marks: &Marks,
     object: DataRef,
     out: &mut Vec<u8>,
 ) -> Result<(), Fault>
@@ -122,11 +122,7 @@ pub fn print_referred<N: Naming>(
 ///
 /// `Fault::MarkUnknown` (13) if the mark is not set, `Fault::Memory` (90) if an allocation
 /// fails. After a refusal `out` is unchanged.
-pub fn print_marked(
-    marks: &IndexMap<Mark, MarkedObject>,
-    mark: Mark,
-    out: &mut Vec<u8>,
-) -> Result<(), Fault>
+pub fn print_marked(marks: &Marks, mark: Mark, out: &mut Vec<u8>) -> Result<(), Fault>
     ensures { Shows (and_then (marked_name marks.now.entries mark) (λ id. Ok (encode_lower id)))
         out.old.items out.new.items result }
 {

@@ -70,7 +70,7 @@ fn sort_changes(changes: &mut Vec<RefChange>) -> Result<(), Memory>
     Ok(())
 }
 
-// Makes all changes in turn to `entries` and the `rest` behind them. There is room for all.
+// Makes all changes in turn to `entries` and the `rest` after them. There is room for all.
 fn merge_changes(
     entries: &mut Vec<(RefName, Name)>,
     rest: VecDeque<(RefName, Name)>,
@@ -134,7 +134,7 @@ fn move_all(entries: &mut Vec<(RefName, Name)>, rest: VecDeque<(RefName, Name)>)
     }
 }
 
-// Makes one change, whatever entries above its ref come behind. There is room for one more entry.
+// Makes one change, whatever entries above its ref come after. There is room for one more entry.
 fn change_entry(entries: &mut Vec<(RefName, Name)>, change: RefChange)
     requires in_order { IsInOrder entries.old.items }
     requires room { vec_len entries.old < vec_capacity entries.old }

@@ -58,11 +58,23 @@ use tenant_refs::{Refs, TenantName};
 use tenant_tables::Table;
 
 /// The repositories and streams of any number of tenants. Contracts see what is held of each.
-#[derive(Drop)]
 pub struct Service<N: Naming> {
     alloc: Global,
     pool: Pool<N>,
     tenants: IndexMap<TenantName, Tenant>,
+}
+
+// Not derived, so that crates above need not prove again how its parts are dropped.
+impl<N: Naming> Drop for Service<N> {
+    fn drop(self) {
+        let Service {
+            alloc: _,
+            pool,
+            tenants,
+        } = self;
+        drop(pool);
+        drop(tenants);
+    }
 }
 
 impl<N: Naming> Model for Service<N> {

@@ -115,10 +115,10 @@ in_front id xs ys r place entry = record {
 }
 
 -- the same, of a look-up that found nothing in the first list
-behind : (id : List ℕ) (xs ys : Entries) → None ≡ position (bytes_eq id) (names xs)
+after_the_first : (id : List ℕ) (xs ys : Entries) → None ≡ position (bytes_eq id) (names xs)
     → position (bytes_eq id) (names (xs ++ ys))
     ≡ option_map (λ i. length xs + i) (position (bytes_eq id) (names ys))
-behind id xs ys none =
+after_the_first id xs ys none =
     ap (position (bytes_eq id)) (names-append xs ys)
     ∙ position-append (bytes_eq id) (names xs) (names ys)
     ∙ ap (λ o. later o (option_map (λ i. length (names xs) + i) (position (bytes_eq id) (names ys)))) (sym none)
@@ -130,7 +130,7 @@ pub in_own : (id : List ℕ) (xs ys : Entries) (r : ℕ × Entry) (n : ℕ) → 
     → Found id (xs ++ ys) (Some (n + r.0, r.1))
 in_own id xs ys r n size no_place no_entry place entry = record {
   place =
-      sym (behind id xs ys no_place ∙ ap (option_map (λ i. length xs + i)) (sym place)
+      sym (after_the_first id xs ys no_place ∙ ap (option_map (λ i. length xs + i)) (sym place)
       ∙ ap (λ (m : ℕ). Some (m + r.0)) (sym size));
   entry = sym (entry_named-append id xs ys ∙ ap (λ o. later o (entry_named id ys)) (sym no_entry) ∙ sym entry);
 }
@@ -140,7 +140,7 @@ pub in_none : (id : List ℕ) (xs ys : Entries)
     → None ≡ position (bytes_eq id) (names ys) → None ≡ entry_named id ys
     → Found id (xs ++ ys) None
 in_none id xs ys no_place no_entry place entry = record {
-  place = sym (behind id xs ys no_place ∙ ap (option_map (λ i. length xs + i)) (sym place));
+  place = sym (after_the_first id xs ys no_place ∙ ap (option_map (λ i. length xs + i)) (sym place));
   entry = sym (entry_named-append id xs ys ∙ ap (λ o. later o (entry_named id ys)) (sym no_entry) ∙ sym entry);
 }
 

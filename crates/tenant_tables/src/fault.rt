@@ -6,7 +6,8 @@ ghost use Rattle.tenant_tables.specs.Fault.{fault_code};
 use git_names::Memory;
 use thiserror::Error;
 
-/// Why `Table::add`, `add_tree` and `add_tree_owned` refuse an object. Table and pool are unchanged then.
+/// Why `Table::add`, `add_tree` and `add_tree_owned` refuse an object. Table and pool are unchanged
+/// then.
 #[derive(Clone, Copy, Debug, PartialEq, Eq, Error)]
 pub enum Fault {
     /// The contents are longer than 134,217,728 bytes, or the table has 4,194,304 objects (25).

@@ -124,6 +124,7 @@ impl Table {
         Some((id, entry.slot))
     }
 
+    /// The object name at this position, and what the table keeps under it; `None` from `len` on.
     pub(crate) fn entry_at(&self, place: usize) -> Option<(Name, Entry)>
         ensures { result ≡ slice_get self.now.entries place }
     {
@@ -236,8 +237,8 @@ impl Table {
     }
 
     /// `add_tree` of bytes that the caller no longer needs, with the same faults: `Fault::Limit`
-    /// (25), `Fault::NameCollision` (24) and `Fault::Memory` (90). Table and pool are unchanged after
-    /// a fault.
+    /// (25), `Fault::NameCollision` (24) and `Fault::Memory` (90). Table and pool are unchanged
+    /// after a fault.
     ///
     /// Contents that are new to the pool are stored without a copy, and capacity beyond the length
     /// of the vector is given back. Otherwise the vector is freed.
@@ -338,8 +339,8 @@ impl Table {
         requires new { entry_named id self.old.entries ≡ None }
         requires spare { length self.old.entries < objects_limit }
         requires room { HasHoldsLeft pool.old }
-        ensures ok { OnOk result (Pushes id (content_from kind (cow_slice_items bytes.entry)) summary
-            pool.old self.old pool.new self.new) }
+        ensures ok { OnOk result (Pushes id (content_from kind (cow_slice_items bytes.entry))
+            summary pool.old self.old pool.new self.new) }
         ensures err { OnErr result ((self.new ≡ self.old) × (pool.new ≡ pool.old)) }
     {
         self.own.push_content(pool, id, kind, bytes, summary)?;

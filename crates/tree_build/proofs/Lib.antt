@@ -1,3 +1,4 @@
+pub mod Spots
 pub mod Empty
 pub mod Ordered
 pub mod Growing

@@ -1,6 +1,7 @@
 -- Where an entry stands among others: a place in their row, and in the directory that they make.
 use Rattle.std.proofs.Common.{◌≡◌, ◌≢◌, ℕ, suc, ◌<◌, ◌≤◌, Bool, true, false, cond, List, [], ◌∷◌, refl, sym, ap, ◌∙◌, subst, arith}
 use Rattle.std.proofs.lemmas.Grind.{common_steps}
+use Rattle.std.proofs.lemmas.List.{get_or_default}
 use Rattle.std.proofs.lemmas.Bool.{ne_eqb}
 use Rattle.std.specs.Prelude.{Option, None, Some, length, position, slice_index_or, slice_set, eqb}
 use Rattle.std.specs.List.{insert, remove, position_or_len}
@@ -115,6 +116,16 @@ shape_found c (x ∷ xs) k is lt y at =
       rest.0,
       λ m. ap (row x.0 (held x.1).what (held x.1).inside) (rest.1 m),
     )))
+
+-- the entry of a node, by its place
+abbrev pub entry_here : Rows → ℕ → Node → List ℕ × Node
+entry_here xs k n = ((slice_index_or xs k ([], n)).0, n)
+
+pub entry_is : (xs : Rows) (k : ℕ) (n : Node) → k < length xs → n ≡ (slice_index_or xs k ([], n)).1
+    → entry_here xs k n ≡ slice_index_or xs k (entry_here xs k n)
+entry_is xs k n lt is =
+    ap (λ (m : Node). ((slice_index_or xs k ([], n)).0, m)) is
+    ∙ get_or_default xs k ([], n) (entry_here xs k n) lt
 
 -- no opened directory
 pub not_opened : (n : Node) → ((d : Directory) → n ≡ Opened d → ⊥) → is_opened (held n).what ≡ false

@@ -253,3 +253,24 @@ put_alike (row d w inside rest) c h k ord there same =
     let is_later : is_lt (cmp (key_of c h.what) (key_of d w)) ≡ false =
     ap (λ (x : List ℕ). is_lt (cmp (c ++ x) (key_of d w))) same ∙ turned (key_of c k.what) (key_of d w) (child_after d w rest ord.0 c k later) in
     rw nay (rw is_later (ap (row d w inside) (put_alike rest c h k ord.2 later same))))
+
+-- ---- a search by halves
+
+-- where an entry does not come after a key, none up to it does
+pub none_up_to : (key : List ℕ) (es : Rows) → AreOrdered (shape_of es) → (m : ℕ) (y : List ℕ × Node)
+    → y ≡ slice_index_or es m y → m < length es → is_after key y ≡ false
+    → (i : ℕ) (d : List ℕ × Node) → i ≤ m → not (is_after key (slice_index_or es i d)) ≡ true
+none_up_to key es h m y is lt early i d le =
+    parted key es h i m d le lt
+    (ap (λ (e : List ℕ × Node). not (is_after key e)) (sym (is ∙ get_or_default es m y d lt)) ∙ ap not early)
+
+-- where an entry comes after a key, all from it on do
+pub all_from : (key : List ℕ) (es : Rows) → AreOrdered (shape_of es) → (m : ℕ) (y : List ℕ × Node)
+    → y ≡ slice_index_or es m y → m < length es → is_after key y ≡ true
+    → (i : ℕ) (d : List ℕ × Node) → m ≤ i → i < length es → not (is_after key (slice_index_or es i d)) ≡ false
+all_from key es h m y is lt late i d le within =
+    by_cases (not (is_after key (slice_index_or es i d)))
+    (λ yea.
+    absurd (true≢false (sym (parted key es h m i d le within yea)
+    ∙ ap (λ (e : List ℕ × Node). not (is_after key e)) (sym (is ∙ get_or_default es m y d lt)) ∙ ap not late)))
+    (λ nay. nay)

@@ -1,5 +1,6 @@
 -- Each opened directory is deeper than those inside it.
-use Rattle.std.specs.Prelude.{ℕ, ◌≤◌, max, List, [], ◌∷◌}
+use Rattle.std.specs.Prelude.{◌≡◌, ℕ, ◌*◌, ◌≤◌, max, List, [], ◌∷◌, ◌++◌}
+use Rattle.std.specs.Global.{Vec}
 use Rattle.std.proofs.Common.{arith}
 use denote.Param.Weighed.{most}
 use Rattle.tree_build.specs.declared.dir.Node.{Node}
@@ -7,10 +8,26 @@ use Rattle.tree_build.specs.declared.dir.Node.TheVariants.{File, Unopened, Opene
 use Rattle.tree_build.specs.declared.dir.Dir.TheDeep.{deep-Node}
 use Rattle.tree_build.specs.Nodes.{shape_of}
 use Rattle.tree_build.specs.ShapeCode.{shape_size}
+use Rattle.tree_build.specs.Chunks.{all}
 
-pub falls : (es : List (List ℕ × Node))
-    → most (λ e. max 0 (max (deep-Node e.1) 0)) es ≤ shape_size (shape_of es)
+rows_fall : (es : List (List ℕ × Node))
+    → most (λ e. max 0 (max (deep-Node e.1) 0)) es ≤ 2 * shape_size (shape_of es)
+rows_fall [] = omega arith
+rows_fall ((c, File e) ∷ es) = let rest = rows_fall es in omega arith
+rows_fall ((c, Unopened id) ∷ es) = let rest = rows_fall es in omega arith
+rows_fall ((c, Opened d) ∷ es) = let rest = rows_fall es in omega arith
+
+size_append : (xs ys : List (List ℕ × Node))
+    → shape_size (shape_of (xs ++ ys)) ≡ max (shape_size (shape_of xs)) (shape_size (shape_of ys))
+size_append [] ys = omega arith
+size_append (x ∷ xs) ys = let rest = size_append xs ys in omega arith
+
+pub falls : (vs : List (Vec (List ℕ × Node)))
+    → most (λ v. most (λ e. max 0 (max (deep-Node e.1) 0)) v.items) vs
+    ≤ 2 * shape_size (shape_of (all vs))
 falls [] = omega arith
-falls ((c, File e) ∷ es) = let rest = falls es in omega arith
-falls ((c, Unopened id) ∷ es) = let rest = falls es in omega arith
-falls ((c, Opened d) ∷ es) = let rest = falls es in omega arith
+falls (v ∷ vs) =
+    let first = rows_fall v.items in
+    let rest = falls vs in
+    let both = size_append v.items (all vs) in
+    omega arith

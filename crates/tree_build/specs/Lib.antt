@@ -5,7 +5,9 @@ pub mod Editing
 pub mod ShapeCode
 pub mod Nodes
 pub mod Searches
+pub mod Chunks
 pub mod Falls
+pub mod Lending
 pub mod Opened
 pub mod Putting
 pub mod Parts

@@ -1,5 +1,5 @@
 -- How the logic encodes what a branch holds.
-use Rattle.std.specs.Prelude.{◌≡◌, ℕ, suc, max, List, Option, refl}
+use Rattle.std.specs.Prelude.{◌≡◌, ℕ, suc, ◌+◌, ◌*◌, max, List, Option, refl}
 use Rattle.std.specs.Coded.{Coded, code_by, coded×, coded⊎, coded_ℕ, coded_list, coded_option}
 use Rattle.std.proofs.Common.{ap, ◌⊎◌, inl, inr}
 use base.Stored.{Gv, gnil, gcons}
@@ -88,4 +88,4 @@ shape_size none = 0
 shape_size (row c w inside rest) = max (suc (shape_size inside)) (shape_size rest)
 
 abbrev pub directory_size : Directory → ℕ
-directory_size d = shape_size d.entries
+directory_size d = 2 * shape_size d.entries + 1

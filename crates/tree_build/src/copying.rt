@@ -8,8 +8,7 @@ ghost use Rattle.tree_build.specs.Searches.{AreOrdered};
 ghost use Rattle.tree_build.specs.Editing.{child};
 ghost use Rattle.tree_build.specs.Moving.{standing, copied_shape, copied_held};
 
-use crate::component::Component;
-use crate::dir::{Dir, Node};
+use crate::dir::{Dir, Entries, Node};
 use crate::names::place_of;
 use git_objects::Memory;
 use git_paths::Components;
@@ -43,17 +42,16 @@ fn copied_dir(alloc: Global, dir: &Dir) -> Result<Node, Memory>
 }
 
 #[cycle(copying)]
-fn copied_entries(
-    alloc: Global,
-    entries: &[(Component, Node)],
-) -> Result<Vec<(Component, Node)>, Memory>
-    ensures { IfOk result (λ copies. shape_of copies.items ≡ copied_shape (shape_of entries.now)) }
+fn copied_entries(alloc: Global, entries: &Entries) -> Result<Entries, Memory>
+    ensures { IfOk result (λ copies. shape_of copies.items
+        ≡ copied_shape (shape_of entries.now.items)) }
 {
     let mut copies = Vec::with_capacity(alloc, entries.len())?;
-    for entry in entries {
+    for place in 0..entries.len() {
+        let entry = entries.at(place);
         copies.push((entry.0.copied(alloc)?, copied(alloc, &entry.1)?))?;
     }
-    Ok(copies)
+    Entries::of(alloc, copies)
 }
 
 /// The node at a path below another. The caller has opened the directories on the way.
@@ -72,17 +70,13 @@ pub(crate) fn find_at<'a>(node: &'a Node, path: &Components<'_>) -> Option<&'a N
 }
 
 #[cycle(finding)]
-fn find_below<'a>(
-    entries: &'a [(Component, Node)],
-    name: &[u8],
-    rest: &Components<'_>,
-) -> Option<&'a Node>
-    requires { AreOrdered (shape_of entries.now) }
+fn find_below<'a>(entries: &'a Entries, name: &[u8], rest: &Components<'_>) -> Option<&'a Node>
+    requires { AreOrdered (shape_of entries.now.items) }
     ensures { option_map (λ n. held n.now) result
-        ≡ standing rest.now (child (shape_of entries.now) name.now) }
+        ≡ standing rest.now (child (shape_of entries.now.items) name.now) }
 {
     match place_of(entries, name) {
-        Some(place) => find_at(&entries[place].1, rest),
+        Some(place) => find_at(&entries.at(place).1, rest),
         None => None,
     }
 }

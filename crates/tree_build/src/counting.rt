@@ -12,8 +12,7 @@ ghost use Rattle.tree_build.specs.Nodes.{held, shape_of};
 ghost use Rattle.tree_build.specs.Opened.{files_of};
 ghost use Rattle.tree_build.specs.Editing.{entries_in, taken, taken_at};
 
-use crate::component::Component;
-use crate::dir::Node;
+use crate::dir::{Entries, Node};
 use crate::names::place_of;
 use content_pool::Pool;
 use git_objects::{Name, Naming};
@@ -48,16 +47,17 @@ pub(crate) fn count<N: Naming>(pool: &Pool<N>, table: &Table, node: &Node) -> us
 }
 
 #[cycle(counting)]
-fn count_all<N: Naming>(pool: &Pool<N>, table: &Table, entries: &[(Component, Node)]) -> usize
+fn count_all<N: Naming>(pool: &Pool<N>, table: &Table, entries: &Entries) -> usize
     requires stands { IsBackedBy N.digest_of pool.now table.now.entries }
-    requires sound { IsShape (objects pool.now table.now.entries) (shape_of entries.now) }
+    requires sound { IsShape (objects pool.now table.now.entries) (shape_of entries.now.items) }
     requires few { length (shape_files (stored_files (objects pool.now table.now.entries))
-        (shape_of entries.now)) ≤ files_limit }
+        (shape_of entries.now.items)) ≤ files_limit }
     ensures { result ≡ length (shape_files (stored_files (objects pool.now table.now.entries))
-        (shape_of entries.now)) }
+        (shape_of entries.now.items)) }
 {
     let mut files = 0;
-    for entry in entries {
+    for place in 0..entries.len() {
+        let entry = entries.at(place);
         files += count(pool, table, &entry.1);
     }
     files
@@ -70,22 +70,22 @@ fn count_all<N: Naming>(pool: &Pool<N>, table: &Table, entries: &[(Component, No
 pub(crate) fn taken<N: Naming>(
     pool: &Pool<N>,
     table: &Table,
-    entries: &[(Component, Node)],
+    entries: &Entries,
     path: &Components<'_>,
     clear: bool,
 ) -> usize
     requires stands { IsBackedBy N.digest_of pool.now table.now.entries }
-    requires sound { IsShape (objects pool.now table.now.entries) (shape_of entries.now) }
+    requires sound { IsShape (objects pool.now table.now.entries) (shape_of entries.now.items) }
     requires few { length (shape_files (stored_files (objects pool.now table.now.entries))
-        (shape_of entries.now)) ≤ files_limit }
+        (shape_of entries.now.items)) ≤ files_limit }
     ensures { result ≡ taken (stored_files (objects pool.now table.now.entries)) clear path.now
-        (shape_of entries.now) }
+        (shape_of entries.now.items) }
 {
     let Some((name, rest)) = path.split_first() else {
         return 0;
     };
     match place_of(entries, name) {
-        Some(at) => taken_below(pool, table, &entries[at].1, &rest, clear),
+        Some(at) => taken_below(pool, table, &entries.at(at).1, &rest, clear),
         None => 0,
     }
 }

@@ -15,9 +15,19 @@ use std::marker::Model;
 #[derive(Drop)]
 pub(crate) struct Dir {
     /// Its direct entries, in the order of a tree's entries.
-    pub(crate) entries: Vec<(Component, Node)>,
+    pub(crate) entries: Entries,
     /// The name of its stored tree, if it is one. Opening and storing set it, an edit clears it.
     pub(crate) tree: Option<Name>,
+}
+
+/// The direct entries of a directory, in their order. Only the module `chunks` looks into the chunks.
+#[cycle(dir)]
+#[derive(Drop)]
+pub(crate) struct Entries {
+    /// How many entries all chunks have.
+    pub(crate) len: usize,
+    /// The entries, one chunk after the other.
+    pub(crate) chunks: Vec<Vec<(Component, Node)>>,
 }
 
 /// What a direct entry is: a file or a directory.
@@ -28,6 +38,28 @@ pub(crate) enum Node {
     /// A directory that was not opened, by the name of its stored tree.
     Unopened(Name),
     Opened(Dir),
+}
+
+impl Model for Entries {
+    ghost use Rattle.std.specs.Prelude.{◌≡◌, length};
+    ghost use Rattle.std.specs.Coded.{codes};
+    ghost use Rattle.tree_build.specs.ShapeCode.{directory_code};
+    ghost use Rattle.tree_build.specs.Chunks.{Listing, all, listing_size};
+
+    ghost Value = { Listing };
+
+    ghost coded = { Prim.hlevel (codes, directory_code) };
+
+    ghost view = { λ e. record { items = all e.chunks.items } };
+
+    ghost invariant = { λ e. e.len ≡ length (all e.chunks.items) };
+
+    ghost size = { listing_size };
+
+    ghost use Rattle.std.proofs.Common.{arith};
+    ghost use Rattle.tree_build.specs.Falls.{falls};
+
+    ghost size_decreases = { λ a h. omega (arith, falls a.chunks.items) };
 }
 
 impl Model for Dir {
@@ -45,9 +77,8 @@ impl Model for Dir {
     ghost size = { directory_size };
 
     ghost use Rattle.std.proofs.Common.{arith};
-    ghost use Rattle.tree_build.specs.Falls.{falls};
 
-    ghost size_decreases = { λ a h. omega (arith, falls a.entries.items) };
+    ghost size_decreases = { λ a h. omega arith };
 }
 
 impl Dir {
@@ -57,7 +88,7 @@ impl Dir {
         ensures entries { result.entries ≡ none }
     {
         Dir {
-            entries: Vec::new(alloc),
+            entries: Entries::new(alloc),
             tree: None,
         }
     }
@@ -66,6 +97,6 @@ impl Dir {
     pub(crate) fn is_empty(&self) -> bool
         ensures { result ≡ is_none self.now.entries }
     {
-        self.entries.as_slice().is_empty()
+        self.entries.len() == 0
     }
 }

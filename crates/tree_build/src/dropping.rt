@@ -11,8 +11,7 @@ ghost use Rattle.tree_build.specs.Searches.{AreOrdered};
 ghost use Rattle.tree_build.specs.Editing.{child, entries_in, left, put_back, dropped};
 ghost use Rattle.tree_build.specs.Moving.{standing, rest_of};
 
-use crate::component::Component;
-use crate::dir::{Dir, Node};
+use crate::dir::{Dir, Entries, Node};
 use crate::names::{place_of, remove};
 use git_paths::Components;
 use std::alloc::Global;
@@ -38,7 +37,7 @@ pub(crate) fn take_at(dir: &mut Dir, path: &Components<'_>, clear: bool) -> Opti
 // The same at the path of `name` and then `rest`.
 #[cycle(dropping)]
 fn take_below(
-    entries: &mut Vec<(Component, Node)>,
+    entries: &mut Entries,
     name: &[u8],
     rest: &Components<'_>,
     clear: bool,
@@ -57,7 +56,7 @@ fn take_below(
     let Some(at) = place_of(entries, name) else {
         return None;
     };
-    let (taken, goes) = take_inside(&mut entries[at].1, rest, clear);
+    let (taken, goes) = take_inside(entries.node_mut(at), rest, clear);
     if goes {
         entries.remove(at);
     }

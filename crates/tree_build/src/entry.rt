@@ -10,8 +10,7 @@ ghost use Rattle.tree_build.specs.Branch.{IsDirectory, IsShape, IsHeld, IsBranch
 ghost use Rattle.tree_build.specs.Nodes.{held, shape_of};
 ghost use Rattle.tree_build.specs.Standing.{stands_at};
 
-use crate::component::Component;
-use crate::dir::Node;
+use crate::dir::{Entries, Node};
 use crate::files::Files;
 use crate::names::place_of;
 use crate::naming::{entry_here, tree_of};
@@ -55,18 +54,19 @@ fn entry_below<N: Naming>(
     alloc: Global,
     pool: &Pool<N>,
     table: &Table,
-    entries: &[(Component, Node)],
+    entries: &Entries,
     name: &[u8],
     rest: &Components<'_>,
 ) -> Result<Option<Entry>, Memory>
     requires stands { IsBackedBy N.digest_of pool.now table.now.entries }
-    requires sound { IsShape (objects pool.now table.now.entries) (shape_of entries.now) }
+    requires sound { IsShape (objects pool.now table.now.entries) (shape_of entries.now.items) }
     ensures { IfOk result (λ o. o ≡ stands_at N.digest_of
-        (shape_files (stored_files (objects pool.now table.now.entries)) (shape_of entries.now))
+        (shape_files (stored_files (objects pool.now table.now.entries))
+        (shape_of entries.now.items))
         (name.now ∷ rest.now)) }
 {
     match place_of(entries, name) {
-        Some(place) => entry_at(alloc, pool, table, &entries[place].1, rest),
+        Some(place) => entry_at(alloc, pool, table, &entries.at(place).1, rest),
         None => Ok(None),
     }
 }

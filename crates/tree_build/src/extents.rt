@@ -13,8 +13,7 @@ ghost use Rattle.tree_build.specs.Branch.{IsShape, IsHeld};
 ghost use Rattle.tree_build.specs.Nodes.{held, shape_of};
 ghost use Rattle.tree_build.specs.Sums.{IsSmall};
 
-use crate::component::Component;
-use crate::dir::{Dir, Node};
+use crate::dir::{Dir, Entries, Node};
 use crate::sums::{below, both, no_files, one_file};
 use content_pool::Pool;
 use git_objects::Naming;
@@ -66,16 +65,17 @@ fn extent_of_dir<N: Naming>(pool: &Pool<N>, table: &Table, dir: &Dir) -> Summary
 }
 
 #[cycle(measuring)]
-fn extent_of_all<N: Naming>(pool: &Pool<N>, table: &Table, entries: &[(Component, Node)]) -> Summary
+fn extent_of_all<N: Naming>(pool: &Pool<N>, table: &Table, entries: &Entries) -> Summary
     requires stands { IsBackedBy N.digest_of pool.now table.now.entries }
-    requires sound { IsShape (objects pool.now table.now.entries) (shape_of entries.now) }
+    requires sound { IsShape (objects pool.now table.now.entries) (shape_of entries.now.items) }
     requires small { IsSmall (files_summary (shape_files
-        (stored_files (objects pool.now table.now.entries)) (shape_of entries.now))) }
+        (stored_files (objects pool.now table.now.entries)) (shape_of entries.now.items))) }
     ensures { result ≡ files_summary (shape_files
-        (stored_files (objects pool.now table.now.entries)) (shape_of entries.now)) }
+        (stored_files (objects pool.now table.now.entries)) (shape_of entries.now.items)) }
 {
     let mut sum = no_files();
-    for entry in entries {
+    for place in 0..entries.len() {
+        let entry = entries.at(place);
         sum = both(sum, extent_under(pool, table, entry.0.as_bytes(), &entry.1));
     }
     sum

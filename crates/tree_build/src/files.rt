@@ -20,7 +20,6 @@ use std::mem;
 /// The files of a branch. Trees are read only when a call needs them.
 ///
 /// A value names stored trees. Each call must be given the pool and the table that hold them.
-#[derive(Drop)]
 pub struct Files {
     pub(crate) alloc: Global,
     pub(crate) root: Node,
@@ -29,6 +28,21 @@ pub struct Files {
     pub(crate) earlier: Option<Dir>,
     pub(crate) files: usize,
     pub(crate) reads: u64,
+}
+
+// Not derived, so that crates above need not prove again how its parts are dropped.
+impl Drop for Files {
+    fn drop(self) {
+        let Files {
+            alloc: _,
+            root,
+            earlier,
+            files: _,
+            reads: _,
+        } = self;
+        drop(root);
+        drop(earlier);
+    }
 }
 
 impl Model for Files {

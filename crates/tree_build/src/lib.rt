@@ -1,6 +1,7 @@
 //! The files of a branch as a tree of directories. A directory is read only when it is needed.
 #![tactic(auto)]
 
+mod chunks;
 mod component;
 mod copying;
 mod counting;

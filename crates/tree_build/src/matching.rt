@@ -13,7 +13,7 @@ ghost use Rattle.tree_build.specs.Nodes.{shape_of};
 ghost use Rattle.tree_build.specs.Stores.{AreNamed, entries_of_shape};
 
 use crate::component::Component;
-use crate::dir::{Dir, Node};
+use crate::dir::{Dir, Entries, Node};
 use crate::names::node_like;
 use crate::storing::row_of;
 use content_pool::Pool;
@@ -39,15 +39,16 @@ fn after_entry<'a>(contents: &'a [u8], entry: &TreeEntry<'_>) -> Option<&'a [u8]
 }
 
 // Whether the contents of a tree list these entries and no others.
-fn lists(contents: &[u8], entries: &[(Component, Node)]) -> bool
-    requires { AreNamed (shape_of entries.now) }
+fn lists(contents: &[u8], entries: &Entries) -> bool
+    requires { AreNamed (shape_of entries.now.items) }
     ensures contents { result ≡ true
-        → contents.now ≡ tree_contents (entries_of_shape (shape_of entries.now)) }
+        → contents.now ≡ tree_contents (entries_of_shape (shape_of entries.now.items)) }
     ensures ids { result ≡ true
-        → AllByRecursion (λ e. IsObjectName e.id) (entries_of_shape (shape_of entries.now)) }
+        → AllByRecursion (λ e. IsObjectName e.id) (entries_of_shape (shape_of entries.now.items)) }
 {
     let mut rest = contents;
-    for entry in entries {
+    for place in 0..entries.len() {
+        let entry = entries.at(place);
         let row = row_of(entry);
         has_twenty_bytes(&row.id);
         match after_entry(rest, &row) {
@@ -59,18 +60,13 @@ fn lists(contents: &[u8], entries: &[(Component, Node)]) -> bool
 }
 
 // Whether a table has the tree of these entries under a name.
-fn is_tree_of<N: Naming>(
-    pool: &Pool<N>,
-    table: &Table,
-    id: &Name,
-    entries: &[(Component, Node)],
-) -> bool
+fn is_tree_of<N: Naming>(pool: &Pool<N>, table: &Table, id: &Name, entries: &Entries) -> bool
     requires stands { IsBackedBy N.digest_of pool.now table.now.entries }
-    requires named { AreNamed (shape_of entries.now) }
+    requires named { AreNamed (shape_of entries.now.items) }
     ensures there { result ≡ true → object_named id.now (objects pool.now table.now.entries)
-        ≡ Some (tree_content (entries_of_shape (shape_of entries.now))) }
+        ≡ Some (tree_content (entries_of_shape (shape_of entries.now.items))) }
     ensures ids { result ≡ true
-        → AllByRecursion (λ e. IsObjectName e.id) (entries_of_shape (shape_of entries.now)) }
+        → AllByRecursion (λ e. IsObjectName e.id) (entries_of_shape (shape_of entries.now.items)) }
 {
     match Objects::of(pool, table, Sight::All).get(id) {
         Some((Kind::Tree, contents)) => lists(contents, entries),
@@ -82,15 +78,16 @@ fn is_tree_of<N: Naming>(
 pub(crate) fn tree_again<N: Naming>(
     pool: &Pool<N>,
     table: &Table,
-    entries: &[(Component, Node)],
+    entries: &Entries,
     earlier: Option<&Dir>,
 ) -> Option<Name>
     requires stands { IsBackedBy N.digest_of pool.now table.now.entries }
-    requires named { AreNamed (shape_of entries.now) }
+    requires named { AreNamed (shape_of entries.now.items) }
     ensures there { IfSome result (λ id. object_named id (objects pool.now table.now.entries)
-        ≡ Some (tree_content (entries_of_shape (shape_of entries.now)))) }
+        ≡ Some (tree_content (entries_of_shape (shape_of entries.now.items)))) }
     ensures ids { IfSome result
-        (λ id. AllByRecursion (λ e. IsObjectName e.id) (entries_of_shape (shape_of entries.now))) }
+        (λ id. AllByRecursion (λ e. IsObjectName e.id)
+        (entries_of_shape (shape_of entries.now.items))) }
 {
     let id = earlier?.tree?;
     if is_tree_of(pool, table, &id, entries) {

@@ -15,8 +15,9 @@ ghost use Rattle.tree_build.specs.Nodes.{held, shape_of, has_name};
 ghost use Rattle.tree_build.specs.Searches.{AreOrdered, is_after, IsPlaceAfter, IsNotLast, HasNone};
 
 use crate::component::Component;
-use crate::dir::Node;
+use crate::dir::{Entries, Node};
 use git_objects::{FileMode, Memory, Name, TreeEntry};
+use std::alloc::Global;
 
 // An entry of this name and mode, to compare with others in Git's order.
 fn ordered(name: &[u8], mode: FileMode) -> TreeEntry<'_>
@@ -50,48 +51,59 @@ fn is_named(entry: &(Component, Node), name: &[u8]) -> bool
 }
 
 // Whether the last entry has a name.
-fn is_last(entries: &[(Component, Node)], name: &[u8]) -> bool
-    requires { AreOrdered (shape_of entries.now) }
+fn is_last(entries: &Entries, name: &[u8]) -> bool
+    requires { AreOrdered (shape_of entries.now.items) }
     ensures last { result ≡ true
-        → position (has_name name.now) entries.now ≡ Some (length entries.now - 1) }
-    ensures some { result ≡ true → 0 < length entries.now }
-    ensures other { result ≡ false → IsNotLast name.now entries.now }
+        → position (has_name name.now) entries.now.items ≡ Some (length entries.now.items - 1) }
+    ensures some { result ≡ true → 0 < length entries.now.items }
+    ensures other { result ≡ false → IsNotLast name.now entries.now.items }
 {
     let count = entries.len();
     if count == 0 {
         return false;
     }
-    is_named(&entries[count - 1], name)
+    is_named(entries.at(count - 1), name)
 }
 
 // Whether no entry comes after `entry` in Git's order.
-fn is_past_all(entries: &[(Component, Node)], entry: &TreeEntry<'_>) -> bool
-    requires { AreOrdered (shape_of entries.now) }
+fn is_past_all(entries: &Entries, entry: &TreeEntry<'_>) -> bool
+    requires { AreOrdered (shape_of entries.now.items) }
     ensures { result ≡ true
-        → IsPlaceAfter (order_key (entry_of entry.now)) entries.now (length entries.now) }
+        → IsPlaceAfter (order_key (entry_of entry.now)) entries.now.items
+        (length entries.now.items) }
 {
     let count = entries.len();
     if count == 0 {
         return true;
     }
-    !comes_before(entry, &entries[count - 1])
+    !comes_before(entry, entries.at(count - 1))
 }
 
 // The place from which on all entries come after `entry` in Git's order, by binary search. None
 // before it does.
-fn place_by_halves(entries: &[(Component, Node)], entry: &TreeEntry<'_>) -> usize
-    requires { AreOrdered (shape_of entries.now) }
-    ensures within { result ≤ length entries.now }
-    ensures point { IsPlaceAfter (order_key (entry_of entry.now)) entries.now result }
+fn place_by_halves(entries: &Entries, entry: &TreeEntry<'_>) -> usize
+    ensures within { result ≤ length entries.now.items }
+    ensures point { AreOrdered (shape_of entries.now.items)
+        → IsPlaceAfter (order_key (entry_of entry.now)) entries.now.items result }
 {
-    entries.partition_point(|other| !comes_before(entry, other))
+    let mut low = 0;
+    let mut high = entries.len();
+    while low < high {
+        let middle = low + (high - low) / 2;
+        if comes_before(entry, entries.at(middle)) {
+            high = middle;
+        } else {
+            low = middle + 1;
+        }
+    }
+    low
 }
 
 // The same place. The last entry is looked at first.
-fn place_after(entries: &[(Component, Node)], entry: &TreeEntry<'_>) -> usize
-    requires { AreOrdered (shape_of entries.now) }
-    ensures within { result ≤ length entries.now }
-    ensures point { IsPlaceAfter (order_key (entry_of entry.now)) entries.now result }
+fn place_after(entries: &Entries, entry: &TreeEntry<'_>) -> usize
+    requires { AreOrdered (shape_of entries.now.items) }
+    ensures within { result ≤ length entries.now.items }
+    ensures point { IsPlaceAfter (order_key (entry_of entry.now)) entries.now.items result }
 {
     if is_past_all(entries, entry) {
         return entries.len();
@@ -101,17 +113,17 @@ fn place_after(entries: &[(Component, Node)], entry: &TreeEntry<'_>) -> usize
 
 // The place of the entry of a name, if a new entry of this name and mode would come right after it.
 // An entry of this name and mode is always found.
-fn place_before(entries: &[(Component, Node)], name: &[u8], mode: FileMode) -> Option<usize>
-    requires { AreOrdered (shape_of entries.now) }
-    ensures { MatchOption result (HasNone name.now (slash_of mode) entries.now)
-        (λ at. position (has_name name.now) entries.now ≡ Some at) }
+fn place_before(entries: &Entries, name: &[u8], mode: FileMode) -> Option<usize>
+    requires { AreOrdered (shape_of entries.now.items) }
+    ensures { MatchOption result (HasNone name.now (slash_of mode) entries.now.items)
+        (λ at. position (has_name name.now) entries.now.items ≡ Some at) }
 {
     let next = place_by_halves(entries, &ordered(name, mode));
     if next == 0 {
         return None;
     }
     let at = next - 1;
-    if is_named(&entries[at], name) {
+    if is_named(entries.at(at), name) {
         Some(at)
     } else {
         None
@@ -119,9 +131,9 @@ fn place_before(entries: &[(Component, Node)], name: &[u8], mode: FileMode) -> O
 }
 
 /// The place of the entry of a name.
-pub(crate) fn place_of(entries: &[(Component, Node)], name: &[u8]) -> Option<usize>
-    requires { AreOrdered (shape_of entries.now) }
-    ensures { result ≡ position (has_name name.now) entries.now }
+pub(crate) fn place_of(entries: &Entries, name: &[u8]) -> Option<usize>
+    requires { AreOrdered (shape_of entries.now.items) }
+    ensures { result ≡ position (has_name name.now) entries.now.items }
 {
     if is_last(entries, name) {
         return Some(entries.len() - 1);
@@ -137,13 +149,13 @@ pub(crate) fn place_of(entries: &[(Component, Node)], name: &[u8]) -> Option<usi
 
 /// The node of a directory's name, as a guess: among entries that are not in order it may be
 /// overlooked.
-pub(crate) fn node_like<'a>(entries: &'a [(Component, Node)], name: &[u8]) -> Option<&'a Node> {
+pub(crate) fn node_like<'a>(entries: &'a Entries, name: &[u8]) -> Option<&'a Node> {
     let directory = ordered(name, FileMode::Directory);
-    let next = entries.partition_point(|other| !comes_before(&directory, other));
+    let next = place_by_halves(entries, &directory);
     if next == 0 {
         return None;
     }
-    let entry = &entries[next - 1];
+    let entry = entries.at(next - 1);
     if is_named(entry, name) {
         Some(&entry.1)
     } else {
@@ -153,7 +165,8 @@ pub(crate) fn node_like<'a>(entries: &'a [(Component, Node)], name: &[u8]) -> Op
 
 /// Puts an entry in its place among others. Takes memory for it.
 pub(crate) fn insert(
-    entries: &mut Vec<(Component, Node)>,
+    alloc: Global,
+    entries: &mut Entries,
     name: Component,
     node: Node,
 ) -> Result<(), Memory>
@@ -162,12 +175,11 @@ pub(crate) fn insert(
         ≡ inserted name (held node) (shape_of entries.old.items)) }
 {
     let place = place_after(entries, &ordered(name.as_bytes(), order_mode(&node)));
-    entries.insert(place, (name, node))?;
-    Ok(())
+    entries.insert(alloc, place, (name, node))
 }
 
 /// Takes out the entry of a name, if there is one, and answers its node.
-pub(crate) fn remove(entries: &mut Vec<(Component, Node)>, name: &[u8]) -> Option<Node>
+pub(crate) fn remove(entries: &mut Entries, name: &[u8]) -> Option<Node>
     requires { AreOrdered (shape_of entries.old.items) }
     ensures entries { shape_of entries.new.items ≡ removed (shape_of entries.old.items) name.now }
     ensures node { option_map held result ≡ child (shape_of entries.old.items) name.now }

@@ -13,7 +13,7 @@ ghost use Rattle.tree_build.specs.Nodes.{held, shape_of};
 ghost use Rattle.tree_build.specs.Standing.{stands_at};
 
 use crate::component::Component;
-use crate::dir::{Dir, Node};
+use crate::dir::{Dir, Entries, Node};
 use content_pool::Pool;
 use file_maps::{Entry, contents_of};
 use git_objects::{FileMode, Kind, Memory, Name, Naming, TreeEntry};
@@ -45,12 +45,13 @@ fn tree_of_entries<N: Naming>(
     alloc: Global,
     pool: &Pool<N>,
     table: &Table,
-    entries: &[(Component, Node)],
+    entries: &Entries,
 ) -> Result<Name, Memory>
     requires stands { IsBackedBy N.digest_of pool.now table.now.entries }
-    requires sound { IsShape (objects pool.now table.now.entries) (shape_of entries.now) }
+    requires sound { IsShape (objects pool.now table.now.entries) (shape_of entries.now.items) }
     ensures { IfOk result (λ id. id ≡ tree_id N.digest_of
-        (shape_files (stored_files (objects pool.now table.now.entries)) (shape_of entries.now))) }
+        (shape_files (stored_files (objects pool.now table.now.entries))
+        (shape_of entries.now.items))) }
 {
     let mut rows = Vec::new(alloc);
     match push_rows(alloc, pool, table, entries, &mut rows) {
@@ -65,16 +66,18 @@ fn push_rows<'a, N: Naming>(
     alloc: Global,
     pool: &Pool<N>,
     table: &Table,
-    entries: &'a [(Component, Node)],
+    entries: &'a Entries,
     rows: &mut Vec<TreeEntry<'a>>,
 ) -> Result<(), Memory>
     requires stands { IsBackedBy N.digest_of pool.now table.now.entries }
-    requires sound { IsShape (objects pool.now table.now.entries) (shape_of entries.now) }
+    requires sound { IsShape (objects pool.now table.now.entries) (shape_of entries.now.items) }
     requires none { rows.old.items ≡ [] }
     ensures { OnOk result (entries_of rows.new.items ≡ tree_entries N.digest_of
-        (shape_files (stored_files (objects pool.now table.now.entries)) (shape_of entries.now))) }
+        (shape_files (stored_files (objects pool.now table.now.entries))
+        (shape_of entries.now.items))) }
 {
-    for entry in entries {
+    for place in 0..entries.len() {
+        let entry = entries.at(place);
         let held = entry_here(alloc, pool, table, &entry.1)?;
         if rows.push(row_of(entry, held)).is_err() {
             return Err(Memory);

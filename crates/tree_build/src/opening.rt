@@ -14,7 +14,7 @@ ghost use Rattle.tree_build.specs.Nodes.{held, shape_of};
 ghost use Rattle.tree_build.specs.Opened.{entry_held, tree_shape, IsOpening, OpensAlong, OpensHeld, ReadsMore};
 
 use crate::component::Component;
-use crate::dir::{Dir, Node};
+use crate::dir::{Dir, Entries, Node};
 use crate::names::place_of;
 use content_pool::Pool;
 use file_maps::{Entry, read_entries};
@@ -69,7 +69,7 @@ pub(crate) fn open<N: Naming>(
 {
     let entries = read_entries(alloc, pool, table, id)?;
     Ok(Dir {
-        entries: rows_of(alloc, &entries)?,
+        entries: Entries::of(alloc, rows_of(alloc, &entries)?)?,
         tree: Some(*id),
     })
 }
@@ -96,7 +96,7 @@ pub(crate) fn open_along<N: Naming>(
         return Ok(());
     };
     match place_of(&dir.entries, name) {
-        Some(at) => open_below(alloc, pool, table, &mut dir.entries[at].1, &rest, reads),
+        Some(at) => open_below(alloc, pool, table, dir.entries.node_mut(at), &rest, reads),
         None => Ok(()),
     }
 }

@@ -10,7 +10,7 @@ ghost use Rattle.tree_build.specs.Searches.{AreOrdered};
 ghost use Rattle.tree_build.specs.Editing.{child, removed, inserted, new_directory, has_opened, is_opened, entries_in, put_next, placed};
 
 use crate::component::{Component, has_components};
-use crate::dir::{Dir, Node};
+use crate::dir::{Dir, Entries, Node};
 use crate::names::{insert, order_mode, place_of};
 use git_objects::Memory;
 use git_paths::Components;
@@ -18,7 +18,8 @@ use std::alloc::Global;
 
 /// Replaces the node of the entry at a place.
 pub(crate) fn put_instead(
-    entries: &mut Vec<(Component, Node)>,
+    alloc: Global,
+    entries: &mut Entries,
     at: usize,
     name: &[u8],
     node: Node,
@@ -28,41 +29,36 @@ pub(crate) fn put_instead(
     ensures { OnOk result (shape_of entries.new.items
         ≡ inserted name.now (held node) (removed (shape_of entries.old.items) name.now)) }
 {
-    if order_mode(&entries[at].1) == order_mode(&node) {
-        entries[at].1 = node;
+    if order_mode(&entries.at(at).1) == order_mode(&node) {
+        *entries.node_mut(at) = node;
         return Ok(());
     }
     let (owned, _) = entries.remove(at);
-    insert(entries, owned, node)
+    insert(alloc, entries, owned, node)
 }
 
 // Puts an entry, in place of the one of the same name if there is one.
-fn put_entry(
-    alloc: Global,
-    entries: &mut Vec<(Component, Node)>,
-    name: &[u8],
-    node: Node,
-) -> Result<(), Memory>
+fn put_entry(alloc: Global, entries: &mut Entries, name: &[u8], node: Node) -> Result<(), Memory>
     requires name { IsComponent name.now }
     requires ordered { AreOrdered (shape_of entries.old.items) }
     ensures { OnOk result (shape_of entries.new.items
         ≡ inserted name.now (held node) (removed (shape_of entries.old.items) name.now)) }
 {
     match place_of(entries, name) {
-        Some(at) => put_instead(entries, at, name, node),
-        None => insert(entries, Component::new(alloc, name)?, node),
+        Some(at) => put_instead(alloc, entries, at, name, node),
+        None => insert(alloc, entries, Component::new(alloc, name)?, node),
     }
 }
 
 // The place of the entry of a name, if it is an opened directory.
-fn opened_place(entries: &[(Component, Node)], name: &[u8]) -> Option<usize>
-    requires { AreOrdered (shape_of entries.now) }
-    ensures { MatchOption result (has_opened (child (shape_of entries.now) name.now) ≡ false)
-        (λ at. (position (has_name name.now) entries.now ≡ Some at)
-        × (has_opened (child (shape_of entries.now) name.now) ≡ true)) }
+fn opened_place(entries: &Entries, name: &[u8]) -> Option<usize>
+    requires { AreOrdered (shape_of entries.now.items) }
+    ensures { MatchOption result (has_opened (child (shape_of entries.now.items) name.now) ≡ false)
+        (λ at. (position (has_name name.now) entries.now.items ≡ Some at)
+        × (has_opened (child (shape_of entries.now.items) name.now) ≡ true)) }
 {
     match place_of(entries, name) {
-        Some(at) => match &entries[at].1 {
+        Some(at) => match &entries.at(at).1 {
             Node::Opened(_) => Some(at),
             _ => None,
         },
@@ -97,7 +93,7 @@ pub(crate) fn place(
 #[cycle(placing)]
 fn place_below(
     alloc: Global,
-    entries: &mut Vec<(Component, Node)>,
+    entries: &mut Entries,
     name: &[u8],
     rest: &Components<'_>,
     node: Node,
@@ -110,7 +106,7 @@ fn place_below(
         (placed rest.now (held node) (entries_in (child (shape_of entries.old.items) name.now)))) }
 {
     match opened_place(entries, name) {
-        Some(at) => place_inside(alloc, &mut entries[at].1, rest, node),
+        Some(at) => place_inside(alloc, entries.node_mut(at), rest, node),
         None => {
             let mut below = Dir::empty(alloc);
             place(alloc, &mut below, rest, node)?;

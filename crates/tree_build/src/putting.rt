@@ -19,7 +19,7 @@ ghost use Rattle.tree_build.specs.Putting.{file_held, new_node, has_more, leads_
 
 use crate::component::{Component, has_components};
 use crate::counting::count;
-use crate::dir::{Dir, Node};
+use crate::dir::{Dir, Entries, Node};
 use crate::names::{insert, place_of};
 use crate::opening::open;
 use crate::placing::{place, put_instead};
@@ -61,7 +61,7 @@ fn new_node(alloc: Global, rest: &Components<'_>, entry: Entry) -> Result<Node, 
 // Puts an entry where there is none of its name.
 fn put_new(
     alloc: Global,
-    entries: &mut Vec<(Component, Node)>,
+    entries: &mut Entries,
     name: &[u8],
     rest: &Components<'_>,
     entry: Entry,
@@ -72,7 +72,7 @@ fn put_new(
         ≡ inserted name.now (new_node rest.now (file_held entry)) (shape_of entries.old.items)) }
 {
     let node = new_node(alloc, rest, entry)?;
-    insert(entries, Component::new(alloc, name)?, node)
+    insert(alloc, entries, Component::new(alloc, name)?, node)
 }
 
 /// Puts a file at a path below a directory, and answers how many files it took the place of. Takes
@@ -106,19 +106,25 @@ pub(crate) fn put_along<N: Naming>(
         put_new(alloc, &mut dir.entries, name, &rest, entry)?;
         return Ok(0);
     };
-    if leads_into(&dir.entries[at].1, &rest) {
+    if leads_into(&dir.entries.at(at).1, &rest) {
         return put_inside(
             alloc,
             pool,
             table,
-            &mut dir.entries[at].1,
+            dir.entries.node_mut(at),
             &rest,
             entry,
             reads,
         );
     }
-    let gone = count(pool, table, &dir.entries[at].1);
-    put_instead(&mut dir.entries, at, name, new_node(alloc, &rest, entry)?)?;
+    let gone = count(pool, table, &dir.entries.at(at).1);
+    put_instead(
+        alloc,
+        &mut dir.entries,
+        at,
+        name,
+        new_node(alloc, &rest, entry)?,
+    )?;
     Ok(gone)
 }
 

@@ -17,8 +17,7 @@ ghost use Rattle.tree_build.specs.Nodes.{held, shape_of};
 ghost use Rattle.tree_build.specs.Standing.{IsFoundAt};
 ghost use Rattle.tree_build.specs.Stores.{bare, bare_held};
 
-use crate::component::Component;
-use crate::dir::{Dir, Node};
+use crate::dir::{Dir, Entries, Node};
 use crate::files::Files;
 use crate::names::place_of;
 use crate::reading::stored_entry;
@@ -145,7 +144,7 @@ fn store_below<N: Naming>(
     alloc: Global,
     pool: &mut Pool<N>,
     table: &mut Table,
-    entries: &mut Vec<(Component, Node)>,
+    entries: &mut Entries,
     name: &[u8],
     rest: &Components<'_>,
     reads: &mut u64,
@@ -168,7 +167,7 @@ fn store_below<N: Naming>(
 {
     match place_of(entries, name) {
         Some(place) => {
-            let node = &mut entries[place].1;
+            let node = entries.node_mut(place);
             store_path(alloc, pool, table, node, None, rest, reads)
         }
         None => store_none(alloc, pool, table),

@@ -18,7 +18,7 @@ ghost use Rattle.tree_build.specs.Nodes.{held, shape_of};
 ghost use Rattle.tree_build.specs.Stores.{bare, bare_held, IsNamed, AreNamed, entry_of_what, entries_of_shape, parts_of, trees_below, trees_of_parts};
 
 use crate::component::Component;
-use crate::dir::{Dir, Node};
+use crate::dir::{Dir, Entries, Node};
 use crate::matching::{earlier_of, tree_again};
 use crate::sums::summary_of;
 use content_pool::Pool;
@@ -75,7 +75,7 @@ fn store_inside<N: Naming>(
     alloc: Global,
     pool: &mut Pool<N>,
     table: &mut Table,
-    entries: &mut Vec<(Component, Node)>,
+    entries: &mut Entries,
     earlier: Option<&Dir>,
 ) -> Result<(), Fault>
     requires stands { IsBackedBy N.digest_of pool.old table.old.entries }
@@ -106,7 +106,7 @@ fn store_at<N: Naming>(
     alloc: Global,
     pool: &mut Pool<N>,
     table: &mut Table,
-    entries: &mut Vec<(Component, Node)>,
+    entries: &mut Entries,
     place: usize,
     earlier: Option<&Dir>,
 ) -> Result<(), Fault>
@@ -125,8 +125,8 @@ fn store_at<N: Naming>(
     ensures named { OnOk result (AreNamed (shape_of (take place entries.old.items)) → AreNamed
         (shape_of (take (place + 1) entries.new.items))) }
 {
-    let earlier = earlier_of(earlier, &entries[place]);
-    store_node(alloc, pool, table, &mut entries[place].1, earlier)
+    let earlier = earlier_of(earlier, entries.at(place));
+    store_node(alloc, pool, table, entries.node_mut(place), earlier)
 }
 
 // Stores the trees of a node, if it is a directory.
@@ -168,20 +168,21 @@ fn add_tree<N: Naming>(
     alloc: Global,
     pool: &mut Pool<N>,
     table: &mut Table,
-    entries: &[(Component, Node)],
+    entries: &Entries,
     earlier: Option<&Dir>,
 ) -> Result<Name, Fault>
     requires stands { IsBackedBy N.digest_of pool.old table.old.entries }
     requires room { HasHoldsLeftBeside pool.old table.old.entries }
-    requires sound { IsShape (objects pool.old table.old.entries) (shape_of entries.now) }
-    requires named { AreNamed (shape_of entries.now) }
+    requires sound { IsShape (objects pool.old table.old.entries) (shape_of entries.now.items) }
+    requires named { AreNamed (shape_of entries.now.items) }
     requires storable { AreStorable (shape_files (stored_files
-        (objects pool.old table.old.entries)) (shape_of entries.now)) }
+        (objects pool.old table.old.entries)) (shape_of entries.now.items)) }
     ensures stores { StoresTrees result N.digest_of pool.old table.old pool.new table.new
-        (entries_of_shape (shape_of entries.now) ∷ [])
-        (tree_name N.digest_of (entries_of_shape (shape_of entries.now))) }
+        (entries_of_shape (shape_of entries.now.items) ∷ [])
+        (tree_name N.digest_of (entries_of_shape (shape_of entries.now.items))) }
     ensures lists { IfOk result (λ id. ListsTree (objects pool.new table.new.entries) id
-        (shape_files (stored_files (objects pool.old table.old.entries)) (shape_of entries.now))) }
+        (shape_files (stored_files (objects pool.old table.old.entries))
+        (shape_of entries.now.items))) }
 {
     match tree_again(pool, table, entries, earlier) {
         Some(name) => Ok(name),
@@ -195,19 +196,20 @@ fn write_tree<N: Naming>(
     alloc: Global,
     pool: &mut Pool<N>,
     table: &mut Table,
-    entries: &[(Component, Node)],
+    entries: &Entries,
 ) -> Result<Name, Fault>
     requires stands { IsBackedBy N.digest_of pool.old table.old.entries }
     requires room { HasHoldsLeftBeside pool.old table.old.entries }
-    requires sound { IsShape (objects pool.old table.old.entries) (shape_of entries.now) }
-    requires named { AreNamed (shape_of entries.now) }
+    requires sound { IsShape (objects pool.old table.old.entries) (shape_of entries.now.items) }
+    requires named { AreNamed (shape_of entries.now.items) }
     requires storable { AreStorable (shape_files (stored_files
-        (objects pool.old table.old.entries)) (shape_of entries.now)) }
+        (objects pool.old table.old.entries)) (shape_of entries.now.items)) }
     ensures stores { StoresTrees result N.digest_of pool.old table.old pool.new table.new
-        (entries_of_shape (shape_of entries.now) ∷ [])
-        (tree_name N.digest_of (entries_of_shape (shape_of entries.now))) }
+        (entries_of_shape (shape_of entries.now.items) ∷ [])
+        (tree_name N.digest_of (entries_of_shape (shape_of entries.now.items))) }
     ensures lists { IfOk result (λ id. ListsTree (objects pool.new table.new.entries) id
-        (shape_files (stored_files (objects pool.old table.old.entries)) (shape_of entries.now))) }
+        (shape_files (stored_files (objects pool.old table.old.entries))
+        (shape_of entries.now.items))) }
 {
     let rows = rows_of(alloc, entries)?;
     let summary = summary_of(table, &rows);
@@ -242,18 +244,16 @@ fn directory<'a>(name: &'a [u8], id: Name) -> TreeEntry<'a>
 }
 
 // The entries of a directory as its tree lists them.
-fn rows_of<'a>(
-    alloc: Global,
-    entries: &'a [(Component, Node)],
-) -> Result<Vec<TreeEntry<'a>>, Memory>
-    requires { AreNamed (shape_of entries.now) }
+fn rows_of<'a>(alloc: Global, entries: &'a Entries) -> Result<Vec<TreeEntry<'a>>, Memory>
+    requires { AreNamed (shape_of entries.now.items) }
     ensures rows { IfOk result (λ rows. entries_of rows.items ≡ entries_of_shape
-        (shape_of entries.now)) }
+        (shape_of entries.now.items)) }
     ensures ids { IfOk result (λ rows. AllByRecursion (λ e. IsObjectName e.id)
         (entries_of rows.items)) }
 {
     let mut rows = Vec::with_capacity(alloc, entries.len())?;
-    for entry in entries {
+    for place in 0..entries.len() {
+        let entry = entries.at(place);
         let row = row_of(entry);
         has_twenty_bytes(&row.id);
         if rows.push(row).is_err() {

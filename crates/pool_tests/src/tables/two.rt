@@ -19,11 +19,14 @@ pub enum Step<'a> {
     CommitFirst,
     RollBackFirst,
     RollBackSecond,
+    /// The second table, which has nothing, becomes one of the first objects of the first table.
+    ShareFirst(usize),
     /// How many objects the first table has, and the second.
     Lengths(usize, usize),
     /// How many objects of the first table are committed.
     CommittedFirst(usize),
     PlaceInFirst(&'a [u8; 40], Option<usize>),
+    PlaceInSecond(&'a [u8; 40], Option<usize>),
     /// The only name of the first table that begins with these digits, or that there is none.
     StartingInFirst(&'a [u8], Sight, Option<&'a [u8; 40]>),
     /// How many contents the pool stores, and how many bytes.
@@ -69,9 +72,16 @@ fn found_of(digits: Option<&[u8; 40]>) -> Result<Found, Fail> {
     Ok(Found::One(name))
 }
 
+// The position of the name of these digits.
+fn place_in(table: &Table, digits: &[u8]) -> Result<Option<usize>, Fail> {
+    let name = Name::from_hex(digits).ok_or("no name")?;
+    Ok(table.place(&name))
+}
+
 // Two tables over one pool, in which nobody else holds anything.
 #[derive(Drop)]
 struct Two<N: Naming> {
+    alloc: Global,
     pool: Pool<N>,
     first: Table,
     second: Table,
@@ -91,6 +101,7 @@ impl<N: Naming> Model for Two<N> {
 impl<N: Naming> Two<N> {
     fn new(alloc: Global, naming: N) -> Two<N> {
         Two {
+            alloc,
             pool: Pool::new(alloc, naming),
             first: Table::new(alloc),
             second: Table::new(alloc),
@@ -113,6 +124,7 @@ impl<N: Naming> Two<N> {
             Step::AddFirst(bytes, answer) => Ok(is_answer(self.add_first(bytes), *answer)?),
             Step::AddSecond(bytes, answer) => Ok(is_answer(self.add_second(bytes), *answer)?),
             Step::AddFirstAgain(bytes) => Ok(self.stays_after_a_refusal(bytes)?),
+            Step::ShareFirst(count) => Ok(self.share_first(*count)?),
             other => self.goes(other),
         }
     }
@@ -131,7 +143,8 @@ impl<N: Naming> Two<N> {
         match step {
             Step::Lengths(first, second) => Ok(self.lengths() == (*first, *second)),
             Step::CommittedFirst(count) => Ok(self.first.committed_len() == *count),
-            Step::PlaceInFirst(digits, place) => Ok(self.place_in_first(*digits)? == *place),
+            Step::PlaceInFirst(digits, place) => Ok(place_in(&self.first, *digits)? == *place),
+            Step::PlaceInSecond(digits, place) => Ok(place_in(&self.second, *digits)? == *place),
             Step::Stored(contents, bytes) => Ok(self.stored() == (*contents, *bytes)),
             other => self.finds(other),
         }
@@ -152,6 +165,15 @@ impl<N: Naming> Two<N> {
 
     fn add_second(&mut self, bytes: &[u8]) -> Result<Name, Fault> {
         self.second.add(&mut self.pool, Kind::Blob, bytes)
+    }
+
+    // Whether the second table had nothing, and the first so many objects.
+    fn share_first(&mut self, count: usize) -> Result<bool, Memory> {
+        if self.second.len() > 0 || count > self.first.len() {
+            return Ok(false);
+        }
+        self.second = self.first.share(self.alloc, &mut self.pool, count)?;
+        Ok(true)
     }
 
     fn commit_first(&mut self) {
@@ -190,10 +212,5 @@ impl<N: Naming> Two<N> {
 
     fn stored(&self) -> (u64, u64) {
         self.pool.stored()
-    }
-
-    fn place_in_first(&self, digits: &[u8]) -> Result<Option<usize>, Fail> {
-        let name = Name::from_hex(digits).ok_or("no name")?;
-        Ok(self.first.place(&name))
     }
 }

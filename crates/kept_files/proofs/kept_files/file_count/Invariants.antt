@@ -1,5 +1,5 @@
 use Rattle.std.specs.Prelude.{◌≡◌, ◌-◌, ◌^◌, min, take}
-use Rattle.kept_files.specs.Kept.{files_of}
+use Rattle.kept_files.specs.KeptCommits.{files_of}
 use Rattle.kept_files.proofs.kept_files.file_count.Given as goal
 
 -- those so far are counted

@@ -1,5 +1,7 @@
-use Rattle.std.proofs.Common.{◌≡◌, None, List, ℕ, ◌∙◌}
+use Rattle.std.proofs.Common.{◌≡◌, None, Ok, List, ℕ, ap, sym, ◌∙◌}
+use Rattle.git_model.proofs.CommitReadings.{commit_back}
 use Rattle.git_model.specs.CommitReading.{commit_read}
+use Rattle.git_model.specs.Commit.{Commit}
 use Rattle.tenant_tables.specs.Objects.{objects}
 use Rattle.file_maps.specs.Grafts.{tree_fault}
 use Rattle.file_maps.specs.StoredFiles.{tree_of_commit}
@@ -15,8 +17,8 @@ returns-in-Some g c good kind =
     let s = stored_commit g.N.Naming.digest_of os good id kind in
     let same = told_bytes os id s c.in-Some.field-0-0 c.in-Some.contents.now
     (rw c.of.ensures at c.in-Some.ensures) in
-    matched (λ (t : List ℕ). t ≡ (commit_read c.in-Some.contents.now).tree)
-    (λ (t : List ℕ). (t ≡ tree_of_commit os id) × (tree_fault os t ≡ None))
-    (λ (f : Fault). f ≡ fault.Memory) c.tree_in.result
-    (λ t. told_tree os id s c.in-Some.contents.now t same)
-    (c.tree_in.ensures s.commit s.writable (same ∙ s.contents))
+    let read : s.commit.tree ≡ (commit_read c.in-Some.contents.now).tree =
+    ap (λ (made : Commit). made.tree) (sym (commit_back s.commit s.writable))
+    ∙ ap (λ (bytes : List ℕ). (commit_read bytes).tree) (sym (same ∙ s.contents)) in
+    rw (c.tree_in.ensures s.commit s.writable (same ∙ s.contents))
+    (told_tree os id s c.in-Some.contents.now s.commit.tree same read)

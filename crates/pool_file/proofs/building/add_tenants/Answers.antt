@@ -3,6 +3,7 @@ use Rattle.pool_file_format.specs.declared.raw.RawTenant.{RawTenant as Tenant}
 use Rattle.pool_file_format.specs.Format.{RawObject, RawTenant}
 use Rattle.pool_file_format.specs.Shown.{tenant_of, tenants_of}
 use Rattle.pool_file_checks.specs.Own.{names_of}
+use Rattle.pool_file_checks.specs.Quick.{KnowsSums}
 use Rattle.pool_file.specs.Building.{objects_at, IsChecked, Adds}
 use Rattle.pool_file.proofs.Items.{all_at, shown_on}
 use Rattle.pool_file.proofs.Built.{adds_none, adds_on}
@@ -25,6 +26,11 @@ add_tenant-requires-clause-checked g c =
     (sym c.loop-tenant.invariant.objects)
     (all_at tenant_of (IsChecked digest (objects_at c.args.pool.now c.args.slots.now)) c.args.all.now
     c.loop-tenant.tenant-index t c.requires.checked c.loop-tenant-test.true c.tenant-item.is)
+
+pub add_tenant-requires-clause-known : goal.add_tenant-requires-clause-known
+add_tenant-requires-clause-known g c =
+    subst (λ (os : List RawObject). KnowsSums g.N.Naming.digest_of os c.args.known.now)
+    (sym c.loop-tenant.invariant.objects) c.requires.known
 
 pub loop-tenant-preserved : goal.loop-tenant-preserved
 loop-tenant-preserved g c =

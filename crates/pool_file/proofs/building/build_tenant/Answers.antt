@@ -1,11 +1,14 @@
-use Rattle.std.proofs.Common.{◌≡◌, ◌<◌, ℕ, List, length, sym, ap, ◌∙◌, subst}
+use Rattle.std.proofs.Common.{◌≡◌, ◌<◌, ◌++◌, ℕ, List, length, sym, ap, ◌∙◌, subst}
 use Rattle.std.specs.Prelude.{All}
 use Rattle.git_model.specs.Repository.{Object}
 use Rattle.tenant_tables.specs.Objects.{objects}
 use Rattle.pool_file_format.specs.Shown.{tenant_of}
 use Rattle.pool_file_checks.specs.Own.{own_objects}
 use Rattle.pool_file_checks.specs.Saved.{refs_at}
-use Rattle.pool_file_checks.proofs.Passing.{holds}
+use Rattle.pool_file_checks.specs.FileRefs.{ref_checks}
+use Rattle.pool_file_checks.specs.Tenants.{name_checks, number_checks}
+use Rattle.pool_file_checks.specs.Whole.{own_checks}
+use Rattle.pool_file_checks.proofs.Passing.{holds, passes_rest}
 use Rattle.pool_file.specs.Building.{objects_at}
 use Rattle.pool_file.proofs.Slots.{numbers_in}
 use Rattle.pool_file.proofs.Built.{counted_by}
@@ -20,6 +23,19 @@ load_table-requires-clause-numbers g c =
     (tenant_of c.args.tenant.now) q.passes in
     subst (λ (l : List ℕ). All (λ n. n < length slots) l) (sym c.deref-2.ensures.value)
     (numbers_in pool slots c.args.tenant.now.numbers.items h.numbers)
+
+pub load_refs-requires-clause-checked : goal.load_refs-requires-clause-checked
+load_refs-requires-clause-checked g c =
+    let os = objects_at c.args.pool.now c.args.slots.now in
+    let t = tenant_of c.args.tenant.now in
+    let q = c.requires.checked in
+    let own = own_checks g.N.Naming.digest_of os t.numbers in
+    let numbers = number_checks (length os) t in (
+      os,
+      passes_rest own (ref_checks os t)
+          (passes_rest numbers (own ++ ref_checks os t)
+          (passes_rest (name_checks q.version q.last t) (numbers ++ (own ++ ref_checks os t)) q.passes)),
+    )
 
 pub load_refs-requires-clause-counted : goal.load_refs-requires-clause-counted
 load_refs-requires-clause-counted g c =

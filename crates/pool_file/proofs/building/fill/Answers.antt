@@ -4,6 +4,7 @@ use Rattle.pool_file_format.specs.declared.raw.RawTenant.{RawTenant as Raw}
 use Rattle.pool_file_format.specs.Format.{RawObject}
 use Rattle.pool_file_format.specs.Shown.{objects_of, tenant_of, tenants_of, file_of}
 use Rattle.pool_file_checks.specs.Own.{names_of}
+use Rattle.pool_file_checks.specs.Quick.{KnowsSums}
 use Rattle.pool_file_checks.proofs.Passing.{holds_all}
 use Rattle.pool_file.specs.declared.tenant.Tenant.{Tenant}
 use Rattle.pool_file.specs.Building.{objects_at, IsChecked, AreUnder}
@@ -18,6 +19,11 @@ pub add_tenants-requires-clause-named : goal.add_tenants-requires-clause-named
 add_tenants-requires-clause-named g c =
     let D = g.N.Naming.digest_of in
     c.requires.named ∙ ap (names_of D) (sym (ap (objects_at c.store_contents.new.pool) c.deref.ensures.value ∙ c.in_ok-slots.ensures.stored))
+
+pub add_tenants-requires-clause-known : goal.add_tenants-requires-clause-known
+add_tenants-requires-clause-known g c =
+    subst (λ (os : List RawObject). KnowsSums g.N.Naming.digest_of os c.args.known.now)
+    (sym (ap (objects_at c.store_contents.new.pool) c.deref.ensures.value ∙ c.in_ok-slots.ensures.stored)) c.requires.known
 
 pub add_tenants-requires-clause-under : goal.add_tenants-requires-clause-under
 add_tenants-requires-clause-under g c =

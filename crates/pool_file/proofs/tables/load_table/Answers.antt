@@ -1,12 +1,26 @@
-use Rattle.std.proofs.Common.{◌<◌, ◌≤◌, ℕ, length, drop, get_or, sym, ap, subst, ◌∙◌, arith}
+use Rattle.std.proofs.Common.{◌<◌, ◌≤◌, ℕ, List, [], length, drop, get_or, sym, ap, subst, ◌∙◌, arith}
+use Rattle.std.proofs.lemmas.Bool.{OnTrue_at}
+use Rattle.tenant_tables.specs.declared.summary.Summary.{Summary}
 use Rattle.tenant_tables.specs.View.{View}
 use Rattle.tenant_tables.specs.Objects.{objects}
 use Rattle.pool_file_checks.specs.Own.{own_objects}
+use Rattle.pool_file_checks.specs.Quick.{AreSums}
 use Rattle.pool_file_checks.proofs.OwnObjects.{own_length}
 use Rattle.pool_file.specs.Building.{objects_at}
 use Rattle.pool_file.proofs.Begun.{begun, begun_all}
 use Rattle.pool_file.proofs.LoadedTables.{AreLoaded, MayLoad, any_default, loaded_all, names_reach, named_here, may_load, loaded_on}
 use Rattle.pool_file.proofs.tables.load_table.Goals as goal
+
+pub known_table-requires-clause-size : goal.known_table-requires-clause-size
+known_table-requires-clause-size g c =
+    ap (λ (l : List Summary). length l) c.deref.ensures.value ∙ OnTrue_at c.if-are_known.true c.are_known.ensures.size
+
+pub known_table-requires-clause-known : goal.known_table-requires-clause-known
+known_table-requires-clause-known g c =
+    let os = objects_at c.args.pool.now c.args.slots.now in
+    subst (λ (l : List Summary). AreSums [] l (own_objects g.N.Naming.digest_of os c.args.numbers.now)) (sym c.deref.ensures.value)
+    (subst (λ (l : List ℕ). AreSums [] c.args.known.now.sums.items (own_objects g.N.Naming.digest_of os l))
+    (OnTrue_at c.if-are_known.true c.are_known.ensures.numbers) c.requires.known)
 
 pub sums_of-requires : goal.sums_of-requires
 sums_of-requires g c = (c.start_table.new.pool, c.in_ok-table.ensures.ok.stands.summed)

@@ -13,5 +13,5 @@ returns-clause-checks c =
     let below = subst (All (λ n. n < length xs)) (sym c.deref.ensures.value) c.in_ok-check_numbers.ensures.0 in
     let ready = counted c.args.version xs last t c.in_ok-check_name.ensures c.in_ok-check_numbers.ensures in
     λ digest same passed. refs_decide digest c.args.version xs last t (Ok tt) ready
-    (subst (λ (l : List ℕ). Passes (own_checks digest (objects_of xs) l)) c.deref.ensures.value (c.in_ok-pass_unless_passed.ensures digest same below passed).own)
+    (subst (λ (l : List ℕ). Passes (own_checks digest (objects_of xs) l)) c.deref.ensures.value (c.in_ok-sums.ensures.found digest same below passed).own)
     c.in_ok-check_refs.ensures

@@ -1,4 +1,4 @@
-use Rattle.std.proofs.Common.{List, ℕ, None, Some, ◌+◌, drop, sym, subst, arith}
+use Rattle.std.proofs.Common.{List, [], ℕ, None, Some, ◌+◌, drop, sym, subst, arith}
 use Rattle.std.specs.Prelude.{All}
 use Rattle.std.specs.Option.{option_map}
 use Rattle.std.proofs.lemmas.List.{drop_all}
@@ -7,8 +7,8 @@ use Rattle.pool_file_format.specs.declared.raw.RawTenant.{RawTenant}
 use Rattle.pool_file_format.specs.Shown.{objects_of, tenant_of, tenants_of}
 use Rattle.pool_file_checks.specs.Held.{numbers_of}
 use Rattle.pool_file_checks.specs.Objects.{IsContent}
-use Rattle.pool_file_checks.specs.Own.{content_at}
-use Rattle.pool_file_checks.specs.Quick.{AreFound}
+use Rattle.pool_file_checks.specs.Own.{content_at, own_objects}
+use Rattle.pool_file_checks.specs.Quick.{AreFound, AreSums}
 use Rattle.pool_file_checks.specs.Whole.{tenant_checks}
 use Rattle.pool_file_checks.proofs.CheckLemmas.{Leads, leads_same}
 use Rattle.pool_file_checks.proofs.TenantLemmas.{left_at}
@@ -19,7 +19,7 @@ use Rattle.pool_file_checks.proofs.quick.pass_tenants.Goals as goal
 pub loop-tenant-init : goal.loop-tenant-init
 loop-tenant-init c =
     let v = c.args.version in let os = objects_of c.args.objects.now in let ts = c.args.tenants.now in
-    λ digest same. (leads_same (tenant_checks digest v os None (tenants_of ts)), (λ all. all, none_found digest os))
+    λ digest same. (leads_same (tenant_checks digest v os None (tenants_of ts)), (λ all. all, (none_found digest os, c.none-known.ensures digest os)))
 
 pub loop-tenant-preserved : goal.loop-tenant-preserved
 loop-tenant-preserved c =
@@ -28,17 +28,21 @@ loop-tenant-preserved c =
     let left = left_at ts i t (let l = c.loop-tenant-test.true in omega (arith, l)) c.tenant-item.is in
     λ digest same.
     let before = c.loop-tenant.invariant digest same in
-    let found = c.in_ok-pass_tenant.ensures.found digest same before.1.1 in (
+    let found = c.in_ok-sums.ensures.found digest same before.1.1.0 in (
       subst (λ (text : List ℕ). Leads (tenant_checks digest v os (Some text) (tenants_of (drop (i + 1) ts))) (tenant_checks digest v os None (tenants_of ts)))
           (sym c.as_slice.ensures.value)
           (tenant_on digest v os last (tenant_of t) (tenants_of (drop (i + 1) ts)) (tenant_checks digest v os None (tenants_of ts))
           (subst (λ (l : List RawTenant). Leads (tenant_checks digest v os last (tenants_of l)) (tenant_checks digest v os None (tenants_of ts))) left before.0)
-          (c.in_ok-pass_tenant.ensures.checks digest same before.1.1)),
+          (c.in_ok-sums.ensures.checks digest same before.1.1.0)),
       (
         contents_on os (tenant_of t) (tenants_of (drop (i + 1) ts)) (All (λ n. IsContent (content_at os n)) (numbers_of (tenants_of ts)))
             (subst (λ (l : List RawTenant). All (λ n. IsContent (content_at os n)) (numbers_of (tenants_of l)) → All (λ n. IsContent (content_at os n)) (numbers_of (tenants_of ts))) left before.1.0)
             found.contents,
-        subst (λ (l : List ℕ). AreFound digest os l) (sym c.as_slice-passed.ensures.value) found,
+        (
+          subst (λ (l : List ℕ). AreFound digest os l) (sym c.as_slice-passed.ensures.value) found,
+          c.in_ok-note.ensures digest os before.1.1.1
+              (subst (λ (l : List ℕ). AreSums [] c.in_ok-sums.sums.items (own_objects digest os l)) (sym c.deref.ensures.value) (c.in_ok-sums.ensures.sums digest same)),
+        ),
       ),
     )
 
@@ -54,3 +58,6 @@ returns-clause-contents c =
     λ digest same. (c.loop-tenant.invariant digest same).1.0
     (subst (λ (l : List RawTenant). All (λ n. IsContent (content_at os n)) (numbers_of (tenants_of l)))
     (sym (drop_all c.loop-tenant.tenant-index ts (let t = c.loop-tenant-test.false in omega (arith, t)))) (All-nil (λ (n : ℕ). IsContent (content_at os n))))
+
+pub returns-clause-known : goal.returns-clause-known
+returns-clause-known c = λ digest same. (c.loop-tenant.invariant digest same).1.1.1

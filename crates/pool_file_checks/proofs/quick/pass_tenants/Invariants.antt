@@ -4,7 +4,7 @@ use Rattle.std.specs.Option.{option_map}
 use Rattle.pool_file_checks.specs.Held.{numbers_of}
 use Rattle.pool_file_checks.specs.Objects.{IsContent}
 use Rattle.pool_file_checks.specs.Own.{content_at, names_of}
-use Rattle.pool_file_checks.specs.Quick.{AreFound}
+use Rattle.pool_file_checks.specs.Quick.{AreFound, KnowsSums}
 use Rattle.pool_file_checks.specs.Whole.{tenant_checks}
 use Rattle.pool_file_format.specs.Shown.{objects_of, tenants_of}
 use Rattle.pool_file_checks.proofs.CheckLemmas.{Leads}
@@ -17,4 +17,4 @@ invariant-loop-tenant l = (digest : List ℕ → List ℕ) → l.names ≡ names
     (tenant_checks digest l.version (objects_of l.objects) None (tenants_of l.tenants))
     × ((All (λ n. IsContent (content_at (objects_of l.objects) n)) (numbers_of (tenants_of (drop l.tenant-index l.tenants)))
     → All (λ n. IsContent (content_at (objects_of l.objects) n)) (numbers_of (tenants_of l.tenants)))
-    × AreFound digest (objects_of l.objects) l.passed)
+    × (AreFound digest (objects_of l.objects) l.passed × KnowsSums digest (objects_of l.objects) l.known))

@@ -2,6 +2,6 @@ use Rattle.std.proofs.Common.{rules}
 use Rattle.stream_state.specs.Marks.{has_room}
 use Rattle.stream_state.proofs.marks.has_room.Goals as goal
 
-pub returns-else-contains_key : goal.returns-else-contains_key
+pub returns-else-contains : goal.returns-else-contains
 unfolding has_room
-returns-else-contains_key c = search rules
+returns-else-contains c = search rules

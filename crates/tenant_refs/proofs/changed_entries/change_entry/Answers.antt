@@ -7,7 +7,7 @@ use Rattle.tenant_refs.proofs.Entries.{T-true, true-T}
 use Rattle.tenant_refs.proofs.Stores.{set-seam, remove-seam, insert-seam, entry-place, set-place, remove-place, insert-gap, get-gap, remove-none}
 use Rattle.tenant_refs.proofs.changed_entries.change_entry.Goals as goal
 
--- what the entries are then, whatever entries above the ref come behind
+-- what the entries are then, whatever entries above the ref come after
 abbrev Is : Entries → Entries → List ℕ → (RefStore → RefStore) → Type 0
 Is es new ref change = (rest : Entries) → IsInOrder (es ++ rest) → AreAbove ref rest
     → IsInOrder (new ++ rest)
@@ -29,7 +29,7 @@ same_gap {es} {view} {ref} {seen} {i} viewed same at =
     subst (λ (l : Entries). IsGapFor l ref i) viewed
     (subst (λ (r : List ℕ). IsGapFor view r i) same at)
 
--- the place and the gap with entries behind
+-- the place and the gap with entries after
 abbrev place_before : {es : Entries} {ref : List ℕ} {i : ℕ} (rest : Entries) → IsPlaceOf es ref i
     → IsPlaceOf (es ++ rest) ref i
 place_before rest at = record {

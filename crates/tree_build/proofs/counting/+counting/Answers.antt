@@ -1,4 +1,4 @@
-use Rattle.std.proofs.Common.{length, sym, ap, ◌∙◌, subst, arith, rules}
+use Rattle.std.proofs.Common.{length, sym, ap, ◌∙◌, subst, arith, rules, ℕ, ◌<◌, ◌≤◌}
 use Rattle.tenant_tables.specs.Objects.{objects}
 use Rattle.file_maps.specs.StoredFiles.{stored_files}
 use Rattle.file_maps.proofs.StoredTable.{table-summary}
@@ -24,10 +24,10 @@ count-returns-in-Unopened g t c =
 pub count_all-count-files-requires : goal.count_all-count-files-requires
 count_all-count-files-requires g t c κs within =
     let os = objects c.args.pool.now c.args.table.now.entries in
-    let x = turn os c.args.entries.now c.loop-entry.entry-index c.entry-item.result c.requires.sound c.loop-entry-test.true c.entry-item.is in
+    let x = turn os c.args.entries.now.items c.loop-place.place c.at-entry.result.now c.requires.sound (subst (λ (n : ℕ). c.loop-place.place < n) c.len-place-end.ensures c.loop-place-test.true) c.at-entry.ensures in
     let d = c.decreases in
     let f = x.files in
-    let i = c.loop-entry.invariant in
+    let i = c.loop-place.invariant in
     let few = c.requires.few in
     let s = x.smaller in
     (omega arith, (search (rules, within), (c.requires.stands, (x.sound, omega arith))))
@@ -35,19 +35,19 @@ count_all-count-files-requires g t c κs within =
 pub count_all-overflow_add-files : goal.count_all-overflow_add-files
 count_all-overflow_add-files g t c =
     let os = objects c.args.pool.now c.args.table.now.entries in
-    let x = turn os c.args.entries.now c.loop-entry.entry-index c.entry-item.result c.requires.sound c.loop-entry-test.true c.entry-item.is in
+    let x = turn os c.args.entries.now.items c.loop-place.place c.at-entry.result.now c.requires.sound (subst (λ (n : ℕ). c.loop-place.place < n) c.len-place-end.ensures c.loop-place-test.true) c.at-entry.ensures in
     let f = x.files in
-    let i = c.loop-entry.invariant in
+    let i = c.loop-place.invariant in
     let few = c.requires.few in
     let n = c.count-files.ensures in
     omega arith
 
-pub count_all-loop-entry-preserved : goal.count_all-loop-entry-preserved
-count_all-loop-entry-preserved g t c =
+pub count_all-loop-place-preserved : goal.count_all-loop-place-preserved
+count_all-loop-place-preserved g t c =
     let os = objects c.args.pool.now c.args.table.now.entries in
-    let x = turn os c.args.entries.now c.loop-entry.entry-index c.entry-item.result c.requires.sound c.loop-entry-test.true c.entry-item.is in
+    let x = turn os c.args.entries.now.items c.loop-place.place c.at-entry.result.now c.requires.sound (subst (λ (n : ℕ). c.loop-place.place < n) c.len-place-end.ensures c.loop-place-test.true) c.at-entry.ensures in
     let f = x.files in
-    let i = c.loop-entry.invariant in
+    let i = c.loop-place.invariant in
     let n = c.count-files.ensures in
     omega arith
 
@@ -55,6 +55,6 @@ pub count_all-returns : goal.count_all-returns
 count_all-returns g t c =
     let os = objects c.args.pool.now c.args.table.now.entries in
     let none = ap (λ (xs : Rows). length (shape_files (stored_files os) (shape_of xs)))
-    (drop_all c.loop-entry.entry-index c.args.entries.now c.loop-entry-test.false) in
-    let i = c.loop-entry.invariant in
+    (drop_all c.loop-place.place c.args.entries.now.items (subst (λ (n : ℕ). n ≤ c.loop-place.place) c.len-place-end.ensures c.loop-place-test.false)) in
+    let i = c.loop-place.invariant in
     omega arith

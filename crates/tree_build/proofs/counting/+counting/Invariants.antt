@@ -10,9 +10,9 @@ abbrev pub decreases-count : goal.decreases-count
 decreases-count g l = 2 * shape_size (held l.node.now).inside + 1
 
 abbrev pub decreases-count_all : goal.decreases-count_all
-decreases-count_all g l = 2 * shape_size (shape_of l.entries.now)
+decreases-count_all g l = 2 * shape_size (shape_of l.entries.now.items)
 
-abbrev pub invariant-count_all-loop-entry : goal.invariant-count_all-loop-entry
-invariant-count_all-loop-entry g l =
-    l.files + length (shape_files (stored_files (objects l.pool l.table.entries)) (shape_of (drop l.entry-index l.entries)))
-    ≡ length (shape_files (stored_files (objects l.pool l.table.entries)) (shape_of l.entries))
+abbrev pub invariant-count_all-loop-place : goal.invariant-count_all-loop-place
+invariant-count_all-loop-place g l =
+    l.files + length (shape_files (stored_files (objects l.pool l.table.entries)) (shape_of (drop l.place l.entries.items)))
+    ≡ length (shape_files (stored_files (objects l.pool l.table.entries)) (shape_of l.entries.items))

@@ -1,5 +1,5 @@
 use Rattle.std.proofs.Common.{◌≡◌, ℕ, List, Bool, [], ◌∷◌, length, refl, sym, ap, ◌∙◌, arith, rules}
-use Rattle.std.specs.Prelude.{Option, None, slice_index_or}
+use Rattle.std.specs.Prelude.{Option, None}
 use Rattle.tenant_tables.proofs.EntryLemmas.{position-found}
 use Rattle.tenant_tables.specs.Objects.{objects}
 use Rattle.file_maps.specs.FileMap.{Path}
@@ -21,13 +21,13 @@ taken-taken_below-requires g t c κs within =
     let d = c.decreases in
     let n = ap (λ (p : Path). length p) c.in-Some.ensures in
     let at = sym c.place_of.ensures ∙ c.in-Some-place_of.is in
-    let y = slice_index_or c.args.entries.now c.in-Some-place_of.at c.index-entries-at.result in
-    let found = shape_found c.in-Some.name.now c.args.entries.now c.in-Some-place_of.at
-    (position-found (has_name c.in-Some.name.now) c.args.entries.now c.in-Some-place_of.at at)
-    (found_within (has_name c.in-Some.name.now) c.args.entries.now c.in-Some-place_of.at at)
-    y (ap (slice_index_or c.args.entries.now c.in-Some-place_of.at) (sym c.index-entries-at.is)) in
-    let e = entry_at os (shape_of c.args.entries.now) c.requires.sound c.in-Some.name.now (held y.1) found.0 in
-    let m = count_there (stored_files os) (shape_of c.args.entries.now) c.in-Some.name.now (held y.1) found.0 in
+    let y = c.at.result.now in
+    let found = shape_found c.in-Some.name.now c.args.entries.now.items c.in-Some-place_of.at
+    (position-found (has_name c.in-Some.name.now) c.args.entries.now.items c.in-Some-place_of.at at)
+    (found_within (has_name c.in-Some.name.now) c.args.entries.now.items c.in-Some-place_of.at at)
+    y (sym c.at.ensures) in
+    let e = entry_at os (shape_of c.args.entries.now.items) c.requires.sound c.in-Some.name.now (held y.1) found.0 in
+    let m = count_there (stored_files os) (shape_of c.args.entries.now.items) c.in-Some.name.now (held y.1) found.0 in
     let few = c.requires.few in
     (omega arith, (search (rules, within), (c.requires.stands, ((e.0.sound, e.1), omega arith))))
 
@@ -35,22 +35,22 @@ pub taken-returns-in-Some-place_of : goal.taken-returns-in-Some-place_of
 taken-returns-in-Some-place_of g t c =
     let os = objects c.args.pool.now c.args.table.now.entries in
     let at = sym c.place_of.ensures ∙ c.in-Some-place_of.is in
-    let y = slice_index_or c.args.entries.now c.in-Some-place_of.at c.index-entries-at.result in
-    let found = shape_found c.in-Some.name.now c.args.entries.now c.in-Some-place_of.at
-    (position-found (has_name c.in-Some.name.now) c.args.entries.now c.in-Some-place_of.at at)
-    (found_within (has_name c.in-Some.name.now) c.args.entries.now c.in-Some-place_of.at at)
-    y (ap (slice_index_or c.args.entries.now c.in-Some-place_of.at) (sym c.index-entries-at.is)) in
+    let y = c.at.result.now in
+    let found = shape_found c.in-Some.name.now c.args.entries.now.items c.in-Some-place_of.at
+    (position-found (has_name c.in-Some.name.now) c.args.entries.now.items c.in-Some-place_of.at at)
+    (found_within (has_name c.in-Some.name.now) c.args.entries.now.items c.in-Some-place_of.at at)
+    y (sym c.at.ensures) in
     c.taken_below.ensures
     ∙ ap (λ (o : Option Held). taken_at (stored_files os) c.args.clear c.in-Some.rest o
     (taken (stored_files os) c.args.clear c.in-Some.rest (entries_in o))) (sym found.0)
-    ∙ ap (λ (p : Path). taken (stored_files os) c.args.clear p (shape_of c.args.entries.now)) (sym c.in-Some.ensures)
+    ∙ ap (λ (p : Path). taken (stored_files os) c.args.clear p (shape_of c.args.entries.now.items)) (sym c.in-Some.ensures)
 
 pub taken-returns-in-None : goal.taken-returns-in-None
 taken-returns-in-None g t c =
     let os = objects c.args.pool.now c.args.table.now.entries in
-    let lacks = shape_lacks c.in-Some.name.now c.args.entries.now
-    (not_found (has_name c.in-Some.name.now) c.args.entries.now (sym c.place_of.ensures ∙ c.in-None.is)) in
-    sym (ap (λ (p : Path). taken (stored_files os) c.args.clear p (shape_of c.args.entries.now)) c.in-Some.ensures
+    let lacks = shape_lacks c.in-Some.name.now c.args.entries.now.items
+    (not_found (has_name c.in-Some.name.now) c.args.entries.now.items (sym c.place_of.ensures ∙ c.in-None.is)) in
+    sym (ap (λ (p : Path). taken (stored_files os) c.args.clear p (shape_of c.args.entries.now.items)) c.in-Some.ensures
     ∙ ap (λ (o : Option Held). taken_at (stored_files os) c.args.clear c.in-Some.rest o
     (taken (stored_files os) c.args.clear c.in-Some.rest (entries_in o))) lacks.0
     ∙ none_taken (stored_files os) c.args.clear c.in-Some.rest (taken (stored_files os) c.args.clear c.in-Some.rest (entries_in None)))

@@ -1,6 +1,6 @@
 use Rattle.std.proofs.Common.{rules, ℕ, Bool, cond, sym, ap, ◌∙◌}
 use Rattle.std.specs.Prelude.{Option, None, Some}
-use Rattle.std.specs.List.{position, remove}
+use Rattle.std.specs.List.{remove}
 use Rattle.file_maps.specs.FileMap.{Path}
 use Rattle.tenant_tables.proofs.EntryLemmas.{position-found}
 use Rattle.tree_build.specs.Shape.{Held}
@@ -8,7 +8,7 @@ use Rattle.tree_build.specs.Nodes.{held, shape_of, has_name}
 use Rattle.tree_build.specs.Editing.{entries_in, left, put_back, dropped}
 use Rattle.tree_build.specs.Moving.{standing}
 use Rattle.tree_build.proofs.Copies.{nothing_stands, stands_nowhere}
-use Rattle.tree_build.proofs.Named.{shape_found, shape_lacks, found_within, not_found, shape_remove, none_left}
+use Rattle.tree_build.proofs.Named.{entry_here, entry_is, shape_found, shape_lacks, found_within, not_found, shape_remove, none_left}
 use Rattle.tree_build.proofs.Searched.{ordered_at, removed_set}
 use Rattle.tree_build.proofs.dropping.+dropping.Goals as goal
 
@@ -18,10 +18,10 @@ leaves clear rest o = left clear rest o (dropped clear rest (entries_in o))
 
 pub take_below-take_inside-taken-requires : goal.take_below-take_inside-taken-requires
 take_below-take_inside-taken-requires t c =
-    let at = ap (position (has_name c.args.name.now)) (sym c.deref.ensures.value) ∙ sym c.place_of.ensures ∙ c.in-Some.is in (
+    let at = sym c.place_of.ensures ∙ c.in-Some.is in (
       search rules,
       (
-        ordered_at c.args.entries.now.items c.in-Some.at c.index_mut.result.now c.index_mut.ensures.value
+        ordered_at c.args.entries.now.items c.in-Some.at (entry_here c.args.entries.now.items c.in-Some.at c.node_mut.result.now) (entry_is c.args.entries.now.items c.in-Some.at c.node_mut.result.now (found_within (has_name c.args.name.now) c.args.entries.now.items c.in-Some.at at) c.node_mut.ensures.value)
             (found_within (has_name c.args.name.now) c.args.entries.now.items c.in-Some.at at) c.requires,
         search rules,
       ),
@@ -32,7 +32,7 @@ take_below-returns-in_default-clause-entries t c =
     let s = shape_of c.args.entries.now.items in
     let lacks = shape_lacks c.args.name.now c.args.entries.now.items
     (not_found (has_name c.args.name.now) c.args.entries.now.items
-    (ap (position (has_name c.args.name.now)) (sym c.deref.ensures.value) ∙ sym c.place_of.ensures ∙ c.in_default.is)) in
+    (sym c.place_of.ensures ∙ c.in_default.is)) in
     sym lacks.1
     ∙ ap (put_back s c.args.name.now)
     (sym (ap (leaves c.args.clear c.args.rest.now) lacks.0
@@ -43,19 +43,19 @@ take_below-returns-in_default-clause-node t c =
     let s = shape_of c.args.entries.now.items in
     let lacks = shape_lacks c.args.name.now c.args.entries.now.items
     (not_found (has_name c.args.name.now) c.args.entries.now.items
-    (ap (position (has_name c.args.name.now)) (sym c.deref.ensures.value) ∙ sym c.place_of.ensures ∙ c.in_default.is)) in
+    (sym c.place_of.ensures ∙ c.in_default.is)) in
     sym (ap (standing c.args.rest.now) lacks.0 ∙ nothing_stands c.args.rest.now)
 
 pub take_below-returns-then-goes-clause-entries : goal.take_below-returns-then-goes-clause-entries
 take_below-returns-then-goes-clause-entries t c =
     let s = shape_of c.args.entries.now.items in
-    let at = ap (position (has_name c.args.name.now)) (sym c.deref.ensures.value) ∙ sym c.place_of.ensures ∙ c.in-Some.is in
+    let at = sym c.place_of.ensures ∙ c.in-Some.is in
     let found = shape_found c.args.name.now c.args.entries.now.items c.in-Some.at
     (position-found (has_name c.args.name.now) c.args.entries.now.items c.in-Some.at at)
     (found_within (has_name c.args.name.now) c.args.entries.now.items c.in-Some.at at)
-    c.index_mut.result.now (sym c.index_mut.ensures.value) in
+    (entry_here c.args.entries.now.items c.in-Some.at c.node_mut.result.now) (sym (entry_is c.args.entries.now.items c.in-Some.at c.node_mut.result.now (found_within (has_name c.args.name.now) c.args.entries.now.items c.in-Some.at at) c.node_mut.ensures.value)) in
     ap shape_of c.remove-then-goes.ensures.items
-    ∙ ap shape_of (removed_set c.args.entries.now.items c.in-Some.at (c.index_mut.result.now.0, c.take_inside-taken.new.node))
+    ∙ ap shape_of (removed_set c.args.entries.now.items c.in-Some.at ((entry_here c.args.entries.now.items c.in-Some.at c.node_mut.result.now).0, c.take_inside-taken.new.node))
     ∙ ap (λ (k : ℕ). shape_of (remove c.args.entries.now.items k))
     (sym (position-found (has_name c.args.name.now) c.args.entries.now.items c.in-Some.at at))
     ∙ shape_remove c.args.name.now c.args.entries.now.items
@@ -66,21 +66,21 @@ take_below-returns-then-goes-clause-entries t c =
 pub take_below-returns-then-goes-clause-node : goal.take_below-returns-then-goes-clause-node
 take_below-returns-then-goes-clause-node t c =
     let s = shape_of c.args.entries.now.items in
-    let at = ap (position (has_name c.args.name.now)) (sym c.deref.ensures.value) ∙ sym c.place_of.ensures ∙ c.in-Some.is in
+    let at = sym c.place_of.ensures ∙ c.in-Some.is in
     let found = shape_found c.args.name.now c.args.entries.now.items c.in-Some.at
     (position-found (has_name c.args.name.now) c.args.entries.now.items c.in-Some.at at)
     (found_within (has_name c.args.name.now) c.args.entries.now.items c.in-Some.at at)
-    c.index_mut.result.now (sym c.index_mut.ensures.value) in
+    (entry_here c.args.entries.now.items c.in-Some.at c.node_mut.result.now) (sym (entry_is c.args.entries.now.items c.in-Some.at c.node_mut.result.now (found_within (has_name c.args.name.now) c.args.entries.now.items c.in-Some.at at) c.node_mut.ensures.value)) in
     c.take_inside-taken.ensures.node ∙ ap (standing c.args.rest.now) (sym found.0)
 
 pub take_below-returns-else-goes-clause-entries : goal.take_below-returns-else-goes-clause-entries
 take_below-returns-else-goes-clause-entries t c =
     let s = shape_of c.args.entries.now.items in
-    let at = ap (position (has_name c.args.name.now)) (sym c.deref.ensures.value) ∙ sym c.place_of.ensures ∙ c.in-Some.is in
+    let at = sym c.place_of.ensures ∙ c.in-Some.is in
     let found = shape_found c.args.name.now c.args.entries.now.items c.in-Some.at
     (position-found (has_name c.args.name.now) c.args.entries.now.items c.in-Some.at at)
     (found_within (has_name c.args.name.now) c.args.entries.now.items c.in-Some.at at)
-    c.index_mut.result.now (sym c.index_mut.ensures.value) in
+    (entry_here c.args.entries.now.items c.in-Some.at c.node_mut.result.now) (sym (entry_is c.args.entries.now.items c.in-Some.at c.node_mut.result.now (found_within (has_name c.args.name.now) c.args.entries.now.items c.in-Some.at at) c.node_mut.ensures.value)) in
     found.1 c.take_inside-taken.new.node
     ∙ ap (put_back s c.args.name.now)
     (sym (ap (leaves c.args.clear c.args.rest.now) found.0 ∙ c.take_inside-taken.ensures.left
@@ -89,11 +89,11 @@ take_below-returns-else-goes-clause-entries t c =
 pub take_below-returns-else-goes-clause-node : goal.take_below-returns-else-goes-clause-node
 take_below-returns-else-goes-clause-node t c =
     let s = shape_of c.args.entries.now.items in
-    let at = ap (position (has_name c.args.name.now)) (sym c.deref.ensures.value) ∙ sym c.place_of.ensures ∙ c.in-Some.is in
+    let at = sym c.place_of.ensures ∙ c.in-Some.is in
     let found = shape_found c.args.name.now c.args.entries.now.items c.in-Some.at
     (position-found (has_name c.args.name.now) c.args.entries.now.items c.in-Some.at at)
     (found_within (has_name c.args.name.now) c.args.entries.now.items c.in-Some.at at)
-    c.index_mut.result.now (sym c.index_mut.ensures.value) in
+    (entry_here c.args.entries.now.items c.in-Some.at c.node_mut.result.now) (sym (entry_is c.args.entries.now.items c.in-Some.at c.node_mut.result.now (found_within (has_name c.args.name.now) c.args.entries.now.items c.in-Some.at at) c.node_mut.ensures.value)) in
     c.take_inside-taken.ensures.node ∙ ap (standing c.args.rest.now) (sym found.0)
 
 pub take_inside-returns-in-File-clause-node : goal.take_inside-returns-in-File-clause-node

@@ -1,4 +1,4 @@
-use Rattle.std.proofs.Common.{◌∷◌, ◌+◌, [], ℕ, List, drop, sym, ap, ◌∙◌, subst, arith, rules}
+use Rattle.std.proofs.Common.{◌∷◌, ◌+◌, [], ℕ, List, drop, sym, ap, ◌∙◌, subst, arith, rules, ◌<◌}
 use Rattle.std.specs.Prelude.{Option}
 use Rattle.std.specs.Option.{unwrap_or}
 use Rattle.tenant_tables.specs.declared.summary.Summary.{Summary}
@@ -31,8 +31,8 @@ extent-returns-in-Unopened g t c =
 pub extent_of_all-extent_under-requires : goal.extent_of_all-extent_under-requires
 extent_of_all-extent_under-requires g t c κs within =
     let os = objects c.args.pool.now c.args.table.now.entries in
-    let x = turn os c.args.entries.now c.loop-entry.entry-index c.entry-item.result c.requires.sound c.loop-entry-test.true c.entry-item.is in
-    let n = next-sum os c.args.entries.now c.loop-entry.entry-index c.loop-entry.sum c.entry-item.result c.loop-entry-test.true c.entry-item.is c.loop-entry.invariant c.requires.small in
+    let x = turn os c.args.entries.now.items c.loop-place.place c.at-entry.result.now c.requires.sound (subst (λ (n : ℕ). c.loop-place.place < n) c.len-place-end.ensures c.loop-place-test.true) c.at-entry.ensures in
+    let n = next-sum os c.args.entries.now.items c.loop-place.place c.loop-place.sum c.at-entry.result.now (subst (λ (n : ℕ). c.loop-place.place < n) c.len-place-end.ensures c.loop-place-test.true) c.at-entry.ensures c.loop-place.invariant c.requires.small in
     let d = c.decreases in
     let s = x.smaller in (
       omega arith,
@@ -43,7 +43,7 @@ extent_of_all-extent_under-requires g t c κs within =
           (
             x.sound,
             subst (λ (name : List ℕ). IsSmall (files_summary
-                (moved (name ∷ []) (held_files (stored_files os) (held c.entry-item.result.1)))))
+                (moved (name ∷ []) (held_files (stored_files os) (held c.at-entry.result.now.1)))))
                 (sym c.as_bytes.ensures.bytes) n.entry,
           ),
         ),
@@ -53,24 +53,24 @@ extent_of_all-extent_under-requires g t c κs within =
 pub extent_of_all-both-sum-requires : goal.extent_of_all-both-sum-requires
 extent_of_all-both-sum-requires g t c =
     let os = objects c.args.pool.now c.args.table.now.entries in
-    let n = next-sum os c.args.entries.now c.loop-entry.entry-index c.loop-entry.sum c.entry-item.result c.loop-entry-test.true c.entry-item.is c.loop-entry.invariant c.requires.small in
-    subst (λ (s : Summary). IsSmall (both c.loop-entry.sum s))
+    let n = next-sum os c.args.entries.now.items c.loop-place.place c.loop-place.sum c.at-entry.result.now (subst (λ (n : ℕ). c.loop-place.place < n) c.len-place-end.ensures c.loop-place-test.true) c.at-entry.ensures c.loop-place.invariant c.requires.small in
+    subst (λ (s : Summary). IsSmall (both c.loop-place.sum s))
     (sym (c.extent_under.ensures ∙ ap (λ (name : List ℕ). files_summary
     (moved (name ∷ []) (held_files (stored_files os)
-    (held c.entry-item.result.1)))) c.as_bytes.ensures.bytes))
+    (held c.at-entry.result.now.1)))) c.as_bytes.ensures.bytes))
     n.sum
 
-pub extent_of_all-loop-entry-preserved : goal.extent_of_all-loop-entry-preserved
-extent_of_all-loop-entry-preserved g t c =
+pub extent_of_all-loop-place-preserved : goal.extent_of_all-loop-place-preserved
+extent_of_all-loop-place-preserved g t c =
     let os = objects c.args.pool.now c.args.table.now.entries in
-    let n = next-sum os c.args.entries.now c.loop-entry.entry-index c.loop-entry.sum c.entry-item.result c.loop-entry-test.true c.entry-item.is c.loop-entry.invariant c.requires.small in
+    let n = next-sum os c.args.entries.now.items c.loop-place.place c.loop-place.sum c.at-entry.result.now (subst (λ (n : ℕ). c.loop-place.place < n) c.len-place-end.ensures c.loop-place-test.true) c.at-entry.ensures c.loop-place.invariant c.requires.small in
     let rest = files_summary (shape_files (stored_files os)
-    (shape_of (drop (c.loop-entry.entry-index + 1) c.args.entries.now))) in
+    (shape_of (drop (c.loop-place.place + 1) c.args.entries.now.items))) in
     ap (λ (s : Summary). both s rest)
-    (c.both-sum.ensures ∙ ap (both c.loop-entry.sum)
+    (c.both-sum.ensures ∙ ap (both c.loop-place.sum)
     (c.extent_under.ensures ∙ ap (λ (name : List ℕ). files_summary
     (moved (name ∷ []) (held_files (stored_files os)
-    (held c.entry-item.result.1)))) c.as_bytes.ensures.bytes))
+    (held c.at-entry.result.now.1)))) c.as_bytes.ensures.bytes))
     ∙ n.next
 
 pub extent_under-extent-requires : goal.extent_under-extent-requires

@@ -18,11 +18,11 @@ abbrev pub decreases-extent_of_dir : goal.decreases-extent_of_dir
 decreases-extent_of_dir g l = 4 * shape_size l.dir.now.entries + 1
 
 abbrev pub decreases-extent_of_all : goal.decreases-extent_of_all
-decreases-extent_of_all g l = 4 * shape_size (shape_of l.entries.now)
+decreases-extent_of_all g l = 4 * shape_size (shape_of l.entries.now.items)
 
-abbrev pub invariant-extent_of_all-loop-entry : goal.invariant-extent_of_all-loop-entry
-invariant-extent_of_all-loop-entry g l =
+abbrev pub invariant-extent_of_all-loop-place : goal.invariant-extent_of_all-loop-place
+invariant-extent_of_all-loop-place g l =
     both l.sum (files_summary (shape_files (stored_files (objects l.pool l.table.entries))
-    (shape_of (drop l.entry-index l.entries))))
+    (shape_of (drop l.place l.entries.items))))
     ≡ files_summary (shape_files (stored_files (objects l.pool l.table.entries))
-    (shape_of l.entries))
+    (shape_of l.entries.items))

@@ -1,4 +1,4 @@
-use Rattle.std.proofs.Common.{◌≡◌, List, [], ◌∷◌, ◌++◌, take, sym, ap, ◌∙◌, subst}
+use Rattle.std.proofs.Common.{◌≡◌, List, [], ◌∷◌, ◌++◌, take, sym, ap, ◌∙◌, subst, ℕ, ◌<◌}
 use Rattle.std.specs.List.{AllByRecursion}
 use Rattle.git_model.specs.ObjectName.{IsObjectName}
 use Rattle.git_model.specs.Tree.{TreeEntry, tree_contents}
@@ -12,18 +12,18 @@ use Rattle.tree_build.proofs.matching.lists.Goals as goal
 
 pub row_of-row-requires : goal.row_of-row-requires
 row_of-row-requires c =
-    named-at c.args.entries.now c.loop-entry.entry-index c.entry-item.result c.loop-entry-test.true c.entry-item.is c.requires
+    named-at c.args.entries.now.items c.loop-place.place c.at-entry.result.now (subst (λ (n : ℕ). c.loop-place.place < n) c.len-place-end.ensures c.loop-place-test.true) c.at-entry.ensures c.requires
 
-pub loop-entry-preserved : goal.loop-entry-preserved
-loop-entry-preserved c =
-    let es = entries_of_shape (shape_of (take c.loop-entry.entry-index c.args.entries.now)) in
-    let more = rows-more c.args.entries.now c.loop-entry.entry-index c.entry-item.result c.loop-entry-test.true c.entry-item.is
+pub loop-place-preserved : goal.loop-place-preserved
+loop-place-preserved c =
+    let es = entries_of_shape (shape_of (take c.loop-place.place c.args.entries.now.items)) in
+    let more = rows-more c.args.entries.now.items c.loop-place.place c.at-entry.result.now (subst (λ (n : ℕ). c.loop-place.place < n) c.len-place-end.ensures c.loop-place-test.true) c.at-entry.ensures
     ∙ ap (λ (t : TreeEntry). es ++ t ∷ []) (sym c.row_of-row.ensures) in record {
       read =
           subst (λ (l : List TreeEntry). c.args.contents.now ≡ tree_contents l ++ c.in-Some.more.now) (sym more)
-          (read-more c.args.contents.now c.loop-entry.rest.now c.in-Some.more.now es (entry_of c.row_of-row.result)
-          c.loop-entry.invariant.read c.in-Some.ensures);
+          (read-more c.args.contents.now c.loop-place.rest.now c.in-Some.more.now es (entry_of c.row_of-row.result)
+          c.loop-place.invariant.read c.in-Some.ensures);
       ids = subst (AllByRecursion (λ e. IsObjectName e.id)) (sym more)
           (all-append (λ (t : TreeEntry). IsObjectName t.id) es (entry_of c.row_of-row.result ∷ [])
-          c.loop-entry.invariant.ids (c.has_twenty_bytes.ensures, tt));
+          c.loop-place.invariant.ids (c.has_twenty_bytes.ensures, tt));
     }

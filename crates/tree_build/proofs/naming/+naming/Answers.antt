@@ -1,4 +1,4 @@
-use Rattle.std.proofs.Common.{◌≡◌, List, [], ◌∷◌, ◌++◌, map, IfOk, sym, ap, ◌∙◌, subst, rules, arith}
+use Rattle.std.proofs.Common.{◌≡◌, List, [], ◌∷◌, ◌++◌, map, IfOk, sym, ap, ◌∙◌, subst, rules, arith, ℕ, ◌<◌, ◌≤◌}
 use Rattle.std.proofs.lemmas.List.{map-append, take_all}
 use Rattle.git_model.specs.Tree.{TreeEntry}
 use Rattle.git_objects.specs.Parts.{entry_of, entries_of}
@@ -34,40 +34,40 @@ tree_of-returns-in-Some g t c =
 pub push_rows-entry_here-requires : goal.push_rows-entry_here-requires
 push_rows-entry_here-requires g t c κs within =
     let os = objects c.args.pool.now c.args.table.now.entries in
-    let size = size-at c.args.entries.now c.loop-entry.entry-index c.entry-item.result c.loop-entry-test.true c.entry-item.is in (
+    let size = size-at c.args.entries.now.items c.loop-place.place c.at-entry.result.now (subst (λ (n : ℕ). c.loop-place.place < n) c.len-place-end.ensures c.loop-place-test.true) c.at-entry.ensures in (
       omega (arith, c.decreases, size),
       (
         search (rules, within),
         (
           c.requires.stands,
           (
-            sound-at os c.args.entries.now c.loop-entry.entry-index c.entry-item.result c.loop-entry-test.true c.entry-item.is c.requires.sound,
-            some-at os c.args.entries.now c.loop-entry.entry-index c.entry-item.result c.loop-entry-test.true c.entry-item.is c.requires.sound,
+            sound-at os c.args.entries.now.items c.loop-place.place c.at-entry.result.now (subst (λ (n : ℕ). c.loop-place.place < n) c.len-place-end.ensures c.loop-place-test.true) c.at-entry.ensures c.requires.sound,
+            some-at os c.args.entries.now.items c.loop-place.place c.at-entry.result.now (subst (λ (n : ℕ). c.loop-place.place < n) c.len-place-end.ensures c.loop-place-test.true) c.at-entry.ensures c.requires.sound,
           ),
         ),
       ),
     )
 
-pub push_rows-loop-entry-preserved : goal.push_rows-loop-entry-preserved
-push_rows-loop-entry-preserved g t c =
+pub push_rows-loop-place-preserved : goal.push_rows-loop-place-preserved
+push_rows-loop-place-preserved g t c =
     let os = objects c.args.pool.now c.args.table.now.entries in
-    let one = pushed c.push.result c.is_err.result c.push.new.self.items c.loop-entry.rows.items c.row_of.result c.is_err.ensures.negation c.if-is_err.false c.push.ensures.items in
-    ap entries_of one ∙ map-append entry_of c.loop-entry.rows.items (c.row_of.result ∷ [])
-    ∙ ap (λ (l : List TreeEntry). l ++ entry_of c.row_of.result ∷ []) c.loop-entry.invariant
+    let one = pushed c.push.result c.is_err.result c.push.new.self.items c.loop-place.rows.items c.row_of.result c.is_err.ensures.negation c.if-is_err.false c.push.ensures.items in
+    ap entries_of one ∙ map-append entry_of c.loop-place.rows.items (c.row_of.result ∷ [])
+    ∙ ap (λ (l : List TreeEntry). l ++ entry_of c.row_of.result ∷ []) c.loop-place.invariant
     ∙ sym
-    (one-row g.N.Naming.digest_of (stored_files os) c.args.entries.now c.loop-entry.entry-index c.entry-item.result c.in_ok-held.held (entry_of c.row_of.result)
-    c.loop-entry-test.true c.entry-item.is
-    (some-at os c.args.entries.now c.loop-entry.entry-index c.entry-item.result c.loop-entry-test.true c.entry-item.is c.requires.sound)
+    (one-row g.N.Naming.digest_of (stored_files os) c.args.entries.now.items c.loop-place.place c.at-entry.result.now c.in_ok-held.held (entry_of c.row_of.result)
+    (subst (λ (n : ℕ). c.loop-place.place < n) c.len-place-end.ensures c.loop-place-test.true) c.at-entry.ensures
+    (some-at os c.args.entries.now.items c.loop-place.place c.at-entry.result.now (subst (λ (n : ℕ). c.loop-place.place < n) c.len-place-end.ensures c.loop-place-test.true) c.at-entry.ensures c.requires.sound)
     c.in_ok-held.ensures c.row_of.ensures)
 
 pub push_rows-returns : goal.push_rows-returns
 push_rows-returns g t c =
     let os = objects c.args.pool.now c.args.table.now.entries in
-    c.loop-entry.invariant
+    c.loop-place.invariant
     ∙ ap
     (λ (l : Entries). map (TreeOf.entry_of g.N.Naming.digest_of) (parts_of (stored_files os) (shape_of l)))
-    (take_all c.loop-entry.entry-index c.args.entries.now c.loop-entry-test.false)
-    ∙ sym (entries-inside g.N.Naming.digest_of os (shape_of c.args.entries.now) c.requires.sound)
+    (take_all c.loop-place.place c.args.entries.now.items (subst (λ (n : ℕ). n ≤ c.loop-place.place) c.len-place-end.ensures c.loop-place-test.false))
+    ∙ sym (entries-inside g.N.Naming.digest_of os (shape_of c.args.entries.now.items) c.requires.sound)
 
 pub tree_of_entries-returns-in-Ok : goal.tree_of_entries-returns-in-Ok
 tree_of_entries-returns-in-Ok g t c =

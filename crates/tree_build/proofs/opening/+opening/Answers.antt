@@ -1,6 +1,5 @@
 use Rattle.std.proofs.Common.{◌∷◌, length, refl, sym, ap, ◌∙◌, subst, arith, rules}
 use Rattle.std.specs.Prelude.{Option}
-use Rattle.std.specs.List.{position}
 use Rattle.std.proofs.lemmas.Result.{on_ok_weaker}
 use Rattle.tenant_tables.proofs.EntryLemmas.{position-found}
 use Rattle.tenant_tables.specs.Objects.{objects}
@@ -11,7 +10,7 @@ use Rattle.tree_build.specs.Branch.{IsShape, IsHeld, closed_along, closed_from}
 use Rattle.tree_build.specs.Nodes.{held, shape_of, has_name}
 use Rattle.tree_build.specs.Opened.{OpensHeld, ReadsMore}
 use Rattle.tree_build.proofs.Entries.{closed_child, closed_at, entry_at}
-use Rattle.tree_build.proofs.Named.{shape_found, shape_lacks, found_within, not_found}
+use Rattle.tree_build.proofs.Named.{entry_here, entry_is, shape_found, shape_lacks, found_within, not_found}
 use Rattle.tree_build.proofs.Along.{opens_entry, opens_none, opens_here, opens_unopened, closed_root, one_more, one_read}
 use Rattle.tree_build.proofs.opening.+opening.Goals as goal
 
@@ -25,28 +24,28 @@ open_along-open_below-requires g t c κs within =
     let d = c.decreases in
     let n = ap (λ (p : Path). length p) c.in-Some.ensures in
     let os = objects c.args.pool.now c.args.table.now.entries in
-    let at = ap (position (has_name c.in-Some.name.now)) (sym c.deref.ensures.value) ∙ sym c.place_of.ensures ∙ c.in-Some-place_of.is in
+    let at = sym c.place_of.ensures ∙ c.in-Some-place_of.is in
     let found = shape_found c.in-Some.name.now c.dir.inside.entries.items c.in-Some-place_of.at
     (position-found (has_name c.in-Some.name.now) c.dir.inside.entries.items c.in-Some-place_of.at at)
     (found_within (has_name c.in-Some.name.now) c.dir.inside.entries.items c.in-Some-place_of.at at)
-    c.index_mut.result.now (sym c.index_mut.ensures.value) in
+    (entry_here c.dir.inside.entries.items c.in-Some-place_of.at c.node_mut.result.now) (sym (entry_is c.dir.inside.entries.items c.in-Some-place_of.at c.node_mut.result.now (found_within (has_name c.in-Some.name.now) c.dir.inside.entries.items c.in-Some-place_of.at at) c.node_mut.ensures.value)) in
     let sound = subst (IsShape os) (ap (λ (x : Directory). x.entries) (sym c.dir.view_is)) c.requires.sound in
-    let e = entry_at os (shape_of c.dir.inside.entries.items) sound c.in-Some.name.now (held c.index_mut.result.now.1) found.0 in
+    let e = entry_at os (shape_of c.dir.inside.entries.items) sound c.in-Some.name.now (held c.node_mut.result.now) found.0 in
     (omega arith, (search (rules, within), (c.requires.stands, (e.0.sound, e.1))))
 
 pub open_along-returns-in-Some-place_of-clause-opens :
     goal.open_along-returns-in-Some-place_of-clause-opens
 open_along-returns-in-Some-place_of-clause-opens g t c =
     let os = objects c.args.pool.now c.args.table.now.entries in
-    let at = ap (position (has_name c.in-Some.name.now)) (sym c.deref.ensures.value) ∙ sym c.place_of.ensures ∙ c.in-Some-place_of.is in
+    let at = sym c.place_of.ensures ∙ c.in-Some-place_of.is in
     let found = shape_found c.in-Some.name.now c.dir.inside.entries.items c.in-Some-place_of.at
     (position-found (has_name c.in-Some.name.now) c.dir.inside.entries.items c.in-Some-place_of.at at)
     (found_within (has_name c.in-Some.name.now) c.dir.inside.entries.items c.in-Some-place_of.at at)
-    c.index_mut.result.now (sym c.index_mut.ensures.value) in
+    (entry_here c.dir.inside.entries.items c.in-Some-place_of.at c.node_mut.result.now) (sym (entry_is c.dir.inside.entries.items c.in-Some-place_of.at c.node_mut.result.now (found_within (has_name c.in-Some.name.now) c.dir.inside.entries.items c.in-Some-place_of.at at) c.node_mut.ensures.value)) in
     let sound = subst (IsShape os) (ap (λ (x : Directory). x.entries) (sym c.dir.view_is)) c.requires.sound in
     on_ok_weaker c.open_below.result
     (λ opens. opens_entry os (shape_of c.dir.inside.entries.items) sound c.in-Some.name.now c.in-Some.rest
-    (held c.index_mut.result.now.1) (held c.open_below.new.node) found.0 opens _ c.dir.inside.tree refl
+    (held c.node_mut.result.now) (held c.open_below.new.node) found.0 opens _ c.dir.inside.tree refl
     (found.1 c.open_below.new.node) c.args.dir.now (ap (λ (x : Directory). x.tree) (sym c.dir.view_is))
     (ap (λ (x : Directory). x.entries) (sym c.dir.view_is)) c.args.path.now c.in-Some.ensures)
     c.open_below.ensures.opens
@@ -54,11 +53,11 @@ open_along-returns-in-Some-place_of-clause-opens g t c =
 pub open_along-returns-in-Some-place_of-clause-reads :
     goal.open_along-returns-in-Some-place_of-clause-reads
 open_along-returns-in-Some-place_of-clause-reads g t c =
-    let at = ap (position (has_name c.in-Some.name.now)) (sym c.deref.ensures.value) ∙ sym c.place_of.ensures ∙ c.in-Some-place_of.is in
+    let at = sym c.place_of.ensures ∙ c.in-Some-place_of.is in
     let found = shape_found c.in-Some.name.now c.dir.inside.entries.items c.in-Some-place_of.at
     (position-found (has_name c.in-Some.name.now) c.dir.inside.entries.items c.in-Some-place_of.at at)
     (found_within (has_name c.in-Some.name.now) c.dir.inside.entries.items c.in-Some-place_of.at at)
-    c.index_mut.result.now (sym c.index_mut.ensures.value) in
+    (entry_here c.dir.inside.entries.items c.in-Some-place_of.at c.node_mut.result.now) (sym (entry_is c.dir.inside.entries.items c.in-Some-place_of.at c.node_mut.result.now (found_within (has_name c.in-Some.name.now) c.dir.inside.entries.items c.in-Some-place_of.at at) c.node_mut.ensures.value)) in
     subst (ReadsMore c.args.reads.now c.open_below.new.reads)
     (sym (ap (closed_along c.args.dir.now.entries) c.in-Some.ensures
     ∙ ap (λ (x : Directory). closed_along x.entries (c.in-Some.name.now ∷ c.in-Some.rest)) (sym c.dir.view_is)
@@ -70,7 +69,7 @@ pub open_along-returns-in-None-clause-opens : goal.open_along-returns-in-None-cl
 open_along-returns-in-None-clause-opens g t c =
     let lacks = shape_lacks c.in-Some.name.now c.dir.inside.entries.items
     (not_found (has_name c.in-Some.name.now) c.dir.inside.entries.items
-    (ap (position (has_name c.in-Some.name.now)) (sym c.deref.ensures.value) ∙ sym c.place_of.ensures ∙ c.in-None.is)) in
+    (sym c.place_of.ensures ∙ c.in-None.is)) in
     opens_none (objects c.args.pool.now c.args.table.now.entries) c.args.dir.now c.requires.sound c.args.path.now
     (ap (closed_along c.args.dir.now.entries) c.in-Some.ensures
     ∙ ap (λ (x : Directory). closed_along x.entries (c.in-Some.name.now ∷ c.in-Some.rest)) (sym c.dir.view_is)

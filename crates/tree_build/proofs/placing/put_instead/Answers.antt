@@ -14,7 +14,7 @@ use Rattle.tree_build.specs.Nodes.{held, shape_of, has_name}
 use Rattle.tree_build.specs.Editing.{inserted}
 use Rattle.tree_build.specs.Searches.{AreOrdered}
 use Rattle.tree_build.proofs.Look.{is_bytes}
-use Rattle.tree_build.proofs.Named.{shape_found, found_within, shape_remove}
+use Rattle.tree_build.proofs.Named.{entry_here, entry_is, shape_found, found_within, shape_remove}
 use Rattle.tree_build.proofs.Searched.{ordered_removed, put_alike}
 use Rattle.tree_build.proofs.placing.put_instead.Goals as goal
 
@@ -24,13 +24,13 @@ returns-then-eq c =
     let within = found_within (has_name c.args.name.now) es c.args.at c.requires.there in
     let found = shape_found c.args.name.now es c.args.at
     (position-found (has_name c.args.name.now) es c.args.at c.requires.there) within
-    c.index_mut.result.now (sym c.index_mut.ensures.value) in
+    (entry_here es c.args.at c.node_mut.result.now) (sym (entry_is es c.args.at c.node_mut.result.now within c.node_mut.ensures.value)) in
     let modes = same_true the_type (search rules) _ _ (sym c.eq.ensures ∙ c.if-eq.true) in
     let alike = sym c.order_mode-2.ensures ∙ ap slash_of (sym modes) ∙ c.order_mode.ensures
     ∙ ap (λ (e : List ℕ × Node). slash_after (held e.1).what)
-    (c.index.ensures ∙ get_or_default es c.args.at c.index.result.now c.index_mut.result.now within ∙ sym c.index_mut.ensures.value) in
+    (c.at.ensures ∙ get_or_default es c.args.at c.at.result.now (entry_here es c.args.at c.node_mut.result.now) within ∙ sym (entry_is es c.args.at c.node_mut.result.now within c.node_mut.ensures.value)) in
     found.1 c.args.node
-    ∙ put_alike (shape_of es) c.args.name.now (held c.args.node) (held c.index_mut.result.now.1) c.requires.ordered found.0 alike
+    ∙ put_alike (shape_of es) c.args.name.now (held c.args.node) (held c.node_mut.result.now) c.requires.ordered found.0 alike
 
 pub insert-requires : goal.insert-requires
 insert-requires c =

@@ -1,6 +1,5 @@
 use Rattle.std.proofs.Common.{◌≡◌, ◌≤◌, ℕ, List, ◌∷◌, length, refl, sym, ap, ◌∙◌, subst, arith, rules}
 use Rattle.std.specs.Prelude.{Option}
-use Rattle.std.specs.List.{position}
 use Rattle.std.proofs.lemmas.List.{get_or_default}
 use Rattle.std.proofs.lemmas.Result.{IfOk-weaker}
 use Rattle.tenant_tables.specs.Objects.{objects}
@@ -14,7 +13,7 @@ use Rattle.tree_build.specs.Editing.{child, removed, inserted, changed}
 use Rattle.tree_build.specs.Opened.{ReadsMore}
 use Rattle.tree_build.specs.Putting.{file_held, new_node, leads_into, PutsHeld}
 use Rattle.tree_build.proofs.Entries.{closed_child, closed_at, entry_at, count_there}
-use Rattle.tree_build.proofs.Named.{shape_lacks, found_within, not_found}
+use Rattle.tree_build.proofs.Named.{entry_here, entry_is, shape_lacks, found_within, not_found}
 use Rattle.tree_build.proofs.Along.{one_more}
 use Rattle.tree_build.proofs.OneWalk.{found_at, leads_directory, leads_more, puts_new, puts_instead, puts_inside, puts_unopened}
 use Rattle.tree_build.proofs.putting.+putting.Goals as goal
@@ -25,14 +24,14 @@ put_along-put_inside-requires g t c κs within =
     let n = ap (λ (p : Path). length p) c.in-Some.ensures in
     let os = objects c.args.pool.now c.args.table.now.entries in
     let es = c.dir.inside.entries.items in
-    let at = ap (position (has_name c.in-Some.name.now)) (sym c.deref.ensures.value) ∙ sym c.place_of.ensures ∙ c.in-Some-place_of.is in
-    let found = found_at c.in-Some.name.now es c.in-Some-place_of.at at c.index_mut.result.now (sym c.index_mut.ensures.value) in
+    let at = sym c.place_of.ensures ∙ c.in-Some-place_of.is in
+    let found = found_at c.in-Some.name.now es c.in-Some-place_of.at at (entry_here c.dir.inside.entries.items c.in-Some-place_of.at c.node_mut.result.now) (sym (entry_is c.dir.inside.entries.items c.in-Some-place_of.at c.node_mut.result.now (found_within (has_name c.in-Some.name.now) c.dir.inside.entries.items c.in-Some-place_of.at at) c.node_mut.ensures.value)) in
     let sound = subst (IsShape os) (ap (λ (x : Directory). x.entries) (sym c.dir.view_is)) c.requires.sound in
     let few = subst (λ (x : Directory). length (shape_files (stored_files os) x.entries) ≤ 1048576) (sym c.dir.view_is) c.requires.few in
-    let e = entry_at os (shape_of es) sound c.in-Some.name.now (held c.index_mut.result.now.1) found.0 in
-    let m = count_there (stored_files os) (shape_of es) c.in-Some.name.now (held c.index_mut.result.now.1) found.0 in
-    let same = c.index.ensures ∙ get_or_default es c.in-Some-place_of.at c.index.result.now c.index_mut.result.now
-    (found_within (has_name c.in-Some.name.now) es c.in-Some-place_of.at at) ∙ sym c.index_mut.ensures.value in
+    let e = entry_at os (shape_of es) sound c.in-Some.name.now (held c.node_mut.result.now) found.0 in
+    let m = count_there (stored_files os) (shape_of es) c.in-Some.name.now (held c.node_mut.result.now) found.0 in
+    let same = c.at.ensures ∙ get_or_default es c.in-Some-place_of.at c.at.result.now (entry_here c.dir.inside.entries.items c.in-Some-place_of.at c.node_mut.result.now)
+    (found_within (has_name c.in-Some.name.now) es c.in-Some-place_of.at at) ∙ sym (entry_is c.dir.inside.entries.items c.in-Some-place_of.at c.node_mut.result.now (found_within (has_name c.in-Some.name.now) c.dir.inside.entries.items c.in-Some-place_of.at at) c.node_mut.ensures.value) in
     let leads = ap (λ (x : List ℕ × Node). leads_into (held x.1).what c.in-Some.rest) (sym same) ∙ sym c.leads_into.ensures ∙ c.if-leads_into.true in (
       omega arith,
       (
@@ -40,8 +39,8 @@ put_along-put_inside-requires g t c κs within =
         (
           c.requires.stands,
           (
-            leads_directory (held c.index_mut.result.now.1).what c.in-Some.rest leads,
-            ((e.0.sound, e.1), (omega arith, leads_more (held c.index_mut.result.now.1).what c.in-Some.rest leads)),
+            leads_directory (held c.node_mut.result.now).what c.in-Some.rest leads,
+            ((e.0.sound, e.1), (omega arith, leads_more (held c.node_mut.result.now).what c.in-Some.rest leads)),
           ),
         ),
       ),
@@ -52,17 +51,17 @@ pub put_along-returns-then-leads_into-clause-puts :
 put_along-returns-then-leads_into-clause-puts g t c =
     let os = objects c.args.pool.now c.args.table.now.entries in
     let es = c.dir.inside.entries.items in
-    let at = ap (position (has_name c.in-Some.name.now)) (sym c.deref.ensures.value) ∙ sym c.place_of.ensures ∙ c.in-Some-place_of.is in
-    let found = found_at c.in-Some.name.now es c.in-Some-place_of.at at c.index_mut.result.now (sym c.index_mut.ensures.value) in
-    let same = c.index.ensures ∙ get_or_default es c.in-Some-place_of.at c.index.result.now c.index_mut.result.now
-    (found_within (has_name c.in-Some.name.now) es c.in-Some-place_of.at at) ∙ sym c.index_mut.ensures.value in
+    let at = sym c.place_of.ensures ∙ c.in-Some-place_of.is in
+    let found = found_at c.in-Some.name.now es c.in-Some-place_of.at at (entry_here c.dir.inside.entries.items c.in-Some-place_of.at c.node_mut.result.now) (sym (entry_is c.dir.inside.entries.items c.in-Some-place_of.at c.node_mut.result.now (found_within (has_name c.in-Some.name.now) c.dir.inside.entries.items c.in-Some-place_of.at at) c.node_mut.ensures.value)) in
+    let same = c.at.ensures ∙ get_or_default es c.in-Some-place_of.at c.at.result.now (entry_here c.dir.inside.entries.items c.in-Some-place_of.at c.node_mut.result.now)
+    (found_within (has_name c.in-Some.name.now) es c.in-Some-place_of.at at) ∙ sym (entry_is c.dir.inside.entries.items c.in-Some-place_of.at c.node_mut.result.now (found_within (has_name c.in-Some.name.now) c.dir.inside.entries.items c.in-Some-place_of.at at) c.node_mut.ensures.value) in
     let leads = ap (λ (x : List ℕ × Node). leads_into (held x.1).what c.in-Some.rest) (sym same) ∙ sym c.leads_into.ensures ∙ c.if-leads_into.true in
     let had : c.args.dir.now.entries ≡ shape_of es = ap (λ (x : Directory). x.entries) (sym c.dir.view_is) in
     IfOk-weaker c.put_inside.result _ _
     (λ gone puts. puts_inside os (file_held c.args.entry) c.args.dir.now _ c.in-Some.name.now c.in-Some.rest c.args.path.now c.in-Some.ensures
-    c.requires.sound refl gone (held c.index_mut.result.now.1) (held c.put_inside.new.node)
+    c.requires.sound refl gone (held c.node_mut.result.now) (held c.put_inside.new.node)
     (ap (λ (s : Shape). child s c.in-Some.name.now) had ∙ found.0)
-    (leads_more (held c.index_mut.result.now.1).what c.in-Some.rest leads) puts
+    (leads_more (held c.node_mut.result.now).what c.in-Some.rest leads) puts
     (found.1 c.put_inside.new.node ∙ ap (λ (s : Shape). changed s c.in-Some.name.now (held c.put_inside.new.node)) (sym had)))
     c.put_inside.ensures.puts
 
@@ -70,8 +69,8 @@ pub put_along-returns-then-leads_into-clause-reads :
     goal.put_along-returns-then-leads_into-clause-reads
 put_along-returns-then-leads_into-clause-reads g t c =
     let es = c.dir.inside.entries.items in
-    let at = ap (position (has_name c.in-Some.name.now)) (sym c.deref.ensures.value) ∙ sym c.place_of.ensures ∙ c.in-Some-place_of.is in
-    let found = found_at c.in-Some.name.now es c.in-Some-place_of.at at c.index_mut.result.now (sym c.index_mut.ensures.value) in
+    let at = sym c.place_of.ensures ∙ c.in-Some-place_of.is in
+    let found = found_at c.in-Some.name.now es c.in-Some-place_of.at at (entry_here c.dir.inside.entries.items c.in-Some-place_of.at c.node_mut.result.now) (sym (entry_is c.dir.inside.entries.items c.in-Some-place_of.at c.node_mut.result.now (found_within (has_name c.in-Some.name.now) c.dir.inside.entries.items c.in-Some-place_of.at at) c.node_mut.ensures.value)) in
     subst (ReadsMore c.args.reads.now c.put_inside.new.reads)
     (sym (ap (closed_along c.args.dir.now.entries) c.in-Some.ensures
     ∙ ap (λ (x : Directory). closed_along x.entries (c.in-Some.name.now ∷ c.in-Some.rest)) (sym c.dir.view_is)
@@ -86,7 +85,7 @@ put_along-returns-in_default-place_of-clause-puts g t c =
     let es = c.dir.inside.entries.items in
     let lacks = shape_lacks c.in-Some.name.now es
     (not_found (has_name c.in-Some.name.now) es
-    (ap (position (has_name c.in-Some.name.now)) (sym c.deref.ensures.value) ∙ sym c.place_of.ensures ∙ c.in_default-place_of.is)) in
+    (sym c.place_of.ensures ∙ c.in_default-place_of.is)) in
     let had : c.args.dir.now.entries ≡ shape_of es = ap (λ (x : Directory). x.entries) (sym c.dir.view_is) in
     puts_new os (file_held c.args.entry) c.args.dir.now _ c.in-Some.name.now c.in-Some.rest c.args.path.now c.in-Some.ensures
     c.requires.sound refl 0
@@ -99,33 +98,33 @@ pub put_along-count-gone-requires-clause-sound : goal.put_along-count-gone-requi
 put_along-count-gone-requires-clause-sound g t c =
     let os = objects c.args.pool.now c.args.table.now.entries in
     let es = c.dir.inside.entries.items in
-    let at = ap (position (has_name c.in-Some.name.now)) (sym c.deref.ensures.value) ∙ sym c.place_of.ensures ∙ c.in-Some-place_of.is in
-    let found = found_at c.in-Some.name.now es c.in-Some-place_of.at at c.index-2.result.now (sym c.index-2.ensures) in
+    let at = sym c.place_of.ensures ∙ c.in-Some-place_of.is in
+    let found = found_at c.in-Some.name.now es c.in-Some-place_of.at at c.at-2.result.now (sym c.at-2.ensures) in
     let sound = subst (IsShape os) (ap (λ (x : Directory). x.entries) (sym c.dir.view_is)) c.requires.sound in
-    let e = entry_at os (shape_of es) sound c.in-Some.name.now (held c.index-2.result.now.1) found.0 in (e.0.sound, e.1)
+    let e = entry_at os (shape_of es) sound c.in-Some.name.now (held c.at-2.result.now.1) found.0 in (e.0.sound, e.1)
 
 pub put_along-count-gone-requires-clause-few : goal.put_along-count-gone-requires-clause-few
 put_along-count-gone-requires-clause-few g t c =
     let os = objects c.args.pool.now c.args.table.now.entries in
     let es = c.dir.inside.entries.items in
-    let at = ap (position (has_name c.in-Some.name.now)) (sym c.deref.ensures.value) ∙ sym c.place_of.ensures ∙ c.in-Some-place_of.is in
-    let found = found_at c.in-Some.name.now es c.in-Some-place_of.at at c.index-2.result.now (sym c.index-2.ensures) in
+    let at = sym c.place_of.ensures ∙ c.in-Some-place_of.is in
+    let found = found_at c.in-Some.name.now es c.in-Some-place_of.at at c.at-2.result.now (sym c.at-2.ensures) in
     let few = subst (λ (x : Directory). length (shape_files (stored_files os) x.entries) ≤ 1048576) (sym c.dir.view_is) c.requires.few in
-    let m = count_there (stored_files os) (shape_of es) c.in-Some.name.now (held c.index-2.result.now.1) found.0 in
+    let m = count_there (stored_files os) (shape_of es) c.in-Some.name.now (held c.at-2.result.now.1) found.0 in
     omega arith
 
 pub put_along-returns-clause-puts : goal.put_along-returns-clause-puts
 put_along-returns-clause-puts g t c =
     let os = objects c.args.pool.now c.args.table.now.entries in
     let es = c.dir.inside.entries.items in
-    let at = ap (position (has_name c.in-Some.name.now)) (sym c.deref.ensures.value) ∙ sym c.place_of.ensures ∙ c.in-Some-place_of.is in
-    let found = found_at c.in-Some.name.now es c.in-Some-place_of.at at c.index-2.result.now (sym c.index-2.ensures) in
-    let same = c.index.ensures ∙ get_or_default es c.in-Some-place_of.at c.index.result.now c.index-2.result.now
-    (found_within (has_name c.in-Some.name.now) es c.in-Some-place_of.at at) ∙ sym c.index-2.ensures in
+    let at = sym c.place_of.ensures ∙ c.in-Some-place_of.is in
+    let found = found_at c.in-Some.name.now es c.in-Some-place_of.at at c.at-2.result.now (sym c.at-2.ensures) in
+    let same = c.at.ensures ∙ get_or_default es c.in-Some-place_of.at c.at.result.now c.at-2.result.now
+    (found_within (has_name c.in-Some.name.now) es c.in-Some-place_of.at at) ∙ sym c.at-2.ensures in
     let leads = ap (λ (x : List ℕ × Node). leads_into (held x.1).what c.in-Some.rest) (sym same) ∙ sym c.leads_into.ensures ∙ c.if-leads_into.false in
     let had : c.args.dir.now.entries ≡ shape_of es = ap (λ (x : Directory). x.entries) (sym c.dir.view_is) in
     puts_instead os (file_held c.args.entry) c.args.dir.now _ c.in-Some.name.now c.in-Some.rest c.args.path.now c.in-Some.ensures
-    c.requires.sound refl c.count-gone.result (held c.index-2.result.now.1)
+    c.requires.sound refl c.count-gone.result (held c.at-2.result.now.1)
     (ap (λ (s : Shape). child s c.in-Some.name.now) had ∙ found.0) leads
     (c.in_ok-put_instead.ensures
     ∙ ap (λ (x : Held). inserted c.in-Some.name.now x (removed (shape_of es) c.in-Some.name.now)) c.in_ok-new_node.ensures

@@ -1,5 +1,4 @@
 use Rattle.std.proofs.Common.{◌≡◌, [], ◌∷◌, length, None, refl, sym, ap, ◌∙◌, subst, rules, arith}
-use Rattle.std.specs.List.{position}
 use Rattle.std.proofs.lemmas.List.Quantifiers.{position-Some}
 use Rattle.tenant_tables.specs.Objects.{objects}
 use Rattle.file_maps.specs.FileMap.{Path, Listed}
@@ -12,6 +11,7 @@ use Rattle.tree_build.specs.declared.dir.Node.{Node}
 use Rattle.tree_build.specs.Branch.{IsShape, IsHeld}
 use Rattle.tree_build.specs.Nodes.{has_name, held, shape_of}
 use Rattle.tree_build.specs.Shape.{Directory, unopened, opened, none, shape_files, held_files}
+use Rattle.tree_build.proofs.Named.{entry_here, entry_is}
 use Rattle.tree_build.proofs.Inside.{no-root}
 use Rattle.tree_build.proofs.Later.{stores-grow, shape-later, held-later}
 use Rattle.tree_build.proofs.Looked.{cut-nothing, cut-there}
@@ -103,8 +103,8 @@ pub store_below-store_path-requires : goal.store_below-store_path-requires
 store_below-store_path-requires g t c κs within =
     let os = objects c.args.pool.now c.args.table.now.entries in
     let es = c.args.entries.now.items in
-    let is = ap (position (has_name c.args.name.now)) (sym c.deref.ensures.value) ∙ sym c.place_of.ensures ∙ c.in-Some.is in
-    let lt = (position-Some (has_name c.args.name.now) es c.in-Some.place c.index_mut.result.now is).0 in (
+    let is = sym c.place_of.ensures ∙ c.in-Some.is in
+    let lt = (position-Some (has_name c.args.name.now) es c.in-Some.place (entry_here c.args.entries.now.items c.in-Some.place c.node_mut-node.result.now) is).0 in (
       omega (arith, c.decreases),
       (
         search (rules, within),
@@ -113,8 +113,8 @@ store_below-store_path-requires g t c κs within =
           (
             c.requires.room,
             (
-              sound-at os es c.in-Some.place c.index_mut.result.now lt c.index_mut.ensures.value c.requires.sound,
-              storable-at os es c.in-Some.place c.index_mut.result.now lt c.index_mut.ensures.value c.requires.sound c.requires.storable,
+              sound-at os es c.in-Some.place (entry_here c.args.entries.now.items c.in-Some.place c.node_mut-node.result.now) lt (entry_is c.args.entries.now.items c.in-Some.place c.node_mut-node.result.now (position-Some (has_name c.args.name.now) c.args.entries.now.items c.in-Some.place ([], c.node_mut-node.result.now) is).0 c.node_mut-node.ensures.value) c.requires.sound,
+              storable-at os es c.in-Some.place (entry_here c.args.entries.now.items c.in-Some.place c.node_mut-node.result.now) lt (entry_is c.args.entries.now.items c.in-Some.place c.node_mut-node.result.now (position-Some (has_name c.args.name.now) c.args.entries.now.items c.in-Some.place ([], c.node_mut-node.result.now) is).0 c.node_mut-node.ensures.value) c.requires.sound c.requires.storable,
             ),
           ),
         ),
@@ -129,36 +129,36 @@ store_below-returns-in-None-clause-sound g t c =
 pub store_below-returns-in-None-clause-stores : goal.store_below-returns-in-None-clause-stores
 store_below-returns-in-None-clause-stores g t c =
     let os = objects c.args.pool.now c.args.table.now.entries in
-    let is = ap (position (has_name c.args.name.now)) (sym c.deref.ensures.value) ∙ sym c.place_of.ensures ∙ c.in-None.is in
+    let is = sym c.place_of.ensures ∙ c.in-None.is in
     subst (λ (l : Listed). StoresFiles g.N.Naming.digest_of c.store_none.result c.args.pool.now c.args.table.now c.store_none.new.pool c.store_none.new.table l)
     (sym (cut-nothing os c.args.entries.now.items c.requires.sound c.args.name.now c.args.rest.now is))
     (stores-none g.N.Naming.digest_of c.store_none.result _ _ _ _ [] refl c.store_none.ensures)
 
 pub store_below-returns-in-Some-clause-bounded : goal.store_below-returns-in-Some-clause-bounded
 store_below-returns-in-Some-clause-bounded g t c =
-    let is = ap (position (has_name c.args.name.now)) (sym c.deref.ensures.value) ∙ sym c.place_of.ensures ∙ c.in-Some.is in
-    let many = closed-there c.args.entries.now.items c.args.name.now c.args.rest.now c.in-Some.place c.index_mut.result.now is c.index_mut.ensures.value in
+    let is = sym c.place_of.ensures ∙ c.in-Some.is in
+    let many = closed-there c.args.entries.now.items c.args.name.now c.args.rest.now c.in-Some.place (entry_here c.args.entries.now.items c.in-Some.place c.node_mut-node.result.now) is (entry_is c.args.entries.now.items c.in-Some.place c.node_mut-node.result.now (position-Some (has_name c.args.name.now) c.args.entries.now.items c.in-Some.place ([], c.node_mut-node.result.now) is).0 c.node_mut-node.ensures.value) in
     let most = c.store_path.ensures.bounded in
     omega (arith, many, most)
 
 pub store_below-returns-in-Some-clause-same : goal.store_below-returns-in-Some-clause-same
 store_below-returns-in-Some-clause-same g t c =
-    let is = ap (position (has_name c.args.name.now)) (sym c.deref.ensures.value) ∙ sym c.place_of.ensures ∙ c.in-Some.is in
-    let lt = (position-Some (has_name c.args.name.now) c.args.entries.now.items c.in-Some.place c.index_mut.result.now is).0 in
-    same-set c.args.entries.now.items c.in-Some.place c.index_mut.result.now c.store_path.new.node lt c.index_mut.ensures.value c.store_path.ensures.same
+    let is = sym c.place_of.ensures ∙ c.in-Some.is in
+    let lt = (position-Some (has_name c.args.name.now) c.args.entries.now.items c.in-Some.place (entry_here c.args.entries.now.items c.in-Some.place c.node_mut-node.result.now) is).0 in
+    same-set c.args.entries.now.items c.in-Some.place (entry_here c.args.entries.now.items c.in-Some.place c.node_mut-node.result.now) c.store_path.new.node lt (entry_is c.args.entries.now.items c.in-Some.place c.node_mut-node.result.now (position-Some (has_name c.args.name.now) c.args.entries.now.items c.in-Some.place ([], c.node_mut-node.result.now) is).0 c.node_mut-node.ensures.value) c.store_path.ensures.same
 
 pub store_below-returns-in-Some-clause-sound : goal.store_below-returns-in-Some-clause-sound
 store_below-returns-in-Some-clause-sound g t c =
-    let is = ap (position (has_name c.args.name.now)) (sym c.deref.ensures.value) ∙ sym c.place_of.ensures ∙ c.in-Some.is in
-    let lt = (position-Some (has_name c.args.name.now) c.args.entries.now.items c.in-Some.place c.index_mut.result.now is).0 in
+    let is = sym c.place_of.ensures ∙ c.in-Some.is in
+    let lt = (position-Some (has_name c.args.name.now) c.args.entries.now.items c.in-Some.place (entry_here c.args.entries.now.items c.in-Some.place c.node_mut-node.result.now) is).0 in
     let grows = stores-grow g.N.Naming.digest_of c.store_path.result c.args.pool.now c.store_path.new.pool c.args.table.now c.store_path.new.table _ _ c.store_path.ensures.stores in
-    sound-set _ c.args.entries.now.items c.in-Some.place c.index_mut.result.now c.store_path.new.node lt c.index_mut.ensures.value c.store_path.ensures.same
+    sound-set _ c.args.entries.now.items c.in-Some.place (entry_here c.args.entries.now.items c.in-Some.place c.node_mut-node.result.now) c.store_path.new.node lt (entry_is c.args.entries.now.items c.in-Some.place c.node_mut-node.result.now (position-Some (has_name c.args.name.now) c.args.entries.now.items c.in-Some.place ([], c.node_mut-node.result.now) is).0 c.node_mut-node.ensures.value) c.store_path.ensures.same
     (shape-later _ _ grows (shape_of c.args.entries.now.items) c.requires.sound) c.store_path.ensures.sound
 
 pub store_below-returns-in-Some-clause-stores : goal.store_below-returns-in-Some-clause-stores
 store_below-returns-in-Some-clause-stores g t c =
     let os = objects c.args.pool.now c.args.table.now.entries in
-    let is = ap (position (has_name c.args.name.now)) (sym c.deref.ensures.value) ∙ sym c.place_of.ensures ∙ c.in-Some.is in
+    let is = sym c.place_of.ensures ∙ c.in-Some.is in
     subst (λ (l : Listed). StoresFiles g.N.Naming.digest_of c.store_path.result c.args.pool.now c.args.table.now c.store_path.new.pool c.store_path.new.table l)
-    (sym (cut-there os c.args.entries.now.items c.requires.sound c.args.name.now c.args.rest.now c.in-Some.place c.index_mut.result.now is c.index_mut.ensures.value))
+    (sym (cut-there os c.args.entries.now.items c.requires.sound c.args.name.now c.args.rest.now c.in-Some.place (entry_here c.args.entries.now.items c.in-Some.place c.node_mut-node.result.now) is (entry_is c.args.entries.now.items c.in-Some.place c.node_mut-node.result.now (position-Some (has_name c.args.name.now) c.args.entries.now.items c.in-Some.place ([], c.node_mut-node.result.now) is).0 c.node_mut-node.ensures.value)))
     c.store_path.ensures.stores

@@ -1,11 +1,11 @@
-use Rattle.std.proofs.Common.{◌≡◌, ℕ, ◌<◌, List, [], ◌∷◌, get_or, length, Option, None, Ok, refl, sym, ap, ◌∙◌, subst, rules, arith}
+use Rattle.std.proofs.Common.{◌≡◌, ℕ, ◌<◌, List, [], get_or, length, Option, None, Ok, refl, sym, ap, ◌∙◌, subst, rules, arith}
 use Rattle.std.proofs.lemmas.Result.{on_ok_weaker}
 use Rattle.std.proofs.lemmas.List.{take_all, append-nil}
 use Rattle.git_model.specs.Tree.{TreeEntry}
 use Rattle.file_maps.specs.declared.entry.Entry.{Entry}
 use Rattle.tenant_tables.specs.Objects.{objects}
 use Rattle.file_maps.specs.FileMap.{Listed}
-use Rattle.file_maps.specs.Trees.{Groups, file_of, unless_file, nested_trees, tree_id, tree_name}
+use Rattle.file_maps.specs.Trees.{Groups, file_of, unless_file, nested_trees, tree_id}
 use Rattle.file_maps.specs.StoredTree.{ListsTree}
 use Rattle.file_maps.specs.Storable.{AreStorable}
 use Rattle.file_maps.specs.StoredFiles.{stored_files}
@@ -14,7 +14,8 @@ use Rattle.tree_build.specs.Shape.{Shape, Directory, unopened, opened, shape_fil
 use Rattle.tree_build.specs.Nodes.{held, shape_of}
 use Rattle.tree_build.specs.Branch.{IsWhat, IsShape, IsHeld}
 use Rattle.tree_build.specs.ShapeCode.{shape_size}
-use Rattle.tree_build.specs.Stores.{parts_of, entries_of_shape, AreNamed, trees_below, trees_of_parts}
+use Rattle.tree_build.specs.Stores.{parts_of, AreNamed, trees_below, trees_of_parts}
+use Rattle.tree_build.proofs.Named.{entry_here, entry_is}
 use Rattle.tree_build.proofs.Places.{sound-at, part-at, parts-length, same-set, sound-set, named-set, size-at, same-size, same-length, storable-at}
 use Rattle.tree_build.proofs.Later.{adds-grow, stores-grow, files-later, shape-later}
 use Rattle.tree_build.proofs.Held.{adds-named}
@@ -25,7 +26,7 @@ use Rattle.tree_build.proofs.storing.+storing.Goals as goal
 pub store_at-store_node-requires : goal.store_at-store_node-requires
 store_at-store_node-requires g t c κs within =
     let os = objects c.args.pool.now c.args.table.now.entries in
-    let size = size-at c.args.entries.now.items c.args.place c.index_mut.result.now c.requires.place c.index_mut.ensures.value in (
+    let size = size-at c.args.entries.now.items c.args.place (entry_here c.args.entries.now.items c.args.place c.node_mut.result.now) c.requires.place (entry_is c.args.entries.now.items c.args.place c.node_mut.result.now c.requires.place c.node_mut.ensures.value) in (
       omega (arith, c.decreases, size),
       (
         search (rules, within),
@@ -34,8 +35,8 @@ store_at-store_node-requires g t c κs within =
           (
             c.requires.room,
             (
-              sound-at os c.args.entries.now.items c.args.place c.index_mut.result.now c.requires.place c.index_mut.ensures.value c.requires.sound,
-              storable-at os c.args.entries.now.items c.args.place c.index_mut.result.now c.requires.place c.index_mut.ensures.value c.requires.sound c.requires.storable,
+              sound-at os c.args.entries.now.items c.args.place (entry_here c.args.entries.now.items c.args.place c.node_mut.result.now) c.requires.place (entry_is c.args.entries.now.items c.args.place c.node_mut.result.now c.requires.place c.node_mut.ensures.value) c.requires.sound,
+              storable-at os c.args.entries.now.items c.args.place (entry_here c.args.entries.now.items c.args.place c.node_mut.result.now) c.requires.place (entry_is c.args.entries.now.items c.args.place c.node_mut.result.now c.requires.place c.node_mut.ensures.value) c.requires.sound c.requires.storable,
             ),
           ),
         ),
@@ -46,23 +47,23 @@ pub store_at-returns-clause-stores : goal.store_at-returns-clause-stores
 store_at-returns-clause-stores g t c =
     subst
     (λ (x : List ℕ × Listed). StoresTrees c.store_node.result g.N.Naming.digest_of c.args.pool.now c.args.table.now c.store_node.new.pool c.store_node.new.table (trees_below g.N.Naming.digest_of x.1) tt)
-    (sym (part-at (stored_files (objects c.args.pool.now c.args.table.now.entries)) c.args.entries.now.items c.args.place c.index_mut.result.now ([], []) c.requires.place c.index_mut.ensures.value))
+    (sym (part-at (stored_files (objects c.args.pool.now c.args.table.now.entries)) c.args.entries.now.items c.args.place (entry_here c.args.entries.now.items c.args.place c.node_mut.result.now) ([], []) c.requires.place (entry_is c.args.entries.now.items c.args.place c.node_mut.result.now c.requires.place c.node_mut.ensures.value)))
     c.store_node.ensures.stores
 
 pub store_at-returns-clause-same : goal.store_at-returns-clause-same
 store_at-returns-clause-same g t c =
-    same-set c.args.entries.now.items c.args.place c.index_mut.result.now c.store_node.new.node c.requires.place c.index_mut.ensures.value c.store_node.ensures.same
+    same-set c.args.entries.now.items c.args.place (entry_here c.args.entries.now.items c.args.place c.node_mut.result.now) c.store_node.new.node c.requires.place (entry_is c.args.entries.now.items c.args.place c.node_mut.result.now c.requires.place c.node_mut.ensures.value) c.store_node.ensures.same
 
 pub store_at-returns-clause-sound : goal.store_at-returns-clause-sound
 store_at-returns-clause-sound g t c =
     let grows = stores-grow g.N.Naming.digest_of c.store_node.result c.args.pool.now c.store_node.new.pool c.args.table.now c.store_node.new.table _ tt c.store_node.ensures.stores in
-    sound-set (objects c.store_node.new.pool c.store_node.new.table.entries) c.args.entries.now.items c.args.place c.index_mut.result.now c.store_node.new.node c.requires.place c.index_mut.ensures.value c.store_node.ensures.same
+    sound-set (objects c.store_node.new.pool c.store_node.new.table.entries) c.args.entries.now.items c.args.place (entry_here c.args.entries.now.items c.args.place c.node_mut.result.now) c.store_node.new.node c.requires.place (entry_is c.args.entries.now.items c.args.place c.node_mut.result.now c.requires.place c.node_mut.ensures.value) c.store_node.ensures.same
     (shape-later _ _ grows (shape_of c.args.entries.now.items) c.requires.sound) c.store_node.ensures.sound
 
 pub store_at-returns-clause-named : goal.store_at-returns-clause-named
 store_at-returns-clause-named g t c =
     on_ok_weaker c.store_node.result
-    (λ one. named-set c.args.entries.now.items c.args.place c.index_mut.result.now.0 c.store_node.new.node c.requires.place one)
+    (λ one. named-set c.args.entries.now.items c.args.place (entry_here c.args.entries.now.items c.args.place c.node_mut.result.now).0 c.store_node.new.node c.requires.place one)
     c.store_node.ensures.named
 
 pub store_node-store_dir-requires : goal.store_node-store_dir-requires
@@ -124,8 +125,7 @@ store_dir-add_tree-added-requires-clause-storable g t c =
     let is = ap (λ (d : Directory). d.entries) c.dir.view_is in
     let grows = stores-grow g.N.Naming.digest_of c.store_inside.result c.args.pool.now c.store_inside.new.pool c.args.table.now c.store_inside.new.table _ (tt {0}) c.store_inside.ensures.stores in
     let same = files-stay os (objects c.store_inside.new.pool c.store_inside.new.table.entries) grows (shape_of c.dir.inside.entries.items) (shape_of c.store_inside.new.entries.items) (subst (IsShape os) (sym is) c.requires.sound.1) c.store_inside.ensures.same in
-    subst (λ es. AreStorable (shape_files (stored_files (objects c.store_inside.new.pool c.store_inside.new.table.entries)) (shape_of es))) (sym c.deref.ensures.value)
-    (subst AreStorable (sym (same ∙ ap (shape_files (stored_files os)) is)) c.requires.storable)
+    subst AreStorable (sym (same ∙ ap (shape_files (stored_files os)) is)) c.requires.storable
 
 pub store_dir-returns-in-Some-clause-stores : goal.store_dir-returns-in-Some-clause-stores
 store_dir-returns-in-Some-clause-stores g t c =
@@ -145,7 +145,7 @@ store_dir-returns-in-Ok-added-clause-stores g t c =
     (shape_of c.dir.inside.entries.items) (shape_of c.store_inside.new.entries.items)
     (subst (IsShape os) (sym is) c.requires.sound.1) grows c.store_inside.ensures.same c.in-Ok.ensures.sound c.in-Ok.ensures.named stores.2.stands
     c.add_tree-added.new.pool c.add_tree-added.new.table (Ok c.in-Ok-added.name) (refl, stores.1, stores.2)
-    (subst (λ es. StoresTrees (Ok c.in-Ok-added.name) g.N.Naming.digest_of c.store_inside.new.pool c.store_inside.new.table c.add_tree-added.new.pool c.add_tree-added.new.table (entries_of_shape (shape_of es) ∷ []) (tree_name g.N.Naming.digest_of (entries_of_shape (shape_of es)))) c.deref.ensures.value c.in-Ok-added.ensures.stores))
+    c.in-Ok-added.ensures.stores)
 
 pub store_dir-returns-in-Ok-added-clause-sound : goal.store_dir-returns-in-Ok-added-clause-sound
 store_dir-returns-in-Ok-added-clause-sound g t c =
@@ -155,7 +155,7 @@ store_dir-returns-in-Ok-added-clause-sound g t c =
     let s = shape_of c.store_inside.new.entries.items in
     let sound = c.in-Ok.ensures.sound in (
       subst (ListsTree after c.in-Ok-added.name) (sym (files-later os after grows s sound))
-          (subst (λ es. ListsTree after c.in-Ok-added.name (shape_files (stored_files os) (shape_of es))) c.deref.ensures.value c.in-Ok-added.ensures.lists),
+          c.in-Ok-added.ensures.lists,
       shape-later os after grows s sound,
     )
 
@@ -170,7 +170,7 @@ store_dir-returns-in-Err-added-clause-stores g t c =
     (shape_of c.dir.inside.entries.items) (shape_of c.store_inside.new.entries.items)
     (subst (IsShape os) (sym is) c.requires.sound.1) grows c.store_inside.ensures.same c.in-Ok.ensures.sound c.in-Ok.ensures.named stores.2.stands
     c.add_tree-added.new.pool c.add_tree-added.new.table c.add_tree-added.result (refl, stores.1, stores.2)
-    (subst (λ es. StoresTrees c.add_tree-added.result g.N.Naming.digest_of c.store_inside.new.pool c.store_inside.new.table c.add_tree-added.new.pool c.add_tree-added.new.table (entries_of_shape (shape_of es) ∷ []) (tree_name g.N.Naming.digest_of (entries_of_shape (shape_of es)))) c.deref.ensures.value c.add_tree-added.ensures.stores))
+    c.add_tree-added.ensures.stores)
 
 pub store_dir-returns-in-Err-added-clause-sound : goal.store_dir-returns-in-Err-added-clause-sound
 store_dir-returns-in-Err-added-clause-sound g t c =

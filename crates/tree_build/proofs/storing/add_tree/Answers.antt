@@ -7,15 +7,15 @@ use Rattle.tree_build.proofs.storing.add_tree.Goals as goal
 pub returns-in-Some-clause-stores : goal.returns-in-Some-clause-stores
 returns-in-Some-clause-stores g c =
     tree-kept g.N.Naming.digest_of c.args.pool.now c.args.table.now c.requires.stands
-    (shape_of c.args.entries.now) c.requires.sound c.requires.named c.requires.storable
+    (shape_of c.args.entries.now.items) c.requires.sound c.requires.named c.requires.storable
     c.requires.room c.in-Some.ensures.ids c.in-Some.name c.in-Some.ensures.there
 
 pub returns-in-Some-clause-lists : goal.returns-in-Some-clause-lists
 returns-in-Some-clause-lists g c =
     rows-list g.N.Naming.digest_of c.args.pool.now c.args.table.now c.requires.stands
-    (shape_of c.args.entries.now) c.requires.sound c.requires.named c.requires.storable
-    (entries_of_shape (shape_of c.args.entries.now)) refl c.in-Some.ensures.ids
+    (shape_of c.args.entries.now.items) c.requires.sound c.requires.named c.requires.storable
+    (entries_of_shape (shape_of c.args.entries.now.items)) refl c.in-Some.ensures.ids
     c.args.pool.now c.args.table.now (Ok c.in-Some.name)
     (tree-kept g.N.Naming.digest_of c.args.pool.now c.args.table.now c.requires.stands
-    (shape_of c.args.entries.now) c.requires.sound c.requires.named c.requires.storable
+    (shape_of c.args.entries.now.items) c.requires.sound c.requires.named c.requires.storable
     c.requires.room c.in-Some.ensures.ids c.in-Some.name c.in-Some.ensures.there)

@@ -1,4 +1,4 @@
-use Rattle.std.proofs.Common.{List, [], ◌∷◌, ◌++◌, take, sym, ap, ◌∙◌, subst}
+use Rattle.std.proofs.Common.{List, [], ◌∷◌, ◌++◌, take, sym, ap, ◌∙◌, subst, ℕ, ◌<◌}
 use Rattle.std.specs.List.{AllByRecursion}
 use Rattle.std.proofs.lemmas.List.{map-append}
 use Rattle.git_model.specs.ObjectName.{IsObjectName}
@@ -13,18 +13,18 @@ use Rattle.tree_build.proofs.storing.rows_of.Goals as goal
 
 pub row_of-row-requires : goal.row_of-row-requires
 row_of-row-requires c =
-    named-at c.args.entries.now c.loop-entry.entry-index c.entry-item.result c.loop-entry-test.true c.entry-item.is c.requires
+    named-at c.args.entries.now.items c.loop-place.place c.at-entry.result.now (subst (λ (n : ℕ). c.loop-place.place < n) c.len-place-end.ensures c.loop-place-test.true) c.at-entry.ensures c.requires
 
-pub loop-entry-preserved : goal.loop-entry-preserved
-loop-entry-preserved c =
-    let one = pushed c.push.result c.is_err.result c.push.new.self.items c.loop-entry.rows.items c.row_of-row.result c.is_err.ensures.negation c.if-is_err.false c.push.ensures.items in
-    let all = ap entries_of one ∙ map-append entry_of c.loop-entry.rows.items (c.row_of-row.result ∷ []) in record {
+pub loop-place-preserved : goal.loop-place-preserved
+loop-place-preserved c =
+    let one = pushed c.push.result c.is_err.result c.push.new.self.items c.loop-place.rows.items c.row_of-row.result c.is_err.ensures.negation c.if-is_err.false c.push.ensures.items in
+    let all = ap entries_of one ∙ map-append entry_of c.loop-place.rows.items (c.row_of-row.result ∷ []) in record {
       rows =
-          all ∙ ap (λ (l : List TreeEntry). l ++ entry_of c.row_of-row.result ∷ []) c.loop-entry.invariant.rows
-          ∙ ap (λ (t : TreeEntry). entries_of_shape (shape_of (take c.loop-entry.entry-index c.args.entries.now)) ++ t ∷ []) c.row_of-row.ensures
-          ∙ sym (rows-more c.args.entries.now c.loop-entry.entry-index c.entry-item.result c.loop-entry-test.true c.entry-item.is);
+          all ∙ ap (λ (l : List TreeEntry). l ++ entry_of c.row_of-row.result ∷ []) c.loop-place.invariant.rows
+          ∙ ap (λ (t : TreeEntry). entries_of_shape (shape_of (take c.loop-place.place c.args.entries.now.items)) ++ t ∷ []) c.row_of-row.ensures
+          ∙ sym (rows-more c.args.entries.now.items c.loop-place.place c.at-entry.result.now (subst (λ (n : ℕ). c.loop-place.place < n) c.len-place-end.ensures c.loop-place-test.true) c.at-entry.ensures);
       ids =
           subst (AllByRecursion (λ e. IsObjectName e.id)) (sym all)
-          (all-append (λ (t : TreeEntry). IsObjectName t.id) (entries_of c.loop-entry.rows.items) (entry_of c.row_of-row.result ∷ [])
-          c.loop-entry.invariant.ids (c.has_twenty_bytes.ensures, tt));
+          (all-append (λ (t : TreeEntry). IsObjectName t.id) (entries_of c.loop-place.rows.items) (entry_of c.row_of-row.result ∷ [])
+          c.loop-place.invariant.ids (c.has_twenty_bytes.ensures, tt));
     }

@@ -15,7 +15,7 @@ summary_of-summary-requires g c =
     subst (λ (l : List declared.TreeEntry). IsSmall (tree_summary c.args.table.now.entries (entries_of l)))
     (sym c.deref.ensures.value)
     (rows-small g.N.Naming.digest_of c.args.pool.now c.args.table.now c.requires.stands
-    (shape_of c.args.entries.now) c.requires.sound c.requires.named c.requires.storable
+    (shape_of c.args.entries.now.items) c.requires.sound c.requires.named c.requires.storable
     (entries_of c.in_ok-rows.rows.items) c.in_ok-rows.ensures.rows c.in_ok-rows.ensures.ids)
 
 pub add_entries-requires-clause-fits : goal.add_entries-requires-clause-fits
@@ -23,7 +23,7 @@ add_entries-requires-clause-fits g c =
     subst (λ (l : List declared.TreeEntry). FitsTree c.args.table.now.entries (tree_contents (entries_of l)) c.summary_of-summary.result)
     (sym c.deref-2.ensures.value)
     (rows-fit g.N.Naming.digest_of c.args.pool.now c.args.table.now c.requires.stands
-    (shape_of c.args.entries.now) c.requires.sound c.requires.named c.requires.storable
+    (shape_of c.args.entries.now.items) c.requires.sound c.requires.named c.requires.storable
     (entries_of c.in_ok-rows.rows.items) c.in_ok-rows.ensures.rows c.in_ok-rows.ensures.ids
     c.summary_of-summary.result
     (c.summary_of-summary.ensures
@@ -32,7 +32,7 @@ add_entries-requires-clause-fits g c =
 pub returns-clause-lists : goal.returns-clause-lists
 returns-clause-lists g c =
     rows-list g.N.Naming.digest_of c.args.pool.now c.args.table.now c.requires.stands
-    (shape_of c.args.entries.now) c.requires.sound c.requires.named c.requires.storable
+    (shape_of c.args.entries.now.items) c.requires.sound c.requires.named c.requires.storable
     (entries_of c.in_ok-rows.rows.items) c.in_ok-rows.ensures.rows c.in_ok-rows.ensures.ids
     c.add_entries.new.pool c.add_entries.new.table c.add_entries.result
     (subst

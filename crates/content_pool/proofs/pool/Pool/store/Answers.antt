@@ -1,5 +1,6 @@
 use Rattle.std.proofs.Common.{sym, ap, ◌∙◌, refl, subst}
 use Rattle.content_pool.specs.Pool.{Cells, cell, HoldsEachOnce}
+use Rattle.content_pool.specs.Index.{prefix_of}
 use Rattle.content_pool.proofs.PoolLemmas.{Writes-after, IsPool-once, IsPool-stored, IsIndexed-stored, Puts-stored}
 use Rattle.content_pool.proofs.pool.Pool.store.Goals as goal
 
@@ -22,7 +23,7 @@ invariant_of-self-2 g c =
     let was =
     ap (λ p. cell p c.vacant_key-key.result) (sym same) ∙ c.vacant_key-key.ensures.vacant in
     let absent = rw (← c.self.view_is) at c.requires.absent in (
-      IsPool-stored _ _ _ _ was w _ c.self.invariant.0 c.requires.named refl absent,
+      IsPool-stored _ _ _ _ was w _ c.self.invariant.0 (c.of-prefix.ensures ∙ ap prefix_of c.requires.named) refl absent,
       IsIndexed-stored _ _ _ _ was w _ _ c.self.invariant.1 c.in_ok-note.ensures.ok,
     )
 
@@ -45,4 +46,4 @@ returns-clause-once g c =
     let was =
     ap (λ p. cell p c.vacant_key-key.result) (sym same) ∙ c.vacant_key-key.ensures.vacant in
     let absent = rw (← c.self.view_is) at c.requires.absent in
-    IsPool-once _ _ (IsPool-stored _ _ _ _ was w _ c.self.invariant.0 c.requires.named refl absent)
+    IsPool-once _ _ (IsPool-stored _ _ _ _ was w _ c.self.invariant.0 (c.of-prefix.ensures ∙ ap prefix_of c.requires.named) refl absent)

@@ -8,9 +8,8 @@ use Rattle.tree_build.specs.declared.dir.Node.TheVariants.{Opened}
 use Rattle.tree_build.specs.Shape.{opened, Shape, Held, Directory, shape_files, held_files}
 use Rattle.tree_build.specs.Branch.{Branch, IsHeld, IsBranch, root_files, files_in, closed_along, closed_from}
 use Rattle.tree_build.specs.Editing.{new_directory, placed, taken}
-use Rattle.tree_build.specs.Nodes.{held, shape_of}
+use Rattle.tree_build.specs.Nodes.{held}
 use Rattle.tree_build.specs.Opened.{recounted, too_many}
-use Rattle.tree_build.proofs.Named.{Rows}
 use Rattle.tree_build.proofs.Branches.{branch_few}
 use Rattle.tree_build.proofs.Puts.{total_few, total_len, total_files, total_branch, many, not_many, MayHave}
 use Rattle.tree_build.proofs.OpenStays.{open_placed, closed_placed}
@@ -26,7 +25,6 @@ place-requires g c =
 pub taken-requires-clause-few : goal.taken-requires-clause-few
 taken-requires-clause-few g c =
     let os = objects c.args.pool.now c.args.table.now.entries in
-    subst (λ (xs : Rows). length (shape_files (stored_files os) (shape_of xs)) ≤ 1048576) (sym c.deref.ensures.value)
     (subst (λ (d : Directory). length (shape_files (stored_files os) d.entries) ≤ 1048576) (sym c.dir.view_is)
     (subst (λ (n : Node). length (held_files (stored_files os) (held n)) ≤ 1048576) c.in-Opened.is
     (subst (λ (b : Branch). length (root_files os b) ≤ 1048576) (sym c.self.view_is)
@@ -39,7 +37,6 @@ overflow_sub-files g c =
     let shut = subst (λ (n : Node). closed_from (held n) c.args.path.now ≡ 0) c.in-Opened.is
     (subst (λ (x : Branch). closed_from x.root c.args.path.now ≡ 0) (sym c.self.view_is) c.requires.shut) in
     let gone = c.taken.ensures
-    ∙ ap (λ (xs : Rows). taken (stored_files os) true c.args.path.now (shape_of xs)) c.deref.ensures.value
     ∙ ap (λ (d : Directory). taken (stored_files os) true c.args.path.now d.entries) c.dir.view_is in
     let all : c.args.total ≡ length (root_files os (record { root = held c.self.inside.root; files = c.self.inside.files; reads = c.self.inside.reads }))
     + length (held_files (stored_files os) (held c.args.node)) = c.requires.total
@@ -56,7 +53,6 @@ returns-then-files-gt-FILES_LIMIT-clause-edits g c memory =
     let shut = subst (λ (n : Node). closed_from (held n) c.args.path.now ≡ 0) c.in-Opened.is
     (subst (λ (x : Branch). closed_from x.root c.args.path.now ≡ 0) (sym c.self.view_is) c.requires.shut) in
     let gone = c.taken.ensures
-    ∙ ap (λ (xs : Rows). taken (stored_files os) true c.args.path.now (shape_of xs)) c.deref.ensures.value
     ∙ ap (λ (d : Directory). taken (stored_files os) true c.args.path.now d.entries) c.dir.view_is in
     let all : c.args.total ≡ length (root_files os (record { root = held c.self.inside.root; files = c.self.inside.files; reads = c.self.inside.reads }))
     + length (held_files (stored_files os) (held c.args.node)) = c.requires.total
@@ -78,7 +74,6 @@ returns-in_ok-place-in-Opened-clause-edits g c =
     let shut = subst (λ (n : Node). closed_from (held n) c.args.path.now ≡ 0) c.in-Opened.is
     (subst (λ (x : Branch). closed_from x.root c.args.path.now ≡ 0) (sym c.self.view_is) c.requires.shut) in
     let gone = c.taken.ensures
-    ∙ ap (λ (xs : Rows). taken (stored_files os) true c.args.path.now (shape_of xs)) c.deref.ensures.value
     ∙ ap (λ (d : Directory). taken (stored_files os) true c.args.path.now d.entries) c.dir.view_is in
     let all : c.args.total ≡ length (root_files os (record { root = held c.self.inside.root; files = c.self.inside.files; reads = c.self.inside.reads }))
     + length (held_files (stored_files os) (held c.args.node)) = c.requires.total
@@ -106,7 +101,6 @@ returns-in_ok-place-in-Opened-clause-branch g c =
     let shut = subst (λ (n : Node). closed_from (held n) c.args.path.now ≡ 0) c.in-Opened.is
     (subst (λ (x : Branch). closed_from x.root c.args.path.now ≡ 0) (sym c.self.view_is) c.requires.shut) in
     let gone = c.taken.ensures
-    ∙ ap (λ (xs : Rows). taken (stored_files os) true c.args.path.now (shape_of xs)) c.deref.ensures.value
     ∙ ap (λ (d : Directory). taken (stored_files os) true c.args.path.now d.entries) c.dir.view_is in
     let all : c.args.total ≡ length (root_files os (record { root = held c.self.inside.root; files = c.self.inside.files; reads = c.self.inside.reads }))
     + length (held_files (stored_files os) (held c.args.node)) = c.requires.total
@@ -133,7 +127,6 @@ returns-in_ok-place-in-Opened-clause-still g c = λ _ _.
     let shut = subst (λ (n : Node). closed_from (held n) c.args.path.now ≡ 0) c.in-Opened.is
     (subst (λ (x : Branch). closed_from x.root c.args.path.now ≡ 0) (sym c.self.view_is) c.requires.shut) in
     let gone = c.taken.ensures
-    ∙ ap (λ (xs : Rows). taken (stored_files os) true c.args.path.now (shape_of xs)) c.deref.ensures.value
     ∙ ap (λ (d : Directory). taken (stored_files os) true c.args.path.now d.entries) c.dir.view_is in
     let all : c.args.total ≡ length (root_files os (record { root = held c.self.inside.root; files = c.self.inside.files; reads = c.self.inside.reads }))
     + length (held_files (stored_files os) (held c.args.node)) = c.requires.total

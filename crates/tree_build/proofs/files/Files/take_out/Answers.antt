@@ -7,9 +7,8 @@ use Rattle.tree_build.specs.declared.dir.Node.TheVariants.{Opened}
 use Rattle.tree_build.specs.Shape.{opened, Shape, Held, Directory, shape_files, held_files}
 use Rattle.tree_build.specs.Branch.{Branch, IsHeld, IsBranch, root_files, files_in, closed_along, closed_from}
 use Rattle.tree_build.specs.Editing.{new_directory, dropped, taken}
-use Rattle.tree_build.specs.Nodes.{held, shape_of}
+use Rattle.tree_build.specs.Nodes.{held}
 use Rattle.tree_build.specs.Opened.{is_kept}
-use Rattle.tree_build.proofs.Named.{Rows}
 use Rattle.tree_build.proofs.Branches.{branch_few, drop_files, drop_branch, drop_few}
 use Rattle.tree_build.proofs.OpenStays.{open_dropped}
 use Rattle.tree_build.proofs.Taken.{none_gone}
@@ -25,7 +24,6 @@ take_at-requires g c =
 pub taken-gone-requires-clause-few : goal.taken-gone-requires-clause-few
 taken-gone-requires-clause-few g c =
     let os = objects c.args.pool.now c.args.table.now.entries in
-    subst (λ (xs : Rows). length (shape_files (stored_files os) (shape_of xs)) ≤ 1048576) (sym c.deref.ensures.value)
     (subst (λ (d : Directory). length (shape_files (stored_files os) d.entries) ≤ 1048576) (sym c.dir.view_is)
     (subst (λ (n : Node). length (held_files (stored_files os) (held n)) ≤ 1048576) c.in-Opened.is
     (subst (λ (b : Branch). length (root_files os b) ≤ 1048576) (sym c.self.view_is)
@@ -38,7 +36,6 @@ overflow_sub-self g c =
     let shut = subst (λ (n : Node). closed_from (held n) c.args.path.now ≡ 0) c.in-Opened.is
     (subst (λ (x : Branch). closed_from x.root c.args.path.now ≡ 0) (sym c.self.view_is) c.requires.shut) in
     let gone = c.taken-gone.ensures
-    ∙ ap (λ (xs : Rows). taken (stored_files os) c.args.clear c.args.path.now (shape_of xs)) c.deref.ensures.value
     ∙ ap (λ (d : Directory). taken (stored_files os) c.args.clear c.args.path.now d.entries) c.dir.view_is in
     subst (λ (n : ℕ). n ≤ c.self.inside.files) (sym gone)
     (drop_few os c.args.clear c.args.path.now c.requires.some c.in-Opened.dir.entries c.in-Opened.dir.tree
@@ -51,7 +48,6 @@ returns-else-gone-eq0-clause-branch g c =
     let shut = subst (λ (n : Node). closed_from (held n) c.args.path.now ≡ 0) c.in-Opened.is
     (subst (λ (x : Branch). closed_from x.root c.args.path.now ≡ 0) (sym c.self.view_is) c.requires.shut) in
     let gone = c.taken-gone.ensures
-    ∙ ap (λ (xs : Rows). taken (stored_files os) c.args.clear c.args.path.now (shape_of xs)) c.deref.ensures.value
     ∙ ap (λ (d : Directory). taken (stored_files os) c.args.clear c.args.path.now d.entries) c.dir.view_is in
     let tree = c.take_at.ensures.tree c.requires.some in
     let entries = c.take_at.ensures.entries in
@@ -94,7 +90,6 @@ returns-then-gone-eq0-clause-files g c =
     let shut = subst (λ (n : Node). closed_from (held n) c.args.path.now ≡ 0) c.in-Opened.is
     (subst (λ (x : Branch). closed_from x.root c.args.path.now ≡ 0) (sym c.self.view_is) c.requires.shut) in
     let gone = c.taken-gone.ensures
-    ∙ ap (λ (xs : Rows). taken (stored_files os) c.args.clear c.args.path.now (shape_of xs)) c.deref.ensures.value
     ∙ ap (λ (d : Directory). taken (stored_files os) c.args.clear c.args.path.now d.entries) c.dir.view_is in
     ap (λ (n : Node). files_in os (record { root = held n; files = c.self.inside.files; reads = c.self.inside.reads })) (sym c.in-Opened.is)
     ∙ none_gone os c.args.clear c.args.path.now c.requires.some c.in-Opened.dir.entries c.in-Opened.dir.tree

@@ -1,0 +1,2 @@
+-- What contracts see of the marks of a stream.
+pub mod View
