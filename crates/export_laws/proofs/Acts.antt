@@ -2,7 +2,7 @@
 use Rattle.std.proofs.Common.{◌≡◌, ℕ, List, ◌∷◌, ◌++◌, refl}
 use Rattle.stream_grammar.specs.Acts.{Act}
 use Rattle.stream_grammar.specs.Commands.{Done}
-use Rattle.import_session.specs.Workspace.{Workspace, quiet}
+use Rattle.stream_commands.specs.Workspace.{Workspace, quiet}
 use Rattle.import_session.specs.Meaning.{after_act}
 use Rattle.export_text.specs.ExportActs.{asks}
 use Rattle.export_laws.specs.Leaving.{Leaves, nothing, first_act}

@@ -10,8 +10,8 @@ use Rattle.stream_grammar.specs.Acts.{Wait, Object as ObjectAct}
 use Rattle.stream_grammar.specs.Acts.{Blob}
 use Rattle.stream_state.specs.Marks.{room_for, with_mark}
 use Rattle.import_session.specs.Meaning.{after_act}
-use Rattle.import_session.specs.Objects.{object_stored}
-use Rattle.import_session.specs.Workspace.{Workspace, quiet}
+use Rattle.stream_commands.specs.Objects.{object_stored}
+use Rattle.stream_commands.specs.Workspace.{Workspace, quiet}
 use Rattle.export_text.specs.ExportActs.{number_of}
 use Rattle.export_laws.specs.Leaving.{nothing}
 use Rattle.export_laws.specs.Told.{AreTold, IsToldNext, Told, reached_among, tags_of}

@@ -16,10 +16,10 @@ use Rattle.stream_state.specs.declared.fault.Fault.{Fault}
 use Rattle.stream_state.specs.Branches.{with_branch, Branches}
 use Rattle.import_session.specs.Commits.{closed_at, closed_where}
 use Rattle.stream_state.specs.Faults.{and_then}
-use Rattle.import_session.specs.Faults.{changed_or}
+use Rattle.stream_commands.specs.Faults.{changed_or}
 use Rattle.stream_state.specs.Marks.{room_for, with_mark}
 use Rattle.stream_state.specs.OpenCommand.{Changes}
-use Rattle.import_session.specs.Workspace.{Workspace, with_command}
+use Rattle.stream_commands.specs.Workspace.{Workspace, with_command}
 use Rattle.export_text.specs.ExportActs.{number_of}
 use Rattle.export_text.specs.ExportItems.{scratch}
 use Rattle.export_laws.specs.Commits.{commit_told, workspace_with}

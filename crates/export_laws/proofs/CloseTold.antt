@@ -9,7 +9,7 @@ use Rattle.git_model.specs.Reach.{is_referred_to}
 use Rattle.git_model.specs.Repository.{Object, Repository}
 use Rattle.tenant_tables.specs.Sums.{TreesFit}
 use Rattle.import_session.specs.Sound.{IsSound}
-use Rattle.import_session.specs.Workspace.{Workspace}
+use Rattle.stream_commands.specs.Workspace.{Workspace}
 use Rattle.export_text.specs.ExportActs.{ends}
 use Rattle.export_laws.specs.Commits.{commit_told, workspace_with}
 use Rattle.export_laws.specs.Leaving.{Leaves, nothing, first_act}

@@ -7,7 +7,7 @@ use Rattle.stream_grammar.specs.Commands.{Commands, Done, Parsing, after, comman
 use Rattle.import_session.specs.Commits.{closed_where}
 use Rattle.import_session.specs.Meaning.{after_act}
 use Rattle.import_session.specs.Stream.{Outcome, Runs, Running, Step, at_tail, carried, going_on, is_finish, step}
-use Rattle.import_session.specs.Workspace.{Workspace, quiet}
+use Rattle.stream_commands.specs.Workspace.{Workspace, quiet}
 use Rattle.export_laws.specs.Leaving.{Leaves, nothing, first_act}
 
 -- None of some acts is `done`, which ends a stream.

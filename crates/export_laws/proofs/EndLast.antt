@@ -4,9 +4,9 @@ use Rattle.std.proofs.Math.Seq.{take-length}
 use Rattle.git_model.specs.Repository.{Object, Repository}
 use Rattle.stream_lex.specs.Items.{Rest}
 use Rattle.stream_grammar.specs.Commands.{Parsing, end_of}
-use Rattle.import_session.specs.Checkpoints.{checkpoint}
+use Rattle.stream_commands.specs.Checkpoints.{checkpoint}
 use Rattle.import_session.specs.Stream.{Runs, end_left, ended_well, finished, last_checkpoint, session_end}
-use Rattle.import_session.specs.Workspace.{Workspace, quiet}
+use Rattle.stream_commands.specs.Workspace.{Workspace, quiet}
 use Rattle.export_laws.proofs.EndCarried.{running}
 
 module _ (digest : List ℕ → List ℕ) (last done : Workspace) (p : Parsing)

@@ -12,8 +12,8 @@ use Rattle.stream_grammar.specs.declared.feature.Feature.TheVariants as feature
 use Rattle.stream_grammar.specs.declared.act.ControlCommand.TheVariants as control
 use Rattle.stream_grammar.specs.Acts.{Control}
 use Rattle.import_session.specs.Meaning.{after_act}
-use Rattle.import_session.specs.Controls.{controlled}
-use Rattle.import_session.specs.Workspace.{Workspace, opened, quiet}
+use Rattle.stream_commands.specs.Controls.{controlled}
+use Rattle.stream_commands.specs.Workspace.{Workspace, opened, quiet}
 use Rattle.export_text.specs.ExportActs.{head_acts, opening_acts}
 use Rattle.export_laws.specs.Leaving.{Leaves, nothing}
 use Rattle.export_laws.specs.Told.{AreTold, nothing_told, workspace_of}

@@ -12,12 +12,12 @@ use Rattle.stream_grammar.specs.Acts.{Ref, Control}
 use Rattle.stream_grammar.specs.Acts.{Reset}
 use Rattle.stream_state.specs.declared.branches.Tip.TheVariants.{Unborn}
 use Rattle.stream_state.specs.Checkpoints.{by_head, fit}
-use Rattle.import_session.specs.Checkpoints.{checkpointed, saved_refs}
+use Rattle.stream_commands.specs.Checkpoints.{checkpointed, saved_refs}
 use Rattle.import_session.specs.Meaning.{after_act}
-use Rattle.import_session.specs.Controls.{controlled}
+use Rattle.stream_commands.specs.Controls.{controlled}
 use Rattle.stream_state.specs.Tags.{PendingTags}
 use Rattle.stream_state.specs.OpenCommand as open_command
-use Rattle.import_session.specs.Workspace.{Workspace, quiet}
+use Rattle.stream_commands.specs.Workspace.{Workspace, quiet}
 use Rattle.export_text.specs.ExportActs.{saving_acts}
 use Rattle.export_text.specs.ExportItems.{scratch}
 use Rattle.export_text.specs.Reached.{is_exportable, reached_objects}

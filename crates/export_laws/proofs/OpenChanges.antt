@@ -23,9 +23,9 @@ use Rattle.open_commits.specs.OpenCommit.{OpenCommit}
 use Rattle.open_commits.specs.Parents.{changed_to}
 use Rattle.import_session.specs.Changes.{files_changed}
 use Rattle.stream_state.specs.Faults.{and_then}
-use Rattle.import_session.specs.Faults.{changed_or}
+use Rattle.stream_commands.specs.Faults.{changed_or}
 use Rattle.import_session.specs.Meaning.{after_act}
-use Rattle.import_session.specs.Workspace.{Workspace, quiet}
+use Rattle.stream_commands.specs.Workspace.{Workspace, quiet}
 use Rattle.export_text.specs.ExportActs.{act_of_file, asks, dataref}
 use Rattle.export_laws.specs.Leaving.{Leaves, nothing}
 use Rattle.export_laws.specs.Putting.{Puts, nothing as none_put, first_file}

@@ -17,13 +17,13 @@ use Rattle.stream_state.specs.declared.headers.CommitHeader.{CommitHeader}
 use Rattle.stream_state.specs.Branches.{branch_set, has_branch_room, ref_meant, tip_commit, tip_for, Branches}
 use Rattle.import_session.specs.Commits.{begun_from, commit_said}
 use Rattle.stream_state.specs.Faults.{and_then}
-use Rattle.import_session.specs.Faults.{changed_or}
+use Rattle.stream_commands.specs.Faults.{changed_or}
 use Rattle.import_session.specs.Meaning.{after_act}
-use Rattle.import_session.specs.Refs.{ref_set}
+use Rattle.stream_commands.specs.Refs.{ref_set}
 use Rattle.import_session.specs.Sound.{IsStreamBranch}
 use Rattle.stream_state.specs.Headers.{new_commit_header}
 use Rattle.stream_state.specs.OpenCommand as open_command
-use Rattle.import_session.specs.Workspace.{Workspace, quiet, with_command}
+use Rattle.stream_commands.specs.Workspace.{Workspace, quiet, with_command}
 use Rattle.export_text.specs.ExportActs.{asks, asks_if, encoding_act}
 use Rattle.export_text.specs.ExportItems.{scratch}
 use Rattle.export_laws.specs.Leaving.{Leaves, nothing}

@@ -27,7 +27,7 @@ use Rattle.stream_state.specs.declared.branches.Tip.TheVariants.{Unborn}
 use Rattle.stream_state.specs.Branches.{tip_commit, tip_for}
 use Rattle.import_session.specs.Sound.{IsSound}
 use Rattle.stream_state.specs.OpenCommand as open_command
-use Rattle.import_session.specs.Workspace.{Workspace}
+use Rattle.stream_commands.specs.Workspace.{Workspace}
 use Rattle.export_text.specs.ExportActs.{asks, asks_if, encoding_act, file_acts, fresh_acts, head_acts_of, number_of, parent_acts}
 use Rattle.export_text.specs.ExportItems.{scratch}
 use Rattle.export_laws.specs.Commits.{commit_told, header_told, workspace_with}

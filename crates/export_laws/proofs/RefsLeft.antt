@@ -12,11 +12,11 @@ use Rattle.stream_state.specs.declared.branches.Tip.{Tip}
 use Rattle.stream_state.specs.declared.branches.Tip.TheVariants.{Unborn, Deleted, At}
 use Rattle.stream_state.specs.Branches.{tip_of, Branches}
 use Rattle.stream_state.specs.Checkpoints.{by_head, by_tags, fit}
-use Rattle.import_session.specs.Checkpoints.{by_branches, checkpoint, checkpointed, kept_lines, saved_refs}
+use Rattle.stream_commands.specs.Checkpoints.{by_branches, checkpoint, checkpointed, kept_lines, saved_refs}
 use Rattle.stream_state.specs.Tags.{PendingTags}
 use Rattle.open_commits.specs.OpenCommit.{OpenCommit}
 use Rattle.stream_state.specs.StreamOf.{StreamOf}
-use Rattle.import_session.specs.Workspace.{Workspace, quiet}
+use Rattle.stream_commands.specs.Workspace.{Workspace, quiet}
 use Rattle.export_text.specs.ExportActs.{removal_acts}
 use Rattle.export_text.specs.ExportItems.{scratch}
 use Rattle.export_text.specs.Reached.{extra_tag_refs, is_exportable, is_missing, tag_refs}

@@ -11,7 +11,7 @@ use Rattle.stream_state.specs.Branches.{branch_limit, tip_of, with_branch, Branc
 use Rattle.stream_state.specs.Tags.{PendingTags}
 use Rattle.stream_state.specs.OpenCommand as open_command
 use Rattle.stream_state.specs.OpenCommand.{OpenCommand}
-use Rattle.import_session.specs.Workspace.{Workspace}
+use Rattle.stream_commands.specs.Workspace.{Workspace}
 use Rattle.export_text.specs.ExportActs.{removal_acts}
 use Rattle.export_laws.specs.Leaving.{Leaves, nothing}
 use Rattle.export_laws.proofs.Acts.{both}

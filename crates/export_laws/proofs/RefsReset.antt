@@ -12,11 +12,11 @@ use Rattle.stream_state.specs.declared.branches.Tip.TheVariants.{Unborn, Deleted
 use Rattle.open_commits.specs.OpenCommit.{OpenCommit}
 use Rattle.stream_state.specs.Branches.{branch_limit, has_branch_room, ref_meant, tip_of, with_branch, Branches}
 use Rattle.import_session.specs.Meaning.{after_act}
-use Rattle.import_session.specs.Refs.{is_zeros, ref_set, tip_from}
+use Rattle.stream_commands.specs.Refs.{is_zeros, ref_set, tip_from}
 use Rattle.stream_state.specs.Tags.{PendingTags}
 use Rattle.stream_state.specs.OpenCommand as open_command
 use Rattle.stream_state.specs.OpenCommand.{OpenCommand}
-use Rattle.import_session.specs.Workspace.{Workspace, quiet, with_command}
+use Rattle.stream_commands.specs.Workspace.{Workspace, quiet, with_command}
 use Rattle.stream_state.specs.declared.fault.Fault.{Fault}
 use Rattle.stream_state.specs.Faults.{and_then}
 use Rattle.export_text.specs.ExportActs.{number_of, reset_acts}

@@ -10,9 +10,9 @@ use Rattle.stream_state.specs.declared.branches.Tip.{Tip}
 use Rattle.stream_state.specs.declared.branches.Tip.TheVariants.{Unborn, Deleted, At}
 use Rattle.stream_state.specs.Branches.{tip_of, Branches}
 use Rattle.stream_state.specs.Checkpoints.{by_tags}
-use Rattle.import_session.specs.Checkpoints.{by_branches, kept_by, kept_lines, may_set, moves, saved_by}
+use Rattle.stream_commands.specs.Checkpoints.{by_branches, kept_by, kept_lines, may_set, moves, saved_by}
 use Rattle.stream_state.specs.Tags.{PendingTags}
-use Rattle.import_session.specs.Workspace.{Workspace}
+use Rattle.stream_commands.specs.Workspace.{Workspace}
 use Rattle.export_laws.proofs.RefsBranches.{first-distinct, none-later}
 use Rattle.export_laws.proofs.RefsHeld.{bytes-are, target-removed, target-set}
 

@@ -25,7 +25,7 @@ use Rattle.stream_state.specs.Marks.{as_marked, marked_name, Marks}
 use Rattle.stream_state.specs.Tags.{tag_limit, PendingTags}
 use Rattle.stream_state.specs.OpenCommand as open_command
 use Rattle.stream_state.specs.OpenCommand.{OpenCommand}
-use Rattle.import_session.specs.Workspace.{Workspace}
+use Rattle.stream_commands.specs.Workspace.{Workspace}
 use Rattle.export_text.specs.ExportActs.{acts_of_ref, number_of, ref_acts, tag_acts}
 use Rattle.export_text.specs.Reached.{tag_ref}
 use Rattle.export_laws.specs.Leaving.{Leaves, nothing}

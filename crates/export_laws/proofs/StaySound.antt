@@ -9,7 +9,7 @@ use Rattle.stream_grammar.specs.WellFormed.{IsWellFormed}
 use Rattle.stream_state.specs.declared.fault.Fault.{Fault}
 use Rattle.import_session.specs.Meaning.{after_act}
 use Rattle.import_session.specs.Sound.{IsSound}
-use Rattle.import_session.specs.Workspace.{Effect, Workspace, opened, quiet}
+use Rattle.stream_commands.specs.Workspace.{Effect, Workspace, opened, quiet}
 use Rattle.import_session.proofs.SoundEnds.{ended_sound}
 use Rattle.session_laws.proofs.SoundLemmas.{act_keeps, empty_is_sound, new_is_sound}
 use Rattle.export_laws.specs.Leaving.{Leaves, nothing, first_act}

@@ -6,7 +6,7 @@ use Rattle.file_maps.specs.StoredFiles.{stored_map}
 use Rattle.open_commits.specs.OpenCommit.{Header, OpenCommit}
 use Rattle.export_text.specs.ExportActs.{number_of}
 use Rattle.export_text.specs.ExportItems.{scratch}
-use Rattle.import_session.specs.Workspace.{Workspace, with_command}
+use Rattle.stream_commands.specs.Workspace.{Workspace, with_command}
 use Rattle.stream_state.specs.OpenCommand.{Changes}
 use Rattle.export_laws.specs.Told.{Told, workspace_of}
 

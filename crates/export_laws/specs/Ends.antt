@@ -7,9 +7,9 @@ use Rattle.stream_grammar.specs.Commands.{Done}
 use Rattle.export_text.specs.Export.{export_text}
 use Rattle.export_text.specs.ExportActs.{all_ref_acts, removal_acts}
 use Rattle.export_text.specs.Reached.{extra_tag_refs}
-use Rattle.import_session.specs.Checkpoints.{checkpoint}
+use Rattle.stream_commands.specs.Checkpoints.{checkpoint}
 use Rattle.import_session.specs.Stream.{Outcome, begun, carried, finished}
-use Rattle.import_session.specs.Workspace.{Workspace, opened, quiet}
+use Rattle.stream_commands.specs.Workspace.{Workspace, opened, quiet}
 use Rattle.export_laws.specs.Copies.{IsCopyOf}
 use Rattle.export_laws.specs.Leaving.{Leaves}
 use Rattle.export_laws.specs.Told.{Told}

@@ -1,7 +1,7 @@
 -- Acts that are carried out one after another: git-fast-import(1), "Commands".
 use Rattle.std.specs.Prelude.{◌≡◌, ℕ, List, [], ◌∷◌, Ok}
 use Rattle.stream_grammar.specs.Commands.{Done}
-use Rattle.import_session.specs.Workspace.{Workspace, quiet}
+use Rattle.stream_commands.specs.Workspace.{Workspace, quiet}
 use Rattle.import_session.specs.Commits.{closed_where}
 use Rattle.import_session.specs.Meaning.{after_act}
 

@@ -1,6 +1,6 @@
 -- The order in which the import of an export stores objects: git-fast-import(1), "blob", "commit"
 -- and "tag"; git-write-tree(1).
-use Rattle.std.specs.Prelude.{◌≡◌, ℕ, zero, suc, true, List, [], ◌∷◌, ◌++◌, length, map, All, is_some}
+use Rattle.std.specs.Prelude.{◌≡◌, ℕ, zero, suc, true, List, [], ◌∷◌, ◌++◌, length, All, is_some}
 use Rattle.std.specs.List.{flat_map}
 use Rattle.git_model.specs.declared.file_mode.FileMode.{FileMode}
 use Rattle.git_model.specs.declared.file_mode.FileMode.TheVariants as mode
@@ -9,9 +9,11 @@ use Rattle.git_model.specs.declared.kind.Kind.TheVariants as kind
 use Rattle.git_model.specs.Tree.{TreeEntry}
 use Rattle.git_model.specs.CommitReading.{commit_read}
 use Rattle.git_model.specs.Repository.{Object, Repository, object_named, with_object}
-use Rattle.git_model.specs.References.{content_named, object_at}
+use Rattle.git_model.specs.References.{content_named}
 use Rattle.git_model.specs.StoredPath.{entries_of}
 use Rattle.export_text.specs.Reached.{reached_objects}
+-- Objects by their places in a repository.
+pub use Rattle.table_copies.specs.Copied.{objects_at}
 
 -- ---- which objects, by name
 
@@ -59,10 +61,6 @@ stored_with os objects = with_named os (flat_map (names_with os) objects) []
 -- The objects of a copy: all that comes with those that the refs reach.
 abbrev pub copied_objects : Repository → List Object
 copied_objects repository = stored_with repository.objects (reached_objects repository)
-
--- Objects by their places in the repository.
-abbrev pub objects_at : List Object → List ℕ → List Object
-objects_at os places = map (λ place. object_at place os) places
 
 -- ---- trees that are there
 

@@ -9,7 +9,7 @@ use Rattle.stream_state.specs.declared.branches.Tip.TheVariants.{Unborn}
 use Rattle.open_commits.specs.OpenCommit.{OpenCommit}
 use Rattle.stream_state.specs.OpenCommand.{Reset}
 use Rattle.stream_state.specs.StreamOf.{StreamOf}
-use Rattle.import_session.specs.Workspace.{Workspace}
+use Rattle.stream_commands.specs.Workspace.{Workspace}
 use Rattle.export_laws.specs.Told.{Told}
 
 -- What the stream has of its own then: its marks, and the scratch branch, which was reset and is

@@ -19,7 +19,7 @@ use Rattle.stream_state.specs.Tags.{PendingTags}
 use Rattle.stream_state.specs.OpenCommand.{Nothing}
 use Rattle.stream_state.specs.StreamOf.{StreamOf}
 use Rattle.open_commits.specs.OpenCommit.{OpenCommit}
-use Rattle.import_session.specs.Workspace.{Workspace}
+use Rattle.stream_commands.specs.Workspace.{Workspace}
 use Rattle.export_laws.specs.Leaving.{Leaves}
 use Rattle.export_laws.specs.Order.{stored_with}
 

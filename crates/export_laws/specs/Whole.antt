@@ -8,7 +8,7 @@ use Rattle.git_model.specs.Repository.{Object, Repository, object_named}
 use Rattle.stream_grammar.specs.Commands.{Done}
 use Rattle.export_text.specs.ExportActs.{object_acts, opening_acts, saving_acts}
 use Rattle.import_session.specs.Sound.{IsSound}
-use Rattle.import_session.specs.Workspace.{Workspace, opened}
+use Rattle.stream_commands.specs.Workspace.{Workspace, opened}
 use Rattle.export_laws.specs.Leaving.{Leaves}
 use Rattle.export_laws.specs.Saved.{IsSaved}
 use Rattle.export_laws.specs.Told.{AreTold, Told}

@@ -1,12 +1,12 @@
 //! A repository as a stream: git-fast-export(1).
 
-ghost use Rattle.std.specs.Prelude.{◌≡◌, ◌++◌, ◌+◌, nat_le, length, take, OnOk, OnErr};
+ghost use Rattle.std.specs.Prelude.{◌≡◌, ◌++◌, ◌+◌, nat_le, length, take, IfOk, OnOk, OnErr};
 ghost use Rattle.git_model.specs.Limits.{export_refs_limit};
 ghost use Rattle.git_model.specs.GoodRepository.{AreObjects};
 ghost use Rattle.git_model.specs.RefStore.{listed_refs};
 ghost use Rattle.git_model.specs.Repository.{Repository};
 ghost use Rattle.export_text.specs.ItemText.{items_text};
-ghost use Rattle.export_text.specs.Reached.{tag_refs};
+ghost use Rattle.export_text.specs.Reached.{is_exportable, tag_refs};
 ghost use Rattle.export_text.specs.Marking.{reached_flags};
 ghost use Rattle.export_text.specs.Export.{Exports, export_items, head_items, opening_items, saving_items};
 
@@ -87,6 +87,25 @@ fn are_few(refs: &Refs, ref_names: &[RefName]) -> bool
 {
     let tags = ref_names.len();
     tags <= IMPORTED_REFS_LIMIT && refs.len() <= IMPORTED_REFS_LIMIT - tags
+}
+
+/// Whether the refs, with those that importing the reached tags sets, are few enough for an export:
+/// at most 65,535. There is a flag for each object, the oldest object first: whether the refs reach
+/// it.
+///
+/// `Memory` (90) where there is no room for the refs of the tags.
+pub fn is_exportable<N: Naming>(
+    alloc: Global,
+    objects: &Objects<'_, N>,
+    refs: &Refs,
+    reached: &[bool],
+) -> Result<bool, Memory>
+    ensures { let r : Repository = record { objects = objects.now; refs = refs.now } in
+        AreObjects N.digest_of objects.now → reached.now ≡ reached_flags r
+        → IfOk result (λ few. few ≡ is_exportable r) }
+{
+    let ref_names = tag_refs(alloc, objects, reached)?;
+    Ok(are_few(refs, &ref_names))
 }
 
 // Appends the export, where an import may set so many refs.

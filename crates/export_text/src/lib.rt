@@ -13,12 +13,12 @@ pub mod laws;
 mod mark_text;
 mod marking;
 mod object_text;
-mod reached;
+pub mod reached;
 mod ref_text;
 mod referring;
 mod tag_refs;
 mod tag_text;
 mod told;
 
-pub use export::append_export;
+pub use export::{append_export, is_exportable};
 pub use fault::Fault;

@@ -1,5 +1,5 @@
 -- What changes of the open commit, and its message, leave of a workspace.
-use Rattle.std.proofs.Common.{◌≡◌, ◌≢◌, ◌⊎◌, inl, inr, ℕ, List, [], ◌∷◌, Option, None, Some, Result, Ok, Err, refl, sym, ap, subst, rules}
+use Rattle.std.proofs.Common.{◌≡◌, ◌≢◌, ℕ, List, [], ◌∷◌, Option, None, Some, Result, Ok, Err, refl, sym, ap, subst, rules}
 use Rattle.std.specs.Prelude.{MatchResult, OnOk}
 use Rattle.git_model.specs.RefStore.{RefStore}
 use Rattle.git_model.specs.Repository.{Object}
@@ -24,13 +24,15 @@ use Rattle.stream_state.specs.declared.headers.InlineFile.{InlineFile}
 use Rattle.stream_state.specs.OpenCommand.{OpenCommand, Inline, changes_in, command_with}
 use Rattle.stream_state.specs.OpenCommand as open_command
 use Rattle.stream_state.specs.Faults.{and_then}
-use Rattle.import_session.specs.Faults.{changed_or}
+use Rattle.stream_commands.specs.Faults.{changed_or}
 use Rattle.stream_state.specs.Branches.{Branches, branch_set, tip_for}
-use Rattle.import_session.specs.Workspace.{Effect, Workspace, quiet, with_command}
-use Rattle.import_session.specs.Lines.{in_changes}
+use Rattle.stream_commands.specs.Workspace.{Effect, Workspace, quiet, with_command}
+use Rattle.stream_commands.specs.Lines.{in_changes}
 use Rattle.import_session.specs.Commits.{begun_from, commit_opened, header_said, opened_at, opened_with, started_or_cleared}
-use Rattle.import_session.specs.Session.{StreamState, branched, state_with, workspace_in, CarriesOut, Leaves}
+use Rattle.stream_commands.specs.State.{StreamState, branched, state_with, workspace_in, CarriesOut}
+use Rattle.import_session.specs.Session.{Leaves}
 use Rattle.import_session.specs.Sound.{IsSound}
+use Rattle.stream_commands.proofs.ActLemmas.{carries_refused}
 
 -- ---- a commit is looked up, and then the open commit changes
 
@@ -61,21 +63,6 @@ pub held_left : (P : Type 0) (r : Result Unit CommitFault)
     → (r ≢ Err commit_fault.Memory → P) → OnOk (changed_or r) P
 held_left P (Ok u) holds = holds (λ is. absurd (cc is))
 held_left P (Err e) holds = tt
-
--- ---- what is refused
-
-pub memory_or : (f : Fault) → (f ≡ fault.Memory) ⊎ (f ≢ fault.Memory)
-memory_or fault.Memory = inl refl
-memory_or f = inr (λ is. cc)
-
-pub carries_refused : (r : Result Effect Fault) (new : Workspace) (out out' : List ℕ) (f : Fault)
-    → (f ≢ fault.Memory → r ≡ Err f) → CarriesOut r new out out' (Err f)
-carries_refused (Ok effect) new out out' f refused = by_memory (memory_or f)
-  where
-    by_memory : (f ≡ fault.Memory) ⊎ (f ≢ fault.Memory) → f ≡ fault.Memory
-    by_memory (inl memory) = memory
-    by_memory (inr other) = let never = refused other in cc
-carries_refused (Err refusal) new out out' f refused = λ other. let is = refused other in cc
 
 -- ---- the open commit changes
 

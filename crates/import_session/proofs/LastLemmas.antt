@@ -5,8 +5,9 @@ use Rattle.git_model.specs.RefStore.{RefStore}
 use Rattle.content_pool.specs.Pool.{Cells}
 use Rattle.tenant_tables.specs.View.{View}
 use Rattle.stream_state.specs.declared.fault.Fault.{Fault}
-use Rattle.import_session.specs.Lent.{IsUnchanged, Keeps}
-use Rattle.import_session.specs.Session.{KeepsCommitted, last_in}
+use Rattle.stream_commands.specs.Lent.{IsUnchanged, Keeps}
+use Rattle.stream_commands.specs.State.{KeepsCommitted}
+use Rattle.import_session.specs.Session.{last_in}
 
 -- what did nothing keeps the committed objects
 pub unchanged_committed : (p : Cells) (old : View) (q : Cells) (new : View)

@@ -1,10 +1,6 @@
-pub mod ActLemmas
-mod CheckpointLemmas
-mod CommittedLemmas
+pub mod ItemLemmas
 mod LastLemmas
-mod TagLemmas
 mod CommitLemmas
-mod HeldLemmas
 pub mod LentLemmas
 pub mod SoundCommits
 pub mod SoundEnds

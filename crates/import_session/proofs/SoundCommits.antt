@@ -20,9 +20,9 @@ use Rattle.stream_state.specs.declared.branches.Tip.{Tip}
 use Rattle.stream_state.specs.declared.branches.Tip.TheVariants.{Unborn, Deleted, At}
 use Rattle.stream_state.specs.declared.fault.Fault.{Fault}
 use Rattle.stream_state.specs.Faults.{and_then, resolved_or}
-use Rattle.import_session.specs.Workspace.{Workspace}
+use Rattle.stream_commands.specs.Workspace.{Workspace}
 use Rattle.stream_state.specs.Branches.{commit_at, tip_of, tip_commit}
-use Rattle.import_session.specs.CommitIshes.{commit_in, is_branch, named_in, start_in}
+use Rattle.stream_commands.specs.CommitIshes.{commit_in, is_branch, named_in, start_in}
 use Rattle.import_session.specs.Commits.{IsTipCommit}
 use Rattle.import_session.specs.Sound.{IsStreamBranch, IsSound, IsTip}
 

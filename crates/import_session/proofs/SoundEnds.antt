@@ -32,8 +32,8 @@ use Rattle.stream_state.specs.Marks.{Marks, as_marked, room_for, with_mark}
 use Rattle.stream_state.specs.OpenCommand.{OpenCommand}
 use Rattle.stream_state.specs.OpenCommand as open_command
 use Rattle.stream_state.specs.Tags.{PendingTags}
-use Rattle.import_session.specs.Faults.{changed_or}
-use Rattle.import_session.specs.Workspace.{Workspace}
+use Rattle.stream_commands.specs.Faults.{changed_or}
+use Rattle.stream_commands.specs.Workspace.{Workspace}
 use Rattle.import_session.specs.Commits.{closed_at, closed_where, open_closed}
 use Rattle.import_session.specs.Sound.{IsPending, IsSound, IsSoundCommand, IsStreamBranch, IsTip}
 use Rattle.import_session.proofs.SoundCommits.{by_test, then_any}

@@ -10,9 +10,9 @@ use Rattle.stream_state.specs.declared.fault.Fault.{Fault}
 use Rattle.stream_state.specs.declared.headers.InlineFile.{InlineFile}
 use Rattle.stream_state.specs.Faults.{and_then}
 use Rattle.stream_state.specs.OpenCommand.{Changes, Inline, changes_in, inline_in}
-use Rattle.import_session.specs.Faults.{changed_or}
-use Rattle.import_session.specs.Workspace.{Workspace, Effect, quiet, with_command}
-use Rattle.import_session.specs.Lines.{in_changes}
+use Rattle.stream_commands.specs.Faults.{changed_or}
+use Rattle.stream_commands.specs.Workspace.{Workspace, Effect, quiet, with_command}
+use Rattle.stream_commands.specs.Lines.{in_changes}
 
 -- The contents of a file are stored, and the file is put.
 abbrev pub file_stored : (List ℕ → List ℕ) → List ℕ → OpenCommit → InlineFile → Workspace

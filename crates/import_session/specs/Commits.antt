@@ -13,14 +13,14 @@ use Rattle.stream_state.specs.declared.branches.Tip.TheVariants.{At}
 use Rattle.stream_state.specs.declared.fault.Fault.{Fault}
 use Rattle.stream_state.specs.declared.headers.CommitHeader.{CommitHeader}
 use Rattle.stream_state.specs.Faults.{and_then}
-use Rattle.import_session.specs.Faults.{changed_or}
+use Rattle.stream_commands.specs.Faults.{changed_or}
 use Rattle.stream_state.specs.Headers.{new_commit_header}
 use Rattle.stream_state.specs.OpenCommand.{OpenCommand, Nothing, Commit, Changes, already_said, commit_header_in}
-use Rattle.import_session.specs.Workspace.{Workspace, Effect, quiet, with_command}
+use Rattle.stream_commands.specs.Workspace.{Workspace, Effect, quiet, with_command}
 use Rattle.stream_state.specs.Marks.{room_for, with_mark}
 use Rattle.stream_state.specs.Branches.{branch_set, with_branch, tip_commit, tip_for}
-use Rattle.import_session.specs.Lines.{in_changes, in_commit_header}
-use Rattle.import_session.specs.CommitIshes.{ref_in, commit_in, start_in}
+use Rattle.stream_commands.specs.Lines.{in_changes, in_commit_header}
+use Rattle.stream_commands.specs.CommitIshes.{ref_in, commit_in, start_in}
 
 -- ---- its message
 

@@ -2,13 +2,13 @@
 use Rattle.std.specs.Prelude.{ℕ, List, Result}
 use Rattle.stream_grammar.specs.Acts.{Act, Wait, Object, Commit, Change, Ref, Reply, Control}
 use Rattle.stream_state.specs.declared.fault.Fault.{Fault}
-use Rattle.import_session.specs.Workspace.{Workspace, Effect, quiet}
-use Rattle.import_session.specs.Objects.{object_stored}
+use Rattle.stream_commands.specs.Workspace.{Workspace, Effect, quiet}
+use Rattle.stream_commands.specs.Objects.{object_stored}
 use Rattle.import_session.specs.Commits.{commit_said}
 use Rattle.import_session.specs.Changes.{files_changed}
-use Rattle.import_session.specs.Refs.{ref_set}
-use Rattle.import_session.specs.Replies.{replied}
-use Rattle.import_session.specs.Controls.{controlled}
+use Rattle.stream_commands.specs.Refs.{ref_set}
+use Rattle.stream_commands.specs.Replies.{replied}
+use Rattle.stream_commands.specs.Controls.{controlled}
 
 -- What an act leaves and prints, or the fault that refuses it.
 unfoldable pub after_act : (List ℕ → List ℕ) → Act → Workspace → Result Effect Fault

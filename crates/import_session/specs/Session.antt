@@ -1,6 +1,6 @@
--- A session: the part of a running stream that is neither in a table, nor in a pool, nor among
--- refs.
-use Rattle.std.specs.Prelude.{◌≡◌, ◌≢◌, ℕ, List, [], ◌++◌, take, Result, Ok, Err, Bool, false}
+-- A session: the state of a running stream, the command that is not complete, and whether `done`
+-- was read.
+use Rattle.std.specs.Prelude.{◌≡◌, ◌≢◌, ℕ, List, ◌++◌, take, Result, Ok, Err, Bool, false}
 use Rattle.git_model.specs.RefStore.{RefStore}
 use Rattle.git_model.specs.Repository.{Repository}
 use Rattle.content_pool.specs.Pool.{Cells}
@@ -12,81 +12,15 @@ use Rattle.stream_grammar.specs.Commands.{Done, Parsing, top}
 use Rattle.stream_grammar.specs.Shown.{done_shown}
 use Rattle.stream_state.specs.declared.fault.Fault.{Fault}
 use Rattle.stream_state.specs.declared.fault.Fault.TheVariants as fault
-use Rattle.import_session.specs.declared.open_command.OpenCommand.{OpenCommand as LentCommand}
-use Rattle.import_session.specs.declared.open_command.OpenCommand.TheVariants as lent
-use Rattle.import_session.specs.declared.state.StreamState.{StreamState as LentStreamState}
-use Rattle.kept_files.specs.declared.kept_files.KeptCommit.{KeptCommit}
-use Rattle.open_commits.specs.OpenCommit.{HeldCommit, commit_held, commit_in}
 use Rattle.stream_state.specs.Faults.{text_first}
-use Rattle.stream_state.specs.Marks.{Marks}
-use Rattle.stream_state.specs.Branches.{Branches}
-use Rattle.stream_state.specs.OpenCommand.{OpenCommand, Nothing, Commit, Tag, Reset, Changes, Inline}
-use Rattle.stream_state.specs.StreamOf.{StreamOf, new_stream, stream_with}
-use Rattle.import_session.specs.Workspace.{Workspace, Effect}
 use Rattle.import_session.specs.Stream.{Running, Step}
-
--- What a stream has of its own apart from its objects. The files of the open commit are held as a
--- branch, and so are the files of the last commits that ended.
-pub record StreamState : Type 0 where
-  pub stream : StreamOf HeldCommit
-  pub kept : List KeptCommit
-
--- The open command, apart from where it is in memory.
-abbrev pub command_shown : LentCommand → OpenCommand HeldCommit
-command_shown lent.Nothing = Nothing
-command_shown (lent.Commit header) = Commit header
-command_shown (lent.Tag header) = Tag header
-command_shown (lent.Reset ref) = Reset ref
-command_shown (lent.Changes commit) = Changes (commit_held commit)
-command_shown (lent.Inline commit file) = Inline (commit_held commit) file
-
--- The same of all that the stream has.
-abbrev pub stream_shown : LentStreamState → StreamOf HeldCommit
-stream_shown state = record {
-  marks = state.marks.entries;
-  branches = state.branches;
-  tags = state.tags.items;
-  command = command_shown state.command;
-  head = state.head;
-  forces = state.forces;
-  needs_done = state.needs_done;
-}
-
-abbrev pub state_shown : LentStreamState → StreamState
-state_shown state = record { stream = stream_shown state; kept = state.kept }
-
--- The state before the first item.
-abbrev pub empty_state : StreamState
-empty_state = record { stream = new_stream; kept = [] }
-
--- The same state with this command open.
-abbrev pub state_with : StreamState → OpenCommand HeldCommit → StreamState
-state_with state command =
-    record state { stream = record state.stream { command = command } }
-
--- The same state with these branches, and with these marks.
-abbrev pub branched : StreamState → Branches → StreamState
-branched state branches =
-    record state { stream = record state.stream { branches = branches } }
-
-abbrev pub marked : StreamState → Marks → StreamState
-marked state marks = record state { stream = record state.stream { marks = marks } }
+use Rattle.stream_commands.specs.State.{StreamState, empty_state, workspace_in}
 
 -- What a session keeps between items.
 pub record SessionView : Type 0 where
   pub parsing : Parsing
   pub state : StreamState
   pub is_done : Bool
-
--- The workspace of a stream whose objects are in a table over a pool. The files of the open commit
--- are those that its branch means among these objects.
-abbrev pub workspace_in : StreamState → Cells → View → RefStore → Workspace
-workspace_in state pool table refs = record {
-  objects = objects pool table.entries;
-  committed = table.committed;
-  refs = refs;
-  stream = stream_with (commit_in (objects pool table.entries)) state.stream;
-}
 
 -- The running stream that a session is part of.
 abbrev pub running_in : SessionView → Cells → View → RefStore → Running
@@ -95,15 +29,6 @@ running_in session pool table refs = record {
   parsing = session.parsing;
   is_done = session.is_done;
 }
-
--- An act, or the end of the stream, was carried out: it left this workspace and printed its reply;
--- or its refusal was answered. `Memory` may take the place of either.
-abbrev pub CarriesOut : Result Effect Fault → Workspace → List ℕ → List ℕ → Result Unit Fault
-    → Type 0
-CarriesOut (Ok effect) new out out' (Ok u) = (effect.workspace ≡ new) × (out' ≡ out ++ effect.reply)
-CarriesOut (Ok effect) new out out' (Err e) = e ≡ fault.Memory
-CarriesOut (Err refusal) new out out' (Ok u) = ⊥
-CarriesOut (Err refusal) new out out' (Err e) = e ≢ fault.Memory → e ≡ refusal
 
 -- What the grammar gave for an item, or its fault. `Memory` may take the place of either.
 abbrev pub ReadsItem : Result LentDone Fault → Result Done TextFault → Type 0
@@ -130,11 +55,6 @@ new_session = record { parsing = Ok top; state = empty_state; is_done = false }
 -- The repository of all objects in a table over a pool, with these refs.
 abbrev pub repository_in : Cells → View → RefStore → Repository
 repository_in pool table refs = record { objects = objects pool table.entries; refs = refs }
-
--- A call keeps all objects of the last checkpoint.
-abbrev pub KeepsCommitted : Cells → View → Cells → View → Type 0
-KeepsCommitted before old after new = take new.committed (objects after new.entries)
-    ≡ take old.committed (objects before old.entries)
 
 -- The repository at the last checkpoint: the committed objects, and the refs.
 abbrev pub last_in : Cells → View → RefStore → Repository

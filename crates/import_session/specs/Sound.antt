@@ -18,7 +18,7 @@ use Rattle.stream_state.specs.declared.branches.Tip.TheVariants.{Unborn, Deleted
 use Rattle.stream_state.specs.declared.headers.CommitHeader.{CommitHeader}
 use Rattle.stream_state.specs.declared.headers.TagHeader.{TagHeader}
 use Rattle.stream_state.specs.OpenCommand.{OpenCommand, Nothing, Commit, Tag, Reset, Changes, Inline}
-use Rattle.import_session.specs.Workspace.{Workspace}
+use Rattle.stream_commands.specs.Workspace.{Workspace}
 
 -- A repository that a stream may open on, and that it leaves: its objects are good, all trees are
 -- within the limits, and its refs are good.

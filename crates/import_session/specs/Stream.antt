@@ -9,8 +9,8 @@ use Rattle.stream_grammar.specs.Commands.{Parsing, top, done_by, after, end_of}
 use Rattle.stream_state.specs.declared.fault.Fault.{Fault}
 use Rattle.stream_state.specs.declared.fault.Fault.TheVariants as fault
 use Rattle.stream_state.specs.Faults.{code_of, text_first, and_then}
-use Rattle.import_session.specs.Workspace.{Workspace, Effect, quiet}
-use Rattle.import_session.specs.Checkpoints.{checkpoint}
+use Rattle.stream_commands.specs.Workspace.{Workspace, Effect, quiet}
+use Rattle.stream_commands.specs.Checkpoints.{checkpoint}
 use Rattle.import_session.specs.Commits.{closed_where}
 use Rattle.import_session.specs.Meaning.{after_act}
 

@@ -10,18 +10,19 @@ ghost use Rattle.stream_grammar.specs.Acts.{Begin, Author, Committer, Encoding, 
 ghost use Rattle.stream_grammar.specs.Shown.{commit_command_shown, commit_shown as said_shown};
 ghost use Rattle.open_commits.specs.OpenCommit.{shown_in, IsCommitHeld};
 ghost use Rattle.import_session.specs.Commits.{commit_merged, commit_said, commit_started};
-ghost use Rattle.import_session.specs.Held.{FilesStand, KeepsBranchFiles};
+ghost use Rattle.stream_commands.specs.Held.{FilesStand, KeepsBranchFiles};
 ghost use Rattle.import_session.specs.Sound.{IsSound};
-ghost use Rattle.import_session.specs.Session.{state_shown, workspace_in, CarriesOut, Leaves};
+ghost use Rattle.stream_commands.specs.State.{state_shown, workspace_in, CarriesOut};
+ghost use Rattle.import_session.specs.Session.{Leaves};
 
-use crate::commit_ishes::{commit_named, start_of};
-use crate::fault::passed_on;
-use crate::open_command::{OpenCommand, not_open};
 use crate::opening::open_commit;
-use crate::state::{StreamState, keep_open};
 use content_pool::Pool;
 use git_objects::Naming;
 use open_commits::OpenCommit;
+use stream_commands::commit_ishes::{commit_named, start_of};
+use stream_commands::fault::passed_on;
+use stream_commands::open_command::{OpenCommand, not_open};
+use stream_commands::state::{StreamState, keep_open};
 use stream_grammar::{CommitCommand, CommitIsh, Ident};
 use stream_state::branches::copy_meant;
 use stream_state::fault::Fault;

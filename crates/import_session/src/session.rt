@@ -11,23 +11,24 @@ ghost use Rattle.stream_grammar.specs.Commands.{Done as DoneBy};
 ghost use Rattle.stream_grammar.specs.Shown.{act_shown, Answers};
 ghost use Rattle.stream_lex.specs.Looking.{item_of};
 ghost use Rattle.stream_state.specs.Faults.{and_then};
-ghost use Rattle.import_session.specs.Lent.{Keeps};
-ghost use Rattle.import_session.specs.Checkpoints.{checkpoint};
+ghost use Rattle.stream_commands.specs.Lent.{Keeps};
+ghost use Rattle.stream_commands.specs.Checkpoints.{checkpoint};
 ghost use Rattle.import_session.specs.Commits.{closed_where};
 ghost use Rattle.import_session.specs.Meaning.{after_act};
 ghost use Rattle.import_session.specs.Stream.{step, is_finish, session_end};
-ghost use Rattle.import_session.specs.Session.{state_shown, running_in, repository_in, last_in, new_session, workspace_in, ReadsItem, Takes, CarriesOut};
-ghost use Rattle.import_session.specs.Held.{FilesStand};
+ghost use Rattle.stream_commands.specs.State.{state_shown, workspace_in, CarriesOut};
+ghost use Rattle.import_session.specs.Session.{running_in, repository_in, last_in, new_session, ReadsItem, Takes};
+ghost use Rattle.stream_commands.specs.Held.{FilesStand};
 ghost use Rattle.import_session.specs.Sound.{IsSound};
 
 use crate::acts::carry_out;
-use crate::checkpoint::save;
 use crate::closing::close_where;
-use crate::state::{StreamState, new_state};
 use content_pool::Pool;
 use git_objects::Naming;
 use std::alloc::Global;
 use std::marker::Model;
+use stream_commands::checkpoint::save;
+use stream_commands::state::{StreamState, new_state};
 use stream_grammar::{Act, ControlCommand, Done, Parser};
 use stream_lex::Item;
 use stream_state::fault::Fault;
@@ -61,7 +62,8 @@ impl Drop for Session {
 impl Model for Session {
     ghost use Rattle.std.specs.Coded.{codes};
     ghost use Rattle.tree_build.specs.ShapeCode.{branch_code};
-    ghost use Rattle.import_session.specs.Session.{SessionView, state_shown};
+    ghost use Rattle.stream_commands.specs.State.{state_shown};
+    ghost use Rattle.import_session.specs.Session.{SessionView};
 
     ghost Value = { SessionView };
 

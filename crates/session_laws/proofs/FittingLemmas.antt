@@ -56,18 +56,18 @@ use Rattle.stream_state.specs.Faults.{and_then, text_first}
 use Rattle.stream_state.specs.Marks.{referred_name}
 use Rattle.stream_state.specs.Printing.{shown_object}
 use Rattle.stream_state.specs.Showing.{entry_shown}
-use Rattle.import_session.specs.CommitIshes.{ref_in}
-use Rattle.import_session.specs.Faults.{changed_or}
-use Rattle.import_session.specs.Workspace.{Effect, Workspace, opened as opened_on, quiet, with_command}
-use Rattle.import_session.specs.Lines.{in_changes, in_commit_header, in_tag_header}
-use Rattle.import_session.specs.Objects.{object_stored}
+use Rattle.stream_commands.specs.CommitIshes.{ref_in}
+use Rattle.stream_commands.specs.Faults.{changed_or}
+use Rattle.stream_commands.specs.Workspace.{Effect, Workspace, opened as opened_on, quiet, with_command}
+use Rattle.stream_commands.specs.Lines.{in_changes, in_commit_header, in_tag_header}
+use Rattle.stream_commands.specs.Objects.{object_stored}
 use Rattle.import_session.specs.Commits.{begun_from, closed_where, commit_merged, commit_opened, commit_said, commit_started, header_said}
 use Rattle.import_session.specs.Changes.{file_stored, files_changed}
-use Rattle.import_session.specs.Refs.{branch_unborn, ref_set}
-use Rattle.import_session.specs.Replies.{replied}
+use Rattle.stream_commands.specs.Refs.{branch_unborn, ref_set}
+use Rattle.stream_commands.specs.Replies.{replied}
 use Rattle.import_session.specs.Meaning.{after_act}
 use Rattle.import_session.specs.Stream.{Running, Step, begun, is_finish, step, taken as taken_by}
-use Rattle.import_session.proofs.ActLemmas.{step_running}
+use Rattle.import_session.proofs.ItemLemmas.{step_running}
 use Rattle.session_laws.specs.Fitting.{Fits, HasCommitter, HasTarget, IsAtStage, IsChanging, IsCommit, IsCommitBefore, IsInStep, IsInline, IsOpenAt, IsReset, IsTag, IsTagBefore}
 
 -- ---- the stage after a part

@@ -53,18 +53,18 @@ use Rattle.stream_state.specs.Printing.{shown_content, shown_object}
 use Rattle.stream_state.specs.Showing.{entry_shown, tree_in}
 use Rattle.stream_state.specs.Storing.{stored_or, with_content}
 use Rattle.stream_state.specs.Tags.{room_for_tag, tag_content, tag_limit, tagged_kind}
-use Rattle.import_session.specs.Workspace.{Effect, Workspace, quiet, with_command}
-use Rattle.import_session.specs.Lines.{in_changes, in_commit_header, in_tag_header}
-use Rattle.import_session.specs.Faults.{changed_or}
-use Rattle.import_session.specs.CommitIshes.{branch_or_expression, commit_in, is_branch, named_in, ref_in, start_in}
-use Rattle.import_session.specs.Tags.{tag_stored, tagged}
-use Rattle.import_session.specs.Objects.{object_stored}
+use Rattle.stream_commands.specs.Workspace.{Effect, Workspace, quiet, with_command}
+use Rattle.stream_commands.specs.Lines.{in_changes, in_commit_header, in_tag_header}
+use Rattle.stream_commands.specs.Faults.{changed_or}
+use Rattle.stream_commands.specs.CommitIshes.{branch_or_expression, commit_in, is_branch, named_in, ref_in, start_in}
+use Rattle.stream_commands.specs.Tags.{tag_stored, tagged}
+use Rattle.stream_commands.specs.Objects.{object_stored}
 use Rattle.import_session.specs.Commits.{begun_from, commit_merged, commit_opened, commit_said, commit_started, header_of}
 use Rattle.import_session.specs.Changes.{file_stored, files_changed}
-use Rattle.import_session.specs.Refs.{branch_placed, is_zeros, ref_set, tip_from}
-use Rattle.import_session.specs.Replies.{branch_entry_shown, replied}
-use Rattle.import_session.specs.Checkpoints.{saved_refs}
-use Rattle.import_session.specs.Controls.{controlled}
+use Rattle.stream_commands.specs.Refs.{branch_placed, is_zeros, ref_set, tip_from}
+use Rattle.stream_commands.specs.Replies.{branch_entry_shown, replied}
+use Rattle.stream_commands.specs.Checkpoints.{saved_refs}
+use Rattle.stream_commands.specs.Controls.{controlled}
 use Rattle.import_session.specs.Meaning.{after_act}
 use Rattle.session_laws.specs.Fitting.{Fits, FitsChange, FitsCommit, FitsObject, FitsRef, FitsReply, HasCommitter, HasTarget, IsChanging, IsCommit, IsInline, IsReset, IsTag, IsThere}
 

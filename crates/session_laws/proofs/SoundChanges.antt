@@ -37,9 +37,9 @@ use Rattle.open_commits.proofs.GoodFiles.{contents_has, copied_has, deleted_has,
 use Rattle.open_commits.proofs.StoredCommits.{stored_commit}
 use Rattle.stream_state.specs.OpenCommand.{OpenCommand}
 use Rattle.stream_state.specs.OpenCommand as open_command
-use Rattle.import_session.specs.Faults.{changed_or}
-use Rattle.import_session.specs.Workspace.{Workspace}
-use Rattle.import_session.specs.CommitIshes.{commit_in, start_in}
+use Rattle.stream_commands.specs.Faults.{changed_or}
+use Rattle.stream_commands.specs.Workspace.{Workspace}
+use Rattle.stream_commands.specs.CommitIshes.{commit_in, start_in}
 use Rattle.import_session.specs.Commits.{begun_from, commit_merged, commit_started}
 use Rattle.import_session.specs.Sound.{IsOpen, IsSoundCommand}
 use Rattle.import_session.proofs.SoundCommits.{IsCommitOf, by_test, commit_good, start_good, then_good}

@@ -46,24 +46,24 @@ use Rattle.stream_state.specs.declared.headers.CommitHeader.{CommitHeader}
 use Rattle.stream_state.specs.declared.headers.TagHeader.{TagHeader}
 use Rattle.stream_state.specs.declared.headers.InlineFile.{InlineFile}
 use Rattle.stream_state.specs.Faults.{and_then, text_first}
-use Rattle.import_session.specs.Faults.{changed_or}
+use Rattle.stream_commands.specs.Faults.{changed_or}
 use Rattle.stream_state.specs.Branches.{Branches, branch_set, has_branch_room, head_in, ref_meant, with_branch, tip_commit, tip_for}
 use Rattle.stream_state.specs.Marks.{marked_name, referred_name, room_for}
 use Rattle.stream_state.specs.Headers.{new_commit_header, new_tag_header}
 use Rattle.stream_state.specs.OpenCommand.{OpenCommand, already_said, changes_in, commit_header_in, inline_in, reset_in, tag_header_in}
 use Rattle.stream_state.specs.OpenCommand as open_command
-use Rattle.import_session.specs.Workspace.{Workspace, Effect, opened, quiet, with_command}
-use Rattle.import_session.specs.CommitIshes.{commit_in, named_in, start_in, ref_in}
-use Rattle.import_session.specs.Lines.{in_changes, in_commit_header, in_tag_header}
-use Rattle.import_session.specs.Refs.{alias_set, branch_placed, branch_unborn, is_zeros, ref_set, tip_from}
+use Rattle.stream_commands.specs.Workspace.{Workspace, Effect, opened, quiet, with_command}
+use Rattle.stream_commands.specs.CommitIshes.{commit_in, named_in, start_in, ref_in}
+use Rattle.stream_commands.specs.Lines.{in_changes, in_commit_header, in_tag_header}
+use Rattle.stream_commands.specs.Refs.{alias_set, branch_placed, branch_unborn, is_zeros, ref_set, tip_from}
 use Rattle.stream_state.specs.Storing.{with_content}
 use Rattle.stream_state.specs.Tags.{room_for_tag, tag_content, tagged_kind}
-use Rattle.import_session.specs.Objects.{blob_stored, object_stored}
-use Rattle.import_session.specs.Tags.{tag_made, tag_stored, tagged}
+use Rattle.stream_commands.specs.Objects.{blob_stored, object_stored}
+use Rattle.stream_commands.specs.Tags.{tag_made, tag_stored, tagged}
 use Rattle.stream_state.specs.Checkpoints.{fit}
-use Rattle.import_session.specs.Checkpoints.{checkpoint, saved_refs}
+use Rattle.stream_commands.specs.Checkpoints.{checkpoint, saved_refs}
 use Rattle.stream_state.specs.Printing.{shown_object}
-use Rattle.import_session.specs.Controls.{controlled, feature_set, head_set}
+use Rattle.stream_commands.specs.Controls.{controlled, feature_set, head_set}
 use Rattle.import_session.specs.Meaning.{after_act}
 use Rattle.git_paths.specs.Paths.{IsPath}
 use Rattle.file_maps.specs.FileMap.{Path}
@@ -75,9 +75,9 @@ use Rattle.open_commits.specs.Showing.{Shown, entry_shown}
 use Rattle.open_commits.proofs.FitCommits.{entry_fits}
 use Rattle.open_commits.proofs.GoodCommits.{entry_keeps}
 use Rattle.import_session.specs.Changes.{file_stored, files_changed}
-use Rattle.import_session.specs.Replies.{branch_entry_shown, entry_line, replied}
+use Rattle.stream_commands.specs.Replies.{branch_entry_shown, entry_line, replied}
 use Rattle.import_session.specs.Commits.{begun_from, closed_where, commit_merged, commit_opened, commit_said, commit_started, header_of, header_said, opened_with}
-use Rattle.import_session.specs.Printing.{prints}
+use Rattle.stream_commands.specs.Printing.{prints}
 use Rattle.session_laws.proofs.SoundChanges.{IsReady, LeavesOpen, begun_open, cleared_open, commit_merged_open, commit_started_open, command_grown, contents_open, copied_open, deleted_open, modified_open, renamed_open}
 use Rattle.import_session.specs.Sound.{IsCommitHeader, IsStreamBranch, IsOpen, IsPending, IsSound, IsSoundCommand, IsSoundRepository, IsTagHeader, IsTip}
 use Rattle.stream_state.specs.Showing.{entry_shown as stored_entry_shown}

@@ -17,9 +17,9 @@ use Rattle.stream_state.specs.declared.branches.Tip.{Tip}
 use Rattle.stream_state.specs.declared.branches.Tip.TheVariants.{Unborn, Deleted, At}
 use Rattle.stream_state.specs.Branches.{Branches}
 use Rattle.stream_state.specs.Tags.{PendingTags}
-use Rattle.import_session.specs.Workspace.{Workspace}
+use Rattle.stream_commands.specs.Workspace.{Workspace}
 use Rattle.stream_state.specs.Checkpoints.{by_head, by_tags, fit}
-use Rattle.import_session.specs.Checkpoints.{by_branches, moves, saved_by, saved_refs}
+use Rattle.stream_commands.specs.Checkpoints.{by_branches, moves, saved_by, saved_refs}
 use Rattle.import_session.specs.Sound.{IsStreamBranch, IsPending, IsSound, IsTip}
 
 -- ---- more objects

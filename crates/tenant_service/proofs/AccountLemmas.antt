@@ -1,5 +1,5 @@
 -- The accounts of all tenants, through a call of one.
-use Rattle.std.proofs.Common.{◌≡◌, ℕ, ◌+◌, ◌<◌, ◌≤◌, ◌^◌, Bool, true, false, cond, List, [], ◌∷◌, ◌++◌, length, take, None, Some, refl, sym, ap, subst, ◌∙◌, arith, append-nil}
+use Rattle.std.proofs.Common.{◌≡◌, ℕ, ◌+◌, ◌<◌, ◌≤◌, ◌^◌, Bool, true, false, cond, List, [], ◌∷◌, ◌++◌, length, take, Option, None, Some, refl, sym, ap, subst, ◌∙◌, arith, append-nil}
 use Rattle.std.specs.List.{AllByRecursion}
 use Rattle.std.specs.Map.{lookup, set_value}
 use Rattle.std.specs.Option.{option_map, unwrap_or}
@@ -7,19 +7,20 @@ use Rattle.std.specs.Str.{bytes_eq}
 use Rattle.std.proofs.lemmas.List.{map-append}
 use Rattle.std.proofs.lemmas.List.Sums.{sum_by-append, sum_by-cons}
 use Rattle.std.proofs.lemmas.Slice.Eq.{bytes_eq-Decides}
-use Rattle.git_model.specs.RefStore.{RefStore}
-use Rattle.git_model.specs.Repository.{Object}
+use Rattle.indexmap.specs.IndexMap.{insert_entry}
+use Rattle.git_model.specs.RefStore.{RefStore, no_refs}
+use Rattle.git_model.specs.Repository.{Object, Repository}
 use Rattle.content_pool.specs.Pool.{Cells, holds, IsVacant}
 use Rattle.tenant_refs.specs.TenantName.{is_tenant_name}
 use Rattle.tenant_tables.specs.View.{View, Entries, held}
 use Rattle.tenant_tables.specs.Objects.{objects}
 use Rattle.tenant_tables.specs.IsBackedBy.{PreservesOthers, AreCounted}
 use Rattle.tenant_tables.proofs.HoldLemmas.{held-nil}
-use Rattle.tenant_tables.proofs.TableLemmas.{PreservesOthers-refl, other_stands, other_objects, objects-take}
+use Rattle.tenant_tables.proofs.TableLemmas.{IsBackedBy-nil, PreservesOthers-refl, length-objects, other_stands, other_objects, objects-take}
 use Rattle.open_commits.specs.OpenCommit.{commit_in}
 use Rattle.revisions.specs.FirstParents.{IsFirstParentChain}
 use Rattle.stream_state.specs.StreamOf.{stream_with}
-use Rattle.import_session.specs.Session.{workspace_in}
+use Rattle.stream_commands.specs.State.{workspace_in}
 use Rattle.import_session.specs.Stream.{Runs, Refused}
 use Rattle.service_steps.specs.declared.answer.Answer.{Answer}
 use Rattle.tenant_service.specs.declared.tenant.OpenStream.{OpenStream}
@@ -204,6 +205,11 @@ found name (e ∷ es) old new h = by (bytes_eq name e.0) refl h (found name es o
               ∙ ap (λ (xs : Tenants). e ∷ xs) f.set;
         }
 
+-- what is put back where it was
+pub set-same : (name : List ℕ) (es : Tenants) (t : Tenant) → lookup (bytes_eq name) es ≡ Some t
+    → set_value (bytes_eq name) es t ≡ es
+set-same name es t got = let f = found name es t t got in f.set ∙ sym f.is
+
 -- ---- a call of a tenant that is there
 
 pub stands-found : (digest : List ℕ → List ℕ) (p : Cells) (name : List ℕ) (es : Tenants) (old : Tenant) → Accounts digest p es
@@ -213,27 +219,29 @@ stands-found digest p name es old h got =
     let all = subst (λ (xs : Tenants). AllByRecursion (λ e. Stands digest p e.1) xs) f.is h.stands in
     (all_parts _ f.front ((name, old) ∷ f.back) all).1.0
 
-pub serves-found : (digest : List ℕ → List ℕ) (name : List ℕ) (call : Call) (p q : Cells) (es : Tenants) (old new : Tenant) (answer : Answer) (out out' : List ℕ)
+-- One tenant has something else, and all others have what they had.
+pub record Exchanged (digest : List ℕ → List ℕ) (p : Cells) (es : Tenants) (name : List ℕ)
+    (t : Tenant) (q : Cells) (new : Tenants) : Type 0 where
+  pub accounts : Accounts digest q new
+  pub here : held_of name (holdings q new) ≡ holding_in q t
+  pub others : (other : List ℕ) → bytes_eq other name ≡ false
+      → held_of other (holdings q new) ≡ held_of other (holdings p es)
+
+exchanged : (digest : List ℕ → List ℕ) (name : List ℕ) (p q : Cells) (es : Tenants) (old new : Tenant)
     → Accounts digest p es → lookup (bytes_eq name) es ≡ Some old → Stands digest q new
     → PreservesOthers p old.table.entries q new.table.entries
-    → Takes (step_held digest call (stop_told answer) (holding_in p old)) answer out out' (holding_in q new)
-    → Serves digest name call (store p es) answer out out' (store q (set_value (bytes_eq name) es new))
-serves-found digest name call p q es old new answer out out' h got stands leaves takes =
+    → Exchanged digest p es name new q (set_value (bytes_eq name) es new)
+exchanged digest name p q es old new h got stands leaves =
     let f = found name es old new got in
     let accounts = subst (λ (xs : Tenants). Accounts digest p xs) f.is h in
     let c = changed digest p q f.front f.back name old new accounts stands leaves in
-    let before : held_of name (holdings p es) ≡ holding_in p old =
-    ap (λ o. unwrap_or o (Idle empty_repository)) (lookup-holdings p name es ∙ ap (option_map (holding_in p)) got) in
     let front_apart : lookup (bytes_eq name) (holdings p f.front) ≡ None = lookup-holdings p name f.front ∙ ap (option_map (holding_in p)) f.apart in
-    let after : held_of name (holdings q (set_value (bytes_eq name) es new)) ≡ holding_in q new =
-    ap (λ o. unwrap_or o (Idle empty_repository))
-    (ap (λ (xs : Tenants). lookup (bytes_eq name) (holdings q xs)) f.set ∙ ap (lookup (bytes_eq name)) c.shown
-    ∙ lookup-found name (holdings p f.front) (holdings p f.back) (holding_in q new) front_apart) in
     record {
       accounts = subst (λ (xs : Tenants). Accounts digest q xs) (sym f.set) c.accounts;
-      own =
-          subst (λ (x : TenantState). Takes (step_held digest call (stop_told answer) x) answer out out' (held_of name (holdings q (set_value (bytes_eq name) es new)))) (sym before)
-          (subst (λ (x : TenantState). Takes (step_held digest call (stop_told answer) (holding_in p old)) answer out out' x) (sym after) takes);
+      here =
+          ap (λ o. unwrap_or o (Idle empty_repository))
+          (ap (λ (xs : Tenants). lookup (bytes_eq name) (holdings q xs)) f.set ∙ ap (lookup (bytes_eq name)) c.shown
+          ∙ lookup-found name (holdings p f.front) (holdings p f.back) (holding_in q new) front_apart);
       others = λ other apart.
           ap (λ o. unwrap_or o (Idle empty_repository))
           (ap (λ (xs : Tenants). lookup (bytes_eq other) (holdings q xs)) f.set ∙ ap (lookup (bytes_eq other)) c.shown
@@ -241,6 +249,23 @@ serves-found digest name call p q es old new answer out out' h got stands leaves
           ∙ sym (lookup-past other name (holdings p f.front) (holdings p f.back) (holding_in p old) apart)
           ∙ ap (lookup (bytes_eq other)) (sym (map-append (λ (e : List ℕ × Tenant). (e.0, holding_in p e.1)) f.front ((name, old) ∷ f.back)))
           ∙ ap (λ (xs : Tenants). lookup (bytes_eq other) (holdings p xs)) (sym f.is));
+    }
+
+pub serves-found : (digest : List ℕ → List ℕ) (name : List ℕ) (call : Call) (p q : Cells) (es : Tenants) (old new : Tenant) (answer : Answer) (out out' : List ℕ)
+    → Accounts digest p es → lookup (bytes_eq name) es ≡ Some old → Stands digest q new
+    → PreservesOthers p old.table.entries q new.table.entries
+    → Takes (step_held digest call (stop_told answer) (holding_in p old)) answer out out' (holding_in q new)
+    → Serves digest name call (store p es) answer out out' (store q (set_value (bytes_eq name) es new))
+serves-found digest name call p q es old new answer out out' h got stands leaves takes =
+    let x = exchanged digest name p q es old new h got stands leaves in
+    let before : held_of name (holdings p es) ≡ holding_in p old =
+    ap (λ o. unwrap_or o (Idle empty_repository)) (lookup-holdings p name es ∙ ap (option_map (holding_in p)) got) in
+    record {
+      accounts = x.accounts;
+      own =
+          subst (λ (x : TenantState). Takes (step_held digest call (stop_told answer) x) answer out out' (held_of name (holdings q (set_value (bytes_eq name) es new)))) (sym before)
+          (subst (λ (x : TenantState). Takes (step_held digest call (stop_told answer) (holding_in p old)) answer out out' x) (sym x.here) takes);
+      others = x.others;
     }
 
 -- ---- room
@@ -293,6 +318,47 @@ serves-same digest name call p es held answer out out' h is takes = record {
   others = λ other apart. refl;
 }
 
+-- a tenant without anything
+nobody : Tenant
+nobody = record {
+  table = record { entries = []; committed = 0 };
+  refs = no_refs;
+  phase = phase.Closed;
+  chain = [];
+}
+
+-- another tenant comes to these
+added : (digest : List ℕ → List ℕ) (name : List ℕ) (p q : Cells) (es : Tenants) (t : Tenant)
+    → Accounts digest p es → is_tenant_name name ≡ true → lookup (bytes_eq name) es ≡ None
+    → Stands digest q t → PreservesOthers p [] q t.table.entries
+    → Exchanged digest p es name t q (es ++ (name, t) ∷ [])
+unfolding nobody
+added digest name p q es t h named none stands leaves =
+    let with : Accounts digest p (es ++ (name, nobody) ∷ []) = record {
+      names = all_whole _ es ((name, nobody) ∷ []) h.names (named, tt);
+      stands =
+          all_whole _ es ((name, nobody) ∷ []) h.stands
+          (record { entries = IsBackedBy-nil digest p; settled = refl; files = tt; chain = tt }, tt);
+      counts = λ s.
+          let a = held-among es [] name nobody s in
+          let z = held-nil s in
+          let c = h.counts s in
+          omega arith;
+    } in
+    let c = changed digest p q es [] name nobody t with stands leaves in
+    record {
+      accounts = c.accounts;
+      here =
+          ap (λ o. unwrap_or o (Idle empty_repository))
+          (ap (lookup (bytes_eq name)) c.shown
+          ∙ lookup-found name (holdings p es) [] (holding_in q t) (lookup-holdings p name es ∙ ap (option_map (holding_in p)) none));
+      others = λ other apart.
+          ap (λ o. unwrap_or o (Idle empty_repository))
+          (ap (lookup (bytes_eq other)) c.shown
+          ∙ lookup-past other name (holdings p es) [] (holding_in q t) apart
+          ∙ ap (lookup (bytes_eq other)) (append-nil (holdings p es)));
+    }
+
 -- one that adds it
 pub serves-new : (digest : List ℕ → List ℕ) (name : List ℕ) (call : Call) (p : Cells) (es new : Tenants) (t : Tenant) (answer : Answer) (out out' : List ℕ)
     → Accounts digest p es → is_tenant_name name ≡ true → lookup (bytes_eq name) es ≡ None → new ≡ es ++ (name, t) ∷ []
@@ -300,33 +366,94 @@ pub serves-new : (digest : List ℕ → List ℕ) (name : List ℕ) (call : Call
     → Takes (step_held digest call (stop_told answer) (Idle empty_repository)) answer out out' (holding_in p t)
     → Serves digest name call (store p es) answer out out' (store p new)
 serves-new digest name call p es new t answer out out' h named none same empty stands takes =
+    let x = added digest name p p es t h named none stands
+    (subst (λ (entries : Entries). PreservesOthers p [] p entries) (sym empty) (PreservesOthers-refl p [])) in
     subst (λ (xs : Tenants). Serves digest name call (store p es) answer out out' (store p xs)) (sym same)
     (record {
-      accounts = record {
-        names = all_whole _ es ((name, t) ∷ []) h.names (named, tt);
-        stands = all_whole _ es ((name, t) ∷ []) h.stands (stands, tt);
-        counts = λ s.
-            let a = held-among es [] name t s in
-            let z : held t.table.entries s ≡ 0 = ap (λ (entries : Entries). held entries s) empty ∙ held-nil s in
-            let c = h.counts s in
-            omega arith;
-      };
+      accounts = x.accounts;
       own =
           subst (λ (x : TenantState). Takes (step_held digest call (stop_told answer) x) answer out out' (held_of name (holdings p (es ++ (name, t) ∷ []))))
           (sym (held-missing p name es none))
-          (subst (λ (x : TenantState). Takes (step_held digest call (stop_told answer) (Idle empty_repository)) answer out out' x) (sym after) takes);
-      others = λ other apart.
-          ap (λ o. unwrap_or o (Idle empty_repository))
-          (ap (lookup (bytes_eq other)) (map-append (λ (e : List ℕ × Tenant). (e.0, holding_in p e.1)) es ((name, t) ∷ []))
-          ∙ lookup-past other name (holdings p es) [] (holding_in p t) apart
-          ∙ ap (lookup (bytes_eq other)) (append-nil (holdings p es)));
+          (subst (λ (x : TenantState). Takes (step_held digest call (stop_told answer) (Idle empty_repository)) answer out out' x) (sym x.here) takes);
+      others = x.others;
     })
+
+-- ---- a tenant is put under a name that has nothing
+
+-- without holds of its own nothing changes
+pub record Kept (digest : List ℕ → List ℕ) (p q : Cells) (es : Tenants) : Type 0 where
+  pub accounts : Accounts digest q es
+  pub shown : holdings q es ≡ holdings p es
+
+pub kept : (digest : List ℕ → List ℕ) (p q : Cells) (es : Tenants) → Accounts digest p es
+    → PreservesOthers p [] q [] → Kept digest p q es
+kept digest p q es h leaves =
+    let bound : (s : ℕ) → all_held es s + held [] s ≤ holds p s =
+    λ s. let c = h.counts s in let z = held-nil s in omega arith in
+    record {
+      accounts = record {
+        names = h.names;
+        stands = stands_beside digest p q [] [] leaves es bound h.stands;
+        counts = λ s. let c = h.counts s in let r = leaves.rest s in omega arith;
+      };
+      shown = holdings_beside p q [] [] leaves es bound;
+    }
+
+insert-found : (name : List ℕ) (es : Tenants) (old new : Tenant) → lookup (bytes_eq name) es ≡ Some old
+    → insert_entry bytes_eq es name new ≡ set_value (bytes_eq name) es new
+insert-found name [] old new h = cc h
+insert-found name (e ∷ es) old new h = by (bytes_eq name e.0) h (insert-found name es old new)
   where
-    after : held_of name (holdings p (es ++ (name, t) ∷ [])) ≡ holding_in p t
-    after =
-        ap (λ o. unwrap_or o (Idle empty_repository))
-        (ap (lookup (bytes_eq name)) (map-append (λ (e : List ℕ × Tenant). (e.0, holding_in p e.1)) es ((name, t) ∷ []))
-        ∙ lookup-found name (holdings p es) [] (holding_in p t) (lookup-holdings p name es ∙ ap (option_map (holding_in p)) none))
+    by : (b : Bool) → cond b (Some e.1) (lookup (bytes_eq name) es) ≡ Some old
+        → (lookup (bytes_eq name) es ≡ Some old → insert_entry bytes_eq es name new ≡ set_value (bytes_eq name) es new)
+        → cond b ((e.0, new) ∷ es) (e ∷ insert_entry bytes_eq es name new)
+        ≡ cond b ((e.0, new) ∷ es) (e ∷ set_value (bytes_eq name) es new)
+    by true got later = refl
+    by false got later = ap (λ (xs : Tenants). e ∷ xs) (later got)
+
+insert-missing : (name : List ℕ) (es : Tenants) (new : Tenant) → lookup (bytes_eq name) es ≡ None
+    → insert_entry bytes_eq es name new ≡ es ++ (name, new) ∷ []
+insert-missing name [] new h = refl
+insert-missing name (e ∷ es) new h = by (bytes_eq name e.0) h (insert-missing name es new)
+  where
+    by : (b : Bool) → cond b (Some e.1) (lookup (bytes_eq name) es) ≡ None
+        → (lookup (bytes_eq name) es ≡ None → insert_entry bytes_eq es name new ≡ es ++ (name, new) ∷ [])
+        → cond b ((e.0, new) ∷ es) (e ∷ insert_entry bytes_eq es name new) ≡ e ∷ (es ++ (name, new) ∷ [])
+    by true none later = cc none
+    by false none later = ap (λ (xs : Tenants). e ∷ xs) (later none)
+
+no-entries : (es : Entries) → length es ≡ 0 → es ≡ []
+no-entries [] none = refl
+no-entries (x ∷ es) none = absurd (omega (arith, none))
+
+nothing-in : (ph : OpenStream) (p : Cells) (t : View) (r : RefStore)
+    → held_in ph p t r ≡ Idle empty_repository → t.entries ≡ []
+nothing-in phase.Closed p t r h =
+    let is : record { objects = objects p t.entries; refs = r } ≡ empty_repository = cc h in
+    no-entries t.entries
+    (sym (length-objects p t.entries) ∙ ap (λ (x : Repository). length x.objects) is)
+nothing-in (phase.Running stream) p t r h = cc h
+nothing-in (phase.Dead code) p t r h = cc h
+
+pub put : (digest : List ℕ → List ℕ) (name : List ℕ) (p q : Cells) (es : Tenants) (t : Tenant)
+    → Accounts digest p es → is_tenant_name name ≡ true
+    → held_of name (holdings p es) ≡ Idle empty_repository → Stands digest q t
+    → PreservesOthers p [] q t.table.entries
+    → Exchanged digest p es name t q (insert_entry bytes_eq es name t)
+put digest name p q es t h named nothing stands leaves = by (lookup (bytes_eq name) es) refl
+  where
+    by : (o : Option Tenant) → lookup (bytes_eq name) es ≡ o
+        → Exchanged digest p es name t q (insert_entry bytes_eq es name t)
+    by None none =
+        subst (Exchanged digest p es name t q) (sym (insert-missing name es t none))
+        (added digest name p q es t h named none stands leaves)
+    by (Some old) got =
+        let before : held_of name (holdings p es) ≡ holding_in p old =
+        ap (λ o. unwrap_or o (Idle empty_repository)) (lookup-holdings p name es ∙ ap (option_map (holding_in p)) got) in
+        let empty = nothing-in old.phase p old.table old.refs (sym before ∙ nothing) in
+        subst (Exchanged digest p es name t q) (sym (insert-found name es old t got))
+        (exchanged digest name p q es old t h got stands
+        (subst (λ (entries : Entries). PreservesOthers p entries q t.table.entries) (sym empty) leaves))
 
 -- a call under a good name
 pub calls-good : (digest : List ℕ → List ℕ) (given name : List ℕ) (call : Call) (before : Store)

@@ -122,7 +122,7 @@ named-apart : (b : Bool) (given tenant to : List ℕ) → given ≡ to → bytes
 named-apart false given tenant to named apart = refl
 named-apart true given tenant to named apart = ap (λ (n : List ℕ). bytes_eq n tenant) named ∙ apart-back tenant to apart
 
-call-apart : (tenant to : List ℕ) (s : Step) → name_of s ≡ to → bytes_eq tenant to ≡ false → (call_of s ≡ Restart → ⊥) → concerns tenant s ≡ false
+pub call-apart : (tenant to : List ℕ) (s : Step) → name_of s ≡ to → bytes_eq tenant to ≡ false → (call_of s ≡ Restart → ⊥) → concerns tenant s ≡ false
 unfolding concerns
 call-apart tenant to (step.Open given) named apart other = named-apart (is_tenant_name given.now) given.now tenant to named apart
 call-apart tenant to (step.Feed given bytes) named apart other = named-apart (is_tenant_name given.now) given.now tenant to named apart

@@ -67,7 +67,7 @@ named-here : (given tenant : List ℕ) → given ≡ tenant → is_tenant_name t
 named-here given tenant named good =
     rw (named, good, (bytes_eq-Decides tenant tenant).1 refl) refl
 
-concerned : (tenant : List ℕ) (s : Step) → name_of s ≡ tenant → is_tenant_name tenant ≡ true
+pub concerned : (tenant : List ℕ) (s : Step) → name_of s ≡ tenant → is_tenant_name tenant ≡ true
     → concerns tenant s ≡ true
 unfolding concerns
 concerned tenant (step.Open given) named good = named-here given.now tenant named good
@@ -136,7 +136,7 @@ export-query : query_of (codes "export") ≡ Ok (what_is_asked.Repository Export
 unfolding query_of word_of
 export-query = refl
 
-export-answer : (repository : Repository) → is_exportable repository ≡ true
+pub export-answer : (repository : Repository) → is_exportable repository ≡ true
     → answer_to repository (codes "export") ≡ Ok (export_text repository)
 export-answer repository few = rw (export-query, few) refl
 

@@ -16,4 +16,6 @@ mod BackLemmas
 mod CopyLemmas
 pub mod ExportLemmas
 mod ExportRunLemmas
+mod CopyRuns
+mod PlaceLemmas
 mod StoredCopies

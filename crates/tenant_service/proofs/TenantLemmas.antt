@@ -10,7 +10,8 @@ use Rattle.tenant_tables.proofs.TableLemmas.{length-objects, objects-take}
 use Rattle.stream_lex.specs.Items.{Tail, Rest}
 use Rattle.stream_lex.specs.Running.{more_of, extended}
 use Rattle.stream_grammar.specs.Commands.{top}
-use Rattle.import_session.specs.Session.{empty_state, repository_in, workspace_in}
+use Rattle.stream_commands.specs.State.{empty_state, workspace_in}
+use Rattle.import_session.specs.Session.{repository_in}
 use Rattle.import_session.specs.Stream.{Running, Runs, Refused, Outcome, End, finished, running_end, last_checkpoint, ended_well as import_ended}
 use Rattle.answers.specs.declared.fault.Fault.{Fault as Refusal}
 use Rattle.answers.specs.declared.fault.Fault.TheVariants as refusal

@@ -3,7 +3,7 @@ use Rattle.std.specs.Prelude.{ℕ, zero, ◌+◌, false, nat_le, if◌then◌els
 use Rattle.git_model.specs.Repository.{Repository}
 use Rattle.stream_lex.specs.Items.{Item, Rest}
 use Rattle.stream_lex.specs.Reading.{reading}
-use Rattle.import_session.specs.Workspace.{opened}
+use Rattle.stream_commands.specs.Workspace.{opened}
 use Rattle.import_session.specs.Stream.{Running, StreamStatus, Runs, Refused, Outcome, begun, carried, last_checkpoint, finished}
 use Rattle.answers.specs.declared.fault.Fault.{Fault}
 use Rattle.answers.specs.Faults.{code_of}

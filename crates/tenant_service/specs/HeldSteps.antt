@@ -3,7 +3,7 @@
 use Rattle.std.specs.Prelude.{ℕ, false, List, [], Option, None, Some}
 use Rattle.stream_lex.specs.Items.{Tail, Rest}
 use Rattle.stream_lex.specs.Running.{more_of}
-use Rattle.import_session.specs.Workspace.{opened}
+use Rattle.stream_commands.specs.Workspace.{opened}
 use Rattle.import_session.specs.Stream.{Running, StreamStatus, Runs, Refused, Outcome, begun}
 use Rattle.tenant_stream.specs.Carrying.{outcome_after}
 use Rattle.service_steps.specs.declared.answer.Answer.{Answer}

@@ -13,7 +13,7 @@ use Rattle.tenant_tables.specs.Objects.{objects}
 use Rattle.tenant_tables.specs.IsBackedBy.{IsBackedBy}
 use Rattle.revisions.specs.FirstParents.{IsFirstParentChain}
 use Rattle.stream_lex.specs.Items.{Tail, Rest}
-use Rattle.import_session.specs.Held.{HoldsFiles}
+use Rattle.stream_commands.specs.Held.{HoldsFiles}
 use Rattle.import_session.specs.Session.{repository_in}
 use Rattle.import_session.specs.Stream.{StreamStatus, Runs, Refused}
 use Rattle.tenant_service.specs.declared.tenant.OpenStream.{OpenStream}

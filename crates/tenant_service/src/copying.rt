@@ -1,9 +1,10 @@
 //! Copies of a tenant's repository to an empty tenant, by the steps of a service.
 //!
 //! This module has the steps of a copy. What they leave is the law of exports, which
-//! `Service::copy_tenant` states.
+//! `Service::copy_tenant` states. By that law most copies are made by the places of the objects
+//! alone, without the steps, and leave the same.
 
-ghost use Rattle.std.specs.Prelude.{◌≡◌};
+ghost use Rattle.std.specs.Prelude.{◌≡◌, None};
 ghost use Rattle.content_pool.specs.Pool.{Cells};
 ghost use Rattle.import_session.specs.Session.{repository_in};
 ghost use Rattle.tenant_service.specs.Copying.{HasTaken, IsExport, IsImport};
@@ -101,10 +102,14 @@ fn import<N: Naming>(alloc: Global, service: &mut Service<N>, to: &[u8], text: &
     first_refusal(fed, ended)
 }
 
-/// Takes the steps of a copy: an Ask `export` of `from`, and then Open, one Feed of that text, and
-/// End of `to`. The answer is the first of theirs that is not Ok, else Ok. Their replies take
-/// memory from `alloc`.
-pub fn copy<N: Naming>(alloc: Global, service: &mut Service<N>, from: &[u8], to: &[u8]) -> Answer
+// Takes the steps of a copy: an Ask `export` of `from`, and then Open, one Feed of that text, and
+// End of `to`. The answer is the first of theirs that is not Ok, else Ok.
+fn copy_by_steps<N: Naming>(
+    alloc: Global,
+    service: &mut Service<N>,
+    from: &[u8],
+    to: &[u8],
+) -> Answer
     ensures { HasTaken N.digest_of service.old service.new
         (λ run. IsExport from.now to.now run result) }
 {
@@ -116,5 +121,20 @@ pub fn copy<N: Naming>(alloc: Global, service: &mut Service<N>, from: &[u8], to:
     match service.step(export, &mut text) {
         Answer::Ok => import(alloc, service, to, &text),
         refusal => refusal,
+    }
+}
+
+/// Copies a repository, as a run of the steps of a copy does: an Ask `export` of `from`, and then
+/// Open, one Feed of that text, and End of `to`. The answer is the first of theirs that is not Ok,
+/// else Ok. The steps are taken only if the objects cannot be copied by their places; their replies
+/// take memory from `alloc`.
+pub fn copy<N: Naming>(alloc: Global, service: &mut Service<N>, from: &[u8], to: &[u8]) -> Answer
+    requires { copy_refusal from.now to.now service.old ≡ None }
+    ensures { HasTaken N.digest_of service.old service.new
+        (λ run. IsExport from.now to.now run result) }
+{
+    match service.copy_by_places(from, to) {
+        Some(answer) => answer,
+        None => copy_by_steps(alloc, service, from, to),
     }
 }

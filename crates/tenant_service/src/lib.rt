@@ -5,6 +5,7 @@
 //! encoded as bytes.
 #![tactic(auto)]
 
+mod by_places;
 mod copying;
 pub mod laws;
 mod loading;

@@ -30,7 +30,7 @@ ghost use Rattle.std.specs.Str.{bytes_eq};
 ghost use Rattle.tenant_refs.specs.TenantName.{is_tenant_name};
 ghost use Rattle.tenant_service.specs.Alone.{added, Restart, State};
 ghost use Rattle.tenant_service.specs.Copies.{CopiesAs, StoresAs};
-ghost use Rattle.tenant_service.specs.Copying.{HasTaken, IsCopyRun, copy_refusal};
+ghost use Rattle.tenant_service.specs.Copying.{HasTaken, IsCopyRun, IsExport, copy_refusal};
 ghost use Rattle.tenant_service.specs.Headline.{IsIsolated, IsRefused, response_in, told_since, run_of};
 ghost use Rattle.tenant_service.specs.TenantState.{TenantStates, Represents, Idle, empty_repository, held_of};
 ghost use Rattle.tenant_service.specs.Soundness.{IsSoundTenantState};
@@ -40,6 +40,7 @@ ghost use Rattle.tenant_service.specs.Saved.{saved_of, IsLoadedFrom, LoadsAs, Lo
 ghost use Rattle.tenant_service.specs.Tenants.{CountsTenants, Shows};
 ghost use Rattle.tenant_tables.specs.IsBackedBy.{IsBackedBy};
 
+use crate::by_places::copy_by_places;
 use crate::copying::{copy, copy_refusal};
 use crate::loading::tenants_of;
 use crate::saving::lend_all;
@@ -274,10 +275,22 @@ impl<N: Naming> Service<N> {
         Ok(())
     }
 
+    // Copies a repository by the places of its objects, which leaves what the steps of a copy leave.
+    // `None` if the steps have to be taken; then nothing has changed.
+    pub(crate) fn copy_by_places(&mut self, from: &[u8], to: &[u8]) -> Option<Answer>
+        requires { copy_refusal from.now to.now self.old ≡ None }
+        ensures copied { IfSome result (λ answer. HasTaken N.digest_of self.old self.new
+            (λ run. IsExport from.now to.now run answer)) }
+        ensures same { IsNone result → self.new ≡ self.old }
+    {
+        copy_by_places(self.alloc, &mut self.pool, &mut self.tenants, from, to)
+    }
+
     /// Copies the repository of `from`, as it is at its last checkpoint, to the empty tenant `to`.
     /// This is for the operator. The steps are an Ask `export` of `from`, and then Open, one Feed
     /// of that text, and End of `to`. The answer is the first of theirs that is not Ok, else Ok.
-    /// For every tenant this is a run of these steps, as by `run` (`copied`).
+    /// For every tenant this is a run of these steps, as by `run` (`copied`). If the export carries
+    /// the repository, no export is made: `to` gets the objects by their places, and has the same.
     ///
     /// `Answer::Fault`, in this order: 32 if one of the names is bad; 31 if `to` has a stream, even
     /// a dead one; 33 if `to` has an object, a ref, or another HEAD than `refs/heads/main`. Next, a

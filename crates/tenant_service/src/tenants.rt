@@ -20,8 +20,8 @@ use service_steps::{Answer, ServiceFault, Step};
 use std::alloc::Global;
 use tenant_refs::TenantName;
 
-// A fact for proofs: no tenant holds a content twice, and there are fewer than 2^63 tenants.
-fn has_room<N: Naming>(pool: &Pool<N>, tenants: &IndexMap<TenantName, Tenant>)
+/// A fact for proofs: no tenant holds a content twice, and there are fewer than 2^63 tenants.
+pub fn has_room<N: Naming>(pool: &Pool<N>, tenants: &IndexMap<TenantName, Tenant>)
     requires { Accounts N.digest_of pool.now tenants.now.entries }
     ensures { HasAmpleHoldsLeft pool.now }
 {

@@ -9,8 +9,8 @@ use Rattle.stream_lex.specs.Lexer.{ended as lex_ended}
 use Rattle.stream_state.specs.declared.fault.Fault.{Fault}
 use Rattle.stream_state.specs.declared.fault.Fault.TheVariants as fault
 use Rattle.stream_state.specs.Faults.{code_of}
-use Rattle.import_session.specs.Workspace.{Workspace, Effect}
-use Rattle.import_session.specs.Session.{CarriesOut}
+use Rattle.stream_commands.specs.Workspace.{Workspace, Effect}
+use Rattle.stream_commands.specs.State.{CarriesOut}
 use Rattle.import_session.specs.Stream.{Running, Runs, End, ended_well, ended_by, end_left, running_end, finished, session_end, last_checkpoint}
 use Rattle.tenant_stream.specs.declared.stream_error.StreamError.TheVariants as stop
 use Rattle.tenant_stream.specs.Stopping.{stop_of}

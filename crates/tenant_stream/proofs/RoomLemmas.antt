@@ -7,7 +7,7 @@ use Rattle.tenant_tables.specs.View.{View, Entries}
 use Rattle.tenant_tables.specs.Objects.{objects}
 use Rattle.tenant_tables.proofs.RoomLemmas.{room-after}
 use Rattle.tenant_tables.proofs.TableLemmas.{length-objects}
-use Rattle.import_session.specs.Lent.{Keeps}
+use Rattle.stream_commands.specs.Lent.{Keeps}
 use Rattle.tenant_stream.specs.Carrying.{HasAmpleHoldsLeft, IsCommitted}
 
 -- what is held far less often than it can be leaves room beside any table

@@ -1,6 +1,6 @@
 -- Sound streams: what they leave.
 use Rattle.std.specs.Prelude.{ℕ, List, Result, Ok, Err}
-use Rattle.import_session.specs.Workspace.{Workspace}
+use Rattle.stream_commands.specs.Workspace.{Workspace}
 use Rattle.import_session.specs.Stream.{StreamStatus, Runs, Refused, last_checkpoint}
 use Rattle.import_session.specs.Sound.{IsSound, IsSoundRepository}
 use Rattle.tenant_stream.specs.declared.stream_error.StreamError.{StreamError}

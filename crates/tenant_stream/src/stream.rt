@@ -6,9 +6,9 @@
 
 ghost use Rattle.std.specs.Prelude.{◌≡◌, false, OnErr, OnOk};
 ghost use Rattle.tenant_tables.specs.IsBackedBy.{IsBackedBy};
-ghost use Rattle.import_session.specs.Lent.{Keeps};
+ghost use Rattle.stream_commands.specs.Lent.{Keeps};
 ghost use Rattle.import_session.specs.Session.{running_in, repository_in, last_in};
-ghost use Rattle.import_session.specs.Held.{FilesStand};
+ghost use Rattle.stream_commands.specs.Held.{FilesStand};
 ghost use Rattle.import_session.specs.Sound.{IsSound, IsSoundRepository};
 ghost use Rattle.tenant_stream.specs.Stopping.{unfed};
 ghost use Rattle.tenant_stream.specs.Carrying.{new_stream, stream_in, Carries, Feeds, EndsAs, HasAmpleHoldsLeft, IsCommitted};

@@ -21,6 +21,7 @@ pub mod Added
 pub mod Places
 pub mod Begun
 pub mod Summing
+pub mod Chunked
 pub mod StoredParts
 pub mod Along
 pub mod Counted

@@ -22,7 +22,7 @@ use Rattle.tree_build.proofs.Held.{same-held, spread-parts, are-parts, storable-
 abbrev pub Entries : Type 0
 Entries = List (List ℕ × Node)
 
-rows-append : (xs ys : Entries)
+pub rows-append : (xs ys : Entries)
     → entries_of_shape (shape_of (xs ++ ys)) ≡ entries_of_shape (shape_of xs) ++ entries_of_shape (shape_of ys)
 rows-append [] ys = refl
 rows-append (x ∷ xs) ys =

@@ -1,12 +1,14 @@
--- A sum of summaries within the limits has parts within them.
-use Rattle.std.proofs.Common.{◌≡◌, ℕ, suc, ◌<◌, List, ◌∷◌, length, map, drop, get_or, fold, sym, ap, ◌∙◌, subst, arith, drop-cons}
-use Rattle.git_objects.specs.declared.tree_entry.TreeEntry as declared
-use Rattle.git_objects.specs.Parts.{entry_of, entries_of}
+-- A sum of summaries within the limits has parts within them. Sums entry by entry, and chunk by chunk.
+use Rattle.std.proofs.Common.{◌≡◌, ℕ, suc, ◌+◌, ◌<◌, List, [], ◌∷◌, ◌++◌, length, drop, get_or, refl, sym, ap, ◌∙◌, subst, arith, drop-cons}
+use Rattle.std.specs.Global.{Vec}
 use Rattle.tenant_tables.specs.declared.summary.Summary.{Summary}
 use Rattle.tenant_tables.specs.View.{Entries}
 use Rattle.tenant_tables.specs.Trees.{both, entry_summary}
-use Rattle.file_maps.proofs.Sums.{sums, fold-sums}
-use Rattle.tree_build.specs.Sums.{IsSmall}
+use Rattle.tree_build.specs.Chunks.{all}
+use Rattle.tree_build.specs.Nodes.{held}
+use Rattle.tree_build.specs.Stores.{entry_of_what}
+use Rattle.tree_build.specs.Sums.{IsSmall, sum_with}
+use Rattle.tree_build.proofs.Spots.{Row, Chunks}
 
 pub first-small : (a b : Summary) → IsSmall (both a b) → IsSmall a
 first-small a b h =
@@ -18,31 +20,50 @@ second-small a b h =
     let f = h.files in let d = h.depth in let l = h.longest in
     record { files = omega arith; depth = omega arith; longest = omega arith }
 
--- what is added so far
-sum-small : (sum x : Summary) (rest : List Summary) (total : Summary)
-    → fold both sum (x ∷ rest) ≡ total → IsSmall total → IsSmall (both sum x)
-sum-small sum x rest total is h =
-    first-small (both sum x) (sums rest)
-    (subst IsSmall (sym is ∙ fold-sums (both sum x) rest) h)
+abbrev pub row_sum : Entries → Row → Summary
+row_sum table e = entry_summary table (entry_of_what e.0 (held e.1).what)
+
+before-small : (table : Entries) (sum : Summary) (es : List Row) → IsSmall (sum_with table sum es) → IsSmall sum
+before-small table sum [] h = h
+before-small table sum (e ∷ es) h =
+    first-small sum (row_sum table e) (before-small table (both sum (row_sum table e)) es h)
+
+sum-append : (table : Entries) (sum : Summary) (xs ys : List Row)
+    → sum_with table sum (xs ++ ys) ≡ sum_with table (sum_with table sum xs) ys
+sum-append table sum [] ys = refl
+sum-append table sum (x ∷ xs) ys = sum-append table (both sum (row_sum table x)) xs ys
 
 -- one more of the entries that are left
-next-left : (table : Entries) (rows : List declared.TreeEntry) (i : ℕ) (x : declared.TreeEntry)
-    (sum total : Summary)
-    → i < length rows → x ≡ get_or rows i x
-    → fold both sum (map (entry_summary table) (entries_of (drop i rows))) ≡ total
-    → fold both sum (entry_summary table (entry_of x) ∷ map (entry_summary table) (entries_of (drop (suc i) rows))) ≡ total
-next-left table rows i x sum total lt at is =
-    ap (λ (l : List declared.TreeEntry). fold both sum (map (entry_summary table) (entries_of l)))
-    (sym (drop-cons rows i x lt ∙ ap (λ (y : declared.TreeEntry). y ∷ drop (suc i) rows) (sym at)))
+pub next-sum : (table : Entries) (es : List Row) (i : ℕ) (x : Row) (sum total : Summary)
+    → i < length es → x ≡ get_or es i x → sum_with table sum (drop i es) ≡ total
+    → sum_with table (both sum (row_sum table x)) (drop (suc i) es) ≡ total
+next-sum table es i x sum total lt at is =
+    ap (sum_with table sum)
+    (sym (drop-cons es i x lt ∙ ap (λ (y : Row). y ∷ drop (suc i) es) (sym at)))
     ∙ is
 
--- the sum with the next entry
-pub next-small : (table : Entries) (rows : List declared.TreeEntry) (i : ℕ) (x : declared.TreeEntry)
-    (sum total : Summary)
-    → i < length rows → x ≡ get_or rows i x
-    → fold both sum (map (entry_summary table) (entries_of (drop i rows))) ≡ total → IsSmall total
-    → IsSmall (both sum (entry_summary table (entry_of x)))
-next-small table rows i x sum total lt at is h =
-    sum-small sum (entry_summary table (entry_of x))
-    (map (entry_summary table) (entries_of (drop (suc i) rows))) total
-    (next-left table rows i x sum total lt at is) h
+pub next-small : (table : Entries) (es : List Row) (i : ℕ) (x : Row) (sum total : Summary)
+    → i < length es → x ≡ get_or es i x → sum_with table sum (drop i es) ≡ total → IsSmall total
+    → IsSmall (both sum (row_sum table x))
+next-small table es i x sum total lt at is h =
+    before-small table (both sum (row_sum table x)) (drop (suc i) es)
+    (subst IsSmall (sym (next-sum table es i x sum total lt at is)) h)
+
+-- one more of the chunks that are left
+pub chunk-sum : (table : Entries) (vs : Chunks) (i : ℕ) (v : Vec Row) (sum total : Summary)
+    → i < length vs → v ≡ get_or vs i v → sum_with table sum (all (drop i vs)) ≡ total
+    → sum_with table (sum_with table sum v.items) (all (drop (i + 1) vs)) ≡ total
+chunk-sum table vs i v sum total lt at is =
+    let one : i + 1 ≡ suc i = omega arith in
+    ap (λ (k : ℕ). sum_with table (sum_with table sum v.items) (all (drop k vs))) one
+    ∙ sym (sum-append table sum v.items (all (drop (suc i) vs)))
+    ∙ ap (λ (l : Chunks). sum_with table sum (all l))
+    (sym (drop-cons vs i v lt ∙ ap (λ (y : Vec Row). y ∷ drop (suc i) vs) (sym at)))
+    ∙ is
+
+pub chunk-small : (table : Entries) (vs : Chunks) (i : ℕ) (v : Vec Row) (sum total : Summary)
+    → i < length vs → v ≡ get_or vs i v → sum_with table sum (all (drop i vs)) ≡ total → IsSmall total
+    → IsSmall (sum_with table sum v.items)
+chunk-small table vs i v sum total lt at is h =
+    before-small table (sum_with table sum v.items) (all (drop (i + 1) vs))
+    (subst IsSmall (sym (chunk-sum table vs i v sum total lt at is)) h)

@@ -178,6 +178,13 @@ impl Entries {
         Ok(Entries { len, chunks })
     }
 
+    /// The chunks, in their order.
+    pub(crate) fn chunks(&self) -> &[Vec<(Component, Node)>]
+        ensures { all result.now ≡ self.now.items }
+    {
+        &self.chunks
+    }
+
     /// How many there are.
     pub(crate) fn len(&self) -> usize
         ensures { result ≡ length self.now.items }

@@ -25,5 +25,6 @@ mod stores;
 mod storing;
 mod sums;
 mod within;
+mod writing;
 
 pub use files::Files;

@@ -1,17 +1,17 @@
 //! Storing the trees of opened directories, children first.
 
-ghost use Rattle.std.specs.Prelude.{◌≡◌, ◌≢◌, ◌<◌, ◌≤◌, ◌+◌, length, [], ◌∷◌, None, Some, IfOk, OnOk, get_or, fold, map, take};
+ghost use Rattle.std.specs.Prelude.{◌≡◌, ◌≢◌, ◌<◌, ◌≤◌, ◌+◌, List, length, [], ◌∷◌, None, Some, IfOk, OnOk, get_or, fold, map, take};
 ghost use Rattle.git_model.specs.declared.file_mode.FileMode.TheVariants as mode;
-ghost use Rattle.git_model.specs.ObjectName.{IsObjectName};
-ghost use Rattle.git_objects.specs.Parts.{entry_of, entries_of};
-ghost use Rattle.std.specs.List.{AllByRecursion};
+ghost use Rattle.git_model.specs.Tree.{TreeEntry as ListedEntry, tree_contents};
+ghost use Rattle.git_objects.specs.Parts.{entry_of};
 ghost use Rattle.tenant_tables.specs.Objects.{objects};
 ghost use Rattle.tenant_tables.specs.IsBackedBy.{IsBackedBy};
+ghost use Rattle.tenant_tables.specs.Trees.{FitsTree};
 ghost use Rattle.file_maps.specs.Trees.{nested_trees, tree_id, tree_name, file_of, unless_file};
 ghost use Rattle.file_maps.specs.Storable.{AreStorable};
 ghost use Rattle.file_maps.specs.StoredFiles.{stored_files};
 ghost use Rattle.file_maps.specs.StoredTree.{ListsTree};
-ghost use Rattle.file_maps.specs.Storing.{StoresTrees, HasHoldsLeftBeside};
+ghost use Rattle.file_maps.specs.Storing.{StoresTrees, HasHoldsLeftBeside, as_fault};
 ghost use Rattle.tree_build.specs.Shape.{opened, shape_files, held_files};
 ghost use Rattle.tree_build.specs.Branch.{IsShape, IsHeld};
 ghost use Rattle.tree_build.specs.Nodes.{held, shape_of};
@@ -21,11 +21,12 @@ use crate::component::Component;
 use crate::dir::{Dir, Entries, Node};
 use crate::matching::{earlier_of, tree_again};
 use crate::sums::summary_of;
+use crate::writing::contents_of;
 use content_pool::Pool;
-use file_maps::{Fault, add_entries};
-use git_objects::{FileMode, Memory, Name, Naming, TreeEntry, has_twenty_bytes};
+use file_maps::Fault;
+use git_objects::{FileMode, Name, Naming, TreeEntry};
 use std::alloc::Global;
-use tenant_tables::Table;
+use tenant_tables::{Fault as TableFault, Summary, Table};
 
 /// Stores the trees of an opened directory that are not stored yet, and answers the name of its own
 /// tree. Where an earlier directory has the same tree, that is kept.
@@ -211,9 +212,40 @@ fn write_tree<N: Naming>(
         (shape_files (stored_files (objects pool.old table.old.entries))
         (shape_of entries.now.items))) }
 {
-    let rows = rows_of(alloc, entries)?;
-    let summary = summary_of(table, &rows);
-    add_entries(alloc, pool, table, &rows, summary)
+    let chunks = entries.chunks();
+    let contents = contents_of(alloc, chunks)?;
+    let summary = summary_of(table, chunks);
+    add_contents(pool, table, contents, summary)
+}
+
+// Adds the tree with these contents and this summary.
+fn add_contents<N: Naming>(
+    pool: &mut Pool<N>,
+    table: &mut Table,
+    contents: Vec<u8>,
+    summary: Summary,
+) -> Result<Name, Fault>
+    requires stands { IsBackedBy N.digest_of pool.old table.old.entries }
+    requires room { HasHoldsLeftBeside pool.old table.old.entries }
+    requires fits { FitsTree table.old.entries contents.items summary }
+    ensures { (es : List ListedEntry) → contents.items ≡ tree_contents es
+        → StoresTrees result N.digest_of pool.old table.old pool.new table.new
+        (es ∷ []) (tree_name N.digest_of es) }
+{
+    match table.add_tree_owned(pool, contents, summary) {
+        Ok(id) => Ok(id),
+        Err(refusal) => Err(as_fault(refusal)),
+    }
+}
+
+fn as_fault(refusal: TableFault) -> Fault
+    ensures { result ≡ as_fault refusal }
+{
+    match refusal {
+        TableFault::Limit => Fault::Limit,
+        TableFault::NameCollision => Fault::NameCollision,
+        TableFault::Memory => Fault::Memory,
+    }
 }
 
 /// An entry as a tree lists it.
@@ -241,24 +273,4 @@ fn directory<'a>(name: &'a [u8], id: Name) -> TreeEntry<'a>
         name,
         id,
     }
-}
-
-// The entries of a directory as its tree lists them.
-fn rows_of<'a>(alloc: Global, entries: &'a Entries) -> Result<Vec<TreeEntry<'a>>, Memory>
-    requires { AreNamed (shape_of entries.now.items) }
-    ensures rows { IfOk result (λ rows. entries_of rows.items ≡ entries_of_shape
-        (shape_of entries.now.items)) }
-    ensures ids { IfOk result (λ rows. AllByRecursion (λ e. IsObjectName e.id)
-        (entries_of rows.items)) }
-{
-    let mut rows = Vec::with_capacity(alloc, entries.len())?;
-    for place in 0..entries.len() {
-        let entry = entries.at(place);
-        let row = row_of(entry);
-        has_twenty_bytes(&row.id);
-        if rows.push(row).is_err() {
-            return Err(Memory);
-        }
-    }
-    Ok(rows)
 }

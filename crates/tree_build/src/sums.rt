@@ -1,10 +1,16 @@
 //! The summary of a tree, from those of the directories in it.
 
 ghost use Rattle.std.specs.Prelude.{◌≡◌, ◌≤◌, ◌+◌};
-ghost use Rattle.git_objects.specs.Parts.{entry_of, entries_of};
+ghost use Rattle.git_objects.specs.Parts.{entry_of};
 ghost use Rattle.tenant_tables.specs.Trees.{no_files, below, one_file, both, entry_summary, tree_summary};
-ghost use Rattle.tree_build.specs.Sums.{IsSmall};
+ghost use Rattle.tree_build.specs.Chunks.{all};
+ghost use Rattle.tree_build.specs.Nodes.{shape_of};
+ghost use Rattle.tree_build.specs.Stores.{AreNamed, entries_of_shape};
+ghost use Rattle.tree_build.specs.Sums.{IsSmall, sum_with};
 
+use crate::component::Component;
+use crate::dir::Node;
+use crate::storing::row_of;
 use git_objects::{FileMode, TreeEntry};
 use tenant_tables::{Summary, Table};
 
@@ -68,14 +74,31 @@ fn row_summary(table: &Table, row: &TreeEntry<'_>) -> Summary
     }
 }
 
-/// The summary of the tree with these entries. The trees of its directories are in the table.
-pub(crate) fn summary_of(table: &Table, rows: &[TreeEntry<'_>]) -> Summary
-    requires { IsSmall (tree_summary table.now.entries (entries_of rows.now)) }
-    ensures { result ≡ tree_summary table.now.entries (entries_of rows.now) }
+// The sum of the summaries before a chunk and of those of its entries.
+fn sum_with(table: &Table, before: Summary, chunk: &[(Component, Node)]) -> Summary
+    requires named { AreNamed (shape_of chunk.now) }
+    requires small { IsSmall (sum_with table.now.entries before chunk.now) }
+    ensures { result ≡ sum_with table.now.entries before chunk.now }
+{
+    let mut sum = before;
+    for entry in chunk {
+        sum = both(sum, row_summary(table, &row_of(entry)));
+    }
+    sum
+}
+
+/// The summary of the tree that has the entries of all chunks. The trees of its directories are in
+/// the table.
+pub(crate) fn summary_of(table: &Table, chunks: &[Vec<(Component, Node)>]) -> Summary
+    requires named { AreNamed (shape_of (all chunks.now)) }
+    requires small { IsSmall (tree_summary table.now.entries
+        (entries_of_shape (shape_of (all chunks.now)))) }
+    ensures { result ≡ tree_summary table.now.entries
+        (entries_of_shape (shape_of (all chunks.now))) }
 {
     let mut sum = no_files();
-    for row in rows {
-        sum = both(sum, row_summary(table, row));
+    for chunk in chunks {
+        sum = sum_with(table, sum, chunk);
     }
     sum
 }

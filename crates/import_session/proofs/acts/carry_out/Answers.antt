@@ -3,8 +3,8 @@ use Rattle.std.proofs.lemmas.Result.{on_err_weaker}
 use Rattle.tenant_tables.specs.Objects.{objects}
 use Rattle.tenant_tables.proofs.RoomLemmas.{has_room}
 use Rattle.import_session.specs.Meaning.{after_act}
-use Rattle.import_session.specs.Session.{state_shown}
-use Rattle.import_session.proofs.HeldLemmas.{still_held}
+use Rattle.stream_commands.specs.State.{state_shown}
+use Rattle.stream_commands.proofs.HeldLemmas.{still_held}
 use Rattle.import_session.proofs.LastLemmas.{in_any_case, unchanged_committed}
 use Rattle.import_session.proofs.acts.carry_out.Goals as goal
 

@@ -2,7 +2,7 @@ use Rattle.std.proofs.Common.{ap}
 use Rattle.std.proofs.lemmas.Result.{err_from_is_err_and}
 use Rattle.open_commits.specs.OpenCommit.{commit_held}
 use Rattle.import_session.specs.Changes.{files_changed}
-use Rattle.import_session.specs.Session.{command_shown, state_shown}
+use Rattle.stream_commands.specs.State.{command_shown, state_shown}
 use Rattle.import_session.proofs.CommitLemmas.{file_waits, not_changing}
 use Rattle.import_session.proofs.changes.await_contents.Goals as goal
 

@@ -1,8 +1,8 @@
 use Rattle.tenant_tables.specs.Objects.{objects}
 use Rattle.open_commits.specs.OpenCommit.{commit_held}
-use Rattle.import_session.specs.Session.{state_shown}
-use Rattle.import_session.proofs.CommittedLemmas.{committed_stay}
-use Rattle.import_session.proofs.HeldLemmas.{kept_stand, open_again}
+use Rattle.stream_commands.specs.State.{state_shown}
+use Rattle.stream_commands.proofs.CommittedLemmas.{committed_stay}
+use Rattle.stream_commands.proofs.HeldLemmas.{kept_stand, open_again}
 use Rattle.import_session.proofs.changes.put_contents.Goals as goal
 
 pub returns-clause-committed : goal.returns-clause-committed

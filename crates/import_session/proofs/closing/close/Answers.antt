@@ -3,9 +3,9 @@ use Rattle.std.specs.Prelude.{MatchResult}
 use Rattle.tenant_tables.specs.Objects.{objects}
 use Rattle.stream_state.specs.declared.fault.Fault.{Fault}
 use Rattle.stream_state.specs.declared.fault.Fault.TheVariants as fault
-use Rattle.import_session.specs.Workspace.{Workspace}
+use Rattle.stream_commands.specs.Workspace.{Workspace}
 use Rattle.import_session.specs.Session.{Leaves}
-use Rattle.import_session.proofs.HeldLemmas.{where_ok}
+use Rattle.stream_commands.proofs.HeldLemmas.{where_ok}
 use Rattle.import_session.proofs.closing.close.Goals as goal
 
 -- what the end of a commit leaves is left where its files are kept

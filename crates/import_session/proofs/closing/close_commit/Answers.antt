@@ -1,5 +1,5 @@
 use Rattle.std.proofs.Common.{rules}
-use Rattle.import_session.proofs.CommittedLemmas.{committed_stay}
+use Rattle.stream_commands.proofs.CommittedLemmas.{committed_stay}
 use Rattle.import_session.proofs.closing.close_commit.Goals as goal
 
 pub returns-clause-done : goal.returns-clause-done

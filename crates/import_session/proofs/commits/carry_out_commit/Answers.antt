@@ -1,6 +1,6 @@
 use Rattle.tenant_tables.specs.Objects.{objects}
-use Rattle.import_session.specs.Session.{state_shown}
-use Rattle.import_session.proofs.HeldLemmas.{still_held}
+use Rattle.stream_commands.specs.State.{state_shown}
+use Rattle.stream_commands.proofs.HeldLemmas.{still_held}
 use Rattle.import_session.proofs.commits.carry_out_commit.Goals as goal
 
 pub returns-in-Begin-clause-done : goal.returns-in-Begin-clause-done

@@ -2,8 +2,8 @@ use Rattle.std.proofs.lemmas.Result.{err_from_is_err_and}
 use Rattle.stream_grammar.specs.Shown.{commit_shown as said_shown}
 use Rattle.open_commits.specs.OpenCommit.{shown_in}
 use Rattle.open_commits.specs.Parents.{merged}
-use Rattle.import_session.specs.CommitIshes.{commit_in}
-use Rattle.import_session.specs.Session.{state_shown, workspace_in}
+use Rattle.stream_commands.specs.CommitIshes.{commit_in}
+use Rattle.stream_commands.specs.State.{state_shown, workspace_in}
 use Rattle.import_session.proofs.CommitLemmas.{changed_then, named_refused}
 use Rattle.import_session.proofs.commits.merge.Goals as goal
 

@@ -3,8 +3,8 @@ use Rattle.stream_grammar.specs.Shown.{commit_shown as said_shown}
 use Rattle.open_commits.specs.OpenCommit.{shown_in, IsCommitHeld}
 use Rattle.open_commits.specs.Parents.{started_from}
 use Rattle.tenant_tables.specs.Objects.{objects}
-use Rattle.import_session.specs.CommitIshes.{start_in}
-use Rattle.import_session.specs.Session.{state_shown, workspace_in}
+use Rattle.stream_commands.specs.CommitIshes.{start_in}
+use Rattle.stream_commands.specs.State.{state_shown, workspace_in}
 use Rattle.import_session.proofs.CommitLemmas.{changed_then, held_left, named_refused}
 use Rattle.import_session.proofs.SoundCommits.{IsCommitOf, start_good}
 use Rattle.import_session.proofs.commits.start_from.Goals as goal

@@ -2,7 +2,7 @@ use Rattle.std.proofs.Common.{ap}
 use Rattle.std.proofs.lemmas.Result.{err_from_is_err_and}
 use Rattle.stream_grammar.specs.Shown.{commit_shown}
 use Rattle.import_session.specs.Commits.{commit_started, commit_said}
-use Rattle.import_session.specs.Session.{command_shown, state_shown, workspace_in}
+use Rattle.stream_commands.specs.State.{command_shown, state_shown, workspace_in}
 use Rattle.import_session.proofs.CommitLemmas.{not_changing, put_back}
 use Rattle.import_session.proofs.commits.start_open.Goals as goal
 

@@ -3,10 +3,10 @@ use Rattle.std.proofs.lemmas.Result.{err_from_is_err_and}
 use Rattle.tenant_tables.specs.Objects.{objects}
 use Rattle.open_commits.specs.OpenCommit.{commit_held, commit_in, header_shown}
 use Rattle.stream_state.specs.OpenCommand.{command_with}
-use Rattle.import_session.specs.declared.open_command.OpenCommand.{OpenCommand as LentCommand}
-use Rattle.import_session.specs.Session.{StreamState, command_shown, state_shown, workspace_in, CarriesOut}
+use Rattle.stream_commands.specs.declared.open_command.OpenCommand.{OpenCommand as LentCommand}
+use Rattle.stream_commands.specs.State.{StreamState, command_shown, state_shown, workspace_in, CarriesOut}
 use Rattle.import_session.specs.Commits.{commit_opened, commit_said}
-use Rattle.import_session.specs.Held.{HoldsFiles}
+use Rattle.stream_commands.specs.Held.{HoldsFiles}
 use Rattle.import_session.proofs.CommitLemmas.{opened_refused, opened_well, without_command}
 use Rattle.import_session.proofs.opening.open_commit.Goals as goal
 

@@ -3,9 +3,9 @@ use Rattle.open_commits.specs.OpenCommit.{begun, header_shown}
 use Rattle.tenant_tables.specs.Objects.{objects}
 use Rattle.stream_state.specs.Branches.{Branches, branch_set, tip_commit, tip_for}
 use Rattle.import_session.specs.Commits.{IsTipCommit}
-use Rattle.import_session.specs.Session.{StreamState, state_shown, workspace_in}
+use Rattle.stream_commands.specs.State.{StreamState, state_shown, workspace_in}
 use Rattle.import_session.proofs.CommitLemmas.{opened_by}
-use Rattle.import_session.proofs.HeldLemmas.{where_ok}
+use Rattle.stream_commands.proofs.HeldLemmas.{where_ok}
 use Rattle.import_session.proofs.SoundCommits.{tip_commit_is}
 use Rattle.import_session.proofs.opening.open_with.Goals as goal
 

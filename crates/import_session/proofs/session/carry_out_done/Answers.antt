@@ -3,8 +3,8 @@ use Rattle.std.proofs.lemmas.Result.{err_from_is_err_and}
 use Rattle.stream_grammar.specs.Shown.{act_shown}
 use Rattle.import_session.specs.Commits.{closed_where}
 use Rattle.import_session.specs.Meaning.{after_act}
-use Rattle.import_session.specs.Session.{state_shown, workspace_in}
-use Rattle.import_session.proofs.ActLemmas.{first_refused, first_then}
+use Rattle.stream_commands.specs.State.{state_shown, workspace_in}
+use Rattle.stream_commands.proofs.ActLemmas.{first_refused, first_then}
 use Rattle.import_session.proofs.LastLemmas.{in_any_case, last_kept}
 use Rattle.import_session.proofs.LentLemmas.{Keeps-then}
 use Rattle.import_session.proofs.SoundEnds.{ended_sound}

@@ -1,9 +1,9 @@
 use Rattle.std.proofs.Common.{◌≡◌, refl, Ok}
 use Rattle.std.proofs.lemmas.Result.{err_from_is_err_and, on_err_weaker}
-use Rattle.import_session.specs.Checkpoints.{checkpoint}
+use Rattle.stream_commands.specs.Checkpoints.{checkpoint}
 use Rattle.import_session.specs.Commits.{closed_where}
-use Rattle.import_session.specs.Session.{state_shown, workspace_in}
-use Rattle.import_session.proofs.ActLemmas.{first_refused, first_then}
+use Rattle.stream_commands.specs.State.{state_shown, workspace_in}
+use Rattle.stream_commands.proofs.ActLemmas.{first_refused, first_then}
 use Rattle.import_session.proofs.LastLemmas.{in_any_case, last_kept, same_entries, unchanged_committed}
 use Rattle.import_session.proofs.SoundEnds.{ended_sound}
 use Rattle.import_session.proofs.session.save_at_end.Goals as goal

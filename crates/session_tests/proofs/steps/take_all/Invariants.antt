@@ -2,7 +2,7 @@ use Rattle.std.proofs.Common.{◌≡◌, ℕ}
 use Rattle.content_pool.specs.Pool.{holds}
 use Rattle.tenant_tables.specs.View.{held}
 use Rattle.tenant_tables.specs.IsBackedBy.{IsBackedBy}
-use Rattle.import_session.specs.Held.{FilesStand}
+use Rattle.stream_commands.specs.Held.{FilesStand}
 use Rattle.session_tests.proofs.steps.take_all.Given as goal
 
 -- the table stands in the pool, and nothing else does; among its objects what the session holds

@@ -1,8 +1,8 @@
 use Rattle.std.proofs.Common.{◌≡◌, List, [], length}
 use Rattle.stream_lex.specs.Items.{Item}
 use Rattle.stream_lex.specs.Running.{more_of}
-use Rattle.import_session.specs.Held.{FilesStand}
-use Rattle.import_session.specs.Lent.{Keeps}
+use Rattle.stream_commands.specs.Held.{FilesStand}
+use Rattle.stream_commands.specs.Lent.{Keeps}
 use Rattle.import_session.specs.Session.{running_in}
 use Rattle.import_session.specs.Sound.{IsSound}
 use Rattle.tenant_stream.specs.Carrying.{ReadsOn}

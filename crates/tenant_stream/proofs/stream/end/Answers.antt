@@ -1,5 +1,6 @@
 use Rattle.std.proofs.Common.{sym, ◌∙◌}
-use Rattle.import_session.specs.Session.{running_in, workspace_in}
+use Rattle.stream_commands.specs.State.{workspace_in}
+use Rattle.import_session.specs.Session.{running_in}
 use Rattle.tenant_stream.proofs.EndLemmas.{ends_done, ends_cut, ends_well, ends_refused}
 use Rattle.tenant_stream.proofs.RoomLemmas.{room_beside}
 use Rattle.tenant_stream.proofs.stream.end.Goals as goal

@@ -1,40 +1,35 @@
-use Rattle.std.proofs.Common.{List, [], ◌∷◌, sym, ap, ◌∙◌, subst}
-use Rattle.git_objects.specs.declared.tree_entry.TreeEntry as declared
-use Rattle.git_objects.specs.Parts.{entries_of}
-use Rattle.git_model.specs.Tree.{TreeEntry, tree_contents}
-use Rattle.file_maps.specs.Trees.{tree_name}
-use Rattle.file_maps.specs.Storing.{StoresTrees}
-use Rattle.tenant_tables.specs.Trees.{tree_summary, FitsTree}
+use Rattle.std.proofs.Common.{ℕ, List, sym, ap, ◌∙◌, subst}
+use Rattle.git_model.specs.Tree.{tree_contents}
+use Rattle.tenant_tables.specs.Trees.{FitsTree}
+use Rattle.tree_build.specs.Chunks.{all}
 use Rattle.tree_build.specs.Nodes.{shape_of}
-use Rattle.tree_build.specs.Sums.{IsSmall}
+use Rattle.tree_build.specs.Stores.{entries_of_shape}
+use Rattle.tree_build.proofs.Spots.{Row}
 use Rattle.tree_build.proofs.Added.{rows-small, rows-fit, rows-list}
 use Rattle.tree_build.proofs.storing.write_tree.Goals as goal
 
-pub summary_of-summary-requires : goal.summary_of-summary-requires
-summary_of-summary-requires g c =
-    subst (λ (l : List declared.TreeEntry). IsSmall (tree_summary c.args.table.now.entries (entries_of l)))
-    (sym c.deref.ensures.value)
-    (rows-small g.N.Naming.digest_of c.args.pool.now c.args.table.now c.requires.stands
+pub summary_of-summary-requires-clause-small : goal.summary_of-summary-requires-clause-small
+summary_of-summary-requires-clause-small g c =
+    rows-small g.N.Naming.digest_of c.args.pool.now c.args.table.now c.requires.stands
     (shape_of c.args.entries.now.items) c.requires.sound c.requires.named c.requires.storable
-    (entries_of c.in_ok-rows.rows.items) c.in_ok-rows.ensures.rows c.in_ok-rows.ensures.ids)
+    (entries_of_shape (shape_of (all c.chunks-chunks.result.now)))
+    (ap (λ (l : List Row). entries_of_shape (shape_of l)) c.chunks-chunks.ensures) c.in_ok-contents.ensures.ids
 
-pub add_entries-requires-clause-fits : goal.add_entries-requires-clause-fits
-add_entries-requires-clause-fits g c =
-    subst (λ (l : List declared.TreeEntry). FitsTree c.args.table.now.entries (tree_contents (entries_of l)) c.summary_of-summary.result)
-    (sym c.deref-2.ensures.value)
+pub add_contents-requires-clause-fits : goal.add_contents-requires-clause-fits
+add_contents-requires-clause-fits g c =
+    subst (λ (b : List ℕ). FitsTree c.args.table.now.entries b c.summary_of-summary.result) (sym c.in_ok-contents.ensures.contents)
     (rows-fit g.N.Naming.digest_of c.args.pool.now c.args.table.now c.requires.stands
     (shape_of c.args.entries.now.items) c.requires.sound c.requires.named c.requires.storable
-    (entries_of c.in_ok-rows.rows.items) c.in_ok-rows.ensures.rows c.in_ok-rows.ensures.ids
-    c.summary_of-summary.result
-    (c.summary_of-summary.ensures
-    ∙ ap (λ (l : List declared.TreeEntry). tree_summary c.args.table.now.entries (entries_of l)) c.deref.ensures.value))
+    (entries_of_shape (shape_of (all c.chunks-chunks.result.now)))
+    (ap (λ (l : List Row). entries_of_shape (shape_of l)) c.chunks-chunks.ensures) c.in_ok-contents.ensures.ids
+    c.summary_of-summary.result c.summary_of-summary.ensures)
 
 pub returns-clause-lists : goal.returns-clause-lists
 returns-clause-lists g c =
     rows-list g.N.Naming.digest_of c.args.pool.now c.args.table.now c.requires.stands
     (shape_of c.args.entries.now.items) c.requires.sound c.requires.named c.requires.storable
-    (entries_of c.in_ok-rows.rows.items) c.in_ok-rows.ensures.rows c.in_ok-rows.ensures.ids
-    c.add_entries.new.pool c.add_entries.new.table c.add_entries.result
-    (subst
-    (λ (es : List TreeEntry). StoresTrees c.add_entries.result g.N.Naming.digest_of c.args.pool.now c.args.table.now c.add_entries.new.pool c.add_entries.new.table (es ∷ []) (tree_name g.N.Naming.digest_of es))
-    (ap entries_of c.deref-2.ensures.value ∙ c.in_ok-rows.ensures.rows) c.add_entries.ensures.stores)
+    (entries_of_shape (shape_of (all c.chunks-chunks.result.now)))
+    (ap (λ (l : List Row). entries_of_shape (shape_of l)) c.chunks-chunks.ensures) c.in_ok-contents.ensures.ids
+    c.add_contents.new.pool c.add_contents.new.table c.add_contents.result
+    (c.add_contents.ensures (entries_of_shape (shape_of c.args.entries.now.items))
+    (c.in_ok-contents.ensures.contents ∙ ap (λ (l : List Row). tree_contents (entries_of_shape (shape_of l))) c.chunks-chunks.ensures))

@@ -1,6 +1,7 @@
 use Rattle.std.proofs.Common.{subst, sym, rules}
-use Rattle.import_session.specs.Held.{FilesStand}
-use Rattle.import_session.specs.Session.{SessionView, workspace_in}
+use Rattle.stream_commands.specs.Held.{FilesStand}
+use Rattle.stream_commands.specs.State.{workspace_in}
+use Rattle.import_session.specs.Session.{SessionView}
 use Rattle.import_session.specs.Sound.{IsSound}
 use Rattle.import_session.specs.Stream.{session_end}
 use Rattle.import_session.proofs.session.Session.finish.Goals as goal

@@ -4,9 +4,10 @@ use Rattle.stream_grammar.specs.Commands.{Parsing, done_by, after}
 use Rattle.stream_state.specs.declared.fault.Fault.{Fault}
 use Rattle.import_session.specs.Stream.{Step, step, taken}
 use Rattle.import_session.specs.Sound.{IsSound}
-use Rattle.import_session.specs.Held.{FilesStand}
-use Rattle.import_session.specs.Session.{SessionView, Takes, state_shown, running_in, workspace_in}
-use Rattle.import_session.proofs.ActLemmas.{done_step, step_over, step_running, no_act, item_answered, no_memory}
+use Rattle.stream_commands.specs.Held.{FilesStand}
+use Rattle.stream_commands.specs.State.{state_shown, workspace_in}
+use Rattle.import_session.specs.Session.{SessionView, Takes, running_in}
+use Rattle.import_session.proofs.ItemLemmas.{done_step, step_over, step_running, no_act, item_answered, no_memory}
 use Rattle.import_session.proofs.session.Session.take.Goals as goal
 
 pub carry_out_done-carried-requires-clause-held : goal.carry_out_done-carried-requires-clause-held

@@ -1,5 +1,0 @@
-use Rattle.std.proofs.Common.{rules}
-use Rattle.import_session.proofs.checkpoint.saving_of.Goals as goal
-
-pub returns-clause-saved : goal.returns-clause-saved
-returns-clause-saved g c = search rules

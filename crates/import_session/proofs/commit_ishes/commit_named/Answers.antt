@@ -1,5 +1,0 @@
-use Rattle.std.proofs.Common.{rules}
-use Rattle.import_session.proofs.commit_ishes.commit_named.Goals as goal
-
-pub returns : goal.returns
-returns g c = search rules

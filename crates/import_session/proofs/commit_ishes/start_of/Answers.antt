@@ -1,5 +1,0 @@
-use Rattle.std.proofs.Common.{rules}
-use Rattle.import_session.proofs.commit_ishes.start_of.Goals as goal
-
-pub returns-then-is_branch : goal.returns-then-is_branch
-returns-then-is_branch g c = search rules

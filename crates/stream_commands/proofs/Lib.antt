@@ -1,0 +1,5 @@
+pub mod ActLemmas
+mod CheckpointLemmas
+pub mod CommittedLemmas
+mod TagLemmas
+pub mod HeldLemmas

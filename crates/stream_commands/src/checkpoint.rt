@@ -1,0 +1,154 @@
+//! Checkpoints: git-fast-import(1), "checkpoint"; and "fast-forward" of gitglossary(7).
+
+ghost use Rattle.std.specs.Prelude.{◌≡◌, ◌++◌, IfOk, IfErr, OnOk, OnErr};
+ghost use Rattle.git_model.specs.GoodRepository.{AreObjects};
+ghost use Rattle.tenant_refs.specs.Changes.{with_changes};
+ghost use Rattle.tenant_tables.specs.Objects.{objects};
+ghost use Rattle.tenant_tables.specs.IsBackedBy.{IsBackedBy};
+ghost use Rattle.stream_state.specs.Checkpoints.{by_tags};
+ghost use Rattle.stream_commands.specs.Checkpoints.{by_branches, checkpoint, kept_by, kept_lines, moves, saved_by};
+ghost use Rattle.stream_commands.specs.Held.{KeepsBranchFiles};
+ghost use Rattle.stream_commands.specs.State.{state_shown, workspace_in, CarriesOut};
+
+use crate::state::StreamState;
+use content_pool::Pool;
+use git_objects::{Name, Naming};
+use stream_state::branches::Tip;
+use stream_state::checkpoint::{
+    Saving, add_change, add_tags, carry_out, is_fast_forward, save_head,
+};
+use stream_state::fault::Fault;
+use stream_state::print::print_kept;
+use tenant_refs::{RefName, Refs};
+use tenant_tables::Table;
+
+// Whether a branch may set its ref to a tip.
+fn moves<N: Naming>(
+    pool: &Pool<N>,
+    table: &Table,
+    refs: &Refs,
+    state: &StreamState,
+    ref_name: &RefName,
+    tip: &Name,
+) -> Result<bool, Fault>
+    requires { IsBackedBy N.digest_of pool.now table.now.entries }
+    ensures judged { AreObjects N.digest_of (objects pool.now table.now.entries)
+        → IfOk result (λ yes. yes ≡ moves
+        (workspace_in (state_shown state.now) pool.now table.now refs.now) ref_name.now tip.now) }
+    ensures refused { IfErr result (λ fault. fault ≡ Fault.Memory) }
+{
+    match refs.get(ref_name.as_bytes()) {
+        Some(old) if !state.forces => is_fast_forward(state.alloc, pool, table, old, tip),
+        _ => Ok(true),
+    }
+}
+
+// Adds the change that one branch makes, or the line that its ref is kept.
+fn add_branch<N: Naming>(
+    pool: &Pool<N>,
+    table: &Table,
+    refs: &Refs,
+    state: &StreamState,
+    branch: (&RefName, &Tip),
+    saving: &mut Saving,
+) -> Result<(), Fault>
+    requires { IsBackedBy N.digest_of pool.now table.now.entries }
+    ensures saved { AreObjects N.digest_of (objects pool.now table.now.entries) → OnOk result
+        (let workspace = workspace_in (state_shown state.now) pool.now table.now refs.now in
+        (with_changes refs.now saving.new.changes.items ≡ saved_by workspace
+        (with_changes refs.now saving.old.changes.items) branch.entry.0.now branch.entry.1.now)
+        × (saving.new.kept.items ≡ saving.old.kept.items
+        ++ kept_by workspace branch.entry.0.now branch.entry.1.now)) }
+    ensures refused { IfErr result (λ fault. fault ≡ Fault.Memory) }
+{
+    let (ref_name, tip) = branch;
+    match tip {
+        Tip::Unborn => Ok(()),
+        Tip::Deleted => add_change(state.alloc, ref_name, None, &mut saving.changes),
+        Tip::At(tip) => {
+            if moves(pool, table, refs, state, ref_name, tip)? {
+                return add_change(state.alloc, ref_name, Some(*tip), &mut saving.changes);
+            }
+            Ok(print_kept(ref_name, &mut saving.kept)?)
+        }
+    }
+}
+
+// Adds the change or the line of each branch.
+fn add_branches<N: Naming>(
+    pool: &Pool<N>,
+    table: &Table,
+    refs: &Refs,
+    state: &StreamState,
+    saving: &mut Saving,
+) -> Result<(), Fault>
+    requires { IsBackedBy N.digest_of pool.now table.now.entries }
+    ensures saved { AreObjects N.digest_of (objects pool.now table.now.entries) → OnOk result
+        (let workspace = workspace_in (state_shown state.now) pool.now table.now refs.now in
+        (with_changes refs.now saving.new.changes.items ≡ by_branches workspace
+        (with_changes refs.now saving.old.changes.items) workspace.stream.branches)
+        × (saving.new.kept.items
+        ≡ saving.old.kept.items ++ kept_lines workspace workspace.stream.branches)) }
+    ensures refused { IfErr result (λ fault. fault ≡ Fault.Memory) }
+{
+    for place in 0..state.branches.len() {
+        let branch = state.branches.at(place).unwrap();
+        add_branch(pool, table, refs, state, branch, saving)?;
+    }
+    Ok(())
+}
+
+// What a checkpoint is to do: first for the branches in order, and then for the tags.
+fn saving_of<N: Naming>(
+    pool: &Pool<N>,
+    table: &Table,
+    refs: &Refs,
+    state: &StreamState,
+) -> Result<Saving, Fault>
+    requires { IsBackedBy N.digest_of pool.now table.now.entries }
+    ensures saved { AreObjects N.digest_of (objects pool.now table.now.entries)
+        → IfOk result (λ saving.
+        let workspace = workspace_in (state_shown state.now) pool.now table.now refs.now in
+        (with_changes refs.now saving.changes.items ≡ by_tags
+        (by_branches workspace workspace.refs workspace.stream.branches) workspace.stream.tags)
+        × (saving.kept.items ≡ kept_lines workspace workspace.stream.branches)) }
+    ensures refused { IfErr result (λ fault. fault ≡ Fault.Memory) }
+{
+    let mut saving = Saving {
+        changes: Vec::new(state.alloc),
+        kept: Vec::new(state.alloc),
+    };
+    add_branches(pool, table, refs, state, &mut saving)?;
+    add_tags(state.alloc, &state.tags, &mut saving.changes)?;
+    Ok(saving)
+}
+
+/// Makes a checkpoint: saves the refs and HEAD, makes all objects so far committed, and appends a
+/// line to `out` for each ref that is kept: git-fast-import(1), "checkpoint".
+///
+/// `Fault::Limit` (25) if there would be more than 65,536 refs, `Fault::Memory` (90) if an
+/// allocation fails. Nothing fails after the first change, so a refusal changes nothing.
+pub fn save<N: Naming>(
+    pool: &Pool<N>,
+    table: &mut Table,
+    refs: &mut Refs,
+    state: &mut StreamState,
+    out: &mut Vec<u8>,
+) -> Result<(), Fault>
+    requires { IsBackedBy N.digest_of pool.now table.old.entries }
+    ensures entries { table.new.entries ≡ table.old.entries }
+    ensures saved { AreObjects N.digest_of (objects pool.now table.old.entries) → CarriesOut
+        (checkpoint (workspace_in (state_shown state.old) pool.now table.old refs.old))
+        (workspace_in (state_shown state.new) pool.now table.new refs.new)
+        out.old.items out.new.items result }
+    ensures same { OnErr result ((table.new ≡ table.old) × (refs.new ≡ refs.old)) }
+    ensures printed { OnErr result (out.new.items ≡ out.old.items) }
+    ensures files { KeepsBranchFiles (state_shown state.old) (state_shown state.new) }
+{
+    let saving = saving_of(pool, table, refs, state)?;
+    carry_out(saving, refs, out)?;
+    save_head(refs, state.head.take());
+    state.tags.clear();
+    table.commit();
+    Ok(())
+}
