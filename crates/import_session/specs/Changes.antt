@@ -2,6 +2,7 @@
 -- "filedeleteall".
 use Rattle.std.specs.Prelude.{ℕ, List, Result, Ok}
 use Rattle.git_model.specs.declared.file_mode.FileMode.{FileMode}
+use Rattle.stream_grammar.specs.declared.data_ref.DataRef.{DataRef}
 use Rattle.stream_grammar.specs.Changes.{Path}
 use Rattle.stream_grammar.specs.Acts.{FileChange, Modify, ModifyInline, InlineData, Delete, Copy, Rename, DeleteAll}
 use Rattle.open_commits.specs.OpenCommit.{OpenCommit}
@@ -34,13 +35,17 @@ file_given digest bytes workspace =
     and_then (inline_in workspace.stream.command) (λ inline.
     file_stored digest bytes inline.0 inline.1 workspace)
 
--- What a change of files leaves.
-unfoldable pub files_changed : (List ℕ → List ℕ) → FileChange → Workspace → Result Effect Fault
 -- 'M': puts an object at a path.
-files_changed digest (Modify mode object path) workspace =
+abbrev pub file_modified : FileMode → DataRef → Path → Workspace → Result Effect Fault
+file_modified mode object path workspace =
     in_changes (λ commit.
     changed_or (modified workspace.objects workspace.stream.marks mode object path commit))
     workspace
+
+-- What a change of files leaves.
+unfoldable pub files_changed : (List ℕ → List ℕ) → FileChange → Workspace → Result Effect Fault
+-- 'M'.
+files_changed digest (Modify mode object path) workspace = file_modified mode object path workspace
 -- 'M' with 'inline', and the 'data' after it.
 files_changed digest (ModifyInline mode path) workspace = file_awaited mode path workspace
 files_changed digest (InlineData bytes) workspace = file_given digest bytes workspace
