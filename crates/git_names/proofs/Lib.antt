@@ -1,3 +1,4 @@
 pub mod Seconds
 pub mod Idents
 pub mod StoredNames
+pub mod NameOrder

@@ -1,17 +1,21 @@
 //! Object names: gitglossary(7), "object name".
 
 ghost use Rattle.std.specs.Prelude.{◌≡◌, ◌≢◌, ℕ, List, MatchOption, Result, take, length, [], ◌∷◌};
+ghost use Rattle.std.specs.Cmp.Lexicographic.{slice_cmp};
 ghost use Rattle.std.specs.Cmp.Rules.{comparing, hashing};
+ghost use Rattle.std.specs.Int.{from_be_bytes, w64};
+ghost use Rattle.std.specs.Ordering.{nat_cmp};
 ghost use Rattle.std.proofs.Common.{rules};
 ghost use Rattle.git_model.specs.ObjectName.{IsObjectName};
 ghost use Rattle.hex.specs.Hex.{encode_lower, decode_sized};
 
 use hex::FromHex;
+use std::cmp::Ordering;
 use std::hash::{Hash, Hasher};
 use std::marker::Model;
 
 /// The name of an object: the 20 bytes of a digest. Names compare as their bytes do.
-#[derive(Clone, Copy, Debug, PartialEq, Eq, PartialOrd, Ord)]
+#[derive(Clone, Copy, Debug, PartialEq, Eq)]
 pub struct Name {
     bytes: [u8; 20],
 }
@@ -24,6 +28,57 @@ impl Model for Name {
     ghost view = { λ id. id.bytes };
 
     ghost inverse = { λ bytes. record { bytes = bytes } };
+}
+
+impl PartialOrd for Name {
+    ghost use Rattle.std.specs.Prelude.{Some};
+    ghost use Rattle.std.specs.Ordering.{nat_cmp};
+    ghost use Rattle.std.specs.Cmp.Lexicographic.{slice_cmp, texts_po};
+
+    ghost partial_cmp = { λ a b. Some (slice_cmp nat_cmp a b) };
+
+    ghost laws = { texts_po };
+
+    fn partial_cmp(&self, other: &Name) -> Option<Ordering> {
+        Some(self.cmp(other))
+    }
+}
+
+impl Ord for Name {
+    ghost use Rattle.std.specs.Prelude.{refl};
+    ghost use Rattle.std.specs.Ordering.{nat_cmp};
+    ghost use Rattle.std.specs.Cmp.Lexicographic.{slice_cmp, nat_list_cmp_total, texts_ties};
+
+    ghost cmp = { slice_cmp nat_cmp };
+
+    ghost total = { nat_list_cmp_total };
+
+    ghost matches_partial_cmp = { λ _ _. refl };
+
+    ghost matches_eq = { texts_ties };
+
+    fn cmp(&self, other: &Name) -> Ordering {
+        order_of(&self.bytes, &other.bytes)
+    }
+}
+
+// Digests rarely begin alike, so one comparison of numbers mostly decides.
+fn order_of(ours: &[u8; 20], theirs: &[u8; 20]) -> Ordering
+    ensures { result ≡ slice_cmp nat_cmp ours.now theirs.now }
+{
+    let (first, second) = (front_of(ours), front_of(theirs));
+    if first != second {
+        return first.cmp(&second);
+    }
+    ours.cmp(theirs)
+}
+
+// The first eight bytes as a number.
+fn front_of(bytes: &[u8; 20]) -> u64
+    ensures { result ≡ from_be_bytes w64 (take 8 bytes.now) }
+{
+    let (front, _) = bytes.split_first_chunk::<8>().unwrap();
+    u64::from_be_bytes(*front)
 }
 
 impl Hash for Name {

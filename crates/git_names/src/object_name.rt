@@ -1,6 +1,6 @@
 //! The name of an object, from its kind and contents: git-hash-object(1).
 
-ghost use Rattle.std.specs.Prelude.{◌≡◌, ◌++◌, ◌∷◌, [], codes, decimal, IfOk};
+ghost use Rattle.std.specs.Prelude.{◌≡◌, ◌≤◌, ◌+◌, ◌++◌, ◌∷◌, [], length, codes, decimal, IfOk};
 ghost use Rattle.git_model.specs.Kind.{kind_word};
 ghost use Rattle.git_model.specs.ObjectName.{object_name};
 
@@ -9,6 +9,7 @@ use crate::naming::Naming;
 use git_model::{Kind, Memory};
 use itoa::Buffer;
 use std::alloc::Global;
+use std::marker::Model;
 
 /// The word that Git writes for a kind: git-cat-file(1).
 pub fn kind_word(kind: Kind) -> &'static [u8]
@@ -22,24 +23,60 @@ pub fn kind_word(kind: Kind) -> &'static [u8]
     }
 }
 
-fn header_of(alloc: Global, kind: Kind, size: usize) -> Result<Vec<u8>, Memory>
-    ensures { IfOk result (λ header. header.items
-        ≡ kind_word kind ++ codes " " ++ decimal size ++ 0 ∷ []) }
-{
-    let mut digits = Buffer::new();
-    let mut header = Vec::with_capacity(alloc, 28)?;
-    header.extend_from_slice(kind_word(kind))?;
-    header.extend_from_slice(b" ")?;
-    header.extend_from_slice(digits.format(size).as_bytes())?;
-    header.push(0)?;
-    Ok(header)
+// The header of an object, on the stack: "commit ", 20 digits and a NUL at most.
+#[derive(Drop)]
+struct Header {
+    bytes: [u8; 28],
+    len: usize,
+}
+
+impl Model for Header {
+    ghost use Rattle.std.specs.Prelude.{◌≤◌, ℕ, List, take};
+
+    ghost Value = { List ℕ };
+
+    ghost view = { λ header. take header.len header.bytes };
+
+    ghost invariant = { λ header. header.len ≤ 28 };
+}
+
+impl Header {
+    fn new(kind: Kind, size: usize) -> Header
+        ensures { result ≡ kind_word kind ++ codes " " ++ decimal size ++ 0 ∷ [] }
+    {
+        let mut digits = Buffer::new();
+        let mut header = Header {
+            bytes: [0; 28],
+            len: 0,
+        };
+        header.push(kind_word(kind));
+        header.push(b" ");
+        header.push(digits.format(size).as_bytes());
+        header.push(&[0]);
+        header
+    }
+
+    fn push(&mut self, piece: &[u8])
+        requires { length self.old + length piece.now ≤ 28 }
+        ensures { self.new ≡ self.old ++ piece.now }
+    {
+        let end = self.len + piece.len();
+        self.bytes[self.len..end].copy_from_slice(piece);
+        self.len = end;
+    }
+
+    fn as_slice(&self) -> &[u8]
+        ensures { result.now ≡ self.now }
+    {
+        &self.bytes[..self.len]
+    }
 }
 
 /// The name of the object of this kind with these contents, under this naming: git-hash-object(1).
 /// It is the digest of the object's header and contents. A naming that digests piece by piece does
 /// not copy the contents.
 ///
-/// `Memory` (90) if there is no memory for the header, or for a copy that the naming makes.
+/// `Memory` (90) comes only from a naming that makes a copy, and has no memory for it.
 #[tactic(auto, unfolding(git_model::specs::ObjectName::object_name))]
 pub fn name_of<N: Naming>(
     alloc: Global,
@@ -49,7 +86,7 @@ pub fn name_of<N: Naming>(
 ) -> Result<Name, Memory>
     ensures { IfOk result (λ id. id ≡ object_name N.digest_of kind contents.now) }
 {
-    let header = header_of(alloc, kind, contents.len())?;
+    let header = Header::new(kind, contents.len());
     let digest = naming.digest_parts(alloc, header.as_slice(), contents)?;
     Ok(Name::from_bytes(digest))
 }

@@ -6,6 +6,7 @@ use crate::pools::{Missing, load, save};
 use crate::run_fault::RunFault;
 use gitpool::{Answer, Counted, Line, Service, Sha1Naming};
 use lock_files::LockFile;
+use std::mem::forget;
 
 /// Carries out a command line. If several calls are refused, the first fault is answered;
 /// `RunFault` has the numbers.
@@ -22,7 +23,14 @@ pub fn run(rt: &HostRuntime, line: Line<'_>) -> Result<(), RunFault> {
 // A run that leaves the pool file as it is.
 fn run_to_read(rt: &HostRuntime, line: Line<'_>, pool: &str) -> Result<(), RunFault> {
     let mut service = load(rt, pool, Missing::Refused)?;
-    carry_out(rt, &mut service, line)
+    let outcome = carry_out(rt, &mut service, line);
+    leave(service);
+    outcome
+}
+
+// The run ends here. What the service holds goes with the process, which is faster than a drop.
+fn leave(service: Service<Sha1Naming>) {
+    forget(service);
 }
 
 // A run that saves. If another one works on the pool file, this one is refused (68).
@@ -61,6 +69,7 @@ fn carry_out_and_save(
 ) -> Result<(), RunFault> {
     let outcome = carry_out(rt, &mut service, line);
     let saved = save(rt, &service, new);
+    leave(service);
     outcome.and(saved)
 }
 

@@ -42,7 +42,7 @@ IsDistinct-take e (suc n) (x ∷ xs) h = (each n xs h.0, IsDistinct-take e n xs 
     each (suc k) [] g = g
     each (suc k) (y ∷ ys) g = (g.0, each k ys g.1)
 
-same_name : (x y : List ℕ) → bytes_eq x y ≡ true → x ≡ y
+pub same_name : (x y : List ℕ) → bytes_eq x y ≡ true → x ≡ y
 same_name x y h = (bytes_eq-Decides x y).0 h
 
 itself : (x : List ℕ) → bytes_eq x x ≡ true

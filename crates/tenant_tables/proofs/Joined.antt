@@ -7,13 +7,14 @@ use Rattle.std.specs.Str.{bytes_eq}
 use Rattle.std.proofs.lemmas.Bool.Decides.{nat_tests}
 use Rattle.std.proofs.lemmas.Cmp.{nat_list_eq_equiv}
 use Rattle.std.proofs.lemmas.List.{append_assoc, length-append, length-map, length-take-le, map-append, take-map, take_all}
+use Rattle.std.proofs.lemmas.Map.Entries.{lookup_from_place}
 use Rattle.std.proofs.lemmas.Map.Keys.{IsDistinct-head, IsDistinct-push, IsDistinct-tail}
 use Rattle.tenant_tables.specs.declared.entry.Entry.{Entry}
 use Rattle.tenant_tables.specs.declared.table.TheConstants.{OBJECTS_LIMIT}
 use Rattle.tenant_tables.specs.Index.{IsTable}
 use Rattle.tenant_tables.specs.View.{Entries, names, entry_named}
 use Rattle.tenant_tables.proofs.EntryLemmas.{lookup-take-found, lookup-take-none, position-kept, position-nowhere, position-past}
-use Rattle.tenant_tables.proofs.FoundLemmas.{any-names, distinct-take}
+use Rattle.tenant_tables.proofs.FoundLemmas.{any-names, distinct-take, same_name}
 use Rattle.tenant_tables.proofs.IndexLemmas.{later, names-push}
 
 pub names-append : (xs ys : Entries) → names (xs ++ ys) ≡ names xs ++ names ys
@@ -295,6 +296,15 @@ new_at (x ∷ es) (suc i) id e d at =
     nat_list_eq_equiv.symm id x.0 ∙ among (λ y. bytes_eq x.0 y ≡ false) es i id e at head in
     ap (λ (b : Bool). cond b (Some x.1) (lookup (bytes_eq id) (take i es))) here
     ∙ new_at es i id e (IsDistinct-tail bytes_eq x.0 (names es) d) at
+
+-- the entry at a place is the one that a look-up of its name finds
+pub entry_named-at : (q : List ℕ) (es : Entries) (i : ℕ) (id : List ℕ) (e : Entry)
+    → IsDistinct bytes_eq (names es) → slice_get es i ≡ Some (id, e) → bytes_eq id q ≡ true
+    → entry_named q es ≡ Some e
+unfolding entry_named
+entry_named-at q es i id e d at same =
+    subst (λ (n : List ℕ). lookup (bytes_eq n) es ≡ Some e) (same_name id q same)
+    (lookup_from_place nat_list_eq_equiv es i id e d at)
 
 none_any : (id : List ℕ) (es : Entries) → entry_named id es ≡ None
     → list_any (bytes_eq id) (names es) ≡ false

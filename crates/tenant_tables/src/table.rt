@@ -126,7 +126,8 @@ impl Table {
 
     /// The object name at this position, and what the table keeps under it; `None` from `len` on.
     pub(crate) fn entry_at(&self, place: usize) -> Option<(Name, Entry)>
-        ensures { result ≡ slice_get self.now.entries place }
+        ensures entry { result ≡ slice_get self.now.entries place }
+        ensures distinct { IsDistinct bytes_eq (names self.now.entries) }
     {
         let shared = self.front.len();
         if place < shared {
@@ -141,6 +142,20 @@ impl Table {
         ensures { result ≡ summary_of id.now self.now.entries }
     {
         self.look_up(id).and_then(|found| found.1.summary)
+    }
+
+    /// The summary of the tree of this name; `None` for every other name. `place` is a guess of its
+    /// position: if the object of this name is there, no lookup is needed. Another guess costs a
+    /// lookup and changes nothing.
+    pub fn summary_with_hint(&self, id: &Name, place: usize) -> Option<Summary>
+        ensures { result ≡ summary_of id.now self.now.entries }
+    {
+        if let Some(found) = self.entry_at(place) {
+            if found.0 == *id {
+                return found.1.summary;
+            }
+        }
+        self.summary(id)
     }
 
     /// How many objects the table has, at most 4,194,304. Their names are distinct.

@@ -36,7 +36,11 @@ fn copied_dir(alloc: Global, dir: &Dir) -> Result<Node, Memory>
         Some(tree) => Ok(Node::Unopened(tree)),
         None => {
             let entries = copied_entries(alloc, &dir.entries)?;
-            Ok(Node::Opened(Dir { entries, tree }))
+            Ok(Node::Opened(Dir {
+                entries,
+                tree,
+                place: dir.place,
+            }))
         }
     }
 }

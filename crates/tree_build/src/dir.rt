@@ -18,6 +18,8 @@ pub(crate) struct Dir {
     pub(crate) entries: Entries,
     /// The name of its stored tree, if it is one. Opening and storing set it, an edit clears it.
     pub(crate) tree: Option<Name>,
+    /// The position of that tree in the table. It is a guess that nothing relies on.
+    pub(crate) place: usize,
 }
 
 /// The direct entries of a directory, in their order. Only the module `chunks` looks into the chunks.
@@ -90,6 +92,7 @@ impl Dir {
         Dir {
             entries: Entries::new(alloc),
             tree: None,
+            place: 0,
         }
     }
 

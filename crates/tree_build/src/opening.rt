@@ -71,6 +71,7 @@ pub(crate) fn open<N: Naming>(
     Ok(Dir {
         entries: Entries::of(alloc, rows_of(alloc, &entries)?)?,
         tree: Some(*id),
+        place: table.place(id).unwrap_or(0),
     })
 }
 

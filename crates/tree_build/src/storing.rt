@@ -62,7 +62,10 @@ pub(crate) fn store_dir<N: Naming>(
             }
             let added = add_tree(alloc, pool, table, &dir.entries, earlier);
             match added {
-                Ok(name) => dir.tree = Some(name),
+                Ok(name) => {
+                    dir.tree = Some(name);
+                    dir.place = table.len().saturating_sub(1);
+                }
                 Err(_) => {}
             }
             added

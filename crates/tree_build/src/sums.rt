@@ -64,12 +64,23 @@ pub(crate) fn both(first: Summary, second: Summary) -> Summary
     }
 }
 
-fn row_summary(table: &Table, row: &TreeEntry<'_>) -> Summary
+// Where the table may have the tree of a directory.
+fn hint_of(node: &Node) -> usize {
+    match node {
+        Node::Opened(dir) => dir.place,
+        _ => 0,
+    }
+}
+
+fn row_summary(table: &Table, row: &TreeEntry<'_>, hint: usize) -> Summary
     requires { IsSmall (entry_summary table.now.entries (entry_of row.now)) }
     ensures { result ≡ entry_summary table.now.entries (entry_of row.now) }
 {
     match row.mode {
-        FileMode::Directory => below(row.name, table.summary(&row.id).unwrap_or(no_files())),
+        FileMode::Directory => {
+            let tree = table.summary_with_hint(&row.id, hint);
+            below(row.name, tree.unwrap_or(no_files()))
+        }
         _ => one_file(row.name),
     }
 }
@@ -82,7 +93,7 @@ fn sum_with(table: &Table, before: Summary, chunk: &[(Component, Node)]) -> Summ
 {
     let mut sum = before;
     for entry in chunk {
-        sum = both(sum, row_summary(table, &row_of(entry)));
+        sum = both(sum, row_summary(table, &row_of(entry), hint_of(&entry.1)));
     }
     sum
 }

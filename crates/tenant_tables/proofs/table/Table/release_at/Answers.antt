@@ -8,30 +8,30 @@ use Rattle.tenant_tables.proofs.table.Table.release_at.Goals as goal
 pub release-requires : goal.release-requires
 release-requires g c =
     last_live _ _ _ _ _ _
-    (take-one c.args.place c.args.self.now.entries _ (sym c.entry_at.ensures ∙ c.in-Some.is)) c.requires.stands
+    (take-one c.args.place c.args.self.now.entries _ (sym c.entry_at.ensures.entry ∙ c.in-Some.is)) c.requires.stands
 
 pub returns-in_default-clause-stands : goal.returns-in_default-clause-stands
 returns-in_default-clause-stands g c =
-    let past = take-none c.args.place c.args.self.now.entries (sym c.in_default.is ∙ c.entry_at.ensures) in
+    let past = take-none c.args.place c.args.self.now.entries (sym c.in_default.is ∙ c.entry_at.ensures.entry) in
     let within = c.requires.within in absurd (omega (arith, past, within))
 
 pub returns-in_default-clause-others : goal.returns-in_default-clause-others
 returns-in_default-clause-others g c =
-    let past = take-none c.args.place c.args.self.now.entries (sym c.in_default.is ∙ c.entry_at.ensures) in
+    let past = take-none c.args.place c.args.self.now.entries (sym c.in_default.is ∙ c.entry_at.ensures.entry) in
     let within = c.requires.within in absurd (omega (arith, past, within))
 
 pub returns-in_default-clause-objects : goal.returns-in_default-clause-objects
 returns-in_default-clause-objects g c =
-    let past = take-none c.args.place c.args.self.now.entries (sym c.in_default.is ∙ c.entry_at.ensures) in
+    let past = take-none c.args.place c.args.self.now.entries (sym c.in_default.is ∙ c.entry_at.ensures.entry) in
     let within = c.requires.within in absurd (omega (arith, past, within))
 
 pub returns-clause-stands : goal.returns-clause-stands
 returns-clause-stands g c =
-    (last_given_up _ _ _ _ _ _ _ (take-one c.args.place c.args.self.now.entries _ (sym c.entry_at.ensures ∙ c.in-Some.is)) c.requires.stands c.release.ensures).0
+    (last_given_up _ _ _ _ _ _ _ (take-one c.args.place c.args.self.now.entries _ (sym c.entry_at.ensures.entry ∙ c.in-Some.is)) c.requires.stands c.release.ensures).0
 
 pub returns-clause-others : goal.returns-clause-others
 returns-clause-others g c =
-    (last_given_up _ _ _ _ _ _ _ (take-one c.args.place c.args.self.now.entries _ (sym c.entry_at.ensures ∙ c.in-Some.is)) c.requires.stands c.release.ensures).1
+    (last_given_up _ _ _ _ _ _ _ (take-one c.args.place c.args.self.now.entries _ (sym c.entry_at.ensures.entry ∙ c.in-Some.is)) c.requires.stands c.release.ensures).1
 
 pub returns-clause-objects : goal.returns-clause-objects
 returns-clause-objects g c =
@@ -41,5 +41,5 @@ returns-clause-objects g c =
     let len = length-take-le (i + 1) es (omega (arith, within)) in
     let last : length (take (i + 1) es) - 1 ≡ i = omega (arith, len) in
     last_objects _ _ _ _ _ _ _
-    (take-one i es _ (sym c.entry_at.ensures ∙ c.in-Some.is)) c.requires.stands c.release.ensures
+    (take-one i es _ (sym c.entry_at.ensures.entry ∙ c.in-Some.is)) c.requires.stands c.release.ensures
     ∙ ap (λ n. take n (objects c.args.pool.now (take (i + 1) es))) last
