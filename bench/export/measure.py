@@ -1,9 +1,9 @@
 """Copies the history of bench/history/make_history from one tenant of a pool file to another, and imports its export into a tenant
 of the same file, in one run; prints the best of some rounds: measure.py PROGRAM [ROUNDS [COMMITS]].
 
-Each run of the program loads the file and saves it, so the import of an empty stream, which does that alone, stands beside them.
-The copy has to leave what the import leaves: refs, HEAD, exports and counts. Real git reads the export too, and has to have the refs
-of the history."""
+Each run of the program loads the file and saves it, so the import of an empty stream, which does that alone, stands beside them,
+and an import of the export without a pool file. The copy has to leave what the import leaves: refs, HEAD, exports and counts. Real
+git reads the export too, and has to have the refs of the history."""
 import hashlib
 import os
 import subprocess
@@ -66,12 +66,13 @@ def main():
             "import": (["import", "b"], export),
             "copy": (["copy", "a", "b"], b""),
         }
-        best, left = dict.fromkeys([*runs, "git"], float("inf")), {}
+        best, left = dict.fromkeys([*runs, "no pool file", "git"], float("inf")), {}
         refs = fresh(folder, "git", stream)[0]
         for _ in range(rounds):
             for name, (words, given) in runs.items():
                 best[name] = min(best[name], pool.left(words, given))
                 left[name] = left.get(name) or pool.tenants()
+            best["no pool file"] = min(best["no pool file"], ran([program], export)[1])
             read, took = fresh(folder, "export", export)
             best["git"] = min(best["git"], took)
             assert read == refs, "git reads other refs from the export"
@@ -79,7 +80,8 @@ def main():
         alone = best.pop("load and save")
         own = best["copy"] - alone, best["import"] - alone
         print(f"{commits} commits, an export of {len(export) / 1e6:.1f} MB, a pool file of {os.path.getsize(pool.path) / 1e6:.1f} MB with both; "
-              f"load and save {alone:.2f} s; import {best['import']:.2f} s; copy {best['copy']:.2f} s,"
+              f"load and save {alone:.2f} s; import {best['import']:.2f} s, without a pool file {best['no pool file']:.2f} s;"
+              f" copy {best['copy']:.2f} s,"
               f" {best['copy'] / best['import']:.2f} of the import, {own[0] / own[1]:.2f} without load and save;"
               f" git fast-import of the export {best['git']:.2f} s; load {os.getloadavg()[0]:.1f}")
 

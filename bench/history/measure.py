@@ -1,5 +1,5 @@
-"""Imports histories by the program and by git fast-import, in one run, and prints the best of some rounds and the most
-memory of each: measure.py PROGRAM [ROUNDS [COMMITS]]. After each history stands a get-mark of every commit, and the two
+"""Imports histories by the program and by git fast-import by turns, in one run, and prints the best of some rounds and the
+most memory of each: measure.py PROGRAM [ROUNDS [COMMITS]]. After each history stands a get-mark of every commit, and the two
 have to print the same. COMMITS are those of the first histories in place of 5,000."""
 import os
 import re
@@ -55,7 +55,7 @@ def once(words, source, fresh):
 def measure(name, words):
     stream, count = written(name, words)
     size = os.path.getsize(stream) / 1e6
-    ours, git = ([once(it, stream, it is GIT) for _ in range(rounds)] for it in ([program], GIT))
+    ours, git = zip(*([once(it, stream, it is GIT) for it in ([program], GIT)] for _ in range(rounds)))
     assert ours[0][2] == git[0][2], "other names of commits"
     took, other = min(it[0] for it in ours), min(it[0] for it in git)
     print(f"{name}: {count} commits, {size:.1f} MB; gitpool {took:.2f} s, {took / count * 1e6:.0f} us a commit,"

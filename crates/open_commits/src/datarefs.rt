@@ -3,29 +3,22 @@
 ghost use Rattle.std.specs.Prelude.{◌≡◌};
 ghost use Rattle.tenant_tables.specs.Objects.{objects};
 ghost use Rattle.tenant_tables.specs.IsBackedBy.{IsBackedBy};
-ghost use Rattle.open_commits.specs.Changes.{blob_of, held_as, link_of, marked_as, marked_object, tree_of};
+ghost use Rattle.open_commits.specs.Changes.{blob_of, held_as, link_of, marked_as, tree_of};
 
 use crate::fault::Fault;
 use content_pool::Pool;
 use git_objects::{Kind, Name, Naming};
-use stream_grammar::{DataRef, Mark, MarkedObject};
+use stream_grammar::{DataRef, Mark};
 use stream_marks::Marks;
 use tenant_tables::{Objects, Sight, Table};
-
-fn find(marks: &Marks, mark: Mark) -> Result<MarkedObject, Fault>
-    ensures { result ≡ marked_object marks.now.entries mark }
-{
-    match marks.get(mark) {
-        Some(object) => Ok(*object),
-        None => Err(Fault::MarkUnknown),
-    }
-}
 
 // The object of this mark must be of this kind.
 fn marked_as(marks: &Marks, wanted: Kind, mark: Mark) -> Result<Name, Fault>
     ensures { result ≡ marked_as marks.now.entries wanted mark }
 {
-    let object = find(marks, mark)?;
+    let Some(object) = marks.get(mark) else {
+        return Err(Fault::MarkUnknown);
+    };
     if object.kind == wanted {
         Ok(object.name)
     } else {
@@ -83,8 +76,11 @@ pub fn tree_of<N: Naming>(
 {
     match object {
         DataRef::Mark(mark) => {
-            find(marks, mark)?;
-            Err(Fault::WrongKind)
+            if marks.contains(mark) {
+                Err(Fault::WrongKind)
+            } else {
+                Err(Fault::MarkUnknown)
+            }
         }
         DataRef::Name(id) => held_as(pool, table, Kind::Tree, id),
     }

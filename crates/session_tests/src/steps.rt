@@ -72,6 +72,15 @@ const CASES: &str = "\
     1c1206e8bf4337e96dad9a6d139628852077558d\n\
     ea1f343c8a1248a4cc4eb47bc92953d0efddb510\n\
     211a8281d12d0f8fb0ec1d95b2f0188930b5d22a\n;0;no;7;28;0;0#\
+    finds marks where numbers are left out, in a gap, and far from the others;\
+    blob|mark :1|=one|blob|mark :4|=two|blob|mark :3|=three|blob|mark :5000|=nine|\
+    blob|mark :6|=four|blob|mark :4|=again|\
+    get-mark :1|get-mark :3|get-mark :4|get-mark :6|get-mark :5000;\
+    43dd47ea691c90a5fa7827892c70241913351963\n\
+    1d19714ffbc272ba0da6eb419d66123c20527174\n\
+    d3dc34affe77fdb18e4beef9d9b3213d791358e5\n\
+    ea1f343c8a1248a4cc4eb47bc92953d0efddb510\n\
+    211a8281d12d0f8fb0ec1d95b2f0188930b5d22a\n;0;no;6;24;0;0#\
     stores nothing of an open commit, and gives it up;\
     commit refs/heads/m|committer|=first\n;;0;no;0;0;0;0#\
     stores the trees and the commit at its end;\
@@ -128,62 +137,63 @@ const REFUSALS: &str = "\
     another content of one name;\
     blob|=ab|blob|=ba;24";
 
-// The ref that HEAD names after the stream, and whether `refs/heads/m`, which was there before, is
-// still there.
+// The ref that HEAD names after the stream, whether `refs/heads/m`, which was there before, is
+// still there, and the number of the last answer.
 const REF_CASES: &str = "\
     HEAD and refs where nothing is said of them;\
-    blob|=hello\n|checkpoint|done;refs/heads/main;yes#\
+    blob|=hello\n|checkpoint|done;refs/heads/main;yes;0#\
     a HEAD of an option, saved at done;\
-    option gitpool head refs/heads/x|done;refs/heads/x;yes#\
+    option gitpool head refs/heads/x|done;refs/heads/x;yes;0#\
     a HEAD of an option, saved at the end;\
-    option gitpool head refs/heads/x|.;refs/heads/x;yes#\
+    option gitpool head refs/heads/x|.;refs/heads/x;yes;0#\
     a HEAD of an option, saved at a checkpoint before a fault;\
-    option gitpool head refs/heads/x|checkpoint|no command;refs/heads/x;yes#\
+    option gitpool head refs/heads/x|checkpoint|no command;refs/heads/x;yes;2#\
     the HEAD before, where a fault loses that of an option;\
-    option gitpool head refs/heads/x|no command;refs/heads/main;yes#\
+    option gitpool head refs/heads/x|no command;refs/heads/main;yes;2#\
     the HEAD of the last option;\
-    option gitpool head refs/heads/x|option gitpool head refs/heads/m|done;refs/heads/m;yes#\
+    option gitpool head refs/heads/x|option gitpool head refs/heads/m|done;refs/heads/m;yes;0#\
     the ref of a branch that is unborn;\
-    reset refs/heads/m|done;refs/heads/main;yes#\
+    reset refs/heads/m|done;refs/heads/main;yes;0#\
     the ref of a branch with a commit, for what it holds is none;\
-    commit refs/heads/m|committer|=first\n|done;refs/heads/main;yes#\
+    commit refs/heads/m|committer|=first\n|done;refs/heads/main;yes;0#\
     no ref of a branch that is deleted;\
-    reset refs/heads/m|from zeros||done;refs/heads/main;no#\
+    reset refs/heads/m|from zeros||done;refs/heads/main;no;0#\
     the ref of a branch that was deleted and then reset;\
-    reset refs/heads/m|from zeros|reset refs/heads/m|done;refs/heads/main;yes#\
+    reset refs/heads/m|from zeros|reset refs/heads/m|done;refs/heads/main;yes;0#\
     the ref of a branch whose deletion a fault loses;\
-    reset refs/heads/m|from zeros|no command;refs/heads/main;yes#\
+    reset refs/heads/m|from zeros|no command;refs/heads/main;yes;2#\
     no ref of the branch that HEAD names for the stream, which is deleted;\
-    option gitpool head refs/heads/m|reset HEAD|from zeros|done;refs/heads/m;no#\
+    option gitpool head refs/heads/m|reset HEAD|from zeros|done;refs/heads/m;no;0#\
     no ref of the branch that the saved HEAD names, which is deleted;\
-    option gitpool head refs/heads/m|checkpoint|reset HEAD|from zeros|done;refs/heads/m;no";
+    option gitpool head refs/heads/m|checkpoint|reset HEAD|from zeros|done;refs/heads/m;no;0";
 
-// Whether `refs/tags/v` is there after the stream. If so, it holds the tag of `hello`.
+// Whether `refs/tags/v` is there after the stream, and the number of the last answer. If the tag is
+// there, it is that of `hello`.
 const TAG_CASES: &str = "\
     a tag at done;\
-    blob|mark :1|=hello\n|tag v|from :1|tagger|=first\n|done;yes#\
+    blob|mark :1|=hello\n|tag v|from :1|tagger|=first\n|done;yes;0#\
     a tag of the blob whose name begins so;\
-    blob|=hello\n|tag v|from ce013|tagger|=first\n|done;yes#\
+    blob|=hello\n|tag v|from ce013|tagger|=first\n|done;yes;0#\
     a tag of what another tag is of;\
     blob|mark :1|=hello\n|tag w|from :1|=first\n|checkpoint|tag v|from w^{}|tagger|=first\n|\
-    done;yes#\
+    done;yes;0#\
     a tag at the end;\
-    blob|mark :1|=hello\n|tag v|from :1|tagger|=first\n|.;yes#\
+    blob|mark :1|=hello\n|tag v|from :1|tagger|=first\n|.;yes;0#\
     the last of two tags of one name;\
     blob|mark :1|=hello\n|tag v|from :1|=first\n|tag v|from :1|tagger|=first\n|checkpoint|\
-    no command;yes#\
+    no command;yes;2#\
     a tag whose branch was deleted after it, for branches are saved before tags;\
-    blob|mark :1|=hello\n|tag v|from :1|tagger|=first\n|reset refs/tags/v|from zeros|done;yes#\
+    blob|mark :1|=hello\n|tag v|from :1|tagger|=first\n|reset refs/tags/v|from zeros|done;yes;0#\
     no tag where its branch is deleted and the tag was saved before;\
     blob|mark :1|=hello\n|tag v|from :1|tagger|=first\n|checkpoint|reset refs/tags/v|\
-    from zeros|done;no#\
+    from zeros|done;no;0#\
     no tag where its branch is deleted after the tag was saved, by force or not;\
     feature force|blob|mark :1|=hello\n|tag v|from :1|tagger|=first\n|checkpoint|\
-    reset refs/tags/v|from zeros|.;no#\
+    reset refs/tags/v|from zeros|.;no;0#\
     a tag that was saved, where its branch is unborn;\
-    blob|mark :1|=hello\n|tag v|from :1|tagger|=first\n|checkpoint|reset refs/tags/v|done;yes#\
+    blob|mark :1|=hello\n|tag v|from :1|tagger|=first\n|checkpoint|reset refs/tags/v|done;yes;0#\
     no tag that a fault loses;\
-    blob|mark :1|=hello\n|tag v|from :1|tagger|=first\n|no command;no";
+    blob|mark :1|=hello\n|tag v|from :1|tagger|=first\n|no command;no;2";
 
 const TAG_OF_HELLO: &[u8; 40] = b"952cdcc8475363092ec0361133bb58070500a563";
 
@@ -232,8 +242,12 @@ fn is_number(case: &str, position: usize, number: u64) -> bool {
     number_of(field(case, position)) == number
 }
 
+fn is_yes(case: &str, position: usize) -> bool {
+    field(case, position) == "yes"
+}
+
 fn is_said(case: &str, position: usize, fact: bool) -> bool {
-    (field(case, position) == "yes") == fact
+    is_yes(case, position) == fact
 }
 
 // The line that a step spells. Three lines have a short form.
@@ -389,9 +403,10 @@ fn refs_with_m(alloc: Global) -> Refs {
 fn leaves_so(alloc: Global, case: &str) -> bool {
     let mut out = Vec::new(alloc);
     let mut refs = refs_with_m(alloc);
-    run(alloc, Sha1Naming, &mut refs, field(case, 1), &mut out);
+    let left = run(alloc, Sha1Naming, &mut refs, field(case, 1), &mut out);
     refs.head() == field(case, 2).as_bytes()
         && is_said(case, 3, refs.get(b"refs/heads/m").is_some())
+        && is_number(case, 4, u64::from(left.number))
 }
 
 // One of sixteen letters.
@@ -437,14 +452,19 @@ fn has_so(refs: &Refs, case: &str) -> bool {
         && is_said(case, 5, refs.get(b"refs/heads/aaaa").is_some())
 }
 
+// Whether `refs/tags/v` is the tag of `hello`, or is not there.
+fn has_tag(refs: &Refs, wanted: bool) -> bool {
+    match refs.get(b"refs/tags/v") {
+        Some(id) => wanted && id.to_hex() == *TAG_OF_HELLO,
+        None => !wanted,
+    }
+}
+
 fn leaves_tag(alloc: Global, case: &str) -> bool {
     let mut out = Vec::new(alloc);
     let mut refs = Refs::new(alloc);
-    run(alloc, Sha1Naming, &mut refs, field(case, 1), &mut out);
-    match refs.get(b"refs/tags/v") {
-        Some(id) => is_said(case, 2, true) && id.to_hex() == *TAG_OF_HELLO,
-        None => is_said(case, 2, false),
-    }
+    let left = run(alloc, Sha1Naming, &mut refs, field(case, 1), &mut out);
+    is_number(case, 3, u64::from(left.number)) && has_tag(&refs, is_yes(case, 2))
 }
 
 fn first_wrong_case(alloc: Global) -> Option<&'static str> {

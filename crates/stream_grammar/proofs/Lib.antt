@@ -5,6 +5,7 @@ pub mod Placed
 pub mod Printed
 pub mod Refs
 pub mod Refused
+pub mod Regular
 pub mod Rows
 pub mod Streams
 pub mod Taken

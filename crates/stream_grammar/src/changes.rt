@@ -1,8 +1,9 @@
 //! The words of a change: modes, datarefs and paths; git-fast-import(1), "filemodify" and after.
 
-ghost use Rattle.std.specs.Prelude.{◌≡◌};
+ghost use Rattle.std.specs.Prelude.{◌≡◌, ◌≢◌, ℕ, List, ◌++◌, codes, MatchOption, Ok};
 ghost use Rattle.stream_grammar.specs.Faults.{Gives};
 ghost use Rattle.stream_grammar.specs.Changes as changes;
+ghost use Rattle.stream_grammar.specs.Texts.{read, required, first_word, after_space};
 
 use crate::data_ref::DataRef;
 use crate::fault::Fault;
@@ -29,6 +30,43 @@ fn mode_of(word: &[u8]) -> Result<FileMode, Fault>
         Ok(FileMode::Directory)
     } else {
         Err(Fault::BadMode)
+    }
+}
+
+/// The text after `100644 `, if a text begins with it. Most lines of most streams have this mode,
+/// that of a regular file.
+#[tactic(auto, using(std::proofs::lemmas::Slice::Eq::strip_prefix_is))]
+pub fn after_regular(text: &[u8]) -> Option<&[u8]>
+    ensures { MatchOption result ((rest : List ℕ) → text.now ≢ codes "100644 " ++ rest)
+        (λ rest. text.now ≡ codes "100644 " ++ rest.now) }
+{
+    text.strip_prefix(b"100644 ")
+}
+
+// Reads a mode and its space, and gives the text after them. Fault 23 for the mode, 3 without the
+// space.
+fn read_mode(text: &[u8]) -> Result<(FileMode, &[u8]), Fault>
+    ensures { Gives {Y = FileMode × List ℕ} (λ found. (found.0, found.1.now)) result
+        (read (changes.mode_of (first_word text.now)) (λ mode.
+        read (required (after_space text.now)) (λ rest. Ok (mode, rest)))) }
+{
+    let (word, rest) = split_word(text);
+    let mode = mode_of(word)?;
+    match rest {
+        Some(rest) => Ok((mode, rest)),
+        None => Err(Fault::Malformed),
+    }
+}
+
+// Reads what `read_mode` reads, but without a search for the end of the mode of a regular file.
+fn split_mode(text: &[u8]) -> Result<(FileMode, &[u8]), Fault>
+    ensures { Gives {Y = FileMode × List ℕ} (λ found. (found.0, found.1.now)) result
+        (read (changes.mode_of (first_word text.now)) (λ mode.
+        read (required (after_space text.now)) (λ rest. Ok (mode, rest)))) }
+{
+    match after_regular(text) {
+        Some(rest) => Ok((FileMode::Regular, rest)),
+        None => read_mode(text),
     }
 }
 
@@ -93,15 +131,9 @@ pub fn object_and_path(alloc: Global, text: &[u8]) -> Result<(DataRef, Path), Fa
 pub fn modified(alloc: Global, text: &[u8]) -> Result<(FileMode, DataRef, Path), Fault>
     ensures { Gives (λ file. file) result (changes.modified text.now) }
 {
-    let (word, rest) = split_word(text);
-    let mode = mode_of(word)?;
-    match rest {
-        Some(rest) => {
-            let (object, path) = object_and_path(alloc, rest)?;
-            Ok((mode, object, path))
-        }
-        None => Err(Fault::Malformed),
-    }
+    let (mode, rest) = split_mode(text)?;
+    let (object, path) = object_and_path(alloc, rest)?;
+    Ok((mode, object, path))
 }
 
 // The path after `inline` and its space.
@@ -119,16 +151,10 @@ fn inline_path(alloc: Global, rest: &[u8]) -> Result<Path, Fault>
 pub fn modified_inline(alloc: Global, text: &[u8]) -> Result<(FileMode, Path), Fault>
     ensures { Gives (λ file. file) result (changes.modified_inline text.now) }
 {
-    let (word, rest) = split_word(text);
-    let mode = mode_of(word)?;
-    match rest {
-        Some(rest) => {
-            let mode = mode_inline(mode)?;
-            let path = inline_path(alloc, rest)?;
-            Ok((mode, path))
-        }
-        None => Err(Fault::Malformed),
-    }
+    let (mode, rest) = read_mode(text)?;
+    let mode = mode_inline(mode)?;
+    let path = inline_path(alloc, rest)?;
+    Ok((mode, path))
 }
 
 /// Whether a text begins with a quote.

@@ -9,6 +9,7 @@ ghost use Rattle.stream_grammar.specs.Lines as lines;
 ghost use Rattle.stream_grammar.specs.Names.{commit_ish_of};
 ghost use Rattle.stream_grammar.specs.Acts.{Commit, Merge};
 ghost use Rattle.stream_grammar.specs.Changes as changes;
+ghost use Rattle.stream_grammar.specs.declared.part.ChangeLine.TheVariants as change;
 ghost use Rattle.stream_grammar.specs.Texts.{read};
 ghost use Rattle.stream_grammar.specs.Shown.{act_shown, Brings};
 
@@ -135,15 +136,32 @@ fn commit_ish_act<'a>(
     }
 }
 
-// A line that changes the files of a commit, by the text after its word.
+// An `M` with a mark or a name, by the text after it.
+fn modify_act(alloc: Global, text: &[u8]) -> Result<Act<'_>, Fault>
+    ensures { Gives act_shown result (lines.change_act change.Modify text.now) }
+{
+    let (mode, object, path) = modified(alloc, text)?;
+    Ok(Act::Change(FileChange::Modify { mode, object, path }))
+}
+
+// A line that changes the files of a commit, by the text after its word. Most are `M` lines: the
+// room that the others need on the stack is cleared only for them.
 fn change_act(alloc: Global, line: ChangeLine, text: &[u8]) -> Result<Act<'_>, Fault>
     ensures { Gives act_shown result (lines.change_act line text.now) }
 {
     match line {
-        ChangeLine::Modify => {
-            let (mode, object, path) = modified(alloc, text)?;
-            Ok(Act::Change(FileChange::Modify { mode, object, path }))
-        }
+        ChangeLine::Modify => modify_act(alloc, text),
+        _ => any_change_act(alloc, line, text),
+    }
+}
+
+// The same.
+#[inline(never)]
+fn any_change_act(alloc: Global, line: ChangeLine, text: &[u8]) -> Result<Act<'_>, Fault>
+    ensures { Gives act_shown result (lines.change_act line text.now) }
+{
+    match line {
+        ChangeLine::Modify => modify_act(alloc, text),
         ChangeLine::ModifyInline => {
             let (mode, path) = modified_inline(alloc, text)?;
             Ok(Act::Change(FileChange::ModifyInline { mode, path }))

@@ -5,6 +5,7 @@ ghost use Rattle.std.specs.Prelude.{◌≡◌};
 ghost use Rattle.stream_lex.specs.Looking.{item_of};
 ghost use Rattle.stream_grammar.specs.Parts as parts;
 
+use crate::changes::after_regular;
 use crate::text::{argument, first_word};
 use stream_lex::Item;
 
@@ -159,6 +160,14 @@ fn is_inline(line: &[u8]) -> bool
 fn part_of_line(line: &[u8]) -> Part
     ensures { result ≡ parts.part_of_line line.now }
 {
+    // Most lines of most streams give a regular file by a mark or an object name. Neither begins as
+    // `inline` does, so such a line needs no search for a word.
+    if let Some(text) = line.strip_prefix(b"M ")
+        && let Some([first, ..]) = after_regular(text)
+        && *first != b'i'
+    {
+        return Part::Change(ChangeLine::Modify);
+    }
     match part_by_word(line) {
         Part::Change(ChangeLine::Modify) if is_inline(line) => {
             Part::Change(ChangeLine::ModifyInline)

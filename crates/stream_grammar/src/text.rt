@@ -23,6 +23,12 @@ fn space_in(line: &[u8]) -> Option<usize>
 pub fn argument(line: &[u8]) -> &[u8]
     ensures { result.now ≡ texts.argument line.now }
 {
+    // The word of most lines of most streams is one letter.
+    if let [first, b' ', rest @ ..] = line
+        && *first != b' '
+    {
+        return rest;
+    }
     match space_in(line) {
         Some(index) => line.split_at(index + 1).1,
         None => &[],

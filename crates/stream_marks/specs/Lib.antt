@@ -1,2 +1,3 @@
 -- What contracts see of the marks of a stream.
 pub mod View
+pub mod InOrder

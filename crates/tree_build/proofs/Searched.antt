@@ -3,10 +3,11 @@ use Rattle.std.proofs.Common.{◌≡◌, ◌≢◌, ℕ, zero, suc, ◌-◌, ◌
 use Rattle.std.proofs.lemmas.Bool.{true≢false, ltb-true, ltb-false, lt-ltb, le-ltb}
 use Rattle.std.proofs.lemmas.Cmp.{tied_itself}
 use Rattle.std.proofs.lemmas.List.{get_or_default, append-nil}
+use Rattle.std.proofs.lemmas.List.Edits.{insert_end}
 use Rattle.std.proofs.lemmas.List.Sums.{prefix_len_is}
 use Rattle.std.proofs.lemmas.Slice.Eq.{bytes_eq-Decides}
 use Rattle.std.specs.Cmp.Lexicographic.{slice_cmp, nat_list_cmp_total}
-use Rattle.std.specs.List.{remove, position, position_or_len}
+use Rattle.std.specs.List.{insert, remove, position, position_or_len}
 use Rattle.std.specs.List.Sorted.{IsPartitionedBy}
 use Rattle.std.specs.Cmp.{nat_cmp_total}
 use Rattle.std.specs.Ordering.{nat_cmp, is_lt, ordering_reverse, ordering_then}
@@ -24,7 +25,7 @@ use Rattle.tree_build.specs.Nodes.{held, shape_of, has_name}
 use Rattle.tree_build.specs.Searches.{AreOrdered, is_after, IsPlaceAfter, IsNotLast, HasNone}
 use Rattle.tree_build.proofs.Entries.{one_held}
 use Rattle.tree_build.proofs.Look.{is_bytes, not_bytes}
-use Rattle.tree_build.proofs.Named.{Rows}
+use Rattle.tree_build.proofs.Named.{Rows, shape_insert}
 
 abbrev cmp : List ℕ → List ℕ → Ordering
 cmp a b = slice_cmp nat_cmp a b
@@ -170,6 +171,23 @@ file_first c es point = (
       (λ nay. ap not nay),
   λ k d low lt. absurd (omega arith),
 )
+
+-- there one of this name goes after all others
+pub shape_append : (c : List ℕ) (n : Node) (es : Rows) → IsPlaceAfter c es (length es)
+    → shape_of (es ++ (c, n) ∷ []) ≡ inserted c (held n) (shape_of es)
+shape_append c n es point =
+    ap shape_of (sym (insert_end es (c, n)))
+    ∙ ap (λ (k : ℕ). shape_of (insert es k (c, n)))
+    (sym (place_is (key_of c (held n).what) es (length es) (omega arith) (past (held n).what)))
+    ∙ shape_insert c n es
+  where
+    past_file : IsPlaceAfter (c ++ []) es (length es)
+    past_file = subst (λ (key : List ℕ). IsPlaceAfter key es (length es)) (sym (append-nil c)) point
+
+    past : (w : What) → IsPlaceAfter (key_of c w) es (length es)
+    past (file e) = past_file
+    past (unopened id) = file_first c es past_file
+    past (opened tree) = file_first c es past_file
 
 pub another : (es : Rows) (at : ℕ) (y : List ℕ × Node) → y ≡ slice_index_or es at y → (c : List ℕ) → at < length es → (y.0 ≡ c → ⊥)
     → (d : List ℕ × Node) → (slice_index_or es at d).0 ≢ c

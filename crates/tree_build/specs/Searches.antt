@@ -1,9 +1,11 @@
 -- The order of entries, on which a search for a name depends, for private contracts.
-use Rattle.std.specs.Prelude.{◌≡◌, ◌≢◌, ℕ, ◌<◌, ◌-◌, Bool, true, false, not, List, All, length, slice_index_or}
+use Rattle.std.specs.Prelude.{◌≡◌, ◌≢◌, ℕ, ◌<◌, ◌-◌, Bool, true, false, not, List, All, Option, None, Some, length, slice_index_or}
 use Rattle.std.specs.Cmp.Lexicographic.{slice_cmp}
 use Rattle.std.specs.List.Sorted.{IsPartitionPoint}
 use Rattle.std.specs.Ordering.{nat_cmp, is_lt}
 use Rattle.tree_build.specs.declared.dir.Node.{Node}
+use Rattle.tree_build.specs.declared.names.Found.{Found}
+use Rattle.tree_build.specs.declared.names.Found.TheVariants as found
 use Rattle.tree_build.specs.Shape.{Shape, none, row}
 use Rattle.tree_build.specs.Branch.{slash_after, key_of, IsBeforeAll}
 use Rattle.tree_build.specs.Nodes.{held}
@@ -32,3 +34,9 @@ IsNotLast c es = (d : List ℕ × Node) → 0 < length es
 -- No entry has both this name and this ending: a slash for a directory, nothing for a file.
 abbrev pub HasNone : List ℕ → List ℕ → List (List ℕ × Node) → Type 0
 HasNone c slash = All (λ e. e.0 ≡ c → slash_after (held e.1).what ≢ slash)
+
+-- The place that a search found.
+abbrev pub place_found : Found → Option ℕ
+place_found (found.At at) = Some at
+place_found found.PastAll = None
+place_found found.Absent = None

@@ -212,6 +212,19 @@ impl Entries {
         &mut chunk[spot.offset].1
     }
 
+    /// Puts an entry after all others. Takes memory for it, and for a chunk more if the last one is
+    /// full.
+    pub(crate) fn push(&mut self, alloc: Global, entry: (Component, Node)) -> Result<(), Memory>
+        ensures { OnOk result (self.new.items ≡ self.old.items ++ entry ∷ []) }
+    {
+        let Some(len) = self.len.checked_add(1) else {
+            return Err(Memory);
+        };
+        push(alloc, &mut self.chunks, entry)?;
+        self.len = len;
+        Ok(())
+    }
+
     /// Puts an entry at a place. Takes memory for it, and for a chunk more if one is full.
     pub(crate) fn insert(
         &mut self,
@@ -222,14 +235,13 @@ impl Entries {
         requires { place ≤ length self.old.items }
         ensures { OnOk result (self.new.items ≡ insert self.old.items place entry) }
     {
+        if place == self.len {
+            return self.push(alloc, entry);
+        }
         let Some(len) = self.len.checked_add(1) else {
             return Err(Memory);
         };
-        if place == self.len {
-            push(alloc, &mut self.chunks, entry)?;
-        } else {
-            insert_before(alloc, &mut self.chunks, self.len, place, entry)?;
-        }
+        insert_before(alloc, &mut self.chunks, self.len, place, entry)?;
         self.len = len;
         Ok(())
     }

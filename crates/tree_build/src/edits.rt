@@ -218,7 +218,7 @@ impl Files {
             table,
             &mut self.root,
             path,
-            entry,
+            &entry,
             &mut self.reads,
         )?;
         let files = total - gone;

@@ -1,7 +1,7 @@
 //! Directories that are stored trees again, as after `clear` and the same files.
 
-ghost use Rattle.std.specs.Prelude.{◌≡◌, ◌++◌, true, Some, IfSome};
-ghost use Rattle.git_model.specs.Tree.{entry_text, tree_contents};
+ghost use Rattle.std.specs.Prelude.{◌≡◌, ◌++◌, true, codes, Some, IfSome};
+ghost use Rattle.git_model.specs.Tree.{mode_digits, entry_text, tree_contents};
 ghost use Rattle.git_model.specs.ObjectName.{IsObjectName};
 ghost use Rattle.git_model.specs.Repository.{object_named};
 ghost use Rattle.git_objects.specs.Parts.{entry_of};
@@ -17,7 +17,7 @@ use crate::dir::{Dir, Entries, Node};
 use crate::names::node_like;
 use crate::storing::row_of;
 use content_pool::Pool;
-use git_objects::{Kind, Name, Naming, TreeEntry, has_twenty_bytes, mode_digits};
+use git_objects::{FileMode, Kind, Name, Naming, TreeEntry, has_twenty_bytes, mode_digits};
 use tenant_tables::{Objects, Sight, Table};
 
 // What comes after a text's front, if the text begins with it.
@@ -27,14 +27,36 @@ fn after<'a>(text: &'a [u8], front: &[u8]) -> Option<&'a [u8]>
     text.strip_prefix(front)
 }
 
+// What comes after the mode of a regular file and a space.
+fn after_regular(contents: &[u8]) -> Option<&[u8]>
+    ensures { IfSome result (λ rest. contents.now ≡ codes "100644 " ++ rest.now) }
+{
+    match contents {
+        [b'1', b'0', b'0', b'6', b'4', b'4', b' ', rest @ ..] => Some(rest),
+        _ => None,
+    }
+}
+
+// What comes after a mode and a space. Most entries are regular files, so these are read as one
+// pattern.
+fn after_mode(contents: &[u8], mode: FileMode) -> Option<&[u8]>
+    ensures { IfSome result (λ rest. contents.now ≡ mode_digits mode ++ codes " " ++ rest.now) }
+{
+    match mode {
+        FileMode::Regular => after_regular(contents),
+        _ => after(after(contents, mode_digits(mode))?, b" "),
+    }
+}
+
 // What comes after an entry, if the contents of a tree begin with it.
 fn after_entry<'a>(contents: &'a [u8], entry: &TreeEntry<'_>) -> Option<&'a [u8]>
     ensures { IfSome result (λ rest. contents.now ≡ entry_text (entry_of entry.now) ++ rest.now) }
 {
-    let rest = after(contents, mode_digits(entry.mode))?;
-    let rest = after(rest, b" ")?;
+    let rest = after_mode(contents, entry.mode)?;
     let rest = after(rest, entry.name)?;
-    let rest = after(rest, &[0])?;
+    let [0, rest @ ..] = rest else {
+        return None;
+    };
     after(rest, entry.id.as_bytes())
 }
 

@@ -12,7 +12,7 @@ ghost use Rattle.git_objects.specs.Parts.{entry_of};
 ghost use Rattle.tree_build.specs.Branch.{slash_after};
 ghost use Rattle.tree_build.specs.Editing.{child, inserted, removed};
 ghost use Rattle.tree_build.specs.Nodes.{held, shape_of, has_name};
-ghost use Rattle.tree_build.specs.Searches.{AreOrdered, is_after, IsPlaceAfter, IsNotLast, HasNone};
+ghost use Rattle.tree_build.specs.Searches.{AreOrdered, is_after, IsPlaceAfter, IsNotLast, HasNone, place_found};
 
 use crate::component::Component;
 use crate::dir::{Entries, Node};
@@ -130,20 +130,56 @@ fn place_before(entries: &Entries, name: &[u8], mode: FileMode) -> Option<usize>
     }
 }
 
+// The place of the entry of a name, whatever its mode.
+fn place_by_search(entries: &Entries, name: &[u8]) -> Option<usize>
+    requires { AreOrdered (shape_of entries.now.items) }
+    ensures { result ≡ position (has_name name.now) entries.now.items }
+{
+    match place_before(entries, name, FileMode::Directory) {
+        Some(at) => Some(at),
+        None => place_before(entries, name, FileMode::Regular),
+    }
+}
+
+/// What a search for the entry of a name finds.
+#[derive(Clone, Copy)]
+pub(crate) enum Found {
+    /// The entry is at this place.
+    At(usize),
+    /// There is none, and no entry comes after a file of this name in Git's order.
+    PastAll,
+    /// There is none.
+    Absent,
+}
+
+/// Looks for the entry of a name.
+pub(crate) fn find(entries: &Entries, name: &[u8]) -> Found
+    requires { AreOrdered (shape_of entries.now.items) }
+    ensures place { place_found result ≡ position (has_name name.now) entries.now.items }
+    ensures past { result ≡ Found.PastAll
+        → IsPlaceAfter name.now entries.now.items (length entries.now.items) }
+{
+    if is_last(entries, name) {
+        return Found::At(entries.len() - 1);
+    }
+    if is_past_all(entries, &ordered(name, FileMode::Regular)) {
+        return Found::PastAll;
+    }
+    match place_by_search(entries, name) {
+        Some(at) => Found::At(at),
+        None => Found::Absent,
+    }
+}
+
 /// The place of the entry of a name.
 pub(crate) fn place_of(entries: &Entries, name: &[u8]) -> Option<usize>
     requires { AreOrdered (shape_of entries.now.items) }
     ensures { result ≡ position (has_name name.now) entries.now.items }
 {
-    if is_last(entries, name) {
-        return Some(entries.len() - 1);
-    }
-    if is_past_all(entries, &ordered(name, FileMode::Regular)) {
-        return None;
-    }
-    match place_before(entries, name, FileMode::Directory) {
-        Some(at) => Some(at),
-        None => place_before(entries, name, FileMode::Regular),
+    match find(entries, name) {
+        Found::At(at) => Some(at),
+        Found::PastAll => None,
+        Found::Absent => None,
     }
 }
 
@@ -176,6 +212,20 @@ pub(crate) fn insert(
 {
     let place = place_after(entries, &ordered(name.as_bytes(), order_mode(&node)));
     entries.insert(alloc, place, (name, node))
+}
+
+/// Puts an entry after all others, where none comes after a file of its name. Takes memory for it.
+pub(crate) fn append(
+    alloc: Global,
+    entries: &mut Entries,
+    name: Component,
+    node: Node,
+) -> Result<(), Memory>
+    requires { IsPlaceAfter name entries.old.items (length entries.old.items) }
+    ensures { OnOk result (shape_of entries.new.items
+        ≡ inserted name (held node) (shape_of entries.old.items)) }
+{
+    entries.push(alloc, (name, node))
 }
 
 /// Takes out the entry of a name, if there is one, and answers its node.

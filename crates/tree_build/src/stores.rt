@@ -92,7 +92,10 @@ fn store_here<N: Naming>(
     match node {
         Node::File(_) => store_none(alloc, pool, table),
         Node::Unopened(tree) => Ok(*tree),
-        Node::Opened(dir) => store_dir(alloc, pool, table, dir, earlier),
+        Node::Opened(dir) => {
+            store_dir(alloc, pool, table, dir, earlier)?;
+            Ok(dir.tree.unwrap())
+        }
     }
 }
 

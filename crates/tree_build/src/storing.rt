@@ -28,8 +28,9 @@ use git_objects::{FileMode, Name, Naming, TreeEntry};
 use std::alloc::Global;
 use tenant_tables::{Fault as TableFault, Summary, Table};
 
-/// Stores the trees of an opened directory that are not stored yet, and answers the name of its own
-/// tree. Where an earlier directory has the same tree, that is kept.
+/// Stores the trees of an opened directory that are not stored yet. The name of its own tree then
+/// stands in `tree`: to answer it as well would take time at each directory. Where an earlier
+/// directory has the same tree, that is kept.
 #[cycle(storing)]
 pub(crate) fn store_dir<N: Naming>(
     alloc: Global,
@@ -37,7 +38,7 @@ pub(crate) fn store_dir<N: Naming>(
     table: &mut Table,
     dir: &mut Dir,
     earlier: Option<&Dir>,
-) -> Result<Name, Fault>
+) -> Result<(), Fault>
     requires stands { IsBackedBy N.digest_of pool.old table.old.entries }
     requires room { HasHoldsLeftBeside pool.old table.old.entries }
     requires sound { IsHeld (objects pool.old table.old.entries)
@@ -47,28 +48,22 @@ pub(crate) fn store_dir<N: Naming>(
     ensures stores { let files = shape_files (stored_files (objects pool.old table.old.entries))
         dir.old.entries in
         StoresTrees result N.digest_of pool.old table.old pool.new table.new
-        (nested_trees N.digest_of files) (tree_id N.digest_of files) }
+        (nested_trees N.digest_of files) tt }
     ensures same { bare dir.new.entries ≡ bare dir.old.entries }
     ensures sound { IsHeld (objects pool.new table.new.entries)
         (record { what = opened dir.new.tree; inside = dir.new.entries }) }
-    ensures named { IfOk result (λ id. dir.new.tree ≡ Some id) }
+    ensures named { let files = shape_files (stored_files (objects pool.old table.old.entries))
+        dir.old.entries in
+        OnOk result (dir.new.tree ≡ Some (tree_id N.digest_of files)) }
 {
     match dir.tree {
-        Some(name) => Ok(name),
+        Some(_) => Ok(()),
         None => {
-            match store_inside(alloc, pool, table, &mut dir.entries, earlier) {
-                Ok(()) => {}
-                Err(refusal) => return Err(refusal),
-            }
-            let added = add_tree(alloc, pool, table, &dir.entries, earlier);
-            match added {
-                Ok(name) => {
-                    dir.tree = Some(name);
-                    dir.place = table.len().saturating_sub(1);
-                }
-                Err(_) => {}
-            }
-            added
+            store_inside(alloc, pool, table, &mut dir.entries, earlier)?;
+            let name = add_tree(alloc, pool, table, &dir.entries, earlier)?;
+            dir.tree = Some(name);
+            dir.place = table.len().saturating_sub(1);
+            Ok(())
         }
     }
 }
@@ -159,10 +154,7 @@ fn store_node<N: Naming>(
     match node {
         Node::File(_) => Ok(()),
         Node::Unopened(_) => Ok(()),
-        Node::Opened(dir) => match store_dir(alloc, pool, table, dir, earlier) {
-            Ok(_) => Ok(()),
-            Err(refusal) => Err(refusal),
-        },
+        Node::Opened(dir) => store_dir(alloc, pool, table, dir, earlier),
     }
 }
 

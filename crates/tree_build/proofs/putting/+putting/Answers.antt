@@ -1,17 +1,20 @@
-use Rattle.std.proofs.Common.{◌≡◌, ◌≤◌, ℕ, List, ◌∷◌, length, refl, sym, ap, ◌∙◌, subst, arith, rules}
-use Rattle.std.specs.Prelude.{Option}
+use Rattle.std.proofs.Common.{◌≡◌, ◌≤◌, ℕ, List, ◌∷◌, length, refl, sym, ap, ◌∙◌, subst, arith, rules, Ok, Err, IfOk, OnOk, Result}
+use Rattle.std.specs.Prelude.{Option, None}
 use Rattle.std.proofs.lemmas.List.{get_or_default}
 use Rattle.std.proofs.lemmas.Result.{IfOk-weaker}
 use Rattle.tenant_tables.specs.Objects.{objects}
 use Rattle.file_maps.specs.FileMap.{Path, Listed}
 use Rattle.file_maps.specs.StoredFiles.{stored_files}
 use Rattle.tree_build.specs.declared.dir.Node.{Node}
+use Rattle.tree_build.specs.declared.names.Found.{Found}
+use Rattle.tree_build.specs.declared.names.Found.TheVariants.{At, PastAll, Absent}
 use Rattle.tree_build.specs.Shape.{opened, Shape, Held, Directory, shape_files, held_files}
 use Rattle.tree_build.specs.Branch.{IsShape, IsHeld, closed_along, closed_from}
 use Rattle.tree_build.specs.Nodes.{held, shape_of, has_name}
 use Rattle.tree_build.specs.Editing.{child, removed, inserted, changed}
 use Rattle.tree_build.specs.Opened.{ReadsMore}
 use Rattle.tree_build.specs.Putting.{file_held, new_node, leads_into, PutsHeld}
+use Rattle.tree_build.specs.Searches.{place_found}
 use Rattle.tree_build.proofs.Entries.{closed_child, closed_at, entry_at, count_there}
 use Rattle.tree_build.proofs.Named.{entry_here, entry_is, shape_lacks, found_within, not_found}
 use Rattle.tree_build.proofs.Along.{one_more}
@@ -24,14 +27,14 @@ put_along-put_inside-requires g t c κs within =
     let n = ap (λ (p : Path). length p) c.in-Some.ensures in
     let os = objects c.args.pool.now c.args.table.now.entries in
     let es = c.dir.inside.entries.items in
-    let at = sym c.place_of.ensures ∙ c.in-Some-place_of.is in
-    let found = found_at c.in-Some.name.now es c.in-Some-place_of.at at (entry_here c.dir.inside.entries.items c.in-Some-place_of.at c.node_mut.result.now) (sym (entry_is c.dir.inside.entries.items c.in-Some-place_of.at c.node_mut.result.now (found_within (has_name c.in-Some.name.now) c.dir.inside.entries.items c.in-Some-place_of.at at) c.node_mut.ensures.value)) in
+    let at = sym c.find-found.ensures.place ∙ ap place_found c.in-At.is in
+    let found = found_at c.in-Some.name.now es c.in-At.at at (entry_here c.dir.inside.entries.items c.in-At.at c.node_mut.result.now) (sym (entry_is c.dir.inside.entries.items c.in-At.at c.node_mut.result.now (found_within (has_name c.in-Some.name.now) c.dir.inside.entries.items c.in-At.at at) c.node_mut.ensures.value)) in
     let sound = subst (IsShape os) (ap (λ (x : Directory). x.entries) (sym c.dir.view_is)) c.requires.sound in
     let few = subst (λ (x : Directory). length (shape_files (stored_files os) x.entries) ≤ 1048576) (sym c.dir.view_is) c.requires.few in
     let e = entry_at os (shape_of es) sound c.in-Some.name.now (held c.node_mut.result.now) found.0 in
     let m = count_there (stored_files os) (shape_of es) c.in-Some.name.now (held c.node_mut.result.now) found.0 in
-    let same = c.at.ensures ∙ get_or_default es c.in-Some-place_of.at c.at.result.now (entry_here c.dir.inside.entries.items c.in-Some-place_of.at c.node_mut.result.now)
-    (found_within (has_name c.in-Some.name.now) es c.in-Some-place_of.at at) ∙ sym (entry_is c.dir.inside.entries.items c.in-Some-place_of.at c.node_mut.result.now (found_within (has_name c.in-Some.name.now) c.dir.inside.entries.items c.in-Some-place_of.at at) c.node_mut.ensures.value) in
+    let same = c.at.ensures ∙ get_or_default es c.in-At.at c.at.result.now (entry_here c.dir.inside.entries.items c.in-At.at c.node_mut.result.now)
+    (found_within (has_name c.in-Some.name.now) es c.in-At.at at) ∙ sym (entry_is c.dir.inside.entries.items c.in-At.at c.node_mut.result.now (found_within (has_name c.in-Some.name.now) c.dir.inside.entries.items c.in-At.at at) c.node_mut.ensures.value) in
     let leads = ap (λ (x : List ℕ × Node). leads_into (held x.1).what c.in-Some.rest) (sym same) ∙ sym c.leads_into.ensures ∙ c.if-leads_into.true in (
       omega arith,
       (
@@ -51,14 +54,14 @@ pub put_along-returns-then-leads_into-clause-puts :
 put_along-returns-then-leads_into-clause-puts g t c =
     let os = objects c.args.pool.now c.args.table.now.entries in
     let es = c.dir.inside.entries.items in
-    let at = sym c.place_of.ensures ∙ c.in-Some-place_of.is in
-    let found = found_at c.in-Some.name.now es c.in-Some-place_of.at at (entry_here c.dir.inside.entries.items c.in-Some-place_of.at c.node_mut.result.now) (sym (entry_is c.dir.inside.entries.items c.in-Some-place_of.at c.node_mut.result.now (found_within (has_name c.in-Some.name.now) c.dir.inside.entries.items c.in-Some-place_of.at at) c.node_mut.ensures.value)) in
-    let same = c.at.ensures ∙ get_or_default es c.in-Some-place_of.at c.at.result.now (entry_here c.dir.inside.entries.items c.in-Some-place_of.at c.node_mut.result.now)
-    (found_within (has_name c.in-Some.name.now) es c.in-Some-place_of.at at) ∙ sym (entry_is c.dir.inside.entries.items c.in-Some-place_of.at c.node_mut.result.now (found_within (has_name c.in-Some.name.now) c.dir.inside.entries.items c.in-Some-place_of.at at) c.node_mut.ensures.value) in
+    let at = sym c.find-found.ensures.place ∙ ap place_found c.in-At.is in
+    let found = found_at c.in-Some.name.now es c.in-At.at at (entry_here c.dir.inside.entries.items c.in-At.at c.node_mut.result.now) (sym (entry_is c.dir.inside.entries.items c.in-At.at c.node_mut.result.now (found_within (has_name c.in-Some.name.now) c.dir.inside.entries.items c.in-At.at at) c.node_mut.ensures.value)) in
+    let same = c.at.ensures ∙ get_or_default es c.in-At.at c.at.result.now (entry_here c.dir.inside.entries.items c.in-At.at c.node_mut.result.now)
+    (found_within (has_name c.in-Some.name.now) es c.in-At.at at) ∙ sym (entry_is c.dir.inside.entries.items c.in-At.at c.node_mut.result.now (found_within (has_name c.in-Some.name.now) c.dir.inside.entries.items c.in-At.at at) c.node_mut.ensures.value) in
     let leads = ap (λ (x : List ℕ × Node). leads_into (held x.1).what c.in-Some.rest) (sym same) ∙ sym c.leads_into.ensures ∙ c.if-leads_into.true in
     let had : c.args.dir.now.entries ≡ shape_of es = ap (λ (x : Directory). x.entries) (sym c.dir.view_is) in
     IfOk-weaker c.put_inside.result _ _
-    (λ gone puts. puts_inside os (file_held c.args.entry) c.args.dir.now _ c.in-Some.name.now c.in-Some.rest c.args.path.now c.in-Some.ensures
+    (λ gone puts. puts_inside os (file_held c.args.entry.now) c.args.dir.now _ c.in-Some.name.now c.in-Some.rest c.args.path.now c.in-Some.ensures
     c.requires.sound refl gone (held c.node_mut.result.now) (held c.put_inside.new.node)
     (ap (λ (s : Shape). child s c.in-Some.name.now) had ∙ found.0)
     (leads_more (held c.node_mut.result.now).what c.in-Some.rest leads) puts
@@ -69,8 +72,8 @@ pub put_along-returns-then-leads_into-clause-reads :
     goal.put_along-returns-then-leads_into-clause-reads
 put_along-returns-then-leads_into-clause-reads g t c =
     let es = c.dir.inside.entries.items in
-    let at = sym c.place_of.ensures ∙ c.in-Some-place_of.is in
-    let found = found_at c.in-Some.name.now es c.in-Some-place_of.at at (entry_here c.dir.inside.entries.items c.in-Some-place_of.at c.node_mut.result.now) (sym (entry_is c.dir.inside.entries.items c.in-Some-place_of.at c.node_mut.result.now (found_within (has_name c.in-Some.name.now) c.dir.inside.entries.items c.in-Some-place_of.at at) c.node_mut.ensures.value)) in
+    let at = sym c.find-found.ensures.place ∙ ap place_found c.in-At.is in
+    let found = found_at c.in-Some.name.now es c.in-At.at at (entry_here c.dir.inside.entries.items c.in-At.at c.node_mut.result.now) (sym (entry_is c.dir.inside.entries.items c.in-At.at c.node_mut.result.now (found_within (has_name c.in-Some.name.now) c.dir.inside.entries.items c.in-At.at at) c.node_mut.ensures.value)) in
     subst (ReadsMore c.args.reads.now c.put_inside.new.reads)
     (sym (ap (closed_along c.args.dir.now.entries) c.in-Some.ensures
     ∙ ap (λ (x : Directory). closed_along x.entries (c.in-Some.name.now ∷ c.in-Some.rest)) (sym c.dir.view_is)
@@ -78,61 +81,63 @@ put_along-returns-then-leads_into-clause-reads g t c =
     ∙ ap (λ (o : Option Held). closed_child o c.in-Some.rest) found.0))
     c.put_inside.ensures.reads
 
-pub put_along-returns-in_default-place_of-clause-puts :
-    goal.put_along-returns-in_default-place_of-clause-puts
-put_along-returns-in_default-place_of-clause-puts g t c =
+pub put_along-put_new-requires-clause-past : goal.put_along-put_new-requires-clause-past
+put_along-put_new-requires-clause-past g t c = c.find-found.ensures.past
+
+no_place : (f : Found) → ((at : ℕ) → f ≡ At at → ⊥) → place_found f ≡ None
+no_place (At at) h = absurd (h at refl)
+no_place PastAll h = refl
+no_place Absent h = refl
+
+pub put_along-returns-in_default-found-clause-puts :
+    goal.put_along-returns-in_default-found-clause-puts
+put_along-returns-in_default-found-clause-puts g t c =
     let os = objects c.args.pool.now c.args.table.now.entries in
     let es = c.dir.inside.entries.items in
     let lacks = shape_lacks c.in-Some.name.now es
     (not_found (has_name c.in-Some.name.now) es
-    (sym c.place_of.ensures ∙ c.in_default-place_of.is)) in
+    (sym c.find-found.ensures.place ∙ no_place c.find-found.result c.in_default-found.not-At)) in
     let had : c.args.dir.now.entries ≡ shape_of es = ap (λ (x : Directory). x.entries) (sym c.dir.view_is) in
-    puts_new os (file_held c.args.entry) c.args.dir.now _ c.in-Some.name.now c.in-Some.rest c.args.path.now c.in-Some.ensures
+    puts_new os (file_held c.args.entry.now) c.args.dir.now _ c.in-Some.name.now c.in-Some.rest c.args.path.now c.in-Some.ensures
     c.requires.sound refl 0
     (ap (λ (s : Shape). child s c.in-Some.name.now) had ∙ lacks.0)
     (ap (λ (s : Shape). removed s c.in-Some.name.now) had ∙ lacks.1 ∙ sym had)
-    (c.in_ok-put_new.ensures ∙ ap (inserted c.in-Some.name.now (new_node c.in-Some.rest (file_held c.args.entry))) (sym had))
+    (c.in_ok-put_new.ensures ∙ ap (inserted c.in-Some.name.now (new_node c.in-Some.rest (file_held c.args.entry.now))) (sym had))
     refl
 
-pub put_along-count-gone-requires-clause-sound : goal.put_along-count-gone-requires-clause-sound
-put_along-count-gone-requires-clause-sound g t c =
-    let os = objects c.args.pool.now c.args.table.now.entries in
-    let es = c.dir.inside.entries.items in
-    let at = sym c.place_of.ensures ∙ c.in-Some-place_of.is in
-    let found = found_at c.in-Some.name.now es c.in-Some-place_of.at at c.at-2.result.now (sym c.at-2.ensures) in
-    let sound = subst (IsShape os) (ap (λ (x : Directory). x.entries) (sym c.dir.view_is)) c.requires.sound in
-    let e = entry_at os (shape_of es) sound c.in-Some.name.now (held c.at-2.result.now.1) found.0 in (e.0.sound, e.1)
+pub put_along-put_over-requires-clause-sound : goal.put_along-put_over-requires-clause-sound
+put_along-put_over-requires-clause-sound g t c =
+    subst (IsShape (objects c.args.pool.now c.args.table.now.entries)) (ap (λ (x : Directory). x.entries) (sym c.dir.view_is)) c.requires.sound
 
-pub put_along-count-gone-requires-clause-few : goal.put_along-count-gone-requires-clause-few
-put_along-count-gone-requires-clause-few g t c =
-    let os = objects c.args.pool.now c.args.table.now.entries in
-    let es = c.dir.inside.entries.items in
-    let at = sym c.place_of.ensures ∙ c.in-Some-place_of.is in
-    let found = found_at c.in-Some.name.now es c.in-Some-place_of.at at c.at-2.result.now (sym c.at-2.ensures) in
-    let few = subst (λ (x : Directory). length (shape_files (stored_files os) x.entries) ≤ 1048576) (sym c.dir.view_is) c.requires.few in
-    let m = count_there (stored_files os) (shape_of es) c.in-Some.name.now (held c.at-2.result.now.1) found.0 in
-    omega arith
+pub put_along-put_over-requires-clause-few : goal.put_along-put_over-requires-clause-few
+put_along-put_over-requires-clause-few g t c =
+    subst (λ (x : Directory). length (shape_files (stored_files (objects c.args.pool.now c.args.table.now.entries)) x.entries) ≤ 1048576) (sym c.dir.view_is) c.requires.few
+
+pub put_along-put_over-requires-clause-there : goal.put_along-put_over-requires-clause-there
+put_along-put_over-requires-clause-there g t c = sym c.find-found.ensures.place ∙ ap place_found c.in-At.is
+
+both : {A E : Type 0} (r : Result A E) (P : A → Type 0) (Q : Type 0) (R : A → Type 0)
+    → IfOk r P → OnOk r Q → ((a : A) → P a → Q → R a) → IfOk r R
+both (Ok a) P Q R p q f = f a p q
+both (Err e) P Q R p q f = tt
 
 pub put_along-returns-clause-puts : goal.put_along-returns-clause-puts
 put_along-returns-clause-puts g t c =
     let os = objects c.args.pool.now c.args.table.now.entries in
     let es = c.dir.inside.entries.items in
-    let at = sym c.place_of.ensures ∙ c.in-Some-place_of.is in
-    let found = found_at c.in-Some.name.now es c.in-Some-place_of.at at c.at-2.result.now (sym c.at-2.ensures) in
-    let same = c.at.ensures ∙ get_or_default es c.in-Some-place_of.at c.at.result.now c.at-2.result.now
-    (found_within (has_name c.in-Some.name.now) es c.in-Some-place_of.at at) ∙ sym c.at-2.ensures in
-    let leads = ap (λ (x : List ℕ × Node). leads_into (held x.1).what c.in-Some.rest) (sym same) ∙ sym c.leads_into.ensures ∙ c.if-leads_into.false in
+    let at = sym c.find-found.ensures.place ∙ ap place_found c.in-At.is in
+    let found = found_at c.in-Some.name.now es c.in-At.at at c.at.result.now (sym c.at.ensures) in
+    let leads = sym c.leads_into.ensures ∙ c.if-leads_into.false in
     let had : c.args.dir.now.entries ≡ shape_of es = ap (λ (x : Directory). x.entries) (sym c.dir.view_is) in
-    puts_instead os (file_held c.args.entry) c.args.dir.now _ c.in-Some.name.now c.in-Some.rest c.args.path.now c.in-Some.ensures
-    c.requires.sound refl c.count-gone.result (held c.at-2.result.now.1)
+    both c.put_over.result _ _ _ c.put_over.ensures.gone c.put_over.ensures.entries
+    (λ gone files is. puts_instead os (file_held c.args.entry.now) c.args.dir.now _ c.in-Some.name.now c.in-Some.rest c.args.path.now c.in-Some.ensures
+    c.requires.sound refl gone (held c.at.result.now.1)
     (ap (λ (s : Shape). child s c.in-Some.name.now) had ∙ found.0) leads
-    (c.in_ok-put_instead.ensures
-    ∙ ap (λ (x : Held). inserted c.in-Some.name.now x (removed (shape_of es) c.in-Some.name.now)) c.in_ok-new_node.ensures
-    ∙ ap (λ (s : Shape). inserted c.in-Some.name.now (new_node c.in-Some.rest (file_held c.args.entry)) (removed s c.in-Some.name.now)) (sym had))
-    c.count-gone.ensures
+    (is ∙ ap (λ (s : Shape). inserted c.in-Some.name.now (new_node c.in-Some.rest (file_held c.args.entry.now)) (removed s c.in-Some.name.now)) (sym had))
+    (files (held c.at.result.now.1) found.0))
 
-pub put_inside-put_along-requires-in-Unopened : goal.put_inside-put_along-requires-in-Unopened
-put_inside-put_along-requires-in-Unopened g t c κs within =
+pub put_unopened-put_along-requires : goal.put_unopened-put_along-requires
+put_unopened-put_along-requires g t c κs within =
     let os = objects c.args.pool.now c.args.table.now.entries in
     let d = c.decreases in
     let o = c.in_ok-dir-in-Unopened.ensures in
@@ -140,31 +145,31 @@ put_inside-put_along-requires-in-Unopened g t c κs within =
     let n = ap (λ (fs : Listed). length fs) o.files in
     (omega arith, (search (rules, within), (c.requires.stands, (o.sound, (omega arith, c.requires.some)))))
 
-pub put_inside-returns-in_err-gone-in-Unopened-clause-reads :
-    goal.put_inside-returns-in_err-gone-in-Unopened-clause-reads
-put_inside-returns-in_err-gone-in-Unopened-clause-reads g t c =
+pub put_unopened-returns-in_err-gone-in-Unopened-clause-reads :
+    goal.put_unopened-returns-in_err-gone-in-Unopened-clause-reads
+put_unopened-returns-in_err-gone-in-Unopened-clause-reads g t c =
     let a = c.saturating_add.ensures in
-    subst (λ (n : Node). ReadsMore c.args.reads.now c.put_along-in-Unopened.new.reads (closed_from (held n) c.args.rest.now))
+    subst (λ (n : Node). ReadsMore c.args.reads.now c.put_along.new.reads (closed_from (held n) c.args.rest.now))
     (sym c.in-Unopened.is)
-    (one_more c.args.reads.now c.saturating_add.result c.put_along-in-Unopened.new.reads c.in_ok-dir-in-Unopened.dir.entries c.args.rest.now
-    c.requires.some (omega arith) (omega arith) c.put_along-in-Unopened.ensures.reads)
+    (one_more c.args.reads.now c.saturating_add.result c.put_along.new.reads c.in_ok-dir-in-Unopened.dir.entries c.args.rest.now
+    c.requires.some (omega arith) (omega arith) c.put_along.ensures.reads)
 
-pub put_inside-returns-in_ok-gone-in-Unopened-clause-reads :
-    goal.put_inside-returns-in_ok-gone-in-Unopened-clause-reads
-put_inside-returns-in_ok-gone-in-Unopened-clause-reads g t c =
+pub put_unopened-returns-in_ok-gone-in-Unopened-clause-reads :
+    goal.put_unopened-returns-in_ok-gone-in-Unopened-clause-reads
+put_unopened-returns-in_ok-gone-in-Unopened-clause-reads g t c =
     let a = c.saturating_add.ensures in
-    subst (λ (n : Node). ReadsMore c.args.reads.now c.put_along-in-Unopened.new.reads (closed_from (held n) c.args.rest.now))
+    subst (λ (n : Node). ReadsMore c.args.reads.now c.put_along.new.reads (closed_from (held n) c.args.rest.now))
     (sym c.in-Unopened.is)
-    (one_more c.args.reads.now c.saturating_add.result c.put_along-in-Unopened.new.reads c.in_ok-dir-in-Unopened.dir.entries c.args.rest.now
-    c.requires.some (omega arith) (omega arith) c.put_along-in-Unopened.ensures.reads)
+    (one_more c.args.reads.now c.saturating_add.result c.put_along.new.reads c.in_ok-dir-in-Unopened.dir.entries c.args.rest.now
+    c.requires.some (omega arith) (omega arith) c.put_along.ensures.reads)
 
-pub put_inside-returns-in_ok-gone-in-Unopened-clause-puts :
-    goal.put_inside-returns-in_ok-gone-in-Unopened-clause-puts
-put_inside-returns-in_ok-gone-in-Unopened-clause-puts g t c =
+pub put_unopened-returns-in_ok-gone-in-Unopened-clause-puts :
+    goal.put_unopened-returns-in_ok-gone-in-Unopened-clause-puts
+put_unopened-returns-in_ok-gone-in-Unopened-clause-puts g t c =
     let os = objects c.args.pool.now c.args.table.now.entries in
-    let d = c.put_along-in-Unopened.new.dir in
-    subst (λ (n : Node). PutsHeld os c.args.rest.now (file_held c.args.entry) (held n) (record { what = opened d.tree; inside = d.entries }) c.in_ok-gone-in-Unopened.gone)
+    let d = c.put_along.new.dir in
+    subst (λ (n : Node). PutsHeld os c.args.rest.now (file_held c.args.entry.now) (held n) (record { what = opened d.tree; inside = d.entries }) c.in_ok-gone-in-Unopened.gone)
     (sym c.in-Unopened.is)
-    (puts_unopened os (file_held c.args.entry) c.in-Unopened.id c.in_ok-dir-in-Unopened.dir d c.args.rest.now c.in_ok-gone-in-Unopened.gone
+    (puts_unopened os (file_held c.args.entry.now) c.in-Unopened.id c.in_ok-dir-in-Unopened.dir d c.args.rest.now c.in_ok-gone-in-Unopened.gone
     (subst (λ (n : Node). IsHeld os (held n)) c.in-Unopened.is c.requires.sound).0
     c.in_ok-dir-in-Unopened.ensures c.in_ok-gone-in-Unopened.ensures.puts)

@@ -1,11 +1,12 @@
-use Rattle.std.proofs.Common.{◌≡◌, ℕ, ◌<◌, List, [], get_or, length, Option, None, Ok, refl, sym, ap, ◌∙◌, subst, rules, arith}
-use Rattle.std.proofs.lemmas.Result.{on_ok_weaker}
+use Rattle.std.proofs.Common.{◌≡◌, ℕ, ◌<◌, List, [], ◌∷◌, get_or, length, Option, Some, None, Result, Ok, Err, refl, sym, ap, ◌∙◌, subst, rules, arith}
+use Rattle.std.proofs.lemmas.Result.{on_ok_weaker, err_from_is_err_and}
 use Rattle.std.proofs.lemmas.List.{take_all, append-nil}
 use Rattle.git_model.specs.Tree.{TreeEntry}
 use Rattle.file_maps.specs.declared.entry.Entry.{Entry}
+use Rattle.file_maps.specs.declared.fault.Fault.{Fault}
 use Rattle.tenant_tables.specs.Objects.{objects}
 use Rattle.file_maps.specs.FileMap.{Listed}
-use Rattle.file_maps.specs.Trees.{Groups, file_of, unless_file, nested_trees, tree_id}
+use Rattle.file_maps.specs.Trees.{Groups, file_of, unless_file, nested_trees, tree_name}
 use Rattle.file_maps.specs.StoredTree.{ListsTree}
 use Rattle.file_maps.specs.Storable.{AreStorable}
 use Rattle.file_maps.specs.StoredFiles.{stored_files}
@@ -14,14 +15,17 @@ use Rattle.tree_build.specs.Shape.{Shape, Directory, unopened, opened, shape_fil
 use Rattle.tree_build.specs.Nodes.{held, shape_of}
 use Rattle.tree_build.specs.Branch.{IsWhat, IsShape, IsHeld}
 use Rattle.tree_build.specs.ShapeCode.{shape_size}
-use Rattle.tree_build.specs.Stores.{parts_of, AreNamed, trees_below, trees_of_parts}
+use Rattle.tree_build.specs.Stores.{parts_of, entries_of_shape, AreNamed, trees_below, trees_of_parts}
 use Rattle.tree_build.proofs.Named.{entry_here, entry_is}
 use Rattle.tree_build.proofs.Places.{sound-at, part-at, parts-length, same-set, sound-set, named-set, size-at, same-size, same-length, storable-at}
 use Rattle.tree_build.proofs.Later.{adds-grow, stores-grow, files-later, shape-later}
 use Rattle.tree_build.proofs.Held.{adds-named}
 use Rattle.tree_build.proofs.Inside.{no-root, parts-stay, files-stay, stores-own, refused-inside, stores-known}
 use Rattle.tree_build.proofs.PartTurns.{adds_turn, unrefused_turn, refused_turn, all_parts}
+use Rattle.tree_build.proofs.StoredAt.{StoresFiles}
 use Rattle.tree_build.proofs.storing.+storing.Goals as goal
+use Rattle.tree_build.proofs.storing.+storing.Goals.{store_dir-In-Some, store_dir-After-add_tree}
+use Rattle.tree_build.proofs.storing.+storing.Given.{Over}
 
 pub store_at-store_node-requires : goal.store_at-store_node-requires
 store_at-store_node-requires g t c κs within =
@@ -90,96 +94,117 @@ store_node-returns-in-Unopened-clause-stores g t c =
     subst (λ n. StoresTrees {name = Unit {0}} (Ok (tt {0})) g.N.Naming.digest_of c.args.pool.now c.args.table.now c.args.pool.now c.args.table.now (trees_below g.N.Naming.digest_of (held_files (stored_files os) (held n))) (tt {0}))
     (sym c.in-Unopened.is) (refl, adds.1, adds.0)
 
-pub store_node-returns-in-Ok-clause-stores : goal.store_node-returns-in-Ok-clause-stores
-store_node-returns-in-Ok-clause-stores g t c =
+pub store_node-returns-in-Opened-clause-stores : goal.store_node-returns-in-Opened-clause-stores
+store_node-returns-in-Opened-clause-stores g t c =
     let os = objects c.args.pool.now c.args.table.now.entries in
     let fs = shape_files (stored_files os) c.in-Opened.dir.entries in
-    let stores = c.in-Ok.ensures.stores in
-    subst (λ n. StoresTrees {name = Unit {0}} (Ok (tt {0})) g.N.Naming.digest_of c.args.pool.now c.args.table.now c.store_dir.new.pool c.store_dir.new.table (trees_below g.N.Naming.digest_of (held_files (stored_files os) (held n))) (tt {0}))
+    subst (λ n. StoresTrees c.store_dir.result g.N.Naming.digest_of c.args.pool.now c.args.table.now c.store_dir.new.pool c.store_dir.new.table (trees_below g.N.Naming.digest_of (held_files (stored_files os) (held n))) (tt {0}))
     (sym c.in-Opened.is)
-    (subst (λ (o : Option Entry). StoresTrees {name = Unit {0}} (Ok (tt {0})) g.N.Naming.digest_of c.args.pool.now c.args.table.now c.store_dir.new.pool c.store_dir.new.table (unless_file o (nested_trees g.N.Naming.digest_of fs)) (tt {0}))
-    (sym (no-root (stored_files os) c.in-Opened.dir.entries)) (refl, stores.1, stores.2))
-
-pub store_node-returns-in-Err-clause-stores : goal.store_node-returns-in-Err-clause-stores
-store_node-returns-in-Err-clause-stores g t c =
-    let os = objects c.args.pool.now c.args.table.now.entries in
-    let fs = shape_files (stored_files os) c.in-Opened.dir.entries in
-    subst (λ n. AddsSome g.N.Naming.digest_of c.args.pool.now c.args.table.now c.store_dir.new.pool c.store_dir.new.table (trees_below g.N.Naming.digest_of (held_files (stored_files os) (held n))) c.in-Err.refusal)
-    (sym c.in-Opened.is)
-    (subst (λ (o : Option Entry). AddsSome g.N.Naming.digest_of c.args.pool.now c.args.table.now c.store_dir.new.pool c.store_dir.new.table (unless_file o (nested_trees g.N.Naming.digest_of fs)) c.in-Err.refusal)
-    (sym (no-root (stored_files os) c.in-Opened.dir.entries)) c.in-Err.ensures.stores)
+    (subst (λ (o : Option Entry). StoresTrees c.store_dir.result g.N.Naming.digest_of c.args.pool.now c.args.table.now c.store_dir.new.pool c.store_dir.new.table (unless_file o (nested_trees g.N.Naming.digest_of fs)) (tt {0}))
+    (sym (no-root (stored_files os) c.in-Opened.dir.entries)) c.store_dir.ensures.stores)
 
 -- ---- a directory
 
-pub store_dir-returns-in-Err-clause-stores : goal.store_dir-returns-in-Err-clause-stores
-store_dir-returns-in-Err-clause-stores g t c =
+-- it has the name of its tree already
+known : (g : Over) (t : ℕ) (c : store_dir-In-Some g t)
+    → StoresFiles g.N.Naming.digest_of (Ok c.in-Some.field-0) c.args.pool.now c.args.table.now c.args.pool.now c.args.table.now
+    (shape_files (stored_files (objects c.args.pool.now c.args.table.now.entries)) c.args.dir.now.entries)
+known g t c =
     let os = objects c.args.pool.now c.args.table.now.entries in
-    let is = ap (λ (d : Directory). d.entries) c.dir.view_is in
-    subst (λ (s : Shape). AddsSome g.N.Naming.digest_of c.args.pool.now c.args.table.now c.store_inside.new.pool c.store_inside.new.table (nested_trees g.N.Naming.digest_of (shape_files (stored_files os) s)) c.in-Err.refusal) is
-    (refused-inside g.N.Naming.digest_of c.args.pool.now c.store_inside.new.pool c.args.table.now c.store_inside.new.table
-    (shape_of c.dir.inside.entries.items) (subst (IsShape os) (sym is) c.requires.sound.1) c.requires.stands c.requires.room c.in-Err.refusal c.in-Err.ensures.stores)
+    let fs = shape_files (stored_files os) c.args.dir.now.entries in
+    stores-known g.N.Naming.digest_of c.args.pool.now c.args.table.now c.in-Some.field-0 fs c.requires.stands c.requires.room
+    (subst (λ (o : Option (List ℕ)). IsWhat os (opened o) fs) (sym (ap (λ (d : Directory). d.tree) c.dir.view_is) ∙ c.in-Some.is) c.requires.sound.0)
 
-pub store_dir-add_tree-added-requires-clause-storable : goal.store_dir-add_tree-added-requires-clause-storable
-store_dir-add_tree-added-requires-clause-storable g t c =
+pub store_dir-returns-in-Some-clause-stores : goal.store_dir-returns-in-Some-clause-stores
+store_dir-returns-in-Some-clause-stores g t c =
+    let stores = known g t (goal.at.store_dir-returns-in-Some-clause-stores g t c).In-Some in
+    (refl, stores.1, stores.2)
+
+pub store_dir-returns-in-Some-clause-named : goal.store_dir-returns-in-Some-clause-named
+store_dir-returns-in-Some-clause-named g t c =
+    let stores = known g t (goal.at.store_dir-returns-in-Some-clause-named g t c).In-Some in
+    sym (ap (λ (d : Directory). d.tree) c.dir.view_is) ∙ c.in-Some.is ∙ ap (λ (id : List ℕ). Some id) stores.0
+
+pub store_dir-returns-in_err-store_inside-in-None-clause-stores : goal.store_dir-returns-in_err-store_inside-in-None-clause-stores
+store_dir-returns-in_err-store_inside-in-None-clause-stores g t c =
+    let os = objects c.args.pool.now c.args.table.now.entries in
+    let fs = shape_files (stored_files os) c.args.dir.now.entries in
+    let is = ap (λ (d : Directory). d.entries) c.dir.view_is in
+    let failed = err_from_is_err_and c.from_residual.result c.from_residual.ensures.1 in
+    subst (λ (r : Result (Unit {0}) Fault). StoresTrees r g.N.Naming.digest_of c.args.pool.now c.args.table.now c.store_inside.new.pool c.store_inside.new.table (nested_trees g.N.Naming.digest_of fs) (tt {0}))
+    (sym (failed.1 ∙ ap (λ (e : Fault). Err e) failed.2))
+    (subst (λ (s : Shape). AddsSome g.N.Naming.digest_of c.args.pool.now c.args.table.now c.store_inside.new.pool c.store_inside.new.table (nested_trees g.N.Naming.digest_of (shape_files (stored_files os) s)) c.in_err-store_inside-in-None.field-0.0) is
+    (refused-inside g.N.Naming.digest_of c.args.pool.now c.store_inside.new.pool c.args.table.now c.store_inside.new.table
+    (shape_of c.dir.inside.entries.items) (subst (IsShape os) (sym is) c.requires.sound.1) c.requires.stands c.requires.room
+    c.in_err-store_inside-in-None.field-0.0 c.in_err-store_inside-in-None.ensures.stores))
+
+pub store_dir-add_tree-requires-clause-storable : goal.store_dir-add_tree-requires-clause-storable
+store_dir-add_tree-requires-clause-storable g t c =
     let os = objects c.args.pool.now c.args.table.now.entries in
     let is = ap (λ (d : Directory). d.entries) c.dir.view_is in
     let grows = stores-grow g.N.Naming.digest_of c.store_inside.result c.args.pool.now c.store_inside.new.pool c.args.table.now c.store_inside.new.table _ (tt {0}) c.store_inside.ensures.stores in
     let same = files-stay os (objects c.store_inside.new.pool c.store_inside.new.table.entries) grows (shape_of c.dir.inside.entries.items) (shape_of c.store_inside.new.entries.items) (subst (IsShape os) (sym is) c.requires.sound.1) c.store_inside.ensures.same in
     subst AreStorable (sym (same ∙ ap (shape_files (stored_files os)) is)) c.requires.storable
 
-pub store_dir-returns-in-Some-clause-stores : goal.store_dir-returns-in-Some-clause-stores
-store_dir-returns-in-Some-clause-stores g t c =
-    let os = objects c.args.pool.now c.args.table.now.entries in
-    let fs = shape_files (stored_files os) c.args.dir.now.entries in
-    stores-known g.N.Naming.digest_of c.args.pool.now c.args.table.now c.in-Some.name fs c.requires.stands c.requires.room
-    (subst (λ (o : Option (List ℕ)). IsWhat os (opened o) fs) (sym (ap (λ (d : Directory). d.tree) c.dir.view_is) ∙ c.in-Some.is) c.requires.sound.0)
-
-pub store_dir-returns-in-Ok-added-clause-stores : goal.store_dir-returns-in-Ok-added-clause-stores
-store_dir-returns-in-Ok-added-clause-stores g t c =
+-- the trees of its entries, and then its own
+own : (g : Over) (t : ℕ) (c : store_dir-After-add_tree g t) (answer : Result (List ℕ) Fault) → c.add_tree.result ≡ answer
+    → StoresFiles g.N.Naming.digest_of answer c.args.pool.now c.args.table.now c.add_tree.new.pool c.add_tree.new.table
+    (shape_files (stored_files (objects c.args.pool.now c.args.table.now.entries)) c.args.dir.now.entries)
+own g t c answer was =
     let os = objects c.args.pool.now c.args.table.now.entries in
     let is = ap (λ (d : Directory). d.entries) c.dir.view_is in
     let grows = stores-grow g.N.Naming.digest_of c.store_inside.result c.args.pool.now c.store_inside.new.pool c.args.table.now c.store_inside.new.table _ (tt {0}) c.store_inside.ensures.stores in
-    let stores = c.in-Ok.ensures.stores in
-    subst (λ (s : Shape). StoresTrees (Ok c.in-Ok-added.name) g.N.Naming.digest_of c.args.pool.now c.args.table.now c.add_tree-added.new.pool c.add_tree-added.new.table (nested_trees g.N.Naming.digest_of (shape_files (stored_files os) s)) (tree_id g.N.Naming.digest_of (shape_files (stored_files os) s))) is
+    let inside = c.in_ok-store_inside-in-None.ensures in
+    subst (λ (s : Shape). StoresFiles g.N.Naming.digest_of answer c.args.pool.now c.args.table.now c.add_tree.new.pool c.add_tree.new.table (shape_files (stored_files os) s)) is
     (stores-own g.N.Naming.digest_of c.args.pool.now c.store_inside.new.pool c.args.table.now c.store_inside.new.table
     (shape_of c.dir.inside.entries.items) (shape_of c.store_inside.new.entries.items)
-    (subst (IsShape os) (sym is) c.requires.sound.1) grows c.store_inside.ensures.same c.in-Ok.ensures.sound c.in-Ok.ensures.named stores.2.stands
-    c.add_tree-added.new.pool c.add_tree-added.new.table (Ok c.in-Ok-added.name) (refl, stores.1, stores.2)
-    c.in-Ok-added.ensures.stores)
+    (subst (IsShape os) (sym is) c.requires.sound.1) grows c.store_inside.ensures.same inside.sound inside.named inside.stores.2.stands
+    c.add_tree.new.pool c.add_tree.new.table answer (refl, inside.stores.1, inside.stores.2)
+    (subst (λ (r : Result (List ℕ) Fault). StoresTrees r g.N.Naming.digest_of c.store_inside.new.pool c.store_inside.new.table c.add_tree.new.pool c.add_tree.new.table
+    (entries_of_shape (shape_of c.store_inside.new.entries.items) ∷ []) (tree_name g.N.Naming.digest_of (entries_of_shape (shape_of c.store_inside.new.entries.items)))) was
+    c.add_tree.ensures.stores))
 
-pub store_dir-returns-in-Ok-added-clause-sound : goal.store_dir-returns-in-Ok-added-clause-sound
-store_dir-returns-in-Ok-added-clause-sound g t c =
+pub store_dir-returns-in_err-name-in-None-clause-stores : goal.store_dir-returns-in_err-name-in-None-clause-stores
+store_dir-returns-in_err-name-in-None-clause-stores g t c =
+    let fs = shape_files (stored_files (objects c.args.pool.now c.args.table.now.entries)) c.args.dir.now.entries in
+    let failed = err_from_is_err_and c.from_residual-in_err-name-in-None.result c.from_residual-in_err-name-in-None.ensures.1 in
+    subst (λ (r : Result (Unit {0}) Fault). StoresTrees r g.N.Naming.digest_of c.args.pool.now c.args.table.now c.add_tree.new.pool c.add_tree.new.table (nested_trees g.N.Naming.digest_of fs) (tt {0}))
+    (sym (failed.1 ∙ ap (λ (e : Fault). Err e) failed.2))
+    (own g t (goal.at.store_dir-returns-in_err-name-in-None-clause-stores g t c).After-add_tree
+    (Err c.in_err-name-in-None.field-0.0) c.in_err-name-in-None.was)
+
+pub store_dir-returns-in_err-name-in-None-clause-sound : goal.store_dir-returns-in_err-name-in-None-clause-sound
+store_dir-returns-in_err-name-in-None-clause-sound g t c =
     let os = objects c.store_inside.new.pool c.store_inside.new.table.entries in
-    let after = objects c.add_tree-added.new.pool c.add_tree-added.new.table.entries in
-    let grows = stores-grow g.N.Naming.digest_of c.add_tree-added.result c.store_inside.new.pool c.add_tree-added.new.pool c.store_inside.new.table c.add_tree-added.new.table _ _ c.add_tree-added.ensures.stores in
-    let s = shape_of c.store_inside.new.entries.items in
-    let sound = c.in-Ok.ensures.sound in (
-      subst (ListsTree after c.in-Ok-added.name) (sym (files-later os after grows s sound))
-          c.in-Ok-added.ensures.lists,
-      shape-later os after grows s sound,
-    )
-
-pub store_dir-returns-in-Err-added-clause-stores : goal.store_dir-returns-in-Err-added-clause-stores
-store_dir-returns-in-Err-added-clause-stores g t c =
-    let os = objects c.args.pool.now c.args.table.now.entries in
-    let is = ap (λ (d : Directory). d.entries) c.dir.view_is in
-    let grows = stores-grow g.N.Naming.digest_of c.store_inside.result c.args.pool.now c.store_inside.new.pool c.args.table.now c.store_inside.new.table _ (tt {0}) c.store_inside.ensures.stores in
-    let stores = c.in-Ok.ensures.stores in
-    subst (λ (s : Shape). StoresTrees c.add_tree-added.result g.N.Naming.digest_of c.args.pool.now c.args.table.now c.add_tree-added.new.pool c.add_tree-added.new.table (nested_trees g.N.Naming.digest_of (shape_files (stored_files os) s)) (tree_id g.N.Naming.digest_of (shape_files (stored_files os) s))) is
-    (stores-own g.N.Naming.digest_of c.args.pool.now c.store_inside.new.pool c.args.table.now c.store_inside.new.table
-    (shape_of c.dir.inside.entries.items) (shape_of c.store_inside.new.entries.items)
-    (subst (IsShape os) (sym is) c.requires.sound.1) grows c.store_inside.ensures.same c.in-Ok.ensures.sound c.in-Ok.ensures.named stores.2.stands
-    c.add_tree-added.new.pool c.add_tree-added.new.table c.add_tree-added.result (refl, stores.1, stores.2)
-    c.add_tree-added.ensures.stores)
-
-pub store_dir-returns-in-Err-added-clause-sound : goal.store_dir-returns-in-Err-added-clause-sound
-store_dir-returns-in-Err-added-clause-sound g t c =
-    let os = objects c.store_inside.new.pool c.store_inside.new.table.entries in
-    let after = objects c.add_tree-added.new.pool c.add_tree-added.new.table.entries in
-    let grows = stores-grow g.N.Naming.digest_of c.add_tree-added.result c.store_inside.new.pool c.add_tree-added.new.pool c.store_inside.new.table c.add_tree-added.new.table _ _ c.add_tree-added.ensures.stores in
+    let after = objects c.add_tree.new.pool c.add_tree.new.table.entries in
+    let grows = stores-grow g.N.Naming.digest_of c.add_tree.result c.store_inside.new.pool c.add_tree.new.pool c.store_inside.new.table c.add_tree.new.table _ _ c.add_tree.ensures.stores in
     let s = shape_of c.store_inside.new.entries.items in (
       subst (λ (o : Option (List ℕ)). IsWhat after (opened o) (shape_files (stored_files after) s)) (sym c.in-None.is) tt,
-      shape-later os after grows s c.in-Ok.ensures.sound,
+      shape-later os after grows s c.in_ok-store_inside-in-None.ensures.sound,
+    )
+
+pub store_dir-returns-in_ok-name-in-None-clause-stores : goal.store_dir-returns-in_ok-name-in-None-clause-stores
+store_dir-returns-in_ok-name-in-None-clause-stores g t c =
+    let stores = own g t (goal.at.store_dir-returns-in_ok-name-in-None-clause-stores g t c).After-add_tree
+    (Ok c.in_ok-name-in-None.name) c.in_ok-name-in-None.was in
+    (refl, stores.1, stores.2)
+
+pub store_dir-returns-in_ok-name-in-None-clause-named : goal.store_dir-returns-in_ok-name-in-None-clause-named
+store_dir-returns-in_ok-name-in-None-clause-named g t c =
+    let stores = own g t (goal.at.store_dir-returns-in_ok-name-in-None-clause-named g t c).After-add_tree
+    (Ok c.in_ok-name-in-None.name) c.in_ok-name-in-None.was in
+    ap (λ (id : List ℕ). Some id) stores.0
+
+pub store_dir-returns-in_ok-name-in-None-clause-sound : goal.store_dir-returns-in_ok-name-in-None-clause-sound
+store_dir-returns-in_ok-name-in-None-clause-sound g t c =
+    let os = objects c.store_inside.new.pool c.store_inside.new.table.entries in
+    let after = objects c.add_tree.new.pool c.add_tree.new.table.entries in
+    let grows = stores-grow g.N.Naming.digest_of c.add_tree.result c.store_inside.new.pool c.add_tree.new.pool c.store_inside.new.table c.add_tree.new.table _ _ c.add_tree.ensures.stores in
+    let s = shape_of c.store_inside.new.entries.items in
+    let sound = c.in_ok-store_inside-in-None.ensures.sound in (
+      subst (ListsTree after c.in_ok-name-in-None.name) (sym (files-later os after grows s sound))
+          c.in_ok-name-in-None.ensures.lists,
+      shape-later os after grows s sound,
     )
 
 -- ---- its entries
