@@ -3,7 +3,8 @@
 // Such a program counts its growths and refuses the one whose number it compares with. In place of that
 // comparison comes a call of `hook`: at each growth the run is forked, the child sees this growth refused and
 // goes on to its end, and the parent waits for it and notes how it ended. So a run of N growths is swept
-// in one run and N ends, and not in N runs.
+// in one run and N ends, and not in N runs. Jobs can share the growths: job J of K
+// refuses those whose number, counted from 0, leaves J when it is divided by K.
 #define _GNU_SOURCE
 #include <fcntl.h>
 #include <link.h>
@@ -15,13 +16,13 @@
 #include <sys/wait.h>
 #include <unistd.h>
 
-static int is_child, notes = -1;
+static int is_child, notes = -1, jobs = 1, growths;
 int verdict;
 
 // Whether the growth is refused in this process.
 __attribute__((used)) static void decide(void) {
   verdict = 0;
-  if (is_child) return;
+  if (is_child || growths++ % jobs) return;
   pid_t child = fork();
   if (child == 0) {
     alarm(100);
@@ -90,6 +91,8 @@ static int look(struct dl_phdr_info *info, size_t size, void *found) {
 __attribute__((constructor)) static void start(void) {
   int found = 0;
   if (!getenv("EACH_NOTES") || !getenv("EACH_NUMBER")) return;
+  jobs = atoi(getenv("EACH_JOBS"));
+  growths = jobs - atoi(getenv("EACH_JOB"));
   notes = open(getenv("EACH_NOTES"), O_WRONLY | O_CREAT | O_APPEND, 0600);
   dl_iterate_phdr(look, &found);
   if (notes < 0 || !found) _exit(125);

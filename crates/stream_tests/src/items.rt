@@ -79,9 +79,12 @@ impl Reading {
         }
     }
 
-    // Feeds a piece, and writes the items that it completes.
+    // Feeds a piece, and writes the items that it completes. Writes `refused` first if there is no
+    // memory for the piece.
     fn feed(&mut self, piece: &[u8]) {
-        let _ = self.lexer.feed(piece);
+        if self.lexer.feed(piece) == Err(Fault::Memory) {
+            let _ = self.shown.extend_from_slice(b"refused");
+        }
         for _ in 0..u64::MAX {
             if !self.show_next() {
                 return;

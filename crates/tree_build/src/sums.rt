@@ -1,17 +1,19 @@
 //! The summary of a tree, from those of the directories in it.
 
 ghost use Rattle.std.specs.Prelude.{◌≡◌, ◌≤◌, ◌+◌};
-ghost use Rattle.git_objects.specs.Parts.{entry_of};
+ghost use Rattle.std.specs.Option.{unwrap_or};
 ghost use Rattle.tenant_tables.specs.Trees.{no_files, below, one_file, both, entry_summary, tree_summary};
+ghost use Rattle.tenant_tables.specs.View.{summary_of};
 ghost use Rattle.tree_build.specs.Chunks.{all};
-ghost use Rattle.tree_build.specs.Nodes.{shape_of};
-ghost use Rattle.tree_build.specs.Stores.{AreNamed, entries_of_shape};
+ghost use Rattle.tree_build.specs.Nodes.{held, shape_of};
+ghost use Rattle.tree_build.specs.Shape.{file};
+ghost use Rattle.tree_build.specs.Stores.{AreNamed, IsNamed, entries_of_shape, entry_of_what};
 ghost use Rattle.tree_build.specs.Sums.{IsSmall, sum_with};
 
 use crate::component::Component;
 use crate::dir::Node;
-use crate::storing::row_of;
-use git_objects::{FileMode, TreeEntry};
+use file_maps::Entry;
+use git_objects::{FileMode, Name};
 use tenant_tables::{Summary, Table};
 
 /// The summary of the empty tree.
@@ -64,24 +66,44 @@ pub(crate) fn both(first: Summary, second: Summary) -> Summary
     }
 }
 
-// Where the table may have the tree of a directory.
-fn hint_of(node: &Node) -> usize {
-    match node {
-        Node::Opened(dir) => dir.place,
-        _ => 0,
+// The summary of the tree of this name as the entry `name` of another. The table may have the tree
+// at `place`.
+fn directory_summary(table: &Table, name: &[u8], id: &Name, place: usize) -> Summary
+    requires { IsSmall (below name.now
+        (unwrap_or (summary_of id.now table.now.entries) no_files)) }
+    ensures { result ≡ below name.now
+        (unwrap_or (summary_of id.now table.now.entries) no_files) }
+{
+    let tree = table.summary_with_hint(id, place);
+    below(name, tree.unwrap_or(no_files()))
+}
+
+fn file_summary(table: &Table, name: &[u8], entry: &Entry) -> Summary
+    requires { IsSmall (entry_summary table.now.entries
+        (entry_of_what name.now (file entry.now))) }
+    ensures { result ≡ entry_summary table.now.entries (entry_of_what name.now (file entry.now)) }
+{
+    match entry.mode {
+        FileMode::Directory => directory_summary(table, name, &entry.name, 0),
+        _ => one_file(name),
     }
 }
 
-fn row_summary(table: &Table, row: &TreeEntry<'_>, hint: usize) -> Summary
-    requires { IsSmall (entry_summary table.now.entries (entry_of row.now)) }
-    ensures { result ≡ entry_summary table.now.entries (entry_of row.now) }
+// The summary of an entry. It is read where it stands: a copy of each would take time.
+fn entry_summary(table: &Table, entry: &(Component, Node)) -> Summary
+    requires named { IsNamed (held entry.now.1).what }
+    requires small { IsSmall (entry_summary table.now.entries
+        (entry_of_what entry.now.0 (held entry.now.1).what)) }
+    ensures { result ≡ entry_summary table.now.entries
+        (entry_of_what entry.now.0 (held entry.now.1).what) }
 {
-    match row.mode {
-        FileMode::Directory => {
-            let tree = table.summary_with_hint(&row.id, hint);
-            below(row.name, tree.unwrap_or(no_files()))
+    let name = entry.0.as_bytes();
+    match &entry.1 {
+        Node::File(file) => file_summary(table, name, file),
+        Node::Unopened(id) => directory_summary(table, name, id, 0),
+        Node::Opened(dir) => {
+            directory_summary(table, name, dir.tree.as_ref().unwrap(), dir.place)
         }
-        _ => one_file(row.name),
     }
 }
 
@@ -93,7 +115,7 @@ fn sum_with(table: &Table, before: Summary, chunk: &[(Component, Node)]) -> Summ
 {
     let mut sum = before;
     for entry in chunk {
-        sum = both(sum, row_summary(table, &row_of(entry), hint_of(&entry.1)));
+        sum = both(sum, entry_summary(table, entry));
     }
     sum
 }
