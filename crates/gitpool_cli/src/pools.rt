@@ -6,6 +6,9 @@ use lock_files::LockFile;
 use std::fs::File;
 use std::io::{BufReader, ErrorKind, Read};
 
+// How many bytes of a pool file are read at once. More would copy large contents twice.
+const READ_AHEAD: usize = 32_768;
+
 /// What a run begins with if there is no pool file.
 #[derive(Clone, Copy)]
 pub enum Missing {
@@ -33,7 +36,7 @@ pub fn load(
 }
 
 fn load_from(rt: &HostRuntime, file: File) -> Result<Service<Sha1Naming>, RunFault> {
-    let mut reader = Counted::new(BufReader::new(rt.alloc(), file)?);
+    let mut reader = Counted::new(BufReader::with_capacity(rt.alloc(), READ_AHEAD, file)?);
     load_of(rt, &mut reader)
 }
 

@@ -1,5 +1,5 @@
 -- The objects of a tenant in turn, each read once.
-use Rattle.std.proofs.Common.{◌≡◌, ◌≢◌, ℕ, zero, suc, ◌<◌, ◌≤◌, ◌+◌, Bool, true, false, cond, List, [], ◌∷◌, ◌++◌, codes, drop, length, get_or, Option, None, Some, Result, Ok, Err, refl, sym, ap, subst, ◌∙◌, append_assoc, append-nil, arith, inl, inr, drop-cons}
+use Rattle.std.proofs.Common.{◌≡◌, ◌≢◌, ℕ, zero, suc, ◌<◌, ◌≤◌, ◌+◌, Bool, true, false, cond, List, [], ◌∷◌, ◌++◌, codes, drop, length, get_or, take, Option, None, Some, Result, Ok, Err, refl, sym, ap, subst, ◌∙◌, append_assoc, append-nil, arith, inl, inr, drop-cons}
 use Rattle.std.specs.Prelude.{All, IfOk, IfSome, IsSomeAnd, slice_get}
 use Rattle.std.specs.Bool.{OnTrue}
 use Rattle.std.specs.List.{IsDistinct}
@@ -7,7 +7,7 @@ use Rattle.std.specs.Map.{lookup}
 use Rattle.std.specs.Option.{option_map, unwrap_or}
 use Rattle.std.specs.Str.{bytes_eq}
 use Rattle.std.proofs.lemmas.Bool.{cases_lt, OnTrue_at}
-use Rattle.std.proofs.lemmas.List.{drop_all, get_or-map, length-append}
+use Rattle.std.proofs.lemmas.List.{drop_all, get_or-map, length-append, length_push, take_at, take-append-le}
 use Rattle.std.proofs.lemmas.Option.{get_or_from_slice_get, slice_get_within}
 use Rattle.std.proofs.lemmas.Slice.Eq.{bytes_eq-Decides}
 use Rattle.git_model.specs.declared.kind.Kind.{Kind}
@@ -20,7 +20,7 @@ use Rattle.git_model.specs.Tag.{Tag, CanWriteTag, tag_contents}
 use Rattle.git_model.specs.Commit.{Commit, CanWriteCommit, commit_contents}
 use Rattle.git_model.specs.Content.{Content, content_from}
 use Rattle.git_model.specs.Repository.{Object, object_named}
-use Rattle.git_model.specs.References.{references_in, object_at, no_object, place_of, kind_named}
+use Rattle.git_model.specs.References.{references_in, tree_references, object_at, no_object, place_of, kind_named}
 use Rattle.git_model.specs.GoodRepository.{StandsBefore, IsCommit, IsTag}
 use Rattle.git_model.proofs.Places.{stands_at}
 use Rattle.tenant_tables.specs.declared.summary.Summary.{Summary}
@@ -30,6 +30,9 @@ use Rattle.pool_file_checks.specs.Objects.{IsContent, IsTreeText}
 use Rattle.pool_file_checks.specs.Own.{content_at, Rows, objects_in, AreDistinct}
 use Rattle.pool_file_checks.specs.Sums.{Sums, Fits, FitsAfter, HasFiles, TreesFit, sum_of_entry, sum_of_tree, sums_with}
 use Rattle.pool_file_checks.specs.Quick.{Joins, AreGood, AreKept, AreSums, HasSum}
+use Rattle.pool_file_checks.specs.Alike.{AreGoodBefore, IsGoodAt}
+use Rattle.pool_file_checks.specs.Connecting.{EntryStands}
+use Rattle.pool_file_checks.proofs.ConnectLemmas.{tree_refers}
 use Rattle.pool_file_checks.proofs.OwnObjects.{ids, ids_of_rows, place_at, apart}
 
 -- ---- answers
@@ -110,10 +113,23 @@ read_sum noted bytes es sum read writable contents h =
     subst (λ (xs : List TreeEntry). (IsTreeText bytes xs × FitsAfter noted xs) × (sum ≡ sum_of_tree noted xs)) read
     ((record { writable = writable; contents = contents }, h.0), h.1)
 
+-- What is read is good, if its entries stand and fit.
+pub read_is_good : (os : List Object) (place : ℕ) (kept : List Summary) (bytes : List ℕ) (es : List TreeEntry) (r : Option Summary)
+    → es ≡ tree_read bytes → CanWriteTree es → bytes ≡ tree_contents es → IfSome r (λ _. All (EntryStands os place) es)
+    → ((noted : Sums) → AreKept os place kept noted → IfSome r (λ sum. FitsAfter noted es × (sum ≡ sum_of_tree noted es)))
+    → IfSome r (IsGoodAt os place kept kind.Tree bytes)
+read_is_good os place kept bytes es None read writable contents stands sum = tt
+read_is_good os place kept bytes es (Some s) read writable contents stands sum = record {
+  text = (es, record { writable = writable; contents = contents });
+  stands = subst (λ (xs : List TreeEntry). All (StandsBefore os place) (tree_references xs)) read ((tree_refers os place es).0 stands);
+  fits = λ noted are. let h = read_sum noted bytes es s read writable contents (sum noted are) in (h.0, λ _. h.1);
+}
+
 -- ---- in turn
 
 -- The objects before a place are good, and those that are left decide about the trees.
 pub record GoodSoFar (os : List Object) (place : ℕ) (kept : List Summary) : Type 0 where
+  pub before : AreGoodBefore os place kept
   pub contents : (i : ℕ) → i < place → IsContent (object_at i os).content
   pub connected : (i : ℕ) → i < place → All (StandsBefore os i) (references_in (object_at i os).content)
   pub sums : Sums
@@ -123,6 +139,7 @@ pub record GoodSoFar (os : List Object) (place : ℕ) (kept : List Summary) : Ty
 
 pub good_start : (os : List Object) (kept : List Summary) → kept ≡ [] → GoodSoFar os 0 kept
 good_start os kept none = record {
+  before = record { size = ap length none; each = λ i lt. absurd (omega (arith, lt)) };
   contents = λ i lt. absurd (omega (arith, lt));
   connected = λ i lt. absurd (omega (arith, lt));
   sums = [];
@@ -232,6 +249,37 @@ kept_on os place kind.Blob bytes old new sums sum is distinct lt kept added h = 
 kept_on os place kind.Commit bytes old new sums sum is distinct lt kept added h = other_kept os place old new sums sum distinct lt kept added (λ e. let f = sym is ∙ e in cc)
 kept_on os place kind.Tag bytes old new sums sum is distinct lt kept added h = other_kept os place old new sums sum distinct lt kept added (λ e. let f = sym is ∙ e in cc)
 
+-- The object at a place joins those before it.
+before_on : (os : List Object) (place : ℕ) (old new : List Summary) → AreGoodBefore os place old
+    → Joins os place (object_at place os).content.kind (object_at place os).content.bytes old new
+    → AreGoodBefore os (place + 1) new
+before_on os place old new s j = record { size = long; each = one_more P place earlier here }
+  where
+    P : ℕ → Type 0
+    P i = IsGoodAt os i (take i new) (object_at i os).content.kind (object_at i os).content.bytes (get_or new i no_files)
+
+    long : length new ≡ place + 1
+    long = ap length j.added ∙ length_push old j.sum ∙ ap (λ (n : ℕ). n + 1) s.size
+
+    earlier : (i : ℕ) → i < place → P i
+    earlier i lt =
+        let l = s.size in
+        let kept : take i old ≡ take i new = sym (ap (take i) j.added ∙ take-append-le i old (j.sum ∷ []) (omega (arith, lt, l))) in
+        let sum : get_or old i no_files ≡ get_or new i no_files =
+        sym (ap (λ (xs : List Summary). get_or xs i no_files) j.added ∙ get_before old j.sum i no_files (omega (arith, lt, l))) in
+        subst (λ (x : Summary). IsGoodAt os i (take i new) (object_at i os).content.kind (object_at i os).content.bytes x) sum
+        (subst (λ (xs : List Summary). IsGoodAt os i xs (object_at i os).content.kind (object_at i os).content.bytes (get_or old i no_files)) kept (s.each i lt))
+
+    here : P place
+    here =
+        let l = s.size in
+        let kept : take place new ≡ old = ap (take place) j.added ∙ take_at old (j.sum ∷ []) place l in
+        let sum : get_or new place no_files ≡ j.sum =
+        ap (λ (xs : List Summary). get_or xs place no_files) j.added ∙ get_added old j.sum place no_files (sym l) in
+        subst (λ (x : Summary). IsGoodAt os place (take place new) (object_at place os).content.kind (object_at place os).content.bytes x) (sym sum)
+        (subst (λ (xs : List Summary). IsGoodAt os place xs (object_at place os).content.kind (object_at place os).content.bytes j.sum) (sym kept)
+        (record { text = j.text; stands = j.stands; fits = j.fits }))
+
 pub good_on : (os : List Object) (place : ℕ) (old new : List Summary) (b : Bool) → IsDistinct bytes_eq (ids os) → place < length os
     → GoodSoFar os place old → b ≡ true
     → OnTrue b (IsContent (object_at place os).content)
@@ -242,6 +290,7 @@ good_on os place old new b distinct lt s holds content joins =
     let c : IsContent o.content = OnTrue_at holds content in
     let j : Joins os place o.content.kind o.content.bytes old new = OnTrue_at holds joins in
     let h : HasSum o.content.kind o.content.bytes s.sums j.sum = j.fits s.sums s.are_kept in record {
+      before = before_on os place old new s.before j;
       contents = one_more (λ i. IsContent (object_at i os).content) place s.contents c;
       connected = one_more (λ i. All (StandsBefore os i) (references_in (object_at i os).content)) place s.connected j.stands;
       sums = sums_with o.content.kind o.id o.content.bytes s.sums;

@@ -6,6 +6,8 @@ pub mod RefLemmas
 pub mod HeldLemmas
 pub mod SumLemmas
 pub mod GoodLemmas
+pub mod AlikeLemmas
+pub mod AlikeEntries
 pub mod WholeLemmas
 pub mod QuickLemmas
 pub mod Members

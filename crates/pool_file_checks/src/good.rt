@@ -9,6 +9,7 @@ ghost use Rattle.git_model.specs.References.{reference, references_of, object_at
 ghost use Rattle.git_model.specs.GoodRepository.{StandsBefore};
 ghost use Rattle.git_objects.specs.Parts.{entry_of, entries_of};
 ghost use Rattle.tenant_tables.specs.Trees.{below as below_of, one_file as one_file_of};
+ghost use Rattle.pool_file_checks.specs.Alike.{AreGoodBefore, IsGoodAt};
 ghost use Rattle.pool_file_checks.specs.Connecting.{EntryStands};
 ghost use Rattle.pool_file_checks.specs.Objects.{IsText, IsContent};
 ghost use Rattle.pool_file_checks.specs.Own.{objects_in, AreDistinct};
@@ -16,9 +17,11 @@ ghost use Rattle.pool_file_checks.specs.Quick.{AreGood, AreKept, AreSums, HasSum
 ghost use Rattle.pool_file_checks.specs.Sums.{Fits, FitsAfter, HasFiles, IsWithin, Sums, sum_of_entry, sum_of_tree};
 ghost use Rattle.pool_file_format.specs.Shown.{objects_of};
 
+use crate::alike::is_alike;
 use crate::contents::{CONTENTS_LIMIT, PARENTS_LIMIT, TAG_NAME_LIMIT};
+use crate::last_trees::LastTrees;
 use crate::naming::content_at;
-use crate::standing::{commit_stands, entry_stands, is_kind, stands_before};
+use crate::standing::{commit_stands, entry_stands, is_kind, place_before, stands_before};
 use crate::sums::{below, both, no_files, one_file};
 use git_names::Name;
 use git_objects::{FileMode, Kind, Memory, TreeEntry, read_commit, read_tag, read_tree};
@@ -26,31 +29,6 @@ use indexmap::IndexMap;
 use pool_file_format::RawObject;
 use std::alloc::Global;
 use tenant_tables::Summary;
-
-// The place of the object with this name, if it stands before a place and has this kind.
-fn place_before(
-    objects: &[RawObject],
-    index: &IndexMap<Name, usize>,
-    place: usize,
-    id: &Name,
-    kind: Kind,
-) -> Option<usize>
-    ensures stands { IfSome result (λ _. StandsBefore
-        (objects_in (objects_of objects.now) index.now.entries) place (reference kind id.now)) }
-    ensures earlier { IfSome result (λ earlier. place_of id.now
-        (objects_in (objects_of objects.now) index.now.entries) ≡ earlier) }
-{
-    let Some((earlier, _, number)) = index.get_full(id) else {
-        return None;
-    };
-    if earlier >= place {
-        return None;
-    }
-    if !is_kind(objects, *number, kind) {
-        return None;
-    }
-    Some(earlier)
-}
 
 // What a directory adds under its name; `None` if its tree does not stand before the place, or if
 // it does not fit. `sums` are those of the objects before the place.
@@ -137,7 +115,7 @@ fn entries_sum(
 }
 
 // The same of the tree with these contents; also `None` if no tree has them.
-fn contents_sum(
+fn read_sum(
     alloc: Global,
     objects: &[RawObject],
     index: &IndexMap<Name, usize>,
@@ -145,17 +123,60 @@ fn contents_sum(
     sums: &[Summary],
     bytes: &[u8],
 ) -> Result<Option<Summary>, Memory>
-    ensures text { IfOk result (λ r. IfSome r (λ _. IsText Kind.Tree bytes.now)) }
-    ensures stands { IfOk result (λ r. IfSome r (λ _. All (StandsBefore
-        (objects_in (objects_of objects.now) index.now.entries) place)
-        (references_of Kind.Tree bytes.now))) }
-    ensures sum { (noted : Sums) → AreKept (objects_in (objects_of objects.now)
-        index.now.entries) place sums.now noted → IfOk result (λ r. IfSome r (λ sum.
-        Fits Kind.Tree bytes.now noted × (sum ≡ sum_of_tree noted (tree_read bytes.now)))) }
+    ensures { IfOk result (λ r. IfSome r (IsGoodAt (objects_in (objects_of objects.now)
+        index.now.entries) place sums.now Kind.Tree bytes.now)) }
 {
     match read_tree(alloc, bytes)? {
         Some(entries) => Ok(entries_sum(objects, index, place, sums, &entries)),
         None => Ok(None),
+    }
+}
+
+// The summary of the tree at an earlier place, if the tree with these contents has its entries, some
+// of them with other object names.
+fn earlier_sum(
+    objects: &[RawObject],
+    index: &IndexMap<Name, usize>,
+    place: usize,
+    sums: &[Summary],
+    earlier: usize,
+    bytes: &[u8],
+) -> Option<Summary>
+    ensures { AreGoodBefore (objects_in (objects_of objects.now) index.now.entries) place sums.now
+        → IfSome result (IsGoodAt (objects_in (objects_of objects.now) index.now.entries) place
+        sums.now Kind.Tree bytes.now) }
+{
+    let sum = sums.get(earlier)?;
+    let (_, number) = index.get_index(earlier)?;
+    if !is_kind(objects, *number, Kind::Tree) {
+        return None;
+    }
+    let (_, old) = content_at(objects, *number);
+    if !is_alike(objects, index, place, sums, old, bytes) {
+        return None;
+    }
+    Some(*sum)
+}
+
+// The summary of the tree with these contents, if it is good. A tree that is like an earlier one is
+// not read.
+fn contents_sum(
+    alloc: Global,
+    objects: &[RawObject],
+    index: &IndexMap<Name, usize>,
+    place: usize,
+    sums: &[Summary],
+    last: &mut LastTrees,
+    bytes: &[u8],
+) -> Result<Option<Summary>, Memory>
+    ensures { AreGoodBefore (objects_in (objects_of objects.now) index.now.entries) place sums.now
+        → IfOk result (λ r. IfSome r (IsGoodAt (objects_in (objects_of objects.now)
+        index.now.entries) place sums.now Kind.Tree bytes.now)) }
+{
+    let earlier = last.replace(bytes, place);
+    match earlier_sum(objects, index, place, sums, earlier, bytes) {
+        Some(sum) => Ok(Some(sum)),
+        None => read_sum(alloc, objects, index, place, sums, bytes),
     }
 }
 
@@ -215,20 +236,17 @@ fn text_sum(
     index: &IndexMap<Name, usize>,
     place: usize,
     sums: &[Summary],
+    last: &mut LastTrees,
     kind: Kind,
     bytes: &[u8],
 ) -> Result<Option<Summary>, Memory>
-    ensures text { IfOk result (λ r. IfSome r (λ _. IsText kind bytes.now)) }
-    ensures stands { IfOk result (λ r. IfSome r (λ _. All (StandsBefore
-        (objects_in (objects_of objects.now) index.now.entries) place)
-        (references_of kind bytes.now))) }
-    ensures sum { (noted : Sums) → AreKept (objects_in (objects_of objects.now)
-        index.now.entries) place sums.now noted
-        → IfOk result (λ r. IfSome r (HasSum kind bytes.now noted)) }
+    ensures { AreGoodBefore (objects_in (objects_of objects.now) index.now.entries) place sums.now
+        → IfOk result (λ r. IfSome r (IsGoodAt (objects_in (objects_of objects.now)
+        index.now.entries) place sums.now kind bytes.now)) }
 {
     match kind {
         Kind::Blob => Ok(Some(no_files())),
-        Kind::Tree => contents_sum(alloc, objects, index, place, sums, bytes),
+        Kind::Tree => contents_sum(alloc, objects, index, place, sums, last, bytes),
         Kind::Commit => {
             let good = is_good_commit(alloc, objects, index, place, bytes)?;
             Ok(if good { Some(no_files()) } else { None })
@@ -247,10 +265,13 @@ fn add_at(
     index: &IndexMap<Name, usize>,
     place: usize,
     sums: &mut Vec<Summary>,
+    last: &mut LastTrees,
 ) -> Result<bool, Memory>
-    ensures content { IfOk result (λ b. OnTrue b (IsContent (object_at place
+    ensures content { AreGoodBefore (objects_in (objects_of objects.now) index.now.entries) place
+        sums.old.items → IfOk result (λ b. OnTrue b (IsContent (object_at place
         (objects_in (objects_of objects.now) index.now.entries)).content)) }
-    ensures joins { IfOk result (λ b. OnTrue b (
+    ensures joins { AreGoodBefore (objects_in (objects_of objects.now) index.now.entries) place
+        sums.old.items → IfOk result (λ b. OnTrue b (
         let os = objects_in (objects_of objects.now) index.now.entries in
         let o = object_at place os in Joins os place o.content.kind o.content.bytes
         sums.old.items sums.new.items)) }
@@ -262,7 +283,7 @@ fn add_at(
     if bytes.len() > CONTENTS_LIMIT {
         return Ok(false);
     }
-    let Some(sum) = text_sum(alloc, objects, index, place, sums, kind, bytes)? else {
+    let Some(sum) = text_sum(alloc, objects, index, place, sums, last, kind, bytes)? else {
         return Ok(false);
     };
     sums.push(sum)?;
@@ -287,8 +308,9 @@ pub fn good_sums(
         AreSums [] sums.items (objects_in (objects_of objects.now) index.now.entries))) }
 {
     let mut sums = Vec::with_capacity(alloc, index.len())?;
+    let mut last = LastTrees::new(alloc, index.len())?;
     for place in 0..index.len() {
-        if !add_at(alloc, objects, index, place, &mut sums)? {
+        if !add_at(alloc, objects, index, place, &mut sums, &mut last)? {
             return Ok(None);
         }
     }

@@ -5,12 +5,14 @@
 //! file.
 #![tactic(auto)]
 
+mod alike;
 mod contents;
 mod good;
 mod held;
 mod judged;
 mod judging;
 mod known;
+mod last_trees;
 pub mod laws;
 mod naming;
 mod order;

@@ -1,8 +1,8 @@
 //! Whether the objects to which an object refers stand before it, with the right kind.
 
-ghost use Rattle.std.specs.Prelude.{◌≡◌, ◌↔◌, IsTrue, All};
+ghost use Rattle.std.specs.Prelude.{◌≡◌, ◌↔◌, IfSome, IsTrue, All};
 ghost use Rattle.git_model.specs.declared.kind.Kind.TheVariants as kind;
-ghost use Rattle.git_model.specs.References.{reference, commit_references};
+ghost use Rattle.git_model.specs.References.{reference, commit_references, place_of};
 ghost use Rattle.git_model.specs.GoodRepository.{StandsBefore};
 ghost use Rattle.git_objects.specs.Parts.{entry_of, entries_of, commit_of};
 ghost use Rattle.pool_file_checks.specs.Connecting.{EntryStands};
@@ -40,6 +40,31 @@ pub fn stands_before(
         return false;
     }
     is_kind(objects, *number, kind)
+}
+
+/// The place of the object with this name, if it stands before a place and has this kind.
+pub fn place_before(
+    objects: &[RawObject],
+    index: &IndexMap<Name, usize>,
+    place: usize,
+    id: &Name,
+    kind: Kind,
+) -> Option<usize>
+    ensures stands { IfSome result (λ _. StandsBefore
+        (objects_in (objects_of objects.now) index.now.entries) place (reference kind id.now)) }
+    ensures earlier { IfSome result (λ earlier. place_of id.now
+        (objects_in (objects_of objects.now) index.now.entries) ≡ earlier) }
+{
+    let Some((earlier, _, number)) = index.get_full(id) else {
+        return None;
+    };
+    if place <= earlier {
+        return None;
+    }
+    if !is_kind(objects, *number, kind) {
+        return None;
+    }
+    Some(earlier)
 }
 
 /// Whether what an entry names stands before a place. A gitlink names nothing here.

@@ -1,30 +1,31 @@
 use Rattle.std.proofs.Common.{List, sym, subst, arith}
 use Rattle.tenant_tables.specs.declared.summary.Summary.{Summary}
 use Rattle.pool_file_format.specs.Shown.{objects_of}
+use Rattle.pool_file_checks.specs.Alike.{AreGoodBefore}
 use Rattle.pool_file_checks.specs.Own.{objects_in}
 use Rattle.pool_file_checks.specs.Quick.{AreKept}
 use Rattle.pool_file_checks.proofs.GoodLemmas.{content_here, joins_here}
 use Rattle.pool_file_checks.proofs.good.add_at.Goals as goal
 
 pub returns-clause-content : goal.returns-clause-content
-returns-clause-content c =
+returns-clause-content c = λ before.
     let os = objects_of c.args.objects.now in let rows = c.args.index.now.entries in let o = c.content_at-kind in
     let short = c.if-bytes-gt-CONTENTS_LIMIT.false in
-    let text = rw c.in-Some-2.is at c.in_ok-sum.ensures.text in
+    let good = rw c.in-Some-2.is at (c.in_ok-sum.ensures
+    (subst (λ (l : List Summary). AreGoodBefore (objects_in os rows) c.args.place l) (sym c.deref.ensures.value) before)) in
     content_here os rows c.args.place c.in-Some.field-0-0.now c.in-Some.number.now o.result.0 o.result.1.now
-    (sym c.in-Some.ensures.entry) o.ensures (omega (arith, short), text)
+    (sym c.in-Some.ensures.entry) o.ensures (omega (arith, short), good.text)
 
 pub returns-clause-joins : goal.returns-clause-joins
-returns-clause-joins c =
+returns-clause-joins c = λ before.
     let os = objects_of c.args.objects.now in let rows = c.args.index.now.entries in let o = c.content_at-kind in
-    let text = rw c.in-Some-2.is at c.in_ok-sum.ensures.text in
-    let stands = rw c.in-Some-2.is at c.in_ok-sum.ensures.stands in
+    let good = rw c.in-Some-2.is at (c.in_ok-sum.ensures
+    (subst (λ (l : List Summary). AreGoodBefore (objects_in os rows) c.args.place l) (sym c.deref.ensures.value) before)) in
     joins_here os rows c.args.place c.in-Some.field-0-0.now c.in-Some.number.now o.result.0 o.result.1.now
     (sym c.in-Some.ensures.entry) o.ensures c.args.sums.now.items _ (record {
-      text = text;
-      stands = stands;
+      text = good.text;
+      stands = good.stands;
       sum = c.in-Some-2.sum;
       added = c.in_ok-push.ensures.items;
-      fits = λ noted kept. rw c.in-Some-2.is at (c.in_ok-sum.ensures.sum noted
-          (subst (λ (l : List Summary). AreKept (objects_in os rows) c.args.place l noted) (sym c.deref.ensures.value) kept));
+      fits = λ noted kept. good.fits noted (subst (λ (l : List Summary). AreKept (objects_in os rows) c.args.place l noted) (sym c.deref.ensures.value) kept);
     })

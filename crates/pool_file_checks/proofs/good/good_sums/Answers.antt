@@ -15,7 +15,8 @@ loop-place-preserved c = λ distinct.
     let size = own_length (objects_of c.args.objects.now) c.args.index.now.entries in
     good_on os c.loop-place.place c.loop-place.sums.items _ c.in_ok-add_at.field-0
     (own_distinct (objects_of c.args.objects.now) c.args.index.now.entries distinct) (omega (arith, size)) (c.loop-place.invariant distinct)
-    c.if-not-branch.false c.in_ok-add_at.ensures.content c.in_ok-add_at.ensures.joins
+    c.if-not-branch.false (c.in_ok-add_at.ensures.content (c.loop-place.invariant distinct).before)
+    (c.in_ok-add_at.ensures.joins (c.loop-place.invariant distinct).before)
 
 pub returns-clause-good : goal.returns-clause-good
 returns-clause-good c = λ distinct.
