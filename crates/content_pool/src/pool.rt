@@ -96,7 +96,23 @@ impl<N: Naming> Pool<N> {
         }
     }
 
-    /// The naming that was given to `new`. Takes no memory.
+    /// A pool that holds nothing, with room for this many contents. `Memory` (90) if there is no
+    /// memory for that.
+    #[tactic(auto, unfolding(crate::specs::Pool::holds, crate::specs::Pool::content))]
+    pub fn with_capacity(alloc: Global, naming: N, contents: usize) -> Result<Pool<N>, Memory>
+        ensures { IfOk result IsVacant }
+    {
+        let cells = Slab::with_capacity(alloc, contents)?;
+        let buckets = HashMap::with_capacity(alloc, contents)?;
+        Ok(Self {
+            alloc,
+            naming,
+            cells,
+            buckets,
+        })
+    }
+
+    /// The naming that the pool was made with. Takes no memory.
     pub fn naming(&self) -> &N {
         &self.naming
     }

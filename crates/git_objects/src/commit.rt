@@ -17,6 +17,15 @@ use crate::header::{
 use git_names::{Memory, Name};
 use std::alloc::Global;
 
+// How long the line of a parent is.
+const PARENT_LINE: usize = 48;
+
+// How long the line of an encoding is without the encoding.
+const ENCODING_LINE: usize = 10;
+
+// How long the lines that each commit has are without author, committer and message.
+const OTHER_LINES: usize = 66;
+
 /// The parts of a commit: "commit object" in gitglossary(7). Its texts are borrowed, for example
 /// from the contents that were read.
 #[derive(Drop)]
@@ -58,6 +67,21 @@ fn append_commit(parts: &CommitParts<'_>, contents: &mut Vec<u8>) -> Result<(), 
     append_end(b"encoding ", parts.encoding, parts.message, contents)
 }
 
+// How many bytes the contents take, so that they are written into one allocation.
+fn size_of(parts: &CommitParts<'_>) -> usize {
+    let parents = parts.ancestors.len().saturating_mul(PARENT_LINE);
+    let encoding = match parts.encoding {
+        Some(text) => text.len().saturating_add(ENCODING_LINE),
+        None => 0,
+    };
+    OTHER_LINES
+        .saturating_add(parents)
+        .saturating_add(parts.author.len())
+        .saturating_add(parts.committer.len())
+        .saturating_add(encoding)
+        .saturating_add(parts.message.len())
+}
+
 /// Appends the contents of a commit: "commit object" in gitglossary(7).
 ///
 /// Any parts can be written. `read_commit` reads the contents back if author and committer are
@@ -68,6 +92,7 @@ pub fn write_commit(parts: &CommitParts<'_>, contents: &mut Vec<u8>) -> Result<(
         ≡ contents.old.items ++ commit_contents (commit_of parts.now)) }
     ensures same { OnErr result (contents.new.items ≡ contents.old.items) }
 {
+    contents.reserve(size_of(parts))?;
     let start = contents.len();
     let written = append_commit(parts, contents);
     if written.is_err() {

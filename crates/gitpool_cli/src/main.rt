@@ -9,7 +9,7 @@ mod runs;
 
 use crate::run_fault::RunFault;
 use clap::error::ErrorKind as UsageKind;
-use gitpool::{Counted, Line, Sha1Naming, import_one};
+use gitpool::Line;
 use std::env;
 use std::io::ErrorKind;
 use std::process::ExitCode;
@@ -24,12 +24,6 @@ fn words(rt: &HostRuntime) -> Result<Option<Vec<String>>, RunFault> {
         Err(error) if error.kind() == ErrorKind::OutOfMemory => Err(RunFault::Memory),
         Err(_) => Ok(None),
     }
-}
-
-fn import(rt: &HostRuntime) -> Result<(), RunFault> {
-    let mut reader = Counted::new(rt.stdin());
-    let mut writer = Counted::new(rt.stdout());
-    Ok(import_one(rt.alloc(), Sha1Naming, &mut reader, &mut writer)?)
 }
 
 // Reports the fault of a run, if there is one, and gives the exit status.
@@ -54,7 +48,7 @@ fn refused(rt: &HostRuntime, error: &clap::Error) -> ExitCode {
 
 fn run(rt: &HostRuntime, words: &[String]) -> ExitCode {
     if words.is_empty() {
-        return ended(rt, import(rt));
+        return ended(rt, runs::run_alone(rt));
     }
     match Line::read(rt.alloc(), words) {
         Ok(line) => ended(rt, runs::run(rt, line)),

@@ -8,6 +8,18 @@ use gitpool::{Answer, Counted, Line, Service, Sha1Naming};
 use lock_files::LockFile;
 use std::mem::forget;
 
+// The only tenant of a run without a pool file.
+const ALONE: &[u8] = b"one";
+
+/// Carries out one stream from standard input over an empty repository, which is not kept: the same
+/// as `gitpool::import_one`, but without a drop of what was read.
+pub fn run_alone(rt: &HostRuntime) -> Result<(), RunFault> {
+    let mut service = Service::new(rt.alloc(), Sha1Naming);
+    let outcome = import(rt, &mut service, ALONE);
+    leave(service);
+    outcome
+}
+
 /// Carries out a command line. If several calls are refused, the first fault is answered;
 /// `RunFault` has the numbers.
 pub fn run(rt: &HostRuntime, line: Line<'_>) -> Result<(), RunFault> {

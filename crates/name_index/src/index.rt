@@ -12,7 +12,7 @@ use std::alloc::Global;
 use std::marker::Model;
 
 /// How many names at the end are in no order.
-const FEW: usize = 64;
+const FEW: usize = 1_024;
 
 /// Distinct object names: the committed ones, and those of the open stream.
 #[derive(Drop)]

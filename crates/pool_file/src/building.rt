@@ -172,7 +172,7 @@ pub fn build<N: Naming>(
     ensures tenants { IfOk result (λ r. AreTenants N.digest_of r.0 r.1.items) }
 {
     let Judged { file, names, known } = judged;
-    let mut pool = Pool::new(alloc, naming);
+    let mut pool = Pool::with_capacity(alloc, naming, file.objects.len())?;
     let mut tenants = Vec::new(alloc);
     fill(alloc, &mut pool, &mut tenants, &names, &known, file)?;
     Ok((pool, tenants))

@@ -43,7 +43,7 @@ pub fn store_contents<N: Naming>(
         ≡ objects_of objects.items) }
     ensures counts { IfOk result (λ slots. (s : ℕ) → holds pool.new s ≡ times_in slots.items s) }
 {
-    let mut slots = Vec::new(alloc);
+    let mut slots = Vec::with_capacity(alloc, objects.len())?;
     for object in objects {
         let place = slots.as_slice().len();
         let slot = store_content(pool, names[place], object)?;

@@ -202,7 +202,7 @@ fn known_table<N: Naming>(
         ≡ own_objects N.digest_of (objects_at pool.old slots.now) numbers.now) }
     ensures committed { IfOk result (λ table. table.committed ≡ length table.entries) }
 {
-    let mut made = Table::new(alloc);
+    let mut made = Table::with_capacity(alloc, numbers.len())?;
     for position in 0..numbers.len() {
         let place = numbers[position] as usize;
         let (slot, sum) = (slots[place], sums[position]);

@@ -24,11 +24,11 @@ use Rattle.git_model.proofs.TreeReadings.{tree_back}
 use Rattle.tenant_tables.specs.declared.summary.Summary.{Summary}
 use Rattle.tenant_tables.specs.Trees.{no_files, both}
 use Rattle.pool_file_format.specs.Format.{RawObject}
-use Rattle.pool_file_checks.specs.Alike.{AreGoodBefore, IsAlike, IsRenamed, AreRenamed, IsGoodAt, sum_kept}
+use Rattle.pool_file_checks.specs.Alike.{IsAlike, IsRenamed, AreRenamed, sum_kept}
 use Rattle.pool_file_checks.specs.Own.{Rows, content_at, objects_in}
 use Rattle.pool_file_checks.specs.Connecting.{EntryStands}
 use Rattle.pool_file_checks.specs.Objects.{IsTreeText}
-use Rattle.pool_file_checks.specs.Quick.{AreKept}
+use Rattle.pool_file_checks.specs.Quick.{AreKept, AreGoodBefore, IsGoodAt}
 use Rattle.pool_file_checks.specs.Sums.{Sums, FitsAfter, HasFiles, IsWithin, sum_of_entry, sum_of_tree}
 use Rattle.pool_file_checks.proofs.ConnectLemmas.{own_content, tree_refers}
 

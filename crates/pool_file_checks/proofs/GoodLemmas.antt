@@ -29,8 +29,7 @@ use Rattle.pool_file_format.specs.Format.{RawObject}
 use Rattle.pool_file_checks.specs.Objects.{IsContent, IsTreeText}
 use Rattle.pool_file_checks.specs.Own.{content_at, Rows, objects_in, AreDistinct}
 use Rattle.pool_file_checks.specs.Sums.{Sums, Fits, FitsAfter, HasFiles, TreesFit, sum_of_entry, sum_of_tree, sums_with}
-use Rattle.pool_file_checks.specs.Quick.{Joins, AreGood, AreKept, AreSums, HasSum}
-use Rattle.pool_file_checks.specs.Alike.{AreGoodBefore, IsGoodAt}
+use Rattle.pool_file_checks.specs.Quick.{Joins, AreGood, AreGoodBefore, AreKept, AreSums, HasSum, IsGoodAt}
 use Rattle.pool_file_checks.specs.Connecting.{EntryStands}
 use Rattle.pool_file_checks.proofs.ConnectLemmas.{tree_refers}
 use Rattle.pool_file_checks.proofs.OwnObjects.{ids, ids_of_rows, place_at, apart}
@@ -278,7 +277,7 @@ before_on os place old new s j = record { size = long; each = one_more P place e
         ap (λ (xs : List Summary). get_or xs place no_files) j.added ∙ get_added old j.sum place no_files (sym l) in
         subst (λ (x : Summary). IsGoodAt os place (take place new) (object_at place os).content.kind (object_at place os).content.bytes x) (sym sum)
         (subst (λ (xs : List Summary). IsGoodAt os place xs (object_at place os).content.kind (object_at place os).content.bytes j.sum) (sym kept)
-        (record { text = j.text; stands = j.stands; fits = j.fits }))
+        j.good)
 
 pub good_on : (os : List Object) (place : ℕ) (old new : List Summary) (b : Bool) → IsDistinct bytes_eq (ids os) → place < length os
     → GoodSoFar os place old → b ≡ true
@@ -289,10 +288,10 @@ good_on os place old new b distinct lt s holds content joins =
     let o = object_at place os in
     let c : IsContent o.content = OnTrue_at holds content in
     let j : Joins os place o.content.kind o.content.bytes old new = OnTrue_at holds joins in
-    let h : HasSum o.content.kind o.content.bytes s.sums j.sum = j.fits s.sums s.are_kept in record {
+    let h : HasSum o.content.kind o.content.bytes s.sums j.sum = j.good.fits s.sums s.are_kept in record {
       before = before_on os place old new s.before j;
       contents = one_more (λ i. IsContent (object_at i os).content) place s.contents c;
-      connected = one_more (λ i. All (StandsBefore os i) (references_in (object_at i os).content)) place s.connected j.stands;
+      connected = one_more (λ i. All (StandsBefore os i) (references_in (object_at i os).content)) place s.connected j.good.stands;
       sums = sums_with o.content.kind o.id o.content.bytes s.sums;
       are_kept = kept_on os place o.content.kind o.content.bytes old new s.sums j.sum refl distinct lt s.are_kept j.added h;
       trees = λ t. s.trees (subst (TreesFit s.sums) (sym (left_here os place lt)) (h.0, t));

@@ -1,19 +1,14 @@
 -- Trees that have the entries of an earlier tree, some of them with other object names. Mostly a
 -- commit changes few names of a directory.
-use Rattle.std.specs.Prelude.{◌≡◌, ◌⊎◌, ℕ, ◌≤◌, ◌<◌, List, [], ◌∷◌, ◌++◌, length, take, drop, All, Some, slice_get, slice_index_or, slice_set}
+use Rattle.std.specs.Prelude.{◌≡◌, ◌⊎◌, ℕ, ◌≤◌, List, [], ◌∷◌, ◌++◌, length, take, drop, All, Some, slice_get, slice_index_or, slice_set}
 use Rattle.git_model.specs.declared.file_mode.FileMode.TheVariants as mode
-use Rattle.git_model.specs.declared.kind.Kind.{Kind}
 use Rattle.git_model.specs.ObjectName.{IsObjectName}
 use Rattle.git_model.specs.Tree.{TreeEntry, CanWriteEntry, entry_text, tree_contents}
 use Rattle.git_model.specs.Repository.{Object}
-use Rattle.git_model.specs.References.{references_of, object_at, place_of}
-use Rattle.git_model.specs.GoodRepository.{StandsBefore}
+use Rattle.git_model.specs.References.{place_of}
 use Rattle.tenant_tables.specs.declared.summary.Summary.{Summary}
 use Rattle.tenant_tables.specs.Trees.{no_files}
-use Rattle.pool_file_checks.specs.Objects.{IsText}
 use Rattle.pool_file_checks.specs.Connecting.{EntryStands}
-use Rattle.pool_file_checks.specs.Quick.{AreKept, HasSum}
-use Rattle.pool_file_checks.specs.Sums.{Sums}
 
 -- Both texts begin with the same n bytes.
 pub record Agree (n : ℕ) (a b : List ℕ) : Type 0 where
@@ -60,19 +55,6 @@ abbrev pub BeginsAlike : List Object → ℕ → List Summary → List ℕ → L
 BeginsAlike os place kept old new size = (e : TreeEntry) (rest : List ℕ) → CanWriteEntry e
     → old ≡ entry_text e ++ rest → (drop size old ≡ rest)
     × ((f : TreeEntry) × (new ≡ entry_text f ++ drop size new) × IsRenamed os place kept e f)
-
--- The object is good at a place, and has this summary.
-pub record IsGoodAt (os : List Object) (place : ℕ) (kept : List Summary) (k : Kind)
-    (bytes : List ℕ) (sum : Summary) : Type 0 where
-  pub text : IsText k bytes
-  pub stands : All (StandsBefore os place) (references_of k bytes)
-  pub fits : (sums : Sums) → AreKept os place kept sums → HasSum k bytes sums sum
-
--- The objects before a place are good, and have these summaries.
-pub record AreGoodBefore (os : List Object) (place : ℕ) (kept : List Summary) : Type 0 where
-  pub size : length kept ≡ place
-  pub each : (i : ℕ) → i < place → IsGoodAt os i (take i kept) (object_at i os).content.kind
-      (object_at i os).content.bytes (slice_index_or kept i no_files)
 
 -- One of the places is answered, and another is noted instead. Of no places, 0 is answered.
 abbrev pub Replaces : List ℕ → ℕ → ℕ → List ℕ → Type 0

@@ -1,5 +1,5 @@
--- What a quick look finds of a tenant's objects. It reads each object once.
-use Rattle.std.specs.Prelude.{◌≡◌, ℕ, ◌<◌, List, [], ◌∷◌, ◌++◌, length, All, Some, slice_index_or}
+-- What a quick look finds of a tenant's objects. It reads each object at most once.
+use Rattle.std.specs.Prelude.{◌≡◌, ℕ, ◌<◌, List, [], ◌∷◌, ◌++◌, length, take, All, Some, slice_index_or}
 use Rattle.std.specs.Map.{lookup}
 use Rattle.std.specs.Str.{bytes_eq}
 use Rattle.git_model.specs.declared.kind.Kind.{Kind}
@@ -35,14 +35,25 @@ abbrev pub HasSum : Kind → List ℕ → Sums → Summary → Type 0
 HasSum k bytes sums sum =
     Fits k bytes sums × (k ≡ kind.Tree → sum ≡ sum_of_tree sums (tree_read bytes))
 
+-- The object is good at a place, and has this summary.
+pub record IsGoodAt (os : List Object) (place : ℕ) (kept : List Summary) (k : Kind)
+    (bytes : List ℕ) (sum : Summary) : Type 0 where
+  pub text : IsText k bytes
+  pub stands : All (StandsBefore os place) (references_of k bytes)
+  pub fits : (sums : Sums) → AreKept os place kept sums → HasSum k bytes sums sum
+
+-- The objects before a place are good, and have these summaries.
+pub record AreGoodBefore (os : List Object) (place : ℕ) (kept : List Summary) : Type 0 where
+  pub size : length kept ≡ place
+  pub each : (i : ℕ) → i < place → IsGoodAt os i (take i kept) (object_at i os).content.kind
+      (object_at i os).content.bytes (slice_index_or kept i no_files)
+
 -- The object is good at this place, and its summary was added.
 pub record Joins (os : List Object) (place : ℕ) (k : Kind) (bytes : List ℕ)
     (old new : List Summary) : Type 0 where
-  pub text : IsText k bytes
-  pub stands : All (StandsBefore os place) (references_of k bytes)
   pub sum : Summary
   pub added : new ≡ old ++ sum ∷ []
-  pub fits : (sums : Sums) → AreKept os place old sums → HasSum k bytes sums sum
+  pub good : IsGoodAt os place old k bytes sum
 
 -- Each object has contents of its kind, what it refers to stands before it, and all trees fit.
 pub record AreGood (os : List Object) : Type 0 where

@@ -9,11 +9,10 @@ ghost use Rattle.git_model.specs.References.{reference, references_of, object_at
 ghost use Rattle.git_model.specs.GoodRepository.{StandsBefore};
 ghost use Rattle.git_objects.specs.Parts.{entry_of, entries_of};
 ghost use Rattle.tenant_tables.specs.Trees.{below as below_of, one_file as one_file_of};
-ghost use Rattle.pool_file_checks.specs.Alike.{AreGoodBefore, IsGoodAt};
 ghost use Rattle.pool_file_checks.specs.Connecting.{EntryStands};
 ghost use Rattle.pool_file_checks.specs.Objects.{IsText, IsContent};
 ghost use Rattle.pool_file_checks.specs.Own.{objects_in, AreDistinct};
-ghost use Rattle.pool_file_checks.specs.Quick.{AreGood, AreKept, AreSums, HasSum, Joins};
+ghost use Rattle.pool_file_checks.specs.Quick.{AreGood, AreGoodBefore, AreKept, AreSums, HasSum, IsGoodAt, Joins};
 ghost use Rattle.pool_file_checks.specs.Sums.{Fits, FitsAfter, HasFiles, IsWithin, Sums, sum_of_entry, sum_of_tree};
 ghost use Rattle.pool_file_format.specs.Shown.{objects_of};
 

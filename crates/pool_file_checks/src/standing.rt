@@ -1,6 +1,6 @@
 //! Whether the objects to which an object refers stand before it, with the right kind.
 
-ghost use Rattle.std.specs.Prelude.{◌≡◌, ◌↔◌, IfSome, IsTrue, All};
+ghost use Rattle.std.specs.Prelude.{◌≡◌, ◌↔◌, IfSome, IsSome, IsTrue, All};
 ghost use Rattle.git_model.specs.declared.kind.Kind.TheVariants as kind;
 ghost use Rattle.git_model.specs.References.{reference, commit_references, place_of};
 ghost use Rattle.git_model.specs.GoodRepository.{StandsBefore};
@@ -22,26 +22,6 @@ pub fn is_kind(objects: &[RawObject], number: usize, kind: Kind) -> bool
     content_at(objects, number).0 == kind
 }
 
-/// Whether an object with this name stands before a place, and has this kind.
-pub fn stands_before(
-    objects: &[RawObject],
-    index: &IndexMap<Name, usize>,
-    place: usize,
-    id: &Name,
-    kind: Kind,
-) -> bool
-    ensures { IsTrue result ↔ StandsBefore (objects_in (objects_of objects.now) index.now.entries)
-        place (reference kind id.now) }
-{
-    let Some((earlier, _, number)) = index.get_full(id) else {
-        return false;
-    };
-    if earlier >= place {
-        return false;
-    }
-    is_kind(objects, *number, kind)
-}
-
 /// The place of the object with this name, if it stands before a place and has this kind.
 pub fn place_before(
     objects: &[RawObject],
@@ -50,8 +30,8 @@ pub fn place_before(
     id: &Name,
     kind: Kind,
 ) -> Option<usize>
-    ensures stands { IfSome result (λ _. StandsBefore
-        (objects_in (objects_of objects.now) index.now.entries) place (reference kind id.now)) }
+    ensures stands { IsSome result ↔ StandsBefore
+        (objects_in (objects_of objects.now) index.now.entries) place (reference kind id.now) }
     ensures earlier { IfSome result (λ earlier. place_of id.now
         (objects_in (objects_of objects.now) index.now.entries) ≡ earlier) }
 {
@@ -65,6 +45,20 @@ pub fn place_before(
         return None;
     }
     Some(earlier)
+}
+
+/// Whether an object with this name stands before a place, and has this kind.
+pub fn stands_before(
+    objects: &[RawObject],
+    index: &IndexMap<Name, usize>,
+    place: usize,
+    id: &Name,
+    kind: Kind,
+) -> bool
+    ensures { IsTrue result ↔ StandsBefore (objects_in (objects_of objects.now) index.now.entries)
+        place (reference kind id.now) }
+{
+    place_before(objects, index, place, id, kind).is_some()
 }
 
 /// Whether what an entry names stands before a place. A gitlink names nothing here.

@@ -92,6 +92,15 @@ impl EntryList {
         }
     }
 
+    /// An empty list, with room for this many entries. `Memory` if there is no memory for that.
+    pub fn with_capacity(alloc: Global, count: usize) -> Result<EntryList, Memory>
+        ensures { IfOk result (λ list. list ≡ record { entries = []; committed = 0 }) }
+    {
+        let mut list = EntryList::new(alloc);
+        list.objects.reserve(count)?;
+        Ok(list)
+    }
+
     /// How many entries there are. Their names are distinct.
     pub fn len(&self) -> usize
         ensures value { result ≡ length self.now.entries }

@@ -74,6 +74,18 @@ impl Table {
         }
     }
 
+    /// An empty table, with room for this many objects. `Memory` (90) if there is no memory for
+    /// that.
+    pub fn with_capacity(alloc: Global, count: usize) -> Result<Table, Memory>
+        ensures entries { IfOk result (λ table. table.entries ≡ []) }
+        ensures committed { IfOk result (λ table. table.committed ≡ 0) }
+    {
+        Ok(Table {
+            front: Front::none(),
+            own: EntryList::with_capacity(alloc, count)?,
+        })
+    }
+
     /// Where the contents of the object of this name lie in the pool; `None` if the table has no
     /// such object.
     pub fn find(&self, id: &Name) -> Option<Slot>

@@ -15,7 +15,7 @@ loop-object-init g c =
     let ok = all.ok in
     let small = all.small in
     let few : length (objects_of all.items) < 2 ^ 64 = omega (arith, size, ok, small, gives.1, gives.2) in
-    rw (c.new-slots.ensures.items, gives.0) (stored_none c.args.pool.now (objects_of all.items) c.requires.vacant c.requires.checked few)
+    rw (c.in_ok-slots.ensures.items, gives.0) (stored_none c.args.pool.now (objects_of all.items) c.requires.vacant c.requires.checked few)
 
 pub bounds-names-place : goal.bounds-names-place
 bounds-names-place g c =

@@ -14,7 +14,7 @@ pub loop-position-init : goal.loop-position-init
 loop-position-init g c =
     let D = g.N.Naming.digest_of in
     let own = own_objects D (objects_at c.args.pool.now c.args.slots.now) c.args.numbers.now in
-    rw c.new-made.ensures.entries record {
+    rw c.in_ok-made.ensures.entries record {
       noted = [];
       loaded = loaded_none D c.args.pool.now own c.requires.trees;
       sums = c.requires.known;

@@ -1,9 +1,8 @@
 use Rattle.std.proofs.Common.{List, sym, subst, arith}
 use Rattle.tenant_tables.specs.declared.summary.Summary.{Summary}
 use Rattle.pool_file_format.specs.Shown.{objects_of}
-use Rattle.pool_file_checks.specs.Alike.{AreGoodBefore}
 use Rattle.pool_file_checks.specs.Own.{objects_in}
-use Rattle.pool_file_checks.specs.Quick.{AreKept}
+use Rattle.pool_file_checks.specs.Quick.{AreGoodBefore, IsGoodAt}
 use Rattle.pool_file_checks.proofs.GoodLemmas.{content_here, joins_here}
 use Rattle.pool_file_checks.proofs.good.add_at.Goals as goal
 
@@ -23,9 +22,8 @@ returns-clause-joins c = λ before.
     (subst (λ (l : List Summary). AreGoodBefore (objects_in os rows) c.args.place l) (sym c.deref.ensures.value) before)) in
     joins_here os rows c.args.place c.in-Some.field-0-0.now c.in-Some.number.now o.result.0 o.result.1.now
     (sym c.in-Some.ensures.entry) o.ensures c.args.sums.now.items _ (record {
-      text = good.text;
-      stands = good.stands;
       sum = c.in-Some-2.sum;
       added = c.in_ok-push.ensures.items;
-      fits = λ noted kept. good.fits noted (subst (λ (l : List Summary). AreKept (objects_in os rows) c.args.place l noted) (sym c.deref.ensures.value) kept);
+      good = subst (λ (l : List Summary). IsGoodAt (objects_in os rows) c.args.place l o.result.0 o.result.1.now c.in-Some-2.sum)
+          c.deref.ensures.value good;
     })
