@@ -1,14 +1,16 @@
 -- Pieces that a sink takes one after another.
-use Rattle.std.proofs.Common.{◌≡◌, ◌≤◌, ℕ, suc, ◌+◌, ◌<◌, ◌/◌, ◌%◌, List, [], ◌∷◌, ◌++◌, length, map, get_or, drop, Option, Result, Ok, Err, refl, sym, ap, subst, ◌∙◌, append_assoc, append-nil, arith}
+use Rattle.std.proofs.Common.{◌≡◌, ◌≤◌, ℕ, suc, ◌+◌, ◌<◌, ◌/◌, ◌%◌, List, [], ◌∷◌, ◌++◌, length, map, get_or, take, drop, Option, Result, Ok, Err, refl, sym, ap, subst, ◌∙◌, append_assoc, append-nil, arith}
 use Rattle.std.specs.Int.{w16, to_be_bytes}
 use Rattle.std.specs.List.{flat_map}
 use Rattle.std.proofs.Math.Seq.{drop-cons}
-use Rattle.std.proofs.lemmas.List.{drop_all}
+use Rattle.std.proofs.lemmas.List.{take-append-drop, drop_all}
+use Rattle.std.proofs.lemmas.Grind.{flat_map-append}
 use Rattle.std.proofs.lemmas.List.Concat.{flat_map-cons}
 use Rattle.byte_devices.specs.declared.device_fault.DeviceFault.{DeviceFault}
 use Rattle.byte_devices.specs.declared.counted.Counted.{Counted}
 use Rattle.byte_devices.specs.Device.{Device, device_of, seen}
 use Rattle.pool_file_format.specs.declared.gathering.Buffered.{Buffered}
+use Rattle.pool_file_format.specs.Format.{number_text}
 use Rattle.pool_file_format.specs.Sinks.{Moves, Gives, AddsUp, HasWritten, HasBroken, HasGathered, TookBlocks, FailedBlocks, Writes}
 
 -- A piece, and then what comes after it.
@@ -70,6 +72,14 @@ taken_fails Took Failed a b c e whole left piece more laws is p q =
 pub taken_done : {S : Type 0} (Took : Moves S) (a b : S) (whole left : List ℕ) → left ≡ [] → HasTaken Took a b whole left → Took a b whole
 taken_done Took a b whole left none p =
     subst (λ (l : List ℕ). Took a b l) (sym (p.parts ∙ ap (λ (l : List ℕ). p.done ++ l) none ∙ append-nil p.done)) p.took
+
+-- A block of numbers was taken.
+pub numbers_on : {S : Type 0} (Took Failed : Moves S) (a b c : S) (whole left few more text : List ℕ) (n : ℕ) → AddsUp Took Failed → few ≡ take n left → more ≡ drop n left
+    → text ≡ flat_map number_text few → HasTaken Took a b whole (flat_map number_text left) → Took b c text → HasTaken Took a c whole (flat_map number_text more)
+numbers_on Took Failed a b c whole left few more text n laws front back is p q =
+    taken_on Took Failed a b c whole (flat_map number_text left) text (flat_map number_text more) laws
+    (ap (λ (l : List ℕ). flat_map number_text l) (sym (take-append-drop n left) ∙ ap (λ (l : List ℕ). l ++ drop n left) (sym front) ∙ ap (λ (l : List ℕ). few ++ l) (sym back)) ∙ flat_map-append number_text few more
+    ∙ ap (λ (l : List ℕ). l ++ flat_map number_text more) (sym is)) p q
 
 pub item_next : {X : Type 0} (xs : List X) (i : ℕ) (x : X) → i < length xs → x ≡ get_or xs i x → drop i xs ≡ x ∷ drop (i + 1) xs
 item_next xs i x less is = let e : suc i ≡ i + 1 = omega arith in

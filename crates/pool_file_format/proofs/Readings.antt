@@ -1,8 +1,8 @@
 -- Readings one after another, and the same one many times.
-use Rattle.std.proofs.Common.{◌≡◌, ℕ, suc, ◌+◌, ◌-◌, ◌^◌, ◌<◌, ◌≤◌, Bool, true, false, cond, ltb, List, [], ◌∷◌, ◌++◌, length, take, drop, Option, None, Some, Result, Ok, Err, refl, sym, ap, subst, ◌∙◌, append_assoc, append-nil, arith}
+use Rattle.std.proofs.Common.{◌≡◌, ℕ, suc, ◌+◌, ◌-◌, ◌^◌, ◌<◌, ◌≤◌, Bool, true, false, cond, ltb, List, [], ◌∷◌, ◌++◌, length, take, drop, replicate, Option, None, Some, Result, Ok, Err, refl, sym, ap, subst, ◌∙◌, append_assoc, append-nil, arith}
 use Rattle.std.specs.Int.{Width, w64, byte_len, from_be_bytes}
 use Rattle.std.proofs.lemmas.Bool.{ltb-false, ltb-true}
-use Rattle.std.proofs.lemmas.List.{length-append, length-take, take-append-drop, take_all, take_at}
+use Rattle.std.proofs.lemmas.List.{length-append, length-take, take-append-drop, take_all, take_at, replicate-append-replicate}
 use Rattle.byte_devices.specs.Device.{Device}
 use Rattle.pool_file_format.specs.declared.refusal.Refusal.{Refusal}
 use Rattle.pool_file_format.specs.declared.refusal.Refusal.TheVariants as refusal
@@ -281,11 +281,15 @@ counted_fails at a b e p = reads_fails (number_at w64) (λ n. many_at at n.0 n.1
 
 -- ---- a vector that grows by a room
 
-pub front_is : (start block : ℕ) (old pad resized now front : List ℕ) → start ≡ length old → resized ≡ take (start + block) old ++ pad
-    → now ≡ resized → front ≡ take start now → front ≡ old
-front_is start block old pad resized now front size is same at =
-    at ∙ ap (λ (l : List ℕ). take start l) (same ∙ is ∙ ap (λ (l : List ℕ). l ++ pad) (take_all (start + block) old (omega (arith, size))))
-    ∙ take_at old pad start (sym size)
+-- More zeros after some.
+pub zeros_on : (count left piece size len : ℕ) (old now next : List ℕ) → piece ≤ left → left ≤ count → size ≡ length now + piece → len ≡ length now → now ≡ old ++ replicate (count - left) 0
+    → next ≡ take size now ++ replicate (size - len) 0 → next ≡ old ++ replicate (count - (left - piece)) 0
+zeros_on count left piece size len old now next fits within is same all more =
+    more ∙ ap (λ (l : List ℕ). l ++ replicate (size - len) 0) (take_all size now (omega (arith, is)) ∙ all) ∙ append_assoc old (replicate (count - left) 0) (replicate (size - len) 0)
+    ∙ ap (λ (l : List ℕ). old ++ l) (replicate-append-replicate (count - left) (size - len) 0 ∙ ap (λ (n : ℕ). replicate n 0) (omega (arith, fits, within, is, same)))
+
+pub front_is : (start : ℕ) (old pad longer now front : List ℕ) → start ≡ length old → longer ≡ old ++ pad → now ≡ longer → front ≡ take start now → front ≡ old
+front_is start old pad longer now front size is same at = at ∙ ap (λ (l : List ℕ). take start l) (same ∙ is) ∙ take_at old pad start (sym size)
 
 pub adds : {bound : ℕ} (n len : ℕ) (old front room z : List ℕ) (a b : Device) (r : Result Unit Fault) → front ≡ old → len ≡ length front + length room → length room ≡ n
     → ReadsValue bound (bytes_at (length room)) a (shown (λ _. room) r) b → Adds bound n old a r (take len (front ++ room ++ z)) b

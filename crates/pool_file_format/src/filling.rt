@@ -1,6 +1,6 @@
 //! Reading a given number of bytes, and numbers.
 
-ghost use Rattle.std.specs.Prelude.{◌≡◌, ◌≤◌, length};
+ghost use Rattle.std.specs.Prelude.{◌≡◌, ◌≤◌, ◌++◌, length, replicate, OnOk};
 ghost use Rattle.std.specs.Int.{w16, w32, w64};
 ghost use Rattle.byte_devices.specs.Device.{device_of, seen};
 ghost use Rattle.pool_file_format.specs.Lengths.{bytes_at, number_at};
@@ -9,11 +9,18 @@ ghost use Rattle.pool_file_format.specs.Taking.{shown, ReadsValue, Adds};
 use crate::fault::Fault;
 use crate::refusal::Refusal;
 use byte_devices::Counted;
-use std::alloc::Global;
+use std::alloc::{AllocError, Global};
 use std::io::Read;
 
-// How many bytes of a text are allocated and read at once.
+// How many bytes of a text are read at once.
 const BLOCK: u64 = 65_536;
+
+// How many bytes of a text are allocated before the first of them is read, at most.
+const ROOM: u64 = 1_048_576;
+
+// How many bytes are cleared at once. For longer pieces the C library takes an instruction that is
+// slow on memory that was never touched.
+const CLEARED: usize = 2_048;
 
 /// Fills `room` with the next bytes of the reader, in as many calls of `read` as that takes.
 ///
@@ -73,6 +80,20 @@ pub fn read_u64<R: Read>(reader: &mut Counted<R>, bound: u64) -> Result<u64, Fau
     Ok(u64::from_be_bytes(bytes))
 }
 
+// Appends `count` zeros to a vector.
+fn add_zeros(bytes: &mut Vec<u8>, count: usize) -> Result<(), AllocError>
+    ensures { OnOk result (bytes.new.items ≡ bytes.old.items ++ replicate count 0) }
+{
+    let mut left = count;
+    while left > 0 {
+        let piece = left.min(CLEARED);
+        let length = bytes.as_slice().len() + piece;
+        bytes.resize(length, 0)?;
+        left -= piece;
+    }
+    Ok(())
+}
+
 // Appends the next `block` bytes of the reader to a vector.
 fn fill_more<R: Read>(
     reader: &mut Counted<R>,
@@ -86,12 +107,12 @@ fn fill_more<R: Read>(
         (seen (R.remaining (device_of reader.new)) reader.new) }
 {
     let start = bytes.as_slice().len();
-    bytes.resize(start + block, 0)?;
+    add_zeros(bytes, block)?;
     fill(reader, bound, bytes.split_at_mut(start).1)
 }
 
-/// `count` bytes, read in blocks: the count may be false, so memory is allocated only as the bytes
-/// come.
+/// `count` bytes, read in blocks. The count may be false, so at most a MiB is allocated before the
+/// bytes come.
 pub fn read_bytes<R: Read>(
     alloc: Global,
     reader: &mut Counted<R>,
@@ -102,7 +123,7 @@ pub fn read_bytes<R: Read>(
         (seen (R.remaining (device_of reader.old)) reader.old) (shown (λ bytes. bytes.items) result)
         (seen (R.remaining (device_of reader.new)) reader.new) }
 {
-    let mut bytes = Vec::new(alloc);
+    let mut bytes = Vec::with_capacity(alloc, count.min(ROOM) as usize)?;
     let mut left = count;
     while left > 0 {
         let block = left.min(BLOCK);

@@ -11,6 +11,7 @@ mod filling;
 mod gathering;
 pub mod laws;
 mod listed;
+mod number_block;
 mod printing;
 mod raw;
 mod reading;

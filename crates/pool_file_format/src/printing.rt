@@ -8,6 +8,7 @@ ghost use Rattle.pool_file_format.specs.Shown.{ref_of, refs_of, tenant_of, tenan
 ghost use Rattle.pool_file_format.specs.Sinks.{Gives};
 
 use crate::listed::{Listed, Printed};
+use crate::number_block::{NUMBERS, NumberBlock};
 use crate::raw::{RawRef, RawTenant};
 use crate::reading::MAGIC;
 use crate::sink::Sink;
@@ -47,11 +48,15 @@ fn put_long<S: Sink>(sink: &mut S, bytes: &[u8]) -> Result<(), DeviceFault>
     sink.take(bytes)
 }
 
+// The texts of numbers, a block at a time.
 fn put_many_numbers<S: Sink>(sink: &mut S, numbers: &[u64]) -> Result<(), DeviceFault>
     ensures { Gives S.Took S.Failed sink.old result sink.new (flat_map number_text numbers.now) }
 {
-    for number in numbers {
-        put_u64(sink, *number)?;
+    let mut left = numbers;
+    while !left.is_empty() {
+        let (few, more) = left.split_at(left.len().min(NUMBERS));
+        sink.take(NumberBlock::of(few).as_slice())?;
+        left = more;
     }
     Ok(())
 }
