@@ -1,8 +1,9 @@
--- The words of a line are taken, and say that line.
-use Rattle.std.proofs.Common.{◌≡◌, refl, Some, true}
-use Rattle.clap.specs.Words.{takes}
+-- The words of a line are taken, and say that line. Words that ask for the version have that fault.
+use Rattle.std.proofs.Common.{◌≡◌, ◌∙◌, [], ◌∷◌, List, ap, refl, codes, inl, inr, Some, true}
+use Rattle.clap.specs.Words.{Text, fault_of, takes}
+use Rattle.clap.specs.declared.error.kind.ErrorKind.TheVariants.{DisplayVersion}
 use Rattle.clap.proofs.OnLiterals.{clap_on_literals}
-use Rattle.command_lines.specs.Lines.{Said, ask, check, copy, import, said_in, serve, words_of}
+use Rattle.command_lines.specs.Lines.{AsksVersion, Said, ask, check, copy, import, said_in, serve, words_of}
 use Rattle.command_lines.specs.Usage.{gitpool}
 
 pub written_taken : (line : Said) → takes gitpool (words_of line) ≡ true
@@ -20,3 +21,15 @@ written_said (import tenant pool) = refl
 written_said (ask tenant query pool) = refl
 written_said (check pool) = refl
 written_said (copy from to pool) = refl
+
+long_version : fault_of gitpool (codes "--version" ∷ []) ≡ DisplayVersion ∷ []
+unfolding clap_on_literals
+long_version = refl
+
+short_version : fault_of gitpool (codes "-V" ∷ []) ≡ DisplayVersion ∷ []
+unfolding clap_on_literals
+short_version = refl
+
+pub version_fault : (words : List Text) → AsksVersion words → fault_of gitpool words ≡ DisplayVersion ∷ []
+version_fault words (inl is) = ap (fault_of gitpool) is ∙ long_version
+version_fault words (inr is) = ap (fault_of gitpool) is ∙ short_version

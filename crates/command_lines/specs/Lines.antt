@@ -1,10 +1,14 @@
 -- Command lines: which words name which line, by what `clap` matches them with.
-use Rattle.std.specs.Prelude.{List, [], ◌∷◌, ◌++◌, Option, Some, None, codes, if◌then◌else◌, option_and_then, option_map}
+use Rattle.std.specs.Prelude.{◌≡◌, ◌⊎◌, List, [], ◌∷◌, ◌++◌, Option, Some, None, codes, if◌then◌else◌, option_and_then, option_map}
 use Rattle.std.specs.Str.{bytes_eq}
 use Rattle.clap.specs.Words.{Row, Text, first_of, subcommand_of}
 use Rattle.command_lines.specs.Usage.{gitpool}
 use Rattle.command_lines.specs.declared.line.Line.{Line}
 use Rattle.command_lines.specs.declared.line.Line.TheVariants as line
+
+-- Words that ask for the version of the program, and for nothing else.
+abbrev pub AsksVersion : List Text → Type 0
+AsksVersion words = (words ≡ codes "--version" ∷ []) ⊎ (words ≡ codes "-V" ∷ [])
 
 -- What a command line says: a subcommand, the arguments that it takes, and the pool file.
 pub data Said : Type 0 where

@@ -39,12 +39,14 @@ abbrev pub copy_usage : Shape
 copy_usage = subcommand (codes "copy")
     (argument (codes "from") ∷ argument (codes "to") ∷ pool_option ∷ [])
 
--- The program: one of its subcommands has to be there, and its own name is none of the words.
+-- The program: one of its subcommands has to be there, its own name is none of the words, and it
+-- takes `--version`, which no subcommand does.
 abbrev pub gitpool : App
 gitpool = record {
   top = record (new_shape (codes "gitpool")) {
     is_leaf = false;
     no_binary_name = true;
+    has_version = true;
     subcommand_required = true;
   };
   subs = serve_usage ∷ import_usage ∷ ask_usage ∷ check_usage ∷ copy_usage ∷ [];
@@ -64,6 +66,7 @@ abbrev pub alone : App
 alone = record {
   top = record (new_shape (codes "gitpool")) {
     no_binary_name = true;
+    has_version = true;
     subcommand_required = true;
   };
   subs = [];

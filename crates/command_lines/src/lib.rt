@@ -6,5 +6,7 @@
 
 mod line;
 mod usage;
+mod version;
 
 pub use line::Line;
+pub use version::VERSION;

@@ -2,12 +2,13 @@
 //!
 //! A run without words is no line here: it imports one stream, has no pool file, and the program
 //! handles it.
-ghost use Rattle.std.specs.Prelude.{◌≡◌, IfErr, IfOk, MatchResult, Some, map};
+ghost use Rattle.std.specs.Prelude.{◌≡◌, ◌∷◌, [], IfErr, IfOk, MatchResult, Some, map};
 ghost use Rattle.std.specs.Prelude.{option_and_then, option_map, true};
 ghost use Rattle.clap.specs.Words.{FailsBy, fault_of, first_of, found_of, kind_of, rows_of};
 ghost use Rattle.clap.specs.Words.{subcommand_of, subcommand_rows_of, takes};
+ghost use Rattle.clap.specs.declared.error.kind.ErrorKind.TheVariants.{DisplayVersion};
 ghost use Rattle.clap.specs.declared.error.kind.ErrorKind.TheVariants.{OutOfMemory};
-ghost use Rattle.command_lines.specs.Lines.{Said, ask_in, copy_in, import_in, said, said_by};
+ghost use Rattle.command_lines.specs.Lines.{AsksVersion, Said, ask_in, copy_in, import_in, said, said_by};
 ghost use Rattle.command_lines.specs.Lines.{said_in, words_of};
 ghost use Rattle.command_lines.specs.Usage.{gitpool};
 
@@ -74,7 +75,8 @@ impl<'a> Line<'a> {
     ///
     /// `Err` where the words name no line, or there are none, or they ask for help: the error's
     /// text is the usage or the help, for standard error. Its kind is `OutOfMemory` (90) where
-    /// memory ran out; words that parse are refused for no other reason. Takes memory.
+    /// memory ran out; words that parse are refused for no other reason. It is `DisplayVersion` for
+    /// `--version` and `-V`: the text is then the version, for standard output. Takes memory.
     pub fn read<S: AsStr>(alloc: Global, words: &'a [S]) -> Result<Line<'a>, Error>
         ensures found { IfOk result (λ line.
             said_in (map S.text words.entry.now) ≡ Some (said line)) }
@@ -82,6 +84,8 @@ impl<'a> Line<'a> {
             → kind_of e ≡ OutOfMemory) }
         ensures written { (line : Said) → map S.text words.entry.now ≡ words_of line
             → MatchResult result (λ read. said read ≡ line) (λ e. kind_of e ≡ OutOfMemory) }
+        ensures version { AsksVersion (map S.text words.entry.now)
+            → FailsBy (DisplayVersion ∷ []) result }
         ensures exact { FailsBy (fault_of gitpool (map S.text words.entry.now)) result }
     {
         let matches = matched(alloc, words)?;

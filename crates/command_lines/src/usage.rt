@@ -11,6 +11,7 @@ ghost use Rattle.command_lines.specs.Usage.{ReadsWords, alone, argument, ask_usa
 ghost use Rattle.command_lines.specs.Usage.{copy_usage, gitpool, import_usage, pool_option};
 ghost use Rattle.command_lines.specs.Usage.{serve_usage, subcommand, taking};
 
+use crate::version::VERSION;
 use clap::{Arg, Command};
 use std::alloc::{AllocError, Global};
 
@@ -125,6 +126,7 @@ fn program<'a>(alloc: Global) -> Result<Command<'a>, AllocError>
 {
     Command::new(alloc, "gitpool")
         .about("Git repositories of many tenants over one pool of objects")
+        .version(VERSION)
         .no_binary_name(true)
         .subcommand_required(true)
         .bin_name("gitpool")

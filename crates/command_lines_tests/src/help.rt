@@ -1,7 +1,9 @@
-//! The texts of help, of the program and of each subcommand.
+//! The texts of help, of the program and of each subcommand, and of the version.
 
 use crate::told::is_refused_with;
 use clap::error::ErrorKind;
+use command_lines::VERSION;
+use std::alloc::Global;
 
 const PROGRAM: &str = "\
 Git repositories of many tenants over one pool of objects
@@ -17,7 +19,8 @@ Commands:
   help    Print this message or the help of the given subcommand(s)
 
 Options:
-  -h, --help  Print help
+  -h, --help     Print help
+  -V, --version  Print version
 ";
 
 const SERVE: &str = "\
@@ -87,6 +90,7 @@ const SHOWN: &[(&str, &str)] = &[
     ("|--help", PROGRAM),
     ("|help", PROGRAM),
     ("|-h|serve", PROGRAM),
+    ("|-h|--version", PROGRAM),
     ("|serve|--help", SERVE),
     ("|help|serve", SERVE),
     ("|import|-h", IMPORT),
@@ -104,5 +108,28 @@ fn shows_the_help_of_the_program_and_of_each_subcommand(rt: HostRuntime) {
     for (words, help) in SHOWN {
         let shown = is_refused_with(rt.alloc(), words, ErrorKind::DisplayHelp, help);
         assert!(rt; shown, "{words}");
+    }
+}
+
+// Words that ask for the version, each with a bar before it.
+const NUMBERED: &[&str] = &[
+    "|--version",
+    "|-V",
+    "|-V|serve",
+    "|--version|--help",
+    "|-Vh",
+];
+
+fn is_answered_with_the_version(alloc: Global, words: &str) -> bool {
+    match format!(in alloc; "gitpool {VERSION}\n") {
+        Ok(text) => is_refused_with(alloc, words, ErrorKind::DisplayVersion, &text),
+        Err(_) => false,
+    }
+}
+
+#[test]
+fn shows_the_version(rt: HostRuntime) {
+    for words in NUMBERED {
+        assert!(rt; is_answered_with_the_version(rt.alloc(), words), "{words}");
     }
 }

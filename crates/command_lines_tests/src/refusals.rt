@@ -159,10 +159,32 @@ For more information, try '--help'.
 ",
     ),
     (
-        "|--version",
+        "|check|--version",
         ErrorKind::UnknownArgument,
         "\
 error: unexpected argument '--version' found
+
+Usage: gitpool check --pool <FILE>
+
+For more information, try '--help'.
+",
+    ),
+    (
+        "|check|--pool|f|-V",
+        ErrorKind::UnknownArgument,
+        "\
+error: unexpected argument '-V' found
+
+Usage: gitpool check --pool <FILE>
+
+For more information, try '--help'.
+",
+    ),
+    (
+        "|help|-V",
+        ErrorKind::InvalidSubcommand,
+        "\
+error: unrecognized subcommand '-V'
 
 Usage: gitpool <COMMAND>
 

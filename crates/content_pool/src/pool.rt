@@ -218,6 +218,15 @@ impl<N: Naming> Pool<N> {
         (stored.kind, stored.bytes.as_slice())
     }
 
+    /// How often a live slot is held. Takes no memory.
+    #[tactic(auto, unfolding(crate::specs::Pool::holds, crate::specs::Pool::content))]
+    pub fn hold_count(&self, slot: Slot) -> u64
+        requires { IsLive self.now slot }
+        ensures { result ≡ holds self.now slot }
+    {
+        self.cells[slot.key].holds
+    }
+
     /// How many distinct contents are held, and the sum of their sizes in bytes, 2^64 - 1 if the
     /// sum is more. Walks over all slots. Takes no memory.
     pub fn stored(&self) -> (u64, u64)
@@ -225,6 +234,13 @@ impl<N: Naming> Pool<N> {
         ensures any_list { (cs : List _) → ListsLive self.now cs → result ≡ stored_sizes cs }
     {
         (self.cells.len() as u64, total_size(&self.cells))
+    }
+
+    /// No two live slots have the same content. This is a fact for proofs: a call does nothing.
+    pub fn holds_each_once(&self)
+        ensures { HoldsEachOnce self.now }
+    {
+        let _cells = &self.cells;
     }
 
     // The slot of this content, if it is held.

@@ -5,7 +5,7 @@
 //! to a pool file, and `Service::load` reads them. `import` carries one stream of a tenant from a
 //! reader to a writer, and `import_one` does so over an empty repository. `serve` answers frames of
 //! steps, `ask` one query, and `check` says how much is stored. `Line` is a command line of the
-//! program. `laws` has what is true of exports.
+//! program, and `VERSION` is the number of this version. `laws` has what is true of exports.
 //!
 //! A program that uses these calls needs no other crate of this repository: this one re-exports
 //! every type that their signatures name.
@@ -25,7 +25,7 @@ pub use ask_fault::AskFault;
 pub use asking::ask;
 pub use check_fault::CheckFault;
 pub use checking::check;
-pub use command_lines::Line;
+pub use command_lines::{Line, VERSION};
 pub use content_pool::{Pool, Slot};
 pub use git_objects::{
     Counted, DeviceFault, Kind, Memory, Name, Naming, Sha1Naming, TailNaming, write_all,
@@ -37,5 +37,5 @@ pub use service_steps::{Answer, FrameFault, Reply, ServiceFault, Step};
 pub use serving::serve;
 pub use single_import::import_one;
 pub use tenant_refs::Refs;
-pub use tenant_service::Service;
+pub use tenant_service::{Service, TenantSizes};
 pub use tenant_tables::{Found, Sight, Summary, Table};

@@ -37,13 +37,21 @@ fn ended(rt: &HostRuntime, outcome: Result<(), RunFault>) -> ExitCode {
     }
 }
 
+// The version goes to standard output.
+fn print_version(rt: &HostRuntime, version: &clap::Error) -> Result<(), RunFault> {
+    Ok(print!(rt; "{version}")?)
+}
+
 // Usage and help go to standard error.
 fn refused(rt: &HostRuntime, error: &clap::Error) -> ExitCode {
-    if error.kind() == UsageKind::OutOfMemory {
-        return ended(rt, Err(RunFault::Memory));
+    match error.kind() {
+        UsageKind::OutOfMemory => ended(rt, Err(RunFault::Memory)),
+        UsageKind::DisplayVersion => ended(rt, print_version(rt, error)),
+        _ => {
+            let _ = eprint!(rt; "{error}");
+            ExitCode::from(USAGE)
+        }
     }
-    let _ = eprint!(rt; "{error}");
-    ExitCode::from(USAGE)
 }
 
 fn run(rt: &HostRuntime, words: &[String]) -> ExitCode {

@@ -20,6 +20,8 @@ mod limits;
 #[cfg(test)]
 mod one_byte;
 #[cfg(test)]
+mod removals;
+#[cfg(test)]
 mod replies;
 #[cfg(test)]
 mod rows;
@@ -29,6 +31,8 @@ mod saved;
 mod saved_tenants;
 #[cfg(test)]
 mod single_frames;
+#[cfg(test)]
+mod sizes;
 #[cfg(test)]
 mod stops;
 #[cfg(test)]

@@ -1,4 +1,5 @@
-//! Steps and copies of tenants in turn, each with its answer and what is held after it.
+//! Steps of tenants and calls of the operator in turn, each with its answer and what is held after
+//! it.
 
 use crate::told::code_of;
 use gitpool::{Answer, Naming, Service, Step};
@@ -13,6 +14,8 @@ pub enum Do {
     Ask,
     Restart,
     Copy,
+    Abandon,
+    Remove,
 }
 
 /// What a row does, its tenant, and bytes: a piece, a query, or the tenant that receives a copy.
@@ -35,7 +38,15 @@ fn step_of(what: Do, tenant: &'static [u8], bytes: &'static [u8]) -> Option<Step
             query: bytes,
         }),
         Do::Restart => Some(Step::Restart),
-        Do::Copy => None,
+        Do::Copy | Do::Abandon | Do::Remove => None,
+    }
+}
+
+fn operate<N: Naming>(service: &mut Service<N>, what: Do, tenant: &[u8], bytes: &[u8]) -> Answer {
+    match what {
+        Do::Abandon => service.abandon(tenant),
+        Do::Remove => service.remove_tenant(tenant),
+        _ => service.copy_tenant(tenant, bytes),
     }
 }
 
@@ -43,7 +54,7 @@ fn answer_of<N: Naming>(service: &mut Service<N>, row: &Row, out: &mut Vec<u8>) 
     let (what, tenant, bytes) = row.0;
     match step_of(what, tenant, bytes) {
         Some(step) => service.step(step, out),
-        None => service.copy_tenant(tenant, bytes),
+        None => operate(service, what, tenant, bytes),
     }
 }
 

@@ -26,3 +26,4 @@ pub use loading::load;
 pub use saving::{save, save_views};
 pub use tenant::Tenant;
 pub use tenant_view::TenantView;
+pub use tenants::tenants_to_save;

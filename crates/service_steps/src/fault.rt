@@ -1,4 +1,4 @@
-//! The faults with which a service itself refuses a step or a copy.
+//! The faults with which a service itself refuses a step or a call of the operator.
 //!
 //! It refuses a step before the step reaches a stream, and a copy before its first step.
 
@@ -7,12 +7,13 @@ ghost use Rattle.service_steps.specs.Faults.{code_of};
 
 use crate::answer::Answer;
 
-/// Why a service itself refuses a step or a copy. A refusal changes nothing.
+/// Why a service itself refuses a step or a call of the operator. A refusal changes nothing.
 #[derive(Clone, Copy, Debug, PartialEq, Eq)]
 pub enum ServiceFault {
-    /// A Feed or an End of a tenant without a stream: 30.
+    /// A Feed, an End or an abandon of a tenant without a stream: 30.
     NoStream,
-    /// An Open of a tenant that has a stream, even a dead one, or a copy to that tenant: 31.
+    /// An Open of a tenant that has a stream, even a dead one, a copy to that tenant, or its removal:
+    /// 31.
     StreamIsOpen,
     /// A name that no tenant can have: 32.
     BadTenantName,

@@ -62,8 +62,8 @@ production Alias = once (Header Mark) ∷ once (CommitIsh To) ∷ []
 -- What comes after the first part of a command; none for a part that stands inside commands alone.
 -- Nothing comes after a command of one line: 'progress' SP <any> LF, 'get-mark' SP ':' <idnum> LF,
 -- 'cat-blob' SP <dataref> LF, 'ls' SP <dataref> SP <path> LF, 'checkpoint' LF, 'done' LF,
--- 'feature' SP <feature> ('=' <argument>)? LF, 'option' SP <option> LF. An optional LF between
--- commands is a command without effect.
+-- 'feature' SP <feature> ('=' <argument>)? LF, 'option' SP <option> LF. Any number of blank lines
+-- may stand between commands (own; git takes one), and each is a command without effect.
 abbrev pub production_of : Part → Option (List Term)
 production_of (Opening line) = Some (production line)
 production_of (Reply line) = Some []

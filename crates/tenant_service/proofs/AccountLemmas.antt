@@ -227,7 +227,7 @@ pub record Exchanged (digest : List ℕ → List ℕ) (p : Cells) (es : Tenants)
   pub others : (other : List ℕ) → bytes_eq other name ≡ false
       → held_of other (holdings q new) ≡ held_of other (holdings p es)
 
-exchanged : (digest : List ℕ → List ℕ) (name : List ℕ) (p q : Cells) (es : Tenants) (old new : Tenant)
+pub exchanged : (digest : List ℕ → List ℕ) (name : List ℕ) (p q : Cells) (es : Tenants) (old new : Tenant)
     → Accounts digest p es → lookup (bytes_eq name) es ≡ Some old → Stands digest q new
     → PreservesOthers p old.table.entries q new.table.entries
     → Exchanged digest p es name new q (set_value (bytes_eq name) es new)

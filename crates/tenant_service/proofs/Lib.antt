@@ -5,6 +5,7 @@ pub mod AccountLemmas
 pub mod RunLemmas
 mod SoundLemmas
 mod RestartLemmas
+mod RemovalLemmas
 mod StoredLemmas
 mod SlotSums
 mod CountLemmas
@@ -12,6 +13,7 @@ mod LoadedLemmas
 mod LentLemmas
 mod SavedLemmas
 mod SavableLemmas
+mod FileContents
 mod BackLemmas
 mod CopyLemmas
 pub mod ExportLemmas
@@ -19,3 +21,4 @@ mod ExportRunLemmas
 mod CopyRuns
 mod PlaceLemmas
 mod StoredCopies
+mod SizeLemmas

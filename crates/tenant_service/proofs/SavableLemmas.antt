@@ -38,7 +38,7 @@ use Rattle.tenant_service.proofs.SavedLemmas.{listed_has, listed_rises}
 -- ---- lists
 
 module _ {X : Type 0} where
-  filter-has : (test : X → Bool) (xs : List X) (x : X) → Has (filter test xs) x
+  pub filter-has : (test : X → Bool) (xs : List X) (x : X) → Has (filter test xs) x
       → Has xs x × (test x ≡ true)
   filter-has test [] x h = absurd h
   filter-has test (y ∷ ys) x h = by (test y) refl h (filter-has test ys x)

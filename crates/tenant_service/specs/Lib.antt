@@ -1,7 +1,7 @@
 -- In reading order: a repository of its own, runs of many tenants, and what the service holds; its
 -- objects, what each call does to it, and whether it is sound; the name of a step; what of it a
 -- pool file has; copies, and what a copy leaves; then where the parts of a tenant lie, what one
--- step or a copy by places does to them, and how a save and a load see them.
+-- step, the operator or a copy by places does to them, and how a save and a load see them.
 pub mod Alone
 pub mod Headline
 pub mod TenantState
@@ -14,5 +14,7 @@ pub mod Copying
 pub mod Copies
 pub mod Tenants
 pub mod OneStep
+pub mod Removing
 pub mod ByPlaces
 pub mod Entries
+pub mod Sizes

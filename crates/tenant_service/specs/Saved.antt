@@ -1,8 +1,9 @@
 -- The repositories of a service in a pool file: those that are saved, and what is held of those
 -- that were loaded.
-use Rattle.std.specs.Prelude.{◌≡◌, ℕ, List, [], map, Option, None, Some, unwrap_or, Result, Ok, Err}
+use Rattle.std.specs.Prelude.{◌≡◌, ℕ, List, [], map, Contains, Option, None, Some, unwrap_or, Result, Ok, Err}
 use Rattle.std.specs.Map.{lookup}
 use Rattle.std.specs.Str.{bytes_eq}
+use Rattle.git_model.specs.Content.{Content}
 use Rattle.git_model.specs.Repository.{Repository}
 use Rattle.pool_file_format.specs.declared.fault.Fault.{Fault}
 use Rattle.pool_file_format.specs.declared.fault.Fault.TheVariants as fault
@@ -11,7 +12,7 @@ use Rattle.pool_file_checks.specs.Saving.{IsTextOf}
 use Rattle.pool_file_checks.specs.Judging.{IsRefused}
 use Rattle.pool_file.specs.Loading.{AreRead}
 use Rattle.pool_file.specs.Worth.{worth_saving}
-use Rattle.tenant_service.specs.TenantState.{TenantStates, Idle, empty_repository, held_of}
+use Rattle.tenant_service.specs.TenantState.{TenantState, TenantStates, Idle, empty_repository, held_of}
 use Rattle.tenant_service.specs.HeldObjects.{last_held}
 
 -- The repository of each tenant at its last checkpoint, under the tenant's name.
@@ -21,6 +22,13 @@ last_named all = map (λ e. record { tenant = e.0; repository = last_held e.1 })
 -- Those that are saved: each has an object, or a HEAD other than the first.
 abbrev pub saved_of : TenantStates → List Named
 saved_of all = worth_saving (last_named all)
+
+-- One of the tenants has an object with this content at its last checkpoint.
+pub record SomebodyHas (c : Content) (all : TenantStates) : Type 0 where
+  pub tenant : List ℕ
+  pub held : TenantState
+  pub there : Contains all (tenant, held)
+  pub has : Contains (map (λ o. o.content) (last_held held).objects) c
 
 -- The repository of a tenant among some, or an empty one if it has none there.
 abbrev pub repository_of : List ℕ → List Named → Repository

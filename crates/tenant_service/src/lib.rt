@@ -9,11 +9,14 @@ mod by_places;
 mod copying;
 pub mod laws;
 mod loading;
+mod removing;
 mod saving;
 mod service;
+mod sizes;
 mod tenant;
 mod tenants;
 
 pub use pool_file_format::{Fault, Refusal, StreamingDigest};
 pub use service::Service;
 pub use service_steps::{Answer, Reply, ServiceFault, Step};
+pub use sizes::TenantSizes;

@@ -13,7 +13,7 @@
 //! Each answers `Answer::Ok`, and `out` has what the stream prints: crates/gitpool_tests has an
 //! example, `two_tenants`.
 
-ghost use Rattle.std.specs.Prelude.{◌≡◌, ◌+◌, ◌^◌, ◌++◌, ℕ, List, [], ◌∷◌, length, drop, count_by, true, false, None, IsNone, IsSome, IfSome, OnErr, OnOk, ◌<◌};
+ghost use Rattle.std.specs.Prelude.{◌≡◌, ◌+◌, ◌^◌, ◌++◌, ℕ, List, [], ◌∷◌, length, drop, count_by, true, false, None, IsNone, IsSome, IfOk, IfSome, OnErr, OnOk, map, ◌<◌};
 ghost use Rattle.byte_devices.specs.Device.{device_of, calls_of, counted_on, seen};
 ghost use Rattle.content_pool.specs.LiveContents.{live_contents, stored_sizes};
 ghost use Rattle.export_laws.specs.Copies.{CanBeCopied};
@@ -37,6 +37,7 @@ ghost use Rattle.tenant_service.specs.Soundness.{IsSoundTenantState};
 ghost use Rattle.tenant_service.specs.HeldObjects.{held_contents, has_committed_object, has_read_done as read_done, last_held};
 ghost use Rattle.tenant_service.specs.HeldSteps.{step_held};
 ghost use Rattle.tenant_service.specs.Saved.{saved_of, IsLoadedFrom, LoadsAs, LoadsText, LoadsEach};
+ghost use Rattle.tenant_service.specs.Sizes.{sizes_of, sizes_told};
 ghost use Rattle.tenant_service.specs.Tenants.{CountsTenants, Shows};
 ghost use Rattle.tenant_tables.specs.IsBackedBy.{IsBackedBy};
 
@@ -44,6 +45,7 @@ use crate::by_places::copy_by_places;
 use crate::copying::{copy, copy_refusal};
 use crate::loading::tenants_of;
 use crate::saving::lend_all;
+use crate::sizes::{TenantSizes, sizes_of_saved};
 use crate::tenant::{Tenant, has_read_done};
 use crate::tenants::{count_committed, name_of, take_step};
 use byte_devices::Counted;
@@ -61,8 +63,8 @@ use tenant_tables::Table;
 /// The repositories and streams of any number of tenants. Contracts see what is held of each.
 pub struct Service<N: Naming> {
     alloc: Global,
-    pool: Pool<N>,
-    tenants: IndexMap<TenantName, Tenant>,
+    pub(crate) pool: Pool<N>,
+    pub(crate) tenants: IndexMap<TenantName, Tenant>,
 }
 
 // Not derived, so that crates above need not prove again how its parts are dropped.
@@ -178,6 +180,21 @@ impl<N: Naming> Service<N> {
         ensures { result ≡ count_by (λ e. has_committed_object e.1) self.now }
     {
         count_committed(&self.tenants) as u64
+    }
+
+    /// What each tenant has at its last checkpoint, in rising order of the bytes of their names: how
+    /// many objects and refs, the sum of the sizes of its objects in bytes, and that sum without
+    /// the objects whose contents another tenant has too, running streams of others included. Those
+    /// tenants are listed that `save` writes. A sum is 2^64 - 1 if it would be greater. This is for
+    /// the operator: no step tells a tenant of it.
+    ///
+    /// `Memory` (90) if there is no room for the list.
+    pub fn sizes(&self) -> Result<Vec<TenantSizes<'_>>, Memory>
+        ensures { IfOk result (λ sizes. map sizes_told sizes.items ≡ sizes_of self.now) }
+    {
+        self.has_distinct_names();
+        let lent = lend_all(self.alloc, &self.tenants)?;
+        sizes_of_saved(self.alloc, &self.pool, &lent)
     }
 
     /// Whether a tenant has a stream that has read `done`, so that no later byte of it counts.

@@ -3,7 +3,7 @@
 //! The pool is lent, and holds other tenants' contents too. A call uses only the tenant's own
 //! table, and leaves the holds of all other tenants as they are.
 
-ghost use Rattle.std.specs.Prelude.{◌≡◌, ℕ, List, length, []};
+ghost use Rattle.std.specs.Prelude.{◌≡◌, ℕ, List, length, [], is_some};
 ghost use Rattle.tenant_tables.specs.IsBackedBy.{IsBackedBy, PreservesOthers};
 ghost use Rattle.content_pool.specs.Pool.{Cells};
 ghost use Rattle.import_session.specs.Session.{repository_in};
@@ -16,6 +16,7 @@ ghost use Rattle.tenant_service.specs.HeldSteps.{step_held};
 ghost use Rattle.tenant_service.specs.HeldObjects.{has_read_done, last_held};
 ghost use Rattle.tenant_service.specs.Tenants.{holding_in, Stands, IsSettled};
 ghost use Rattle.tenant_service.specs.OneStep.{Takes, refusal_told};
+ghost use Rattle.tenant_service.specs.Removing.{answer_unless, with_stream, without_stream};
 
 use answers::{Fault, answer_along};
 use content_pool::Pool;
@@ -260,4 +261,39 @@ pub fn restart<N: Naming>(pool: &mut Pool<N>, tenant: &mut Tenant)
         ≡ Idle (last_held (holding_in pool.old tenant.old)) }
 {
     give_up(pool, tenant, OpenStream::Closed);
+}
+
+/// Gives up the stream, running or dead: what is left is the last checkpoint, and no stream. 30 if
+/// there is none; then nothing has changed. Takes no memory.
+pub fn abandon<N: Naming>(pool: &mut Pool<N>, tenant: &mut Tenant) -> Answer
+    requires stands { Stands N.digest_of pool.old tenant.old }
+    ensures stands { Stands N.digest_of pool.new tenant.new }
+    ensures others { PreservesOthers pool.old tenant.old.table.entries
+        pool.new tenant.new.table.entries }
+    ensures answer { result ≡ answer_unless (without_stream (holding_in pool.old tenant.old)) }
+    ensures own { holding_in pool.new tenant.new
+        ≡ Idle (last_held (holding_in pool.old tenant.old)) }
+{
+    match &tenant.phase {
+        OpenStream::Closed => ServiceFault::NoStream.answer(),
+        _ => {
+            restart(pool, tenant);
+            Answer::Ok
+        }
+    }
+}
+
+/// Whether there is a stream, running or dead.
+pub fn has_stream(tenant: &Tenant) -> bool
+    ensures { (pool : Cells) → result ≡ is_some (with_stream (holding_in pool tenant.now)) }
+{
+    !matches!(&tenant.phase, OpenStream::Closed)
+}
+
+/// Releases the contents of a tenant that is removed, and drops it. Takes no memory.
+pub fn release<N: Naming>(pool: &mut Pool<N>, tenant: Tenant)
+    requires { IsBackedBy N.digest_of pool.old tenant.table.entries }
+    ensures { PreservesOthers pool.old tenant.table.entries pool.new [] }
+{
+    tenant.table.release(pool);
 }

@@ -14,6 +14,7 @@ mod found;
 mod front;
 mod objects;
 mod places;
+mod releasing;
 mod sharing;
 mod sight;
 mod summary;

@@ -431,42 +431,4 @@ impl Table {
     {
         self.own.commit();
     }
-
-    /// Removes the objects after the committed prefix and releases their slots. Takes no memory.
-    ///
-    /// What another table holds stays in the pool. The pool must be the one that holds the contents
-    /// of the table.
-    pub fn roll_back<N: Naming>(&mut self, pool: &mut Pool<N>)
-        requires stands { IsBackedBy N.digest_of pool.old self.old.entries }
-        ensures stands { IsBackedBy N.digest_of pool.new self.new.entries }
-        ensures others { PreservesOthers pool.old self.old.entries pool.new self.new.entries }
-        ensures entries { self.new
-            ≡ record self.old { entries = take self.old.committed self.old.entries } }
-        ensures objects { objects pool.new self.new.entries
-            ≡ take self.old.committed (objects pool.old self.old.entries) }
-    {
-        let kept = self.committed_len();
-        let mut count = self.len();
-        while count > kept {
-            count -= 1;
-            self.release_at(pool, count);
-        }
-        self.own.roll_back();
-    }
-
-    // Releases the slot of the object at a position, when those after it are released.
-    fn release_at<N: Naming>(&self, pool: &mut Pool<N>, place: usize)
-        requires within { place < length self.now.entries }
-        requires stands { IsBackedBy N.digest_of pool.old (take (place + 1) self.now.entries) }
-        ensures stands { IsBackedBy N.digest_of pool.new (take place self.now.entries) }
-        ensures others { PreservesOthers pool.old (take (place + 1) self.now.entries) pool.new
-            (take place self.now.entries) }
-        ensures objects { objects pool.new (take place self.now.entries)
-            ≡ take place (objects pool.old (take (place + 1) self.now.entries)) }
-    {
-        let Some((_, entry)) = self.entry_at(place) else {
-            return;
-        };
-        pool.release(entry.slot);
-    }
 }

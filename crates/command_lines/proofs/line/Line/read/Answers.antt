@@ -1,5 +1,5 @@
-use Rattle.std.proofs.Common.{◌≡◌, ◌∙◌, rules, ap, refl, sym, map, List, Option, Some, None, Result, Ok, Err, IsErrAnd, MatchResult, unwrap_or, is_some, option_map, option_and_then, true}
-use Rattle.clap.specs.Words.{Text, kind_of, takes}
+use Rattle.std.proofs.Common.{◌≡◌, ◌∙◌, rules, ap, refl, sym, map, List, Option, Some, None, Result, Ok, Err, IsErrAnd, MatchResult, subst, unwrap_or, is_some, option_map, option_and_then, true}
+use Rattle.clap.specs.Words.{FailsBy, Kinds, Text, fault_of, kind_of, takes}
 use Rattle.clap.proofs.TakesLemmas.{passed_up}
 use Rattle.command_lines.specs.Lines.{said, said_by, said_in}
 use Rattle.command_lines.specs.Usage.{gitpool}
@@ -7,7 +7,7 @@ use Rattle.command_lines.specs.declared.line.Line.{Line}
 use Rattle.clap.specs.declared.error.Error.{Error}
 use Rattle.clap.specs.declared.error.kind.ErrorKind.TheVariants.{OutOfMemory}
 use Rattle.command_lines.proofs.NamedLines.{always_said}
-use Rattle.command_lines.proofs.WrittenLines.{written_said, written_taken}
+use Rattle.command_lines.proofs.WrittenLines.{version_fault, written_said, written_taken}
 use Rattle.command_lines.proofs.line.Line.read.Goals as goal
 
 pub returns-in_err-matches-clause-only : goal.returns-in_err-matches-clause-only
@@ -38,3 +38,12 @@ returns-clause-written g c =
     let words : List Text = map g.S.AsStr.text c.args.words.now in
     let found : said_in words ≡ Some (said c.unwrap.result) = search rules in
     λ line e. ap (λ o. unwrap_or o line) (sym found ∙ ap said_in e ∙ written_said line)
+
+pub returns-in_err-matches-clause-version : goal.returns-in_err-matches-clause-version
+returns-in_err-matches-clause-version g c =
+    let words : List Text = map g.S.AsStr.text c.args.words.now in
+    let exact : FailsBy (fault_of gitpool words) c.from_residual.result = search rules in
+    λ asked. subst (λ (kinds : Kinds). FailsBy kinds c.from_residual.result) (version_fault words asked) exact
+
+pub returns-clause-version : goal.returns-clause-version
+returns-clause-version g c = λ asked. sym (version_fault (map g.S.AsStr.text c.args.words.now) asked) ∙ c.in_ok-matches.ensures.exact

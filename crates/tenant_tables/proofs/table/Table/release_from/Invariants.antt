@@ -1,6 +1,6 @@
 use Rattle.std.proofs.Common.{◌≤◌, length}
 use Rattle.tenant_tables.proofs.TableLemmas.{Released}
-use Rattle.tenant_tables.proofs.table.Table.roll_back.Given as goal
+use Rattle.tenant_tables.proofs.table.Table.release_from.Given as goal
 
 abbrev pub invariant-loop-count : goal.invariant-loop-count
 invariant-loop-count g l = record {
