@@ -21,6 +21,7 @@ import hashlib
 import os
 import re
 import shutil
+import signal
 import stat
 import struct
 import subprocess
@@ -301,8 +302,8 @@ def _parts_of(source: Union[BinaryIO, Iterable[bytes]], size: int) -> Iterable[b
 
 
 def find_program() -> str:
-    """The program: what the environment variable GITPOOL names, else `gitpool` beside the folder of this file, which builds
-    it at its first run, else `gitpool` on the PATH. Raises ServiceError where there is none."""
+    """The program: what the environment variable GITPOOL names, else `gitpool` beside the folder of this file, which is the
+    executable after an install and else the script that builds it, else `gitpool` on the PATH. Raises ServiceError where there is none."""
     given = os.environ.get("GITPOOL")
     if given:
         return given
@@ -384,6 +385,23 @@ def _trouble_of(pool: str, has_answered: bool) -> str:
     return f"the pool file could not be read, or another run had it in hand; {TRY_AGAIN}"
 
 
+class _Guard:
+    """A process that holds the input of a service open, and kills the service where its caller ends without a word.
+
+    Without it a caller that is killed would end the service's input, and the service would save what it has so far.
+    """
+
+    def __init__(self, service: "subprocess.Popen[bytes]"):
+        assert service.stdin
+        words = ["sh", "-c", 'read -r _ || kill -9 "$1"', "sh", str(service.pid)]
+        self._process = subprocess.Popen(words, stdin=subprocess.PIPE, pass_fds=(service.stdin.fileno(),), start_new_session=True)
+
+    def let_go(self) -> None:
+        """Ends the guard: the service's input is the caller's alone from then on."""
+        if self._process.returncode is None:
+            self._process.communicate(b"\n")
+
+
 class Service:
     """One process of `gitpool serve` over a pool file, as a context manager.
 
@@ -391,13 +409,15 @@ class Service:
     program is the path of gitpool; without one find_program looks for it.
     read_only asks for a service that locks nothing and never saves: it sees the pool as it is now, also while another run
     is at work, and what it is fed is lost. command starts another program that speaks frames, in place of both.
+    dies_with_us lets the process be killed where this one is killed: otherwise it would save then what it has so far. That
+    takes a second process, a shell that waits.
 
     Leaving the `with` block closes the service, and kills it where an exception leaves the block.
     A step that cannot be carried out raises ServiceError, or PoolBusy where another run has the pool file.
     """
 
     def __init__(self, pool: Optional[PathLike] = None, program: Optional[PathLike] = None, *, read_only: bool = False,
-                 command: Optional[Sequence[str]] = None):
+                 command: Optional[Sequence[str]] = None, dies_with_us: bool = False):
         self._pool = None if pool is None else os.path.abspath(os.fspath(pool))
         self._room: Optional[str] = None
         self._is_remote = command is not None
@@ -417,6 +437,7 @@ class Service:
         assert self._process.stdin and self._process.stdout
         self._in: IO[bytes] = self._process.stdin
         self._out: IO[bytes] = self._process.stdout
+        self._guard = _Guard(self._process) if dies_with_us else None
 
     def __enter__(self) -> "Service":
         return self
@@ -443,6 +464,12 @@ class Service:
         several steps. Raises Fault 30 where the tenant has no stream, and a stream's own faults."""
         cut = [data[at : at + LONGEST_BODY] for at in range(0, len(data), LONGEST_BODY)] or [b""]
         return b"".join(self.step(Step(Kind.FEED, as_bytes(tenant), it)).check() for it in cut)
+
+    def feed_while(self, tenant: Text, data: bytes, work: Callable[[], None]) -> bytes:
+        """The same for at most LONGEST_BODY bytes, with work that is done while the service takes them."""
+        self._send(write_step(Step(Kind.FEED, as_bytes(tenant), data)))
+        work()
+        return self._receive().check()
 
     def end(self, tenant: Text) -> bytes:
         """Ends the tenant's stream, which is a checkpoint, and gives what that prints. It lasts from `close` on. Raises
@@ -577,10 +604,7 @@ class Service:
         if self._room is not None:
             self.kill()
             return
-        try:
-            self._in.close()
-        except BrokenPipeError:
-            pass
+        self._end_input()
         self._out.read()
         status = self._process.wait()
         if status:
@@ -593,6 +617,7 @@ class Service:
             return
         self._process.kill()
         self._process.wait()
+        self._let_guard_go()
         self._remove_left()
         self._forget()
 
@@ -641,11 +666,19 @@ class Service:
         return found
 
     def _wait_after_fault(self) -> int:
+        self._end_input()
+        return self._process.wait()
+
+    def _end_input(self) -> None:
+        self._let_guard_go()
         try:
             self._in.close()
         except BrokenPipeError:
             pass
-        return self._process.wait()
+
+    def _let_guard_go(self) -> None:
+        if self._guard:
+            self._guard.let_go()
 
     def _error(self, status: int) -> ServiceError:
         """Why the program ended: its status and what it said on standard error. The service is over."""

@@ -5,52 +5,72 @@ the stream that is refused, and it is found by feeding the front again, in small
 """
 from __future__ import annotations
 
+import contextlib
+import itertools
 import os
 import tempfile
-from typing import BinaryIO, Callable, Iterator, List, NamedTuple, Optional
+from typing import BinaryIO, Callable, ContextManager, Iterator, List, NamedTuple, Optional, Union
 
-from gitpool import PIECE, Fault, Kind, Service, Step, pieces_of, read_kept
-from gitpool_stream import Place, Scanner, objects_in, place_of
+from gitpool import PIECE, Fault, Service, pieces_of, read_kept
+from gitpool_rewrite import CannotRewrite, Plan, Rewriter, Told
+from gitpool_stream import Place, Tally, place_of
 
 Start = Callable[[bool], Service]
+Lend = Callable[[], ContextManager[Service]]
 Shown = Callable[[int, int], None]
+Reason = Union[Fault, CannotRewrite]
 
 
 class Refused(Exception):
-    """A stream was refused: by which fault, and at which place."""
+    """A stream was refused: why, at which place, after how many bytes of which the service took all, with what they have, and whether
+    what its checkpoints left is saved."""
 
-    def __init__(self, fault: Fault, place: Place, is_at_end: bool):
-        self.fault = fault
+    def __init__(self, reason: Reason, place: Place, is_at_end: bool, size: int, tally: Tally, has_saved: bool):
+        self.reason = reason
         self.place = place
         self.is_at_end = is_at_end
-        super().__init__(str(fault))
+        self.size = size
+        self.tally = tally
+        self.has_saved = has_saved
+        super().__init__(str(reason))
 
 
 class Imported(NamedTuple):
-    """What came of a stream that was not refused: its bytes and objects, the refs that were kept, and the ref that HEAD was
-    set to, if it was."""
+    """What came of a stream that was not refused: its bytes and what they have, the refs that were kept, the ref that HEAD was set
+    to, if it was, and whether all this is in the service."""
 
     size: int
-    objects: int
+    tally: Tally
     kept: List[bytes]
     head: Optional[bytes]
+    is_taken: bool
 
 
 class Source:
     """A stream that can be read again: a file of the disk from where it stands, or a copy of what a pipe gave."""
 
-    def __init__(self, file: BinaryIO):
+    def __init__(self, file: BinaryIO, front: bytes = b""):
+        """front comes before what a pipe gives."""
         self._file = file
+        self._front = front
         self._start = file.tell() if file.seekable() else 0
         self._copy: Optional[BinaryIO] = None if file.seekable() else tempfile.TemporaryFile()  # type: ignore[assignment]
         self.size = os.fstat(file.fileno()).st_size - self._start if file.seekable() else None
 
     def first(self, size: int = PIECE) -> Iterator[bytes]:
         """The pieces, for the first time."""
-        for piece in pieces_of(self._file, size):
+        for piece in itertools.chain([self._front] if self._front else [], pieces_of(self._file, size)):
             if self._copy:
-                self._copy.write(piece)
+                self._keep(self._copy, piece)
             yield piece
+
+    @staticmethod
+    def _keep(copy: BinaryIO, piece: bytes) -> None:
+        try:
+            copy.write(piece)
+            copy.flush()
+        except OSError as error:
+            raise OSError(error.errno, error.strerror, f"the copy of the stream in {tempfile.gettempdir()}") from None
 
     def again(self, start: int = 0, end: Optional[int] = None, size: int = PIECE) -> Iterator[bytes]:
         """The pieces between two bytes of those that were read."""
@@ -63,66 +83,142 @@ class Source:
             start += len(piece)
             yield piece
 
-
-def import_stream(start: Start, tenant: bytes, source: Source, told: Callable[[bytes], None], shown: Shown,
-                  keeps_part: bool) -> Imported:
-    """Imports a stream, and saves. start gives a service that may save (True) or may not (False); told takes what the
-    stream prints, shown the bytes and objects so far. After a fault, or where a ref was kept, nothing is saved unless
-    keeps_part. Raises Refused, OutOfMemory and ServiceError."""
-    with start(True) as service:
-        run = _Run(service, tenant, told, shown)
-        try:
-            run.feed_all(source)
-        except Fault as fault:
-            refused = _refused(start, tenant, source, run, fault)
-            _give_up(service, tenant, keeps_part)
-            raise refused from None
-        head = None if run.kept and not keeps_part else _set_head(service, tenant)
-        if run.kept and not keeps_part:
-            service.kill()
-    return Imported(run.fed, run.objects, list(dict.fromkeys(run.kept)), head)
+    def close(self) -> None:
+        """Gives the copy up, with what could not be written to it."""
+        if self._copy:
+            with contextlib.suppress(OSError):
+                self._copy.close()
 
 
-class _Run:
-    """One run of a stream: how many bytes were taken, how many objects they have, which refs were kept."""
+class _Plain:
+    """Feeds a stream as it is."""
 
-    def __init__(self, service: Service, tenant: bytes, told: Callable[[bytes], None], shown: Shown):
+    def __init__(self, service: Service, tenant: bytes, told: Told):
+        self._service = service
+        self._tenant = tenant
+        self._told = told
+
+    def feed(self, piece: bytes, work: Callable[[], None]) -> None:
+        """Feeds a piece, and does other work meanwhile."""
+        self._told(self._service.feed_while(self._tenant, piece, work))
+
+    def end(self) -> None:
+        """Ends the stream."""
+        self._told(self._service.end(self._tenant))
+
+
+class _Planned:
+    """Feeds a stream by way of a plan."""
+
+    def __init__(self, rewriter: Rewriter):
+        self._rewriter = rewriter
+        self.end = rewriter.end
+
+    def feed(self, piece: bytes, work: Callable[[], None]) -> None:
+        """Feeds a piece."""
+        work()
+        self._rewriter.feed(piece)
+
+
+def _feeder(service: Service, tenant: bytes, told: Told, plan: Optional[Plan], *, is_rerun: bool) -> Union[_Plain, _Planned]:
+    """What feeds the open stream of a tenant."""
+    if plan is None:
+        return _Plain(service, tenant, told)
+    return _Planned(plan.rewriter(service, tenant, told, is_rerun=is_rerun))
+
+
+class Run:
+    """One run of a stream: how many bytes were taken, what they have, which refs were kept."""
+
+    def __init__(self, service: Service, tenant: bytes, told: Told, shown: Shown, plan: Optional[Plan] = None):
         self._service = service
         self._tenant = tenant
         self._told = told
         self._shown = shown
-        self._scanner = Scanner()
+        self._plan = plan
+        self.tally = Tally()
         self.fed = 0
-        self.objects = 0
         self.kept: List[bytes] = []
         self.is_at_end = False
+        self.may_have_saved = False
 
-    def feed_all(self, source: "Source") -> None:
-        """Feeds the stream and ends it. Raises Fault."""
-        self._service.open(self._tenant)
+    def feed_all(self, source: Source) -> None:
+        """Feeds the stream, which is open, and ends it. Raises Fault and CannotRewrite."""
+        feeder = _feeder(self._service, self._tenant, self._take, self._plan, is_rerun=False)
         for piece in source.first():
-            self._take(self._service.feed(self._tenant, piece))
+            # (inside of data these bytes say nothing, which is found out where it matters)
+            self.may_have_saved = self.may_have_saved or b"checkpoint" in piece or b"done" in piece
+            self._feed(feeder, piece)
             self.fed += len(piece)
-            self.objects += objects_in(self._scanner.feed(piece))
-            self._shown(self.fed, self.objects)
+            self._shown(self.fed, self.tally.objects())
         self.is_at_end = True
-        self._take(self._service.end(self._tenant))
+        feeder.end()
+
+    def _feed(self, feeder: Union[_Plain, _Planned], piece: bytes) -> None:
+        try:
+            feeder.feed(piece, lambda: self.tally.feed(piece))
+        except Fault as fault:
+            self._take(fault.reply)
+            raise
 
     def _take(self, reply: bytes) -> None:
-        self._told(reply)
-        self.kept += read_kept(reply)
+        if reply:
+            self._told(reply)
+            self.kept += read_kept(reply)
+
+    def refused(self, lend: Lend, source: Source, reason: Reason, has_saved: bool) -> Refused:
+        """Where the stream was refused: at its end, or after so many bytes that were taken. lend gives a service in which the tenant
+        is as it was before the stream, and in which it may be fed again."""
+        byte = self.fed if self.is_at_end else find_fault(lend, self._tenant, source, self.fed, self._plan)
+        return Refused(reason, place_of(source.again(), byte), self.is_at_end, self.fed, self.tally, has_saved)
 
 
-def _give_up(service: Service, tenant: bytes, keeps_part: bool) -> None:
-    """Ends a refused stream. What its checkpoints left is saved, or not."""
+class Request(NamedTuple):
+    """What is asked of an import. start gives a service that may save (True) or may not (False); told takes what the stream prints,
+    shown the bytes and objects so far. keeps_part saves what was done even where something was refused or kept. prepare is given the
+    service, and says how the stream is rewritten, if it is. before_save is called before a stream that was not refused is saved; what
+    it raises gives the stream up."""
+
+    start: Start
+    tenant: bytes
+    told: Told
+    shown: Shown
+    keeps_part: bool = False
+    prepare: Callable[[Service], Optional[Plan]] = lambda _: None
+    before_save: Callable[[], None] = lambda: None
+
+
+def import_stream(source: Source, request: Request) -> Imported:
+    """Imports a stream, and saves. After a fault, or where a ref was kept, nothing is saved unless the request keeps a part. Raises
+    Refused, Fault where the tenant's name is bad, OutOfMemory, ServiceError, and what the calls of the request raise."""
+    with request.start(True) as service:
+        service.open(request.tenant)
+        run = Run(service, request.tenant, request.told, request.shown, request.prepare(service))
+        try:
+            run.feed_all(source)
+        except (Fault, CannotRewrite) as reason:
+            refused = run.refused(lambda: request.start(False), source, reason, request.keeps_part)
+            _give_up(service, request.keeps_part)
+            raise refused from None
+        is_taken = request.keeps_part or not run.kept
+        head = set_head(service, request.tenant) if is_taken else None
+        if is_taken:
+            request.before_save()
+        else:
+            service.kill()
+    return Imported(run.fed, run.tally, list(dict.fromkeys(run.kept)), head, is_taken)
+
+
+def _give_up(service: Service, keeps_part: bool) -> None:
+    """Drops a refused stream. What its checkpoints left is saved, or not."""
     if not keeps_part:
         service.kill()
         return
-    service.step(Step(Kind.END, tenant))
+    service.restart()
     service.close()
 
 
-def _set_head(service: Service, tenant: bytes) -> Optional[bytes]:
+def set_head(service: Service, tenant: bytes) -> Optional[bytes]:
     """Lets HEAD name a branch where it names none: master, or else the first one."""
     head, branches = service.head(tenant), [ref.name for ref in service.refs(tenant) if ref.name.startswith(b"refs/heads/")]
     if head in branches or not branches:
@@ -132,24 +228,29 @@ def _set_head(service: Service, tenant: bytes) -> Optional[bytes]:
     return chosen
 
 
-def _refused(start: Start, tenant: bytes, source: Source, run: _Run, fault: Fault) -> Refused:
-    """Where a stream is refused: at its end, or after so many bytes that were taken."""
-    byte = run.fed if run.is_at_end else find_fault(start, tenant, source, run.fed)
-    return Refused(fault, place_of(source.again(), byte), run.is_at_end)
-
-
-def find_fault(start: Start, tenant: bytes, source: Source, good: int) -> int:
+def find_fault(lend: Lend, tenant: bytes, source: Source, good: int, plan: Optional[Plan] = None) -> int:
     """How many bytes the shortest front of a stream has that is refused, where one is, and the first good bytes are not."""
     end = good + PIECE
     for width in (4096, 1):
-        with start(False) as service:
+        with lend() as service:
             service.open(tenant)
+            feeder = _feeder(service, tenant, lambda _: None, plan, is_rerun=True)
             for piece in source.again(0, good):
-                service.feed(tenant, piece)
+                feeder.feed(piece, lambda: None)
             for piece in source.again(good, end, width):
-                if service.step(Step(Kind.FEED, tenant, piece)).status:
+                if _is_refused(feeder, piece):
                     end = good + len(piece)
                     break
                 good += len(piece)
-            service.kill()
     return end
+
+
+def _is_refused(feeder: Union[_Plain, _Planned], piece: bytes) -> bool:
+    try:
+        feeder.feed(piece, lambda: None)
+    except (Fault, CannotRewrite):
+        return True
+    return False
+
+
+__all__ = ["Imported", "Refused", "Lend", "Reason", "Request", "Run", "Source", "Start", "find_fault", "import_stream", "set_head"]

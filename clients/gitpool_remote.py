@@ -14,6 +14,7 @@ from gitpool_faults import explain
 from gitpool_git import GitError, Repository
 from gitpool_objects import Refusal
 from gitpool_terminal import stop_once
+from gitpool_version import version
 
 if TYPE_CHECKING:
     from gitpool_push import Update
@@ -290,6 +291,9 @@ def words_of(error: Exception) -> str:
 
 def main(words: List[str]) -> int:
     """Runs the helper with the words of its command line, and gives its status."""
+    if words[1:] == ["--version"]:
+        print("git-remote-gitpool", version())
+        return 0
     if len(words) != 3:
         print("usage: git-remote-gitpool REMOTE ADDRESS", file=sys.stderr)
         return 2

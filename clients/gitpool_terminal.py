@@ -36,6 +36,29 @@ def words_of(error: Exception) -> str:
     return str(error)
 
 
+_SHORT = {"\t": "\\t", "\n": "\\n", "\r": "\\r"}
+_KEPT = "\t\n"
+
+
+def shown(text: bytes, longest: int = 200) -> str:
+    """The text of a line of a stream as a terminal may show it: one line, not longer than that, in which no byte is invisible or
+    tells the terminal to do something. Such bytes, and those that are no UTF-8, are shown as `\\r` or `\\x1b`."""
+    return _escaped(text if len(text) <= longest else text[:longest] + b"..", "")
+
+
+def shown_reply(reply: bytes) -> str:
+    """The same for what a stream prints: lines and tabs stay."""
+    return _escaped(reply, _KEPT)
+
+
+def _escaped(text: bytes, kept: str) -> str:
+    said = text.decode(errors="backslashreplace")
+    if said.isprintable():
+        return said
+    return "".join(it if it.isprintable() or it in kept else _SHORT.get(it) or "".join(f"\\x{byte:02x}" for byte in it.encode())
+                   for it in said)
+
+
 def status_of(error: Exception) -> int:
     """The exit status that the program would have: 1 for a fault, 5 for want of memory, else that of the program."""
     if isinstance(error, Fault):
@@ -67,8 +90,9 @@ class Bar:
     """A progress bar on one line: bytes, rate, objects, and the time that is left where the whole size is known. It shows
     itself at most ten times a second."""
 
-    def __init__(self, total: Optional[int], out: TextIO = sys.stderr):
+    def __init__(self, total: Optional[int], out: TextIO = sys.stderr, title: str = "Importing"):
         self._total = total
+        self._title = title
         self._out = out
         self._began = time.monotonic()
         self._last = 0.0
@@ -92,7 +116,7 @@ class Bar:
         rate = done / seconds if seconds > 0 else 0.0
         shown = f"{size_of(done)} | {size_of(rate)}/s | {objects} objects"
         if not self._total:
-            return "Importing: " + shown
+            return f"{self._title}: {shown}"
         share = min(done / self._total, 1.0)
         left = f" | {time_of((self._total - done) / rate)} left" if rate and done < self._total else ""
-        return f"Importing: {share:4.0%} [{'#' * int(20 * share):<20}] {shown}{left}"
+        return f"{self._title}: {share:4.0%} [{'#' * int(20 * share):<20}] {shown}{left}"

@@ -53,7 +53,7 @@ _gitpool() {
   fi
   _gitpool_read_words
   if [[ $word == -* ]]; then
-    if [ "$command" ]; then _gitpool_offer "--pool --help"; else _gitpool_offer --help; fi
+    if [ "$command" ]; then _gitpool_offer "--pool --help"; else _gitpool_offer "--help --version"; fi
   elif [ "$command" ]; then
     _gitpool_offer_arguments
   else

@@ -4,6 +4,7 @@ set -l commands serve import ask check copy help
 
 complete -c gitpool -f
 complete -c gitpool -s h -l help -d 'print help'
+complete -c gitpool -n "not __fish_seen_subcommand_from $commands" -l version -d 'print the version'
 complete -c gitpool -n "not __fish_seen_subcommand_from $commands" -a serve -d 'answer frames of steps on standard input'
 complete -c gitpool -n "not __fish_seen_subcommand_from $commands" -a import -d 'import a stream of git-fast-import(1)'
 complete -c gitpool -n "not __fish_seen_subcommand_from $commands" -a ask -d 'print the answer to a query'

@@ -10,6 +10,7 @@ import fcntl
 import glob
 import hashlib
 import os
+import shutil
 import sys
 import time
 from dataclasses import dataclass, fields
@@ -106,13 +107,19 @@ def shard_of(tenant: bytes, shards: int) -> int:
 
 
 def find_program(given: Optional[str] = None) -> str:
-    """The program: the one that is given, else what the environment's GITPOOL names, else the one that `./build gitpool_cli`
-    left. A worker never builds it. Raises ServiceError where there is none."""
-    built = os.path.join(TOP, "crates", "gitpool_cli", "out", "gitpool_cli")
-    found = given or os.environ.get("GITPOOL") or built
+    """The program: the one that is given, else what the environment's GITPOOL names, else `gitpool` on the PATH, else the one
+    beside this folder. Raises ServiceError where there is none."""
+    found = given or os.environ.get("GITPOOL") or shutil.which("gitpool") or _beside()
     if not os.access(found, os.X_OK):
-        raise ServiceError(127, f"there is no program {found}: run ./build gitpool_cli, or set GITPOOL")
+        raise ServiceError(127, f"there is no program {found}: set GITPOOL to its path, or run ./build gitpool_cli")
     return found
+
+
+def _beside() -> str:
+    """The executable of an installed folder, which has its version beside it, or the one that `./build gitpool_cli` left."""
+    if os.path.exists(os.path.join(TOP, "version")):
+        return os.path.join(TOP, "gitpool")
+    return os.path.join(TOP, "crates", "gitpool_cli", "out", "gitpool_cli")
 
 
 class Shard:

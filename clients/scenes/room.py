@@ -3,6 +3,7 @@ from __future__ import annotations
 
 import os
 import re
+import resource
 import shutil
 import signal
 import struct
@@ -104,6 +105,14 @@ class Room:
         assert done.returncode == status, f"{name} {' '.join(words)} ended in {done.returncode}: {text(done.stderr)}"
         assert b"Traceback" not in done.stderr, text(done.stderr)
         return done
+
+    def limited(self, words: Sequence[str], data: bytes, size: int) -> "Done[bytes]":
+        """Runs a command that can write no file longer than that, and is told so instead of being ended."""
+        def limit() -> None:
+            signal.signal(signal.SIGXFSZ, signal.SIG_IGN)
+            resource.setrlimit(resource.RLIMIT_FSIZE, (size, size))
+
+        return subprocess.run(list(words), cwd=self.folder, input=data, capture_output=True, env=self.environment, preexec_fn=limit)
 
     # Repositories
 
@@ -258,4 +267,4 @@ def matches(pattern: str, said: str) -> bool:
     return re.search(pattern, said) is not None
 
 
-__all__ = ["Done", "Room", "SCENES", "commit_text", "matches", "os", "scene", "signal", "subprocess", "text", "wait_for"]
+__all__ = ["Done", "Room", "SCENES", "Service", "commit_text", "matches", "os", "scene", "signal", "subprocess", "text", "wait_for"]

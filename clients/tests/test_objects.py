@@ -1,4 +1,6 @@
 """What of Git's objects a tenant can keep."""
+import json
+import os
 import unittest
 
 from gitpool_objects import Refusal, check_path, check_ref, check_tree, quote, read_commit, read_tag
@@ -6,6 +8,27 @@ from gitpool_objects import Refusal, check_path, check_ref, check_tree, quote, r
 NAME = b"1" * 40
 PEOPLE = b"author A <a@b> 1 +0000\ncommitter B <> 2 -0130\n"
 TREE = b"tree " + b"2" * 40 + b"\n"
+
+
+class Corpus(unittest.TestCase):
+    """objects.json has the objects that a tenant can keep or not, one a line; the server's tests read it too."""
+
+    JUDGES = {"commit": read_commit, "tag": read_tag, "tree": check_tree, "ref": lambda name, contents: check_ref(contents)}
+
+    def test_each_is_kept_or_refused(self) -> None:
+        with open(os.path.join(os.path.dirname(os.path.realpath(__file__)), "objects.json"), encoding="ascii") as file:
+            samples = json.load(file)
+        judged = [sample for sample in samples if sample["kind"] in self.JUDGES]
+        self.assertGreater(len(judged), 250)
+        for sample in judged:
+            contents = sample["contents"].encode("latin-1")
+            said = None
+            try:
+                self.JUDGES[sample["kind"]](NAME, contents)
+            except Refusal as refusal:
+                said = str(refusal)
+            self.assertEqual(said is None, "refused" not in sample, (sample, said))
+            self.assertIn(sample.get("refused", ""), said or "", sample)
 
 
 class Commits(unittest.TestCase):

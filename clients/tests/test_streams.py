@@ -3,7 +3,7 @@ import random
 import unittest
 from typing import Iterable, List
 
-from gitpool_stream import Scanner, for_git, head_of, objects_in, parts_of, place_of
+from gitpool_stream import Scanner, Tally, for_git, head_of, parts_of, place_of
 
 STREAM = (b"# a comment\nblob\nmark :1\ndata 3\nab\n\ncommit refs/heads/x\ndata <<END\nfoo\ndata 5\ntag no\nEND\nM 1 2\ntag x\ndata 2\nxydata 3\n"
           b"abctag y\ndata 0\nblob\ndata 4\nblob\nlast")
@@ -14,11 +14,18 @@ def cut(stream: bytes, at: Iterable[int]) -> List[bytes]:
     return [stream[start:end] for start, end in zip(ends, ends[1:])]
 
 
+def objects_in(pieces: Iterable[bytes]) -> int:
+    tally = Tally()
+    for piece in pieces:
+        tally.feed(piece)
+    return tally.objects()
+
+
 class Parts(unittest.TestCase):
     def test_lines_and_data(self) -> None:
         data = [part.text for part in parts_of([STREAM]) if part.is_data]
         self.assertEqual(data, [b"ab\n", b"foo\ndata 5\ntag no\nEND\n", b"xy", b"abc", b"blob"])
-        self.assertEqual(objects_in(parts_of([STREAM])), 5)
+        self.assertEqual(objects_in([STREAM]), 5)
 
     def test_any_cut(self) -> None:
         chance = random.Random(1)
@@ -29,7 +36,7 @@ class Parts(unittest.TestCase):
                 parts = list(parts_of(pieces))
                 self.assertEqual(b"".join(part.text for part in parts), STREAM)
                 self.assertEqual(b"".join(part.text for part in parts if part.is_data), whole_data)
-                self.assertEqual(objects_in(parts), 5)
+                self.assertEqual(objects_in(pieces), 5)
 
     def test_what_is_left(self) -> None:
         scanner = Scanner()

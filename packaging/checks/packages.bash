@@ -1,0 +1,157 @@
+# shellcheck shell=bash
+# The packages of ./package, and the static executable. packaging/check reads this file.
+
+# Two checkouts of what this tree has, each with one commit.
+make_checkouts() {
+  mkdir "$room/one"
+  if is_checkout; then
+    in_git ls-files -z --cached --others --exclude-standard > "$room/names"
+    in_git ls-files -z --deleted > "$room/deleted"
+    (cd "$top" && comm -z -23 <(sort -z "$room/names") <(sort -z "$room/deleted") | xargs -0 cp -P --parents -t "$room/one")
+  else
+    cp -R "$top/." "$room/one"
+  fi
+  cd "$room/one"
+  git init -q .
+  git add -A
+  GIT_AUTHOR_DATE="2026-01-02 03:04:05 +0900" GIT_COMMITTER_DATE="2026-01-02 03:04:05 +0900" git commit -qm "everything"
+  mkdir -p "$room/two/of a longer name"
+  git clone -q . "$room/two/of a longer name/checkout"
+}
+
+versions_of_packages_sort() {
+  cd "$room/one"
+  before=$(bash -c '. packaging/tree; version_of_package')
+  touch new
+  changed=$(bash -c '. packaging/tree; version_of_package')
+  rm new
+  git tag "v$version"
+  tagged=$(bash -c '. packaging/tree; version_of_package')
+  echo more >> README.md
+  changed_after=$(bash -c '. packaging/tree; version_of_package')
+  git -c user.name=x commit -qam later
+  after=$(bash -c '. packaging/tree; version_of_package')
+  git reset -q --hard HEAD~
+  git tag -d "v$version"
+  echo "$before $changed $tagged $changed_after $after"
+  [[ $before =~ ^$version~git20260101\.180405\.[0-9a-f]{12}$ ]]
+  same "$changed" "$before.dirty"
+  same "$tagged" "$version"
+  dpkg --compare-versions "$before" lt "$changed"
+  dpkg --compare-versions "$changed" lt "$tagged"
+  dpkg --compare-versions "$tagged" lt "$changed_after"
+  dpkg --compare-versions "$changed_after" lt "$after"
+}
+
+packages_have_the_same_bytes() {
+  local words=(--program "$program" --no-static)
+  [ -z "$static" ] || words[2]=--static words[3]=$static
+  (umask 077; cd "$room/one"; HOME=/ TZ=Asia/Tokyo LC_ALL=C ./package "${words[@]}" "$room/out one")
+  mkdir -m 2777 "$room/tmp/of a group"
+  cd "$room/two/of a longer name"
+  (umask 000; TMPDIR="$room/tmp/of a group" TZ=America/Lima LANG=de_DE checkout/package "${words[@]}" "$room/out two")
+  diff -r "$room/out one" "$room/out two"
+  (cd "$room/out one" && sha256sum -c --quiet SHA256SUMS)
+  same "$(find "$room/out one" -name '*.deb' | wc -l)" "$(if [ "$static" ]; then echo 3; else echo 2; fi)"
+}
+
+tar_ball_runs() {
+  mkdir "$room/un packed"
+  tar -C "$room/un packed" -xf "$room/out one"/gitpool-*.tar.gz
+  mv "$room/un packed"/gitpool-* "$room/un packed/g"
+  same "$("$room/un packed/g/bin/gitpool" < "$top/streams/hello.fi")" $hello
+  PATH="$room/un packed/g/bin:$plain_path" git clone -q "gitpool::$room/all.pool#acme/site" "$room/tar copy"
+  diff -r "$room/un packed/g" "$prefix" -x __pycache__ -x gitpool-static -x man1
+  (cd "$room/un packed/g/share/man/man1" && for it in ../../../bin/*; do gzip -t "${it##*/}.1.gz"; done)
+  (cd "$room/un packed/g/share/doc/gitpool" && sha256sum -c --quiet SHA256SUMS)
+  [ -z "$static" ] || same "$("$room/un packed/g/bin/gitpool-static" < "$top/streams/hello.fi")" $hello
+  tar -tvf "$room/out one"/gitpool-*.tar.gz | awk '$2 != "0/0" || $4 != "2026-01-01" { print; bad = 1 } END { exit bad }'
+}
+
+# deb NAME: the file of a package.
+deb() { echo "$room/out one/$1"_*.deb; }
+
+debian_package_runs() {
+  dpkg-deb -x "$(deb gitpool)" "$room/root"
+  same "$("$room/root/usr/bin/gitpool" < "$top/streams/hello.fi")" $hello
+  PATH=$room/root/usr/bin:$plain_path git clone -q "gitpool::$room/all.pool#acme/site" "$room/deb copy"
+  cd "$room"
+  export PYTHONPATH=$room/root/usr/lib/python3/dist-packages
+  same "$(python3 -c 'import gitpool, gitpool_faults; print(gitpool.find_program())')" "$room/root/usr/lib/gitpool/gitpool"
+  same "$(find "$room/root" -xtype l)" ""
+}
+
+debian_packages_are_well_formed() {
+  same "$(dpkg-deb -f "$(deb gitpool)" Depends)" "libc6 (>= 2.34), python3 (>= 3.9), git (>= 1:2.31)"
+  for it in "$room/out one"/*.deb; do
+    same "$(dpkg-deb -c "$it" | awk '$2 != "root/root" || $1 ~ /^.....w|^........w/ && $1 !~ /^l/ || $6 !~ /^\.\/(usr\/|$)/')" ""
+    rm -rf "$room/whole"
+    dpkg-deb -R "$it" "$room/whole"
+    (cd "$room/whole" && md5sum -c --quiet DEBIAN/md5sums)
+    same "$(cd "$room/whole" && find usr -type f | wc -l)" "$(wc -l < "$room/whole/DEBIAN/md5sums")"
+    for script in "$room/whole"/DEBIAN/p*; do
+      [ ! -e "$script" ] || sh -n "$script"
+    done
+  done
+}
+
+units_name_files_of_the_packages() {
+  dpkg-deb -x "$(deb gitpool-deploy)" "$room/root"
+  cd "$room/root"
+  grep -rhoE '(=|file:|GITPOOL=)/usr/[^ ]*' usr/lib/systemd/system | sed 's/^[^/]*//' | sort -u > "$room/named"
+  same "$(wc -l < "$room/named")" 4
+  while read -r it; do
+    [ -e "$room/root$it" ] || { echo "no $it"; return 1; }
+  done < "$room/named"
+  ! grep -rl /opt/gitpool usr/lib/systemd
+}
+
+# Without Redis: durable-serve, which finds the program by GITPOOL, on the PATH, and beside itself.
+deploy_finds_the_program() {
+  make_program "$room/elsewhere/gitpool" other
+  cd "$room/root/usr/lib/gitpool/deploy"
+  find_it='from shard import find_program; print(find_program())'
+  same "$(PATH=$plain_path python3 -Bc "$find_it")" "$(PATH=$plain_path command -v gitpool || echo "$room/root/usr/lib/gitpool/gitpool")"
+  same "$(PATH=$room/elsewhere:$plain_path python3 -Bc "$find_it")" "$room/elsewhere/gitpool"
+  said=$(GITPOOL=/named PATH=$room/elsewhere:$plain_path python3 -Bc "$find_it" 2>&1) && return 1
+  [[ $said == *"no program /named"* ]]
+  cd "$room"
+  export GITPOOL=$room/root/usr/lib/gitpool/gitpool PYTHONPATH=$room/root/usr/lib/python3/dist-packages
+  python3 -Bc 'if True:
+    import sys
+    from gitpool import Service
+    with Service(command=["python3", sys.argv[1] + "/durable-serve", "--pool", "durable.pool"]) as service:
+        service.import_stream("alice", [b"blob\ndata 6\nhello\n"])' "$room/root/usr/lib/gitpool/deploy"
+  same "$(gitpool ask alice 'cat ce01' --pool durable.pool | head -n 1)" "$hello blob 6"
+}
+
+# Links the static executable, where the object is there.
+link_static() {
+  "$top/packaging/static" "$program" "$room/static" > "$room/log" 2>&1 < /dev/null
+  case $? in
+    0) static=$room/static object=$(sed -n 's/^static: linked \(.*\), SHA-256 .*, from which .*/\1/p' "$room/log") ;;
+    3) skipped "the static executable: $(tail -n 1 "$room/log")" ;;
+    *) tried "static links" 1 0 ;;
+  esac
+}
+
+static_runs() { same "$("$static" < "$top/streams/hello.fi")" $hello; }
+
+# An object is not taken for that of another executable.
+static_refuses_another_object() {
+  cp "$program" "$room/changed"
+  printf x >> "$room/changed"
+  cp "$object" "$room/changed.o"
+  refuses "is not the object of" 1 "$top/packaging/static" "$room/changed" "$room/there/static"
+}
+
+static_package_runs() {
+  dpkg-deb -x "$(deb gitpool-static)" "$room/static root"
+  same "$("$room/static root/usr/bin/gitpool-static" < "$top/streams/hello.fi")" $hello
+  same "$("$room/static root/usr/bin/gitpool-static" --version)" "gitpool $version"
+  [[ $(ldd "$room/static root/usr/bin/gitpool-static" 2>&1) == *"statically linked"* ]]
+  same "$(dpkg-deb -f "$(deb gitpool-static)" Depends)" ""
+  [[ $(man -l "$room/static root/usr/share/man/man1/gitpool-static.1.gz") == *"EXIT STATUS"* ]]
+  [[ $(cat "$room/static root/usr/share/doc/gitpool-static/README.md") == "## The static executable"*"libc.a"* ]]
+  (cd "$room/static root/usr/share/doc/gitpool-static" && sha256sum -c --quiet SHA256SUMS)
+}
