@@ -1,0 +1,169 @@
+// Package access says who may read and write which tenant, and who is who.
+//
+// The operator's folder has three files. `access` has lines `USER PATTERN RIGHT`: the user `*` is everyone, without a password; the
+// pattern is the name of a tenant, or a name and `/*` for all below it, or `*` for all; the right is `r` or `rw`. `passwords` has
+// lines `USER HASH` with hashes by bcrypt, and `keys` has lines `USER TYPE KEY` as authorized_keys have them. Commands change these
+// files, and a running server reads them again when they have changed.
+package access
+
+import (
+	"fmt"
+	"path/filepath"
+	"regexp"
+	"strings"
+
+	"golang.org/x/crypto/bcrypt"
+	"golang.org/x/crypto/ssh"
+
+	"gitpoold/lists"
+	"gitpoold/tenants"
+)
+
+// Right is what a user may do with a tenant.
+type Right int
+
+// The rights, each with all before it.
+const (
+	None Right = iota
+	Read
+	Write
+)
+
+// Everyone is the user of grants that hold without a password.
+const Everyone = "*"
+
+// Login is the name under which a key alone says over ssh who it is: `ssh://git@HOST/TENANT`.
+const Login = "git"
+
+var userName = regexp.MustCompile(`^[A-Za-z0-9_][A-Za-z0-9_.-]{0,63}$`)
+
+// ValidUser tells whether a user may have this name.
+func ValidUser(name string) bool { return userName.MatchString(name) && name != Login }
+
+// ValidPattern tells whether this names tenants.
+func ValidPattern(pattern string) bool {
+	return pattern == "*" || tenants.ValidName(strings.TrimSuffix(pattern, "/*"))
+}
+
+// matches tells whether a pattern names a tenant.
+func matches(pattern, tenant string) bool {
+	if pattern == "*" || pattern == tenant {
+		return true
+	}
+	return strings.HasSuffix(pattern, "/*") && strings.HasPrefix(tenant, strings.TrimSuffix(pattern, "*"))
+}
+
+// grant lets a user do something with the tenants that a pattern names.
+type grant struct {
+	pattern string
+	right   Right
+}
+
+// rules are what the three files come to.
+type rules struct {
+	grants    map[string][]grant
+	passwords map[string]string
+	keys      map[string]string
+}
+
+// Access answers who may do what. Its methods may be called by many goroutines at once.
+type Access struct {
+	rules    *lists.Followed[*rules]
+	proofs   proofs
+	throttle throttle
+	places   chan struct{}
+	// nobody is the hash with which the password of a user that there is not is compared, so that it takes as long.
+	nobody []byte
+}
+
+// Load reads the files of a folder. `tell` gets a line for the operator where they cannot be read later on.
+func Load(folder string, tell func(format string, values ...any)) (*Access, error) {
+	read := func() (*rules, error) { return readRules(folder) }
+	followed, err := lists.Follow(read, tell, filepath.Join(folder, "access"), filepath.Join(folder, "passwords"),
+		filepath.Join(folder, "keys"))
+	if err != nil {
+		return nil, err
+	}
+	nobody, err := bcrypt.GenerateFromPassword([]byte("nobody has this password"), hashCost)
+	return &Access{rules: followed, proofs: newProofs(), throttle: newThrottle(), places: make(chan struct{}, hashesAtOnce),
+		nobody: nobody}, err
+}
+
+func readRules(folder string) (*rules, error) {
+	r := &rules{map[string][]grant{}, map[string]string{}, map[string]string{}}
+	for _, file := range []struct {
+		name string
+		take func(words []string) error
+	}{{"access", r.takeGrant}, {"passwords", r.takePassword}, {"keys", r.takeKey}} {
+		lines, err := lists.Read(filepath.Join(folder, file.name))
+		if err != nil {
+			return nil, err
+		}
+		for _, words := range lines {
+			if err := file.take(words); err != nil {
+				return nil, fmt.Errorf("%s: %w", filepath.Join(folder, file.name), err)
+			}
+		}
+	}
+	return r, nil
+}
+
+func (r *rules) takeGrant(words []string) error {
+	if len(words) != 3 || words[0] != Everyone && !ValidUser(words[0]) || !ValidPattern(words[1]) {
+		return fmt.Errorf("`%s` is no line USER PATTERN RIGHT", strings.Join(words, " "))
+	}
+	right, err := ParseRight(words[2])
+	r.grants[words[0]] = append(r.grants[words[0]], grant{words[1], right})
+	return err
+}
+
+// ParseRight reads `r` or `rw`.
+func ParseRight(word string) (Right, error) {
+	switch word {
+	case "r":
+		return Read, nil
+	case "rw":
+		return Write, nil
+	}
+	return None, fmt.Errorf("`%s` is no right: r or rw", word)
+}
+
+func (r *rules) takePassword(words []string) error {
+	if len(words) != 2 || !ValidUser(words[0]) {
+		return fmt.Errorf("a line is not USER HASH")
+	}
+	r.passwords[words[0]] = words[1]
+	return nil
+}
+
+func (r *rules) takeKey(words []string) error {
+	if len(words) < 3 || !ValidUser(words[0]) {
+		return fmt.Errorf("a line is not USER TYPE KEY")
+	}
+	key, _, _, _, err := ssh.ParseAuthorizedKey([]byte(strings.Join(words[1:], " ")))
+	if err != nil {
+		return fmt.Errorf("a key of %s cannot be read: %w", words[0], err)
+	}
+	r.keys[string(key.Marshal())] = words[0]
+	return nil
+}
+
+// Right tells what a user may do with a tenant, whether or not there is one. The user "" is a visitor without a password.
+func (a *Access) Right(user, tenant string) Right {
+	r := a.rules.Get()
+	best := None
+	for _, grants := range [][]grant{r.grants[user], r.grants[Everyone]} {
+		for _, it := range grants {
+			if it.right > best && matches(it.pattern, tenant) {
+				best = it.right
+			}
+		}
+	}
+	return best
+}
+
+// Key tells whose key this is, for a login over ssh. The login is the user's name, or Login.
+func (a *Access) Key(login string, key ssh.PublicKey) (user string, ok bool) {
+	user, ok = a.rules.Get().keys[string(key.Marshal())]
+	return user, ok && (login == user || login == Login)
+}

@@ -1,0 +1,225 @@
+package access
+
+import (
+	"context"
+	"crypto/ed25519"
+	"crypto/rand"
+	"os"
+	"path/filepath"
+	"strings"
+	"testing"
+	"time"
+
+	"golang.org/x/crypto/bcrypt"
+	"golang.org/x/crypto/ssh"
+)
+
+var background = context.Background()
+
+// Hashes of tests are quick ones.
+func init() { hashCost = bcrypt.MinCost }
+
+func quiet(string, ...any) {}
+
+func loaded(t *testing.T, folder string) *Access {
+	t.Helper()
+	a, err := Load(folder, quiet)
+	if err != nil {
+		t.Fatal(err)
+	}
+	return a
+}
+
+func must(t *testing.T, err error) {
+	t.Helper()
+	if err != nil {
+		t.Fatal(err)
+	}
+}
+
+func TestGrants(t *testing.T) {
+	folder := t.TempDir()
+	a := loaded(t, folder)
+	must(t, Grant(folder, "alice", "acme/site", "rw"))
+	must(t, Grant(folder, "alice", "acme/*", "r"))
+	must(t, Grant(folder, Everyone, "open/*", "r"))
+	must(t, Grant(folder, "root", "*", "rw"))
+	for _, it := range []struct {
+		user, tenant string
+		want         Right
+	}{
+		{"alice", "acme/site", Write}, {"alice", "acme/other", Read}, {"alice", "acme/deep/er", Read}, {"alice", "acme", None},
+		{"alice", "acmes/site", None}, {"alice", "open/x", Read}, {"", "open/x", Read}, {"", "open", None}, {"", "acme/site", None},
+		{"bob", "acme/site", None}, {"root", "any/thing", Write}, {"*", "acme/site", None},
+	} {
+		if got := a.Right(it.user, it.tenant); got != it.want {
+			t.Errorf("%s of %s: %d, wanted %d", it.tenant, it.user, got, it.want)
+		}
+	}
+	must(t, Grant(folder, "alice", "acme/site", "r"))
+	if a.Right("alice", "acme/site") != Read {
+		t.Fatal("a grant was not replaced")
+	}
+	must(t, Revoke(folder, "alice", "acme/*"))
+	if a.Right("alice", "acme/other") != None || a.Right("alice", "acme/site") != Read {
+		t.Fatal("a revoked grant holds, or another one was taken")
+	}
+	if Revoke(folder, "alice", "acme/*") == nil {
+		t.Fatal("nothing was revoked, and nothing said so")
+	}
+}
+
+func TestBadNamesAreRefused(t *testing.T) {
+	folder := t.TempDir()
+	for _, user := range []string{"", "git", "a b", "a\nb", "../x", strings.Repeat("x", 65), "#x", "-x"} {
+		if Grant(folder, user, "a", "r") == nil || SetPassword(folder, user, "longenough") == nil {
+			t.Errorf("user %q", user)
+		}
+	}
+	for _, pattern := range []string{"", "/a", "a/", "a/*/b", "**", "a*", "../a", "a b", "a\n* * rw", strings.Repeat("x", 65)} {
+		if Grant(folder, "alice", pattern, "r") == nil {
+			t.Errorf("pattern %q", pattern)
+		}
+	}
+	if Grant(folder, "alice", "a", "w") == nil || Grant(folder, "alice", "a", "") == nil {
+		t.Error("a right")
+	}
+	for _, password := range []string{"", "short", strings.Repeat("x", 73)} {
+		if SetPassword(folder, "alice", password) == nil {
+			t.Errorf("password %q", password)
+		}
+	}
+}
+
+func TestPasswords(t *testing.T) {
+	folder := t.TempDir()
+	a := loaded(t, folder)
+	must(t, SetPassword(folder, "alice", "correct horse"))
+	if !a.Password(background, "alice", "correct horse", "192.0.2.1:1") || a.Password(background, "alice", "wrong horse", "192.0.2.1:1") ||
+		a.Password(background, "bob", "correct horse", "192.0.2.1:1") || a.Password(background, "alice", "", "192.0.2.1:1") {
+		t.Fatal("a password")
+	}
+	must(t, SetPassword(folder, "alice", "another horse"))
+	if a.Password(background, "alice", "correct horse", "192.0.2.1:1") || !a.Password(background, "alice", "another horse", "192.0.2.1:1") {
+		t.Fatal("the old password holds")
+	}
+	must(t, Revoke(folder, "alice", ""))
+	if a.Password(background, "alice", "another horse", "192.0.2.1:1") {
+		t.Fatal("a revoked password holds")
+	}
+	text, err := os.ReadFile(filepath.Join(folder, "passwords"))
+	if err != nil || strings.Contains(string(text), "horse") {
+		t.Fatal("a password is in the file")
+	}
+}
+
+func TestARightPasswordIsHashedOnce(t *testing.T) {
+	folder := t.TempDir()
+	a := loaded(t, folder)
+	must(t, SetPassword(folder, "alice", "correct horse"))
+	a.Password(background, "alice", "correct horse", "192.0.2.1:1")
+	began := time.Now()
+	for i := 0; i < 1000; i++ {
+		if !a.Password(background, "alice", "correct horse", "192.0.2.1:1") {
+			t.Fatal(i)
+		}
+	}
+	if took := time.Since(began); took > 5*time.Second {
+		t.Fatal(took)
+	}
+}
+
+// TestWrongTriesAreSlowed counts how many wrong passwords from one address are judged in a second and a half.
+func TestWrongTriesAreSlowed(t *testing.T) {
+	folder := t.TempDir()
+	a := loaded(t, folder)
+	must(t, SetPassword(folder, "alice", "correct horse"))
+	ctx, stop := context.WithTimeout(background, 1500*time.Millisecond)
+	defer stop()
+	tries := 0
+	for ; ctx.Err() == nil; tries++ {
+		a.Password(ctx, "alice", "wrong horse", "192.0.2.1:1")
+	}
+	if tries > 9 {
+		t.Fatal(tries)
+	}
+	if got := waitOf(1000, longestWaits[0]); got != longestWaits[0] {
+		t.Fatal("after a thousand tries:", got)
+	}
+	began := time.Now()
+	if !a.Password(background, "alice", "correct horse", "198.51.100.7:9") || time.Since(began) > 4*time.Second {
+		t.Fatal("who has the password is kept out from elsewhere")
+	}
+}
+
+func TestCountsOfTriesAreBounded(t *testing.T) {
+	h := newThrottle()
+	for i := 0; i < 3*mostCounts; i++ {
+		h.note(string(rune(i)) + "x")
+	}
+	if len(h.counts) > mostCounts+2 {
+		t.Fatal(len(h.counts))
+	}
+	if network("[2001:db8::1]:5") != network("[2001:db8::2:9]:7") || network("192.0.2.1:5") != "192.0.2.1" {
+		t.Fatal(network("[2001:db8::1]:5"))
+	}
+}
+
+func newKey(t *testing.T) ssh.PublicKey {
+	public, _, err := ed25519.GenerateKey(rand.Reader)
+	must(t, err)
+	key, err := ssh.NewPublicKey(public)
+	must(t, err)
+	return key
+}
+
+func TestKeys(t *testing.T) {
+	folder := t.TempDir()
+	a := loaded(t, folder)
+	one, two := newKey(t), newKey(t)
+	both := append(ssh.MarshalAuthorizedKey(one), ssh.MarshalAuthorizedKey(two)...)
+	count, err := AddKeys(folder, "alice", both)
+	if err != nil || count != 2 {
+		t.Fatal(count, err)
+	}
+	for login, want := range map[string]bool{"alice": true, "git": true, "bob": false, "": false} {
+		if user, ok := a.Key(login, two); ok != want || ok && user != "alice" {
+			t.Error(login, user, ok)
+		}
+	}
+	if _, ok := a.Key("alice", newKey(t)); ok {
+		t.Error("a key of nobody")
+	}
+	if _, err := AddKeys(folder, "bob", ssh.MarshalAuthorizedKey(one)); err == nil {
+		t.Error("a key of two users")
+	}
+	if _, err := AddKeys(folder, "alice", both); err != nil {
+		t.Error(err)
+	}
+	if lines, _ := os.ReadFile(filepath.Join(folder, "keys")); strings.Count(string(lines), "\n") != 2 {
+		t.Errorf("%s", lines)
+	}
+	if _, err := AddKeys(folder, "alice", []byte("no key\n")); err == nil {
+		t.Error("no key")
+	}
+	must(t, Revoke(folder, "alice", ""))
+	if _, ok := a.Key("alice", one); ok {
+		t.Error("a revoked key")
+	}
+}
+
+// TestABadFileChangesNothing has a file that somebody edited by hand: what was read before holds, and the operator is told.
+func TestABadFileChangesNothing(t *testing.T) {
+	folder := t.TempDir()
+	must(t, Grant(folder, "alice", "a", "rw"))
+	told := 0
+	a, err := Load(folder, func(string, ...any) { told++ })
+	must(t, err)
+	must(t, os.WriteFile(filepath.Join(folder, "access"), []byte("alice a rw\n* everything\n"), 0o600))
+	if a.Right("alice", "a") != Write || a.Right("", "a") != None || told != 1 {
+		t.Fatal(told)
+	}
+	if _, err := Load(folder, quiet); err == nil {
+		t.Fatal("a bad file was read")
+	}
+}

@@ -1,0 +1,201 @@
+package main
+
+import (
+	"bufio"
+	"crypto/ed25519"
+	"crypto/rand"
+	"crypto/x509"
+	"encoding/pem"
+	"errors"
+	"fmt"
+	"io"
+	"os"
+	"os/exec"
+	"path/filepath"
+	"strings"
+
+	"golang.org/x/crypto/ssh"
+
+	"gitpoold/access"
+	"gitpoold/limits"
+	"gitpoold/operator"
+	"gitpoold/store"
+)
+
+// program finds `gitpool`: as the flag says, as GITPOOL says, beside this program, at the top of the checkout in which this program was
+// built, or on the PATH.
+func program(flag string) (string, error) {
+	for _, named := range []string{flag, os.Getenv("GITPOOL")} {
+		if named != "" {
+			return exec.LookPath(named)
+		}
+	}
+	own, err := os.Executable()
+	if err == nil {
+		own, err = filepath.EvalSymlinks(own)
+	}
+	if err == nil {
+		folder := filepath.Dir(own)
+		for _, near := range []string{filepath.Join(folder, "gitpool"), filepath.Join(folder, "..", "..", "gitpool")} {
+			if found, err := exec.LookPath(near); err == nil {
+				return found, nil
+			}
+		}
+	}
+	return exec.LookPath("gitpool")
+}
+
+const (
+	accessText = "# USER PATTERN RIGHT: the user * is everyone; a pattern is acme/site, acme/* or *; a right is r or rw.\n"
+	limitsText = "# NAME VALUE, or quota TENANT VALUE: `gitpoold limits` lists and sets them.\n"
+)
+
+// runInit makes what a folder lacks.
+func runInit(l line) error {
+	found, err := program(l.flags["--program"])
+	if err != nil {
+		return err
+	}
+	folder := l.folder()
+	if err := os.MkdirAll(folder, 0o700); err != nil {
+		return err
+	}
+	if err := store.Create(folder, found); err != nil {
+		return err
+	}
+	for name, text := range map[string]string{"access": accessText, "passwords": "", "keys": "", "limits": limitsText} {
+		if err := createFile(filepath.Join(folder, name), text); err != nil {
+			return err
+		}
+	}
+	return createHostKey(filepath.Join(folder, "host_key"))
+}
+
+// createFile makes a file, unless there is one.
+func createFile(path, text string) error {
+	file, err := os.OpenFile(path, os.O_WRONLY|os.O_CREATE|os.O_EXCL, 0o600)
+	if errors.Is(err, os.ErrExist) {
+		return nil
+	}
+	if err != nil {
+		return err
+	}
+	_, err = file.WriteString(text)
+	if closing := file.Close(); err == nil {
+		err = closing
+	}
+	return err
+}
+
+// createHostKey makes the key of the ssh server, and tells its fingerprint.
+func createHostKey(path string) error {
+	public, private, err := ed25519.GenerateKey(rand.Reader)
+	if err != nil {
+		return err
+	}
+	bytes, err := x509.MarshalPKCS8PrivateKey(private)
+	if err != nil {
+		return err
+	}
+	key, err := ssh.NewPublicKey(public)
+	if err != nil {
+		return err
+	}
+	if _, err := os.Stat(path); err == nil {
+		return nil
+	}
+	if err := createFile(path, string(pem.EncodeToMemory(&pem.Block{Type: "PRIVATE KEY", Bytes: bytes}))); err != nil {
+		return err
+	}
+	fmt.Printf("host key %s\n", ssh.FingerprintSHA256(key))
+	return createFile(path+".pub", string(ssh.MarshalAuthorizedKey(key)))
+}
+
+// runUser gives a user a password or keys.
+func runUser(l line) error {
+	user := l.words[1]
+	if path, has := l.flags["--key"]; has {
+		text, err := os.ReadFile(path)
+		if err != nil {
+			return err
+		}
+		_, err = access.AddKeys(l.folder(), user, text)
+		return err
+	}
+	password, err := readPassword()
+	if err != nil {
+		return err
+	}
+	return access.SetPassword(l.folder(), user, password)
+}
+
+// readPassword reads a line from standard input; from a terminal without showing it.
+func readPassword() (string, error) {
+	info, err := os.Stdin.Stat()
+	if err == nil && info.Mode()&os.ModeCharDevice != 0 {
+		fmt.Fprint(os.Stderr, "Password: ")
+		defer fmt.Fprintln(os.Stderr)
+		if stty("-echo") == nil {
+			defer func() { _ = stty("echo") }()
+		}
+	}
+	text, err := bufio.NewReader(os.Stdin).ReadString('\n')
+	if err != nil && err != io.EOF {
+		return "", err
+	}
+	return strings.TrimRight(text, "\r\n"), nil
+}
+
+func stty(word string) error {
+	command := exec.Command("stty", word)
+	command.Stdin = os.Stdin
+	return command.Run()
+}
+
+func runGrant(l line) error {
+	return access.Grant(l.folder(), l.words[1], l.words[2], l.words[3])
+}
+
+func runRevoke(l line) error {
+	pattern := ""
+	if len(l.words) == 4 {
+		pattern = l.words[2]
+	}
+	return access.Revoke(l.folder(), l.words[1], pattern)
+}
+
+// runLimits lists the limits, or sets one.
+func runLimits(l line) error {
+	path := filepath.Join(l.folder(), "limits")
+	words := l.words[1 : len(l.words)-1]
+	if len(words) == 1 {
+		return fmt.Errorf("`%s` has no value", words[0])
+	}
+	if len(words) > 1 {
+		return limits.Set(path, words...)
+	}
+	rows, err := limits.Rows(path)
+	for _, row := range rows {
+		fmt.Printf("%-24s %-8s %s (default %s)\n", row.Name, row.Value, row.About, row.Default)
+	}
+	return err
+}
+
+// runCall sends a command to the running server.
+func runCall(l line) error {
+	name := l.words[len(l.words)-1]
+	text, err := operator.Call(socket(l), append([]string{name}, l.words[1:len(l.words)-1]...)...)
+	if errors.Is(err, operator.ErrNoServer) {
+		return fmt.Errorf("no server runs in %s; start one with `gitpoold serve`", l.folder())
+	}
+	fmt.Print(text)
+	return err
+}
+
+// socket is the path of the folder's socket.
+func socket(l line) string {
+	if path := l.flags["--socket"]; path != "" {
+		return path
+	}
+	return filepath.Join(l.folder(), "socket")
+}

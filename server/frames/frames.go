@@ -1,0 +1,180 @@
+// Package frames writes and reads the steps and answers of a service as bytes: docs/FORMATS.md, "Frames".
+package frames
+
+import (
+	"bufio"
+	"encoding/binary"
+	"errors"
+	"io"
+)
+
+// Kind is the kind of a step.
+type Kind byte
+
+// The kinds of steps that `gitpool serve` answers.
+const (
+	Open    Kind = 1
+	Feed    Kind = 2
+	End     Kind = 3
+	Ask     Kind = 4
+	Restart Kind = 5
+)
+
+// LongestBody is the most bytes that the body of a step may have.
+const LongestBody = 16777216
+
+// longestReply is above every reply that a service gives: an object, which has at most 128 MiB, with its head.
+const longestReply = 1 << 32
+
+var (
+	// ErrWrong says that a frame has an unknown kind, or a length that does not go with its kind (fault 50).
+	ErrWrong = errors.New("a frame is wrong (fault 50)")
+	// ErrCut says that the input ends inside a frame (fault 51).
+	ErrCut = errors.New("the input ends inside a frame (fault 51)")
+)
+
+// Step is one step of a tenant. Only a Feed and an Ask have a body; a Restart has no tenant.
+type Step struct {
+	Kind   Kind
+	Tenant string
+	Body   []byte
+}
+
+// AppendTo appends the frame of a step to bytes.
+func (s Step) AppendTo(to []byte) []byte {
+	to = append(to, byte(s.Kind), byte(len(s.Tenant)>>8), byte(len(s.Tenant)))
+	to = append(to, s.Tenant...)
+	to = binary.BigEndian.AppendUint32(to, uint32(len(s.Body)))
+	return append(to, s.Body...)
+}
+
+// Size is how many bytes the frame of a step has.
+func (s Step) Size() int { return 7 + len(s.Tenant) + len(s.Body) }
+
+// Parse reads a frame of any kind, and tells whether the bytes are that frame and no more. The body is a part of the bytes.
+func Parse(frame []byte) (step Step, whole bool) {
+	if len(frame) < 7 {
+		return Step{}, false
+	}
+	name := 3 + int(binary.BigEndian.Uint16(frame[1:]))
+	if len(frame) < name+4 || uint64(len(frame)-name-4) != uint64(binary.BigEndian.Uint32(frame[name:])) {
+		return Step{}, false
+	}
+	return Step{Kind(frame[0]), string(frame[3:name]), frame[name+4:]}, true
+}
+
+// longest gives the most bytes of a name and of a body that a step of this kind may have.
+func longest(kind Kind) (name, body uint32, known bool) {
+	switch kind {
+	case Open, End:
+		return 65535, 0, true
+	case Feed, Ask:
+		return 65535, LongestBody, true
+	case Restart:
+		return 0, 0, true
+	}
+	return 0, 0, false
+}
+
+// ReadStep reads the next frame. It gives io.EOF where the input ends between frames, else ErrWrong, ErrCut, or the reader's own
+// error. What a length claims is allocated only as its bytes come.
+func ReadStep(from *bufio.Reader) (Step, error) {
+	kind, err := from.ReadByte()
+	if err != nil {
+		return Step{}, err
+	}
+	name, body, known := longest(Kind(kind))
+	if !known {
+		return Step{}, ErrWrong
+	}
+	tenant, err := readSized(from, 2, name)
+	if err != nil {
+		return Step{}, err
+	}
+	contents, err := readSized(from, 4, body)
+	return Step{Kind(kind), string(tenant), contents}, err
+}
+
+// readSized reads bytes that stand after their length, which has so many bytes itself.
+func readSized(from *bufio.Reader, width int, longest uint32) ([]byte, error) {
+	var head [4]byte
+	if _, err := io.ReadFull(from, head[4-width:]); err != nil {
+		return nil, cut(err)
+	}
+	size := binary.BigEndian.Uint32(head[:])
+	if size > longest {
+		return nil, ErrWrong
+	}
+	return readBytes(from, uint64(size))
+}
+
+// readBytes reads so many bytes; memory is taken a megabyte at a time until half of them are there.
+func readBytes(from *bufio.Reader, size uint64) ([]byte, error) {
+	const block = 1 << 20
+	var found []byte
+	for have := uint64(0); have < size; have = uint64(len(found)) {
+		next := have + block
+		if have >= size/2 || next > size {
+			next = size
+		}
+		grown := make([]byte, next)
+		copy(grown, found)
+		if _, err := io.ReadFull(from, grown[have:]); err != nil {
+			return nil, cut(err)
+		}
+		found = grown
+	}
+	return found, nil
+}
+
+func cut(err error) error {
+	if err == io.EOF || err == io.ErrUnexpectedEOF {
+		return ErrCut
+	}
+	return err
+}
+
+// Status says how a step went.
+type Status byte
+
+// The statuses of answers.
+const (
+	Ok     Status = 0
+	Fault  Status = 1
+	Memory Status = 2
+)
+
+// Answer is the answer to one step. Value is the number of a fault, or how many whole items took effect before memory ran out.
+type Answer struct {
+	Status Status
+	Value  uint64
+	Reply  []byte
+}
+
+const answerHead = 17
+
+// AppendTo appends the frame of an answer to bytes.
+func (a Answer) AppendTo(to []byte) []byte {
+	to = append(to, byte(a.Status))
+	to = binary.BigEndian.AppendUint64(to, a.Value)
+	to = binary.BigEndian.AppendUint64(to, uint64(len(a.Reply)))
+	return append(to, a.Reply...)
+}
+
+// ReadAnswer reads the next answer. It gives io.EOF where the input ends between answers, else ErrWrong, ErrCut, or the reader's
+// own error.
+func ReadAnswer(from *bufio.Reader) (Answer, error) {
+	if _, err := from.Peek(1); err != nil {
+		return Answer{}, err
+	}
+	var head [answerHead]byte
+	if _, err := io.ReadFull(from, head[:]); err != nil {
+		return Answer{}, cut(err)
+	}
+	size := binary.BigEndian.Uint64(head[9:])
+	if head[0] > byte(Memory) || size > longestReply {
+		return Answer{}, ErrWrong
+	}
+	reply, err := readBytes(from, size)
+	return Answer{Status(head[0]), binary.BigEndian.Uint64(head[1:]), reply}, err
+}

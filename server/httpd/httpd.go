@@ -1,0 +1,182 @@
+// Package httpd serves Git's smart protocol over http: gitprotocol-http(5).
+package httpd
+
+import (
+	"bytes"
+	"context"
+	"io"
+	"log"
+	"net"
+	"net/http"
+	"regexp"
+	"time"
+
+	"gitpoold/logs"
+	"gitpoold/services"
+	"gitpoold/site"
+	"gitpoold/tenants"
+)
+
+// server answers requests for one site.
+type server struct {
+	*site.Site
+}
+
+// Most of a request's head. A client sends one of a few hundred bytes.
+const headBytes = 32 << 10
+
+// Serve answers requests until ctx is done. Then it takes no more connections, lets those requests end that have begun, for a while,
+// and returns.
+func Serve(ctx context.Context, listener net.Listener, s *site.Site) error {
+	values := s.Limits.Get()
+	h := &http.Server{
+		Handler: &server{s}, ReadHeaderTimeout: values.Handshake, IdleTimeout: values.Idle, MaxHeaderBytes: headBytes,
+		ErrorLog:    log.New(lines{s.Log}, "", 0),
+		ConnContext: func(ctx context.Context, c net.Conn) context.Context { return context.WithValue(ctx, connection{}, c) },
+	}
+	ended := make(chan error, 1)
+	go func() { ended <- h.Serve(listener) }()
+	select {
+	case err := <-ended:
+		return err
+	case <-ctx.Done():
+	}
+	drain, stop := context.WithTimeout(context.Background(), s.Limits.Get().Drain)
+	defer stop()
+	if err := h.Shutdown(drain); err != nil {
+		return h.Close()
+	}
+	return nil
+}
+
+// lines writes what net/http says to the log.
+type lines struct{ log *logs.Log }
+
+func (l lines) Write(text []byte) (int, error) {
+	l.log.Printf("http: %s", bytes.TrimSpace(text))
+	return len(text), nil
+}
+
+// connection is the key of a request's connection among the values of its context.
+type connection struct{}
+
+// stop closes the connection of a request.
+func stop(r *http.Request) {
+	if c, is := r.Context().Value(connection{}).(net.Conn); is {
+		c.Close()
+	}
+}
+
+var (
+	servicePath = regexp.MustCompile(`^/(.+?)(?:\.git)?/(info/refs|git-upload-pack|git-receive-pack)$`)
+	dumbPath    = regexp.MustCompile(`^/.+/(?:HEAD|objects/.*)$`)
+)
+
+// ServeHTTP answers one request and writes its line to the log.
+func (s *server) ServeHTTP(w http.ResponseWriter, r *http.Request) {
+	e := &exchange{server: s, w: &counting{ResponseWriter: w, status: http.StatusOK}, r: r, began: time.Now()}
+	e.record = logs.Request{Protocol: "http", Address: address(r), What: r.Method + " " + r.URL.Path}
+	defer e.log()
+	defer e.finish()
+	switch {
+	case r.URL.Path == "/metrics" && isOwn(r):
+		w.Header().Set("Content-Type", "text/plain; version=0.0.4")
+		s.Metrics.Text(e.w)
+	case r.URL.Path == "/healthz":
+		_, _ = io.WriteString(e.w, "ok\n")
+	default:
+		e.service()
+	}
+}
+
+// isOwn tells whether a request comes from this machine, and not through a front.
+func isOwn(r *http.Request) bool {
+	ip := net.ParseIP(address(r))
+	return ip != nil && ip.IsLoopback() && r.Header.Get("X-Forwarded-For") == "" && r.Header.Get("Forwarded") == ""
+}
+
+func address(r *http.Request) string {
+	host, _, err := net.SplitHostPort(r.RemoteAddr)
+	if err != nil {
+		return r.RemoteAddr
+	}
+	return host
+}
+
+// service finds what a path asks for.
+func (e *exchange) service() {
+	found := servicePath.FindStringSubmatch(e.r.URL.Path)
+	if found == nil && dumbPath.MatchString(e.r.URL.Path) {
+		e.fail(http.StatusForbidden, "this server speaks Git's smart protocol alone; please upgrade git")
+		return
+	}
+	if found == nil {
+		e.fail(http.StatusNotFound, site.ErrNotFound.Error())
+		return
+	}
+	e.record.Tenant = found[1]
+	isAdvertisement := found[2] == "info/refs"
+	if e.name = found[2]; isAdvertisement {
+		e.name = e.r.URL.Query().Get("service")
+	}
+	if !services.IsService(e.name) {
+		e.fail(http.StatusForbidden, "this server speaks Git's smart protocol alone; please upgrade git")
+		return
+	}
+	if isAdvertisement {
+		e.with(http.MethodGet, (*exchange).advertise)
+	} else {
+		e.with(http.MethodPost, (*exchange).answer)
+	}
+}
+
+// with checks the method and the user, and gives the tenant to an answer.
+func (e *exchange) with(method string, answer func(*exchange, context.Context, tenants.Tenant)) {
+	if e.r.Method != method {
+		e.w.Header().Set("Allow", method)
+		e.fail(http.StatusMethodNotAllowed, "this is asked by "+method)
+		return
+	}
+	t, ok := e.open()
+	if !ok {
+		return
+	}
+	leave, err := e.Limits.Enter(e.record.User, e.record.Address)
+	if err != nil {
+		e.w.Header().Set("Retry-After", "1")
+		e.fail(http.StatusTooManyRequests, err.Error())
+		return
+	}
+	defer leave()
+	// Whatever the peer does, its connection ends then.
+	timer := time.AfterFunc(e.Limits.Get().Request, func() { stop(e.r) })
+	defer timer.Stop()
+	answer(e, e.r.Context(), t)
+}
+
+// open finds the tenant, if the user has the right to it. Else it has answered.
+func (e *exchange) open() (t tenants.Tenant, ok bool) {
+	user, password, hasUser := e.r.BasicAuth()
+	if hasUser && user != "" && !e.Access.Password(e.r.Context(), user, password, e.record.Address) {
+		e.askPassword("the user or the password is wrong")
+		return t, false
+	}
+	e.record.User = user
+	t, err := e.Open(user, e.record.Tenant, services.Right(e.name))
+	switch {
+	case err == nil:
+		return t, true
+	case user == "":
+		e.askPassword("this needs a user and a password")
+	case err == site.ErrReadOnly:
+		e.fail(http.StatusForbidden, err.Error())
+	default:
+		e.fail(http.StatusNotFound, err.Error())
+	}
+	return t, false
+}
+
+func (e *exchange) askPassword(why string) {
+	e.w.Header().Set("WWW-Authenticate", `Basic realm="gitpool", charset="UTF-8"`)
+	e.fail(http.StatusUnauthorized, why)
+}

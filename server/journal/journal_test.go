@@ -1,0 +1,336 @@
+package journal
+
+import (
+	"bytes"
+	"errors"
+	"fmt"
+	"os"
+	"path/filepath"
+	"strings"
+	"sync"
+	"syscall"
+	"testing"
+
+	"gitpoold/frames"
+)
+
+var pools = [...]Digest{{1}, {2}, {3}}
+
+func quiet(string, ...any) {}
+
+func opened(t testing.TB, folder string, pool Digest) *Journal {
+	t.Helper()
+	j, err := Open(folder, pool, quiet)
+	if err != nil {
+		t.Fatal(err)
+	}
+	t.Cleanup(func() { j.Close() })
+	return j
+}
+
+func step(i int) frames.Step {
+	return frames.Step{Kind: frames.Feed, Tenant: "acme/site", Body: bytes.Repeat([]byte{byte(i)}, i*37%900)}
+}
+
+func filled(t testing.TB, j *Journal, from, to int) {
+	t.Helper()
+	for i := from; i < to; i++ {
+		number, err := j.Append(step(i))
+		if err != nil {
+			t.Fatal(err)
+		}
+		if i%3 == 0 {
+			if err := j.Sync(number); err != nil {
+				t.Fatal(err)
+			}
+		}
+	}
+}
+
+func hasSteps(t testing.TB, j *Journal, from, to int) {
+	t.Helper()
+	hasStepsAfter(t, j, j.pools[j.first], from, to)
+}
+
+func hasStepsAfter(t testing.TB, j *Journal, pool Digest, from, to int) {
+	t.Helper()
+	i := from
+	err := j.Records(pool, func(r Record) error {
+		want := step(i)
+		if r.Step.Tenant != want.Tenant || r.Step.Kind != want.Kind || !bytes.Equal(r.Step.Body, want.Body) {
+			return fmt.Errorf("record %d is another", i)
+		}
+		i++
+		return nil
+	})
+	if err != nil || i != to {
+		t.Fatalf("records %d to %d, wanted to %d: %v", from, i, to, err)
+	}
+}
+
+func TestAJournalComesBack(t *testing.T) {
+	folder := t.TempDir()
+	j := opened(t, folder, pools[0])
+	filled(t, j, 0, 100)
+	hasSteps(t, j, 0, 100)
+	j = opened(t, folder, pools[0])
+	hasSteps(t, j, 0, 100)
+	filled(t, j, 100, 120)
+	hasSteps(t, opened(t, folder, pools[0]), 0, 120)
+}
+
+// TestASaveMayStopAnywhere has both orders in which a crash leaves the pool file and the segment.
+func TestASaveMayStopAnywhere(t *testing.T) {
+	folder := t.TempDir()
+	j := opened(t, folder, pools[0])
+	filled(t, j, 0, 10)
+	if err := j.Begin(pools[1]); err != nil {
+		t.Fatal(err)
+	}
+	filled(t, j, 10, 15)
+	hasStepsAfter(t, j, pools[0], 0, 15)
+	hasStepsAfter(t, j, pools[1], 10, 15)
+	hasSteps(t, opened(t, folder, pools[0]), 0, 15)
+	j = opened(t, folder, pools[1])
+	hasSteps(t, j, 10, 15)
+	if _, err := os.Stat(path(folder, 1)); !os.IsNotExist(err) {
+		t.Fatal("the first segment is there still")
+	}
+	if err := j.Begin(pools[2]); err != nil {
+		t.Fatal(err)
+	}
+	if err := j.Drop(); err != nil {
+		t.Fatal(err)
+	}
+	hasSteps(t, opened(t, folder, pools[2]), 15, 15)
+}
+
+func TestAnotherPoolFileIsRefused(t *testing.T) {
+	folder := t.TempDir()
+	filled(t, opened(t, folder, pools[0]), 0, 3)
+	var damaged *Damaged
+	if _, err := Open(folder, pools[1], quiet); !errors.As(err, &damaged) {
+		t.Fatal(err)
+	}
+}
+
+// TestEachCutIsTorn cuts the last segment at each byte: what is whole before comes back, and is told what was dropped.
+func TestEachCutIsTorn(t *testing.T) {
+	folder := t.TempDir()
+	filled(t, opened(t, folder, pools[0]), 0, 6)
+	whole, _ := os.ReadFile(path(folder, 1))
+	ends := []int{int(emptySegment)}
+	for i := 0; i < 6; i++ {
+		ends = append(ends, ends[i]+headBytes+step(i).Size()+chainBytes)
+	}
+	for at := int(emptySegment); at <= len(whole); at++ {
+		count := 0
+		for count < 6 && ends[count+1] <= at {
+			count++
+		}
+		for _, text := range [][]byte{whole[:at], append(append([]byte(nil), whole[:at]...), make([]byte, 100)...)} {
+			hasAfterCrash(t, text, count, at == ends[count] && len(text) == at)
+		}
+	}
+}
+
+func hasAfterCrash(t *testing.T, text []byte, count int, silent bool) {
+	t.Helper()
+	folder := t.TempDir()
+	os.WriteFile(path(folder, 1), text, 0o600)
+	told := ""
+	j, err := Open(folder, pools[0], func(format string, values ...any) { told += fmt.Sprintf(format, values...) })
+	if err != nil {
+		t.Fatal(len(text), err)
+	}
+	defer j.Close()
+	hasSteps(t, j, 0, count)
+	if silent != (told == "") {
+		t.Fatalf("at %d: told %q", len(text), told)
+	}
+	filled(t, j, count, count+1)
+	hasSteps(t, j, 0, count+1)
+}
+
+// TestEachFlippedByteStopsTheStart flips each byte of two segments: nothing is dropped and nothing is changed.
+func TestEachFlippedByteStopsTheStart(t *testing.T) {
+	folder := t.TempDir()
+	j := opened(t, folder, pools[0])
+	filled(t, j, 0, 5)
+	if err := j.Begin(pools[1]); err != nil {
+		t.Fatal(err)
+	}
+	filled(t, j, 5, 9)
+	for number := uint64(1); number <= 2; number++ {
+		whole, _ := os.ReadFile(path(folder, number))
+		for at := range whole {
+			bad := append([]byte(nil), whole...)
+			bad[at] ^= 0x40
+			os.WriteFile(path(folder, number), bad, 0o600)
+			var damaged *Damaged
+			if _, err := Open(folder, pools[0], quiet); !errors.As(err, &damaged) {
+				t.Fatalf("segment %d, byte %d: %v", number, at, err)
+			}
+			if left, _ := os.ReadFile(path(folder, number)); !bytes.Equal(left, bad) {
+				t.Fatalf("segment %d, byte %d: changed", number, at)
+			}
+		}
+		os.WriteFile(path(folder, number), whole, 0o600)
+	}
+	hasSteps(t, opened(t, folder, pools[0]), 0, 9)
+}
+
+func TestHolesAndMissingSegmentsStopTheStart(t *testing.T) {
+	folder := t.TempDir()
+	j := opened(t, folder, pools[0])
+	filled(t, j, 0, 9)
+	whole, _ := os.ReadFile(path(folder, 1))
+	hole := append([]byte(nil), whole...)
+	copy(hole[300:], make([]byte, 600))
+	cases := map[string][]byte{"a hole": hole, "a record is missing": append(append([]byte(nil), whole[:emptySegment]...),
+		whole[int(emptySegment)+headBytes+step(0).Size()+chainBytes:]...)}
+	for name, text := range cases {
+		os.WriteFile(path(folder, 1), text, 0o600)
+		var damaged *Damaged
+		if _, err := Open(folder, pools[0], quiet); !errors.As(err, &damaged) {
+			t.Fatal(name, err)
+		}
+	}
+	os.WriteFile(path(folder, 1), whole, 0o600)
+	for i := 0; i < 2; i++ {
+		if err := j.Begin(pools[0]); err != nil {
+			t.Fatal(err)
+		}
+	}
+	os.Remove(path(folder, 2))
+	var damaged *Damaged
+	if _, err := Open(folder, pools[0], quiet); !errors.As(err, &damaged) {
+		t.Fatal("a segment is missing:", err)
+	}
+}
+
+// TestAnEarlierSegmentMayNotBeCut has a segment that lost its end although another follows it.
+func TestAnEarlierSegmentMayNotBeCut(t *testing.T) {
+	folder := t.TempDir()
+	j := opened(t, folder, pools[0])
+	filled(t, j, 0, 5)
+	j.Begin(pools[1])
+	whole, _ := os.ReadFile(path(folder, 1))
+	for _, size := range []int{len(whole) - 1, len(whole) - headBytes - step(4).Size() - chainBytes, int(emptySegment)} {
+		os.WriteFile(path(folder, 1), whole[:size], 0o600)
+		var damaged *Damaged
+		if _, err := Open(folder, pools[0], quiet); !errors.As(err, &damaged) {
+			t.Fatal(size, err)
+		}
+	}
+}
+
+// TestAFullDiskRefusesAndTakesUpAgain lets the file's size be limited, as a full disk limits it.
+func TestAFullDiskRefusesAndTakesUpAgain(t *testing.T) {
+	folder := t.TempDir()
+	j := opened(t, folder, pools[0])
+	filled(t, j, 0, 4)
+	free := limitFiles(t, uint64(j.Bytes())+100)
+	before, _ := os.ReadFile(path(folder, 1))
+	_, err := j.Append(frames.Step{Kind: frames.Feed, Tenant: "a", Body: make([]byte, 5000)})
+	if !errors.Is(err, ErrFull) {
+		t.Fatal(err)
+	}
+	if after, _ := os.ReadFile(path(folder, 1)); !bytes.Equal(before, after) {
+		t.Fatal("a part of the record was left")
+	}
+	free()
+	filled(t, j, 4, 8)
+	hasSteps(t, opened(t, folder, pools[0]), 0, 8)
+}
+
+// limitFiles bounds the size of files that this process writes, and gives the call that takes the bound away.
+func limitFiles(t *testing.T, bytes uint64) func() {
+	t.Helper()
+	var was syscall.Rlimit
+	syscall.Getrlimit(syscall.RLIMIT_FSIZE, &was)
+	if err := syscall.Setrlimit(syscall.RLIMIT_FSIZE, &syscall.Rlimit{Cur: bytes, Max: was.Max}); err != nil {
+		t.Skip(err)
+	}
+	free := func() { syscall.Setrlimit(syscall.RLIMIT_FSIZE, &was) }
+	t.Cleanup(free)
+	return free
+}
+
+// TestAFailedSyncTakesRecordsBack closes the file under the journal, so that it can neither be synced nor cut.
+func TestAFailedSyncTakesRecordsBack(t *testing.T) {
+	folder := t.TempDir()
+	j := opened(t, folder, pools[0])
+	filled(t, j, 0, 4)
+	number, _ := j.Append(step(4))
+	j.file.Close()
+	if err := j.Sync(number); !errors.Is(err, ErrUnknown) {
+		t.Fatal(err)
+	}
+	if _, err := j.Append(step(5)); err == nil || !j.IsBroken() {
+		t.Fatal("the journal went on")
+	}
+	if err := j.Begin(pools[1]); err != nil {
+		t.Fatal(err)
+	}
+	if _, err := j.Append(step(5)); err != nil || j.IsBroken() {
+		t.Fatal(err)
+	}
+}
+
+func TestOneSyncServesMany(t *testing.T) {
+	j := opened(t, t.TempDir(), pools[0])
+	var all sync.WaitGroup
+	for i := 0; i < 50; i++ {
+		all.Add(1)
+		go func(i int) {
+			defer all.Done()
+			number, err := j.Append(step(i))
+			if err == nil {
+				err = j.Sync(number)
+			}
+			if err != nil {
+				t.Error(err)
+			}
+		}(i)
+	}
+	all.Wait()
+	if j.synced.number != j.appended.number || j.synced.number < 50 {
+		t.Fatal(j.synced, j.appended)
+	}
+}
+
+func TestLeftoversAreRemoved(t *testing.T) {
+	folder := t.TempDir()
+	os.WriteFile(filepath.Join(folder, "00000007.new"), []byte("x"), 0o600)
+	opened(t, folder, pools[0])
+	entries, _ := os.ReadDir(folder)
+	if len(entries) != 1 || entries[0].Name() != "00000001" {
+		t.Fatal(entries)
+	}
+}
+
+func FuzzSegment(f *testing.F) {
+	folder := f.TempDir()
+	j, _ := Open(folder, pools[0], quiet)
+	filled(f, j, 0, 4)
+	whole, _ := os.ReadFile(path(folder, 1))
+	f.Add(whole)
+	f.Add(whole[:len(whole)-3])
+	f.Add([]byte(title))
+	f.Fuzz(func(t *testing.T, text []byte) {
+		folder := t.TempDir()
+		os.WriteFile(path(folder, 1), text, 0o600)
+		j, err := Open(folder, pools[0], quiet)
+		if err != nil {
+			return
+		}
+		defer j.Close()
+		if err := j.Records(pools[0], func(Record) error { return nil }); err != nil {
+			t.Fatal(err)
+		}
+		if left, _ := os.ReadFile(path(folder, 1)); !strings.HasPrefix(string(text), string(left)) {
+			t.Fatal("more than a cut")
+		}
+	})
+}

@@ -1,0 +1,223 @@
+// Package limits bounds what clients may take: connections, time and bytes.
+//
+// The operator's file `limits` has lines `NAME VALUE`, and `quota TENANT VALUE` for one tenant. What it leaves out has its default. The
+// command `gitpoold limits` changes it, and a running server reads it again when it has changed.
+package limits
+
+import (
+	"errors"
+	"io"
+	"net"
+	"path/filepath"
+	"sync"
+	"time"
+
+	"gitpoold/lists"
+)
+
+// Limits answers what is allowed now. Its methods may be called by many goroutines at once.
+type Limits struct {
+	values *lists.Followed[Values]
+	mutex  sync.Mutex
+	counts map[string]int
+}
+
+// Load reads the limits of a folder. `tell` gets a line for the operator where they cannot be read later on.
+func Load(folder string, tell func(format string, values ...any)) (*Limits, error) {
+	path := filepath.Join(folder, "limits")
+	followed, err := lists.Follow(func() (Values, error) { return read(path) }, tell, path)
+	if err != nil {
+		return nil, err
+	}
+	return &Limits{values: followed, counts: map[string]int{}}, nil
+}
+
+// Get gives the limits as they are now.
+func (l *Limits) Get() Values { return l.values.Get() }
+
+// Quota gives the most bytes that a tenant may have, 0 for no limit.
+func (l *Limits) Quota(tenant string) int64 {
+	values := l.Get()
+	if own, has := values.Quotas[tenant]; has {
+		return own
+	}
+	return values.Quota
+}
+
+// Refusals of limits: sentences for the client.
+var (
+	ErrUserBusy    = errors.New("this user has as many requests at work as a user may have; try again")
+	ErrConnections = errors.New("the server has as many connections as it may have")
+)
+
+// Enter counts a request or session of a user, and gives the call that ends it. A visitor without a name is counted by its address,
+// without its port.
+func (l *Limits) Enter(user, address string) (leave func(), err error) {
+	who := "user " + user
+	if user == "" {
+		who = "visitor " + host(address)
+	}
+	if !l.take(who, l.Get().PerUser) {
+		return nil, ErrUserBusy
+	}
+	return l.leaver(who), nil
+}
+
+func host(address string) string {
+	name, _, err := net.SplitHostPort(address)
+	if err != nil {
+		return address
+	}
+	return name
+}
+
+func (l *Limits) take(what string, most int) bool {
+	l.mutex.Lock()
+	defer l.mutex.Unlock()
+	if l.counts[what] >= most {
+		return false
+	}
+	l.counts[what]++
+	return true
+}
+
+func (l *Limits) give(what string) {
+	l.mutex.Lock()
+	defer l.mutex.Unlock()
+	l.counts[what]--
+	if l.counts[what] == 0 {
+		delete(l.counts, what)
+	}
+}
+
+// leaver gives a call that counts down once.
+func (l *Limits) leaver(what string) func() {
+	var once sync.Once
+	return func() { once.Do(func() { l.give(what) }) }
+}
+
+// connections is the count of all of them.
+const connections = "connections"
+
+// Connections is how many connections there are.
+func (l *Limits) Connections() int {
+	l.mutex.Lock()
+	defer l.mutex.Unlock()
+	return l.counts[connections]
+}
+
+// Listen bounds the connections of a listener, in all and by address: one too many is closed at once. Each Write of a connection has
+// to end within Idle.
+func (l *Limits) Listen(listener net.Listener) net.Listener { return &bounded{listener, l, false} }
+
+// ListenIdle does the same, and each Read has to end within Idle too. It is not for net/http, which reads in the background while it
+// answers.
+func (l *Limits) ListenIdle(listener net.Listener) net.Listener { return &bounded{listener, l, true} }
+
+type bounded struct {
+	net.Listener
+	limits *Limits
+	reads  bool
+}
+
+// Accept gives the next connection that is not one too many.
+func (b *bounded) Accept() (net.Conn, error) {
+	for {
+		c, err := b.Listener.Accept()
+		if err != nil {
+			return nil, err
+		}
+		leave, err := b.limits.connect(host(c.RemoteAddr().String()))
+		if err == nil {
+			return &connection{Conn: c, limits: b.limits, reads: b.reads, leave: leave}, nil
+		}
+		c.Close()
+	}
+}
+
+func (l *Limits) connect(address string) (func(), error) {
+	values := l.Get()
+	if !l.take(connections, values.Connections) {
+		return nil, ErrConnections
+	}
+	if address != "" && !l.take("address "+address, values.PerAddress) {
+		l.give(connections)
+		return nil, ErrConnections
+	}
+	both := []func(){l.leaver(connections), func() {}}
+	if address != "" {
+		both[1] = l.leaver("address " + address)
+	}
+	return func() { both[0](); both[1]() }, nil
+}
+
+// connection is one that is counted until it is closed.
+type connection struct {
+	net.Conn
+	limits *Limits
+	reads  bool
+	leave  func()
+}
+
+// Close closes the connection and counts it no more.
+func (c *connection) Close() error {
+	defer c.leave()
+	return c.Conn.Close()
+}
+
+// Read reads, within Idle if reads are bounded.
+func (c *connection) Read(into []byte) (int, error) {
+	if c.reads {
+		if err := c.Conn.SetReadDeadline(time.Now().Add(c.limits.Get().Idle)); err != nil {
+			return 0, err
+		}
+	}
+	return c.Conn.Read(into)
+}
+
+// longestWrite is how many bytes have to be taken by the peer within Idle.
+const longestWrite = 1 << 20
+
+// Write writes; each megabyte has to be taken within Idle.
+func (c *connection) Write(bytes []byte) (written int, err error) {
+	for written < len(bytes) || len(bytes) == 0 {
+		part := bytes[written:]
+		if len(part) > longestWrite {
+			part = part[:longestWrite]
+		}
+		if err := c.Conn.SetWriteDeadline(time.Now().Add(c.limits.Get().Idle)); err != nil {
+			return written, err
+		}
+		count, err := c.Conn.Write(part)
+		written += count
+		if err != nil || len(bytes) == 0 {
+			return written, err
+		}
+	}
+	return written, nil
+}
+
+// Values are the limits. Bytes are bytes; a time of 0 is none.
+type Values struct {
+	Connections, PerAddress, PerUser               int
+	Handshake, Idle, Request, Drain, Step          time.Duration
+	RequestBytes, Quota, JournalBytes, ChildMemory int64
+	SaveEvery, SavePatience, FrameIdle             time.Duration
+	Quotas                                         map[string]int64
+}
+
+// Watched gives a reader of which each Read has to end within Idle; else `stop` is called, which closes the connection that it reads
+// from. It is for the bodies of requests of http.
+func (l *Limits) Watched(from io.Reader, stop func()) io.Reader { return &watched{from, l, stop} }
+
+type watched struct {
+	from   io.Reader
+	limits *Limits
+	stop   func()
+}
+
+func (w *watched) Read(into []byte) (int, error) {
+	timer := time.AfterFunc(w.limits.Get().Idle, w.stop)
+	defer timer.Stop()
+	return w.from.Read(into)
+}

@@ -1,0 +1,228 @@
+package limits
+
+import (
+	"errors"
+	"io"
+	"net"
+	"os"
+	"path/filepath"
+	"testing"
+	"time"
+)
+
+func quiet(string, ...any) {}
+
+func loaded(t *testing.T, lines string) (*Limits, string) {
+	t.Helper()
+	folder := t.TempDir()
+	path := filepath.Join(folder, "limits")
+	if err := os.WriteFile(path, []byte(lines), 0o600); err != nil {
+		t.Fatal(err)
+	}
+	l, err := Load(folder, quiet)
+	if err != nil {
+		t.Fatal(err)
+	}
+	return l, path
+}
+
+func TestLimitsAreSetWhileTheServerRuns(t *testing.T) {
+	l, path := loaded(t, "# a comment\n")
+	if l.Get().Connections != Defaults().Connections || l.Quota("acme/site") != 1<<30 {
+		t.Fatal(l.Get())
+	}
+	for _, words := range [][]string{{"quota", "3M"}, {"quota", "acme/site", "1K"}, {"idle", "2s"}, {"connections", "7"}} {
+		if err := Set(path, words...); err != nil {
+			t.Fatal(err)
+		}
+	}
+	if l.Quota("acme/site") != 1024 || l.Quota("acme/other") != 3<<20 || l.Get().Idle != 2*time.Second || l.Get().Connections != 7 {
+		t.Fatal(l.Get())
+	}
+	Set(path, "quota", "acme/site", "default")
+	Set(path, "idle", "default")
+	if l.Quota("acme/site") != 3<<20 || l.Get().Idle != Defaults().Idle {
+		t.Fatal(l.Get())
+	}
+	text, _ := os.ReadFile(path)
+	if string(text) != "# a comment\nquota 3M\nconnections 7\n" {
+		t.Fatalf("%s", text)
+	}
+	rows, err := Rows(path)
+	if err != nil || len(rows) != len(all) || rows[0].Value != "7" || rows[0].Default != "1024" {
+		t.Fatal(rows, err)
+	}
+}
+
+func TestBadLimitsAreRefused(t *testing.T) {
+	_, path := loaded(t, "")
+	for _, words := range [][]string{{"no-such", "1"}, {"connections", "0"}, {"connections", "x"}, {"idle", "0s"}, {"idle", "5"},
+		{"quota", "-1"}, {"quota", "1X"}, {"quota", "9999999999G"}, {"quota", "../x", "1"}, {"idle", "acme/site", "1s"}, {"quota", "G"}} {
+		if Set(path, words...) == nil {
+			t.Error(words)
+		}
+	}
+	if text, _ := os.ReadFile(path); len(text) > 0 {
+		t.Errorf("%s", text)
+	}
+}
+
+func listening(t *testing.T, wrap func(net.Listener) net.Listener) (net.Listener, string) {
+	t.Helper()
+	listener, err := net.Listen("tcp", "127.0.0.1:0")
+	if err != nil {
+		t.Fatal(err)
+	}
+	t.Cleanup(func() { listener.Close() })
+	return wrap(listener), listener.Addr().String()
+}
+
+func dialed(t *testing.T, address string) net.Conn {
+	t.Helper()
+	conn, err := net.Dial("tcp", address)
+	if err != nil {
+		t.Fatal(err)
+	}
+	t.Cleanup(func() { conn.Close() })
+	return conn
+}
+
+// isClosed tells whether the peer has closed a connection.
+func isClosed(conn net.Conn) bool {
+	conn.SetReadDeadline(time.Now().Add(time.Second))
+	_, err := conn.Read(make([]byte, 1))
+	return err != nil && !errors.Is(err, os.ErrDeadlineExceeded)
+}
+
+func TestOneConnectionTooMany(t *testing.T) {
+	for _, lines := range []string{"connections 2\n", "connections-by-address 2\n"} {
+		l, _ := loaded(t, lines)
+		listener, address := listening(t, l.Listen)
+		var taken []net.Conn
+		go func() {
+			for {
+				if _, err := listener.Accept(); err != nil {
+					return
+				}
+			}
+		}()
+		for i := 0; i < 2; i++ {
+			taken = append(taken, dialed(t, address))
+		}
+		for l.Connections() < 2 {
+			time.Sleep(time.Millisecond)
+		}
+		if !isClosed(dialed(t, address)) {
+			t.Error(lines, "a third connection is open")
+		}
+		if l.Connections() != 2 || len(taken) != 2 {
+			t.Error(lines, l.Connections())
+		}
+	}
+}
+
+func TestAClosedConnectionIsCountedNoMore(t *testing.T) {
+	l, _ := loaded(t, "connections 1\n")
+	listener, address := listening(t, l.Listen)
+	for i := 0; i < 3; i++ {
+		dialed(t, address)
+		conn, err := listener.Accept()
+		if err != nil || l.Connections() != 1 {
+			t.Fatal(i, err, l.Connections())
+		}
+		conn.Close()
+		conn.Close()
+		if l.Connections() != 0 {
+			t.Fatal(l.Connections())
+		}
+	}
+}
+
+func TestASilentPeerIsLeft(t *testing.T) {
+	l, _ := loaded(t, "idle 50ms\n")
+	listener, address := listening(t, l.ListenIdle)
+	dialed(t, address)
+	conn, _ := listener.Accept()
+	if _, err := conn.Read(make([]byte, 1)); !errors.Is(err, os.ErrDeadlineExceeded) {
+		t.Fatal(err)
+	}
+	began := time.Now()
+	if _, err := conn.Write(make([]byte, 64<<20)); !errors.Is(err, os.ErrDeadlineExceeded) || time.Since(began) > 5*time.Second {
+		t.Fatal("a peer that takes nothing:", err, time.Since(began))
+	}
+}
+
+func TestAPeerThatTakesSlowlyIsServed(t *testing.T) {
+	l, _ := loaded(t, "idle 2s\n")
+	listener, address := listening(t, l.ListenIdle)
+	peer := dialed(t, address)
+	conn, _ := listener.Accept()
+	go func() {
+		conn.Write(make([]byte, 4<<20))
+		conn.Close()
+	}()
+	total := 0
+	for part := make([]byte, 1<<20); ; time.Sleep(10 * time.Millisecond) {
+		count, err := peer.Read(part)
+		total += count
+		if err == io.EOF {
+			break
+		}
+		if err != nil {
+			t.Fatal(err)
+		}
+	}
+	if total != 4<<20 {
+		t.Fatal(total)
+	}
+}
+
+func TestABodyThatStopsIsLeft(t *testing.T) {
+	l, _ := loaded(t, "idle 30ms\n")
+	from, to := io.Pipe()
+	go to.Write([]byte("a"))
+	stopped := make(chan struct{})
+	body := l.Watched(from, func() { close(stopped); from.Close() })
+	if count, err := body.Read(make([]byte, 9)); count != 1 || err != nil {
+		t.Fatal(err)
+	}
+	if _, err := body.Read(make([]byte, 9)); err == nil {
+		t.Fatal("read on")
+	}
+	<-stopped
+}
+
+func TestRequestsOfAUser(t *testing.T) {
+	l, _ := loaded(t, "requests-by-user 2\n")
+	for _, who := range [][2]string{{"alice", "192.0.2.1:1"}, {"", "192.0.2.1:1"}} {
+		one, err := l.Enter(who[0], who[1])
+		if err != nil {
+			t.Fatal(err)
+		}
+		if _, err := l.Enter(who[0], "192.0.2.1:2"); err != nil {
+			t.Fatal(err)
+		}
+		if _, err := l.Enter(who[0], "192.0.2.1:3"); !errors.Is(err, ErrUserBusy) {
+			t.Fatal(err)
+		}
+		one()
+		one()
+		if _, err := l.Enter(who[0], "192.0.2.1:3"); err != nil {
+			t.Fatal(err)
+		}
+		if _, err := l.Enter(who[0], "192.0.2.1:3"); err == nil {
+			t.Fatal("a request was counted down twice")
+		}
+	}
+	if _, err := l.Enter("bob", "192.0.2.1:1"); err != nil {
+		t.Fatal("another user is refused")
+	}
+}
+
+func TestParseBytes(t *testing.T) {
+	for word, want := range map[string]int64{"0": 0, "17": 17, "1K": 1024, "2M": 2 << 20, "3G": 3 << 30, "1T": 1 << 40} {
+		if got, err := ParseBytes(word); got != want || err != nil {
+			t.Error(word, got, err)
+		}
+	}
+}

@@ -1,0 +1,202 @@
+package limits
+
+import (
+	"fmt"
+	"sort"
+	"strconv"
+	"strings"
+	"time"
+
+	"gitpoold/lists"
+	"gitpoold/tenants"
+)
+
+// limit is one limit by its name: how it is read, and where it goes.
+type limit struct {
+	name  string
+	first string
+	about string
+	set   func(v *Values, word string) error
+}
+
+func count(into func(*Values) *int) func(*Values, string) error {
+	return func(v *Values, word string) (err error) {
+		*into(v), err = strconv.Atoi(word)
+		if err == nil && *into(v) < 1 {
+			err = fmt.Errorf("%s is below 1", word)
+		}
+		return err
+	}
+}
+
+func bytes(into func(*Values) *int64) func(*Values, string) error {
+	return func(v *Values, word string) (err error) {
+		*into(v), err = ParseBytes(word)
+		return err
+	}
+}
+
+func span(into func(*Values) *time.Duration) func(*Values, string) error {
+	return func(v *Values, word string) (err error) {
+		*into(v), err = time.ParseDuration(word)
+		if err == nil && *into(v) < time.Millisecond {
+			err = fmt.Errorf("%s is below 1ms", word)
+		}
+		return err
+	}
+}
+
+var all = []limit{
+	{"connections", "1024", "connections at once",
+		count(func(v *Values) *int { return &v.Connections })},
+	{"connections-by-address", "128", "connections at once from one address",
+		count(func(v *Values) *int { return &v.PerAddress })},
+	{"requests-by-user", "64", "requests and sessions of one user at once",
+		count(func(v *Values) *int { return &v.PerUser })},
+	{"handshake", "20s", "the time until a client has said what it wants",
+		span(func(v *Values) *time.Duration { return &v.Handshake })},
+	{"idle", "60s", "the time that a client may be silent, or take nothing",
+		span(func(v *Values) *time.Duration { return &v.Idle })},
+	{"request", "1h", "the time of one request in all",
+		span(func(v *Values) *time.Duration { return &v.Request })},
+	{"drain", "30s", "the time that requests have to end when the server stops",
+		span(func(v *Values) *time.Duration { return &v.Drain })},
+	{"step", "5m", "the time that the child has for one answer; then it is replaced",
+		span(func(v *Values) *time.Duration { return &v.Step })},
+	{"request-bytes", "1G", "the bytes that one request may bring",
+		bytes(func(v *Values) *int64 { return &v.RequestBytes })},
+	{"quota", "1G", "the bytes that a tenant may have; 0 is no limit",
+		bytes(func(v *Values) *int64 { return &v.Quota })},
+	{"journal-bytes", "256M", "the bytes of the journal that ask for a save",
+		bytes(func(v *Values) *int64 { return &v.JournalBytes })},
+	{"save-every", "1h", "the time after which what has changed is saved",
+		span(func(v *Values) *time.Duration { return &v.SaveEvery })},
+	{"save-patience", "10s", "the time that a save waits for streams of frames",
+		span(func(v *Values) *time.Duration { return &v.SavePatience })},
+	{"frame-idle", "10m", "the time that a client of frames may be silent with a stream open",
+		span(func(v *Values) *time.Duration { return &v.FrameIdle })},
+	{"child-memory", "0", "the bytes of address space that the child may take; 0 is no limit",
+		bytes(func(v *Values) *int64 { return &v.ChildMemory })},
+}
+
+const quotaName = "quota"
+
+// ParseBytes reads a number of bytes, in all or with K, M, G or T for powers of 1,024.
+func ParseBytes(word string) (int64, error) {
+	digits, factor := word, int64(1)
+	if at := strings.IndexAny(word, "KMGT"); at >= 0 && at == len(word)-1 {
+		digits = word[:at]
+		factor = 1 << (10 * (1 + strings.IndexByte("KMGT", word[at])))
+	}
+	found, err := strconv.ParseInt(digits, 10, 64)
+	if err != nil || found < 0 || found > 1<<62/factor {
+		return 0, fmt.Errorf("`%s` is no number of bytes: digits, and K, M, G or T", word)
+	}
+	return found * factor, nil
+}
+
+func find(name string) (limit, error) {
+	for _, it := range all {
+		if it.name == name {
+			return it, nil
+		}
+	}
+	return limit{}, fmt.Errorf("there is no limit `%s`", name)
+}
+
+// Defaults gives the limits of an empty file.
+func Defaults() Values {
+	v := Values{Quotas: map[string]int64{}}
+	for _, it := range all {
+		if err := it.set(&v, it.first); err != nil {
+			panic(err)
+		}
+	}
+	return v
+}
+
+func read(path string) (Values, error) {
+	v := Defaults()
+	lines, err := lists.Read(path)
+	for _, words := range lines {
+		if err := v.take(words); err != nil {
+			return v, fmt.Errorf("%s: %w", path, err)
+		}
+	}
+	return v, err
+}
+
+// take takes one line of the file.
+func (v *Values) take(words []string) error {
+	if len(words) == 3 && words[0] == quotaName && tenants.ValidName(words[1]) {
+		most, err := ParseBytes(words[2])
+		v.Quotas[words[1]] = most
+		return err
+	}
+	if len(words) != 2 {
+		return fmt.Errorf("`%s` is no line NAME VALUE", strings.Join(words, " "))
+	}
+	it, err := find(words[0])
+	if err != nil {
+		return err
+	}
+	if err := it.set(v, words[1]); err != nil {
+		return fmt.Errorf("%s: %w", words[0], err)
+	}
+	return nil
+}
+
+// Row is one limit, as the operator sees it.
+type Row struct{ Name, Value, Default, About string }
+
+// Rows gives all limits of a folder's file, those of single tenants last.
+func Rows(path string) ([]Row, error) {
+	lines, err := lists.Read(path)
+	if err != nil {
+		return nil, err
+	}
+	said := map[string]string{}
+	var tenants []Row
+	for _, words := range lines {
+		if len(words) == 2 {
+			said[words[0]] = words[1]
+		} else if len(words) == 3 {
+			tenants = append(tenants, Row{Name: words[0] + " " + words[1], Value: words[2], About: "of this tenant"})
+		}
+	}
+	var rows []Row
+	for _, it := range all {
+		row := Row{it.name, it.first, it.first, it.about}
+		if value, has := said[it.name]; has {
+			row.Value = value
+		}
+		rows = append(rows, row)
+	}
+	sort.Slice(tenants, func(i, k int) bool { return tenants[i].Name < tenants[k].Name })
+	return append(rows, tenants...), nil
+}
+
+// Set sets a limit, or one tenant's quota by `quota TENANT VALUE`. The value `default` takes the line out.
+func Set(path string, words ...string) error {
+	v := Defaults()
+	name, value := words[:len(words)-1], words[len(words)-1]
+	if _, err := find(name[0]); err != nil {
+		return err
+	}
+	if value != "default" {
+		if err := v.take(words); err != nil {
+			return err
+		}
+	}
+	return lists.Change(path, func(lines []string) (left []string, err error) {
+		for _, line := range lines {
+			if has := strings.Fields(line); len(has) != len(words) || strings.Join(has[:len(name)], " ") != strings.Join(name, " ") {
+				left = append(left, line)
+			}
+		}
+		if value != "default" {
+			left = append(left, strings.Join(words, " "))
+		}
+		return left, nil
+	})
+}

@@ -1,0 +1,75 @@
+package lists
+
+import (
+	"errors"
+	"os"
+	"path/filepath"
+	"reflect"
+	"sync"
+	"testing"
+)
+
+func TestChangesOfManyAreAllThere(t *testing.T) {
+	path := filepath.Join(t.TempDir(), "list")
+	var all sync.WaitGroup
+	for i := 0; i < 20; i++ {
+		all.Add(1)
+		go func() {
+			defer all.Done()
+			if err := Change(path, func(lines []string) ([]string, error) { return append(lines, "a line"), nil }); err != nil {
+				t.Error(err)
+			}
+		}()
+	}
+	all.Wait()
+	lines, err := Read(path)
+	if err != nil || len(lines) != 20 || !reflect.DeepEqual(lines[19], []string{"a", "line"}) {
+		t.Fatal(lines, err)
+	}
+}
+
+func TestARefusedChangeChangesNothing(t *testing.T) {
+	path := filepath.Join(t.TempDir(), "list")
+	os.WriteFile(path, []byte("# kept\n\n a  b \n"), 0o600)
+	refused := errors.New("refused")
+	if err := Change(path, func([]string) ([]string, error) { return nil, refused }); err != refused {
+		t.Fatal(err)
+	}
+	lines, err := Read(path)
+	if err != nil || !reflect.DeepEqual(lines, [][]string{{"a", "b"}}) {
+		t.Fatal(lines, err)
+	}
+	if text, _ := os.ReadFile(path); string(text) != "# kept\n\n a  b \n" {
+		t.Fatalf("%q", text)
+	}
+}
+
+func TestAFileThatIsNotThereHasNoLines(t *testing.T) {
+	if lines, err := Read(filepath.Join(t.TempDir(), "none")); lines != nil || err != nil {
+		t.Fatal(lines, err)
+	}
+}
+
+func TestFollowedFilesAreReadWhenTheyChange(t *testing.T) {
+	path := filepath.Join(t.TempDir(), "list")
+	reads, told := 0, 0
+	f, err := Follow(func() (string, error) {
+		reads++
+		text, err := os.ReadFile(path)
+		if string(text) == "bad" {
+			err = errors.New("bad")
+		}
+		return string(text), err
+	}, func(string, ...any) { told++ }, path)
+	if err == nil {
+		t.Fatal("the file is not there")
+	}
+	os.WriteFile(path, []byte("one"), 0o600)
+	if f.Get() != "one" || f.Get() != "one" || reads != 2 {
+		t.Fatal(f.Get(), reads)
+	}
+	os.WriteFile(path, []byte("bad"), 0o600)
+	if f.Get() != "one" || told != 1 || f.Get() != "one" || reads != 3 {
+		t.Fatal(f.Get(), reads, told)
+	}
+}

@@ -1,0 +1,156 @@
+// Gitpoold serves the tenants of one pool to unmodified git, over http and ssh, durably. docs/SERVER.md is its manual.
+package main
+
+import (
+	"errors"
+	"fmt"
+	"os"
+	"strings"
+
+	"gitpoold/journal"
+	"gitpoold/poolfile"
+	"gitpoold/store"
+)
+
+// version is set by the build.
+var version = "0"
+
+// Statuses with which a run ends.
+const (
+	statusRefused = 1
+	statusUsage   = 2
+	statusDamaged = 3
+	statusDevice  = 4
+)
+
+// command is one subcommand.
+type command struct {
+	name  string
+	words string
+	about string
+	least int
+	most  int
+	flags []string
+	run   func(line line) error
+}
+
+// line is what the words of a run say: those that name things, and the values of flags.
+type line struct {
+	words []string
+	flags map[string]string
+}
+
+// folder is the server's folder, which each command names first.
+func (l line) folder() string { return l.words[0] }
+
+func commands() []command {
+	return []command{
+		{"init", "DIR", "make a folder for a server", 1, 1, []string{"--program"}, runInit},
+		{"user", "DIR USER [--key FILE]", "give a user a password, read from standard input, or the keys of a file", 2, 2,
+			[]string{"--key"}, runUser},
+		{"grant", "DIR USER PATTERN r|rw", "let a user, or '*' for everyone, read or also write tenants: acme/site, 'acme/*' or '*'", 4, 4,
+			nil, runGrant},
+		{"revoke", "DIR USER [PATTERN]", "take a grant back; without a pattern all grants, the password and the keys", 2, 3, nil, runRevoke},
+		{"serve", "DIR [--http ADDRESS] [--ssh ADDRESS] [--socket PATH] [--certificate FILE --certificate-key FILE]",
+			"serve until SIGTERM", 1, 1, []string{"--http", "--ssh", "--socket", "--program", "--certificate", "--certificate-key"}, runServe},
+		{"status", "DIR", "tell how the running server stands", 1, 1, []string{"--socket"}, runCall},
+		{"save", "DIR", "save the pool file now", 1, 1, []string{"--socket"}, runCall},
+		{"tenants", "DIR", "list the tenants of the running server, with their sizes", 1, 1, []string{"--socket"}, runCall},
+		{"copy", "DIR FROM TO", "copy a tenant to an empty one", 3, 3, []string{"--socket"}, runCall},
+		{"remove", "DIR TENANT", "remove a tenant", 2, 2, []string{"--socket"}, runCall},
+		{"compact", "DIR TENANT", "drop what no ref of a tenant reaches", 2, 2, []string{"--socket"}, runCall},
+		{"limits", "DIR [NAME VALUE | quota TENANT VALUE]", "list the limits, or set one; the value `default` unsets it", 1, 4, nil, runLimits},
+	}
+}
+
+func main() {
+	os.Exit(run(os.Args[1:]))
+}
+
+func run(words []string) int {
+	if len(words) == 0 || words[0] == "--help" || words[0] == "-h" || words[0] == "help" {
+		fmt.Print(help())
+		return 0
+	}
+	if words[0] == "--version" || words[0] == "-V" {
+		fmt.Printf("gitpoold %s\n", version)
+		return 0
+	}
+	for _, it := range commands() {
+		if it.name == words[0] {
+			return it.start(words[1:])
+		}
+	}
+	fmt.Fprintf(os.Stderr, "gitpoold: there is no command `%s`; `gitpoold --help` lists them\n", words[0])
+	return statusUsage
+}
+
+func (c command) start(words []string) int {
+	found, err := c.parse(words)
+	if err != nil {
+		fmt.Fprintf(os.Stderr, "gitpoold: %v\nUsage: gitpoold %s %s\n", err, c.name, c.words)
+		return statusUsage
+	}
+	found.words = append(found.words, c.name)
+	if err := c.run(found); err != nil {
+		fmt.Fprintf(os.Stderr, "gitpoold: %v\n", err)
+		return statusOf(err)
+	}
+	return 0
+}
+
+func statusOf(err error) int {
+	var damaged *journal.Damaged
+	switch {
+	case errors.As(err, &damaged), errors.Is(err, poolfile.ErrForm), errors.Is(err, store.ErrLoad):
+		return statusDamaged
+	case errors.Is(err, store.ErrInHand), errors.Is(err, os.ErrNotExist), errors.Is(err, os.ErrPermission):
+		return statusDevice
+	}
+	return statusRefused
+}
+
+// parse splits words into those that name things and flags with their values, in any order.
+func (c command) parse(words []string) (found line, err error) {
+	found.flags = map[string]string{}
+	for i := 0; i < len(words); i++ {
+		if !strings.HasPrefix(words[i], "--") {
+			found.words = append(found.words, words[i])
+			continue
+		}
+		name, value, hasValue := strings.Cut(words[i], "=")
+		if !c.takes(name) {
+			return found, fmt.Errorf("there is no option `%s`", name)
+		}
+		if !hasValue {
+			if i++; i == len(words) {
+				return found, fmt.Errorf("`%s` has no value", name)
+			}
+			value = words[i]
+		}
+		found.flags[name] = value
+	}
+	if len(found.words) < c.least || len(found.words) > c.most {
+		return found, fmt.Errorf("`%s` takes other words", c.name)
+	}
+	return found, nil
+}
+
+func (c command) takes(flag string) bool {
+	for _, it := range c.flags {
+		if it == flag {
+			return true
+		}
+	}
+	return false
+}
+
+func help() string {
+	var text strings.Builder
+	text.WriteString("Serve the tenants of a pool to git, over http and ssh\n\nUsage: gitpoold COMMAND DIR ..\n\nCommands:\n")
+	for _, it := range commands() {
+		fmt.Fprintf(&text, "  %s %s\n        %s\n", it.name, it.words, it.about)
+	}
+	text.WriteString("\nOptions:\n  -h, --help     Print help\n  -V, --version  Print version\n\ndocs/SERVER.md is the manual.\n")
+	return text.String()
+}

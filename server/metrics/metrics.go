@@ -1,0 +1,111 @@
+// Package metrics counts what the server does, and writes the counts in Prometheus' text.
+package metrics
+
+import (
+	"fmt"
+	"io"
+	"sort"
+	"strings"
+	"sync"
+)
+
+// Metrics are the counts of one server. Its methods may be called by many goroutines at once.
+type Metrics struct {
+	mutex    sync.Mutex
+	families map[string]*family
+}
+
+type family struct {
+	help, kind string
+	values     map[string]float64
+	read       func() float64
+}
+
+// New gives metrics without a count.
+func New() *Metrics { return &Metrics{families: map[string]*family{}} }
+
+func (m *Metrics) family(name, kind, help string) *family {
+	it := m.families[name]
+	if it == nil {
+		it = &family{help: help, kind: kind, values: map[string]float64{}}
+		m.families[name] = it
+	}
+	return it
+}
+
+// Add counts something up. Labels are name and value in turns; their values may not come from clients, or there is no end of them.
+func (m *Metrics) Add(name, help string, by float64, labels ...string) {
+	m.mutex.Lock()
+	defer m.mutex.Unlock()
+	m.family(name, "counter", help).values[labelText(labels)] += by
+}
+
+// Counter lets a count be read when it is asked for.
+func (m *Metrics) Counter(name, help string, read func() float64) {
+	m.reader(name, "counter", help, read)
+}
+
+// Gauge does the same for a number that goes up and down.
+func (m *Metrics) Gauge(name, help string, read func() float64) { m.reader(name, "gauge", help, read) }
+
+func (m *Metrics) reader(name, kind, help string, read func() float64) {
+	m.mutex.Lock()
+	defer m.mutex.Unlock()
+	m.family(name, kind, help).read = read
+}
+
+// buckets are the upper bounds of the times of requests, in seconds.
+var buckets = [...]float64{0.001, 0.005, 0.01, 0.05, 0.1, 0.5, 1, 5, 10, 60}
+
+// Observe counts a time in seconds into a histogram.
+func (m *Metrics) Observe(name, help string, seconds float64, labels ...string) {
+	m.mutex.Lock()
+	defer m.mutex.Unlock()
+	it := m.family(name, "histogram", help)
+	for _, bound := range buckets {
+		if seconds <= bound {
+			it.values["_bucket"+labelText(append(labels, "le", fmt.Sprint(bound)))]++
+		} else {
+			it.values["_bucket"+labelText(append(labels, "le", fmt.Sprint(bound)))] += 0
+		}
+	}
+	it.values["_bucket"+labelText(append(labels, "le", "+Inf"))]++
+	it.values["_sum"+labelText(labels)] += seconds
+	it.values["_count"+labelText(labels)]++
+}
+
+func labelText(labels []string) string {
+	var parts []string
+	for i := 0; i+1 < len(labels); i += 2 {
+		parts = append(parts, fmt.Sprintf("%s=%q", labels[i], labels[i+1]))
+	}
+	if len(parts) == 0 {
+		return ""
+	}
+	return "{" + strings.Join(parts, ",") + "}"
+}
+
+// Text writes all counts.
+func (m *Metrics) Text(to io.Writer) {
+	m.mutex.Lock()
+	defer m.mutex.Unlock()
+	for _, name := range sorted(m.families) {
+		it := m.families[name]
+		fmt.Fprintf(to, "# HELP %s %s\n# TYPE %s %s\n", name, it.help, name, it.kind)
+		if it.read != nil {
+			fmt.Fprintf(to, "%s %v\n", name, it.read())
+		}
+		for _, labels := range sorted(it.values) {
+			fmt.Fprintf(to, "%s%s %v\n", name, labels, it.values[labels])
+		}
+	}
+}
+
+func sorted[T any](of map[string]T) []string {
+	names := make([]string, 0, len(of))
+	for name := range of {
+		names = append(names, name)
+	}
+	sort.Strings(names)
+	return names
+}

@@ -1,0 +1,136 @@
+package objects
+
+import (
+	"bytes"
+	"regexp"
+	"strconv"
+
+	"gitpoold/tenants"
+)
+
+// Suspect is an object that receive.fsckObjects of git-config(1) refuses, though a tenant could keep it.
+func suspect(kind string, name tenants.Name, format string, values ...any) error {
+	r := refuse(format, values...)
+	r.Why = kind + " " + short(name) + " " + r.Why + ", which is not taken here"
+	return r
+}
+
+// FsckCommit gives a *Refusal where git's fsck finds a fault in a commit that a tenant could keep.
+func FsckCommit(name tenants.Name, c *Commit, contents []byte) error {
+	if bytes.IndexByte(contents, 0) >= 0 {
+		return suspect("commit", name, "has a byte 0")
+	}
+	for _, line := range c.Lines[:2] {
+		word, ident, _ := bytes.Cut(line, []byte(" "))
+		if why := fsckIdent(ident); why != "" {
+			return suspect("commit", name, "has an %s line with %s", word, why)
+		}
+	}
+	return nil
+}
+
+// FsckTag does the same for a tag.
+func FsckTag(name tenants.Name, t *Tag, contents []byte) error {
+	head := contents[:len(contents)-len(t.Message)]
+	if bytes.IndexByte(head, 0) >= 0 {
+		return suspect("tag", name, "has a byte 0 in its header")
+	}
+	if t.Tagger != nil {
+		if why := fsckIdent(bytes.TrimPrefix(t.Tagger, []byte("tagger "))); why != "" {
+			return suspect("tag", name, "has a tagger line with %s", why)
+		}
+	}
+	return nil
+}
+
+var dateForm = regexp.MustCompile(`> (0|[1-9][0-9]*) [+-][0-9]{4}$`)
+
+// fsckIdent says what is wrong with an ident that a tenant could keep, or nothing.
+func fsckIdent(ident []byte) string {
+	found := dateForm.FindSubmatch(ident)
+	if found == nil {
+		return "a date that begins with zeros"
+	}
+	if _, err := strconv.ParseInt(string(found[1]), 10, 64); err != nil {
+		return "a date beyond all time"
+	}
+	return ""
+}
+
+// Special says which of the files that git reads by itself a blob is; one may be both.
+type Special int
+
+// The files that git reads by itself.
+const (
+	Modules Special = 1 << iota
+	Attributes
+)
+
+// FsckTree gives a *Refusal where git's fsck finds a fault in a tree that a tenant could keep. It calls found with the name of
+// each blob that git reads by itself, .gitmodules or .gitattributes in any disguise.
+func FsckTree(name tenants.Name, contents []byte, found func(tenants.Name, Special)) error {
+	for rest := contents; len(rest) > 0; {
+		entry, after, ok := NextEntry(rest)
+		if !ok {
+			break
+		}
+		if err := fsckEntry(name, entry, found); err != nil {
+			return err
+		}
+		rest = after
+	}
+	return nil
+}
+
+func fsckEntry(name tenants.Name, entry Entry, found func(tenants.Name, Special)) error {
+	if entry.Name.IsZero() {
+		return suspect("tree", name, "has an entry `%s` that names no object", shown(entry.Path))
+	}
+	if isPlain(entry.Path) {
+		return nil
+	}
+	if isDotGit(entry.Path) {
+		return suspect("tree", name, "has an entry `%s`, which some systems take for .git", shown(entry.Path))
+	}
+	isLink := string(entry.Mode) == ModeLink
+	if isModules(entry.Path) {
+		if isLink {
+			return suspect("tree", name, "has .gitmodules as a symbolic link")
+		}
+		found(entry.Name, Modules)
+	}
+	if isDotFile(entry.Path, attributesFile) && !isLink {
+		found(entry.Name, Attributes)
+	}
+	return nil
+}
+
+// Most of a .gitattributes file that git reads.
+const (
+	longestAttributes     = 100 << 20
+	longestAttributesLine = 2048
+)
+
+// FsckSpecial gives a *Refusal where a file that git reads by itself would do harm, or is no blob.
+func FsckSpecial(o tenants.Object, special Special) error {
+	if o.Kind != tenants.Blob {
+		return suspect(o.Kind.String(), o.Name, "stands where git reads a file")
+	}
+	if special&Modules != 0 {
+		if why := fsckModules(o.Contents); why != "" {
+			return suspect("blob", o.Name, "is a .gitmodules with %s", why)
+		}
+	}
+	if special&Attributes == 0 {
+		return nil
+	}
+	if len(o.Contents) > longestAttributes {
+		return suspect("blob", o.Name, "is a .gitattributes of more than %d bytes", longestAttributes)
+	}
+	for _, line := range bytes.Split(o.Contents, []byte("\n")) {
+		if len(line) >= longestAttributesLine {
+			return suspect("blob", o.Name, "is a .gitattributes with a line of more than %d bytes", longestAttributesLine-1)
+		}
+	}
+	return nil
+}

@@ -1,0 +1,218 @@
+package operator
+
+import (
+	"bufio"
+	"context"
+	"net"
+	"time"
+
+	"gitpoold/frames"
+	"gitpoold/tenants"
+)
+
+const (
+	// mostAhead is how many batches of one connection may be without an answer.
+	mostAhead = 256
+	// mostTogether is how many questions go to the child as one batch, where they came together.
+	mostTogether = 64
+	// openPatience is how long an Open waits for a push of the same tenant.
+	openPatience = 5 * time.Second
+)
+
+// session is a connection that speaks frames.
+type session struct {
+	door    *Door
+	conn    net.Conn
+	in      *bufio.Reader
+	streams map[string]*tenants.FrameStream
+	answers chan func(context.Context) ([]frames.Answer, error)
+}
+
+// speakFrames answers frames as `gitpool serve` does, until the client ends between frames, a frame is wrong, or the client is silent
+// for too long with a stream open. Streams that are open then are given up.
+func (d *Door) speakFrames(ctx context.Context, conn net.Conn, in *bufio.Reader) {
+	ctx, stop := context.WithCancel(ctx)
+	defer stop()
+	s := &session{d, conn, in, map[string]*tenants.FrameStream{}, make(chan func(context.Context) ([]frames.Answer, error), mostAhead)}
+	written := make(chan struct{})
+	go func() {
+		defer close(written)
+		s.write(ctx)
+	}()
+	s.read(ctx)
+	for _, stream := range s.streams {
+		stream.GiveUp()
+	}
+	close(s.answers)
+	<-written
+}
+
+// read takes frames until there is no more to take.
+func (s *session) read(ctx context.Context) {
+	for {
+		var until time.Time
+		if len(s.streams) > 0 {
+			until = time.Now().Add(s.door.site.Limits.Get().FrameIdle)
+		}
+		if s.conn.SetReadDeadline(until) != nil {
+			return
+		}
+		step, err := frames.ReadStep(s.in)
+		if err != nil || !s.take(ctx, step) {
+			return
+		}
+	}
+}
+
+// take passes a step on, and tells whether the connection goes on.
+func (s *session) take(ctx context.Context, step frames.Step) bool {
+	switch step.Kind {
+	case frames.Ask:
+		return s.ask(ctx, step)
+	case frames.Open:
+		return s.open(ctx, step.Tenant)
+	case frames.Feed:
+		return s.feed(ctx, step)
+	case frames.End:
+		return s.end(ctx, step.Tenant)
+	}
+	for tenant, stream := range s.streams {
+		stream.GiveUp()
+		delete(s.streams, tenant)
+	}
+	return s.tell(frames.Answer{})
+}
+
+// ask asks a question, and those that came together with it.
+func (s *session) ask(ctx context.Context, first frames.Step) bool {
+	batch := []frames.Step{first}
+	for len(batch) < mostTogether && s.hasWholeAsk() {
+		next, err := frames.ReadStep(s.in)
+		if err != nil {
+			return false
+		}
+		batch = append(batch, next)
+	}
+	wait, err := s.door.site.Pool.Pass(ctx, batch)
+	if err == nil {
+		s.answers <- wait
+	}
+	return err == nil
+}
+
+// hasWholeAsk tells whether a whole Ask has come already.
+func (s *session) hasWholeAsk() bool {
+	if s.in.Buffered() < 7 {
+		return false
+	}
+	head, _ := s.in.Peek(3)
+	name := 3 + int(head[1])<<8 + int(head[2])
+	if frames.Kind(head[0]) != frames.Ask || s.in.Buffered() < name+4 {
+		return false
+	}
+	head, _ = s.in.Peek(name + 4)
+	size := int(head[name])<<24 | int(head[name+1])<<16 | int(head[name+2])<<8 | int(head[name+3])
+	return s.in.Buffered() >= name+4+size
+}
+
+func (s *session) open(ctx context.Context, name string) bool {
+	if s.streams[name] != nil {
+		return s.refuse(31)
+	}
+	tenant, err := s.door.site.Pool.Tenant(name)
+	if err != nil {
+		return s.fail(err)
+	}
+	patient, stop := context.WithTimeout(ctx, openPatience)
+	defer stop()
+	stream, err := tenant.OpenFrames(patient)
+	if err != nil {
+		return s.fail(err)
+	}
+	s.streams[name] = stream
+	return s.tell(frames.Answer{})
+}
+
+func (s *session) feed(ctx context.Context, step frames.Step) bool {
+	stream := s.streams[step.Tenant]
+	if stream == nil {
+		return s.withoutStream(step.Tenant)
+	}
+	wait, err := stream.Feed(ctx, step.Body)
+	if err != nil {
+		return s.fail(err)
+	}
+	s.answers <- func(ctx context.Context) ([]frames.Answer, error) {
+		answer, err := wait(ctx)
+		if answer.Status == frames.Memory {
+			s.door.store.WantSave()
+		}
+		return []frames.Answer{answer}, err
+	}
+	return true
+}
+
+func (s *session) end(ctx context.Context, name string) bool {
+	stream := s.streams[name]
+	if stream == nil {
+		return s.withoutStream(name)
+	}
+	answer, err := stream.End(ctx)
+	if err != nil && tenants.ErrorNumber(err) > 0 {
+		return s.fail(err)
+	}
+	if err != nil {
+		return false
+	}
+	delete(s.streams, name)
+	return s.tell(answer)
+}
+
+// withoutStream answers a step that needs a stream, as the service does: a bad name comes first.
+func (s *session) withoutStream(name string) bool {
+	if !tenants.ValidName(name) {
+		return s.refuse(32)
+	}
+	return s.refuse(30)
+}
+
+func (s *session) fail(err error) bool {
+	number := tenants.ErrorNumber(err)
+	if number == 0 {
+		s.door.site.Log.Printf("a client of frames is closed: %v", err)
+		return false
+	}
+	return s.refuse(number)
+}
+
+func (s *session) refuse(number int) bool {
+	return s.tell(frames.Answer{Status: frames.Fault, Value: uint64(number)})
+}
+
+func (s *session) tell(answer frames.Answer) bool {
+	s.answers <- func(context.Context) ([]frames.Answer, error) { return []frames.Answer{answer}, nil }
+	return true
+}
+
+// write writes answers in order. Where one does not come, or the client takes nothing, the connection is closed.
+func (s *session) write(ctx context.Context) {
+	out := bufio.NewWriterSize(s.conn, 1<<16)
+	failed := false
+	for wait := range s.answers {
+		if failed {
+			continue
+		}
+		answers, err := wait(ctx)
+		for i := 0; i < len(answers) && err == nil; i++ {
+			_, err = out.Write(answers[i].AppendTo(nil))
+		}
+		if err == nil && len(s.answers) == 0 {
+			err = out.Flush()
+		}
+		if err != nil {
+			failed = true
+			s.conn.Close()
+		}
+	}
+	_ = out.Flush()
+}

@@ -1,0 +1,281 @@
+// Package operator answers at a unix socket, to whoever may open it: frames, as `gitpool serve` takes them, of any tenant; and the
+// commands of the operator, a line each, such as `status`.
+package operator
+
+import (
+	"bufio"
+	"context"
+	"errors"
+	"fmt"
+	"io"
+	"net"
+	"os"
+	"strings"
+	"sync"
+	"time"
+
+	"gitpoold/site"
+	"gitpoold/store"
+	"gitpoold/tenants"
+)
+
+// Door is a server's socket.
+type Door struct {
+	site  *site.Site
+	store *store.Store
+}
+
+// New gives the socket of a site over a store.
+func New(s *site.Site, over *store.Store) *Door { return &Door{s, over} }
+
+// Listen makes a socket that only the server's user may open, in the place of one that no server has.
+func Listen(path string) (net.Listener, error) {
+	if c, err := net.Dial("unix", path); err == nil {
+		c.Close()
+		return nil, fmt.Errorf("%s: another server answers there", path)
+	}
+	if err := os.Remove(path); err != nil && !errors.Is(err, os.ErrNotExist) {
+		return nil, err
+	}
+	listener, err := net.Listen("unix", path)
+	if err != nil {
+		return nil, err
+	}
+	return listener, os.Chmod(path, 0o600)
+}
+
+// Serve answers connections until the context is done; those that are open are closed then, and their streams given up.
+func (d *Door) Serve(ctx context.Context, listener net.Listener) error {
+	listener = d.site.Limits.Listen(listener)
+	var all sync.WaitGroup
+	defer all.Wait()
+	stopped := make(chan struct{})
+	defer close(stopped)
+	go func() {
+		select {
+		case <-ctx.Done():
+		case <-stopped:
+		}
+		listener.Close()
+	}()
+	for {
+		conn, err := listener.Accept()
+		switch {
+		case err == nil:
+		case ctx.Err() != nil:
+			return nil
+		case errors.Is(err, net.ErrClosed):
+			return err
+		default:
+			// The process may have too many open files for the moment.
+			d.site.Log.Printf("the socket takes no connection: %v", err)
+			time.Sleep(100 * time.Millisecond)
+			continue
+		}
+		all.Add(1)
+		go func() {
+			defer all.Done()
+			d.answer(ctx, conn)
+		}()
+	}
+}
+
+// answer answers one connection. Its first byte says what it is: the kind of a frame, or a letter of a command.
+func (d *Door) answer(ctx context.Context, conn net.Conn) {
+	defer conn.Close()
+	ctx, stop := context.WithCancel(ctx)
+	defer stop()
+	go func() {
+		<-ctx.Done()
+		conn.Close()
+	}()
+	in := bufio.NewReaderSize(conn, 1<<16)
+	first, err := in.Peek(1)
+	if err != nil {
+		return
+	}
+	if first[0] < ' ' {
+		d.speakFrames(ctx, conn, in)
+		return
+	}
+	d.obey(ctx, conn, in)
+}
+
+const longestCommand = 4096
+
+// obey reads a command's line, and answers `ok` or `error SENTENCE`, and what there is to tell.
+func (d *Door) obey(ctx context.Context, conn net.Conn, in *bufio.Reader) {
+	if conn.SetReadDeadline(time.Now().Add(d.site.Limits.Get().Handshake)) != nil {
+		return
+	}
+	line, err := bufio.NewReader(io.LimitReader(in, longestCommand)).ReadString('\n')
+	if err != nil {
+		return
+	}
+	began := time.Now()
+	text, err := d.command(ctx, strings.Fields(line))
+	d.site.Log.Printf("the operator said %q: %v, %.1f s", strings.TrimSpace(line), err, time.Since(began).Seconds())
+	if err != nil {
+		fmt.Fprintf(conn, "error %s\n", err)
+		return
+	}
+	fmt.Fprintf(conn, "ok\n%s", text)
+}
+
+func (d *Door) command(ctx context.Context, words []string) (string, error) {
+	if len(words) == 0 {
+		return "", errors.New("there is no command")
+	}
+	known := map[string]struct {
+		words int
+		do    func(ctx context.Context, words []string) (string, error)
+	}{
+		"status":  {0, d.status},
+		"save":    {0, d.save},
+		"tenants": {0, d.tenants},
+		"copy":    {2, d.copy},
+		"remove":  {1, d.cannot},
+		"compact": {1, d.cannot},
+	}
+	it, found := known[words[0]]
+	if !found || len(words)-1 != it.words {
+		return "", fmt.Errorf("there is no command %q with %d words", words[0], len(words)-1)
+	}
+	return it.do(ctx, words)
+}
+
+func (d *Door) cannot(_ context.Context, words []string) (string, error) {
+	return "", fmt.Errorf("the child `gitpool serve` cannot %s a tenant; nothing was changed", words[0])
+}
+
+func (d *Door) save(ctx context.Context, _ []string) (string, error) {
+	return "", d.store.Save(ctx)
+}
+
+func (d *Door) copy(ctx context.Context, words []string) (string, error) {
+	for _, name := range words[1:] {
+		if _, err := d.site.Pool.Tenant(name); err != nil {
+			return "", err
+		}
+	}
+	err := d.store.Copy(ctx, words[1], words[2])
+	var refused *store.Refused
+	if errors.As(err, &refused) {
+		err = tenants.Fault{Number: refused.Number}
+	}
+	return "", err
+}
+
+// tenants has a line for each tenant.
+func (d *Door) tenants(context.Context, []string) (string, error) {
+	var text strings.Builder
+	for _, it := range d.store.Usages() {
+		fmt.Fprintf(&text, "%s objects %d refs %d bytes %d since-save %d quota %d\n", it.Name, it.Objects, it.Refs, it.Bytes, it.Since,
+			d.site.Limits.Quota(it.Name))
+	}
+	return text.String(), nil
+}
+
+// status has a line for each number.
+func (d *Door) status(context.Context, []string) (string, error) {
+	state := d.store.State()
+	var text strings.Builder
+	line := func(name string, value any) { fmt.Fprintf(&text, "%-18s %v\n", name, value) }
+	line("version", d.site.Version)
+	line("answering", state.IsAnswering)
+	line("child", state.ChildPid)
+	line("child-bytes", residentBytes(state.ChildPid))
+	line("server-bytes", residentBytes(os.Getpid()))
+	line("connections", d.site.Limits.Connections())
+	line("streams", state.Streams)
+	line("steps", state.Steps)
+	line("pushes", state.Pushes)
+	line("given-up", state.GivenUp)
+	line("journal-bytes", state.JournalBytes)
+	line("journal-segments", fmt.Sprintf("%d to %d", state.FirstSegment, state.LastSegment))
+	line("journal-records", state.Records)
+	line("journal-broken", state.JournalBroken)
+	line("saves", state.Saves)
+	line("failed-saves", state.FailedSaves)
+	line("last-save", when(state.LastSave))
+	line("children-replaced", state.Recoveries)
+	return text.String(), nil
+}
+
+func when(t time.Time) string {
+	if t.IsZero() {
+		return "-"
+	}
+	return t.UTC().Format(time.RFC3339)
+}
+
+// residentBytes is how much memory a process has, 0 where that is not known.
+func residentBytes(pid int) int64 {
+	text, err := os.ReadFile(fmt.Sprintf("/proc/%d/statm", pid))
+	var size, resident int64
+	if err != nil {
+		return 0
+	}
+	if _, err := fmt.Sscan(string(text), &size, &resident); err != nil {
+		return 0
+	}
+	return resident * int64(os.Getpagesize())
+}
+
+// Measure lets metrics tell how the store stands.
+func (d *Door) Measure() {
+	m := d.site.Metrics
+	number := func(read func(store.State) int64) func() float64 {
+		return func() float64 { return float64(read(d.store.State())) }
+	}
+	m.Counter("gitpoold_steps_total", "Steps that the child was sent.", number(func(s store.State) int64 { return s.Steps }))
+	m.Counter("gitpoold_pushes_total", "Streams that ended well.", number(func(s store.State) int64 { return s.Pushes }))
+	m.Counter("gitpoold_streams_given_up_total", "Streams that were given up.", number(func(s store.State) int64 { return s.GivenUp }))
+	m.Counter("gitpoold_saves_total", "Saves of the pool file.", number(func(s store.State) int64 { return s.Saves }))
+	m.Counter("gitpoold_failed_saves_total", "Saves that failed.", number(func(s store.State) int64 { return s.FailedSaves }))
+	m.Counter("gitpoold_children_replaced_total", "Children that ended although nobody told them to.",
+		number(func(s store.State) int64 { return s.Recoveries }))
+	m.Gauge("gitpoold_journal_bytes", "The size of the journal.", number(func(s store.State) int64 { return s.JournalBytes }))
+	m.Gauge("gitpoold_journal_broken", "1 while the journal takes no pushes.", number(func(s store.State) int64 { return one(s.JournalBroken) }))
+	m.Gauge("gitpoold_answering", "1 while questions are answered, 0 while the child is replaced or a save is made.",
+		number(func(s store.State) int64 { return one(s.IsAnswering) }))
+	m.Gauge("gitpoold_open_streams", "Streams that are open.", number(func(s store.State) int64 { return int64(s.Streams) }))
+	m.Gauge("gitpoold_connections", "Connections that are open.", func() float64 { return float64(d.site.Limits.Connections()) })
+	m.Gauge("gitpoold_child_resident_bytes", "The memory of the child.",
+		number(func(s store.State) int64 { return residentBytes(s.ChildPid) }))
+	m.Gauge("gitpoold_server_resident_bytes", "The memory of the server.", func() float64 { return float64(residentBytes(os.Getpid())) })
+}
+
+func one(is bool) int64 {
+	if is {
+		return 1
+	}
+	return 0
+}
+
+// Call sends a command to the server of a socket, and gives its text. An error is the server's sentence.
+func Call(path string, words ...string) (string, error) {
+	conn, err := net.Dial("unix", path)
+	if err != nil {
+		return "", ErrNoServer
+	}
+	defer conn.Close()
+	if _, err := fmt.Fprintln(conn, strings.Join(words, " ")); err != nil {
+		return "", err
+	}
+	text, err := io.ReadAll(conn)
+	if err != nil {
+		return "", err
+	}
+	head, rest, _ := strings.Cut(string(text), "\n")
+	if head == "ok" {
+		return rest, nil
+	}
+	if sentence := strings.TrimPrefix(head, "error "); sentence != head {
+		return "", errors.New(sentence)
+	}
+	return "", errors.New("the server ended before it answered")
+}
+
+// ErrNoServer says that no server answers at a socket.
+var ErrNoServer = errors.New("no server runs there")

@@ -1,0 +1,277 @@
+package operator
+
+import (
+	"bufio"
+	"bytes"
+	"context"
+	"fmt"
+	"io"
+	"math/rand"
+	"net"
+	"os"
+	"os/exec"
+	"path/filepath"
+	"strings"
+	"testing"
+	"time"
+
+	"gitpoold/access"
+	"gitpoold/frames"
+	"gitpoold/limits"
+	"gitpoold/logs"
+	"gitpoold/metrics"
+	"gitpoold/site"
+	"gitpoold/store"
+	"gitpoold/tenants"
+)
+
+var background = context.Background()
+
+// served starts a door over an empty pool, and gives its folder.
+func served(t testing.TB, limitLines string) string {
+	t.Helper()
+	program := os.Getenv("GITPOOL")
+	if program == "" {
+		t.Skip("GITPOOL names no program")
+	}
+	folder := t.TempDir()
+	must(t, store.Create(folder, program))
+	must(t, os.WriteFile(filepath.Join(folder, "limits"), []byte(limitLines), 0o600))
+	m := metrics.New()
+	log := logs.New(io.Discard, m)
+	bounds, err := limits.Load(folder, log.Printf)
+	must(t, err)
+	who, err := access.Load(folder, log.Printf)
+	must(t, err)
+	s, err := store.Open(store.Config{Folder: folder, Program: program, Patience: 200 * time.Millisecond, Tell: log.Printf})
+	must(t, err)
+	door := New(&site.Site{Pool: tenants.New(s, bounds.Quota), Access: who, Limits: bounds, Log: log, Metrics: m, Version: "9"}, s)
+	door.Measure()
+	listener, err := Listen(folder + "/socket")
+	must(t, err)
+	ctx, stop := context.WithCancel(background)
+	ended := make(chan error)
+	go func() { ended <- door.Serve(ctx, listener) }()
+	t.Cleanup(func() {
+		stop()
+		must(t, <-ended)
+		must(t, s.Close(background))
+	})
+	return folder
+}
+
+func must(t testing.TB, err error) {
+	t.Helper()
+	if err != nil {
+		t.Fatal(err)
+	}
+}
+
+func dialed(t testing.TB, folder string) net.Conn {
+	t.Helper()
+	conn, err := net.Dial("unix", folder+"/socket")
+	must(t, err)
+	t.Cleanup(func() { conn.Close() })
+	return conn
+}
+
+// steps makes steps of some tenants at random: good ones, and ones that are refused.
+func steps(random *rand.Rand, count int) (all []frames.Step) {
+	bodies := []string{"commit refs/heads/main\ncommitter a <a@b> 1 +0000\ndata 1\nx\n", "checkpoint\n", "blob\nmark :1\ndata 3\nabc\nget-mark :1\n",
+		"no command\n", "progress on\n", "feature done\n", "reset refs/heads/other\nfrom refs/heads/main^0\n\n", "data", ""}
+	queries := []string{"refs", "head", "log main", "cat main", "rev-parse f2ba", "no query", "export", strings.Repeat("x", 9000)}
+	names := []string{"a", "acme/site", "b", "../bad", ""}
+	for i := 0; i < count; i++ {
+		step := frames.Step{Kind: frames.Kind(1 + random.Intn(4)), Tenant: names[random.Intn(len(names)*3)%5]}
+		switch step.Kind {
+		case frames.Feed:
+			step.Body = []byte(bodies[random.Intn(len(bodies))])
+		case frames.Ask:
+			step.Body = []byte(queries[random.Intn(len(queries))])
+		}
+		if random.Intn(40) == 0 {
+			step = frames.Step{Kind: frames.Restart}
+		}
+		all = append(all, step)
+	}
+	// A stream that has said `done` takes no more, and is given up all the same.
+	return append(all, frames.Step{Kind: frames.Open, Tenant: "c"}, frames.Step{Kind: frames.Feed, Tenant: "c", Body: []byte("done\n")},
+		frames.Step{Kind: frames.Restart}, frames.Step{Kind: frames.Open, Tenant: "c"})
+}
+
+// TestFramesAreAnsweredAsByServe sends the same steps to the socket and to `gitpool serve`.
+func TestFramesAreAnsweredAsByServe(t *testing.T) {
+	for seed := int64(0); seed < 2; seed++ {
+		var text []byte
+		all := steps(rand.New(rand.NewSource(seed)), 300)
+		for _, step := range all {
+			text = step.AppendTo(text)
+		}
+		folder := served(t, "")
+		conn := dialed(t, folder).(*net.UnixConn)
+		go func() {
+			conn.Write(text)
+			conn.CloseWrite()
+		}()
+		got, err := io.ReadAll(conn)
+		must(t, err)
+		command := exec.Command(os.Getenv("GITPOOL"), "serve", "--pool", filepath.Join(t.TempDir(), "pool"))
+		command.Stdin = bytes.NewReader(text)
+		want, err := command.Output()
+		must(t, err)
+		compare(t, seed, all, got, want)
+	}
+}
+
+func compare(t *testing.T, seed int64, all []frames.Step, got, want []byte) {
+	t.Helper()
+	mine, theirs := bufio.NewReader(bytes.NewReader(got)), bufio.NewReader(bytes.NewReader(want))
+	for i, step := range all {
+		wanted, err := frames.ReadAnswer(theirs)
+		must(t, err)
+		answer, err := frames.ReadAnswer(mine)
+		if err != nil || answer.Status != wanted.Status || answer.Value != wanted.Value || !bytes.Equal(answer.Reply, wanted.Reply) {
+			t.Fatalf("seed %d, step %d, %d %q %.40q: %v %d %.60q %v, wanted %d %.60q", seed, i, step.Kind, step.Tenant, step.Body,
+				answer.Status, answer.Value, answer.Reply, err, wanted.Value, wanted.Reply)
+		}
+	}
+}
+
+func ask(t testing.TB, conn net.Conn, step frames.Step) frames.Answer {
+	t.Helper()
+	_, err := conn.Write(step.AppendTo(nil))
+	must(t, err)
+	answer, err := frames.ReadAnswer(bufio.NewReaderSize(conn, 16))
+	must(t, err)
+	return answer
+}
+
+func TestWrongFramesCloseTheConnection(t *testing.T) {
+	folder := served(t, "")
+	for _, text := range []string{"\x06", "\x01\x00\x01t\x00\x00\x00\x01", "\x10\x00\x00\x00\x00\x00\x00"} {
+		conn := dialed(t, folder)
+		conn.Write([]byte(text))
+		if got, err := io.ReadAll(conn); len(got) > 0 || err != nil {
+			t.Errorf("%q: %q %v", text, got, err)
+		}
+	}
+	if answer := ask(t, dialed(t, folder), frames.Step{Kind: frames.Ask, Tenant: "a", Body: []byte("head")}); answer.Status != frames.Ok {
+		t.Fatal(answer)
+	}
+}
+
+// TestALostConnectionGivesItsStreamUp has a client that goes away, or falls silent, in the middle of a stream.
+func TestALostConnectionGivesItsStreamUp(t *testing.T) {
+	folder := served(t, "frame-idle 200ms\n")
+	for _, silent := range []bool{false, true} {
+		conn := dialed(t, folder)
+		ask(t, conn, frames.Step{Kind: frames.Open, Tenant: "a"})
+		ask(t, conn, frames.Step{Kind: frames.Feed, Tenant: "a", Body: []byte("reset refs/heads/main\n")})
+		if !silent {
+			conn.Close()
+		}
+		other := dialed(t, folder)
+		if answer := ask(t, other, frames.Step{Kind: frames.Open, Tenant: "a"}); answer.Status != frames.Ok {
+			t.Fatal(silent, answer)
+		}
+		if answer := ask(t, other, frames.Step{Kind: frames.End, Tenant: "a"}); answer.Status != frames.Ok {
+			t.Fatal(silent, answer)
+		}
+	}
+}
+
+func TestCommands(t *testing.T) {
+	folder := served(t, "quota acme/site 5M\n")
+	conn := dialed(t, folder)
+	ask(t, conn, frames.Step{Kind: frames.Open, Tenant: "acme/site"})
+	ask(t, conn, frames.Step{Kind: frames.Feed, Tenant: "acme/site", Body: []byte("commit refs/heads/main\ncommitter a <a@b> 1 +0000\ndata 1\nx\n")})
+	ask(t, conn, frames.Step{Kind: frames.End, Tenant: "acme/site"})
+	call := func(words ...string) string {
+		text, err := Call(folder+"/socket", words...)
+		if err != nil {
+			return "error: " + err.Error()
+		}
+		return text
+	}
+	if got := call("tenants"); got != "acme/site objects 0 refs 0 bytes 0 since-save 58 quota 5242880\n" {
+		t.Error(got)
+	}
+	if got := call("save"); got != "" {
+		t.Error(got)
+	}
+	if got := call("tenants"); got != "acme/site objects 2 refs 1 bytes 97 since-save 0 quota 5242880\n" {
+		t.Error(got)
+	}
+	for _, line := range []string{"version            9", "saves              1", "pushes             1", "answering          true"} {
+		if got := call("status"); !strings.Contains(got, line+"\n") {
+			t.Errorf("no line %q in\n%s", line, got)
+		}
+	}
+	if call("copy", "acme/site", "acme/fork") != "" || !strings.Contains(call("tenants"), "acme/fork objects 2 ") {
+		t.Error(call("tenants"))
+	}
+	refusesCommands(t, call)
+	if _, err := Call(folder+"/none", "status"); err != ErrNoServer {
+		t.Error(err)
+	}
+}
+
+func refusesCommands(t *testing.T, call func(words ...string) string) {
+	t.Helper()
+	for want, words := range map[string][]string{
+		"the target of the copy is not empty (fault 33)": {"copy", "acme/site", "acme/fork"},
+		"the name of the repository is bad (fault 32)":   {"copy", "acme/site", "../x"},
+		"cannot remove a tenant; nothing was changed":    {"remove", "acme/site"},
+		"cannot compact a tenant; nothing was changed":   {"compact", "acme/site"},
+		`there is no command "what" with 0 words`:        {"what"},
+		`there is no command "save" with 1 words`:        {"save", "now"},
+	} {
+		if got := call(words...); !strings.Contains(got, want) {
+			t.Errorf("%v: %q", words, got)
+		}
+	}
+}
+
+func TestASocketThatIsAnsweredIsNotTaken(t *testing.T) {
+	folder := served(t, "")
+	if _, err := Listen(folder + "/socket"); err == nil {
+		t.Fatal("taken")
+	}
+	info, err := os.Stat(folder + "/socket")
+	if err != nil || info.Mode().Perm() != 0o600 {
+		t.Fatal(info.Mode(), err)
+	}
+	dead, err := net.Listen("unix", folder+"/dead")
+	must(t, err)
+	dead.(*net.UnixListener).SetUnlinkOnClose(false)
+	dead.Close()
+	again, err := Listen(folder + "/dead")
+	must(t, err)
+	again.Close()
+}
+
+func BenchmarkQuestions(b *testing.B) {
+	folder := served(b, "")
+	step := frames.Step{Kind: frames.Ask, Tenant: "acme/site", Body: []byte("head")}
+	for _, ahead := range []int{1, 32} {
+		b.Run(fmt.Sprint("ahead ", ahead), func(b *testing.B) {
+			b.SetParallelism(8)
+			b.RunParallel(func(pb *testing.PB) {
+				conn := dialed(b, folder)
+				in := bufio.NewReader(conn)
+				for more := true; more; {
+					var text []byte
+					count := 0
+					for ; count < ahead && more; count++ {
+						text = step.AppendTo(text)
+						more = pb.Next()
+					}
+					conn.Write(text)
+					for ; count > 0; count-- {
+						frames.ReadAnswer(in)
+					}
+				}
+			})
+		})
+	}
+}

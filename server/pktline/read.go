@@ -1,0 +1,124 @@
+// Package pktline reads and writes pkt-lines and side bands: gitprotocol-common(5), gitprotocol-pack(5), gitprotocol-v2(5).
+package pktline
+
+import (
+	"bufio"
+	"bytes"
+	"errors"
+	"fmt"
+	"io"
+)
+
+// LongestData is how many bytes a pkt-line has at most after its four digits.
+const LongestData = 65516
+
+// Kind says what a packet is: a line, or one of the three packets that have no data.
+type Kind int
+
+// The kinds of packets.
+const (
+	Data Kind = iota
+	Flush
+	Delim
+	ResponseEnd
+)
+
+// Packet is one packet. Text is the data of a line without its line end.
+type Packet struct {
+	Kind Kind
+	Text []byte
+}
+
+// ErrMalformed says that bytes are no pkt-line.
+var ErrMalformed = errors.New("this is no pkt-line")
+
+// ErrTooMuch says that a request has more bytes in lines than its reader was told to take.
+var ErrTooMuch = errors.New("the request has more lines than this server takes")
+
+// Reader reads packets. What follows the last one is left in the reader below it.
+type Reader struct {
+	in    *bufio.Reader
+	left  int64
+	index [4]byte
+}
+
+// NewReader makes a reader of at most so many bytes of lines.
+func NewReader(in *bufio.Reader, most int64) *Reader {
+	return &Reader{in: in, left: most}
+}
+
+// Next gives the next packet. The error is io.EOF only if the input ends before a packet; inside of one it is
+// io.ErrUnexpectedEOF. The text lasts as long as the caller wants.
+func (r *Reader) Next() (Packet, error) {
+	if _, err := io.ReadFull(r.in, r.index[:]); err != nil {
+		return Packet{}, err
+	}
+	size, ok := length(r.index)
+	if !ok {
+		return Packet{}, ErrMalformed
+	}
+	if size < len(r.index) {
+		return special(size)
+	}
+	if r.left -= int64(size); r.left < 0 {
+		return Packet{}, ErrTooMuch
+	}
+	return r.data(size - len(r.index))
+}
+
+func (r *Reader) data(size int) (Packet, error) {
+	text := make([]byte, size)
+	if _, err := io.ReadFull(r.in, text); err != nil {
+		if err == io.EOF {
+			err = io.ErrUnexpectedEOF
+		}
+		return Packet{}, err
+	}
+	return Packet{Data, bytes.TrimSuffix(text, []byte("\n"))}, nil
+}
+
+func special(size int) (Packet, error) {
+	switch size {
+	case 0:
+		return Packet{Kind: Flush}, nil
+	case 1:
+		return Packet{Kind: Delim}, nil
+	case 2:
+		return Packet{Kind: ResponseEnd}, nil
+	}
+	return Packet{}, ErrMalformed
+}
+
+// length reads the four digits in front of a packet.
+func length(digits [4]byte) (size int, ok bool) {
+	for _, digit := range digits {
+		value := bytes.IndexByte([]byte("0123456789abcdef"), lower(digit))
+		if value < 0 {
+			return 0, false
+		}
+		size = size<<4 | value
+	}
+	return size, size <= LongestData+4
+}
+
+func lower(digit byte) byte {
+	if digit >= 'A' && digit <= 'F' {
+		return digit + 'a' - 'A'
+	}
+	return digit
+}
+
+// Show gives bytes of a peer as one line for a message: no control bytes, and not much of it.
+func Show(text []byte) string {
+	const most = 200
+	shown := text
+	if len(shown) > most {
+		shown = shown[:most]
+	}
+	quoted := fmt.Sprintf("%q", shown)
+	quoted = quoted[1 : len(quoted)-1]
+	if len(text) > most {
+		quoted += ".."
+	}
+	return quoted
+}

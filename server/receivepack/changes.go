@@ -1,0 +1,212 @@
+package receivepack
+
+import (
+	"bytes"
+	"errors"
+	"strings"
+
+	"gitpoold/objects"
+	"gitpoold/tenants"
+)
+
+// mostFiles is how many files a branch may have: docs/FORMATS.md.
+const mostFiles = 1_048_576
+
+// changeRoot tells the changes between two trees.
+func (f *feeding) changeRoot(old, new, of tenants.Name) error {
+	if new == objects.EmptyTree && old != new {
+		f.put("deleteall\n")
+		return nil
+	}
+	if _, isOwn := f.own.Kind(new); !isOwn && new != objects.EmptyTree {
+		f.note(new, "commit "+of.String()[:12]+" has the tree")
+	}
+	return f.change(old, new, nil)
+}
+
+// change tells the changes between two trees at a path. What goes comes before what comes, for a file may stand where a directory was.
+func (f *feeding) change(old, new tenants.Name, under []byte) error {
+	if old == new {
+		return nil
+	}
+	before, err := f.tree(old, under)
+	if err != nil {
+		return err
+	}
+	after, err := f.tree(new, under)
+	if err != nil {
+		return err
+	}
+	f.remove(before, after, under)
+	return f.add(before, after, under)
+}
+
+// remove tells which entries go, or are of another kind than before.
+func (f *feeding) remove(before, after, under []byte) {
+	_ = pair(before, after, func(old, new *objects.Entry) error {
+		if new == nil {
+			f.put("D ", objects.Quote(join(under, old.Path)), "\n")
+		}
+		return nil
+	})
+}
+
+func (f *feeding) add(before, after, under []byte) error {
+	return pair(before, after, func(old, new *objects.Entry) error {
+		if f.err != nil {
+			return f.err
+		}
+		if new == nil {
+			return nil
+		}
+		path := join(under, new.Path)
+		if err := objects.CheckPath(path); err != nil {
+			return err
+		}
+		if new.IsTree() {
+			return f.addTree(old, new, path)
+		}
+		return f.addFile(new, path)
+	})
+}
+
+// addTree tells what a directory has. One that the pack has not is the tenant's, and is told by its name.
+func (f *feeding) addTree(old, new *objects.Entry, path []byte) error {
+	if kind, isOwn := f.own.Kind(new.Name); !isOwn {
+		f.note(new.Name, "the path "+shown(path)+" has the tree")
+		f.put("M 040000 ", new.Name.String(), " ", objects.Quote(path), "\n")
+		return nil
+	} else if kind != tenants.Tree {
+		return refusal("the path " + shown(path) + " is a directory, and its object is a " + kind.String())
+	}
+	base := objects.EmptyTree
+	if old != nil {
+		base = old.Name
+	}
+	return f.change(base, new.Name, path)
+}
+
+func (f *feeding) addFile(new *objects.Entry, path []byte) error {
+	kind, isOwn := f.own.Kind(new.Name)
+	if isOwn && kind != tenants.Blob && !new.IsGitlink() {
+		return refusal("the path " + shown(path) + " is a file, and its object is a " + kind.String())
+	}
+	if !isOwn && !new.IsGitlink() {
+		f.note(new.Name, "the path "+shown(path)+" has the blob")
+	}
+	if !isOwn || new.IsGitlink() || f.blobs[new.Name] {
+		f.put("M ", string(new.Mode), " ", new.Name.String(), " ", objects.Quote(path), "\n")
+		return nil
+	}
+	f.blobs[new.Name] = true
+	o, err := f.own.Object(f.ctx, new.Name)
+	if err != nil {
+		return err
+	}
+	f.put("M ", string(new.Mode), " inline ", objects.Quote(path), "\n")
+	f.data(o.Contents)
+	return nil
+}
+
+func shown(path []byte) string { return "`" + strings.ToValidUTF8(string(path), "?") + "`" }
+
+func join(under, path []byte) []byte {
+	if len(under) == 0 {
+		return path
+	}
+	return append(append(append(make([]byte, 0, len(under)+1+len(path)), under...), '/'), path...)
+}
+
+// pair goes through two trees side by side, and leaves out entries that both have. use gets the entries of one name and kind together,
+// and nil for one that is missing.
+func pair(before, after []byte, use func(old, new *objects.Entry) error) error {
+	for len(before)+len(after) > 0 {
+		if size := sharedEntry(before, after); size > 0 {
+			before, after = before[size:], after[size:]
+			continue
+		}
+		old, restOld, hasOld := objects.NextEntry(before)
+		new, restNew, hasNew := objects.NextEntry(after)
+		if !hasOld && !hasNew {
+			return nil
+		}
+		order := orderOf(old, new, hasOld, hasNew)
+		var one, other *objects.Entry
+		if order <= 0 {
+			one, before = &old, restOld
+		}
+		if order >= 0 {
+			other, after = &new, restNew
+		}
+		if err := use(one, other); err != nil {
+			return err
+		}
+	}
+	return nil
+}
+
+// sharedEntry gives the bytes of the first entry where two trees begin with the same one, else 0.
+func sharedEntry(before, after []byte) int {
+	size := bytes.IndexByte(before, 0) + 1 + len(tenants.Name{})
+	if size > len(before) || size > len(after) || size == len(tenants.Name{}) || !bytes.Equal(before[:size], after[:size]) {
+		return 0
+	}
+	return size
+}
+
+// orderOf tells which of two entries comes first; one that is missing comes last.
+func orderOf(old, new objects.Entry, hasOld, hasNew bool) int {
+	switch {
+	case !hasNew:
+		return -1
+	case !hasOld:
+		return 1
+	}
+	return objects.CompareKeys(old, new)
+}
+
+// treeCache has the trees that were read last: the tree of one commit is the base of the next.
+type treeCache struct {
+	young, old map[tenants.Name][]byte
+	size       int
+}
+
+const mostCached = 8 << 20
+
+func (c *treeCache) get(name tenants.Name) ([]byte, bool) {
+	if contents, is := c.young[name]; is {
+		return contents, true
+	}
+	contents, is := c.old[name]
+	return contents, is
+}
+
+func (c *treeCache) put(name tenants.Name, contents []byte) {
+	if c.size += len(contents); c.young == nil || c.size > mostCached {
+		c.old, c.young, c.size = c.young, map[tenants.Name][]byte{}, len(contents)
+	}
+	c.young[name] = contents
+}
+
+// tree gives the bytes of a tree of the pack or of the tenant.
+func (f *feeding) tree(name tenants.Name, path []byte) ([]byte, error) {
+	if name == objects.EmptyTree {
+		return nil, nil
+	}
+	if contents, is := f.trees.get(name); is {
+		return contents, nil
+	}
+	o, err := f.own.Object(f.ctx, name)
+	if errors.Is(err, tenants.ErrMissing) {
+		f.note(name, "the path "+shown(path)+" has the tree")
+		return nil, err
+	}
+	if err != nil {
+		return nil, err
+	}
+	if o.Kind != tenants.Tree {
+		return nil, refusal("the path " + shown(path) + " is a directory, and its object is a " + o.Kind.String())
+	}
+	f.trees.put(name, o.Contents)
+	return o.Contents, nil
+}

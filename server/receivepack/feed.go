@@ -1,0 +1,331 @@
+package receivepack
+
+import (
+	"context"
+	"errors"
+	"fmt"
+
+	"gitpoold/objects"
+	"gitpoold/tenants"
+)
+
+// feeding is the stream of a push, and what it has told so far.
+type feeding struct {
+	*push
+	ctx     context.Context
+	to      *tenants.Stream
+	scratch string
+	blobs   map[tenants.Name]bool   // that were told
+	outside map[tenants.Name]string // objects that the pack has not, and what names them
+	trees   treeCache
+	err     error
+}
+
+// feed tells the stream: commits with what changed since their first parents, then tags, then refs.
+func (p *push) feed(ctx context.Context, to *tenants.Stream) error {
+	f := &feeding{push: p, ctx: ctx, to: to, scratch: p.scratchRef(), blobs: map[tenants.Name]bool{}, outside: map[tenants.Name]string{}}
+	err := f.all()
+	// An object that is missing is told by its name and place, and not by the number of a fault.
+	if missing := f.missing(); missing != nil && (err == nil || tenants.IsSentence(err)) {
+		return missing
+	}
+	return err
+}
+
+func (f *feeding) all() error {
+	if f.head != "" {
+		f.put("option gitpool head ", f.head, "\n")
+	}
+	order, tags, err := f.reached()
+	if err != nil {
+		return err
+	}
+	for _, name := range order {
+		if err := f.commit(name); err != nil {
+			return err
+		}
+	}
+	for _, name := range tags {
+		if err := f.tag(name); err != nil {
+			return err
+		}
+	}
+	if len(order) > 0 {
+		f.put(resetCommand(f.scratch, tenants.Name{}))
+	}
+	return f.setRefs(tags)
+}
+
+// put appends to the stream. An error stays, and expect gives it.
+func (f *feeding) put(parts ...string) {
+	for _, part := range parts {
+		if f.err == nil {
+			_, f.err = f.to.WriteString(part)
+		}
+	}
+}
+
+func (f *feeding) data(contents []byte) {
+	f.put(fmt.Sprintf("data %d\n", len(contents)))
+	if f.err == nil {
+		_, f.err = f.to.Write(contents)
+	}
+	f.put("\n")
+}
+
+// expect asks for the name that mark 1 stands for, which has to be this one.
+func (f *feeding) expect(name tenants.Name) error {
+	if f.err == nil {
+		f.err = f.to.Expect(":1", name)
+	}
+	return f.err
+}
+
+// scratchRef gives a name that no ref has, for the branch that commits are made on.
+func (p *push) scratchRef() string {
+	name := "refs/gitpool/push"
+	for !p.refs[name].IsZero() || !p.was[name].IsZero() {
+		name += "-"
+	}
+	return name
+}
+
+// reached gives the commits of the pack that the changed refs reach, parents first, and the tags, each after what it is of.
+func (f *feeding) reached() (order, tags []tenants.Name, err error) {
+	w := topology{heads: f.heads, state: map[tenants.Name]int8{}}
+	for _, change := range f.good() {
+		tip := change.New
+		var chain []tenants.Name
+		for f.tags[tip] != nil && w.state[tip] == 0 {
+			w.state[tip] = left
+			chain = append(chain, tip)
+			tip = f.tags[tip].Target
+		}
+		for at := len(chain) - 1; at >= 0; at-- {
+			tags = append(tags, chain[at])
+		}
+		w.from(tip)
+	}
+	return w.order, tags, nil
+}
+
+// topology sorts commits, parents first.
+type topology struct {
+	heads map[tenants.Name]objects.Head
+	state map[tenants.Name]int8
+	order []tenants.Name
+}
+
+const (
+	entered = 1
+	left    = 2
+)
+
+func (w *topology) from(tip tenants.Name) {
+	stack := []tenants.Name{tip}
+	for len(stack) > 0 {
+		top := stack[len(stack)-1]
+		head, isOwn := w.heads[top]
+		if !isOwn || w.state[top] != 0 {
+			stack = stack[:len(stack)-1]
+			w.leave(top)
+			continue
+		}
+		w.state[top] = entered
+		for _, parent := range head.Parents {
+			if w.state[parent] == 0 {
+				stack = append(stack, parent)
+			}
+		}
+	}
+}
+
+func (w *topology) leave(name tenants.Name) {
+	if w.state[name] == entered {
+		w.state[name] = left
+		w.order = append(w.order, name)
+	}
+}
+
+// commit tells one commit and asks for its name.
+func (f *feeding) commit(name tenants.Name) error {
+	o, err := f.own.Object(f.ctx, name)
+	if err != nil {
+		return err
+	}
+	c, err := objects.ReadCommit(name, o.Contents)
+	if err != nil {
+		return err
+	}
+	base, err := f.baseOf(name, c)
+	if err != nil {
+		return err
+	}
+	if len(c.Parents) == 0 {
+		f.put("reset ", f.scratch, "\n\n")
+	}
+	f.put("commit ", f.scratch, "\nmark :1\n")
+	for _, line := range c.Lines {
+		f.put(string(line), "\n")
+	}
+	f.data(c.Message)
+	for at, parent := range c.Parents {
+		f.put([2]string{"from ", "merge "}[smaller(at, 1)], parent.String(), "\n")
+	}
+	if err := f.changeRoot(base, c.Tree, name); err != nil {
+		return err
+	}
+	f.put("\n")
+	return f.expect(name)
+}
+
+func smaller(a, b int) int {
+	if a < b {
+		return a
+	}
+	return b
+}
+
+// baseOf gives the tree of the first parent, or the empty tree. All parents have to be in the pack or the tenant's.
+func (f *feeding) baseOf(name tenants.Name, c *objects.Commit) (tenants.Name, error) {
+	base := objects.EmptyTree
+	for at, parent := range c.Parents {
+		head, isOwn := f.heads[parent]
+		if !isOwn && at > 0 {
+			f.note(parent, "commit "+name.String()[:12]+" has the parent")
+			continue
+		}
+		if !isOwn {
+			o, err := f.t.Object(f.ctx, parent)
+			if errors.Is(err, tenants.ErrMissing) {
+				f.note(parent, "commit "+name.String()[:12]+" has the parent")
+				return base, err
+			}
+			if err != nil {
+				return base, err
+			}
+			head = objects.ReadHead(o.Contents)
+		}
+		if at == 0 {
+			base = head.Tree
+		}
+	}
+	return base, nil
+}
+
+// note remembers that the pack has not an object, and what names it.
+func (f *feeding) note(name tenants.Name, what string) {
+	if f.outside[name] == "" {
+		f.outside[name] = what
+	}
+}
+
+// missing finds which object that the pack has not the tenant has not either.
+func (f *feeding) missing() error {
+	names := make([]tenants.Name, 0, len(f.outside))
+	for name := range f.outside {
+		names = append(names, name)
+	}
+	has, err := f.t.Has(f.ctx, names)
+	for at, name := range names {
+		if err == nil && !has[at] {
+			return refusal(f.outside[name] + " " + name.String() + ", which is not here: push from a repository that is whole and not shallow")
+		}
+	}
+	return err
+}
+
+// tag tells an annotated tag and asks for its name. A blob that it is of is told before it.
+func (f *feeding) tag(name tenants.Name) error {
+	tag := f.tags[name]
+	if kind, isOwn := f.own.Kind(tag.Target); isOwn && kind.String() != tag.Kind {
+		return refusal("tag " + name.String()[:12] + " says that it is of a " + tag.Kind + ", and it is of a " + kind.String())
+	} else if isOwn && kind == tenants.Blob {
+		if err := f.blob(tag.Target); err != nil {
+			return err
+		}
+	} else if !isOwn {
+		f.note(tag.Target, "tag "+name.String()[:12]+" is of")
+	}
+	f.put(tagCommand(tag, "mark :1\n"))
+	return f.expect(name)
+}
+
+// tagCommand gives the command that makes a tag, with the line of its mark, if any.
+func tagCommand(tag *objects.Tag, mark string) string {
+	tagger := ""
+	if tag.Tagger != nil {
+		tagger = string(tag.Tagger) + "\n"
+	}
+	return fmt.Sprintf("tag %s\n%sfrom %v\n%sdata %d\n%s\n", tag.Name, mark, tag.Target, tagger, len(tag.Message), tag.Message)
+}
+
+func (f *feeding) blob(name tenants.Name) error {
+	if f.blobs[name] {
+		return nil
+	}
+	f.blobs[name] = true
+	o, err := f.own.Object(f.ctx, name)
+	if err != nil {
+		return err
+	}
+	f.put("blob\n")
+	f.data(o.Contents)
+	return nil
+}
+
+// setRefs tells the refs. A tag sets its own ref at the next checkpoint, whatever came since; so what takes it back comes after one,
+// with the last piece.
+func (f *feeding) setRefs(tags []tenants.Name) error {
+	restored := f.restored(tags)
+	for _, change := range f.good() {
+		if _, is := restored[change.Ref]; !is && f.kinds[change.New] != tenants.Tag {
+			f.put(resetCommand(change.Ref, change.New))
+		}
+	}
+	if len(restored) == 0 {
+		return f.err
+	}
+	last := "checkpoint\n"
+	for ref, target := range restored {
+		command, err := f.restoring(ref, target)
+		if err != nil {
+			return err
+		}
+		last += command
+	}
+	f.to.Last(last)
+	return f.err
+}
+
+// restored gives the refs that a told tag sets to something else than they are to hold, and what that is.
+func (f *feeding) restored(tags []tenants.Name) map[string]tenants.Name {
+	restored := map[string]tenants.Name{}
+	for _, name := range tags {
+		ref := tagRefs + f.tags[name].Name
+		if f.refs[ref] != name {
+			restored[ref] = f.refs[ref]
+		}
+	}
+	return restored
+}
+
+// restoring gives the command that lets a ref hold what it is to hold.
+func (f *feeding) restoring(ref string, target tenants.Name) (string, error) {
+	if target.IsZero() {
+		return resetCommand(ref, target), nil
+	}
+	o, err := f.own.Object(f.ctx, target)
+	if err != nil || o.Kind != tenants.Tag {
+		return resetCommand(ref, target), err
+	}
+	tag, err := objects.ReadTag(target, o.Contents)
+	if err != nil {
+		return "", err
+	}
+	return tagCommand(tag, ""), nil
+}
+
+func resetCommand(ref string, target tenants.Name) string {
+	return "reset " + ref + "\nfrom " + target.String() + "\n\n"
+}

@@ -1,0 +1,165 @@
+package receivepack
+
+import (
+	"bufio"
+	"bytes"
+	"fmt"
+	"reflect"
+	"sort"
+	"strings"
+	"testing"
+
+	"gitpoold/objects"
+	"gitpoold/pktline"
+	"gitpoold/tenants"
+)
+
+func readText(text string) (*request, error) {
+	return readRequest(pktline.NewReader(bufio.NewReader(strings.NewReader(text)), mostLines))
+}
+
+func lines(texts ...string) (out string) {
+	for _, text := range texts {
+		if text == "" {
+			out += "0000"
+		} else {
+			out += fmt.Sprintf("%04x%s", len(text)+4, text)
+		}
+	}
+	return out
+}
+
+var (
+	zeros = strings.Repeat("0", 40)
+	ones  = strings.Repeat("1", 40)
+)
+
+func TestRequests(t *testing.T) {
+	q, err := readText(lines("shallow "+ones, zeros+" "+ones+" refs/heads/a\x00report-status push-options object-format=sha1",
+		ones+" "+zeros+" refs/heads/b c\n", "", "one", "two 2", "") + "PACK")
+	if err != nil || len(q.changes) != 2 || q.changes[1].Ref != "refs/heads/b c" || !q.changes[1].New.IsZero() || !q.can["report-status"] ||
+		!reflect.DeepEqual(q.options, []string{"one", "two 2"}) || !q.hasPack() {
+		t.Fatalf("%+v, %v", q, err)
+	}
+	for _, text := range []string{"", "0000"} {
+		if q, err := readText(text); err != nil || len(q.changes) != 0 {
+			t.Errorf("%q: %v", text, err)
+		}
+	}
+	for text, says := range map[string]string{
+		lines(zeros + " " + ones + " refs/heads/a"):                    "cut off",
+		lines(zeros+" "+ones+" refs/heads/a\x00push-options", "", "a"): "cut off",
+		lines(zeros+" "+ones, ""):                                      "malformed",
+		lines(zeros+" "+ones[1:]+" refs/heads/a", ""):                  "malformed",
+		lines(zeros+" "+ones+" r\x00object-format=sha256", ""):         "sha1 alone",
+		lines("push-cert\x00push-cert"):                                "signed pushes",
+		"0001":                                                         "no pkt-line",
+	} {
+		if _, err := readText(text); err == nil || !strings.Contains(sentence(err), says) {
+			t.Errorf("%q: %v", text, err)
+		}
+	}
+}
+
+func name(digit byte) (n tenants.Name) {
+	n[0] = digit
+	return n
+}
+
+func TestCommitsAreSortedParentsFirst(t *testing.T) {
+	heads := map[tenants.Name]objects.Head{}
+	for at, parents := range map[byte][]byte{1: nil, 2: {1}, 3: {1, 9}, 4: {3, 2}, 5: {4}, 6: {1}} {
+		head := objects.Head{}
+		for _, parent := range parents {
+			head.Parents = append(head.Parents, name(parent))
+		}
+		heads[name(at)] = head
+	}
+	w := topology{heads: heads, state: map[tenants.Name]int8{}}
+	w.from(name(5))
+	w.from(name(4))
+	place := map[tenants.Name]int{}
+	for at, it := range w.order {
+		place[it] = at + 1
+	}
+	if len(w.order) != 5 || place[name(6)] != 0 {
+		t.Fatalf("%v", w.order)
+	}
+	for _, it := range w.order {
+		for _, parent := range heads[it].Parents {
+			if place[parent] > place[it] {
+				t.Fatalf("%v comes before its parent", it)
+			}
+		}
+	}
+}
+
+func tree(entries ...string) (contents []byte) {
+	for _, entry := range entries {
+		mode, path, _ := strings.Cut(entry[:len(entry)-1], " ")
+		id := name(entry[len(entry)-1])
+		contents = append(append(append(contents, mode+" "+path...), 0), id[:]...)
+	}
+	return contents
+}
+
+func TestPairs(t *testing.T) {
+	before := tree("100644 a1", "40000 b2", "100644 b.c3", "100644 d4")
+	after := tree("100644 a9", "100644 b2", "100644 b.c3", "40000 d4", "100644 e5")
+	var got []string
+	err := pair(sorted(before), sorted(after), func(old, new *objects.Entry) error {
+		text := ""
+		for _, it := range []*objects.Entry{old, new} {
+			if it == nil {
+				text += "- "
+			} else {
+				text += string(it.Mode) + string(it.Path) + string(it.Name[:1]) + " "
+			}
+		}
+		got = append(got, text)
+		return nil
+	})
+	want := []string{"100644a1 100644a9 ", "- 100644b2 ", "40000b2 - ", "100644d4 - ", "- 40000d4 ", "- 100644e5 "}
+	if err != nil || !reflect.DeepEqual(got, want) {
+		t.Fatalf("%q", got)
+	}
+}
+
+// sorted puts entries into the order of trees.
+func sorted(contents []byte) (out []byte) {
+	var entries []objects.Entry
+	for entry, rest, ok := objects.NextEntry(contents); ok; entry, rest, ok = objects.NextEntry(rest) {
+		entries = append(entries, entry)
+	}
+	sort.Slice(entries, func(i, j int) bool { return objects.CompareKeys(entries[i], entries[j]) < 0 })
+	for _, entry := range entries {
+		out = append(out, string(entry.Mode)+" "+string(entry.Path)+"\x00"+string(entry.Name[:])...)
+	}
+	return out
+}
+
+func FuzzRequest(f *testing.F) {
+	f.Add([]byte(lines(zeros+" "+ones+" refs/heads/a\x00report-status push-options", "", "one", "")))
+	f.Add([]byte(lines("shallow "+ones, ones+" "+zeros+" refs/heads/a\x00atomic", "")))
+	f.Fuzz(func(t *testing.T, text []byte) {
+		q, err := readRequest(pktline.NewReader(bufio.NewReader(bytes.NewReader(text)), 1<<20))
+		if err == nil && len(q.changes) > mostChanges {
+			t.Fatal("too many")
+		}
+		if err != nil && sentence(err) == "" {
+			t.Fatal("no sentence")
+		}
+	})
+}
+
+func FuzzPair(f *testing.F) {
+	f.Add(tree("100644 a1", "40000 b2"), tree("100644 b2"))
+	f.Fuzz(func(t *testing.T, before, after []byte) {
+		_ = pair(before, after, func(old, new *objects.Entry) error {
+			if old == nil && new == nil {
+				t.Fatal("a pair of nothing")
+			}
+			return nil
+		})
+	})
+}

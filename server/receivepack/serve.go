@@ -1,0 +1,189 @@
+package receivepack
+
+import (
+	"bufio"
+	"bytes"
+	"context"
+	"errors"
+	"fmt"
+	"io"
+	"strings"
+
+	"gitpoold/objects"
+	"gitpoold/pack"
+	"gitpoold/pktline"
+	"gitpoold/tenants"
+	"gitpoold/uploadpack"
+)
+
+// Server has what an operator may set.
+type Server struct {
+	Folder        string // for temporary files
+	Limits        pack.Limits
+	AllowsSuspect bool // takes objects that receive.fsckObjects of git-config(1) refuses
+}
+
+// Result is what a push changed, and the options that it was given.
+type Result struct {
+	Changes []Change
+	Options []string
+}
+
+// Serve answers one push after Advertise. Changes of the result are durable. An error was told to the client where its protocol
+// has room for that; refs that were refused are no error.
+func (s Server) Serve(ctx context.Context, t tenants.Tenant, in *bufio.Reader, out *pktline.Writer) (Result, error) {
+	q, err := readRequest(pktline.NewReader(in, mostLines))
+	if err != nil {
+		out.Line("ERR %s", sentence(err))
+		out.Flush()
+		return Result{}, err
+	}
+	if len(q.changes) == 0 {
+		return Result{}, nil
+	}
+	p := &push{Server: s, request: q, t: t, bad: map[string]string{}}
+	whole := p.carryOut(ctx, in)
+	if whole != nil {
+		_, _ = io.CopyN(io.Discard, in, mostDrained)
+	}
+	failed := p.report(out, whole)
+	result := Result{Changes: p.good(), Options: q.options}
+	if whole != nil {
+		result.Changes = nil
+	} else {
+		whole = failed
+	}
+	return result, whole
+}
+
+// mostDrained is how much of a refused pack is read, so that a client that is still sending comes to read the report.
+const mostDrained = 64 << 20
+
+// push is one push on its way.
+type push struct {
+	Server
+	*request
+	t     tenants.Tenant
+	own   *pack.Quarantine
+	heads map[tenants.Name]objects.Head // of the commits in the pack
+	tags  map[tenants.Name]*objects.Tag // in the pack, or held by a ref of this push
+	bad   map[string]string             // why a ref does not change
+	head  string                        // what HEAD is to name, or nothing
+	refs  tenants.Refs                  // as they are to be
+	was   tenants.Refs
+	kinds map[tenants.Name]tenants.Kind // of what refs are to hold
+}
+
+// carryOut reads the pack, judges all of it, and feeds it. The error is about the push as a whole.
+func (p *push) carryOut(ctx context.Context, in io.Reader) error {
+	limits, err := p.limits()
+	if err != nil {
+		return err
+	}
+	if p.own, err = pack.NewQuarantine(p.Folder, p.t, limits); err != nil {
+		return err
+	}
+	defer p.own.Close()
+	if p.hasPack() {
+		if err := p.own.Read(ctx, in); err != nil {
+			return err
+		}
+	}
+	if err := p.examine(ctx); err != nil {
+		return err
+	}
+	err = p.t.Push(ctx, func(refs tenants.Refs) error { return p.judge(ctx, refs) },
+		func(s *tenants.Stream) error { return p.feed(ctx, s) })
+	if err != nil && err != errNothing {
+		p.refuseAll(sentence(err))
+	}
+	return nil
+}
+
+// limits gives what the pack may have: a tenant with a quota takes no more than it has room for.
+func (p *push) limits() (pack.Limits, error) {
+	limits := p.Limits
+	room, err := p.t.Room()
+	if err == nil && room < limits.Bytes {
+		limits.Bytes = room
+	}
+	return limits, err
+}
+
+func (p *push) refuseAll(why string) {
+	for _, change := range p.changes {
+		if p.bad[change.Ref] == "" {
+			p.bad[change.Ref] = why
+		}
+	}
+}
+
+// good gives the changes that are made.
+func (p *push) good() (changes []Change) {
+	for _, change := range p.changes {
+		if p.bad[change.Ref] == "" {
+			changes = append(changes, change)
+		}
+	}
+	return changes
+}
+
+// report tells what became of each ref: gitprotocol-pack(5), "Reporting Errors".
+func (p *push) report(out *pktline.Writer, whole error) error {
+	hasBands := p.can["side-band-64k"]
+	if wayOut := wayOutOf(whole); wayOut != "" && hasBands {
+		fmt.Fprintf(out.Sideband(pktline.ProgressChannel, false), "%s\n", wayOut)
+	}
+	if p.can["report-status"] || p.can["report-status-v2"] {
+		text := p.status(whole)
+		if hasBands {
+			_, _ = out.Sideband(pktline.DataChannel, false).Write(text)
+		} else {
+			_, _ = out.Raw(text)
+		}
+	}
+	if hasBands {
+		out.FlushPacket()
+	}
+	return out.Flush()
+}
+
+func (p *push) status(whole error) []byte {
+	var text bytes.Buffer
+	lines := pktline.NewWriter(&text)
+	if whole == nil {
+		lines.Line("unpack ok")
+	} else {
+		lines.Line("unpack %s", sentence(whole))
+	}
+	for _, change := range p.changes {
+		switch {
+		case whole != nil:
+			lines.Line("ng %s unpacker error", change.Ref)
+		case p.bad[change.Ref] != "":
+			lines.Line("ng %s %s", change.Ref, p.bad[change.Ref])
+		default:
+			lines.Line("ok %s", change.Ref)
+		}
+	}
+	lines.FlushPacket()
+	lines.Flush()
+	return text.Bytes()
+}
+
+func wayOutOf(err error) string {
+	var refusal *objects.Refusal
+	if errors.As(err, &refusal) {
+		return refusal.WayOut
+	}
+	return ""
+}
+
+// sentence gives an error as one line for a client.
+func sentence(err error) string {
+	var refusal *objects.Refusal
+	if errors.As(err, &refusal) || errors.As(err, new(pack.Refused)) {
+		return strings.ReplaceAll(err.Error(), "\n", " ")
+	}
+	return uploadpack.Sentence(err)
+}

@@ -1,0 +1,229 @@
+package main
+
+import (
+	"context"
+	"crypto/tls"
+	"errors"
+	"fmt"
+	"net"
+	"os"
+	"os/signal"
+	"path/filepath"
+	"sync"
+	"syscall"
+
+	"golang.org/x/crypto/ssh"
+
+	"gitpoold/access"
+	"gitpoold/httpd"
+	"gitpoold/limits"
+	"gitpoold/lists"
+	"gitpoold/logs"
+	"gitpoold/metrics"
+	"gitpoold/operator"
+	"gitpoold/site"
+	"gitpoold/sshd"
+	"gitpoold/store"
+	"gitpoold/tenants"
+)
+
+// server is what a run of `serve` has open.
+type server struct {
+	line  line
+	store *store.Store
+	site  *site.Site
+	door  *operator.Door
+}
+
+// runServe serves until SIGTERM or SIGINT: then no connection is taken any more, requests that have begun end, and the pool is saved. A
+// second signal ends the run at once, and the journal has what is not saved.
+func runServe(l line) error {
+	syscall.Umask(0o077)
+	// A file that may not grow is answered like a full disk, by this program and by the child.
+	signal.Ignore(syscall.SIGXFSZ)
+	signals := make(chan os.Signal, 2)
+	signal.Notify(signals, syscall.SIGTERM, syscall.SIGINT)
+	s, err := open(l)
+	if err != nil {
+		return err
+	}
+	ctx, stop := context.WithCancel(context.Background())
+	defer stop()
+	ways, err := s.listen()
+	if err != nil {
+		s.store.Close(ctx)
+		return err
+	}
+	go func() {
+		it := <-signals
+		s.site.Log.Printf("%v: no connection is taken any more; what has begun ends, and the pool is saved", it)
+		stop()
+		<-signals
+		os.Exit(0)
+	}()
+	failed := s.serve(ctx, stop, ways)
+	if err := s.store.Close(context.Background()); err != nil {
+		s.site.Log.Printf("the pool is not saved: %v; the journal has all of it", err)
+	}
+	s.site.Log.Printf("the server has ended")
+	return failed
+}
+
+// open reads the folder and starts the child.
+func open(l line) (*server, error) {
+	folder := l.folder()
+	m := metrics.New()
+	log := logs.New(os.Stderr, m)
+	found, err := program(l.flags["--program"])
+	if err != nil {
+		return nil, err
+	}
+	bounds, err := limits.Load(folder, log.Printf)
+	if err != nil {
+		return nil, err
+	}
+	who, err := access.Load(folder, log.Printf)
+	if err != nil {
+		return nil, err
+	}
+	values := bounds.Get()
+	pool, err := store.Open(store.Config{Folder: folder, Program: found, ChildMemory: values.ChildMemory, Patience: values.SavePatience,
+		Tell: log.Printf})
+	if err != nil {
+		return nil, err
+	}
+	s := &site.Site{Pool: tenants.New(pool, bounds.Quota), Access: who, Limits: bounds, Log: log, Metrics: m, Version: version,
+		Work: filepath.Join(folder, "work")}
+	door := operator.New(s, pool)
+	door.Measure()
+	return &server{l, pool, s, door}, nil
+}
+
+// way is one way in: what serves a listener until the context is done.
+type way struct {
+	name     string
+	listener net.Listener
+	serve    func(ctx context.Context, listener net.Listener) error
+}
+
+// listen opens all that the flags ask for, or nothing.
+func (s *server) listen() (ways []way, err error) {
+	path, err := filepath.Abs(socket(s.line))
+	if err != nil {
+		return nil, err
+	}
+	opened, err := operator.Listen(path)
+	if err != nil {
+		return nil, err
+	}
+	ways = append(ways, way{"socket", opened, s.door.Serve})
+	for _, open := range []func() (*way, error){s.http, s.ssh} {
+		it, err := open()
+		if err != nil {
+			for _, before := range ways {
+				before.listener.Close()
+			}
+			return nil, err
+		}
+		if it != nil {
+			ways = append(ways, *it)
+		}
+	}
+	return ways, nil
+}
+
+func (s *server) http() (*way, error) {
+	address, has := s.line.flags["--http"]
+	if !has {
+		return nil, nil
+	}
+	config, err := s.certificate()
+	if err != nil {
+		return nil, err
+	}
+	listener, err := net.Listen("tcp", address)
+	if err != nil {
+		return nil, err
+	}
+	name := "http"
+	listener = s.site.Limits.Listen(listener)
+	if config != nil {
+		name, listener = "https", tls.NewListener(listener, config)
+	} else if ip := listener.Addr().(*net.TCPAddr).IP; !ip.IsLoopback() {
+		s.site.Log.Printf("passwords travel unencrypted to %v: give --certificate, or put a front with TLS before it", listener.Addr())
+	}
+	return &way{name, listener, func(ctx context.Context, listener net.Listener) error { return httpd.Serve(ctx, listener, s.site) }}, nil
+}
+
+// certificate reads the certificate's files, again when they have changed.
+func (s *server) certificate() (*tls.Config, error) {
+	file, key := s.line.flags["--certificate"], s.line.flags["--certificate-key"]
+	if file == "" && key == "" {
+		return nil, nil
+	}
+	if file == "" || key == "" {
+		return nil, errors.New("--certificate and --certificate-key go together")
+	}
+	followed, err := lists.Follow(func() (tls.Certificate, error) { return tls.LoadX509KeyPair(file, key) }, s.site.Log.Printf, file, key)
+	if err != nil {
+		return nil, err
+	}
+	return &tls.Config{MinVersion: tls.VersionTLS12, NextProtos: []string{"http/1.1"},
+		GetCertificate: func(*tls.ClientHelloInfo) (*tls.Certificate, error) {
+			it := followed.Get()
+			return &it, nil
+		}}, nil
+}
+
+func (s *server) ssh() (*way, error) {
+	address, has := s.line.flags["--ssh"]
+	if !has {
+		return nil, nil
+	}
+	text, err := os.ReadFile(filepath.Join(s.line.folder(), "host_key"))
+	if err != nil {
+		return nil, err
+	}
+	key, err := ssh.ParsePrivateKey(text)
+	if err != nil {
+		return nil, fmt.Errorf("host_key: %w", err)
+	}
+	listener, err := net.Listen("tcp", address)
+	if err != nil {
+		return nil, err
+	}
+	return &way{"ssh", s.site.Limits.ListenIdle(listener),
+		func(ctx context.Context, listener net.Listener) error { return sshd.Serve(ctx, listener, s.site, key) }}, nil
+}
+
+// serve serves all ways until the context is done. Where one of them fails, all end.
+func (s *server) serve(ctx context.Context, stop func(), ways []way) error {
+	keeping, stopKeeping := context.WithCancel(context.Background())
+	go s.store.Keep(keeping, s.rhythm)
+	defer stopKeeping()
+	failed := make(chan error, len(ways))
+	var all sync.WaitGroup
+	for _, it := range ways {
+		s.site.Log.Printf("serving %s on %v", it.name, it.listener.Addr())
+		all.Add(1)
+		go func(it way) {
+			defer all.Done()
+			if err := it.serve(ctx, it.listener); err != nil && ctx.Err() == nil {
+				failed <- fmt.Errorf("%s: %w", it.name, err)
+				stop()
+			}
+		}(it)
+	}
+	all.Wait()
+	select {
+	case err := <-failed:
+		return err
+	default:
+		return nil
+	}
+}
+
+func (s *server) rhythm() store.Rhythm {
+	values := s.site.Limits.Get()
+	return store.Rhythm{JournalBytes: values.JournalBytes, SaveEvery: values.SaveEvery, Step: values.Step}
+}

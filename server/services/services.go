@@ -1,0 +1,104 @@
+// Package services has what http and ssh do alike: the two services of git, for a user and a tenant of a site.
+package services
+
+import (
+	"bufio"
+	"context"
+	"io"
+	"strings"
+
+	"gitpoold/access"
+	"gitpoold/logs"
+	"gitpoold/pack"
+	"gitpoold/pktline"
+	"gitpoold/receivepack"
+	"gitpoold/site"
+	"gitpoold/tenants"
+	"gitpoold/uploadpack"
+)
+
+// The services, as git names them.
+const (
+	UploadPack  = "git-upload-pack"
+	ReceivePack = "git-receive-pack"
+)
+
+// IsService tells whether git has a service of this name here.
+func IsService(name string) bool { return name == UploadPack || name == ReceivePack }
+
+// Right is what a user needs for a service.
+func Right(service string) access.Right {
+	if service == ReceivePack {
+		return access.Write
+	}
+	return access.Read
+}
+
+// Version reads which protocol a client speaks, from its GIT_PROTOCOL or Git-Protocol: key=value pairs between colons.
+func Version(text string) int {
+	for _, pair := range strings.Split(text, ":") {
+		switch pair {
+		case "version=2":
+			return 2
+		case "version=1":
+			return 1
+		}
+	}
+	return 0
+}
+
+// Use is one use of a service.
+type Use struct {
+	Site          *site.Site
+	Service       string
+	Version       int // of the protocol
+	User, Address string
+	Tenant        tenants.Tenant
+	In            io.Reader
+	Out           *pktline.Writer
+}
+
+// Advertise writes what stands before the first request.
+func (u Use) Advertise(ctx context.Context) error {
+	if u.Service == ReceivePack {
+		return receivepack.Advertise(ctx, u.Tenant, u.Out, u.Version)
+	}
+	return uploadpack.Advertise(ctx, u.Tenant, u.Out, u.Version)
+}
+
+// Serve answers what follows: one request, or a whole session. It writes each ref that a push changed to the log.
+func (u Use) Serve(ctx context.Context, isStateless bool) error {
+	in := bufio.NewReaderSize(u.In, 1<<16)
+	if u.Service == UploadPack {
+		return uploadpack.Server{Folder: u.Site.Work}.Serve(ctx, u.Tenant, in, u.Out, u.Version, isStateless)
+	}
+	limits := pack.Usual
+	limits.PackBytes = u.Site.Limits.Get().RequestBytes
+	result, err := receivepack.Server{Folder: u.Site.Work, Limits: limits}.Serve(ctx, u.Tenant, in, u.Out)
+	for _, it := range result.Changes {
+		u.Site.Log.Change(logs.Change{Address: u.Address, User: u.User, Tenant: u.Tenant.Name(), Ref: it.Ref,
+			Old: it.Old.String(), New: it.New.String()})
+	}
+	return err
+}
+
+// Counting counts the bytes that pass.
+type Counting struct {
+	From  io.Reader
+	To    io.Writer
+	Count *int64
+}
+
+// Read reads and counts.
+func (c Counting) Read(into []byte) (int, error) {
+	n, err := c.From.Read(into)
+	*c.Count += int64(n)
+	return n, err
+}
+
+// Write writes and counts.
+func (c Counting) Write(data []byte) (int, error) {
+	n, err := c.To.Write(data)
+	*c.Count += int64(n)
+	return n, err
+}

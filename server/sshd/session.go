@@ -1,0 +1,182 @@
+package sshd
+
+import (
+	"context"
+	"encoding/binary"
+	"fmt"
+	"strings"
+	"time"
+
+	"golang.org/x/crypto/ssh"
+
+	"gitpoold/logs"
+	"gitpoold/pktline"
+	"gitpoold/services"
+	"gitpoold/tenants"
+)
+
+// session is one command of a connection.
+type session struct {
+	*server
+	channel       ssh.Channel
+	user, address string
+	protocol      string
+}
+
+// The statuses with which a command ends.
+const (
+	ended  = 0
+	failed = 1
+	usage  = 2
+)
+
+// serve takes requests up to the one for a command, and carries it out.
+func (s *session) serve(ctx context.Context, requests <-chan *ssh.Request) {
+	defer s.channel.Close()
+	timer := time.AfterFunc(s.Limits.Get().Handshake, func() { s.channel.Close() })
+	defer timer.Stop()
+	for request := range requests {
+		switch request.Type {
+		case "env":
+			reply(request, s.setEnvironment(request.Payload))
+		case "exec":
+			timer.Stop()
+			reply(request, true)
+			go ssh.DiscardRequests(requests)
+			s.exit(s.run(ctx, request.Payload))
+			return
+		case "shell":
+			reply(request, true)
+			fmt.Fprintf(s.channel.Stderr(), "Hello %s. This server speaks git alone, and has no shell.\r\n", s.user)
+			s.exit(failed)
+			return
+		default:
+			reply(request, false)
+		}
+	}
+}
+
+func reply(request *ssh.Request, ok bool) {
+	if request.WantReply {
+		_ = request.Reply(ok, nil)
+	}
+}
+
+// setEnvironment takes GIT_PROTOCOL and no other variable.
+func (s *session) setEnvironment(payload []byte) bool {
+	var variable struct{ Name, Value string }
+	if ssh.Unmarshal(payload, &variable) != nil || variable.Name != "GIT_PROTOCOL" {
+		return false
+	}
+	s.protocol = variable.Value
+	return true
+}
+
+func (s *session) exit(status uint32) {
+	var payload [4]byte
+	binary.BigEndian.PutUint32(payload[:], status)
+	_, _ = s.channel.SendRequest("exit-status", false, payload[:])
+}
+
+// say writes a sentence to the user's terminal.
+func (s *session) say(why string) uint32 {
+	fmt.Fprintf(s.channel.Stderr(), "gitpoold: %s\r\n", why)
+	return failed
+}
+
+// run carries out a command, and gives the status with which it ends.
+func (s *session) run(ctx context.Context, payload []byte) uint32 {
+	var exec struct{ Command string }
+	if ssh.Unmarshal(payload, &exec) != nil {
+		return usage
+	}
+	service, path, ok := parseCommand(exec.Command)
+	if !ok {
+		s.say("this server takes git-upload-pack and git-receive-pack with one path in quotes, and no other command")
+		return usage
+	}
+	leave, err := s.Limits.Enter(s.user, s.address)
+	if err != nil {
+		return s.say(err.Error())
+	}
+	defer leave()
+	t, err := s.Open(s.user, tenantOf(path), services.Right(service))
+	if err != nil {
+		return s.say(err.Error())
+	}
+	return s.timed(ctx, service, t)
+}
+
+// timed carries out a service, and ends it after the time that the operator gives.
+func (s *session) timed(ctx context.Context, service string, t tenants.Tenant) uint32 {
+	ctx, stop := context.WithTimeout(ctx, s.Limits.Get().Request)
+	defer stop()
+	finished := make(chan struct{})
+	defer close(finished)
+	go func() {
+		select {
+		case <-ctx.Done():
+			s.channel.Close()
+		case <-finished:
+		}
+	}()
+	record := logs.Request{Protocol: "ssh", Address: s.address, User: s.user, Tenant: t.Name(), What: service}
+	began := time.Now()
+	record.Err = s.service(ctx, service, t, &record)
+	record.Took = time.Since(began)
+	if record.Err != nil {
+		record.Status = failed
+	}
+	s.Log.Request(record)
+	return uint32(record.Status)
+}
+
+func (s *session) service(ctx context.Context, service string, t tenants.Tenant, record *logs.Request) error {
+	use := services.Use{Site: s.Site, Service: service, Version: services.Version(s.protocol), User: s.user, Address: s.address, Tenant: t,
+		In:  services.Counting{From: s.channel, Count: &record.In},
+		Out: pktline.NewWriter(services.Counting{To: s.channel, Count: &record.Out})}
+	if err := use.Advertise(ctx); err != nil {
+		return err
+	}
+	return use.Serve(ctx, false)
+}
+
+// tenantOf gives the tenant that a path names: /acme/site.git is acme/site.
+func tenantOf(path string) string {
+	return strings.TrimSuffix(strings.TrimSuffix(strings.TrimPrefix(path, "/"), "/"), ".git")
+}
+
+// parseCommand reads a command as git writes it: git-upload-pack, or git upload-pack, and a path between single quotes, where \'
+// and \! stand outside of them. Nothing else is taken, not even what a shell would take.
+func parseCommand(command string) (service, path string, ok bool) {
+	const longest = 1024
+	for _, service := range []string{services.UploadPack, services.ReceivePack} {
+		for _, front := range []string{service + " ", "git " + strings.TrimPrefix(service, "git-") + " "} {
+			if strings.HasPrefix(command, front) && len(command) <= longest {
+				path, ok = unquote(command[len(front):])
+				return service, path, ok
+			}
+		}
+	}
+	return "", "", false
+}
+
+// unquote reads one word: parts between single quotes, and between them \' and \!. A word of plain letters needs no quotes.
+func unquote(text string) (word string, ok bool) {
+	if !strings.HasPrefix(text, "'") {
+		return text, text != "" && strings.Trim(text, plain) == ""
+	}
+	for strings.HasPrefix(text, "'") {
+		part, rest, found := strings.Cut(text[1:], "'")
+		if !found {
+			return "", false
+		}
+		word, text = word+part, rest
+		if len(text) > 2 && text[0] == '\\' && (text[1] == '\'' || text[1] == '!') && text[2] == '\'' {
+			word, text = word+text[1:2], text[2:]
+		}
+	}
+	return word, text == ""
+}
+
+const plain = "abcdefghijklmnopqrstuvwxyzABCDEFGHIJKLMNOPQRSTUVWXYZ0123456789_-./"

@@ -1,0 +1,166 @@
+// Package sshd serves Git over ssh: git-upload-pack and git-receive-pack, and no other command.
+package sshd
+
+import (
+	"context"
+	"errors"
+	"net"
+	"sync"
+	"time"
+
+	"golang.org/x/crypto/ssh"
+
+	"gitpoold/site"
+)
+
+// Most sessions that one connection may have at once: git opens one, and OpenSSH shares a connection among ten.
+const mostSessions = 10
+
+// server answers the connections for one site.
+type server struct {
+	*site.Site
+	running sync.WaitGroup
+}
+
+// Serve answers connections until ctx is done. Then it takes no more, lets those sessions end that have begun, for a while, and
+// returns.
+func Serve(ctx context.Context, listener net.Listener, s *site.Site, hostKey ssh.Signer) error {
+	it := &server{Site: s}
+	sessions, stop := context.WithCancel(context.Background())
+	defer stop()
+	go func() {
+		<-ctx.Done()
+		listener.Close()
+	}()
+	for {
+		c, err := listener.Accept()
+		if ctx.Err() != nil {
+			return it.drain()
+		}
+		if err != nil {
+			if isPassing(err) {
+				time.Sleep(10 * time.Millisecond)
+				continue
+			}
+			return err
+		}
+		it.running.Add(1)
+		go it.connection(sessions, c, hostKey)
+	}
+}
+
+// isPassing tells whether the next Accept may go well, as where the process has too many open files for the moment.
+func isPassing(err error) bool {
+	var network net.Error
+	return errors.As(err, &network) && !errors.Is(err, net.ErrClosed)
+}
+
+func (s *server) drain() error {
+	ended := make(chan struct{})
+	go func() {
+		s.running.Wait()
+		close(ended)
+	}()
+	select {
+	case <-ended:
+	case <-time.After(s.Limits.Get().Drain):
+	}
+	return nil
+}
+
+// userKey is where a connection's permissions have its user.
+const userKey = "user"
+
+func permissions(user string) *ssh.Permissions {
+	return &ssh.Permissions{Extensions: map[string]string{userKey: user}}
+}
+
+var errDenied = errors.New("denied")
+
+func (s *server) config(ctx context.Context, hostKey ssh.Signer) *ssh.ServerConfig {
+	config := &ssh.ServerConfig{
+		MaxAuthTries:  6,
+		ServerVersion: "SSH-2.0-gitpoold",
+		PublicKeyCallback: func(c ssh.ConnMetadata, key ssh.PublicKey) (*ssh.Permissions, error) {
+			if user, ok := s.Access.Key(c.User(), key); ok {
+				return permissions(user), nil
+			}
+			return nil, errDenied
+		},
+		PasswordCallback: func(c ssh.ConnMetadata, password []byte) (*ssh.Permissions, error) {
+			if s.Access.Password(ctx, c.User(), string(password), host(c.RemoteAddr())) {
+				return permissions(c.User()), nil
+			}
+			return nil, errDenied
+		},
+	}
+	config.AddHostKey(hostKey)
+	return config
+}
+
+func host(address net.Addr) string {
+	text, _, err := net.SplitHostPort(address.String())
+	if err != nil {
+		return address.String()
+	}
+	return text
+}
+
+// connection serves one connection: who it is has to be shown within the time for handshakes.
+func (s *server) connection(ctx context.Context, c net.Conn, hostKey ssh.Signer) {
+	defer s.running.Done()
+	defer c.Close()
+	timer := time.AfterFunc(s.Limits.Get().Handshake, func() { c.Close() })
+	conn, channels, requests, err := ssh.NewServerConn(c, s.config(ctx, hostKey))
+	if !timer.Stop() || err != nil {
+		return
+	}
+	defer conn.Close()
+	go ssh.DiscardRequests(requests)
+	s.sessions(ctx, conn, channels)
+}
+
+// sessions serves the channels of a connection, so many at once.
+func (s *server) sessions(ctx context.Context, conn *ssh.ServerConn, channels <-chan ssh.NewChannel) {
+	var running sync.WaitGroup
+	places := make(chan struct{}, mostSessions)
+	ctx, stop := context.WithCancel(ctx)
+	defer running.Wait()
+	defer stop()
+	idle := time.AfterFunc(s.Limits.Get().Handshake, func() { conn.Close() })
+	defer idle.Stop()
+	for asked := range channels {
+		channel, requests := accept(asked, places)
+		if channel == nil {
+			continue
+		}
+		idle.Stop()
+		running.Add(1)
+		go func() {
+			defer running.Done()
+			defer func() { <-places }()
+			it := &session{server: s, channel: channel, user: conn.Permissions.Extensions[userKey], address: host(conn.RemoteAddr())}
+			it.serve(ctx, requests)
+		}()
+	}
+}
+
+// accept takes a channel if it is a session and there is a place for it.
+func accept(asked ssh.NewChannel, places chan struct{}) (ssh.Channel, <-chan *ssh.Request) {
+	if asked.ChannelType() != "session" {
+		_ = asked.Reject(ssh.UnknownChannelType, "this server has sessions alone")
+		return nil, nil
+	}
+	select {
+	case places <- struct{}{}:
+	default:
+		_ = asked.Reject(ssh.ResourceShortage, "this connection has too many sessions")
+		return nil, nil
+	}
+	channel, requests, err := asked.Accept()
+	if err != nil {
+		<-places
+		return nil, nil
+	}
+	return channel, requests
+}

@@ -1,0 +1,332 @@
+package store
+
+import (
+	"bytes"
+	"context"
+	"fmt"
+	"io"
+	"os"
+	"path/filepath"
+	"strconv"
+	"strings"
+	"sync"
+	"time"
+
+	"gitpoold/child"
+	"gitpoold/faultpoint"
+	"gitpoold/frames"
+	"gitpoold/journal"
+	"gitpoold/poolfile"
+)
+
+// start starts a child on the pool file and lets it carry out the journal. Nobody else uses the process meanwhile.
+func (s *Store) start() error {
+	digest, err := poolfile.Digest(s.folder("pool"))
+	if err != nil {
+		return err
+	}
+	sizes, err := poolfile.Sizes(s.folder("pool"))
+	if err != nil {
+		return err
+	}
+	s.mutex.Lock()
+	s.sizes, s.since = sizes, map[string]int64{}
+	s.mutex.Unlock()
+	said := &lines{tell: s.config.Tell}
+	process, room, err := s.startChild(said)
+	if err != nil {
+		return err
+	}
+	if err := s.carryOut(process, journal.Digest(digest)); err != nil {
+		process.Kill()
+		os.RemoveAll(room)
+		return fmt.Errorf("%w: %v (%s)", ErrLoad, err, said.last())
+	}
+	os.RemoveAll(s.room)
+	s.process, s.room = process, room
+	s.mutex.Lock()
+	s.newest = process
+	s.mutex.Unlock()
+	go s.watch(process)
+	return nil
+}
+
+func (s *Store) startChild(said io.Writer) (*child.Process, string, error) {
+	room, err := os.MkdirTemp(s.work(), "child-")
+	if err != nil {
+		return nil, "", err
+	}
+	file := filepath.Join(room, "pool")
+	if err := linkOrCopy(s.folder("pool"), file); err != nil {
+		return nil, "", err
+	}
+	words := []string{s.config.Program, "serve", "--pool", file}
+	if s.config.ChildMemory > 0 {
+		kilobytes := strconv.FormatInt(s.config.ChildMemory/1024, 10)
+		words = append([]string{"sh", "-c", `ulimit -v "$0" && exec "$@"`, kilobytes}, words...)
+	}
+	process, err := child.Start(words, said)
+	if err != nil {
+		os.RemoveAll(room)
+		return nil, "", err
+	}
+	faultpoint.SetChild(process.Pid())
+	return process, room, nil
+}
+
+// linkOrCopy gives a file a second name, or copies it where the file system has no links. A save of the child replaces the name.
+func linkOrCopy(from, to string) error {
+	if os.Link(from, to) == nil {
+		return nil
+	}
+	source, err := os.Open(from)
+	if err != nil {
+		return err
+	}
+	defer source.Close()
+	target, err := os.OpenFile(to, os.O_WRONLY|os.O_CREATE|os.O_EXCL, 0o600)
+	if err != nil {
+		return err
+	}
+	defer target.Close()
+	_, err = io.Copy(target, source)
+	return err
+}
+
+// lines tells the operator what the child prints on standard error, and keeps the last of it.
+type lines struct {
+	tell  func(format string, values ...any)
+	mutex sync.Mutex
+	text  string
+}
+
+// Write takes what the child printed.
+func (l *lines) Write(text []byte) (int, error) {
+	l.mutex.Lock()
+	defer l.mutex.Unlock()
+	for _, line := range bytes.Split(bytes.TrimSpace(text), []byte("\n")) {
+		l.text = strings.ToValidUTF8(string(line), "?")
+		l.tell("the child says: %s", l.text)
+	}
+	return len(text), nil
+}
+
+func (l *lines) last() string {
+	l.mutex.Lock()
+	defer l.mutex.Unlock()
+	return l.text
+}
+
+// watch starts another child where this one ends although nobody told it to.
+func (s *Store) watch(process *child.Process) {
+	<-process.Gone()
+	select {
+	case s.maintain <- struct{}{}:
+		defer func() { <-s.maintain }()
+	case <-s.closing:
+		return
+	}
+	if s.process != process {
+		return
+	}
+	s.config.Tell("the child ended: %v; another one is started", process.Err())
+	_ = s.steps.shut(context.Background())
+	s.revive()
+	s.steps.open()
+}
+
+// revive starts a child, and tries again until there is one or the server stops. The gate `steps` is shut.
+func (s *Store) revive() {
+	wait := time.Second / 4
+	for {
+		err := s.start()
+		if err == nil {
+			s.count(func(c *Counts) { c.Recoveries++ })
+			return
+		}
+		s.config.Tell("no child could be started: %v", err)
+		if wait > time.Second/4 {
+			s.takeBackUntold()
+		}
+		select {
+		case <-s.stopping:
+			return
+		case <-time.After(wait):
+		}
+		if wait < 30*time.Second {
+			wait *= 2
+		}
+	}
+}
+
+// takeBackUntold takes the Ends back that nobody was told of, where the journal cannot be carried out with them.
+func (s *Store) takeBackUntold() {
+	s.mutex.Lock()
+	untold := s.ends
+	s.ends = map[uint64]end{}
+	s.mutex.Unlock()
+	for _, it := range untold {
+		s.takeBack(it.tenant)
+		it.answer <- frames.Answer{Status: frames.Fault, Value: 90}
+	}
+}
+
+// replay is the journal on its way to a new child.
+type replay struct {
+	store   *Store
+	process *child.Process
+	ended   map[uint64]bool
+	streams map[string]*replayed
+	waiting []sent
+	answers map[uint64]frames.Answer
+}
+
+// replayed is a stream that is open in the journal. One that leaves nothing is left out.
+type replayed struct {
+	form      Form
+	hasEnd    bool
+	isLeftOut bool
+	fed       int64
+}
+
+type sent struct {
+	batch  *Batch
+	record journal.Record
+}
+
+// replayAhead is how many steps are with the child at once.
+const replayAhead = 64
+
+// carryOut carries out the journal, and waits until the child has done so.
+func (s *Store) carryOut(process *child.Process, pool journal.Digest) error {
+	ended, err := s.endedStreams(pool)
+	if err != nil {
+		return err
+	}
+	r := &replay{store: s, process: process, ended: ended, streams: map[string]*replayed{},
+		answers: map[uint64]frames.Answer{}}
+	// This one is no step of the journal: it is answered when the child has loaded the pool file.
+	if err := r.send(journal.Record{Step: frames.Step{Kind: frames.Ask, Tenant: "a", Body: []byte("head")}}); err != nil {
+		return err
+	}
+	if err := r.settle(0); err != nil {
+		return err
+	}
+	if err := s.journal.Records(pool, r.take); err != nil {
+		return err
+	}
+	if err := r.settle(0); err != nil {
+		return err
+	}
+	for tenant := range r.streams {
+		r.drop(tenant)
+	}
+	s.tellEnds(r.answers)
+	return nil
+}
+
+// endedStreams gives the numbers of the Opens whose streams have an End that was not taken back.
+func (s *Store) endedStreams(pool journal.Digest) (map[uint64]bool, error) {
+	ended, open := map[uint64]bool{}, map[string]uint64{}
+	err := s.journal.Records(pool, func(r journal.Record) error {
+		switch r.Step.Kind {
+		case frames.Open:
+			open[r.Step.Tenant] = r.Number
+		case frames.End:
+			ended[open[r.Step.Tenant]] = true
+		case journal.GivenUp:
+			delete(ended, open[r.Step.Tenant])
+		}
+		return nil
+	})
+	return ended, err
+}
+
+// take carries out one record.
+func (r *replay) take(record journal.Record) error {
+	step := record.Step
+	switch step.Kind {
+	case frames.Open:
+		return r.takeOpen(record)
+	case journal.GivenUp:
+		return r.takeGivenUp(step.Tenant)
+	}
+	stream := r.streams[step.Tenant]
+	if stream == nil || stream.isLeftOut || step.Kind == frames.End && !stream.hasEnd {
+		return nil
+	}
+	stream.fed += int64(len(step.Body))
+	if step.Kind == frames.End {
+		delete(r.streams, step.Tenant)
+		r.store.mutex.Lock()
+		r.store.since[step.Tenant] += stream.fed
+		r.store.mutex.Unlock()
+	}
+	return r.send(record)
+}
+
+func (r *replay) takeOpen(record journal.Record) error {
+	tenant := record.Step.Tenant
+	if err := r.takeGivenUp(tenant); err != nil {
+		return err
+	}
+	stream := &replayed{}
+	if len(record.Step.Body) == 1 {
+		stream.form = Form(record.Step.Body[0])
+	}
+	stream.hasEnd = r.ended[record.Number]
+	stream.isLeftOut = stream.form == Whole && !stream.hasEnd
+	r.streams[tenant] = stream
+	if stream.isLeftOut {
+		return nil
+	}
+	record.Step.Body = nil
+	return r.send(record)
+}
+
+// takeGivenUp gives a tenant's stream up, if it has one.
+func (r *replay) takeGivenUp(tenant string) error {
+	if r.streams[tenant] == nil {
+		return nil
+	}
+	err := r.settle(0)
+	r.drop(tenant)
+	return err
+}
+
+func (r *replay) drop(tenant string) {
+	stream := r.streams[tenant]
+	delete(r.streams, tenant)
+	if !stream.isLeftOut {
+		giveUp(context.Background(), r.process, tenant, stream.form)
+	}
+}
+
+func (r *replay) send(record journal.Record) error {
+	batch, err := r.process.Send(context.Background(), child.Short, record.Step)
+	if err != nil {
+		return err
+	}
+	r.waiting = append(r.waiting, sent{batch, record})
+	return r.settle(replayAhead)
+}
+
+// settle waits until at most so many steps are without an answer. A refusal is the same as when the step was first taken; a stop for
+// want of memory is not.
+func (r *replay) settle(most int) error {
+	for len(r.waiting) > most {
+		it := r.waiting[0]
+		r.waiting = r.waiting[1:]
+		answers, err := it.batch.Wait(context.Background())
+		if err != nil {
+			return err
+		}
+		if outOfMemory(answers) {
+			return fmt.Errorf("the child has no memory to carry out the journal: %w", &Refused{90})
+		}
+		if it.record.Step.Kind == frames.End {
+			r.answers[it.record.Number] = answers[0]
+		}
+	}
+	return nil
+}

@@ -1,0 +1,268 @@
+// Package store keeps one pool: a child that has it in memory, a pool file, and the journal beside the file.
+//
+// The journal is the truth. A stream's steps are written to it before the child gets them, and the end of a push is synced before
+// the child gets it. So the child is at every moment what the pool file and the journal come to, or behind that; when it dies,
+// another one is started and carries the journal out.
+//
+// The child works on a link of the pool file in a room of its own, so that nothing it writes becomes the pool file by itself: a save
+// counts from the moment at which the store takes the file out of that room (save.go).
+package store
+
+import (
+	"context"
+	"errors"
+	"fmt"
+	"os"
+	"path/filepath"
+	"sort"
+	"sync"
+	"sync/atomic"
+	"syscall"
+	"time"
+
+	"gitpoold/child"
+	"gitpoold/frames"
+	"gitpoold/journal"
+	"gitpoold/poolfile"
+)
+
+var (
+	// ErrUnknown says that the end of a push is in the journal, and that the server stopped before it was carried out. It is carried
+	// out at the next start.
+	ErrUnknown = errors.New("the server stopped while it kept this push; fetch to see whether it is there")
+	// ErrClosed says that the server stops.
+	ErrClosed = errors.New("the server stops; try again")
+	// ErrLoad says that the child cannot load the pool file or carry the journal out.
+	ErrLoad = errors.New("the pool cannot be loaded")
+	// ErrInHand says that another server has the folder.
+	ErrInHand = errors.New("another server has this folder in hand")
+)
+
+// Refused is a step that the child refused, by the number of its fault.
+type Refused struct{ Number int }
+
+func (r *Refused) Error() string { return fmt.Sprintf("fault %d", r.Number) }
+
+// Config says where a pool is and who keeps it.
+type Config struct {
+	// Folder has `pool` and `journal`.
+	Folder string
+	// Program is the path of `gitpool`.
+	Program string
+	// ChildMemory is the most bytes of address space that the child may take, 0 for no limit.
+	ChildMemory int64
+	// Patience is how long a save waits for streams that are open, before it gives up those of clients that speak frames.
+	Patience time.Duration
+	// Tell writes a line for the operator.
+	Tell func(format string, values ...any)
+}
+
+// Store is one pool. Its methods may be called by many goroutines at once.
+type Store struct {
+	config   Config
+	lock     *os.File
+	journal  *journal.Journal
+	maintain chan struct{}
+	wanted   chan struct{}
+	stopping chan struct{}
+	closing  chan struct{}
+	once     sync.Once
+
+	// Who is inside `steps` may use the process; it is replaced while the gate is shut. Who is inside `streams` has a stream.
+	steps   *gate
+	streams *gate
+	process *child.Process
+	room    string
+
+	mutex  sync.Mutex
+	newest *child.Process
+	open   map[string]*Stream
+	ends   map[uint64]end
+	sizes  map[string]poolfile.Size
+	since  map[string]int64
+	counts Counts
+	taken  atomic.Int64
+}
+
+// Counts are what a store did since its start.
+type Counts struct {
+	Steps, Pushes, Refused, GivenUp, Saves, FailedSaves, Recoveries int64
+	LastSave                                                        time.Time
+}
+
+// Open takes a pool up: it reads the journal through, starts the child, and carries out what the pool file has not.
+func Open(config Config) (*Store, error) {
+	lock, err := lockFolder(config.Folder)
+	if err != nil {
+		return nil, err
+	}
+	s := &Store{config: config, lock: lock, maintain: make(chan struct{}, 1), wanted: make(chan struct{}, 1),
+		stopping: make(chan struct{}), closing: make(chan struct{}), steps: newGate(), streams: newGate(), open: map[string]*Stream{}, ends: map[uint64]end{}}
+	if err := s.begin(); err != nil {
+		lock.Close()
+		return nil, err
+	}
+	return s, nil
+}
+
+func (s *Store) begin() error {
+	for _, folder := range []string{s.work(), s.folder("journal")} {
+		if err := os.MkdirAll(folder, 0o700); err != nil {
+			return err
+		}
+	}
+	if err := sweep(s.work()); err != nil {
+		return err
+	}
+	digest, err := poolfile.Digest(s.folder("pool"))
+	if err != nil {
+		return err
+	}
+	s.journal, err = journal.Open(s.folder("journal"), digest, s.config.Tell)
+	if err != nil {
+		return err
+	}
+	return s.start()
+}
+
+func (s *Store) folder(name string) string { return filepath.Join(s.config.Folder, name) }
+
+func (s *Store) work() string { return s.folder("work") }
+
+// lockFolder keeps a second server out, for as long as the file is open.
+func lockFolder(folder string) (*os.File, error) {
+	file, err := os.OpenFile(filepath.Join(folder, "lock"), os.O_RDWR|os.O_CREATE, 0o600)
+	if err != nil {
+		return nil, err
+	}
+	if err := syscall.Flock(int(file.Fd()), syscall.LOCK_EX|syscall.LOCK_NB); err != nil {
+		file.Close()
+		return nil, fmt.Errorf("%s: %w", folder, ErrInHand)
+	}
+	return file, nil
+}
+
+// sweep removes the rooms of children whose server was killed.
+func sweep(folder string) error {
+	entries, err := os.ReadDir(folder)
+	if err != nil {
+		return err
+	}
+	for _, entry := range entries {
+		if err := os.RemoveAll(filepath.Join(folder, entry.Name())); err != nil {
+			return err
+		}
+	}
+	return nil
+}
+
+// Batch is a run of questions that were asked together.
+type Batch = child.Batch
+
+// Ask sends questions to the child in one batch. It waits while the child is replaced, as long as the context lasts.
+func (s *Store) Ask(ctx context.Context, class child.Class, steps ...frames.Step) (*Batch, error) {
+	if err := s.enter(ctx, s.steps); err != nil {
+		return nil, err
+	}
+	defer s.steps.leave()
+	s.taken.Add(int64(len(steps)))
+	return s.process.Send(ctx, class, steps...)
+}
+
+// enter goes through a gate, unless the store closes.
+func (s *Store) enter(ctx context.Context, through *gate) error {
+	select {
+	case <-s.closing:
+		return ErrClosed
+	default:
+		return through.enter(ctx)
+	}
+}
+
+func (s *Store) count(change func(*Counts)) {
+	s.mutex.Lock()
+	defer s.mutex.Unlock()
+	change(&s.counts)
+}
+
+// Bytes tells how many bytes a tenant has: the contents of its objects at the last save, and what it was fed since.
+func (s *Store) Bytes(tenant string) int64 {
+	s.mutex.Lock()
+	defer s.mutex.Unlock()
+	return s.sizes[tenant].Bytes + s.since[tenant]
+}
+
+// Counts gives what the store did.
+func (s *Store) Counts() Counts {
+	s.mutex.Lock()
+	defer s.mutex.Unlock()
+	counts := s.counts
+	counts.Steps = s.taken.Load()
+	return counts
+}
+
+// Usage is what a tenant has: its size at the last save, and the bytes that it was fed since.
+type Usage struct {
+	Name string
+	poolfile.Size
+	Since int64
+}
+
+// Usages gives what each tenant has, in the order of their names.
+func (s *Store) Usages() (all []Usage) {
+	s.mutex.Lock()
+	defer s.mutex.Unlock()
+	for name, size := range s.sizes {
+		all = append(all, Usage{name, size, s.since[name]})
+	}
+	for name, since := range s.since {
+		if _, isSaved := s.sizes[name]; !isSaved {
+			all = append(all, Usage{Name: name, Since: since})
+		}
+	}
+	sort.Slice(all, func(i, k int) bool { return all[i].Name < all[k].Name })
+	return all
+}
+
+// State is how a store stands now.
+type State struct {
+	Counts
+	Streams       int
+	JournalBytes  int64
+	JournalBroken bool
+	FirstSegment  uint64
+	LastSegment   uint64
+	Records       uint64
+	IsAnswering   bool
+	ChildPid      int
+}
+
+// State tells how the store stands. While the child is replaced, its process is 0.
+func (s *Store) State() State {
+	state := State{Counts: s.Counts(), JournalBytes: s.journal.Bytes(), JournalBroken: s.journal.IsBroken(),
+		Records: s.journal.Number()}
+	state.FirstSegment, state.LastSegment = s.journal.Segments()
+	s.mutex.Lock()
+	state.Streams = len(s.open)
+	s.mutex.Unlock()
+	if s.steps.tryEnter() {
+		state.IsAnswering, state.ChildPid = true, s.process.Pid()
+		s.steps.leave()
+	}
+	return state
+}
+
+// Close saves, lets no step in any more, and ends the child. Where the save fails, the journal has what the pool file lacks.
+func (s *Store) Close(ctx context.Context) error {
+	close(s.stopping)
+	err := s.Save(ctx)
+	s.once.Do(func() { close(s.closing) })
+	s.maintain <- struct{}{}
+	s.process.Kill()
+	// Whoever waits inside for the child has been told that it is gone.
+	_ = s.steps.shut(context.Background())
+	os.RemoveAll(s.room)
+	s.journal.Close()
+	s.lock.Close()
+	return err
+}

@@ -1,0 +1,367 @@
+package store
+
+import (
+	"bytes"
+	"context"
+	"sync"
+
+	"gitpoold/child"
+	"gitpoold/faultpoint"
+	"gitpoold/frames"
+	"gitpoold/journal"
+)
+
+// Form says what a stream leaves if it is given up.
+type Form byte
+
+// The forms of streams.
+const (
+	// Checkpoints is a stream of which its checkpoints stay.
+	Checkpoints Form = 0
+	// Whole is a stream that begins with `feature done` and has no `checkpoint`: it leaves nothing unless it ends.
+	Whole Form = 1
+)
+
+// Stream is the stream of a tenant. Its calls come from one goroutine; a save may give it up meanwhile.
+type Stream struct {
+	store  *Store
+	tenant string
+	form   Form
+
+	mutex    sync.Mutex
+	process  *child.Process
+	fed      int64
+	isClosed bool
+}
+
+// Pending is a piece that is on its way.
+type Pending struct{ batch *Batch }
+
+// Wait gives what the piece printed, or Refused.
+func (p Pending) Wait(ctx context.Context) ([]byte, error) {
+	answers, err := p.batch.Wait(ctx)
+	if err != nil {
+		return nil, err
+	}
+	return replies(answers)
+}
+
+// Answer waits for the child's answer as it is.
+func (p Pending) Answer(ctx context.Context) (frames.Answer, error) {
+	answers, err := p.batch.Wait(ctx)
+	if err != nil {
+		return frames.Answer{}, err
+	}
+	return answers[0], nil
+}
+
+// replies joins the replies of answers, or gives the first refusal.
+func replies(answers []frames.Answer) (all []byte, err error) {
+	for _, answer := range answers {
+		switch answer.Status {
+		case frames.Memory:
+			return nil, &Refused{90}
+		case frames.Fault:
+			return nil, &Refused{int(answer.Value)}
+		}
+		all = append(all, answer.Reply...)
+	}
+	return all, nil
+}
+
+// Begin opens a stream of a tenant, which has to be ended by Commit or given up. A tenant that has one is refused under 31. While a
+// save waits, Begin waits too, as long as the context lasts.
+func (s *Store) Begin(ctx context.Context, tenant string, form Form) (*Stream, error) {
+	if err := s.enter(ctx, s.streams); err != nil {
+		return nil, err
+	}
+	st := &Stream{store: s, tenant: tenant, form: form}
+	if !s.register(st) {
+		s.streams.leave()
+		return nil, &Refused{31}
+	}
+	pending, err := st.openIn(ctx)
+	if err == nil {
+		_, err = pending.Wait(ctx)
+	}
+	if err != nil {
+		st.GiveUp()
+		return nil, err
+	}
+	return st, nil
+}
+
+func (s *Store) register(st *Stream) bool {
+	s.mutex.Lock()
+	defer s.mutex.Unlock()
+	if s.open[st.tenant] != nil {
+		return false
+	}
+	s.open[st.tenant] = st
+	return true
+}
+
+func (st *Stream) openIn(ctx context.Context) (Pending, error) {
+	st.mutex.Lock()
+	defer st.mutex.Unlock()
+	if err := st.store.enter(ctx, st.store.steps); err != nil {
+		return Pending{}, err
+	}
+	defer st.store.steps.leave()
+	st.process = st.store.process
+	record := frames.Step{Kind: frames.Open, Tenant: st.tenant, Body: []byte{byte(st.form)}}
+	if _, err := st.store.journal.Append(record); err != nil {
+		return Pending{}, err
+	}
+	batch, err := st.process.Send(ctx, child.Short, frames.Step{Kind: frames.Open, Tenant: st.tenant})
+	return Pending{batch}, err
+}
+
+// Feed feeds a piece of at most frames.LongestBody bytes. It does not wait for the answer.
+func (st *Stream) Feed(ctx context.Context, body []byte) (Pending, error) {
+	st.mutex.Lock()
+	defer st.mutex.Unlock()
+	if err := st.enter(ctx); err != nil {
+		return Pending{}, err
+	}
+	defer st.store.steps.leave()
+	step := frames.Step{Kind: frames.Feed, Tenant: st.tenant, Body: body}
+	if _, err := st.store.journal.Append(step); err != nil {
+		return Pending{}, err
+	}
+	st.fed += int64(len(body))
+	st.store.taken.Add(1)
+	batch, err := st.process.Send(ctx, child.Short, step)
+	return Pending{batch}, err
+}
+
+// enter goes in where the stream is open and its child is the one that there is.
+func (st *Stream) enter(ctx context.Context) error {
+	if err := st.store.enter(ctx, st.store.steps); err != nil {
+		return err
+	}
+	if st.isClosed || st.process != st.store.process {
+		st.store.steps.leave()
+		if st.isClosed {
+			return &Refused{30}
+		}
+		return child.ErrGone
+	}
+	return nil
+}
+
+// Commit ends the stream with its last piece, which may be empty, and gives what that printed. The piece and the End are in the
+// journal and synced before the child gets them; so when Commit returns nil, the push lasts. On an error of the journal, and
+// where the context ends before, the stream is open still, and nothing of it lasts if it is given up. Refused closes the stream.
+func (st *Stream) Commit(ctx context.Context, last []byte) ([]byte, error) {
+	st.mutex.Lock()
+	defer st.mutex.Unlock()
+	number, batch, err := st.sendEnd(ctx, last)
+	if err != nil {
+		return nil, err
+	}
+	answers, err := batch.Wait(context.Background())
+	switch {
+	case err != nil:
+		// The journal has the End, so the next child carries it out.
+		answers, err = st.store.outcome(number)
+	case outOfMemory(answers):
+		st.withdraw()
+	}
+	st.store.forget(number)
+	faultpoint.Here("before a push is told")
+	if err != nil {
+		st.close(false)
+		return nil, err
+	}
+	reply, err := replies(answers)
+	st.close(err == nil)
+	return reply, err
+}
+
+// withdraw takes back an End for which the child had no memory, and which nobody was told of. What the child has then is not what
+// the journal says, so it is replaced.
+func (st *Stream) withdraw() {
+	if err := st.enter(context.Background()); err != nil {
+		return
+	}
+	defer st.store.steps.leave()
+	st.store.takeBack(st.tenant)
+	st.process.Kill()
+}
+
+// takeBack notes that the last End of a tenant does not count.
+func (s *Store) takeBack(tenant string) {
+	number, err := s.journal.Append(frames.Step{Kind: journal.GivenUp, Tenant: tenant})
+	if err == nil {
+		err = s.journal.Sync(number)
+	}
+	if err != nil {
+		s.config.Tell("the journal keeps the end of a push that is refused for want of memory: %v", err)
+	}
+}
+
+func outOfMemory(answers []frames.Answer) bool {
+	for _, answer := range answers {
+		if answer.Status == frames.Memory || answer.Status == frames.Fault && answer.Value == 90 {
+			return true
+		}
+	}
+	return false
+}
+
+func (st *Stream) sendEnd(ctx context.Context, last []byte) (uint64, *Batch, error) {
+	if err := st.enter(ctx); err != nil {
+		return 0, nil, err
+	}
+	s := st.store
+	defer s.steps.leave()
+	steps := []frames.Step{{Kind: frames.End, Tenant: st.tenant}}
+	if len(last) > 0 {
+		steps = []frames.Step{{Kind: frames.Feed, Tenant: st.tenant, Body: last}, steps[0]}
+		st.fed += int64(len(last))
+	}
+	number, err := s.journal.Append(steps...)
+	if err == nil {
+		err = s.journal.Sync(number)
+	}
+	if err != nil {
+		return 0, nil, err
+	}
+	s.expect(number, st.tenant)
+	s.taken.Add(int64(len(steps)))
+	faultpoint.Here("before the end is sent")
+	batch, err := st.process.Send(context.Background(), child.Short, steps...)
+	if err != nil {
+		batch = child.Lost(err)
+	}
+	return number, batch, nil
+}
+
+// GiveUp ends the stream: of a Whole one nothing stays, of another one its checkpoints. It does nothing where the stream has ended.
+func (st *Stream) GiveUp() {
+	st.mutex.Lock()
+	defer st.mutex.Unlock()
+	st.giveUp()
+}
+
+// giveUpIdle gives the stream up where none of its calls is at work.
+func (st *Stream) giveUpIdle() {
+	if st.mutex.TryLock() {
+		defer st.mutex.Unlock()
+		st.giveUp()
+	}
+}
+
+func (st *Stream) giveUp() {
+	if st.isClosed {
+		return
+	}
+	ctx := context.Background()
+	if err := st.enter(ctx); err == nil {
+		_, err := st.store.journal.Append(frames.Step{Kind: journal.GivenUp, Tenant: st.tenant})
+		if err != nil {
+			st.store.config.Tell("a stream that was given up is not noted in the journal: %v", err)
+		}
+		giveUp(ctx, st.process, st.tenant, st.form)
+		st.store.steps.leave()
+	}
+	st.store.count(func(c *Counts) { c.GivenUp++ })
+	st.close(false)
+}
+
+// close lets the tenant have another stream, and a save go on.
+func (st *Stream) close(well bool) {
+	s := st.store
+	st.isClosed = true
+	s.mutex.Lock()
+	delete(s.open, st.tenant)
+	if well {
+		s.counts.Pushes++
+	} else {
+		s.counts.Refused++
+	}
+	if well || st.form == Checkpoints {
+		s.since[st.tenant] += st.fed
+	}
+	s.mutex.Unlock()
+	s.streams.leave()
+}
+
+// end is an End that is in the journal, and of which nobody was told.
+type end struct {
+	tenant string
+	answer chan frames.Answer
+}
+
+// expect lets `outcome` wait for the answer to an End that is in the journal.
+func (s *Store) expect(number uint64, tenant string) {
+	s.mutex.Lock()
+	defer s.mutex.Unlock()
+	s.ends[number] = end{tenant, make(chan frames.Answer, 1)}
+}
+
+func (s *Store) forget(number uint64) {
+	s.mutex.Lock()
+	defer s.mutex.Unlock()
+	delete(s.ends, number)
+}
+
+// outcome waits until another child has carried an End out, and gives its answer.
+func (s *Store) outcome(number uint64) ([]frames.Answer, error) {
+	s.mutex.Lock()
+	it := s.ends[number]
+	s.mutex.Unlock()
+	select {
+	case answer := <-it.answer:
+		return []frames.Answer{answer}, nil
+	case <-s.closing:
+		return nil, ErrUnknown
+	}
+}
+
+// tellEnds gives the answers to Ends to the pushes that wait for them.
+func (s *Store) tellEnds(answers map[uint64]frames.Answer) {
+	s.mutex.Lock()
+	defer s.mutex.Unlock()
+	for number, it := range s.ends {
+		if answer, found := answers[number]; found && len(it.answer) == 0 {
+			it.answer <- answer
+			delete(s.ends, number)
+		}
+	}
+}
+
+// Lines that begin no command refuse a stream, wherever it stands: at a command at once; in the middle of a data, once its bytes are
+// there. A data has at most 64 MiB; after that much the stream has been refused, or it had said `done` and takes no more.
+const (
+	noCommand   = "\ngive-up\n"
+	mostRefused = 76 << 20
+)
+
+// noCommands are the pieces of such lines that are fed, the last of them again and again.
+var noCommands = [...]int{len(noCommand), 1 << 16, 1 << 20, 8 << 20}
+
+// giveUp ends a stream in the child. One that asked for `done` and has not said it is refused by its End; another one is refused first.
+func giveUp(ctx context.Context, p *child.Process, tenant string, form Form) {
+	for i, fed := 0, 0; form == Checkpoints && fed < mostRefused; i++ {
+		if i == len(noCommands) {
+			i--
+		}
+		body := bytes.Repeat([]byte(noCommand), noCommands[i]/len(noCommand))
+		fed += len(body)
+		answers, err := sendAndWait(ctx, p, frames.Step{Kind: frames.Feed, Tenant: tenant, Body: body})
+		if err != nil || answers[0].Status != frames.Ok {
+			break
+		}
+	}
+	_, _ = sendAndWait(ctx, p, frames.Step{Kind: frames.End, Tenant: tenant})
+}
+
+func sendAndWait(ctx context.Context, p *child.Process, step frames.Step) ([]frames.Answer, error) {
+	batch, err := p.Send(ctx, child.Short, step)
+	if err != nil {
+		return nil, err
+	}
+	return batch.Wait(ctx)
+}

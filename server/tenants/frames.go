@@ -1,0 +1,88 @@
+package tenants
+
+import (
+	"context"
+	"errors"
+
+	"gitpoold/child"
+	"gitpoold/frames"
+	"gitpoold/journal"
+	"gitpoold/store"
+)
+
+// FrameStream is a stream of a client that speaks frames: its steps are answered as `gitpool serve` answers them, and an End lasts from
+// its answer on. It belongs to one goroutine.
+type FrameStream struct {
+	inner *store.Stream
+	leave func()
+}
+
+// OpenFrames opens a stream as an Open does. It waits for a push of the tenant as long as the context lasts, and is then refused
+// under 31.
+func (t Tenant) OpenFrames(ctx context.Context) (*FrameStream, error) {
+	unlock, err := t.pool.locks.take(ctx, t.name)
+	if err != nil {
+		return nil, Fault{31}
+	}
+	if _, err := t.Room(); err != nil {
+		unlock()
+		return nil, Fault{25}
+	}
+	inner, err := t.pool.store.Begin(ctx, t.name, store.Checkpoints)
+	if err != nil {
+		unlock()
+		return nil, fromStore(err)
+	}
+	return &FrameStream{inner, unlock}, nil
+}
+
+// Feed feeds a piece, and gives the call that waits for the answer.
+func (s *FrameStream) Feed(ctx context.Context, body []byte) (func(context.Context) (frames.Answer, error), error) {
+	pending, err := s.inner.Feed(ctx, body)
+	return pending.Answer, err
+}
+
+// End ends the stream, and gives the answer once it is in the journal and synced. On an error the stream is open still.
+func (s *FrameStream) End(ctx context.Context) (frames.Answer, error) {
+	reply, err := s.inner.Commit(ctx, nil)
+	var refused *store.Refused
+	switch {
+	case errors.As(err, &refused):
+		s.leave()
+		return frames.Answer{Status: frames.Fault, Value: uint64(refused.Number)}, nil
+	case err == nil:
+		s.leave()
+	}
+	return frames.Answer{Reply: reply}, err
+}
+
+// GiveUp drops the stream of a client that is gone: what it did since its last checkpoint.
+func (s *FrameStream) GiveUp() {
+	s.inner.GiveUp()
+	s.leave()
+}
+
+// Pass asks for the child's answers to questions in frames, in one batch.
+func (p *Pool) Pass(ctx context.Context, questions []frames.Step) (func(context.Context) ([]frames.Answer, error), error) {
+	batch, err := p.store.Ask(ctx, child.Short, questions...)
+	if err != nil {
+		return nil, err
+	}
+	return batch.Wait, nil
+}
+
+// ErrorNumber gives the number of the fault by which an error is told to a client that speaks frames, 0 where there is none: the
+// connection ends then, as that of a `serve` that ended.
+func ErrorNumber(err error) int {
+	var fault Fault
+	var refused *store.Refused
+	switch {
+	case errors.As(err, &fault):
+		return fault.Number
+	case errors.As(err, &refused):
+		return refused.Number
+	case errors.Is(err, journal.ErrFull), errors.Is(err, journal.ErrBroken):
+		return 68
+	}
+	return 0
+}

@@ -1,0 +1,33 @@
+package tenants
+
+import (
+	"errors"
+
+	"gitpoold/store"
+)
+
+// ErrFull says that the tenant has as many bytes as it may have, or would have with this push.
+var ErrFull = errors.New("a limit is passed: the repository has as many bytes as its quota allows; nothing of this push was kept (fault 25)")
+
+// usage counts the bytes of tenants, for their quotas.
+type usage struct {
+	quota func(tenant string) int64
+	store *store.Store
+}
+
+// unlimited is the room of a tenant without a quota.
+const unlimited = 1 << 62
+
+// Room gives how many bytes a push to the tenant may bring now, by its quota; ErrFull where there are none. Call it before the bytes
+// of a push are taken from the network: what is above it is refused in any case.
+func (t Tenant) Room() (int64, error) {
+	most := t.pool.usage.quota(t.name)
+	if most <= 0 {
+		return unlimited, nil
+	}
+	room := most - t.pool.store.Bytes(t.name)
+	if room <= 0 {
+		return 0, ErrFull
+	}
+	return room, nil
+}

@@ -1,0 +1,264 @@
+// Package uploadpack answers clones and fetches: git-upload-pack(1), with the protocols 0, 1 and 2 of gitprotocol-pack(5) and
+// gitprotocol-v2(5).
+package uploadpack
+
+import (
+	"context"
+	"fmt"
+	"sort"
+	"strings"
+	"sync"
+
+	"gitpoold/pktline"
+	"gitpoold/tenants"
+	"gitpoold/walk"
+)
+
+// Repository is what a fetch asks of a tenant.
+type Repository interface {
+	walk.Source
+	Has(context.Context, []tenants.Name) ([]bool, error)
+	Refs(context.Context) (refs []tenants.Ref, head string, err error)
+}
+
+// Agent is how the server calls itself to clients.
+const Agent = "agent=gitpoold"
+
+const (
+	firstCapabilities = "multi_ack multi_ack_detailed no-done side-band side-band-64k ofs-delta thin-pack shallow deepen-since deepen-not" +
+		" deepen-relative filter include-tag no-progress allow-tip-sha1-in-want allow-reachable-sha1-in-want object-format=sha1 " + Agent
+	tagRefs = "refs/tags/"
+)
+
+// Advertise writes what stands before the first request: refs and capabilities, or with protocol 2 the capabilities alone.
+func Advertise(ctx context.Context, t Repository, out *pktline.Writer, version int) error {
+	if version == 2 {
+		return advertiseSecond(out)
+	}
+	refs, head, err := t.Refs(ctx)
+	if err != nil {
+		return err
+	}
+	chains, err := chainsOf(ctx, t, refs)
+	if err != nil {
+		return err
+	}
+	if version == 1 {
+		out.Line("version 1")
+	}
+	capabilities := firstCapabilities
+	if target, is := targetOf(refs, head); is {
+		refs = append([]tenants.Ref{{Name: "HEAD", Target: target}}, refs...)
+		capabilities += " symref=HEAD:" + head
+	}
+	AdvertiseRefs(out, refs, capabilities, chains)
+	return out.Flush()
+}
+
+// AdvertiseRefs writes refs as protocols 0 and 1 do. A tag's line is followed by what the tag is of, if chains has it.
+func AdvertiseRefs(out *pktline.Writer, refs []tenants.Ref, capabilities string, chains map[tenants.Name]walk.Chain) {
+	tail := "\x00" + capabilities
+	if len(refs) == 0 {
+		out.Line("%v capabilities^{}%s", tenants.Name{}, tail)
+	}
+	for _, ref := range refs {
+		out.Line("%v %s%s", ref.Target, ref.Name, tail)
+		if chain, is := chains[ref.Target]; is && strings.HasPrefix(ref.Name, tagRefs) {
+			out.Line("%v %s^{}", chain.Peeled, ref.Name)
+		}
+		tail = ""
+	}
+	out.FlushPacket()
+}
+
+func targetOf(refs []tenants.Ref, name string) (tenants.Name, bool) {
+	for _, ref := range refs {
+		if ref.Name == name {
+			return ref.Target, true
+		}
+	}
+	return tenants.Name{}, false
+}
+
+// chainsOf gives the annotated tags that refs hold, by their names.
+func chainsOf(ctx context.Context, t Repository, refs []tenants.Ref) (map[tenants.Name]walk.Chain, error) {
+	found := map[tenants.Name]walk.Chain{}
+	var unknown []tenants.Name
+	for _, ref := range refs {
+		if !strings.HasPrefix(ref.Name, tagRefs) {
+			continue
+		}
+		if chain, is := remembered.get(ref.Target); !is {
+			unknown = append(unknown, ref.Target)
+		} else if len(chain.Names) > 0 {
+			found[ref.Target] = chain
+		}
+	}
+	return found, readChains(ctx, t, unknown, found)
+}
+
+// readChains follows tags, all of them a step at a time.
+func readChains(ctx context.Context, t Repository, names []tenants.Name, into map[tenants.Name]walk.Chain) error {
+	open := make([]*walk.Chain, len(names))
+	for at, name := range names {
+		open[at] = &walk.Chain{Peeled: name}
+	}
+	chains := open
+	for len(open) > 0 {
+		var err error
+		if open, err = follow(ctx, t, open); err != nil {
+			return err
+		}
+	}
+	for at, name := range names {
+		remembered.put(name, *chains[at])
+		if len(chains[at].Names) > 0 {
+			into[name] = *chains[at]
+		}
+	}
+	return nil
+}
+
+// follow goes one step on in each chain, and gives those that a step was found for.
+func follow(ctx context.Context, t Repository, open []*walk.Chain) (still []*walk.Chain, err error) {
+	ask := make([]tenants.Name, len(open))
+	for at, chain := range open {
+		ask[at] = chain.Peeled
+	}
+	at := 0
+	err = t.Objects(ctx, ask, func(o tenants.Object) error {
+		chain := open[at]
+		at++
+		if target, is := tagged(o); is {
+			chain.Names, chain.Peeled = append(chain.Names, o.Name), target
+			still = append(still, chain)
+		}
+		return nil
+	})
+	return still, err
+}
+
+// memory remembers what tags lead to. A name says for ever what it leads to; it is asked of names that a tenant's own refs hold.
+type memory struct {
+	mutex  sync.Mutex
+	chains map[tenants.Name]walk.Chain
+}
+
+const mostRemembered = 1 << 18
+
+var remembered memory
+
+func (m *memory) get(name tenants.Name) (walk.Chain, bool) {
+	m.mutex.Lock()
+	defer m.mutex.Unlock()
+	chain, is := m.chains[name]
+	return chain, is
+}
+
+func (m *memory) put(name tenants.Name, chain walk.Chain) {
+	m.mutex.Lock()
+	defer m.mutex.Unlock()
+	if m.chains == nil || len(m.chains) >= mostRemembered {
+		m.chains = map[tenants.Name]walk.Chain{}
+	}
+	m.chains[name] = chain
+}
+
+// listing is a request ls-refs.
+type listing struct {
+	peel, symrefs, unborn bool
+	prefixes              []string
+}
+
+// mostPrefixes is from where on prefixes select nothing, as in git.
+const mostPrefixes = 65536
+
+func readListing(arguments []string) (listing, error) {
+	var l listing
+	for _, argument := range arguments {
+		prefix, isPrefix := strings.TrimPrefix(argument, "ref-prefix "), strings.HasPrefix(argument, "ref-prefix ")
+		switch {
+		case argument == "peel":
+			l.peel = true
+		case argument == "symrefs":
+			l.symrefs = true
+		case argument == "unborn":
+			l.unborn = true
+		case isPrefix:
+			l.prefixes = append(l.prefixes, prefix)
+		default:
+			return l, fmt.Errorf("ls-refs does not know the argument `%s`", pktline.Show([]byte(argument)))
+		}
+	}
+	if len(l.prefixes) >= mostPrefixes {
+		l.prefixes = nil
+	}
+	return l, nil
+}
+
+// serve writes the refs that were asked for.
+func (l listing) serve(ctx context.Context, t Repository, out *pktline.Writer) error {
+	refs, head, err := t.Refs(ctx)
+	if err != nil {
+		return err
+	}
+	selected := l.selected(refs)
+	var chains map[tenants.Name]walk.Chain
+	if l.peel {
+		if chains, err = chainsOf(ctx, t, selected); err != nil {
+			return err
+		}
+	}
+	l.head(out, refs, head)
+	for _, ref := range selected {
+		tail := ""
+		if chain, is := chains[ref.Target]; is && strings.HasPrefix(ref.Name, tagRefs) {
+			tail = fmt.Sprintf(" peeled:%v", chain.Peeled)
+		}
+		out.Line("%v %s%s", ref.Target, ref.Name, tail)
+	}
+	out.FlushPacket()
+	return out.Flush()
+}
+
+func (l listing) head(out *pktline.Writer, refs []tenants.Ref, head string) {
+	if len(l.selected([]tenants.Ref{{Name: "HEAD"}})) == 0 {
+		return
+	}
+	tail := ""
+	if l.symrefs {
+		tail = " symref-target:" + head
+	}
+	if target, is := targetOf(refs, head); is {
+		out.Line("%v HEAD%s", target, tail)
+	} else if l.unborn && l.symrefs {
+		out.Line("unborn HEAD%s", tail)
+	}
+}
+
+// selected gives the refs that begin with one of the prefixes. Refs are in the order of their bytes.
+func (l listing) selected(refs []tenants.Ref) []tenants.Ref {
+	if len(l.prefixes) == 0 {
+		return refs
+	}
+	var found []tenants.Ref
+	for _, prefix := range shortest(l.prefixes) {
+		at := sort.Search(len(refs), func(at int) bool { return refs[at].Name >= prefix })
+		for ; at < len(refs) && strings.HasPrefix(refs[at].Name, prefix); at++ {
+			found = append(found, refs[at])
+		}
+	}
+	return found
+}
+
+// shortest gives prefixes in order, without those that begin with another: so no ref is looked at twice.
+func shortest(prefixes []string) (kept []string) {
+	sorted := append([]string{}, prefixes...)
+	sort.Strings(sorted)
+	for _, prefix := range sorted {
+		if len(kept) == 0 || !strings.HasPrefix(prefix, kept[len(kept)-1]) {
+			kept = append(kept, prefix)
+		}
+	}
+	return kept
+}

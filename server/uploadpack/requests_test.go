@@ -1,0 +1,214 @@
+package uploadpack
+
+import (
+	"bufio"
+	"bytes"
+	"context"
+	"fmt"
+	"os"
+	"strings"
+	"testing"
+
+	"gitpoold/objects"
+	"gitpoold/pack"
+	"gitpoold/pktline"
+	"gitpoold/tenants"
+)
+
+// memoryRepository has objects and refs in memory.
+type memoryRepository struct {
+	objects map[tenants.Name]tenants.Object
+	refs    []tenants.Ref
+	head    string
+}
+
+func (m *memoryRepository) add(kind tenants.Kind, contents string) tenants.Name {
+	name := pack.NameOf(kind, []byte(contents))
+	m.objects[name] = tenants.Object{Name: name, Kind: kind, Contents: []byte(contents)}
+	return name
+}
+
+func (m *memoryRepository) Objects(_ context.Context, names []tenants.Name, use func(tenants.Object) error) error {
+	for _, name := range names {
+		o, is := m.objects[name]
+		if !is {
+			return tenants.ErrMissing
+		}
+		if err := use(o); err != nil {
+			return err
+		}
+	}
+	return nil
+}
+
+func (m *memoryRepository) Log(_ context.Context, revisions string) (names []tenants.Name, err error) {
+	seen := map[tenants.Name]bool{}
+	out, from, isRange := strings.Cut(revisions, "..")
+	if !isRange {
+		out, from = "", out
+	}
+	var walk func(text string, use func(tenants.Name))
+	walk = func(text string, use func(tenants.Name)) {
+		name, _ := tenants.ParseName(text)
+		if text == "" || seen[name] {
+			return
+		}
+		seen[name] = true
+		use(name)
+		for _, parent := range objects.ReadHead(m.objects[name].Contents).Parents {
+			walk(parent.String(), use)
+		}
+	}
+	walk(out, func(tenants.Name) {})
+	walk(from, func(name tenants.Name) { names = append(names, name) })
+	return names, nil
+}
+
+func (m *memoryRepository) Has(_ context.Context, names []tenants.Name) (has []bool, err error) {
+	for _, name := range names {
+		_, is := m.objects[name]
+		has = append(has, is)
+	}
+	return has, nil
+}
+
+func (m *memoryRepository) Refs(context.Context) ([]tenants.Ref, string, error) {
+	return m.refs, m.head, nil
+}
+
+// smallRepository has a history of some commits, and a tag.
+func smallRepository() (*memoryRepository, []tenants.Name) {
+	m := &memoryRepository{objects: map[tenants.Name]tenants.Object{}, head: "refs/heads/main"}
+	var commits []tenants.Name
+	parent := ""
+	for at := 0; at < 5; at++ {
+		blob := m.add(tenants.Blob, fmt.Sprintf("blob %d\n", at))
+		tree := m.add(tenants.Tree, "100644 f\x00"+string(blob[:]))
+		who := fmt.Sprintf("A <a@b> %d +0000", 1000+at)
+		commits = append(commits, m.add(tenants.Commit, fmt.Sprintf("tree %v\n%sauthor %s\ncommitter %s\n\nm\n", tree, parent, who, who)))
+		parent = fmt.Sprintf("parent %v\n", commits[at])
+	}
+	tag := m.add(tenants.Tag, fmt.Sprintf("object %v\ntype commit\ntag v\n\nm\n", commits[2]))
+	m.refs = []tenants.Ref{{Name: "refs/heads/main", Target: commits[4]}, {Name: "refs/tags/v", Target: tag}}
+	return m, commits
+}
+
+func serve(m *memoryRepository, version int, request []byte) []byte {
+	var out bytes.Buffer
+	s := Server{Folder: os.TempDir()}
+	_ = s.Serve(context.Background(), m, bufio.NewReader(bytes.NewReader(request)), pktline.NewWriter(&out), version, true)
+	return out.Bytes()
+}
+
+func lines(texts ...string) (out []byte) {
+	for _, text := range texts {
+		if text == "" {
+			out = append(out, "0000"...)
+		} else if text == "|" {
+			out = append(out, "0001"...)
+		} else {
+			out = append(out, fmt.Sprintf("%04x%s", len(text)+4, text)...)
+		}
+	}
+	return out
+}
+
+// packIn reads the pack at the end of an answer without bands.
+func packIn(t *testing.T, answer []byte) *pack.Quarantine {
+	t.Helper()
+	at := bytes.Index(answer, []byte("PACK"))
+	if at < 0 {
+		t.Fatalf("no pack: %.300q", answer)
+	}
+	q, err := pack.NewQuarantine(t.TempDir(), nil, pack.Usual)
+	if err != nil {
+		t.Fatal(err)
+	}
+	t.Cleanup(func() { q.Close() })
+	if err := q.Read(context.Background(), bytes.NewReader(answer[at:])); err != nil {
+		t.Fatal(err)
+	}
+	return q
+}
+
+func TestAnswersOfTheFirstProtocols(t *testing.T) {
+	m, commits := smallRepository()
+	want := fmt.Sprintf("want %v ofs-delta\n", commits[4])
+	have := func(at int) string { return fmt.Sprintf("have %v\n", commits[at]) }
+	for what, it := range map[string]struct {
+		request []byte
+		begins  string
+		commits int
+	}{
+		"a clone":               {lines(want, "", "done\n"), "0008NAK\n", 5},
+		"a fetch":               {lines(want, "", have(2), "done\n"), "0031ACK " + commits[2].String() + "\n", 2},
+		"several haves":         {lines(want, "", have(3), have(0), "done\n"), "0031ACK " + commits[3].String() + "\n", 1},
+		"an unknown have":       {lines(want, "", "have "+strings.Repeat("1", 40)+"\n", "done\n"), "0008NAK\n", 5},
+		"a depth":               {lines(want, "deepen 2", "", "done\n"), "0034shallow " + commits[3].String() + "0000", 2},
+		"an old shallow clone":  {lines(want, "shallow "+commits[3].String(), "", have(3), "done\n"), "0031ACK", 1},
+		"a tag":                 {lines(fmt.Sprintf("want %v\n", m.refs[1].Target), "", "done\n"), "0008NAK\n", 3},
+		"nothing at all":        {lines(""), "", -1},
+		"what is there already": {lines(want, "", have(4), "done\n"), "0031ACK", 0},
+	} {
+		answer := serve(m, 0, it.request)
+		begins := strings.ReplaceAll(it.begins, "\n0000", "0000")
+		if !strings.HasPrefix(strings.ReplaceAll(string(answer), "\n0000", "0000"), begins) && it.commits >= 0 && what != "a depth" {
+			t.Errorf("%s: %.200q", what, answer)
+		}
+		if it.commits < 0 {
+			continue
+		}
+		if got := len(packIn(t, answer).Names(tenants.Commit)); got != it.commits {
+			t.Errorf("%s: %d commits", what, got)
+		}
+	}
+}
+
+func TestAnswersOfTheSecondProtocol(t *testing.T) {
+	m, commits := smallRepository()
+	want := fmt.Sprintf("want %v\n", commits[4])
+	answer := string(serve(m, 2, lines("command=ls-refs\n", "|", "peel\n", "symrefs\n", "ref-prefix refs/tags/\n", "ref-prefix HEAD\n", "")))
+	for _, text := range []string{" HEAD symref-target:refs/heads/main\n", "refs/tags/v peeled:" + commits[2].String()} {
+		if !strings.Contains(answer, text) || strings.Contains(answer, " refs/heads/main\n00") {
+			t.Errorf("%q", answer)
+		}
+	}
+	answer = string(serve(m, 2, lines("command=fetch\n", "|", want, fmt.Sprintf("have %v\n", commits[1]), "")))
+	if !strings.HasPrefix(answer, "0014acknowledgments\n0031ACK "+commits[1].String()+"\n000aready\n0001000dpackfile\n") {
+		t.Errorf("%.200q", answer)
+	}
+	answer = string(serve(m, 2, lines("command=fetch\n", "|", want, fmt.Sprintf("have %v\n", commits[1]), "wait-for-done\n", "")))
+	if !strings.HasSuffix(answer, commits[1].String()+"\n0000") {
+		t.Errorf("%.200q", answer)
+	}
+	answer = string(serve(m, 2, lines("command=fetch\n", "|", want, "done\n", "sideband-all\n", "")))
+	if !strings.HasPrefix(answer, "000e\x01packfile\n") {
+		t.Errorf("%.200q", answer)
+	}
+}
+
+func TestPrefixesAreLookedUpOnce(t *testing.T) {
+	var refs []tenants.Ref
+	for at := 0; at < 1000; at++ {
+		refs = append(refs, tenants.Ref{Name: fmt.Sprintf("refs/heads/b%03d", at)})
+	}
+	l := listing{prefixes: []string{"refs/heads/b01", "refs/heads/b0", "refs/heads/b01", "refs/heads/b999", "refs/none"}}
+	if got := len(l.selected(refs)); got != 101 {
+		t.Fatalf("%d refs", got)
+	}
+}
+
+func FuzzRequests(f *testing.F) {
+	m, commits := smallRepository()
+	want := fmt.Sprintf("want %v side-band-64k ofs-delta include-tag\n", commits[4])
+	f.Add(0, lines(want, "deepen 2\n", "", "done\n"))
+	f.Add(0, lines(want, "shallow "+commits[3].String()+"\n", "deepen-since 1002\n", "filter blob:limit=1\n", "", "have "+commits[1].String()+"\n", "", "done\n"))
+	f.Add(2, lines("command=fetch\n", "|", want, "deepen-not v\n", "done\n", ""))
+	f.Add(2, lines("command=fetch\n", "|", "want "+commits[4].String()+"\n", "have "+commits[0].String()+"\n", "deepen 1\n", "deepen-relative\n", "shallow "+commits[2].String()+"\n", "filter combine:tree:1+blob:none\n", ""))
+	f.Add(2, lines("command=ls-refs\n", "|", "peel\n", "symrefs\n", "unborn\n", "ref-prefix r\n", ""))
+	f.Fuzz(func(t *testing.T, version int, request []byte) {
+		if version >= 0 && version <= 2 {
+			serve(m, version, request)
+		}
+	})
+}

@@ -1,0 +1,126 @@
+// Package walk finds the objects that a fetch has to send: what the wanted objects reach and the client has not.
+//
+// It asks a tenant for commits and trees as it goes, many at once. What is sent may be more than what the client lacks, never less.
+package walk
+
+import (
+	"context"
+	"fmt"
+
+	"gitpoold/objects"
+	"gitpoold/tenants"
+)
+
+// Source is what a walk asks: a tenant.
+type Source interface {
+	Objects(context.Context, []tenants.Name, func(tenants.Object) error) error
+	Log(context.Context, string) ([]tenants.Name, error)
+}
+
+// commit is a commit that has been read. Contents are kept for a while, for most commits that are read are sent.
+type commit struct {
+	objects.Head
+	contents []byte
+	flags    flags
+}
+
+type flags uint8
+
+const (
+	queued flags = 1 << iota
+	known
+	sent
+)
+
+// History has the commits of one tenant that were read for one request.
+type History struct {
+	source  Source
+	commits map[tenants.Name]*commit
+	cuts    map[tenants.Name]bool
+	common  []tenants.Name
+	rounds  int
+	kept    int
+}
+
+// A walk goes to parents one round of questions after another. After so many rounds it asks for the rest of a history at once: in a
+// history that ends at a depth, later.
+const (
+	patience     = 64
+	longPatience = 1024
+	mostKept     = 16 << 20
+)
+
+// NewHistory makes an empty one.
+func NewHistory(source Source) *History {
+	return &History{source: source, commits: map[tenants.Name]*commit{}, cuts: map[tenants.Name]bool{}}
+}
+
+// Cut makes commits count as if they had no parents, as those of a shallow repository.
+func (h *History) Cut(names []tenants.Name) {
+	for _, name := range names {
+		h.cuts[name] = true
+	}
+}
+
+// parents gives the parents of a commit that was read, as far as they count.
+func (h *History) parents(name tenants.Name) []tenants.Name {
+	if h.cuts[name] {
+		return nil
+	}
+	return h.commits[name].Parents
+}
+
+// Load reads those of these commits that were not read yet.
+func (h *History) Load(ctx context.Context, names []tenants.Name) error {
+	unread := h.unread(names)
+	if len(unread) == 0 {
+		return nil
+	}
+	h.rounds++
+	if h.rounds > patience && (len(h.cuts) == 0 || h.rounds > longPatience) {
+		h.rounds = 0
+		if err := h.loadRest(ctx, unread[0]); err != nil {
+			return err
+		}
+		unread = h.unread(unread)
+	}
+	return h.read(ctx, unread)
+}
+
+func (h *History) unread(names []tenants.Name) (unread []tenants.Name) {
+	taken := map[tenants.Name]bool{}
+	for _, name := range names {
+		if h.commits[name] == nil && !taken[name] {
+			taken[name] = true
+			unread = append(unread, name)
+		}
+	}
+	return unread
+}
+
+// loadRest reads all commits that one reaches and the client has not, as far as one of its commits tells.
+func (h *History) loadRest(ctx context.Context, from tenants.Name) error {
+	revisions := from.String()
+	if len(h.common) > 0 {
+		revisions = h.common[0].String() + ".." + revisions
+	}
+	names, err := h.source.Log(ctx, revisions)
+	if err != nil {
+		return err
+	}
+	return h.read(ctx, h.unread(names))
+}
+
+func (h *History) read(ctx context.Context, names []tenants.Name) error {
+	return h.source.Objects(ctx, names, func(o tenants.Object) error {
+		if o.Kind != tenants.Commit {
+			return fmt.Errorf("object %v is a %v where a commit has to be", o.Name, o.Kind)
+		}
+		c := &commit{Head: objects.ReadHead(o.Contents)}
+		if h.kept += len(o.Contents); h.kept < mostKept {
+			c.contents = o.Contents
+		}
+		h.commits[o.Name] = c
+		return nil
+	})
+}
