@@ -23,7 +23,7 @@ _gitpool_clients_options() {
       echo "--progress --no-progress --help --version"
       ;;
     gitpool-export) echo "--pool --into --help --version" ;;
-    gitpool-shell) echo "--pool --read-only --help --version" ;;
+    gitpool-shell) echo "--pool --read-only --idle --help --version" ;;
     gitpool-tenants) echo "--version" ;;
   esac
 }

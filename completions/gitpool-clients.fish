@@ -25,4 +25,5 @@ complete -c gitpool-import -l no-progress -d 'show no progress'
 
 complete -c gitpool-shell -f
 complete -c gitpool-shell -l read-only -d 'serve only fetches'
+complete -c gitpool-shell -l idle -x -d 'end a client that is silent for so long'
 complete -c gitpool-shell -n 'test (count (commandline -opc)) -gt 1' -a 'fetch push' -d 'what to serve'

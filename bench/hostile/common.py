@@ -54,6 +54,10 @@ class Run:
         sys.exit(1 if self.failed else 0)
 
 
+# The kinds of further frames that `host` takes.
+SAVE, ABANDON, REMOVE, COMPACT, COPY, SIZES = range(16, 22)
+
+
 def frame(kind, tenant, body=b""):
     return struct.pack(">BH", kind, len(tenant)) + tenant + struct.pack(">I", len(body)) + body
 

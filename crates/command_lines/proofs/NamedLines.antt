@@ -14,8 +14,8 @@ use Rattle.clap.specs.Simple.{Shape, built, built_leaf, entered, help_shape, inh
 use Rattle.clap.specs.Walk.{answers_to}
 use Rattle.clap.specs.Takes.{is_given}
 use Rattle.clap.specs.declared.error.kind.ErrorKind.{ErrorKind}
-use Rattle.command_lines.specs.Lines.{Said, ask, copy, import, said_by, said_in}
-use Rattle.command_lines.specs.Usage.{ask_usage, check_usage, copy_usage, gitpool, import_usage, serve_usage}
+use Rattle.command_lines.specs.Lines.{Said, ask, compact, copy, extract, import, merge, remove, said_by, said_in}
+use Rattle.command_lines.specs.Usage.{ask_usage, check_usage, compact_usage, copy_usage, extract_usage, gitpool, host_usage, import_usage, merge_usage, remove_usage, serve_usage, sizes_usage}
 use Rattle.command_lines.proofs.FilledRows.{defaults_filled, filled, no_nil, or_else_nil, settled_filled, wants_value}
 use Rattle.command_lines.proofs.FilledWalk.{given_value, walk_filled}
 
@@ -143,11 +143,11 @@ some_said : (f : Text → Said) (o : Option Text) → is_some o ≡ true → is_
 some_said f None e = absurd (true≢false (sym e))
 some_said f (Some pool) e = refl
 
-some_import : (tenant pool : Option Text) → is_some tenant ≡ true → is_some pool ≡ true
-    → is_some (option_and_then (λ p. option_map (λ t. import t p) tenant) pool) ≡ true
-some_import None pool e f = absurd (true≢false (sym e))
-some_import (Some t) None e f = absurd (true≢false (sym f))
-some_import (Some t) (Some p) e f = refl
+some_one : (line : Text → Text → Said) (word pool : Option Text) → is_some word ≡ true → is_some pool ≡ true
+    → is_some (option_and_then (λ p. option_map (λ w. line w p) word) pool) ≡ true
+some_one line None pool e f = absurd (true≢false (sym e))
+some_one line (Some w) None e f = absurd (true≢false (sym f))
+some_one line (Some w) (Some p) e f = refl
 
 some_two : (line : Text → Text → Text → Said) (first second pool : Option Text) → is_some first ≡ true → is_some second ≡ true → is_some pool ≡ true
     → is_some (option_and_then (λ p. option_and_then (λ f. option_map (λ s. line f s p) second) first) pool) ≡ true
@@ -179,7 +179,7 @@ import_says words none =
     let rows = rows_after (leaf import_usage).rules [] words in
     let tenant = first_given (is_given (codes "tenant") rows) (not (is_given (codes "pool") rows) || false) (wanted (leaf import_usage) rows false all.1).1 in
     let pool = first_given (is_given (codes "pool") rows) false tenant.1 in
-    some_import (first_of (codes "tenant") rows) (first_of (codes "pool") rows) (given_value (codes "tenant") rows all.0 tenant.0)
+    some_one import (first_of (codes "tenant") rows) (first_of (codes "pool") rows) (given_value (codes "tenant") rows all.0 tenant.0)
     (given_value (codes "pool") rows all.0 pool.0)
 
 ask_says : Says ask_usage
@@ -204,25 +204,85 @@ copy_says words none =
     some_two copy (first_of (codes "from") rows) (first_of (codes "to") rows) (first_of (codes "pool") rows) (given_value (codes "from") rows all.0 from.0)
     (given_value (codes "to") rows all.0 to.0) (given_value (codes "pool") rows all.0 pool.0)
 
+sizes_says : Says sizes_usage
+sizes_says words none =
+    let all = leaf_filled (leaf sizes_usage) words refl none in
+    let rows = rows_after (leaf sizes_usage).rules [] words in
+    let pool = first_given (is_given (codes "pool") rows) false (wanted (leaf sizes_usage) rows false all.1).1 in
+    some_said _ (first_of (codes "pool") rows) (given_value (codes "pool") rows all.0 pool.0)
+
+host_says : Says host_usage
+host_says words none =
+    let all = leaf_filled (leaf host_usage) words refl none in
+    let rows = rows_after (leaf host_usage).rules [] words in
+    let pool = first_given (is_given (codes "pool") rows) false (wanted (leaf host_usage) rows false all.1).1 in
+    some_said _ (first_of (codes "pool") rows) (given_value (codes "pool") rows all.0 pool.0)
+
+remove_says : Says remove_usage
+remove_says words none =
+    let all = leaf_filled (leaf remove_usage) words refl none in
+    let rows = rows_after (leaf remove_usage).rules [] words in
+    let tenant = first_given (is_given (codes "tenant") rows) (not (is_given (codes "pool") rows) || false) (wanted (leaf remove_usage) rows false all.1).1 in
+    let pool = first_given (is_given (codes "pool") rows) false tenant.1 in
+    some_one remove (first_of (codes "tenant") rows) (first_of (codes "pool") rows) (given_value (codes "tenant") rows all.0 tenant.0)
+    (given_value (codes "pool") rows all.0 pool.0)
+
+compact_says : Says compact_usage
+compact_says words none =
+    let all = leaf_filled (leaf compact_usage) words refl none in
+    let rows = rows_after (leaf compact_usage).rules [] words in
+    let tenant = first_given (is_given (codes "tenant") rows) (not (is_given (codes "pool") rows) || false) (wanted (leaf compact_usage) rows false all.1).1 in
+    let pool = first_given (is_given (codes "pool") rows) false tenant.1 in
+    some_one compact (first_of (codes "tenant") rows) (first_of (codes "pool") rows) (given_value (codes "tenant") rows all.0 tenant.0)
+    (given_value (codes "pool") rows all.0 pool.0)
+
+merge_says : Says merge_usage
+merge_says words none =
+    let all = leaf_filled (leaf merge_usage) words refl none in
+    let rows = rows_after (leaf merge_usage).rules [] words in
+    let file = first_given (is_given (codes "file") rows) (not (is_given (codes "pool") rows) || false) (wanted (leaf merge_usage) rows false all.1).1 in
+    let pool = first_given (is_given (codes "pool") rows) false file.1 in
+    some_one merge (first_of (codes "file") rows) (first_of (codes "pool") rows) (given_value (codes "file") rows all.0 file.0)
+    (given_value (codes "pool") rows all.0 pool.0)
+
+extract_says : Says extract_usage
+extract_says words none =
+    let all = leaf_filled (leaf extract_usage) words refl none in
+    let rows = rows_after (leaf extract_usage).rules [] words in
+    let tenant = first_given (is_given (codes "tenant") rows) (not (is_given (codes "pool") rows) || (not (is_given (codes "to") rows) || false))
+    (wanted (leaf extract_usage) rows false all.1).1 in
+    let pool = first_given (is_given (codes "pool") rows) (not (is_given (codes "to") rows) || false) tenant.1 in
+    let file = first_given (is_given (codes "to") rows) false pool.1 in
+    some_two extract (first_of (codes "tenant") rows) (first_of (codes "to") rows) (first_of (codes "pool") rows) (given_value (codes "tenant") rows all.0 tenant.0)
+    (given_value (codes "to") rows all.0 file.0) (given_value (codes "pool") rows all.0 pool.0)
+
 -- ---- the whole command line
 
 -- the first subcommand whose test holds
-abbrev first : Bool → Bool → Bool → Bool → Bool → Bool → Option Shape
-first a b c d e f =
-    cond a (Some (leaf serve_usage)) (cond b (Some (leaf import_usage)) (cond c (Some (leaf ask_usage))
-    (cond d (Some (leaf check_usage)) (cond e (Some (leaf copy_usage)) (cond f (Some (built_leaf help_shape)) None)))))
+abbrev first : Bool → Bool → Bool → Bool → Bool → Bool → Bool → Bool → Bool → Bool → Bool → Bool → Option Shape
+first a b c d e f g h i j k l =
+    cond a (Some (leaf serve_usage)) (cond b (Some (leaf import_usage)) (cond c (Some (leaf ask_usage)) (
+    cond d (Some (leaf check_usage)) (cond e (Some (leaf copy_usage)) (cond f (Some (leaf remove_usage)) (
+    cond g (Some (leaf compact_usage)) (cond h (Some (leaf sizes_usage)) (cond i (Some (leaf extract_usage)) (
+    cond j (Some (leaf merge_usage)) (cond k (Some (leaf host_usage)) (cond l (Some (built_leaf help_shape)) None)))))))))))
 
-first_says : (words : List Text) (a b c d e f : Bool) → f ≡ false
-    → option_map_or (λ s. level_fault s [] nothing_held words false []) (first a b c d e f) [] ≡ []
-    → is_some (option_map (λ s. rows_at s words) (first a b c d e f)) ≡ true
-    → is_some (option_and_then said_by (option_map (λ s. rows_at s words) (first a b c d e f))) ≡ true
-first_says words true b c d e f other none some = serve_says words none
-first_says words false true c d e f other none some = import_says words none
-first_says words false false true d e f other none some = ask_says words none
-first_says words false false false true e f other none some = check_says words none
-first_says words false false false false true f other none some = copy_says words none
-first_says words false false false false false true other none some = absurd (true≢false other)
-first_says words false false false false false false other none some = absurd (true≢false (sym some))
+first_says : (words : List Text) (a b c d e f g h i j k l : Bool) → l ≡ false
+    → option_map_or (λ s. level_fault s [] nothing_held words false []) (first a b c d e f g h i j k l) [] ≡ []
+    → is_some (option_map (λ s. rows_at s words) (first a b c d e f g h i j k l)) ≡ true
+    → is_some (option_and_then said_by (option_map (λ s. rows_at s words) (first a b c d e f g h i j k l))) ≡ true
+first_says words true b c d e f g h i j k l other none some = serve_says words none
+first_says words false true c d e f g h i j k l other none some = import_says words none
+first_says words false false true d e f g h i j k l other none some = ask_says words none
+first_says words false false false true e f g h i j k l other none some = check_says words none
+first_says words false false false false true f g h i j k l other none some = copy_says words none
+first_says words false false false false false true g h i j k l other none some = remove_says words none
+first_says words false false false false false false true h i j k l other none some = compact_says words none
+first_says words false false false false false false false true i j k l other none some = sizes_says words none
+first_says words false false false false false false false false true j k l other none some = extract_says words none
+first_says words false false false false false false false false false true k l other none some = merge_says words none
+first_says words false false false false false false false false false false true l other none some = host_says words none
+first_says words false false false false false false false false false false false true other none some = absurd (true≢false other)
+first_says words false false false false false false false false false false false false other none some = absurd (true≢false (sym some))
 
 entered_says : (stop : Option (Text × List Text)) → is_own stop ≡ true → entered_fault (built gitpool) stop ≡ [] → is_some (entered (built gitpool) stop) ≡ true
     → is_some (option_and_then said_by (entered (built gitpool) stop)) ≡ true
@@ -230,7 +290,8 @@ entered_says None own none some = absurd (true≢false (sym some))
 entered_says (Some p) own none some =
     let answers : Shape → Bool = λ s. answers_to p.0 (label_of s) in
     first_says p.1 (answers (leaf serve_usage)) (answers (leaf import_usage)) (answers (leaf ask_usage)) (answers (leaf check_usage))
-    (answers (leaf copy_usage)) (answers (built_leaf help_shape)) (no_help p.0 own) none some
+    (answers (leaf copy_usage)) (answers (leaf remove_usage)) (answers (leaf compact_usage)) (answers (leaf sizes_usage))
+    (answers (leaf extract_usage)) (answers (leaf merge_usage)) (answers (leaf host_usage)) (answers (built_leaf help_shape)) (no_help p.0 own) none some
 
 is_met : (b : Bool) → (not b && true) ≡ false → b ≡ true
 is_met true e = refl

@@ -3,7 +3,7 @@ use Rattle.std.proofs.Common.{◌≡◌, ◌∙◌, [], ◌∷◌, List, ap, ref
 use Rattle.clap.specs.Words.{Text, fault_of, takes}
 use Rattle.clap.specs.declared.error.kind.ErrorKind.TheVariants.{DisplayVersion}
 use Rattle.clap.proofs.OnLiterals.{clap_on_literals}
-use Rattle.command_lines.specs.Lines.{AsksVersion, Said, ask, check, copy, import, said_in, serve, words_of}
+use Rattle.command_lines.specs.Lines.{AsksVersion, Said, ask, check, compact, copy, extract, host, import, merge, remove, said_in, serve, sizes, words_of}
 use Rattle.command_lines.specs.Usage.{gitpool}
 
 pub written_taken : (line : Said) → takes gitpool (words_of line) ≡ true
@@ -13,6 +13,12 @@ written_taken (import tenant pool) = refl
 written_taken (ask tenant query pool) = refl
 written_taken (check pool) = refl
 written_taken (copy from to pool) = refl
+written_taken (remove tenant pool) = refl
+written_taken (compact tenant pool) = refl
+written_taken (sizes pool) = refl
+written_taken (extract tenant file pool) = refl
+written_taken (merge file pool) = refl
+written_taken (host pool) = refl
 
 pub written_said : (line : Said) → said_in (words_of line) ≡ Some line
 unfolding clap_on_literals
@@ -21,6 +27,12 @@ written_said (import tenant pool) = refl
 written_said (ask tenant query pool) = refl
 written_said (check pool) = refl
 written_said (copy from to pool) = refl
+written_said (remove tenant pool) = refl
+written_said (compact tenant pool) = refl
+written_said (sizes pool) = refl
+written_said (extract tenant file pool) = refl
+written_said (merge file pool) = refl
+written_said (host pool) = refl
 
 long_version : fault_of gitpool (codes "--version" ∷ []) ≡ DisplayVersion ∷ []
 unfolding clap_on_literals

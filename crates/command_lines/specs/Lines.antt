@@ -17,6 +17,12 @@ pub data Said : Type 0 where
   ask : Text → Text → Text → Said
   check : Text → Said
   copy : Text → Text → Text → Said
+  remove : Text → Text → Said
+  compact : Text → Text → Said
+  sizes : Text → Said
+  extract : Text → Text → Text → Said
+  merge : Text → Text → Said
+  host : Text → Said
 
 -- What a line says, as text.
 abbrev pub said : Line → Said
@@ -25,6 +31,12 @@ said (line.Import tenant pool) = import tenant.now pool.now
 said (line.Ask tenant query pool) = ask tenant.now query.now pool.now
 said (line.Check pool) = check pool.now
 said (line.Copy from to pool) = copy from.now to.now pool.now
+said (line.Remove tenant pool) = remove tenant.now pool.now
+said (line.Compact tenant pool) = compact tenant.now pool.now
+said (line.Sizes pool) = sizes pool.now
+said (line.Extract tenant file pool) = extract tenant.now file.now pool.now
+said (line.Merge file pool) = merge file.now pool.now
+said (line.Host pool) = host pool.now
 
 -- The value that the matches have under this name.
 abbrev pub given : List Row → Text → Option Text
@@ -42,6 +54,20 @@ abbrev pub copy_in : List Row → Text → Option Said
 copy_in rows pool = option_and_then (λ from.
     option_map (λ to. copy from to pool) (given rows (codes "to"))) (given rows (codes "from"))
 
+abbrev pub remove_in : List Row → Text → Option Said
+remove_in rows pool = option_map (λ tenant. remove tenant pool) (given rows (codes "tenant"))
+
+abbrev pub compact_in : List Row → Text → Option Said
+compact_in rows pool = option_map (λ tenant. compact tenant pool) (given rows (codes "tenant"))
+
+abbrev pub extract_in : List Row → Text → Option Said
+extract_in rows pool = option_and_then (λ tenant.
+    option_map (λ file. extract tenant file pool) (given rows (codes "to")))
+    (given rows (codes "tenant"))
+
+abbrev pub merge_in : List Row → Text → Option Said
+merge_in rows pool = option_map (λ file. merge file pool) (given rows (codes "file"))
+
 -- What a subcommand of this name with these matches says beside the pool file.
 abbrev pub said_with : Text → List Row → Text → Option Said
 said_with name rows pool =
@@ -49,7 +75,13 @@ said_with name rows pool =
     else (if bytes_eq name (codes "import") then import_in rows pool
     else (if bytes_eq name (codes "ask") then ask_in rows pool
     else (if bytes_eq name (codes "check") then Some (check pool)
-    else (if bytes_eq name (codes "copy") then copy_in rows pool else None))))
+    else (if bytes_eq name (codes "copy") then copy_in rows pool
+    else (if bytes_eq name (codes "remove") then remove_in rows pool
+    else (if bytes_eq name (codes "compact") then compact_in rows pool
+    else (if bytes_eq name (codes "sizes") then Some (sizes pool)
+    else (if bytes_eq name (codes "extract") then extract_in rows pool
+    else (if bytes_eq name (codes "merge") then merge_in rows pool
+    else (if bytes_eq name (codes "host") then Some (host pool) else None))))))))))
 
 -- What a subcommand with its matches says.
 abbrev pub said_by : Text × List Row → Option Said
@@ -63,6 +95,10 @@ said_in words = option_and_then said_by (subcommand_of gitpool words)
 abbrev pub pool_word : Text → Text
 pool_word pool = codes "--pool=" ++ pool
 
+-- `--to=FILE` as one word.
+abbrev pub to_word : Text → Text
+to_word file = codes "--to=" ++ file
+
 -- Words that say this, whatever its texts are: nothing after `--` is an option (gitcli(7)).
 abbrev pub words_of : Said → List Text
 words_of (serve pool) = codes "serve" ∷ pool_word pool ∷ []
@@ -73,3 +109,12 @@ words_of (ask tenant query pool) =
 words_of (check pool) = codes "check" ∷ pool_word pool ∷ []
 words_of (copy from to pool) =
     codes "copy" ∷ pool_word pool ∷ codes "--" ∷ from ∷ to ∷ []
+words_of (remove tenant pool) =
+    codes "remove" ∷ pool_word pool ∷ codes "--" ∷ tenant ∷ []
+words_of (compact tenant pool) =
+    codes "compact" ∷ pool_word pool ∷ codes "--" ∷ tenant ∷ []
+words_of (sizes pool) = codes "sizes" ∷ pool_word pool ∷ []
+words_of (extract tenant file pool) =
+    codes "extract" ∷ pool_word pool ∷ to_word file ∷ codes "--" ∷ tenant ∷ []
+words_of (merge file pool) = codes "merge" ∷ pool_word pool ∷ codes "--" ∷ file ∷ []
+words_of (host pool) = codes "host" ∷ pool_word pool ∷ []

@@ -9,9 +9,17 @@ use Rattle.clap.specs.declared.builder.command.Command.TheViews.{out-Command}
 abbrev pub argument : Text → Rule
 argument id = record (new_rule id) { value_names = 1; required = true }
 
--- `--pool FILE`, which has to be there.
+-- An option with a value, `--ID VALUE`, which has to be there.
+abbrev pub option_of : Text → Rule
+option_of id = record (argument id) { long = Some id }
+
+-- `--pool FILE`.
 abbrev pub pool_option : Rule
-pool_option = record (argument (codes "pool")) { long = Some (codes "pool") }
+pool_option = option_of (codes "pool")
+
+-- `--to FILE`.
+abbrev pub to_option : Rule
+to_option = option_of (codes "to")
 
 -- A subcommand with what it takes, in order.
 abbrev pub subcommand : Text → List Rule → Shape
@@ -39,6 +47,31 @@ abbrev pub copy_usage : Shape
 copy_usage = subcommand (codes "copy")
     (argument (codes "from") ∷ argument (codes "to") ∷ pool_option ∷ [])
 
+-- `remove TENANT --pool FILE`
+abbrev pub remove_usage : Shape
+remove_usage = subcommand (codes "remove") (argument (codes "tenant") ∷ pool_option ∷ [])
+
+-- `compact TENANT --pool FILE`
+abbrev pub compact_usage : Shape
+compact_usage = subcommand (codes "compact") (argument (codes "tenant") ∷ pool_option ∷ [])
+
+-- `sizes --pool FILE`
+abbrev pub sizes_usage : Shape
+sizes_usage = subcommand (codes "sizes") (pool_option ∷ [])
+
+-- `extract TENANT --pool FILE --to FILE`
+abbrev pub extract_usage : Shape
+extract_usage = subcommand (codes "extract")
+    (argument (codes "tenant") ∷ pool_option ∷ to_option ∷ [])
+
+-- `merge FILE --pool FILE`
+abbrev pub merge_usage : Shape
+merge_usage = subcommand (codes "merge") (argument (codes "file") ∷ pool_option ∷ [])
+
+-- `host --pool FILE`
+abbrev pub host_usage : Shape
+host_usage = subcommand (codes "host") (pool_option ∷ [])
+
 -- The program: one of its subcommands has to be there, its own name is none of the words, and it
 -- takes `--version`, which no subcommand does.
 abbrev pub gitpool : App
@@ -49,7 +82,8 @@ gitpool = record {
     has_version = true;
     subcommand_required = true;
   };
-  subs = serve_usage ∷ import_usage ∷ ask_usage ∷ check_usage ∷ copy_usage ∷ [];
+  subs = serve_usage ∷ import_usage ∷ ask_usage ∷ check_usage ∷ copy_usage ∷ remove_usage
+      ∷ compact_usage ∷ sizes_usage ∷ extract_usage ∷ merge_usage ∷ host_usage ∷ [];
 }
 
 -- A command that reads what the shape says, and has no subcommand.

@@ -8,7 +8,8 @@ ghost use Rattle.clap.specs.Words.{FailsBy, fault_of, first_of, found_of, kind_o
 ghost use Rattle.clap.specs.Words.{subcommand_of, subcommand_rows_of, takes};
 ghost use Rattle.clap.specs.declared.error.kind.ErrorKind.TheVariants.{DisplayVersion};
 ghost use Rattle.clap.specs.declared.error.kind.ErrorKind.TheVariants.{OutOfMemory};
-ghost use Rattle.command_lines.specs.Lines.{AsksVersion, Said, ask_in, copy_in, import_in, said, said_by};
+ghost use Rattle.command_lines.specs.Lines.{AsksVersion, Said, ask_in, compact_in, copy_in, extract_in};
+ghost use Rattle.command_lines.specs.Lines.{import_in, merge_in, remove_in, said, said_by};
 ghost use Rattle.command_lines.specs.Lines.{said_in, words_of};
 ghost use Rattle.command_lines.specs.Usage.{gitpool};
 
@@ -45,6 +46,36 @@ pub enum Line<'a> {
     Copy {
         from: &'a str,
         to: &'a str,
+        pool: &'a str,
+    },
+    /// `remove TENANT --pool FILE`: remove one tenant.
+    Remove {
+        tenant: &'a str,
+        pool: &'a str,
+    },
+    /// `compact TENANT --pool FILE`: drop what no ref of a tenant reaches.
+    Compact {
+        tenant: &'a str,
+        pool: &'a str,
+    },
+    /// `sizes --pool FILE`: print how much each tenant has.
+    Sizes {
+        pool: &'a str,
+    },
+    /// `extract TENANT --pool FILE --to FILE`: write one tenant to a pool file of its own, at the
+    /// path `file`.
+    Extract {
+        tenant: &'a str,
+        file: &'a str,
+        pool: &'a str,
+    },
+    /// `merge FILE --pool FILE`: add the tenants of another pool file, at the path `file`.
+    Merge {
+        file: &'a str,
+        pool: &'a str,
+    },
+    /// `host --pool FILE`: answer frames of steps and of the operator.
+    Host {
         pool: &'a str,
     },
 }
@@ -111,6 +142,12 @@ impl<'a> Line<'a> {
             "ask" => Line::ask(given, pool),
             "check" => Some(Line::Check { pool }),
             "copy" => Line::copy(given, pool),
+            "remove" => Line::remove(given, pool),
+            "compact" => Line::compact(given, pool),
+            "sizes" => Some(Line::Sizes { pool }),
+            "extract" => Line::extract(given, pool),
+            "merge" => Line::merge(given, pool),
+            "host" => Some(Line::Host { pool }),
             _ => None,
         }
     }
@@ -143,5 +180,38 @@ impl<'a> Line<'a> {
         let from = value(given, "from")?;
         let to = value(given, "to")?;
         Some(Line::Copy { from, to, pool })
+    }
+
+    fn remove(given: &ArgMatches<'a>, pool: &'a str) -> Option<Line<'a>>
+        ensures { option_map said result
+            ≡ remove_in (rows_of (found_of given.now)) pool.entry.now }
+    {
+        let tenant = value(given, "tenant")?;
+        Some(Line::Remove { tenant, pool })
+    }
+
+    fn compact(given: &ArgMatches<'a>, pool: &'a str) -> Option<Line<'a>>
+        ensures { option_map said result
+            ≡ compact_in (rows_of (found_of given.now)) pool.entry.now }
+    {
+        let tenant = value(given, "tenant")?;
+        Some(Line::Compact { tenant, pool })
+    }
+
+    fn extract(given: &ArgMatches<'a>, pool: &'a str) -> Option<Line<'a>>
+        ensures { option_map said result
+            ≡ extract_in (rows_of (found_of given.now)) pool.entry.now }
+    {
+        let tenant = value(given, "tenant")?;
+        let file = value(given, "to")?;
+        Some(Line::Extract { tenant, file, pool })
+    }
+
+    fn merge(given: &ArgMatches<'a>, pool: &'a str) -> Option<Line<'a>>
+        ensures { option_map said result
+            ≡ merge_in (rows_of (found_of given.now)) pool.entry.now }
+    {
+        let file = value(given, "file")?;
+        Some(Line::Merge { file, pool })
     }
 }

@@ -8,8 +8,10 @@
 ghost use Rattle.std.specs.Prelude.{◌≡◌, IfOk, codes, false, []};
 ghost use Rattle.clap.specs.Words.{App, Shape, app_of, rule_of, with_subcommand};
 ghost use Rattle.command_lines.specs.Usage.{ReadsWords, alone, argument, ask_usage, check_usage};
-ghost use Rattle.command_lines.specs.Usage.{copy_usage, gitpool, import_usage, pool_option};
-ghost use Rattle.command_lines.specs.Usage.{serve_usage, subcommand, taking};
+ghost use Rattle.command_lines.specs.Usage.{compact_usage, copy_usage, extract_usage, gitpool};
+ghost use Rattle.command_lines.specs.Usage.{host_usage, import_usage, merge_usage, option_of};
+ghost use Rattle.command_lines.specs.Usage.{pool_option, remove_usage, serve_usage, sizes_usage};
+ghost use Rattle.command_lines.specs.Usage.{subcommand, taking, to_option};
 
 use crate::version::VERSION;
 use clap::{Arg, Command};
@@ -25,11 +27,12 @@ fn argument<'a>(alloc: Global, id: &'a str, shown: &'a str, help: &'a str) -> Ar
         .help(help)
 }
 
-fn pool<'a>(alloc: Global) -> Arg<'a>
-    ensures rule { rule_of result ≡ pool_option }
+// An option whose value is the path of a file.
+fn file_option<'a>(alloc: Global, id: &'a str, help: &'a str) -> Arg<'a>
+    ensures rule { rule_of result ≡ option_of id.entry.now }
     ensures local { result.global ≡ false }
 {
-    argument(alloc, "pool", "FILE", "The pool file").long("pool")
+    argument(alloc, id, "FILE", help).long(id)
 }
 
 fn subcommand<'a>(alloc: Global, name: &'a str, about: &'a str) -> Command<'a>
@@ -62,7 +65,7 @@ fn with_tenant<'a>(
     with_word(alloc, command, "tenant", "TENANT", "The tenant's name")
 }
 
-// The subcommand with `--pool`, the last option of each subcommand.
+// The subcommand with `--pool`, which every subcommand has.
 fn with_pool<'a>(
     alloc: Global,
     command: Result<Command<'a>, AllocError>,
@@ -70,7 +73,18 @@ fn with_pool<'a>(
     ensures { (shape : Shape) → IfOk command.entry (λ c. ReadsWords c shape)
         → IfOk result (λ c. ReadsWords c (taking shape pool_option)) }
 {
-    command?.arg(pool(alloc))
+    command?.arg(file_option(alloc, "pool", "The pool file"))
+}
+
+// The subcommand with `--to`, the file that it writes.
+fn with_target<'a>(
+    alloc: Global,
+    command: Result<Command<'a>, AllocError>,
+) -> Result<Command<'a>, AllocError>
+    ensures { (shape : Shape) → IfOk command.entry (λ c. ReadsWords c shape)
+        → IfOk result (λ c. ReadsWords c (taking shape to_option)) }
+{
+    command?.arg(file_option(alloc, "to", "The pool file to write"))
 }
 
 fn serve<'a>(alloc: Global) -> Result<Command<'a>, AllocError>
@@ -120,6 +134,54 @@ fn copy<'a>(alloc: Global) -> Result<Command<'a>, AllocError>
     with_pool(alloc, command)
 }
 
+fn remove<'a>(alloc: Global) -> Result<Command<'a>, AllocError>
+    ensures { IfOk result (λ c. ReadsWords c remove_usage) }
+{
+    let about = "Remove a tenant with all that it has";
+    let command = with_tenant(alloc, Ok(subcommand(alloc, "remove", about)));
+    with_pool(alloc, command)
+}
+
+fn compact<'a>(alloc: Global) -> Result<Command<'a>, AllocError>
+    ensures { IfOk result (λ c. ReadsWords c compact_usage) }
+{
+    let about = "Drop the objects that no ref of a tenant reaches";
+    let command = with_tenant(alloc, Ok(subcommand(alloc, "compact", about)));
+    with_pool(alloc, command)
+}
+
+fn sizes<'a>(alloc: Global) -> Result<Command<'a>, AllocError>
+    ensures { IfOk result (λ c. ReadsWords c sizes_usage) }
+{
+    let about = "Print how much each tenant has";
+    with_pool(alloc, Ok(subcommand(alloc, "sizes", about)))
+}
+
+fn extract<'a>(alloc: Global) -> Result<Command<'a>, AllocError>
+    ensures { IfOk result (λ c. ReadsWords c extract_usage) }
+{
+    let about = "Write a tenant to a pool file of its own";
+    let command = with_tenant(alloc, Ok(subcommand(alloc, "extract", about)));
+    let command = with_pool(alloc, command);
+    with_target(alloc, command)
+}
+
+fn merge<'a>(alloc: Global) -> Result<Command<'a>, AllocError>
+    ensures { IfOk result (λ c. ReadsWords c merge_usage) }
+{
+    let about = "Add the tenants of another pool file";
+    let command = Ok(subcommand(alloc, "merge", about));
+    let command = with_word(alloc, command, "file", "FILE", "The pool file that is read");
+    with_pool(alloc, command)
+}
+
+fn host<'a>(alloc: Global) -> Result<Command<'a>, AllocError>
+    ensures { IfOk result (λ c. ReadsWords c host_usage) }
+{
+    let about = "Answer frames of steps and of the operator, and save when asked";
+    with_pool(alloc, Ok(subcommand(alloc, "host", about)))
+}
+
 // The program without its subcommands.
 fn program<'a>(alloc: Global) -> Result<Command<'a>, AllocError>
     ensures { IfOk result (λ c. app_of c ≡ alone) }
@@ -152,5 +214,11 @@ pub(crate) fn gitpool<'a>(alloc: Global) -> Result<Command<'a>, AllocError>
     let program = with(program, import(alloc));
     let program = with(program, ask(alloc));
     let program = with(program, check(alloc));
-    with(program, copy(alloc))
+    let program = with(program, copy(alloc));
+    let program = with(program, remove(alloc));
+    let program = with(program, compact(alloc));
+    let program = with(program, sizes(alloc));
+    let program = with(program, extract(alloc));
+    let program = with(program, merge(alloc));
+    with(program, host(alloc))
 }

@@ -11,12 +11,18 @@ Git repositories of many tenants over one pool of objects
 Usage: gitpool <COMMAND>
 
 Commands:
-  serve   Answer frames of steps from standard input on standard output
-  import  Import a stream of git-fast-import(1) from standard input
-  ask     Print the answer to a query
-  check   Check the pool file and count what it has
-  copy    Copy a tenant's repository to an empty tenant
-  help    Print this message or the help of the given subcommand(s)
+  serve    Answer frames of steps from standard input on standard output
+  import   Import a stream of git-fast-import(1) from standard input
+  ask      Print the answer to a query
+  check    Check the pool file and count what it has
+  copy     Copy a tenant's repository to an empty tenant
+  remove   Remove a tenant with all that it has
+  compact  Drop the objects that no ref of a tenant reaches
+  sizes    Print how much each tenant has
+  extract  Write a tenant to a pool file of its own
+  merge    Add the tenants of another pool file
+  host     Answer frames of steps and of the operator, and save when asked
+  help     Print this message or the help of the given subcommand(s)
 
 Options:
   -h, --help     Print help
@@ -84,6 +90,79 @@ Options:
   -h, --help         Print help
 ";
 
+const REMOVE: &str = "\
+Remove a tenant with all that it has
+
+Usage: gitpool remove --pool <FILE> <TENANT>
+
+Arguments:
+  <TENANT>  The tenant's name
+
+Options:
+      --pool <FILE>  The pool file
+  -h, --help         Print help
+";
+
+const COMPACT: &str = "\
+Drop the objects that no ref of a tenant reaches
+
+Usage: gitpool compact --pool <FILE> <TENANT>
+
+Arguments:
+  <TENANT>  The tenant's name
+
+Options:
+      --pool <FILE>  The pool file
+  -h, --help         Print help
+";
+
+const SIZES: &str = "\
+Print how much each tenant has
+
+Usage: gitpool sizes --pool <FILE>
+
+Options:
+      --pool <FILE>  The pool file
+  -h, --help         Print help
+";
+
+const EXTRACT: &str = "\
+Write a tenant to a pool file of its own
+
+Usage: gitpool extract --pool <FILE> --to <FILE> <TENANT>
+
+Arguments:
+  <TENANT>  The tenant's name
+
+Options:
+      --pool <FILE>  The pool file
+      --to <FILE>    The pool file to write
+  -h, --help         Print help
+";
+
+const MERGE: &str = "\
+Add the tenants of another pool file
+
+Usage: gitpool merge --pool <FILE> <FILE>
+
+Arguments:
+  <FILE>  The pool file that is read
+
+Options:
+      --pool <FILE>  The pool file
+  -h, --help         Print help
+";
+
+const HOST: &str = "\
+Answer frames of steps and of the operator, and save when asked
+
+Usage: gitpool host --pool <FILE>
+
+Options:
+      --pool <FILE>  The pool file
+  -h, --help         Print help
+";
+
 // Words that ask for help, each with a bar before it, and the help.
 const SHOWN: &[(&str, &str)] = &[
     ("|-h", PROGRAM),
@@ -101,6 +180,18 @@ const SHOWN: &[(&str, &str)] = &[
     ("|help|check", CHECK),
     ("|copy|t|-h", COPY),
     ("|help|copy", COPY),
+    ("|remove|t|-h", REMOVE),
+    ("|help|remove", REMOVE),
+    ("|compact|-h", COMPACT),
+    ("|help|compact", COMPACT),
+    ("|sizes|-h", SIZES),
+    ("|help|sizes", SIZES),
+    ("|extract|--to|f|-h", EXTRACT),
+    ("|help|extract", EXTRACT),
+    ("|merge|-h", MERGE),
+    ("|help|merge", MERGE),
+    ("|host|-h", HOST),
+    ("|help|host", HOST),
 ];
 
 #[test]

@@ -103,6 +103,45 @@ const READ: &[(&[&str], Line<'static>)] = &[
             pool: "f",
         },
     ),
+    (
+        &["remove", "t", "--pool", "f"],
+        Line::Remove {
+            tenant: "t",
+            pool: "f",
+        },
+    ),
+    (
+        &["compact", "--pool=f", "--", "-t"],
+        Line::Compact {
+            tenant: "-t",
+            pool: "f",
+        },
+    ),
+    (&["sizes", "--pool", "f"], Line::Sizes { pool: "f" }),
+    (
+        &["extract", "t", "--pool", "f", "--to", "g"],
+        Line::Extract {
+            tenant: "t",
+            file: "g",
+            pool: "f",
+        },
+    ),
+    (
+        &["extract", "--to=-g", "t", "--pool=f"],
+        Line::Extract {
+            tenant: "t",
+            file: "-g",
+            pool: "f",
+        },
+    ),
+    (
+        &["merge", "g", "--pool", "f"],
+        Line::Merge {
+            file: "g",
+            pool: "f",
+        },
+    ),
+    (&["host", "--pool", "f"], Line::Host { pool: "f" }),
     (&["check", "--pool=-f"], Line::Check { pool: "-f" }),
     (&["check", "--pool=a=b"], Line::Check { pool: "a=b" }),
     (&["check", "--pool="], Line::Check { pool: "" }),

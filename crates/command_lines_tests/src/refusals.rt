@@ -11,7 +11,7 @@ const REFUSED: &[(&str, ErrorKind, &str)] = &[
         ErrorKind::MissingSubcommand,
         "\
 error: 'gitpool' requires a subcommand but one was not provided
-  [subcommands: serve, import, ask, check, copy, help]
+  [subcommands: serve, import, ask, check, copy, remove, compact, sizes, extract, merge, host, help]
 
 Usage: gitpool <COMMAND>
 
@@ -88,6 +88,66 @@ error: the following required arguments were not provided:
   <TO>
 
 Usage: gitpool copy --pool <FILE> <FROM> <TO>
+
+For more information, try '--help'.
+",
+    ),
+    (
+        "|remove|--pool|f",
+        ErrorKind::MissingRequiredArgument,
+        "\
+error: the following required arguments were not provided:
+  <TENANT>
+
+Usage: gitpool remove --pool <FILE> <TENANT>
+
+For more information, try '--help'.
+",
+    ),
+    (
+        "|extract|t|--pool|f",
+        ErrorKind::MissingRequiredArgument,
+        "\
+error: the following required arguments were not provided:
+  --to <FILE>
+
+Usage: gitpool extract --pool <FILE> --to <FILE> <TENANT>
+
+For more information, try '--help'.
+",
+    ),
+    (
+        "|merge|--pool|f",
+        ErrorKind::MissingRequiredArgument,
+        "\
+error: the following required arguments were not provided:
+  <FILE>
+
+Usage: gitpool merge --pool <FILE> <FILE>
+
+For more information, try '--help'.
+",
+    ),
+    (
+        "|remove|t|--pool|f|--to|g",
+        ErrorKind::UnknownArgument,
+        "\
+error: unexpected argument '--to' found
+
+  tip: to pass '--to' as a value, use '-- --to'
+
+Usage: gitpool remove --pool <FILE> <TENANT>
+
+For more information, try '--help'.
+",
+    ),
+    (
+        "|sizes|t|--pool|f",
+        ErrorKind::UnknownArgument,
+        "\
+error: unexpected argument 't' found
+
+Usage: gitpool sizes --pool <FILE>
 
 For more information, try '--help'.
 ",

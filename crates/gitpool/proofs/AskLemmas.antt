@@ -1,60 +1,20 @@
 -- One query of a tenant: what it is told, and that it changes nothing.
-use Rattle.std.proofs.Common.{◌≡◌, ℕ, zero, suc, Bool, true, false, not, cond, List, [], ◌∷◌, map, Option, None, Some, Result, Ok, Err, refl, sym, ap, subst, ◌∙◌}
+use Rattle.std.proofs.Common.{◌≡◌, ℕ, zero, suc, Bool, true, false, not, List, [], ◌∷◌, Option, None, Some, Result, Ok, Err, refl, sym, ap, subst, ◌∙◌}
 use Rattle.std.specs.Io.KnownBytes.{Appends}
 use Rattle.git_model.specs.Repository.{Repository}
 use Rattle.git_objects.specs.Device.{Device, HasFault, IsWell, AppendsFront}
-use Rattle.import_session.specs.Stream.{Runs, Refused}
 use Rattle.service_steps.specs.declared.answer.Answer.{Answer}
 use Rattle.service_steps.specs.declared.answer.Answer.TheVariants as answer
 use Rattle.service_steps.specs.declared.step.Step.{Step}
 use Rattle.tenant_refs.specs.TenantName.{is_tenant_name}
-use Rattle.tenant_service.specs.Alone.{Call, Ask, State, Closed, Streaming, Dead, added, answered, asked, last_alone, run_alone}
-use Rattle.tenant_service.specs.Headline.{Response, response_in, IsIsolated, IsRefused, has_bad_name, concerns, call_of, stop_told, steps_of, left_alone}
-use Rattle.tenant_service.specs.TenantState.{TenantState, Idle, Busy, TenantStates, Represents, held_of}
+use Rattle.tenant_service.specs.Alone.{Ask, State, added, answered, asked, last_alone}
+use Rattle.tenant_service.specs.Headline.{Response, response_in, IsIsolated, IsRefused, has_bad_name, call_of, stop_told}
+use Rattle.tenant_service.specs.TenantState.{TenantStates, Represents, held_of}
 use Rattle.tenant_service.specs.StepName.{name_of}
 use Rattle.gitpool.specs.declared.ask_fault.AskFault.{AskFault}
 use Rattle.gitpool.specs.declared.ask_fault.AskFault.TheVariants as fault
 use Rattle.gitpool.specs.Asking.{as_asked, IsAsked, Asks}
 use Rattle.gitpool.proofs.StepLemmas.{called-alone}
-
--- ---- what a query leaves
-
--- a repository and a stream of its own lead to one thing
-leads-one : (digest : List ℕ → List ℕ) (state : State) (a b : TenantState) → Represents digest state a → Represents digest state b → a ≡ b
-leads-one digest (Closed r) (Idle a) (Idle b) h k = ap Idle (sym h ∙ k)
-leads-one digest (Closed r) (Idle a) (Busy b) h k = absurd k
-leads-one digest (Closed r) (Busy a) b h k = absurd h
-leads-one digest (Streaming r bytes) (Idle a) b h k = absurd h
-leads-one digest (Streaming r bytes) (Busy (Runs now tail)) (Idle b) h k = absurd k
-leads-one digest (Streaming r bytes) (Busy (Runs now tail)) (Busy (Runs now' tail')) h k = ap Busy (sym h ∙ k)
-leads-one digest (Streaming r bytes) (Busy (Runs now tail)) (Busy (Refused code left)) h k = absurd k
-leads-one digest (Streaming r bytes) (Busy (Refused code left)) b h k = absurd h
-leads-one digest (Dead code r) (Idle a) b h k = absurd h
-leads-one digest (Dead code r) (Busy a) (Idle b) h k = absurd k
-leads-one digest (Dead code r) (Busy a) (Busy b) h k = ap Busy (h ∙ sym k)
-
-ask-leaves : (digest : List ℕ → List ℕ) (query : List ℕ) (stop : Option ℕ) (state : State) → (run_alone digest (Ask query) stop state).state ≡ state
-ask-leaves digest query stop state = by stop
-  where
-    told : (r : Result (List ℕ) _) → (answered r state).state ≡ state
-    told (Ok text) = refl
-    told (Err refusal) = refl
-
-    by : (o : Option ℕ) → (asked query o (last_alone digest state) state).state ≡ state
-    by None = told _
-    by (Some zero) = refl
-    by (Some (suc n)) = told _
-
-one-left : (digest : List ℕ → List ℕ) (name query : List ℕ) (s : Step) (told : Response) (state : State) → call_of s ≡ Ask query
-    → left_alone digest state (steps_of name ((s, told) ∷ [])) ≡ state
-unfolding left_alone
-one-left digest name query s told state is = by (concerns name s)
-  where
-    by : (b : Bool) → left_alone digest state (map (λ (x : Step × Response). (call_of x.0, stop_told x.1.answer)) (cond b ((s, told) ∷ []) [])) ≡ state
-    by false = refl
-    by true =
-        ap (λ (c : Call). (run_alone digest c (stop_told told.answer) state).state) is
-        ∙ ask-leaves digest query (stop_told told.answer) state
 
 -- ---- what it is told
 
@@ -88,13 +48,6 @@ module _ (digest : List ℕ → List ℕ) (tenant query : List ℕ) (s : Step) (
     (named : name_of s ≡ tenant) (is : call_of s ≡ Ask query) (bad : has_bad_name s ≡ not (is_tenant_name tenant)) (none : out ≡ [])
     (own : (name : List ℕ) → IsIsolated digest name (held_of name before) ((s, response_in a out out') ∷ []) (held_of name after))
     (refused : IsRefused (s, response_in a out out')) where
-  -- every tenant has what it had
-  pub ask-keeps : (name : List ℕ) (state : State) → Represents digest state (held_of name before) → held_of name after ≡ held_of name before
-  ask-keeps name state leads =
-      leads-one digest state (held_of name after) (held_of name before)
-      (subst (λ (x : State). Represents digest x (held_of name after)) (one-left digest name query s (response_in a out out') state is)
-      ((own name).left state leads)) leads
-
   pub ask-bad : is_tenant_name tenant ≡ false → a ≡ answer.Fault 32
   ask-bad wrong = ap (λ (t : Response). t.answer) (refused (bad ∙ ap not wrong))
 

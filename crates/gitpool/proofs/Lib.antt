@@ -1,4 +1,7 @@
 mod ServeLemmas
+mod SizesLemmas
+mod HostLemmas
+mod HostedSteps
 mod StreamLemmas
 mod StepLemmas
 pub mod ImportLemmas

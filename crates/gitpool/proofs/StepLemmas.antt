@@ -177,11 +177,11 @@ open-unrefused digest repository told after code is t =
     cc says
 
 -- a bad name, or a stream that is there
-busy-refused : (digest : List ℕ → List ℕ) (state : State) (status : StreamStatus) (stop : Option ℕ)
-    → Represents digest state (Busy status) → (open_alone stop state).answer ≡ answer.Fault 31
-busy-refused digest (Closed r) status stop leads = absurd leads
-busy-refused digest (Streaming r bytes) status stop leads = refl
-busy-refused digest (Dead code r) status stop leads = refl
+busy-refused : (digest : List ℕ → List ℕ) (state : State) (opened : Repository) (status : StreamStatus) (stop : Option ℕ)
+    → Represents digest state (Busy opened status) → (open_alone stop state).answer ≡ answer.Fault 31
+busy-refused digest (Closed r) opened status stop leads = absurd leads
+busy-refused digest (Streaming r bytes) opened status stop leads = refl
+busy-refused digest (Dead code r) opened status stop leads = refl
 
 pub open-refused : (digest : List ℕ → List ℕ) (tenant : List ℕ) (before : TenantStates) (after : TenantState) (s : Step) (told : Response) (state : State)
     (code : ℕ)
@@ -193,12 +193,12 @@ open-refused digest tenant before after s told state code named is bad own refus
   where
     of : (h : TenantState) → held_of tenant before ≡ h → is_tenant_name tenant ≡ true → stream_refusal h ≡ Some code → told.answer ≡ answer.Fault code
     of (Idle r) held good e = cc e
-    of (Busy status) held good e =
+    of (Busy opened status) held good e =
         let t = told-alone digest tenant s told state (held_of tenant before) after good named own leads in
         let number : 31 ≡ code = cc e in
         ap (λ (x : Response). x.answer) t.says
         ∙ ap (λ (c : Call). (run_alone digest c (stop_told told.answer) state).answer) is
-        ∙ busy-refused digest state status (stop_told told.answer) (subst (Represents digest state) held leads)
+        ∙ busy-refused digest state opened status (stop_told told.answer) (subst (Represents digest state) held leads)
         ∙ ap answer.Fault number
 
     by : (b : Bool) → is_tenant_name tenant ≡ b → told.answer ≡ answer.Fault code

@@ -91,14 +91,15 @@ stream-first digest repository bytes more =
 pub record Stands (digest : List ℕ → List ℕ) (repository : Repository) (bytes : List ℕ) (held : TenantState) : Type 0 where
   pub now : Running
   pub kept : Tail
-  pub is : held ≡ Busy (Runs now kept)
+  pub is : held ≡ Busy repository (Runs now kept)
   pub stands : (stream_of digest repository bytes).status ≡ Runs now kept
 
 pub stands-so : (digest : List ℕ → List ℕ) (repository : Repository) (bytes : List ℕ) (held : TenantState)
     → Represents digest (Streaming repository bytes) held → Stands digest repository bytes held
 stands-so digest repository bytes (Idle r) leads = absurd leads
-stands-so digest repository bytes (Busy (Runs now tail)) leads = record { now = now; kept = tail; is = refl; stands = leads }
-stands-so digest repository bytes (Busy (Refused code r)) leads = absurd leads
+stands-so digest repository bytes (Busy opened (Runs now tail)) leads =
+    record { now = now; kept = tail; is = ap (λ (r : Repository). Busy r (Runs now tail)) (sym leads.0); stands = leads.1 }
+stands-so digest repository bytes (Busy opened (Refused code r)) leads = absurd leads
 
 -- before its first byte
 new-status : (digest : List ℕ → List ℕ) (repository : Repository)

@@ -63,7 +63,7 @@ CanOpen tenant all repository =
 -- Why no stream can be opened: the name is bad, or there is a stream already, running or dead.
 abbrev pub stream_refusal : TenantState → Option ℕ
 stream_refusal (Idle repository) = None
-stream_refusal (Busy status) = Some (code_of service.StreamIsOpen)
+stream_refusal (Busy opened status) = Some (code_of service.StreamIsOpen)
 
 abbrev pub open_refusal : List ℕ → TenantStates → Option ℕ
 open_refusal tenant all =

@@ -1,5 +1,6 @@
 -- In reading order: the faults of an import, devices, one stream from a reader to a writer, frames
--- of steps, one query, and the line of a check. tenant_service defines what a service is told and
+-- of steps, one query, the line of a check, and the lines of sizes; then a pool file that is replaced,
+-- what each request of a host leads to, and frames of requests. tenant_service defines what a service is told and
 -- holds. The first lines re-export that, and whatever else the clauses of public calls cite.
 pub use Rattle.git_model.specs.Content
 pub use Rattle.git_model.specs.Repository
@@ -31,3 +32,8 @@ pub mod Importing
 pub mod Serving
 pub mod Asking
 pub mod Checking
+pub mod Sizing
+pub mod SaveFaults
+pub mod Places
+pub mod Requests
+pub mod Hosting

@@ -9,7 +9,10 @@
 //! (`exports_are_taken`). The contracts of `import_one` and `Service::copy_tenant` say the same of
 //! those calls. A repository of one commit meets the premises of all these laws
 //! (`one_commit_is_imported`).
+//!
+//! `hosting_of_steps_is_serving` says of `host` and `serve` that they do the same with steps.
 
+pub use crate::hosting_laws::hosting_of_steps_is_serving;
 pub use export_laws::examples::one_commit_is_imported;
 pub use export_laws::laws::{
     blobs_are_told, commits_are_told, exports_are_imported, files_are_put, objects_are_told,

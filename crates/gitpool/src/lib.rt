@@ -15,11 +15,16 @@ mod ask_fault;
 mod asking;
 mod check_fault;
 mod checking;
+mod hosting;
+mod hosting_laws;
 mod import_fault;
 mod importing;
 pub mod laws;
+mod pool_place;
+mod save_fault;
 mod serving;
 mod single_import;
+mod sizing;
 
 pub use ask_fault::AskFault;
 pub use asking::ask;
@@ -30,12 +35,16 @@ pub use content_pool::{Pool, Slot};
 pub use git_objects::{
     Counted, DeviceFault, Kind, Memory, Name, Naming, Sha1Naming, TailNaming, write_all,
 };
+pub use hosting::host;
 pub use import_fault::ImportFault;
 pub use importing::import;
 pub use pool_file_format::{DigestState, Fault as PoolFault, Refusal, StreamingDigest};
-pub use service_steps::{Answer, FrameFault, Reply, ServiceFault, Step};
+pub use pool_place::PoolPlace;
+pub use save_fault::SaveFault;
+pub use service_steps::{Answer, FrameFault, Reply, Request, SavedAs, ServiceFault, Step};
 pub use serving::serve;
 pub use single_import::import_one;
+pub use sizing::sizes;
 pub use tenant_refs::Refs;
-pub use tenant_service::{Service, TenantSizes};
+pub use tenant_service::{ExtractFault, Service, TenantSizes};
 pub use tenant_tables::{Found, Sight, Summary, Table};

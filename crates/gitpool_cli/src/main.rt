@@ -3,6 +3,8 @@
 //! arguments it works on the repositories of a pool file.
 #![tactic(auto)]
 
+mod hosting;
+mod moves;
 mod pools;
 mod run_fault;
 mod runs;

@@ -1,8 +1,8 @@
-//! Services in pool files: loaded as a run begins, saved at its end.
+//! Services in pool files: loaded as a run begins, saved at its end or while it goes on.
 
 use crate::run_fault::RunFault;
 use gitpool::{Counted, Service, Sha1Naming};
-use lock_files::LockFile;
+use lock_files::{LockFile, NextFile};
 use std::fs::File;
 use std::io::{BufReader, ErrorKind, Read};
 
@@ -50,8 +50,8 @@ fn load_of<R: Read>(
 /// Saves what every tenant has at its last checkpoint: the new file takes the place of the pool
 /// file when it is whole and on the disk.
 ///
-/// 68 if the new file cannot be made, written or renamed; 90 if memory ran out. The pool file is
-/// then as it was, and the new file is removed.
+/// 68 if the new file cannot be made, written, renamed or synced; 90 if memory ran out. The pool
+/// file is then as it was, unless only the sync of its folder failed, and the new file is removed.
 pub fn save(
     rt: &HostRuntime,
     service: &Service<Sha1Naming>,
@@ -72,4 +72,29 @@ fn save_as(
     let mut writer = Counted::new(new.file()?);
     service.save(&mut writer)?;
     Ok(new.replace(rt)?)
+}
+
+/// Saves as `save` does, and keeps the lock file, so that the pool file can be saved again.
+pub fn save_again(
+    rt: &HostRuntime,
+    service: &Service<Sha1Naming>,
+    lock: &LockFile,
+) -> Result<(), RunFault> {
+    let next = lock.next(rt)?;
+    let outcome = save_by(rt, service, lock, &next);
+    if outcome.is_err() {
+        next.remove(rt);
+    }
+    outcome
+}
+
+fn save_by(
+    rt: &HostRuntime,
+    service: &Service<Sha1Naming>,
+    lock: &LockFile,
+    next: &NextFile,
+) -> Result<(), RunFault> {
+    let mut writer = Counted::new(next.file());
+    service.save(&mut writer)?;
+    Ok(lock.replace_by(rt, next)?)
 }

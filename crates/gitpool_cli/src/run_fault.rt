@@ -1,6 +1,6 @@
 //! Why a run failed, with the number of the fault and the exit status.
 
-use gitpool::{AskFault, CheckFault, FrameFault, ImportFault, PoolFault};
+use gitpool::{AskFault, CheckFault, ExtractFault, FrameFault, ImportFault, PoolFault};
 use lock_files::LockFault;
 use std::alloc::AllocError;
 use std::io::ErrorKind;
@@ -46,8 +46,8 @@ impl RunFault {
         }
     }
 
-    /// The exit status of a run that failed with this fault: 1 if a step, a stream, a copy or a
-    /// frame was refused, 3 if the pool file was refused, 4 if a device failed, 5 if memory ran
+    /// The exit status of a run that failed with this fault: 1 if a step, a stream, a frame or a
+    /// call for a tenant was refused, 3 if the pool file was refused, 4 if a device failed, 5 if memory ran
     /// out.
     pub fn status(self) -> u8 {
         match self.code() {
@@ -80,6 +80,16 @@ impl From<CheckFault> for RunFault {
         match fault {
             CheckFault::Device => RunFault::Device,
             CheckFault::Memory => RunFault::Memory,
+        }
+    }
+}
+
+impl From<ExtractFault> for RunFault {
+    fn from(fault: ExtractFault) -> RunFault {
+        match fault {
+            ExtractFault::Device => RunFault::Device,
+            ExtractFault::Memory => RunFault::Memory,
+            refused => RunFault::Step(refused.code()),
         }
     }
 }

@@ -2,6 +2,8 @@
 //!
 //! One function owns the service of a run, and lends it to the functions of the subcommand.
 
+use crate::hosting::run_hosted;
+use crate::moves::{extract, merge};
 use crate::pools::{Missing, load, save};
 use crate::run_fault::RunFault;
 use gitpool::{Answer, Counted, Line, Service, Sha1Naming};
@@ -29,6 +31,12 @@ pub fn run(rt: &HostRuntime, line: Line<'_>) -> Result<(), RunFault> {
         Line::Ask { pool, .. } => run_to_read(rt, line, pool),
         Line::Check { pool } => run_to_read(rt, line, pool),
         Line::Copy { pool, .. } => run_to_save(rt, line, pool, Missing::Refused),
+        Line::Remove { pool, .. } => run_to_save(rt, line, pool, Missing::Refused),
+        Line::Compact { pool, .. } => run_to_save(rt, line, pool, Missing::Refused),
+        Line::Merge { pool, .. } => run_to_save(rt, line, pool, Missing::Refused),
+        Line::Sizes { pool } => run_to_read(rt, line, pool),
+        Line::Extract { pool, .. } => run_to_read(rt, line, pool),
+        Line::Host { pool } => run_hosted(rt, pool),
     }
 }
 
@@ -72,7 +80,7 @@ fn load_and_save(
     }
 }
 
-// The service is saved even after frames, a stream or a copy were refused.
+// The service is saved even after frames, a stream or a call for a tenant were refused.
 fn carry_out_and_save(
     rt: &HostRuntime,
     mut service: Service<Sha1Naming>,
@@ -95,7 +103,16 @@ fn carry_out(
         Line::Import { tenant, .. } => import(rt, service, tenant.as_bytes()),
         Line::Ask { tenant, query, .. } => ask(rt, service, tenant.as_bytes(), query.as_bytes()),
         Line::Check { .. } => check(rt, service),
-        Line::Copy { from, to, .. } => copy(service, from.as_bytes(), to.as_bytes()),
+        Line::Copy { from, to, .. } => {
+            answered(service.copy_tenant(from.as_bytes(), to.as_bytes()))
+        }
+        Line::Remove { tenant, .. } => answered(service.remove_tenant(tenant.as_bytes())),
+        Line::Compact { tenant, .. } => answered(service.compact_tenant(tenant.as_bytes())),
+        Line::Sizes { .. } => sizes(rt, service),
+        Line::Extract { tenant, file, pool } => extract(rt, service, tenant, file, pool),
+        Line::Merge { file, .. } => answered(merge(rt, service, file)?),
+        // `run_hosted` carries it out, over the lock file.
+        Line::Host { .. } => Ok(()),
     }
 }
 
@@ -134,9 +151,15 @@ fn check(rt: &HostRuntime, service: &Service<Sha1Naming>) -> Result<(), RunFault
     Ok(gitpool::check(rt.alloc(), service, &mut writer)?)
 }
 
-// Copies one tenant.
-fn copy(service: &mut Service<Sha1Naming>, from: &[u8], to: &[u8]) -> Result<(), RunFault> {
-    match service.copy_tenant(from, to) {
+// Prints what each tenant has.
+fn sizes(rt: &HostRuntime, service: &Service<Sha1Naming>) -> Result<(), RunFault> {
+    let mut writer = Counted::new(rt.stdout());
+    Ok(gitpool::sizes(rt.alloc(), service, &mut writer)?)
+}
+
+// What the answer to a call for one tenant makes of the run.
+fn answered(answer: Answer) -> Result<(), RunFault> {
+    match answer {
         Answer::Ok => Ok(()),
         Answer::Fault(code) => Err(RunFault::Step(code)),
         Answer::Memory(_) => Err(RunFault::Memory),

@@ -6,6 +6,8 @@ mod asking;
 #[cfg(test)]
 mod by_sum;
 #[cfg(test)]
+mod compactions;
+#[cfg(test)]
 mod copies;
 #[cfg(test)]
 mod devices;
@@ -16,9 +18,17 @@ mod frames;
 #[cfg(test)]
 mod held;
 #[cfg(test)]
+mod hosting;
+#[cfg(test)]
 mod limits;
 #[cfg(test)]
+mod memory_place;
+#[cfg(test)]
+mod moves;
+#[cfg(test)]
 mod one_byte;
+#[cfg(test)]
+mod opened;
 #[cfg(test)]
 mod removals;
 #[cfg(test)]

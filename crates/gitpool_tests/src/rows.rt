@@ -16,6 +16,7 @@ pub enum Do {
     Copy,
     Abandon,
     Remove,
+    Compact,
 }
 
 /// What a row does, its tenant, and bytes: a piece, a query, or the tenant that receives a copy.
@@ -38,7 +39,7 @@ fn step_of(what: Do, tenant: &'static [u8], bytes: &'static [u8]) -> Option<Step
             query: bytes,
         }),
         Do::Restart => Some(Step::Restart),
-        Do::Copy | Do::Abandon | Do::Remove => None,
+        Do::Copy | Do::Abandon | Do::Remove | Do::Compact => None,
     }
 }
 
@@ -46,6 +47,7 @@ fn operate<N: Naming>(service: &mut Service<N>, what: Do, tenant: &[u8], bytes: 
     match what {
         Do::Abandon => service.abandon(tenant),
         Do::Remove => service.remove_tenant(tenant),
+        Do::Compact => service.compact_tenant(tenant),
         _ => service.copy_tenant(tenant, bytes),
     }
 }

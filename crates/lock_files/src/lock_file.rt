@@ -6,26 +6,15 @@
 
 use crate::links::followed;
 use crate::lock_fault::LockFault;
-use std::fs::{File, OpenOptions, Permissions};
+use crate::named_files::{has_name, make_new, remove_if_named};
+use crate::next_file::{NextFile, name_of, remove_left};
+use crate::replacements::put;
+use std::fs::{File, OpenOptions};
 use std::io::ErrorKind;
-use std::os::unix::fs::{MetadataExt, OpenOptionsExt, PermissionsExt, fchown};
-use std::os::unix::io::AsFd;
 use std::{fs, io};
 
 // What the name of the lock file has after the name of the locked file.
 const NEW: &str = ".new";
-
-// The mode of a lock file until it has that of the locked file.
-const PRIVATE: u32 = 0o600;
-
-// The mode of a lock file if there is no locked file, less the bits that umask(2) takes away.
-const SHARED: u32 = 0o666;
-
-// The bits of the locked file's mode that the lock file gets. If the lock file has another group,
-// it gets none of the group's bits.
-const KEPT: u32 = 0o777;
-
-const KEPT_OF_OTHERS: u32 = 0o707;
 
 /// The lock file of one file, held. Nobody else has it while this value lasts. If the process is
 /// killed, the lock file stays, unlocked, and the next `take` removes it.
@@ -39,16 +28,21 @@ pub struct LockFile {
 
 impl LockFile {
     /// Makes the lock file of the file at `path`, and locks it. `path` may lead to no file yet.
+    /// Removes the lock file and the next file of a process that was killed.
     ///
-    /// `Device` (68) if somebody else has the lock file, or if the links of `path` cannot be
-    /// followed. `Memory` (90) if memory ran out. If the lock file cannot be made for another
-    /// reason, as in a folder that may not be written, `take` succeeds, and `file` and `replace`
-    /// are refused (68).
+    /// `Device` (68) if somebody else has the lock file, if something that is no file has its name,
+    /// as a symbolic link, or if the links of `path` cannot be followed. `Memory` (90) if memory ran
+    /// out. If the lock file cannot be made for another reason, as in a folder that may not be
+    /// written, `take` succeeds, and `file`, `replace` and `next` are refused (68).
     pub fn take(rt: &HostRuntime, path: &str) -> Result<LockFile, LockFault> {
         let locked = followed(rt, path)?;
         let name = format!(in rt.alloc(); "{locked}{NEW}")?;
+        let next = name_of(rt, &locked)?;
         let file = match make(rt, &locked, &name) {
-            Ok(file) => Ok(file),
+            Ok(file) => {
+                remove_left(rt, &next);
+                Ok(file)
+            }
             Err(error) if refuses(error.kind()) => return Err(LockFault::from(error)),
             Err(error) => Err(LockFault::from(error)),
         };
@@ -68,29 +62,42 @@ impl LockFile {
         }
     }
 
-    /// Gives the lock file the name of the locked file, once it is on the disk. It keeps the locked
-    /// file's mode, and its owner and group if the system allows it.
+    /// Gives the lock file the name of the locked file, once it is on the disk, and syncs the
+    /// folder. It keeps the locked file's mode, and its owner and group if the system allows it.
+    /// The lock ends with that.
     ///
     /// `Device` (68) if a call fails, or if another file has the name of the lock file. The locked
-    /// file is then as it was.
+    /// file is then as it was, unless only the sync of the folder failed: it is then the new file,
+    /// and may be the old one again after a loss of power.
     pub fn replace(&self, rt: &HostRuntime) -> Result<(), LockFault> {
-        let file = self.file()?;
-        file.sync_all()?;
-        keep_mode(rt, &self.locked, file);
-        if !has_name(rt, &self.name, file)? {
+        put(rt, self.file()?, &self.name, &self.locked)
+    }
+
+    /// Makes a file that can replace the locked file while the lock file stays, and stays locked.
+    ///
+    /// `Device` (68) if the lock file was not made, or if this file cannot be made. `Memory` (90)
+    /// if memory ran out.
+    pub fn next(&self, rt: &HostRuntime) -> Result<NextFile, LockFault> {
+        self.file()?;
+        NextFile::make(rt, &self.locked)
+    }
+
+    /// Does what `replace` does, with `next` in place of the lock file, which stays.
+    ///
+    /// `Device` (68) if a call fails, or if another file has the name of the lock file or of
+    /// `next`. The locked file is then as after a refused `replace`.
+    pub fn replace_by(&self, rt: &HostRuntime, next: &NextFile) -> Result<(), LockFault> {
+        if !has_name(rt, &self.name, self.file()?)? {
             return Err(LockFault::Device);
         }
-        fs::rename(rt, &self.name, &self.locked)?;
-        Ok(())
+        next.put(rt, &self.locked)
     }
 
     /// Removes the lock file, unless its name belongs to another file. A failure is ignored: the
     /// next `take` removes the lock file.
     pub fn remove(&self, rt: &HostRuntime) {
         if let Ok(file) = &self.file {
-            if matches!(has_name(rt, &self.name, file), Ok(true)) {
-                let _ = fs::remove_file(rt, &self.name);
-            }
+            remove_if_named(rt, &self.name, file);
         }
     }
 }
@@ -109,17 +116,8 @@ fn refuses(kind: ErrorKind) -> bool {
 // stream is closed, the file gets its descriptor, and what is written to the stream would go into
 // the file.
 fn make(rt: &HostRuntime, locked: &str, name: &str) -> io::Result<File> {
-    remove_left(rt, name)?;
-    let mode = if fs::exists(rt, locked)? {
-        PRIVATE
-    } else {
-        SHARED
-    };
-    let file = OpenOptions::new()
-        .write(true)
-        .create_new(true)
-        .mode(mode)
-        .open(rt, name)?;
+    remove_unlocked(rt, name)?;
+    let file = make_new(rt, locked, name)?;
     let held = hold(rt, name, &file);
     if matches!(&held, Err(error) if error.kind() != ErrorKind::WouldBlock) {
         let _ = fs::remove_file(rt, name);
@@ -134,8 +132,19 @@ fn hold(rt: &HostRuntime, name: &str, made: &File) -> io::Result<File> {
     Ok(file)
 }
 
-// Removes the lock file of a process that was killed.
-fn remove_left(rt: &HostRuntime, name: &str) -> io::Result<()> {
+// Removes the lock file of a process that was killed. Only a file is opened: a link would lead
+// elsewhere, and the open of a FIFO waits for a reader.
+fn remove_unlocked(rt: &HostRuntime, name: &str) -> io::Result<()> {
+    match fs::symlink_metadata(rt, name) {
+        Ok(found) if found.is_file() => remove_file_left(rt, name),
+        Ok(_) => Err(io::Error::from(ErrorKind::AlreadyExists)),
+        Err(error) if error.kind() == ErrorKind::NotFound => Ok(()),
+        Err(error) => Err(error),
+    }
+}
+
+// Somebody else may have taken the name away since it was looked at.
+fn remove_file_left(rt: &HostRuntime, name: &str) -> io::Result<()> {
     match OpenOptions::new().write(true).open(rt, name) {
         Ok(file) => {
             lock(rt, name, &file)?;
@@ -155,29 +164,4 @@ fn lock(rt: &HostRuntime, name: &str, file: &File) -> io::Result<()> {
     } else {
         Err(io::Error::from(ErrorKind::WouldBlock))
     }
-}
-
-fn has_name(rt: &HostRuntime, name: &str, file: &File) -> io::Result<bool> {
-    match fs::symlink_metadata(rt, name) {
-        Ok(named) => {
-            let held = file.metadata()?;
-            Ok(named.dev() == held.dev() && named.ino() == held.ino())
-        }
-        Err(error) if error.kind() == ErrorKind::NotFound => Ok(false),
-        Err(error) => Err(error),
-    }
-}
-
-// Gives the lock file the owner, the group and the mode of the locked file, as far as the system
-// allows it. What the system refuses only leaves the file to fewer users.
-fn keep_mode(rt: &HostRuntime, locked: &str, file: &File) {
-    let Ok(old) = fs::metadata(rt, locked) else {
-        return;
-    };
-    let _ = fchown(file.as_fd(), Some(old.uid()), None);
-    let kept = match fchown(file.as_fd(), None, Some(old.gid())) {
-        Ok(()) => KEPT,
-        Err(_) => KEPT_OF_OTHERS,
-    };
-    let _ = file.set_permissions(Permissions::from_mode(old.mode() & kept));
 }

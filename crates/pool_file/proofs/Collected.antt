@@ -4,7 +4,7 @@ use Rattle.std.specs.Prelude.{slice_get, Contains}
 use Rattle.std.specs.Option.{option_map}
 use Rattle.std.specs.List.{flat_map}
 use Rattle.std.specs.BTreeSet.{insert_key}
-use Rattle.std.proofs.lemmas.List.{append-nil, map_more, take_all, take_more}
+use Rattle.std.proofs.lemmas.List.{append-nil, length-take, map_more, take_all, take_min, take_more}
 use Rattle.std.proofs.lemmas.List.Elements.{Contains-append_left, Contains-append_right}
 use Rattle.std.proofs.lemmas.Option.{slice_get-get_or, slice_get_within, get_or_from_slice_get}
 use Rattle.git_model.specs.Content.{Content}
@@ -13,6 +13,7 @@ use Rattle.content_pool.specs.Pool.{Cells, content}
 use Rattle.tenant_tables.specs.declared.entry.Entry.{Entry}
 use Rattle.tenant_tables.specs.View.{Entries}
 use Rattle.tenant_tables.specs.Objects.{objects}
+use Rattle.tenant_tables.proofs.TableLemmas.{length-objects}
 use Rattle.pool_file_format.specs.Format.{RawObject}
 use Rattle.pool_file_checks.specs.Objects.{raw_object, object_key}
 use Rattle.pool_file_checks.specs.Repositories.{Named, contents_of, listed_contents}
@@ -24,7 +25,18 @@ use Rattle.pool_file.specs.Lent.{object_lent, objects_lent, lent_key, raw_conten
 use Rattle.pool_file.specs.Slots.{IsMarked, Marks, IsCollected, Collects}
 use Rattle.pool_file.proofs.Ordered.{order_by, listed_none, listed_push, listed_again, listed_turned, insert_turned}
 
--- ---- the contents of one table
+-- ---- the first objects of one table
+
+-- a place before their end is one of the table
+pub before_end : (pool : Cells) (es : Entries) (n place count : ℕ)
+    → count ≡ length (take n (objects pool es)) → place < count → place < length es
+before_end pool es n place count is l =
+    let a = length-take n (objects pool es) in
+    let b = length-objects pool es in omega (arith, is, l, a, b)
+
+pub counted_take : (os : List Object) (n count : ℕ) → count ≡ length (take n os)
+    → take count os ≡ take n os
+counted_take os n count is = ap (λ (k : ℕ). take k os) (is ∙ length-take n os) ∙ take_min n os
 
 raw_more : (os : List Object) (place : ℕ) (o : Object) → Some o ≡ slice_get os place
     → raw_contents (take (place + 1) os) ≡ raw_contents (take place os) ++ raw_object o.content ∷ []

@@ -3,7 +3,6 @@ use Rattle.std.specs.Prelude.{ℕ, Bool, ◌||◌, not, List, nat_lt, length, ma
 use Rattle.std.specs.List.{AllByRecursion}
 use Rattle.std.specs.Str.{bytes_eq}
 use Rattle.git_model.specs.RefStore.{first_head}
-use Rattle.git_model.specs.Repository.{Object}
 use Rattle.content_pool.specs.Pool.{Cells}
 use Rattle.tenant_tables.specs.Objects.{objects}
 use Rattle.tenant_tables.specs.IsBackedBy.{IsBackedBy}
@@ -12,25 +11,30 @@ use Rattle.pool_file.specs.declared.tenant.Tenant.{Tenant}
 use Rattle.pool_file.specs.declared.tenant_view.TenantView.{TenantView}
 use Rattle.pool_file.specs.Listing.{listed_by}
 
--- A tenant with some objects, and its refs.
-abbrev pub named_with : TenantView → List Object → Named
-named_with saved os = record {
-  tenant = saved.name.now;
-  repository = record { objects = os; refs = saved.refs.now };
-}
-
--- What is saved of a tenant: its committed objects, not those of a running stream, and its refs.
+-- What is saved of a tenant: the first so many objects of its table, and its refs.
 abbrev pub named_in : Cells → TenantView → Named
-named_in pool saved =
-    named_with saved (take saved.table.now.committed (objects pool saved.table.now.entries))
-
--- The tenant that a view shows.
-abbrev pub tenant_seen : TenantView → Tenant
-tenant_seen view = record {
-  name = view.name.now;
-  table = view.table.now;
-  refs = view.refs.now;
+named_in pool saved = record {
+  tenant = saved.name.now;
+  repository = record {
+    objects = take saved.objects (objects pool saved.table.now.entries);
+    refs = saved.refs.now;
+  };
 }
+
+-- The tenant that a view shows, and how many of its objects are saved.
+abbrev pub tenant_seen : TenantView → Tenant × ℕ
+tenant_seen view = (
+  record {
+    name = view.name.now;
+    table = view.table.now;
+    refs = view.refs.now;
+  },
+  view.objects,
+)
+
+-- A tenant, and how many of its objects are committed.
+abbrev pub with_committed : Tenant → Tenant × ℕ
+with_committed t = (t, t.table.committed)
 
 -- What is saved of a tenant: its committed objects and its refs.
 abbrev pub committed_in : Cells → Tenant → Named

@@ -3,9 +3,8 @@
 //! Tenants share contents, and the pool has each of them in one slot. So a content is compared with
 //! others when its slot is met for the first time, and never again.
 
-ghost use Rattle.std.specs.Prelude.{◌≡◌, ◌∷◌, [], IfOk, OnOk, map, take};
+ghost use Rattle.std.specs.Prelude.{◌≡◌, ◌∷◌, [], IfOk, OnOk, map};
 ghost use Rattle.content_pool.specs.Pool.{IsLive, content};
-ghost use Rattle.tenant_tables.specs.Objects.{objects};
 ghost use Rattle.tenant_tables.specs.IsBackedBy.{IsBackedBy};
 ghost use Rattle.pool_file_checks.specs.Objects.{raw_object};
 ghost use Rattle.pool_file.specs.Worth.{AllStand, named_in};
@@ -20,7 +19,6 @@ use content_pool::{Pool, Slot};
 use git_names::{Memory, Naming};
 use std::alloc::Global;
 use std::collections::BTreeSet;
-use tenant_tables::Table;
 
 /// The contents in the order of the file. The number of each of their slots is below `slots`.
 #[derive(Drop)]
@@ -47,27 +45,27 @@ fn add_content<'a, N: Naming>(
     mark(marks, slot.number())
 }
 
-// Adds the contents of the committed objects of a table.
+// Adds the contents of the objects of a tenant that are saved.
 fn add_contents<'a, N: Naming>(
     pool: &'a Pool<N>,
     listed: &mut BTreeSet<LentContent<'a>>,
     marks: &mut Vec<bool>,
-    table: &Table,
+    tenant: &TenantView<'_>,
 ) -> Result<(), Memory>
-    requires { IsBackedBy N.digest_of pool.now table.now.entries }
+    requires { IsBackedBy N.digest_of pool.now tenant.now.table.now.entries }
     ensures { OnOk result (Collects pool.now listed.old.keys marks.old.items
         listed.new.keys marks.new.items
-        (raw_contents (take table.now.committed (objects pool.now table.now.entries)))) }
+        (raw_contents (named_in pool.now tenant.now).repository.objects)) }
 {
-    for place in 0..table.committed_len() {
-        if let Some((_, slot)) = table.at(place) {
+    for place in 0..tenant.object_count() {
+        if let Some((_, slot)) = tenant.table.at(place) {
             add_content(pool, listed, marks, slot)?;
         }
     }
     Ok(())
 }
 
-/// The contents of the committed objects of all tenants, each once, in the order of the file.
+/// The contents of the objects that are saved of all tenants, each once, in the order of the file.
 ///
 /// `Memory` (90) if there is no memory for them, or for a mark for each slot.
 pub fn listed_contents<'a, N: Naming>(
@@ -82,7 +80,7 @@ pub fn listed_contents<'a, N: Naming>(
     let mut listed = BTreeSet::new(alloc);
     let mut marks = Vec::new(alloc);
     for tenant in tenants {
-        add_contents(pool, &mut listed, &mut marks, tenant.table)?;
+        add_contents(pool, &mut listed, &mut marks, tenant)?;
     }
     let contents = in_order(alloc, listed)?;
     Ok(Listing {

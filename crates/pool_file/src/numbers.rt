@@ -2,21 +2,21 @@
 //!
 //! The number of a slot is searched for once, and then kept for all tenants that have the content.
 
-ghost use Rattle.std.specs.Prelude.{◌≡◌, List, IfOk, map, take};
+ghost use Rattle.std.specs.Prelude.{◌≡◌, List, IfOk, map};
 ghost use Rattle.content_pool.specs.Pool.{Cells, IsLive, content};
-ghost use Rattle.tenant_tables.specs.Objects.{objects};
 ghost use Rattle.tenant_tables.specs.IsBackedBy.{IsBackedBy};
 ghost use Rattle.pool_file_checks.specs.Objects.{raw_object};
 ghost use Rattle.pool_file.specs.declared.content.LentContent.{LentContent};
 ghost use Rattle.pool_file.specs.Listing.{IsInOrder, number_by};
 ghost use Rattle.pool_file.specs.Lent.{raw_contents, lent_key};
 ghost use Rattle.pool_file.specs.Slots.{AreKnown, Notes, raw_number};
+ghost use Rattle.pool_file.specs.Worth.{named_in};
 
 use crate::content::{LentContent, lent_content};
+use crate::tenant_view::TenantView;
 use content_pool::{Pool, Slot};
 use git_names::{Memory, Naming};
 use std::alloc::Global;
-use tenant_tables::Table;
 
 // The number of a content in a list in order, from 0; also 0 for a content that is not in it.
 fn number_of<'a>(all: &[LentContent<'a>], content: &LentContent<'a>) -> u64
@@ -71,7 +71,7 @@ fn number_at<'a, N: Naming>(
     number
 }
 
-/// The numbers of a tenant's committed objects in a list in order, oldest first. `known` has the
+/// The numbers of those objects of a tenant that are saved, in a list in order, oldest first. `known` has the
 /// numbers that are known, each at the number of its slot, and then knows these too.
 ///
 /// `Memory` (90) if there is no memory for them.
@@ -80,18 +80,18 @@ pub fn numbers_of<'a, N: Naming>(
     pool: &'a Pool<N>,
     contents: &[LentContent<'a>],
     known: &mut [Option<u64>],
-    table: &Table,
+    tenant: &TenantView<'_>,
 ) -> Result<Vec<u64>, Memory>
-    requires stands { IsBackedBy N.digest_of pool.now table.now.entries }
+    requires stands { IsBackedBy N.digest_of pool.now tenant.now.table.now.entries }
     requires order { IsInOrder lent_key contents.now }
     requires known { AreKnown pool.now contents.now known.old }
     ensures known { AreKnown pool.now contents.now known.new }
     ensures numbers { IfOk result (λ numbers. numbers.items ≡ map (raw_number contents.now)
-        (raw_contents (take table.now.committed (objects pool.now table.now.entries)))) }
+        (raw_contents (named_in pool.now tenant.now).repository.objects)) }
 {
-    let mut numbers = Vec::with_capacity(alloc, table.committed_len())?;
-    for place in 0..table.committed_len() {
-        if let Some((_, slot)) = table.at(place) {
+    let mut numbers = Vec::with_capacity(alloc, tenant.object_count())?;
+    for place in 0..tenant.object_count() {
+        if let Some((_, slot)) = tenant.table.at(place) {
             numbers.push(number_at(pool, contents, known, slot))?;
         }
     }

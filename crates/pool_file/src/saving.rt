@@ -3,7 +3,7 @@
 ghost use Rattle.std.specs.Prelude.{◌≡◌, IfOk, map};
 ghost use Rattle.byte_devices.specs.Device.{device_of, seen};
 ghost use Rattle.pool_file_checks.specs.Repositories.{file_text};
-ghost use Rattle.pool_file.specs.Worth.{tenant_seen, committed_in, worth_saving, to_save, AllStand, TablesStand};
+ghost use Rattle.pool_file.specs.Worth.{tenant_seen, with_committed, committed_in, worth_saving, to_save, AllStand, TablesStand};
 ghost use Rattle.pool_file.specs.Saves.{Saves};
 
 use crate::plan::planned;
@@ -15,9 +15,9 @@ use pool_file_format::{Fault, StreamingDigest, write_lent};
 use std::alloc::{AllocError, Global};
 use std::io::Write;
 
-/// Writes the pool file of those tenants that have a committed object, or a HEAD other than
-/// `refs/heads/main`. The file has version 2, and contains their committed objects, each content
-/// once, and their refs. If the names of the tenants are distinct, it is the same for every order
+/// Writes the pool file of those tenants of which an object is saved, or that have a HEAD other than
+/// `refs/heads/main`. The file has version 2, and contains the first `objects` of each table, each
+/// content once, and their refs. If the names of the tenants are distinct, it is the same for every order
 /// of the tenants; of several tenants with one name the first is saved. `pool` is the pool that the
 /// tables stand in.
 ///
@@ -46,7 +46,8 @@ pub fn save_views<'a, N: StreamingDigest, W: Write>(
 
 // Each tenant, lent.
 fn views_of<'a>(alloc: Global, tenants: &'a [Tenant]) -> Result<Vec<TenantView<'a>>, AllocError>
-    ensures { IfOk result (λ views. map tenant_seen views.items ≡ tenants.now) }
+    ensures { IfOk result (λ views.
+        map tenant_seen views.items ≡ map with_committed tenants.now) }
 {
     let mut views = Vec::new(alloc);
     for tenant in tenants {

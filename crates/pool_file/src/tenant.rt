@@ -1,7 +1,7 @@
 //! A tenant as `load` answers it and as `save` takes it.
 
 ghost use Rattle.std.specs.Prelude.{◌≡◌};
-ghost use Rattle.pool_file.specs.Worth.{tenant_seen};
+ghost use Rattle.pool_file.specs.Worth.{tenant_seen, with_committed};
 
 use crate::tenant_view::TenantView;
 use tenant_refs::{Refs, TenantName};
@@ -17,13 +17,14 @@ pub struct Tenant {
 }
 
 impl Tenant {
-    // The tenant, lent to be saved.
+    // The tenant, lent to be saved with its committed objects.
     pub(crate) fn view(&self) -> TenantView<'_>
-        ensures { tenant_seen result ≡ self.now }
+        ensures { tenant_seen result ≡ with_committed self.now }
     {
         TenantView {
             name: &self.name,
             table: &self.table,
+            objects: self.table.committed_len(),
             refs: &self.refs,
         }
     }

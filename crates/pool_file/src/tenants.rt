@@ -80,11 +80,11 @@ fn raw_tenant<'a, N: Naming>(
     ensures raw { IfOk result (λ raw. (all : List Named) → Lists contents.now all
         → tenant_of raw ≡ raw_tenant (listed_contents all) (named_in pool.now tenant.now)) }
 {
-    let numbers = numbers_of(alloc, pool, contents, known, tenant.table)?;
+    let numbers = numbers_of(alloc, pool, contents, known, tenant)?;
     Ok(RawTenant {
         name: Vec::from_slice(alloc, tenant.name.as_bytes())?,
         numbers,
-        refs: raw_refs(alloc, tenant, &tenant.committed(pool))?,
+        refs: raw_refs(alloc, tenant)?,
         head: Vec::from_slice(alloc, tenant.refs.head())?,
     })
 }

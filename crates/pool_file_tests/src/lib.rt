@@ -1,4 +1,4 @@
-//! Tests of pool files. The crate has no other code.
+//! Tests of pool files and of packs. The crate has no other code.
 #![tactic(auto)]
 
 #[cfg(test)]
@@ -17,6 +17,8 @@ mod lines;
 mod objects;
 #[cfg(test)]
 mod own;
+#[cfg(test)]
+mod packs;
 #[cfg(test)]
 mod parts;
 #[cfg(test)]

@@ -1,5 +1,5 @@
-//! Tests of `revisions` and `answers`, compared with what Git's commands print over the same
-//! objects.
+//! Tests of `revisions`, `answers` and `missing_objects`, compared with what Git's commands print
+//! over the same objects.
 #![tactic(auto)]
 
 #[cfg(test)]
@@ -14,5 +14,7 @@ mod history;
 mod logs;
 #[cfg(test)]
 mod made_by_git;
+#[cfg(test)]
+mod missing;
 #[cfg(test)]
 mod queries;

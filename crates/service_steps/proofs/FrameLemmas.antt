@@ -28,7 +28,7 @@ none_wrong : (k : Kind) (n m : ℕ) → n ≤ tenant_limit k → m ≤ body_limi
 unfolding wrong_part
 none_wrong k n m within few = rw (le-ltb (tenant_limit k) n within, le-ltb (body_limit k) m few) refl
 
-by_less : {P : Type 0} (a b : ℕ) → (a < b → P) → (b ≤ a → P) → P
+pub by_less : {P : Type 0} (a b : ℕ) → (a < b → P) → (b ≤ a → P) → P
 by_less {P} a b less more = by (ltb a b) refl
   where
     by : (t : Bool) → ltb a b ≡ t → P
@@ -55,7 +55,7 @@ hides_body k n m size within limited =
 
 -- ---- a frame that is not whole
 
-some_more : (xs ys : List ℕ) → xs ≢ [] → xs ++ ys ≢ []
+pub some_more : (xs ys : List ℕ) → xs ≢ [] → xs ++ ys ≢ []
 some_more [] ys some none = some refl
 some_more (x ∷ xs) ys some none = let e : length (x ∷ xs ++ ys) ≡ 0 = ap length none in omega (arith, e)
 
@@ -88,7 +88,7 @@ tenant_unfinished byte k bytes small is p = record {
   lacks = some_more p.missing (sized w32 []) p.lacks;
 }
 
-sized-length : (tenant bytes : List ℕ) → length (sized w16 tenant ++ bytes) ≡ 2 + length tenant + length bytes
+pub sized-length : (tenant bytes : List ℕ) → length (sized w16 tenant ++ bytes) ≡ 2 + length tenant + length bytes
 sized-length tenant bytes = let a = length-append (sized w16 tenant) bytes in omega (arith, a)
 
 -- Inside its body.

@@ -1,4 +1,6 @@
 pub use Rattle.byte_devices.proofs.ReadLemmas
 pub mod SizedLemmas
 pub mod FrameLemmas
+pub mod RequestLemmas
+pub mod StepRequestLemmas
 pub mod WriteLemmas

@@ -3,3 +3,6 @@ pub mod Faults
 pub mod Frames
 pub mod FrameFaults
 pub mod Reading
+pub mod Requests
+pub mod RequestReading
+pub mod StepFrames

@@ -78,8 +78,8 @@ impl Frames {
     }
 }
 
-// The step of a frame.
-fn step_of<'a>(kind: Kind, tenant: &'a [u8], body: &'a [u8]) -> Step<'a>
+/// The step of a frame.
+pub(crate) fn step_of<'a>(kind: Kind, tenant: &'a [u8], body: &'a [u8]) -> Step<'a>
     requires tenant { length tenant.now ≤ tenant_limit kind }
     requires body { length body.now ≤ body_limit kind }
     ensures { frame_of result ≡ framed kind tenant.now body.now }

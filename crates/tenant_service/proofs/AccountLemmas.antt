@@ -38,8 +38,8 @@ use Rattle.tenant_service.specs.OneStep.{Takes, Store, store, Serves, Calls}
 
 held_in-other : (ph : OpenStream) (p q : Cells) (t : View) (r : RefStore) → objects q t.entries ≡ objects p t.entries → held_in ph q t r ≡ held_in ph p t r
 held_in-other phase.Closed p q t r same = ap (λ (os : List Object). Idle (record { objects = os; refs = r })) same
-held_in-other (phase.Running stream) p q t r same =
-    ap (λ (os : List Object). Busy (Runs (record {
+held_in-other (phase.Running opened stream) p q t r same =
+    ap (λ (os : List Object). Busy (record { objects = take opened.objects os; refs = opened.refs }) (Runs (record {
       workspace = record (workspace_in stream.session.state p t r) {
         objects = os;
         stream = stream_with (commit_in os) stream.session.state.stream;
@@ -47,7 +47,9 @@ held_in-other (phase.Running stream) p q t r same =
       parsing = stream.session.parsing;
       is_done = stream.session.is_done;
     }) (kept_tail stream))) same
-held_in-other (phase.Dead code) p q t r same = ap (λ (os : List Object). Busy (Refused code (record { objects = os; refs = r }))) same
+held_in-other (phase.Dead opened code) p q t r same =
+    ap (λ (os : List Object). Busy (record { objects = take opened.objects os; refs = opened.refs }) (Refused code (record { objects = os; refs = r })))
+    same
 
 -- all tenants of a list, beside one that is not in it
 counted_beside : (p : Cells) (e : List ℕ × Tenant) (es : Tenants) (old : Entries) → ((s : ℕ) → all_held (e ∷ es) s + held old s ≤ holds p s)
@@ -67,6 +69,7 @@ stands_beside digest p q old new leaves (e ∷ es) bound all = (
   record {
     entries = other_stands digest p q old new e.1.table.entries all.0.entries (counted_beside p e es old bound) leaves;
     settled = all.0.settled;
+    opened = all.0.opened;
     files = subst (λ (os : List Object). HoldsIn os e.1.phase)
         (sym (other_objects p q old new e.1.table.entries (counted_beside p e es old bound) leaves)) all.0.files;
     chain = subst (λ (os : List Object). IsFirstParentChain os e.1.chain)
@@ -338,7 +341,7 @@ added digest name p q es t h named none stands leaves =
       names = all_whole _ es ((name, nobody) ∷ []) h.names (named, tt);
       stands =
           all_whole _ es ((name, nobody) ∷ []) h.stands
-          (record { entries = IsBackedBy-nil digest p; settled = refl; files = tt; chain = tt }, tt);
+          (record { entries = IsBackedBy-nil digest p; settled = refl; opened = tt; files = tt; chain = tt }, tt);
       counts = λ s.
           let a = held-among es [] name nobody s in
           let z = held-nil s in
@@ -432,8 +435,8 @@ nothing-in phase.Closed p t r h =
     let is : record { objects = objects p t.entries; refs = r } ≡ empty_repository = cc h in
     no-entries t.entries
     (sym (length-objects p t.entries) ∙ ap (λ (x : Repository). length x.objects) is)
-nothing-in (phase.Running stream) p t r h = cc h
-nothing-in (phase.Dead code) p t r h = cc h
+nothing-in (phase.Running opened stream) p t r h = cc h
+nothing-in (phase.Dead opened code) p t r h = cc h
 
 pub put : (digest : List ℕ → List ℕ) (name : List ℕ) (p q : Cells) (es : Tenants) (t : Tenant)
     → Accounts digest p es → is_tenant_name name ≡ true

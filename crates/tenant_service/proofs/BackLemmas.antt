@@ -85,9 +85,9 @@ name-named all names n h =
 last-objects : (held : TenantState) (o : Object) → Has (last_held held).objects o
     → Has (held_objects held) o
 last-objects (Idle repository) o h = h
-last-objects (Busy (Runs now tail)) o h =
+last-objects (Busy opened (Runs now tail)) o h =
     take-has now.workspace.committed now.workspace.objects o h
-last-objects (Busy (Refused code repository)) o h = h
+last-objects (Busy opened (Refused code repository)) o h = h
 
 contents_held : List ℕ × TenantState → List Content
 contents_held e = map (λ o. o.content) (held_objects e.1)
@@ -123,25 +123,31 @@ module _ (digest : List ℕ → List ℕ) (all : TenantStates)
     good = good-named digest all distinct good n h;
   }
 
-  saved-content : (c : Content) → Has (contents_of (saved_of all)) c → Has (held_contents all) c
+  pub saved-content : (c : Content) → Has (contents_of (saved_of all)) c → Has (held_contents all) c
   saved-content c h =
       let of = of_flat_map (λ (n : Named). map (λ o. o.content) n.repository.objects)
       (saved_of all) c h in
       held-content all of.of c
       (of-saved digest (last_named all) savable of.of of.there).0 of.has
 
-  pub text-saved : length all < 2 ^ 63
-      → length (unique_keys same_content (held_contents all)) < 2 ^ 64
+  -- if all contents that are saved are among some that are not too many
+  pub text-among : length all < 2 ^ 63 → (among : List Content)
+      → ((c : Content) → Has (contents_of (saved_of all)) c → Has among c)
+      → length (unique_keys same_content among) < 2 ^ 64
       → IsTextOf digest (saved_of all) (file_text digest (saved_of all))
-  text-saved many few =
+  text-among many among each few =
       let size = length-last all in
       inl (
-        can-save digest (last_named all) savable (omega (arith, many, size))
-            (held_contents all) saved-content few,
+        can-save digest (last_named all) savable (omega (arith, many, size)) among each few,
         refl,
       )
 
-  loses-nothing : LosesNothing (last_named all)
+  pub text-saved : length all < 2 ^ 63
+      → length (unique_keys same_content (held_contents all)) < 2 ^ 64
+      → IsTextOf digest (saved_of all) (file_text digest (saved_of all))
+  text-saved many few = text-among many (held_contents all) saved-content few
+
+  pub loses-nothing : LosesNothing (last_named all)
   loses-nothing n h = empty_of n (good-named digest all distinct good n h).refs
 
   -- a service that was loaded from the text has what a restart leaves

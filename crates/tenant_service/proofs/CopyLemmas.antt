@@ -1,7 +1,6 @@
 -- Copies: their steps in turn, and that no other tenant has anything else after them.
-use Rattle.std.proofs.Common.{◌≡◌, ℕ, zero, suc, Bool, true, false, ◌&&◌, ◌==◌, cond, List, [], ◌∷◌, length, map, codes, Option, Some, None, Result, Ok, Err, refl, sym, ap, subst, ◌∙◌, true≢false}
+use Rattle.std.proofs.Common.{◌≡◌, ℕ, Bool, true, false, ◌&&◌, ◌==◌, cond, List, [], ◌∷◌, length, Option, Some, None, refl, sym, ap, subst, ◌∙◌}
 use Rattle.std.proofs.lemmas.Bool.{eq-eqb, ne_eqb}
-use Rattle.std.specs.List.{AllByRecursion}
 use Rattle.std.specs.Ordering.{nat_cmp}
 use Rattle.std.specs.Cmp.Lexicographic.{slice_cmp}
 use Rattle.std.specs.FinMap as ref_map
@@ -14,9 +13,6 @@ use Rattle.tenant_tables.specs.View.{View}
 use Rattle.tenant_tables.specs.Objects.{objects}
 use Rattle.tenant_tables.proofs.TableLemmas.{length-objects}
 use Rattle.import_session.specs.Session.{repository_in}
-use Rattle.import_session.specs.Stream.{Runs, Refused}
-use Rattle.answers.specs.declared.fault.Fault.{Fault}
-use Rattle.answers.specs.Answers.{answer_to}
 use Rattle.service_steps.specs.declared.answer.Answer.{Answer}
 use Rattle.service_steps.specs.declared.answer.Answer.TheVariants as answer
 use Rattle.service_steps.specs.declared.fault.ServiceFault.{ServiceFault}
@@ -24,14 +20,16 @@ use Rattle.service_steps.specs.declared.fault.ServiceFault.TheVariants as fault
 use Rattle.service_steps.specs.Faults.{code_of}
 use Rattle.service_steps.specs.declared.step.Step.{Step}
 use Rattle.service_steps.specs.declared.step.Step.TheVariants as step
-use Rattle.tenant_service.specs.Alone.{Call, Open, Feed, End, Ask, Restart, State, Closed, Streaming, Dead, last_alone, answered, asked, run_alone}
-use Rattle.tenant_service.specs.Copying.{has_nothing, held_refusal, copy_refusal, IsCall, GoesOn, IsFedAndEnded, IsImport, IsExport, IsCopyRun, HasTaken}
-use Rattle.tenant_service.specs.Headline.{Response, Run, concerns, call_of, stop_told, part_of, steps_of, left_alone, IsIsolated}
+use Rattle.tenant_service.specs.Alone.{Restart}
+use Rattle.tenant_service.specs.Copying.{has_nothing, held_refusal, copy_refusal, GoesOn, IsExport, IsCopyRun, HasTaken}
+use Rattle.tenant_service.specs.Headline.{Response, Run, concerns, call_of, IsIsolated}
 use Rattle.tenant_service.specs.StepName.{name_of}
-use Rattle.tenant_service.specs.TenantState.{TenantState, TenantStates, Idle, Busy, Represents, empty_repository, held_of}
+use Rattle.tenant_service.specs.TenantState.{TenantStates, empty_repository, held_of}
 use Rattle.tenant_service.specs.declared.tenant.Tenant.{Tenant}
-use Rattle.tenant_service.specs.Tenants.{Tenants, AreLed, holding_in, holdings}
+use Rattle.tenant_service.specs.Tenants.{Tenants, holding_in, holdings}
+use Rattle.tenant_service.specs.Kept.{may_change}
 use Rattle.tenant_service.proofs.AccountLemmas.{held-found, held-missing}
+use Rattle.tenant_service.proofs.KeptLemmas.{stays-apart}
 use Rattle.tenant_service.proofs.RunLemmas.{apart-back, own-more, own-none}
 
 -- ---- steps in turn
@@ -66,57 +64,6 @@ taken-two digest before between after first second Is own then is = record {
 
 -- ---- what the steps leave of other tenants
 
--- a repository and a stream of its own lead to one thing
-leads-one : (digest : List ℕ → List ℕ) (state : State) (a b : TenantState) → Represents digest state a → Represents digest state b → a ≡ b
-leads-one digest (Closed r) (Idle a) (Idle b) h k = ap Idle (sym h ∙ k)
-leads-one digest (Closed r) (Idle a) (Busy b) h k = absurd k
-leads-one digest (Closed r) (Busy a) b h k = absurd h
-leads-one digest (Streaming r bytes) (Idle a) b h k = absurd h
-leads-one digest (Streaming r bytes) (Busy (Runs now tail)) (Idle b) h k = absurd k
-leads-one digest (Streaming r bytes) (Busy (Runs now tail)) (Busy (Runs now' tail')) h k = ap Busy (sym h ∙ k)
-leads-one digest (Streaming r bytes) (Busy (Runs now tail)) (Busy (Refused code left)) h k = absurd k
-leads-one digest (Streaming r bytes) (Busy (Refused code left)) b h k = absurd h
-leads-one digest (Dead code r) (Idle a) b h k = absurd h
-leads-one digest (Dead code r) (Busy a) (Idle b) h k = absurd k
-leads-one digest (Dead code r) (Busy a) (Busy b) h k = ap Busy (h ∙ sym k)
-
--- a step that concerns the tenant asks something of it
-abbrev LeavesIt : List ℕ → Step × Response → Type 0
-LeavesIt tenant taken = concerns tenant taken.0 ≡ true → (query : List ℕ) × (call_of taken.0 ≡ Ask query)
-
-ask-leaves : (digest : List ℕ → List ℕ) (query : List ℕ) (stop : Option ℕ) (state : State) → (run_alone digest (Ask query) stop state).state ≡ state
-ask-leaves digest query stop state = by stop
-  where
-    told : (r : Result (List ℕ) Fault) → (answered r state).state ≡ state
-    told (Ok text) = refl
-    told (Err refusal) = refl
-
-    by : (o : Option ℕ) → (asked query o (last_alone digest state) state).state ≡ state
-    by None = told (answer_to (last_alone digest state) query)
-    by (Some zero) = refl
-    by (Some (suc n)) = told (answer_to (last_alone digest state) query)
-
--- such a step leaves a repository and a stream of its own
-left-first : (digest : List ℕ → List ℕ) (tenant : List ℕ) (state : State) (taken : Step × Response) (run : Run) → LeavesIt tenant taken
-    → left_alone digest state (steps_of tenant (taken ∷ run)) ≡ left_alone digest state (steps_of tenant run)
-unfolding left_alone
-left-first digest tenant state taken run leaves = by (concerns tenant taken.0) leaves
-  where
-    by : (b : Bool) → (b ≡ true → (query : List ℕ) × (call_of taken.0 ≡ Ask query))
-        → left_alone digest state (map (λ (x : Step × Response). (call_of x.0, stop_told x.1.answer)) (cond b (taken ∷ part_of tenant run) (part_of tenant run)))
-        ≡ left_alone digest state (steps_of tenant run)
-    by false asks = refl
-    by true asks =
-        let q = asks refl in
-        ap (λ (s : State). left_alone digest s (steps_of tenant run))
-        (ap (λ (c : Call). (run_alone digest c (stop_told taken.1.answer) state).state) q.1 ∙ ask-leaves digest q.0 (stop_told taken.1.answer) state)
-
-left-same : (digest : List ℕ → List ℕ) (tenant : List ℕ) (state : State) (run : Run) → AllByRecursion (LeavesIt tenant) run
-    → left_alone digest state (steps_of tenant run) ≡ state
-unfolding left_alone
-left-same digest tenant state [] all = refl
-left-same digest tenant state (taken ∷ run) all = left-first digest tenant state taken run all.0 ∙ left-same digest tenant state run all.1
-
 -- a call of one tenant concerns no other
 named-apart : (b : Bool) (given tenant to : List ℕ) → given ≡ to → bytes_eq tenant to ≡ false → (b && bytes_eq given tenant) ≡ false
 named-apart false given tenant to named apart = refl
@@ -130,47 +77,9 @@ call-apart tenant to (step.End given) named apart other = named-apart (is_tenant
 call-apart tenant to (step.Ask given query) named apart other = named-apart (is_tenant_name given.now) given.now tenant to named apart
 call-apart tenant to step.Restart named apart other = absurd (other refl)
 
-leaves-apart : (tenant to : List ℕ) (call : Call) (taken : Step × Response) → IsCall to call taken.0 → bytes_eq tenant to ≡ false → (call ≡ Restart → ⊥)
-    → LeavesIt tenant taken
-leaves-apart tenant to call taken is apart other = λ here.
-    absurd (true≢false (sym here ∙ call-apart tenant to taken.0 is.0 apart (λ restarts. other (sym is.1 ∙ restarts))))
-
--- what holds of no steps, and of those after an Ok, holds of what follows an answer
-after-answer : (a : Answer) (later : Run) (told : Answer) (so : Type 0) (P : Run → Type 0) → (so → P later) → P [] → GoesOn a later told so → P later
-after-answer answer.Ok later told so P on none h = on h
-after-answer (answer.Fault code) later told so P on none h = subst P (sym h.0) none
-after-answer (answer.Memory items) later told so P on none h = subst P (sym h.0) none
-
-fed-leaves : (tenant to text : List ℕ) (run : Run) (told : Answer) → bytes_eq tenant to ≡ false → IsFedAndEnded to text run told → AllByRecursion (LeavesIt tenant) run
-fed-leaves tenant to text [] told apart h = absurd h
-fed-leaves tenant to text (fed ∷ []) told apart h = absurd h
-fed-leaves tenant to text (fed ∷ ended ∷ []) told apart h =
-    (leaves-apart tenant to (Feed text) fed h.0 apart (λ e. cc e), (leaves-apart tenant to End ended h.1 apart (λ e. cc e), tt))
-fed-leaves tenant to text (fed ∷ ended ∷ more ∷ run) told apart h = absurd h
-
-import-leaves : (tenant to text : List ℕ) (run : Run) (told : Answer) → bytes_eq tenant to ≡ false → IsImport to text run told → AllByRecursion (LeavesIt tenant) run
-import-leaves tenant to text [] told apart h = absurd h
-import-leaves tenant to text (opened ∷ later) told apart h = (
-  leaves-apart tenant to Open opened h.0 apart (λ e. cc e),
-  after-answer opened.1.answer later told _ (AllByRecursion (LeavesIt tenant)) (fed-leaves tenant to text later told apart) tt h.1,
-)
-
-export-leaves : (tenant from to : List ℕ) (run : Run) (told : Answer) → bytes_eq tenant to ≡ false → IsExport from to run told → AllByRecursion (LeavesIt tenant) run
-export-leaves tenant from to [] told apart h = absurd h
-export-leaves tenant from to (asked ∷ later) told apart h = (
-  λ here. (codes "export", h.0.1),
-  after-answer asked.1.answer later told _ (AllByRecursion (LeavesIt tenant)) (import-leaves tenant to asked.1.reply later told apart) tt h.1,
-)
-
--- of every other tenant a copy leaves what was held
-pub others-held : (digest : List ℕ → List ℕ) (before after : TenantStates) (from to : List ℕ) (told : Answer)
-    → AreLed digest before → HasTaken digest before after (λ run. IsExport from to run told)
-    → (tenant : List ℕ) → bytes_eq tenant to ≡ false → held_of tenant after ≡ held_of tenant before
-others-held digest before after from to told led taken tenant apart =
-    let l = led tenant in
-    let same = left-same digest tenant l.0 taken.run (export-leaves tenant from to taken.run told apart taken.is) in
-    leads-one digest l.0 (held_of tenant after) (held_of tenant before)
-    (subst (λ (s : State). Represents digest s (held_of tenant after)) same ((taken.own tenant).left l.0 l.1)) l.1
+-- so it does not change it
+pub unchanged : (tenant to : List ℕ) (s : Step) → name_of s ≡ to → bytes_eq tenant to ≡ false → (call_of s ≡ Restart → ⊥) → may_change tenant s ≡ false
+unchanged tenant to s named apart other = stays-apart tenant s (call-apart tenant to s named apart other)
 
 -- an answer that is not Ok ends the run, and an Ok lets it go on
 pub ends-there : (a told : Answer) (so : Type 0) → a ≡ told → (a ≡ answer.Ok → ⊥) → GoesOn a [] told so
@@ -238,7 +147,7 @@ found-decides pool from to es tenant first second found =
     ap held_refusal (sym (held-found pool to es tenant found)) ∙ named-decides from to (holdings pool es) first second
 
 -- one that was not has nothing
-empty-has_nothing : has_nothing empty_repository ≡ true
+pub empty-has_nothing : has_nothing empty_repository ≡ true
 empty-has_nothing =
     ap (λ (n : ℕ). ((0 == 0) && (n == 0)) && bytes_eq first_head first_head) (sym (ref_map.len-entries _) ∙ ref_map.len-empty (slice_cmp nat_cmp) (List ℕ))
 

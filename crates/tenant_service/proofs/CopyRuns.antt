@@ -268,6 +268,14 @@ module _ (digest : List ℕ → List ℕ) (names : AnswersNames digest) (p q : C
   run-told (Some (answer.Fault code)) h = absurd h
   run-told None h = tt
 
+  pub others-told : (result : Option Answer) → Told result
+      → IfSome result (λ answer. (tenant : List ℕ) → bytes_eq tenant to ≡ false
+      → held_of tenant (holdings q new) ≡ held_of tenant (holdings p es))
+  others-told (Some answer.Ok) h = h.others
+  others-told (Some (answer.Memory items)) h = λ tenant apart. ap (held_of tenant) h.1.same
+  others-told (Some (answer.Fault code)) h = absurd h
+  others-told None h = tt
+
   pub accounts-told : (result : Option Answer) → Told result → Accounts digest q new
   accounts-told (Some answer.Ok) h = h.accounts
   accounts-told (Some (answer.Memory items)) h = h.1.accounts

@@ -119,8 +119,8 @@ once-among digest os good c = count-member digest os (named-all digest os os goo
 objects-sound : (digest : List ℕ → List ℕ) (h : TenantState) → IsSoundTenantState digest h
     → AreObjects digest (held_objects h)
 objects-sound digest (Idle repository) sound = sound.objects
-objects-sound digest (Busy (Runs now tail)) sound = sound.objects
-objects-sound digest (Busy (Refused code repository)) sound = sound.objects
+objects-sound digest (Busy opened (Runs now tail)) sound = sound.1.objects
+objects-sound digest (Busy opened (Refused code repository)) sound = sound.1.objects
 
 of-one : (digest : List ℕ → List ℕ) (p : Cells) (t : Tenant)
     → ((s : ℕ) → held t.table.entries s ≤ holds p s) → IsSoundTenantState digest (holding_in p t)

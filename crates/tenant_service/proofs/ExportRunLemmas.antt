@@ -197,7 +197,7 @@ after-query digest tenant query taken is state run after g =
 held-copy : (digest : List ℕ → List ℕ) (repository left : Repository) (held : TenantState)
     → Represents digest (Closed left) held → IsCopyOf repository left → HoldsCopy repository held
 held-copy digest repository left (Idle kept) leads copy = subst (IsCopyOf repository) leads copy
-held-copy digest repository left (Busy status) leads copy = absurd leads
+held-copy digest repository left (Busy opened status) leads copy = absurd leads
 
 module _ (digest : List ℕ → List ℕ) (repository : Repository) (i : IsImported digest repository)
     (to : List ℕ) (good : is_tenant_name to ≡ true) (after : TenantState) where
@@ -310,14 +310,14 @@ pub record MayTake (from to : List ℕ) (held : TenantState) : Type 0 where
   pub good_to : is_tenant_name to ≡ true
   pub nothing : held ≡ Idle empty_repository
 
-not-refused : (held : TenantState) → held_refusal held ≡ None → held ≡ Idle empty_repository
+pub not-refused : (held : TenantState) → held_refusal held ≡ None → held ≡ Idle empty_repository
 not-refused (Idle repository) h = by (has_nothing repository) refl h
   where
     by : (b : Bool) → has_nothing repository ≡ b → cond b None (Some fault.TenantNotEmpty) ≡ None
         → Idle repository ≡ Idle empty_repository
     by true is h = ap Idle (nothing-held repository is)
     by false is h = cc
-not-refused (Busy status) h = cc
+not-refused (Busy opened status) h = cc
 
 pub may-take : (from to : List ℕ) (all : TenantStates) → copy_refusal from to all ≡ None → MayTake from to (held_of to all)
 may-take from to all h = by (is_tenant_name from && is_tenant_name to) refl h

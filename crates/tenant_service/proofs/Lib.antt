@@ -4,8 +4,16 @@ pub mod OwnLemmas
 pub mod AccountLemmas
 pub mod RunLemmas
 mod SoundLemmas
+pub mod KeptLemmas
+mod GrowingLemmas
+mod OpenedLemmas
 mod RestartLemmas
 mod RemovalLemmas
+mod CompactObjects
+mod CompactLaws
+mod CompactPlaces
+mod CompactTables
+mod CompactTenants
 mod StoredLemmas
 mod SlotSums
 mod CountLemmas
@@ -15,6 +23,8 @@ mod SavedLemmas
 mod SavableLemmas
 mod FileContents
 mod BackLemmas
+mod OpenedBack
+mod OpenedLaws
 mod CopyLemmas
 pub mod ExportLemmas
 mod ExportRunLemmas
@@ -22,3 +32,7 @@ mod CopyRuns
 mod PlaceLemmas
 mod StoredCopies
 mod SizeLemmas
+mod ExtractLemmas
+mod AcrossLemmas
+mod MergeLemmas
+mod MoveLemmas

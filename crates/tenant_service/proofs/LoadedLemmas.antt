@@ -92,7 +92,7 @@ stands-loaded : (digest : List ℕ → List ℕ) (p : Cells) (ts : List Loaded)
     → AllByRecursion (λ e. Stands digest p e.1) (map entry_of ts)
 stands-loaded digest p [] all = tt
 stands-loaded digest p (t ∷ ts) all = (
-  record { entries = all.0.stands; settled = all.0.committed; files = tt; chain = tt },
+  record { entries = all.0.stands; settled = all.0.committed; opened = tt; files = tt; chain = tt },
   stands-loaded digest p ts all.1,
 )
 

@@ -228,19 +228,19 @@ pub record Meets (digest : List ℕ → List ℕ) (alone : StepResult State) (he
 
 fed-goes : (digest : List ℕ → List ℕ) (repository : Repository) (all before : List ℕ) (later : Outcome)
     → stream_of digest repository all ≡ after_reply before later
-    → Meets digest (fed_by repository all (added before (stream_of digest repository all).replies) (stream_of digest repository all).status) (gone_on later)
+    → Meets digest (fed_by repository all (added before (stream_of digest repository all).replies) (stream_of digest repository all).status) (gone_on repository later)
 fed-goes digest repository all before later is =
-    subst (λ (o : Outcome). Meets digest (fed_by repository all (added before o.replies) o.status) (gone_on later)) (sym is) (by later.status refl)
+    subst (λ (o : Outcome). Meets digest (fed_by repository all (added before o.replies) o.status) (gone_on repository later)) (sym is) (by later.status refl)
   where
     adds : drop (length before) (before ++ later.replies) ≡ later.replies
     adds = drop-append_seam before later.replies
 
     by : (x : StreamStatus) → later.status ≡ x
         → Meets digest (fed_by repository all (drop (length before) (before ++ later.replies)) x)
-        (step_result (standing_answer x) later.replies (Busy x))
+        (step_result (standing_answer x) later.replies (Busy repository x))
     by (Runs now tail) stands = record {
       told = ap (λ (rs : List ℕ). record { answer = answer.Ok; reply = rs }) adds;
-      leads = ap (λ (o : Outcome). o.status) is ∙ stands;
+      leads = (refl, ap (λ (o : Outcome). o.status) is ∙ stands);
     }
     by (Refused code left) stands = record {
       told = ap (λ (rs : List ℕ). record { answer = answer.Fault code; reply = rs }) adds;
@@ -249,14 +249,14 @@ fed-goes digest repository all before later is =
 
 fed-meets-well : (digest : List ℕ → List ℕ) (repository : Repository) (bytes piece : List ℕ) (now : Running) (kept : Tail)
     → so_far digest repository bytes now kept
-    → Meets digest (fed_well digest repository bytes piece) (gone_on (outcome_after digest now kept piece))
+    → Meets digest (fed_well digest repository bytes piece) (gone_on repository (outcome_after digest now kept piece))
 fed-meets-well digest repository bytes piece now kept h =
     fed-goes digest repository (bytes ++ piece) (stream_of digest repository bytes).replies (outcome_after digest now kept piece)
     (stream-more digest repository bytes piece now kept h)
 
 fed-meets : (digest : List ℕ → List ℕ) (repository : Repository) (bytes piece : List ℕ) (stop : Option ℕ) (now : Running) (kept : Tail)
     → so_far digest repository bytes now kept
-    → Meets digest (fed digest stop repository bytes piece) (fed_held digest piece stop now kept)
+    → Meets digest (fed digest stop repository bytes piece) (fed_held digest piece stop repository now kept)
 fed-meets digest repository bytes piece None now kept h = fed-meets-well digest repository bytes piece now kept h
 fed-meets digest repository bytes piece (Some count) now kept h =
     by (feed_stop digest repository bytes piece count) (stop_after digest now (more_of kept piece).items count)
@@ -266,13 +266,13 @@ fed-meets digest repository bytes piece (Some count) now kept h =
     before = (stream_of digest repository bytes).replies
 
     by : (alone held : Option Stopped) → alone ≡ option_map (after_replies before) held
-        → Meets digest (fed_until before count alone (fed_well digest repository bytes piece)) (held_until count held (gone_on (outcome_after digest now kept piece)))
+        → Meets digest (fed_until before count alone (fed_well digest repository bytes piece)) (held_until repository count held (gone_on repository (outcome_after digest now kept piece)))
     by alone None is =
-        subst (λ (o : Option Stopped). Meets digest (fed_until before count o (fed_well digest repository bytes piece)) (gone_on (outcome_after digest now kept piece))) (sym is)
+        subst (λ (o : Option Stopped). Meets digest (fed_until before count o (fed_well digest repository bytes piece)) (gone_on repository (outcome_after digest now kept piece))) (sym is)
         (fed-meets-well digest repository bytes piece now kept h)
     by alone (Some stopped) is =
         subst (λ (o : Option Stopped). Meets digest (fed_until before count o (fed_well digest repository bytes piece))
-        (step_result (answer.Memory count) stopped.replies (Busy (Refused out_of_memory stopped.repository)))) (sym is)
+        (step_result (answer.Memory count) stopped.replies (Busy repository (Refused out_of_memory stopped.repository)))) (sym is)
         (record {
           told = ap (λ (rs : List ℕ). record { answer = answer.Memory count; reply = rs }) (drop-append_seam before stopped.replies);
           leads = refl;
@@ -284,18 +284,18 @@ ended-leads digest t = record { told = refl; leads = refl }
 opened-leads : (digest : List ℕ → List ℕ) (stop : Option ℕ) (repository : Repository)
     → Meets digest (open_alone stop (Closed repository)) (open_held stop (Idle repository))
 unfolding stream_of carried walk at_tail
-opened-leads digest None repository = record { told = refl; leads = refl }
+opened-leads digest None repository = record { told = refl; leads = (refl, refl) }
 opened-leads digest (Some zero) repository = record { told = refl; leads = refl }
-opened-leads digest (Some (suc count)) repository = record { told = refl; leads = refl }
+opened-leads digest (Some (suc count)) repository = record { told = refl; leads = (refl, refl) }
 
 -- what leads to what is held leads to its last checkpoint
 pub last-leads : (digest : List ℕ → List ℕ) (state : State) (held : TenantState) → Represents digest state held → last_alone digest state ≡ last_held held
 last-leads digest (Closed r) (Idle r') h = h
-last-leads digest (Streaming r bytes) (Busy (Runs now tail)) h = ap last_of h
-last-leads digest (Dead code r) (Busy status) h = sym (ap last_of h)
-last-leads digest (Closed r) (Busy status) h = elim h [ ]
+last-leads digest (Streaming r bytes) (Busy opened (Runs now tail)) h = ap last_of h.1
+last-leads digest (Dead code r) (Busy opened status) h = sym (ap last_of h)
+last-leads digest (Closed r) (Busy opened status) h = elim h [ ]
 last-leads digest (Streaming r bytes) (Idle r') h = elim h [ ]
-last-leads digest (Streaming r bytes) (Busy (Refused _ _)) h = elim h [ ]
+last-leads digest (Streaming r bytes) (Busy opened (Refused _ _)) h = elim h [ ]
 last-leads digest (Dead code r) (Idle r') h = elim h [ ]
 
 -- a query, by its answer
@@ -319,28 +319,30 @@ asked-meets digest query stop state held h =
 pub meets : (digest : List ℕ → List ℕ) (call : Call) (stop : Option ℕ) (state : State) (held : TenantState) → Represents digest state held
     → Meets digest (run_alone digest call stop state) (step_held digest call stop held)
 meets digest Open stop (Closed r) (Idle r') h = subst (λ (x : Repository). Meets digest (open_alone stop (Closed r)) (open_held stop (Idle x))) h (opened-leads digest stop r)
-meets digest Open stop (Streaming r bytes) (Busy (Runs now tail)) h = record { told = refl; leads = h }
-meets digest Open stop (Dead code r) (Busy status) h = record { told = refl; leads = h }
+meets digest Open stop (Streaming r bytes) (Busy opened (Runs now tail)) h = record { told = refl; leads = h }
+meets digest Open stop (Dead code r) (Busy opened status) h = record { told = refl; leads = h }
 meets digest (Feed piece) stop (Closed r) (Idle r') h = record { told = refl; leads = h }
-meets digest (Feed piece) stop (Streaming r bytes) (Busy (Runs now tail)) h = fed-meets digest r bytes piece stop now tail h
-meets digest (Feed piece) stop (Dead code r) (Busy status) h =
-    subst (λ (x : StreamStatus). Meets digest (feed_alone digest piece stop (Dead code r)) (feed_held digest piece stop (Busy x))) (sym h) (record { told = refl; leads = refl })
+meets digest (Feed piece) stop (Streaming r bytes) (Busy opened (Runs now tail)) h =
+    subst (λ (x : Repository). Meets digest (feed_alone digest piece stop (Streaming r bytes)) (fed_held digest piece stop x now tail)) h.0
+    (fed-meets digest r bytes piece stop now tail h.1)
+meets digest (Feed piece) stop (Dead code r) (Busy opened status) h =
+    subst (λ (x : StreamStatus). Meets digest (feed_alone digest piece stop (Dead code r)) (feed_held digest piece stop (Busy opened x))) (sym h) (record { told = refl; leads = refl })
 meets digest End stop (Closed r) (Idle r') h = record { told = refl; leads = h }
-meets digest End stop (Streaming r bytes) (Busy (Runs now tail)) h =
-    subst (λ (x : StreamStatus). Meets digest (closed Closed (ended digest stop x)) (closed Idle (ended digest stop (Runs now tail)))) (sym h) (ended-leads digest (ended digest stop (Runs now tail)))
-meets digest End stop (Dead code r) (Busy status) h =
+meets digest End stop (Streaming r bytes) (Busy opened (Runs now tail)) h =
+    subst (λ (x : StreamStatus). Meets digest (closed Closed (ended digest stop x)) (closed Idle (ended digest stop (Runs now tail)))) (sym h.1) (ended-leads digest (ended digest stop (Runs now tail)))
+meets digest End stop (Dead code r) (Busy opened status) h =
     subst (λ (x : StreamStatus). Meets digest (closed Closed (ended digest stop (Refused code r))) (closed Idle (ended digest stop x))) (sym h) (ended-leads digest (ended digest stop (Refused code r)))
 meets digest (Ask query) stop state held h = asked-meets digest query stop state held h
 meets digest Restart stop state held h = record { told = refl; leads = last-leads digest state held h }
-meets digest Open stop (Closed r) (Busy status) h = elim h [ ]
+meets digest Open stop (Closed r) (Busy opened status) h = elim h [ ]
 meets digest Open stop (Streaming r bytes) (Idle r') h = elim h [ ]
-meets digest Open stop (Streaming r bytes) (Busy (Refused _ _)) h = elim h [ ]
+meets digest Open stop (Streaming r bytes) (Busy opened (Refused _ _)) h = elim h [ ]
 meets digest Open stop (Dead code r) (Idle r') h = elim h [ ]
-meets digest (Feed piece) stop (Closed r) (Busy status) h = elim h [ ]
+meets digest (Feed piece) stop (Closed r) (Busy opened status) h = elim h [ ]
 meets digest (Feed piece) stop (Streaming r bytes) (Idle r') h = elim h [ ]
-meets digest (Feed piece) stop (Streaming r bytes) (Busy (Refused _ _)) h = elim h [ ]
+meets digest (Feed piece) stop (Streaming r bytes) (Busy opened (Refused _ _)) h = elim h [ ]
 meets digest (Feed piece) stop (Dead code r) (Idle r') h = elim h [ ]
-meets digest End stop (Closed r) (Busy status) h = elim h [ ]
+meets digest End stop (Closed r) (Busy opened status) h = elim h [ ]
 meets digest End stop (Streaming r bytes) (Idle r') h = elim h [ ]
-meets digest End stop (Streaming r bytes) (Busy (Refused _ _)) h = elim h [ ]
+meets digest End stop (Streaming r bytes) (Busy opened (Refused _ _)) h = elim h [ ]
 meets digest End stop (Dead code r) (Idle r') h = elim h [ ]

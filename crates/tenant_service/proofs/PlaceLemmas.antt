@@ -100,6 +100,7 @@ module _ (digest : List ℕ → List ℕ) (p : Cells) (t : Tenant) (stands : Sta
       stands = record {
         entries = copied.stands;
         settled = copied.committed;
+        opened = tt;
         files = tt;
         chain = rw none tt;
       };

@@ -1,7 +1,6 @@
 -- A stream that is given up, and a tenant that is removed.
-use Rattle.std.proofs.Common.{◌≡◌, ℕ, ◌+◌, Bool, true, false, cond, List, [], ◌∷◌, ◌++◌, length, filter, not, Option, None, Some, is_some, refl, sym, ap, subst, ◌∙◌, arith, true≢false}
+use Rattle.std.proofs.Common.{◌≡◌, ℕ, Bool, true, false, cond, List, [], ◌∷◌, ◌++◌, not, Option, None, Some, is_some, refl, sym, ap, subst, ◌∙◌, arith, true≢false}
 use Rattle.std.specs.Prelude.{IsSome}
-use Rattle.std.specs.List.{AllByRecursion}
 use Rattle.std.specs.Map.{lookup, remove_entry, set_value}
 use Rattle.std.specs.Option.{option_map, unwrap_or}
 use Rattle.std.specs.Str.{bytes_eq}
@@ -29,10 +28,10 @@ use Rattle.tenant_service.specs.Alone.{Closed}
 use Rattle.tenant_service.specs.TenantState.{TenantState, TenantStates, Idle, Busy, Represents, empty_repository, held_of}
 use Rattle.tenant_service.specs.Soundness.{IsSoundTenantState}
 use Rattle.tenant_service.specs.HeldObjects.{last_held}
-use Rattle.tenant_service.specs.Tenants.{Tenants, Stands, Accounts, AreLed, AreSound, all_held, holding_in, holdings}
-use Rattle.tenant_service.specs.OneStep.{Store, store}
+use Rattle.tenant_service.specs.Tenants.{Tenants, Stands, Accounts, AreLed, AreSound, holding_in, holdings}
+use Rattle.tenant_service.specs.OneStep.{store}
 use Rattle.tenant_service.specs.Removing.{Abandons, Removes, abandon_refusal, all_but, answer_unless, removal_refusal, with_stream, without_stream}
-use Rattle.tenant_service.proofs.AccountLemmas.{all_parts, all_whole, held-among, changed, Found, found, Exchanged, exchanged, lookup-holdings, bad-missing, held-found, held-missing}
+use Rattle.tenant_service.proofs.AccountLemmas.{all_parts, all_whole, held-among, changed, found, Exchanged, exchanged, lookup-holdings, bad-missing, held-found, held-missing}
 
 -- ---- what is always true of a service, where one tenant is left without a stream
 
@@ -165,7 +164,7 @@ gone digest name p q es new old h got is none leaves =
     let f = found name es old empty_tenant got in
     let c = changed digest p q f.front f.back name old empty_tenant
     (subst (λ (xs : Tenants). Accounts digest p xs) f.is h)
-    (record { entries = IsBackedBy-nil digest q; settled = refl; files = tt; chain = tt }) leaves in
+    (record { entries = IsBackedBy-nil digest q; settled = refl; opened = tt; files = tt; chain = tt }) leaves in
     let rest : new ≡ f.front ++ f.back =
     is ∙ ap (remove_entry (bytes_eq name)) f.is ∙ remove-past name f.front f.back old f.apart in
     let absent : lookup (bytes_eq name) (holdings q new) ≡ None =
@@ -233,7 +232,7 @@ shown-same digest name p q es old new h got stands leaves same =
 -- without a stream there is nothing to give up
 idle-stays : (held : TenantState) → IsSome (without_stream held) → Idle (last_held held) ≡ held
 idle-stays (Idle repository) refused = refl
-idle-stays (Busy status) refused = absurd (true≢false (sym refused))
+idle-stays (Busy opened status) refused = absurd (true≢false (sym refused))
 
 pub abandons-found : (digest : List ℕ → List ℕ) (given name : List ℕ) (p q : Cells) (es : Tenants) (old new : Tenant) (told : Answer)
     → is_tenant_name given ≡ true → name ≡ given → Accounts digest p es
@@ -315,7 +314,7 @@ removes-gone digest given name p q es new good is idle g =
 
 is-open : (held : TenantState) → is_some (with_stream held) ≡ true → with_stream held ≡ Some fault.StreamIsOpen
 is-open (Idle repository) h = absurd (true≢false (sym h))
-is-open (Busy status) h = refl
+is-open (Busy opened status) h = refl
 
 -- a call that removes nothing
 removes-none : (digest : List ℕ → List ℕ) (given : List ℕ) (p : Cells) (es : Tenants) (told : Answer) (refusal : ServiceFault)

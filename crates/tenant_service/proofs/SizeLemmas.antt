@@ -1,10 +1,8 @@
 -- Sums of sizes over the objects of a table, and which contents are held once.
-use Rattle.std.proofs.Common.{◌≡◌, ℕ, zero, suc, ◌+◌, ◌<◌, ◌≤◌, ◌==◌, Bool, true, false, cond, List, [], ◌∷◌, ◌++◌, length, min, take, map, None, Some, Option, slice_get, get_or, option_map, sum_by, refl, sym, ap, subst, ◌∙◌, inl, inr, add-one, arith}
+use Rattle.std.proofs.Common.{◌≡◌, ℕ, zero, suc, ◌+◌, ◌<◌, ◌==◌, Bool, true, false, cond, List, [], ◌∷◌, ◌++◌, length, min, take, map, None, Some, slice_get, get_or, option_map, sum_by, refl, sym, ap, subst, ◌∙◌, arith}
 use Rattle.std.specs.Prelude.{filter_map, ◌-◌, ◌^◌}
-use Rattle.std.specs.List.{AllByRecursion}
-use Rattle.std.proofs.lemmas.Bool.{cases_Bool}
 use Rattle.std.proofs.lemmas.Bool.Decides.{nat_tests}
-use Rattle.std.proofs.lemmas.List.{length-take, map-append, map_more}
+use Rattle.std.proofs.lemmas.List.{map-append, map_more}
 use Rattle.std.proofs.lemmas.List.Sums.{sum_by-cons, sum_by_more}
 use Rattle.std.proofs.lemmas.Option.{get_or_from_slice_get, slice_get_within}
 use Rattle.git_model.specs.Content.{Content, same_content}
@@ -14,14 +12,13 @@ use Rattle.content_pool.specs.Pool.{Cells, content_of, holds, content, IsLive, H
 use Rattle.content_pool.specs.declared.stored.Stored.{Stored}
 use Rattle.content_pool.proofs.StoredLemmas.{same_content-decides}
 use Rattle.tenant_tables.specs.IsBackedBy.{IsBackedBy}
-use Rattle.tenant_tables.specs.View.{Entries, View}
+use Rattle.tenant_tables.specs.View.{Entries}
 use Rattle.tenant_tables.specs.declared.entry.Entry.{Entry}
 use Rattle.tenant_tables.specs.Objects.{objects}
-use Rattle.tenant_tables.proofs.TableLemmas.{length-objects}
 use Rattle.pool_file.specs.declared.tenant_view.TenantView.{TenantView}
 use Rattle.pool_file.specs.Worth.{AllStand, named_in}
 use Rattle.tenant_service.specs.declared.sizes.TenantSizes.{TenantSizes}
-use Rattle.tenant_service.specs.Sizes.{Sizes, own_size, size, sizes_by, sizes_told, total}
+use Rattle.tenant_service.specs.Sizes.{own_size, size, sizes_by, sizes_told, total}
 use Rattle.tenant_service.specs.Tenants.{holds_of}
 
 -- ---- a content that one slot alone has is held as often as that slot
@@ -158,14 +155,11 @@ sizes-more pool ss now new one i s before l is pushed told_is =
 -- ---- one tenant
 
 pub sizes-seen : (pool : Cells) (s : TenantView) (name : List ℕ) (count bytes own refs : ℕ) → name ≡ s.name.now
-    → count ≡ s.table.now.committed → s.table.now.committed ≤ length s.table.now.entries
-    → bytes ≡ total size (take s.table.now.committed (objects pool s.table.now.entries))
-    → own ≡ total (own_size (holds_of pool)) (take s.table.now.committed (objects pool s.table.now.entries))
+    → count ≡ length (named_in pool s).repository.objects
+    → bytes ≡ total size (named_in pool s).repository.objects
+    → own ≡ total (own_size (holds_of pool)) (named_in pool s).repository.objects
     → refs ≡ length (listed_refs s.refs.now)
     → record { tenant = name; objects = count; bytes = bytes; own_bytes = own; refs = refs }
     ≡ sizes_by (holds_of pool) (named_in pool s)
-sizes-seen pool s name count bytes own refs name_is count_is within bytes_are own_are refs_are =
-    let many : count ≡ length (take s.table.now.committed (objects pool s.table.now.entries)) =
-    let a = length-take s.table.now.committed (objects pool s.table.now.entries) in
-    let b = length-objects pool s.table.now.entries in omega (arith, a, b, count_is, within) in
-    λ i. record { tenant = name_is i; objects = many i; bytes = bytes_are i; own_bytes = own_are i; refs = refs_are i }
+sizes-seen pool s name count bytes own refs name_is count_is bytes_are own_are refs_are =
+    λ i. record { tenant = name_is i; objects = count_is i; bytes = bytes_are i; own_bytes = own_are i; refs = refs_are i }

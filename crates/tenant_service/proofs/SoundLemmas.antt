@@ -22,6 +22,7 @@ use Rattle.service_steps.specs.declared.step.Step.TheVariants as step
 use Rattle.tenant_stream.specs.Carrying.{StreamView, outcome_after, stream_in}
 use Rattle.tenant_stream.specs.Soundness.{IsSoundStreamStatus}
 use Rattle.tenant_stream.proofs.SoundLemmas.{carried_sound, finished_sound}
+use Rattle.tenant_service.specs.declared.opened.Opened.{Opened}
 use Rattle.tenant_service.specs.declared.tenant.OpenStream.{OpenStream}
 use Rattle.tenant_service.specs.declared.tenant.OpenStream.TheVariants as phase
 use Rattle.tenant_service.specs.declared.tenant.Tenant.{Tenant}
@@ -52,18 +53,20 @@ stop_at-sound digest replies (Runs now tail) sound = by now.is_done
     by true = tt
     by false = checkpoint_is_sound digest now.workspace sound
 
-until-sound : (digest : List ℕ → List ℕ) (count : ℕ) (stop : Option Stopped) (well : StepResult TenantState)
+until-sound : (digest : List ℕ → List ℕ) (opened : Repository) (count : ℕ) (stop : Option Stopped)
+    (well : StepResult TenantState) → IsSoundRepository digest opened
     → IsSoundStop digest stop → IsSoundTenantState digest well.state
-    → IsSoundTenantState digest (held_until count stop well).state
-until-sound digest count None well stopped sound = sound
-until-sound digest count (Some stop) well stopped sound = stopped
+    → IsSoundTenantState digest (held_until opened count stop well).state
+until-sound digest opened count None well first stopped sound = sound
+until-sound digest opened count (Some stop) well first stopped sound = (first, stopped)
 
 open-sound : (digest : List ℕ → List ℕ) (stop : Option ℕ) (held : TenantState)
     → IsSoundTenantState digest held → IsSoundTenantState digest (open_held stop held).state
-open-sound digest None (Idle repository) sound = new_is_sound digest repository sound
+open-sound digest None (Idle repository) sound = (sound, new_is_sound digest repository sound)
 open-sound digest (Some zero) (Idle repository) sound = sound
-open-sound digest (Some (suc count)) (Idle repository) sound = new_is_sound digest repository sound
-open-sound digest stop (Busy status) sound = sound
+open-sound digest (Some (suc count)) (Idle repository) sound =
+    (sound, new_is_sound digest repository sound)
+open-sound digest stop (Busy opened status) sound = sound
 
 unless-sound : (digest : List ℕ → List ℕ) (stop : Option ℕ) (left : Repository)
     (well : StepResult Repository) → IsSoundRepository digest left → IsSoundRepository digest well.state
@@ -75,8 +78,9 @@ unless-sound digest (Some (suc count)) left well stopped sound = sound
 pub last-sound : (digest : List ℕ → List ℕ) (held : TenantState) → IsSoundTenantState digest held
     → IsSoundRepository digest (last_held held)
 last-sound digest (Idle repository) sound = sound
-last-sound digest (Busy (Runs now tail)) sound = checkpoint_is_sound digest now.workspace sound
-last-sound digest (Busy (Refused code repository)) sound = sound
+last-sound digest (Busy opened (Runs now tail)) sound =
+    checkpoint_is_sound digest now.workspace sound.1
+last-sound digest (Busy opened (Refused code repository)) sound = sound.1
 
 answered-sound : (digest : List ℕ → List ℕ) (result : Result (List ℕ) Refusal) (held : TenantState)
     → IsSoundTenantState digest held → IsSoundTenantState digest (answered result held).state
@@ -106,27 +110,29 @@ module _ (digest : List ℕ → List ℕ) (names : AnswersNames digest) where
           (carried_sound digest names now (take count items) (Rest false []) sound)
       by false = tt
 
-  fed-sound : (piece : List ℕ) (stop : Option ℕ) (now : Running) (tail : Tail)
-      → IsSound digest now.workspace
-      → IsSoundTenantState digest (fed_held digest piece stop now tail).state
-  fed-sound piece stop now tail sound = by stop
+  fed-sound : (piece : List ℕ) (stop : Option ℕ) (opened : Repository) (now : Running) (tail : Tail)
+      → IsSoundRepository digest opened → IsSound digest now.workspace
+      → IsSoundTenantState digest (fed_held digest piece stop opened now tail).state
+  fed-sound piece stop opened now tail first sound = by stop
     where
       well : IsSoundStreamStatus digest (outcome_after digest now tail piece).status
       well = carried_sound digest names now (more_of tail piece).items (more_of tail piece).tail
           sound
 
-      by : (stop : Option ℕ) → IsSoundTenantState digest (fed_held digest piece stop now tail).state
-      by None = well
+      by : (stop : Option ℕ)
+          → IsSoundTenantState digest (fed_held digest piece stop opened now tail).state
+      by None = (first, well)
       by (Some count) =
-          until-sound digest count (stop_after digest now (more_of tail piece).items count)
-          (gone_on (outcome_after digest now tail piece))
-          (stop_after-sound now (more_of tail piece).items count sound) well
+          until-sound digest opened count (stop_after digest now (more_of tail piece).items count)
+          (gone_on opened (outcome_after digest now tail piece)) first
+          (stop_after-sound now (more_of tail piece).items count sound) (first, well)
 
   feed-sound : (piece : List ℕ) (stop : Option ℕ) (held : TenantState) → IsSoundTenantState digest held
       → IsSoundTenantState digest (feed_held digest piece stop held).state
   feed-sound piece stop (Idle repository) sound = sound
-  feed-sound piece stop (Busy (Runs now tail)) sound = fed-sound piece stop now tail sound
-  feed-sound piece stop (Busy (Refused code repository)) sound = sound
+  feed-sound piece stop (Busy opened (Runs now tail)) sound =
+      fed-sound piece stop opened now tail sound.0 sound.1
+  feed-sound piece stop (Busy opened (Refused code repository)) sound = sound
 
   ended-sound : (stop : Option ℕ) (status : StreamStatus) → IsSoundStreamStatus digest status
       → IsSoundRepository digest (ended digest stop status).state
@@ -146,7 +152,7 @@ module _ (digest : List ℕ → List ℕ) (names : AnswersNames digest) where
   end-sound : (stop : Option ℕ) (held : TenantState) → IsSoundTenantState digest held
       → IsSoundTenantState digest (end_held digest stop held).state
   end-sound stop (Idle repository) sound = sound
-  end-sound stop (Busy status) sound = ended-sound stop status sound
+  end-sound stop (Busy opened status) sound = ended-sound stop status sound.1
 
   -- each call leaves it sound
   call-sound : (call : Call) (stop : Option ℕ) (held : TenantState) → IsSoundTenantState digest held
@@ -205,11 +211,12 @@ module _ (digest : List ℕ → List ℕ) (names : AnswersNames digest) where
       (last-sound digest (held_of tenant (holdings p es)) (sound tenant))
 
 -- a stream that runs
-pub sound-running : (digest : List ℕ → List ℕ) (ph : OpenStream) (s : StreamView) (p : Cells) (t : View)
-    (r : RefStore) → ph ≡ phase.Running s → IsSoundTenantState digest (held_in ph p t r)
+pub sound-running : (digest : List ℕ → List ℕ) (ph : OpenStream) (o : Opened) (s : StreamView)
+    (p : Cells) (t : View) (r : RefStore) → ph ≡ phase.Running o s
+    → IsSoundTenantState digest (held_in ph p t r)
     → IsSound digest (stream_in s p t r).workspace
-sound-running digest ph s p t r is sound =
-    subst (λ (x : OpenStream). IsSoundTenantState digest (held_in x p t r)) is sound
+sound-running digest ph o s p t r is sound =
+    (subst (λ (x : OpenStream). IsSoundTenantState digest (held_in x p t r)) is sound).1
 
 -- one that is there
 pub sound-found : (digest : List ℕ → List ℕ) (p : Cells) (name : List ℕ) (es : Tenants)

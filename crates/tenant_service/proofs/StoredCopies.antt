@@ -83,8 +83,8 @@ has-front (suc n) (o ∷ os) c (inr h) = inr (has-front n os c h)
 last-in : (held : TenantState) (c : Content) → Has (contents (last_held held).objects) c
     → Has (contents (held_objects held)) c
 last-in (Idle repository) c h = h
-last-in (Busy (Runs now tail)) c h = has-front now.workspace.committed now.workspace.objects c h
-last-in (Busy (Refused code repository)) c h = h
+last-in (Busy opened (Runs now tail)) c h = has-front now.workspace.committed now.workspace.objects c h
+last-in (Busy opened (Refused code repository)) c h = h
 
 -- ---- contents of all tenants, by their names
 
@@ -129,7 +129,7 @@ module _ (before after : TenantStates) (from to : List ℕ)
       in-held before from c
       (last-in (held_of from before) c
       (named-has (last_held (held_of from before)).objects n.id c (is.only.same n.id c n.named)))
-  copied-in (Busy status) is c h = absurd is
+  copied-in (Busy opened status) is c h = absurd is
 
   into : (c : Content) → Has (held_contents after) c → Has (held_contents before) c
   into c h = let f = of-held after once' c h in by f.name (bytes_eq f.name to) refl f.has

@@ -68,8 +68,8 @@ of_entries p (x ∷ es) c listed =
 
 pub held_objects-in : (ph : OpenStream) (p : Cells) (t : View) (r : _) → held_objects (held_in ph p t r) ≡ objects p t.entries
 held_objects-in phase.Closed p t r = refl
-held_objects-in (phase.Running stream) p t r = refl
-held_objects-in (phase.Dead code) p t r = refl
+held_objects-in (phase.Running opened stream) p t r = refl
+held_objects-in (phase.Dead opened code) p t r = refl
 
 of-tenant : (p : Cells) (e : List ℕ × Tenant) → map (λ (o : Object). o.content) (held_objects (holding_in p e.1)) ≡ map (λ (o : Object). o.content) (objects p e.1.table.entries)
 of-tenant p e = ap (map (λ (o : Object). o.content)) (held_objects-in e.1.phase p e.1.table e.1.refs)
@@ -135,10 +135,10 @@ count-next test xs i x h = ap (λ (n : ℕ). count_by test (take n xs)) (add-one
 same-commit : (ph : OpenStream) (p : Cells) (t : View) (r : _) → IsSettled ph t → has_committed_object (held_in ph p t r) ≡ has_committed t
 same-commit phase.Closed p t r settled =
     ap (λ (n : ℕ). ltb 0 n) (length-objects p t.entries ∙ (let l = length-take t.committed t.entries in omega (arith, l, settled)))
-same-commit (phase.Running stream) p t r settled =
+same-commit (phase.Running opened stream) p t r settled =
     ap (λ (n : ℕ). ltb 0 n)
     (let l = length-take t.committed t.entries in let m = length-take t.committed (objects p t.entries) in let n = length-objects p t.entries in omega (arith, l, m, n))
-same-commit (phase.Dead code) p t r settled =
+same-commit (phase.Dead opened code) p t r settled =
     ap (λ (n : ℕ). ltb 0 n) (length-objects p t.entries ∙ (let l = length-take t.committed t.entries in omega (arith, l, settled)))
 
 pub count-commits : (digest : List ℕ → List ℕ) (p : Cells) (es : Tenants) → AllByRecursion (λ e. Stands digest p e.1) es
@@ -156,8 +156,8 @@ count-commits digest p (e ∷ es) all =
 
 pub shows : (ph : OpenStream) (p : Cells) (t : View) (r : RefStore) → IsSettled ph t → Shows (held_in ph p t r) p t r
 shows phase.Closed p t r settled = record { all = refl; committed = all_committed p t settled; saved = refl }
-shows (phase.Running stream) p t r settled = record { all = refl; committed = refl; saved = refl }
-shows (phase.Dead code) p t r settled = record { all = refl; committed = all_committed p t settled; saved = refl }
+shows (phase.Running opened stream) p t r settled = record { all = refl; committed = refl; saved = refl }
+shows (phase.Dead opened code) p t r settled = record { all = refl; committed = all_committed p t settled; saved = refl }
 
 pub shows-found : (digest : List ℕ → List ℕ) (p : Cells) (name : List ℕ) (es : Tenants) (t : Tenant) (shown : TenantStates) → Accounts digest p es
     → lookup (bytes_eq name) es ≡ Some t → holdings p es ≡ shown → Shows (held_of name shown) p t.table t.refs

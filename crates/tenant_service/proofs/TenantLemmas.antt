@@ -20,6 +20,7 @@ use Rattle.answers.specs.Answers.{answer_to}
 use Rattle.service_steps.specs.declared.answer.Answer.TheVariants as answer
 use Rattle.tenant_stream.specs.declared.stream_error.StreamError.{StreamError}
 use Rattle.tenant_stream.specs.declared.stream_error.StreamError.TheVariants as stop
+use Rattle.tenant_service.specs.declared.opened.Opened.{Opened}
 use Rattle.tenant_service.specs.declared.tenant.OpenStream.{OpenStream}
 use Rattle.tenant_service.specs.declared.tenant.OpenStream.TheVariants as phase
 use Rattle.tenant_service.specs.Alone.{Open, Feed, Ask, End as EndCall, StepResult, step_result, out_of_memory, Stopped, answered, asked, unless_out_of_memory, ended, ended_well, end_answer, closed}
@@ -28,6 +29,7 @@ use Rattle.tenant_service.specs.Headline.{stop_told}
 use Rattle.tenant_service.specs.TenantState.{TenantState, Idle, Busy, empty_repository}
 use Rattle.tenant_service.specs.HeldObjects.{last_held}
 use Rattle.tenant_service.specs.HeldSteps.{step_held, fed_held, held_until, gone_on, standing_answer, end_held}
+use Rattle.tenant_service.specs.Opening.{opened_in}
 use Rattle.tenant_service.specs.Tenants.{held_in, standing_in, kept_tail, IsSettled}
 use Rattle.tenant_service.specs.OneStep.{Takes, GoesTo, StopsAfter, Fed, refusal_told}
 use Rattle.tenant_stream.proofs.StreamLemmas.{carried-done}
@@ -45,9 +47,9 @@ pub given_up : (ph : OpenStream) (before after : Cells) (old new : View) (refs :
     → repository_in after new refs ≡ last_held (held_in ph before old refs)
 given_up phase.Closed before after old new refs settled left =
     ap (λ (os : List Object). record { objects = os; refs = refs }) (left ∙ all_committed before old settled)
-given_up (phase.Running stream) before after old new refs settled left =
+given_up (phase.Running opened stream) before after old new refs settled left =
     ap (λ (os : List Object). record { objects = os; refs = refs }) left
-given_up (phase.Dead code) before after old new refs settled left =
+given_up (phase.Dead opened code) before after old new refs settled left =
     ap (λ (os : List Object). record { objects = os; refs = refs }) (left ∙ all_committed before old settled)
 
 -- a tenant with nothing
@@ -56,24 +58,36 @@ pub held_nothing : (pool : Cells) (table : View) (refs : RefStore) → table.ent
 unfolding objects
 held_nothing pool table refs empty unset = rw (empty, unset) refl
 
+-- what a stream is opened on
+opened-is : (pool : Cells) (table : View) (refs : RefStore) (opened : Opened)
+    → table.committed ≡ length table.entries → opened.objects ≡ table.committed → opened.refs ≡ refs
+    → repository_in pool table refs ≡ opened_in opened pool table
+opened-is pool table refs opened settled count same =
+    let all : objects pool table.entries ≡ take opened.objects (objects pool table.entries) =
+    sym (ap (λ (n : ℕ). take n (objects pool table.entries)) count ∙ all_committed pool table settled) in
+    λ i. record { objects = all i; refs = sym same i }
+
 -- a stream that was opened
-pub took-opened : (digest : List ℕ → List ℕ) (ph : OpenStream) (pool : Cells) (table : View) (refs : RefStore) (stream : StreamView)
-    → ph ≡ phase.Closed → IsSettled ph table → stream ≡ new_stream
-    → Takes (step_held digest Open None (held_in ph pool table refs)) answer.Ok [] [] (Busy (standing_in stream pool table refs))
+pub took-opened : (digest : List ℕ → List ℕ) (ph : OpenStream) (pool : Cells) (table : View) (refs : RefStore) (opened : Opened) (stream : StreamView)
+    → ph ≡ phase.Closed → IsSettled ph table → opened.objects ≡ table.committed → opened.refs ≡ refs → stream ≡ new_stream
+    → Takes (step_held digest Open None (held_in ph pool table refs)) answer.Ok [] []
+    (Busy (opened_in opened pool table) (standing_in stream pool table refs))
 unfolding kept_tail
-took-opened digest phase.Closed pool table refs stream closed settled new = record {
+took-opened digest phase.Closed pool table refs opened stream closed settled count same new = record {
   answered = refl;
   printed = refl;
   leaves =
       rw new
-      (ap (λ (n : ℕ). Busy (Runs (record {
+      (ap (λ (n : ℕ). Busy (repository_in pool table refs) (Runs (record {
         workspace = record (workspace_in empty_state pool table refs) { committed = n };
         parsing = Ok top;
         is_done = false;
-      }) (Rest false []))) (length-objects pool table.entries ∙ sym settled));
+      }) (Rest false []))) (length-objects pool table.entries ∙ sym settled)
+      ∙ ap (λ (x : Repository). Busy x (standing_in new_stream pool table refs))
+      (opened-is pool table refs opened settled count same));
 }
-took-opened digest (phase.Running s) pool table refs stream closed settled new = cc closed
-took-opened digest (phase.Dead code) pool table refs stream closed settled new = cc closed
+took-opened digest (phase.Running o s) pool table refs opened stream closed settled count same new = cc closed
+took-opened digest (phase.Dead o code) pool table refs opened stream closed settled count same new = cc closed
 
 -- what the stream does with a piece
 kept-running : (s : StreamView) → s.session.is_done ≡ false → kept_tail s ≡ s.tail
@@ -129,84 +143,97 @@ fed-feeds digest s s' p p' t t' r r' piece out out' result h = by s.session.is_d
         (carries result running h)
 
 -- a piece that was taken
-pub took-goes : (digest : List ℕ → List ℕ) (now next : Running) (tail kept : Tail) (piece out out' : List ℕ)
+pub took-goes : (digest : List ℕ → List ℕ) (opened : Repository) (now next : Running) (tail kept : Tail) (piece out out' : List ℕ)
     → GoesTo digest now tail piece out out' (Runs next kept)
-    → Takes (fed_held digest piece None now tail) answer.Ok out out' (Busy (Runs next kept))
-took-goes digest now next tail kept piece out out' h = record {
+    → Takes (fed_held digest piece None opened now tail) answer.Ok out out' (Busy opened (Runs next kept))
+took-goes digest opened now next tail kept piece out out' h = record {
   answered = ap (λ (o : Outcome). standing_answer o.status) h.outcome;
   printed = h.printed ∙ ap (λ (o : Outcome). out ++ o.replies) (sym h.outcome);
-  leaves = ap (λ (o : Outcome). Busy o.status) h.outcome;
+  leaves = ap (λ (o : Outcome). Busy opened o.status) h.outcome;
 }
 
 -- one that was refused
-pub took-refused : (digest : List ℕ → List ℕ) (now : Running) (tail : Tail) (piece out out' : List ℕ) (code : ℕ) (r left : Repository)
+pub took-refused : (digest : List ℕ → List ℕ) (opened : Repository) (now : Running) (tail : Tail) (piece out out' : List ℕ) (code : ℕ) (r left : Repository)
     → GoesTo digest now tail piece out out' (Refused code r) → left ≡ r
-    → Takes (fed_held digest piece None now tail) (answer.Fault code) out out' (Busy (Refused code left))
-took-refused digest now tail piece out out' code r left h same = record {
+    → Takes (fed_held digest piece None opened now tail) (answer.Fault code) out out' (Busy opened (Refused code left))
+took-refused digest opened now tail piece out out' code r left h same = record {
   answered = ap (λ (o : Outcome). standing_answer o.status) h.outcome;
   printed = h.printed ∙ ap (λ (o : Outcome). out ++ o.replies) (sym h.outcome);
-  leaves = ap (λ (o : Outcome). Busy o.status) h.outcome ∙ ap (λ (x : Repository). Busy (Refused code x)) (sym same);
+  leaves = ap (λ (o : Outcome). Busy opened o.status) h.outcome ∙ ap (λ (x : Repository). Busy opened (Refused code x)) (sym same);
 }
 
 -- and one after some items of which memory ran out
-pub took-stopped : (digest : List ℕ → List ℕ) (now last : Running) (tail : Tail) (piece out out' : List ℕ) (count : ℕ) (left : Repository)
+pub took-stopped : (digest : List ℕ → List ℕ) (opened : Repository) (now last : Running) (tail : Tail) (piece out out' : List ℕ) (count : ℕ) (left : Repository)
     → StopsAfter digest now tail piece count out out' last → left ≡ last_checkpoint last.workspace
-    → Takes (fed_held digest piece (Some count) now tail) (answer.Memory count) out out' (Busy (Refused out_of_memory left))
-took-stopped digest now last tail piece out out' count left h same =
-    subst (λ (o : Option Stopped). Takes (held_until count o (gone_on (outcome_after digest now tail piece))) (answer.Memory count) out out' (Busy (Refused out_of_memory left)))
+    → Takes (fed_held digest piece (Some count) opened now tail) (answer.Memory count) out out' (Busy opened (Refused out_of_memory left))
+took-stopped digest opened now last tail piece out out' count left h same =
+    subst (λ (o : Option Stopped). Takes (held_until opened count o (gone_on opened (outcome_after digest now tail piece))) (answer.Memory count) out out'
+    (Busy opened (Refused out_of_memory left)))
     (sym h.stop)
-    (record { answered = refl; printed = h.printed; leaves = ap (λ (x : Repository). Busy (Refused out_of_memory x)) (sym same) })
+    (record { answered = refl; printed = h.printed; leaves = ap (λ (x : Repository). Busy opened (Refused out_of_memory x)) (sym same) })
 
 -- ---- a piece, as the stream was fed
 
-module _ (digest : List ℕ → List ℕ) (old : OpenStream) (s s' : StreamView) (p q : Cells) (t u : View)
-    (r v : RefStore) (piece out out' : List ℕ) (is : old ≡ phase.Running s) where
+module _ (digest : List ℕ → List ℕ) (old : OpenStream) (o : Opened) (s s' : StreamView)
+    (p q : Cells) (t u : View) (r v : RefStore) (piece out out' : List ℕ)
+    (is : old ≡ phase.Running o s) where
   abbrev fed : Result Unit StreamError → Type 0
   fed result =
       Feeds digest s.session.is_done (stream_in s p t r) s.tail piece out result
       (stream_in s' q u v) s'.tail out'
 
-  pub fed-well : fed (Ok tt)
+  -- what is held while the stream runs
+  abbrev running : TenantState
+  running = Busy (opened_in o p t) (standing_in s p t r)
+
+  pub fed-well : opened_in o q u ≡ opened_in o p t → fed (Ok tt)
       → Takes (step_held digest (Feed piece) None (held_in old p t r)) answer.Ok out out'
-      (Busy (standing_in s' q u v))
-  fed-well h =
+      (Busy (opened_in o q u) (standing_in s' q u v))
+  fed-well stays h =
       subst (λ (x : OpenStream). Takes (step_held digest (Feed piece) None (held_in x p t r)) answer.Ok
-      out out' (Busy (standing_in s' q u v))) (sym is)
-      (took-goes digest (stream_in s p t r) (stream_in s' q u v) (kept_tail s) (kept_tail s') piece
-      out out' (fed-feeds digest s s' p q t u r v piece out out' (Ok tt) h))
+      out out' (Busy (opened_in o q u) (standing_in s' q u v))) (sym is)
+      (subst (λ (x : Repository). Takes (step_held digest (Feed piece) None running) answer.Ok
+      out out' (Busy x (standing_in s' q u v))) (sym stays)
+      (took-goes digest (opened_in o p t) (stream_in s p t r) (stream_in s' q u v) (kept_tail s)
+      (kept_tail s') piece out out' (fed-feeds digest s s' p q t u r v piece out out' (Ok tt) h)))
 
   -- and was rolled back afterwards
   pub fed-refused : (code : ℕ) (new : OpenStream) (after : Cells) (w : View) (x : RefStore)
-      → new ≡ phase.Dead code
+      → new ≡ phase.Dead o code → opened_in o after w ≡ opened_in o p t
       → repository_in after w x ≡ last_checkpoint (stream_in s' q u v).workspace
       → (error : StreamError) → error ≡ stop.Fault code → fed (Err error)
       → Takes (step_held digest (Feed piece) None (held_in old p t r)) (answer.Fault code) out out'
       (held_in new after w x)
-  fed-refused code new after w x dead left error refused h =
+  fed-refused code new after w x dead stays left error refused h =
       subst (λ (y : OpenStream). Takes (step_held digest (Feed piece) None (held_in y p t r))
       (answer.Fault code) out out' (held_in new after w x)) (sym is)
-      (subst (λ (y : OpenStream). Takes (step_held digest (Feed piece) None (Busy (standing_in s p t r)))
+      (subst (λ (y : OpenStream). Takes (step_held digest (Feed piece) None running)
       (answer.Fault code) out out' (held_in y after w x)) (sym dead)
-      (took-refused digest (stream_in s p t r) (kept_tail s) piece out out' code
+      (subst (λ (y : Repository). Takes (step_held digest (Feed piece) None running)
+      (answer.Fault code) out out' (Busy y (Refused code (repository_in after w x)))) (sym stays)
+      (took-refused digest (opened_in o p t) (stream_in s p t r) (kept_tail s) piece out out' code
       (last_checkpoint (stream_in s' q u v).workspace) (repository_in after w x)
       (fed-feeds digest s s' p q t u r v piece out out' (Err (stop.Fault code))
-      (subst (λ (e : StreamError). fed (Err e)) refused h)) left))
+      (subst (λ (e : StreamError). fed (Err e)) refused h)) left)))
 
   pub fed-stopped : (count : ℕ) (new : OpenStream) (after : Cells) (w : View) (x : RefStore)
-      → new ≡ phase.Dead out_of_memory
+      → new ≡ phase.Dead o out_of_memory → opened_in o after w ≡ opened_in o p t
       → repository_in after w x ≡ last_checkpoint (stream_in s' q u v).workspace
       → (error : StreamError) → error ≡ stop.Memory count → fed (Err error)
       → Takes (step_held digest (Feed piece) (Some count) (held_in old p t r)) (answer.Memory count)
       out out' (held_in new after w x)
-  fed-stopped count new after w x dead left error ran_out h =
+  fed-stopped count new after w x dead stays left error ran_out h =
       subst (λ (y : OpenStream). Takes (step_held digest (Feed piece) (Some count) (held_in y p t r))
       (answer.Memory count) out out' (held_in new after w x)) (sym is)
-      (subst (λ (y : OpenStream). Takes (step_held digest (Feed piece) (Some count)
-      (Busy (standing_in s p t r))) (answer.Memory count) out out' (held_in y after w x)) (sym dead)
-      (took-stopped digest (stream_in s p t r) (stream_in s' q u v) (kept_tail s) piece out out' count
-      (repository_in after w x)
+      (subst (λ (y : OpenStream). Takes (step_held digest (Feed piece) (Some count) running)
+      (answer.Memory count) out out' (held_in y after w x)) (sym dead)
+      (subst (λ (y : Repository). Takes (step_held digest (Feed piece) (Some count) running)
+      (answer.Memory count) out out' (Busy y (Refused out_of_memory (repository_in after w x))))
+      (sym stays)
+      (took-stopped digest (opened_in o p t) (stream_in s p t r) (stream_in s' q u v) (kept_tail s)
+      piece out out' count (repository_in after w x)
       (fed-feeds digest s s' p q t u r v piece out out' (Err (stop.Memory count))
-      (subst (λ (e : StreamError). fed (Err e)) ran_out h)) left))
+      (subst (λ (e : StreamError). fed (Err e)) ran_out h)) left)))
 
 -- a stream that ended
 ended-none : (digest : List ℕ → List ℕ) (now : Running) (tail : Tail) → ended digest None (Runs now tail) ≡ ended_well digest (Runs now tail)
@@ -226,10 +253,10 @@ finished-kept digest s p t r = by s.session.is_done refl
     by true done = refl
     by false running = ap (λ (k : Tail). running_end digest (stream_in s p t r) k) (kept-running s running)
 
-took-ended : (digest : List ℕ → List ℕ) (s : StreamView) (p : Cells) (t : View) (r : RefStore) (fault : Option ℕ) (out out' : List ℕ) (left : Repository)
+took-ended : (digest : List ℕ → List ℕ) (opened : Repository) (s : StreamView) (p : Cells) (t : View) (r : RefStore) (fault : Option ℕ) (out out' : List ℕ) (left : Repository)
     → IsEnd (finished digest (Runs (stream_in s p t r) s.tail)) fault out left out'
-    → Takes (end_held digest None (Busy (standing_in s p t r))) (end_answer fault) out out' (Idle left)
-took-ended digest s p t r fault out out' left h =
+    → Takes (end_held digest None (Busy opened (standing_in s p t r))) (end_answer fault) out out' (Idle left)
+took-ended digest opened s p t r fault out out' left h =
     subst (λ (x : StepResult Repository). Takes (closed Idle x) (end_answer fault) out out' (Idle left))
     (sym (ended-none digest (stream_in s p t r) (kept_tail s)))
     (let e = finished-kept digest s p t r in record {
@@ -239,14 +266,14 @@ took-ended digest s p t r fault out out' left h =
     })
 
 -- by the answer of its end
-pub took-ended_as : (digest : List ℕ → List ℕ) (ph new : OpenStream) (s : StreamView) (p q : Cells) (t u : View) (r v : RefStore) (fault : Option ℕ)
-    (out out' : List ℕ) → ph ≡ phase.Running s → new ≡ phase.Closed
+pub took-ended_as : (digest : List ℕ → List ℕ) (ph new : OpenStream) (o : Opened) (s : StreamView) (p q : Cells) (t u : View) (r v : RefStore) (fault : Option ℕ)
+    (out out' : List ℕ) → ph ≡ phase.Running o s → new ≡ phase.Closed
     → IsEnd (finished digest (Runs (stream_in s p t r) s.tail)) fault out (repository_in q u v) out'
     → Takes (step_held digest EndCall None (held_in ph p t r)) (end_answer fault) out out' (held_in new q u v)
-took-ended_as digest ph new s p q t u r v fault out out' is after h =
+took-ended_as digest ph new o s p q t u r v fault out out' is after h =
     subst (λ (y : OpenStream). Takes (step_held digest EndCall None (held_in ph p t r)) (end_answer fault) out out' (held_in y q u v)) (sym after)
     (subst (λ (x : OpenStream). Takes (step_held digest EndCall None (held_in x p t r)) (end_answer fault) out out' (Idle (repository_in q u v))) (sym is)
-    (took-ended digest s p t r fault out out' (repository_in q u v) h))
+    (took-ended digest (opened_in o p t) s p t r fault out out' (repository_in q u v) h))
 
 -- a stream whose end ran out of memory
 ended-stopped : (digest : List ℕ → List ℕ) (now : Running) (tail : Tail) → now.is_done ≡ false
@@ -254,23 +281,23 @@ ended-stopped : (digest : List ℕ → List ℕ) (now : Running) (tail : Tail) �
     ≡ step_result (answer.Memory 0) [] (last_checkpoint now.workspace)
 ended-stopped digest now tail running = rw running refl
 
-took-end_stopped : (digest : List ℕ → List ℕ) (s : StreamView) (p : Cells) (t : View) (r : RefStore) (count : ℕ) (out out' : List ℕ) (left : Repository)
+took-end_stopped : (digest : List ℕ → List ℕ) (opened : Repository) (s : StreamView) (p : Cells) (t : View) (r : RefStore) (count : ℕ) (out out' : List ℕ) (left : Repository)
     → StopsAtEnd (stream_in s p t r) out count left out'
-    → Takes (end_held digest (Some count) (Busy (standing_in s p t r))) (answer.Memory count) out out' (Idle left)
-took-end_stopped digest s p t r count out out' left h =
-    subst (λ (n : ℕ). Takes (end_held digest (Some n) (Busy (standing_in s p t r))) (answer.Memory n) out out' (Idle left)) (sym h.counted)
+    → Takes (end_held digest (Some count) (Busy opened (standing_in s p t r))) (answer.Memory count) out out' (Idle left)
+took-end_stopped digest opened s p t r count out out' left h =
+    subst (λ (n : ℕ). Takes (end_held digest (Some n) (Busy opened (standing_in s p t r))) (answer.Memory n) out out' (Idle left)) (sym h.counted)
     (subst (λ (x : StepResult Repository). Takes (closed Idle x) (answer.Memory 0) out out' (Idle left))
     (sym (ended-stopped digest (stream_in s p t r) (kept_tail s) h.running))
     (record { answered = refl; printed = h.printed ∙ sym (append-nil out); leaves = ap Idle h.stands }))
 
-pub took-stopped_at_end : (digest : List ℕ → List ℕ) (ph new : OpenStream) (s : StreamView) (p q : Cells) (t u : View) (r v : RefStore) (count : ℕ)
-    (out out' : List ℕ) → ph ≡ phase.Running s → new ≡ phase.Closed
+pub took-stopped_at_end : (digest : List ℕ → List ℕ) (ph new : OpenStream) (o : Opened) (s : StreamView) (p q : Cells) (t u : View) (r v : RefStore) (count : ℕ)
+    (out out' : List ℕ) → ph ≡ phase.Running o s → new ≡ phase.Closed
     → StopsAtEnd (stream_in s p t r) out count (repository_in q u v) out'
     → Takes (step_held digest EndCall (Some count) (held_in ph p t r)) (answer.Memory count) out out' (held_in new q u v)
-took-stopped_at_end digest ph new s p q t u r v count out out' is after h =
+took-stopped_at_end digest ph new o s p q t u r v count out out' is after h =
     subst (λ (y : OpenStream). Takes (step_held digest EndCall (Some count) (held_in ph p t r)) (answer.Memory count) out out' (held_in y q u v)) (sym after)
     (subst (λ (x : OpenStream). Takes (step_held digest EndCall (Some count) (held_in x p t r)) (answer.Memory count) out out' (Idle (repository_in q u v))) (sym is)
-    (took-end_stopped digest s p t r count out out' (repository_in q u v) h))
+    (took-end_stopped digest (opened_in o p t) s p t r count out out' (repository_in q u v) h))
 
 -- the repository that a query is asked of
 pub saved_is : (ph : OpenStream) (pool : Cells) (table : View) (refs : RefStore) → IsSettled ph table

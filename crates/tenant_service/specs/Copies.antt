@@ -30,7 +30,7 @@ pub record Takes (digest : List ℕ → List ℕ) (text : List ℕ) (repository 
 -- The service holds a copy of a repository for a tenant, and no stream.
 abbrev pub HoldsCopy : Repository → TenantState → Type 0
 HoldsCopy repository (Idle left) = IsCopyOf repository left
-HoldsCopy repository (Busy status) = ⊥
+HoldsCopy repository (Busy opened status) = ⊥
 
 -- The answer is Ok, and then the other tenant has a copy; or memory ran out. It is no fault.
 abbrev pub CopiesAs : Answer → Repository → TenantState → Type 0

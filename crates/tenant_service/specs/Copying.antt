@@ -25,7 +25,7 @@ has_nothing repository = (length repository.objects == 0)
 abbrev pub held_refusal : TenantState → Option ServiceFault
 held_refusal (Idle repository) =
     if has_nothing repository then None else Some fault.TenantNotEmpty
-held_refusal (Busy status) = Some fault.StreamIsOpen
+held_refusal (Busy opened status) = Some fault.StreamIsOpen
 
 -- Why a copy is refused before its first step, if it is.
 abbrev pub copy_refusal : List ℕ → List ℕ → TenantStates → Option ServiceFault

@@ -18,18 +18,23 @@ standing_objects (Refused code repository) = repository.objects
 
 abbrev pub held_objects : TenantState → List Object
 held_objects (Idle repository) = repository.objects
-held_objects (Busy status) = standing_objects status
+held_objects (Busy opened status) = standing_objects status
 
 -- The repository at the last checkpoint.
 abbrev pub last_held : TenantState → Repository
 last_held (Idle repository) = repository
-last_held (Busy status) = last_of status
+last_held (Busy opened status) = last_of status
+
+-- The repository at the Open of the stream; without a stream, the repository.
+abbrev pub opened_held : TenantState → Repository
+opened_held (Idle repository) = repository
+opened_held (Busy opened status) = opened
 
 -- Whether a stream runs that has read `done`, so that no later byte counts.
 abbrev pub has_read_done : TenantState → Bool
 has_read_done (Idle repository) = false
-has_read_done (Busy (Runs now tail)) = now.is_done
-has_read_done (Busy (Refused code repository)) = false
+has_read_done (Busy opened (Runs now tail)) = now.is_done
+has_read_done (Busy opened (Refused code repository)) = false
 
 -- Whether the repository at the last checkpoint has an object.
 abbrev pub has_committed_object : TenantState → Bool

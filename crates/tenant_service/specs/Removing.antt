@@ -15,12 +15,12 @@ use Rattle.tenant_service.specs.OneStep.{Store, held_in_store}
 -- Why nothing of a tenant can be given up: it has no stream.
 abbrev pub without_stream : TenantState → Option ServiceFault
 without_stream (Idle repository) = Some fault.NoStream
-without_stream (Busy status) = None
+without_stream (Busy opened status) = None
 
 -- Why a tenant cannot be removed: it has a stream, running or dead.
 abbrev pub with_stream : TenantState → Option ServiceFault
 with_stream (Idle repository) = None
-with_stream (Busy status) = Some fault.StreamIsOpen
+with_stream (Busy opened status) = Some fault.StreamIsOpen
 
 -- A stream is not given up if the name is bad, or if there is no stream.
 abbrev pub abandon_refusal : List ℕ → TenantStates → Option ServiceFault

@@ -13,7 +13,7 @@ use Rattle.pool_file_checks.specs.Judging.{IsRefused}
 use Rattle.pool_file.specs.Loading.{AreRead}
 use Rattle.pool_file.specs.Worth.{worth_saving}
 use Rattle.tenant_service.specs.TenantState.{TenantState, TenantStates, Idle, empty_repository, held_of}
-use Rattle.tenant_service.specs.HeldObjects.{last_held}
+use Rattle.tenant_service.specs.HeldObjects.{last_held, opened_held}
 
 -- The repository of each tenant at its last checkpoint, under the tenant's name.
 abbrev pub last_named : TenantStates → List Named
@@ -22,6 +22,14 @@ last_named all = map (λ e. record { tenant = e.0; repository = last_held e.1 })
 -- Those that are saved: each has an object, or a HEAD other than the first.
 abbrev pub saved_of : TenantStates → List Named
 saved_of all = worth_saving (last_named all)
+
+-- Every tenant as it was when its stream was opened, and without a stream.
+abbrev pub as_opened : TenantStates → TenantStates
+as_opened all = map (λ e. (e.0, Idle (opened_held e.1))) all
+
+-- Those that are saved so.
+abbrev pub saved_as_opened : TenantStates → List Named
+saved_as_opened all = saved_of (as_opened all)
 
 -- One of the tenants has an object with this content at its last checkpoint.
 pub record SomebodyHas (c : Content) (all : TenantStates) : Type 0 where

@@ -23,6 +23,7 @@ use Rattle.tenant_service.specs.Alone.{State}
 use Rattle.tenant_stream.specs.Carrying.{StreamView, stream_in}
 use Rattle.tenant_service.specs.TenantState.{TenantState, Idle, Busy, TenantStates, Represents, held_of}
 use Rattle.tenant_service.specs.Soundness.{IsSoundTenantState}
+use Rattle.tenant_service.specs.Opening.{HasOpened, opened_in}
 use Rattle.tenant_service.specs.HeldObjects.{held_objects, last_held, tenants_with}
 
 -- After `done` no bytes are kept.
@@ -36,8 +37,10 @@ standing_in stream pool table refs = Runs (stream_in stream pool table refs) (ke
 -- What is held of a tenant.
 abbrev pub held_in : OpenStream → Cells → View → RefStore → TenantState
 held_in phase.Closed pool table refs = Idle (repository_in pool table refs)
-held_in (phase.Running stream) pool table refs = Busy (standing_in stream pool table refs)
-held_in (phase.Dead code) pool table refs = Busy (Refused code (repository_in pool table refs))
+held_in (phase.Running opened stream) pool table refs =
+    Busy (opened_in opened pool table) (standing_in stream pool table refs)
+held_in (phase.Dead opened code) pool table refs =
+    Busy (opened_in opened pool table) (Refused code (repository_in pool table refs))
 
 abbrev pub holding_in : Cells → Tenant → TenantState
 holding_in pool tenant = held_in tenant.phase pool tenant.table tenant.refs
@@ -45,20 +48,22 @@ holding_in pool tenant = held_in tenant.phase pool tenant.table tenant.refs
 -- If no stream runs, all objects are committed.
 abbrev pub IsSettled : OpenStream → View → Type 0
 IsSettled phase.Closed table = table.committed ≡ length table.entries
-IsSettled (phase.Running stream) table = Unit {0}
-IsSettled (phase.Dead code) table = table.committed ≡ length table.entries
+IsSettled (phase.Running opened stream) table = Unit {0}
+IsSettled (phase.Dead opened code) table = table.committed ≡ length table.entries
 
 -- If a stream runs, the files that it holds of its commits are among these objects.
 abbrev pub HoldsIn : List Object → OpenStream → Type 0
 HoldsIn objects phase.Closed = Unit {0}
-HoldsIn objects (phase.Running stream) = HoldsFiles objects stream.session.state
-HoldsIn objects (phase.Dead code) = Unit {0}
+HoldsIn objects (phase.Running opened stream) = HoldsFiles objects stream.session.state
+HoldsIn objects (phase.Dead opened code) = Unit {0}
 
--- A tenant's table stands in the pool. The files that its stream holds are among its objects, and
--- the first parents that queries met are among the objects of the last checkpoint.
+-- A tenant's table stands in the pool. What its stream was opened on is committed. The files that
+-- its stream holds are among its objects, and the first parents that queries met are among the
+-- objects of the last checkpoint.
 pub record Stands (digest : List ℕ → List ℕ) (pool : Cells) (tenant : Tenant) : Type 0 where
   pub entries : IsBackedBy digest pool tenant.table.entries
   pub settled : IsSettled tenant.phase tenant.table
+  pub opened : HasOpened tenant.phase tenant.table
   pub files : HoldsIn (objects pool tenant.table.entries) tenant.phase
   pub chain : IsFirstParentChain (objects pool (in_sight Committed tenant.table)) tenant.chain
 

@@ -118,8 +118,8 @@ fn copy_of_named<N: Naming>(
     }
 }
 
-// Puts a tenant under a name, for which there is room. A tenant that was there is dropped.
-fn put_tenant(tenants: &mut IndexMap<TenantName, Tenant>, name: TenantName, tenant: Tenant)
+/// Puts a tenant under a name, for which there is room. A tenant that was there is dropped.
+pub fn put_tenant(tenants: &mut IndexMap<TenantName, Tenant>, name: TenantName, tenant: Tenant)
     requires { 0 < spare tenants.old }
     ensures { tenants.new.entries ≡ insert_entry bytes_eq tenants.old.entries name tenant }
 {

@@ -4,12 +4,14 @@
 //! `Service::copy_tenant` states. By that law most copies are made by the places of the objects
 //! alone, without the steps, and leave the same.
 
-ghost use Rattle.std.specs.Prelude.{◌≡◌, None};
+ghost use Rattle.std.specs.Prelude.{◌≡◌, ℕ, List, None, false};
+ghost use Rattle.std.specs.Str.{bytes_eq};
 ghost use Rattle.content_pool.specs.Pool.{Cells};
 ghost use Rattle.import_session.specs.Session.{repository_in};
 ghost use Rattle.tenant_service.specs.Copying.{HasTaken, IsExport, IsImport};
 ghost use Rattle.tenant_service.specs.Copying.{copy_refusal, first_refusal as first_refused};
 ghost use Rattle.tenant_service.specs.Copying.{has_nothing, held_refusal};
+ghost use Rattle.tenant_service.specs.TenantState.{held_of};
 ghost use Rattle.tenant_service.specs.Tenants.{holding_in, holdings};
 
 use crate::service::Service;
@@ -32,8 +34,8 @@ fn has_nothing(table: &Table, refs: &Refs) -> bool
     table.len() == 0 && refs.len() == 0 && refs.head() == FIRST_HEAD
 }
 
-// Why a tenant takes no copy.
-fn refusal_of(tenant: &Tenant) -> Option<ServiceFault>
+/// Why a tenant takes no copy.
+pub fn refusal_of(tenant: &Tenant) -> Option<ServiceFault>
     ensures { (pool : Cells) → result ≡ held_refusal (holding_in pool tenant.now) }
 {
     match &tenant.phase {
@@ -83,8 +85,10 @@ fn first_refusal(first: Answer, second: Answer) -> Answer
 
 // Opens a stream, feeds it a text, and ends it, even if the text was refused.
 fn import<N: Naming>(alloc: Global, service: &mut Service<N>, to: &[u8], text: &[u8]) -> Answer
-    ensures { HasTaken N.digest_of service.old service.new
+    ensures taken { HasTaken N.digest_of service.old service.new
         (λ run. IsImport to.now text.now run result) }
+    ensures others { (tenant : List ℕ) → bytes_eq tenant to.now ≡ false
+        → held_of tenant service.new ≡ held_of tenant service.old }
 {
     let mut out = Vec::new(alloc);
     match service.step(Step::Open { tenant: to }, &mut out) {
@@ -110,8 +114,10 @@ fn copy_by_steps<N: Naming>(
     from: &[u8],
     to: &[u8],
 ) -> Answer
-    ensures { HasTaken N.digest_of service.old service.new
+    ensures taken { HasTaken N.digest_of service.old service.new
         (λ run. IsExport from.now to.now run result) }
+    ensures others { (tenant : List ℕ) → bytes_eq tenant to.now ≡ false
+        → held_of tenant service.new ≡ held_of tenant service.old }
 {
     let mut text = Vec::new(alloc);
     let export = Step::Ask {
@@ -130,8 +136,10 @@ fn copy_by_steps<N: Naming>(
 /// take memory from `alloc`.
 pub fn copy<N: Naming>(alloc: Global, service: &mut Service<N>, from: &[u8], to: &[u8]) -> Answer
     requires { copy_refusal from.now to.now service.old ≡ None }
-    ensures { HasTaken N.digest_of service.old service.new
+    ensures taken { HasTaken N.digest_of service.old service.new
         (λ run. IsExport from.now to.now run result) }
+    ensures others { (tenant : List ℕ) → bytes_eq tenant to.now ≡ false
+        → held_of tenant service.new ≡ held_of tenant service.old }
 {
     match service.copy_by_places(from, to) {
         Some(answer) => answer,

@@ -5,10 +5,17 @@
 //! encoded as bytes.
 #![tactic(auto)]
 
+mod across;
 mod by_places;
+mod compacting;
 mod copying;
+mod extract_fault;
+mod extracting;
 pub mod laws;
 mod loading;
+mod merging;
+mod moves;
+mod opened;
 mod removing;
 mod saving;
 mod service;
@@ -16,6 +23,7 @@ mod sizes;
 mod tenant;
 mod tenants;
 
+pub use extract_fault::ExtractFault;
 pub use pool_file_format::{Fault, Refusal, StreamingDigest};
 pub use service::Service;
 pub use service_steps::{Answer, Reply, ServiceFault, Step};

@@ -39,8 +39,8 @@ fn abandon_stream<N: Naming>(
     }
 }
 
-// Whether the tenant of this name has a stream, running or dead.
-fn is_streaming(tenants: &IndexMap<TenantName, Tenant>, name: &TenantName) -> bool
+/// Whether the tenant of this name has a stream, running or dead.
+pub fn is_streaming(tenants: &IndexMap<TenantName, Tenant>, name: &TenantName) -> bool
     ensures { (pool : Cells)
         → result ≡ is_some (with_stream (held_of name.now (holdings pool tenants.now.entries))) }
 {

@@ -22,7 +22,6 @@ ghost use Rattle.git_model.specs.Limits.{reads_limit};
 ghost use Rattle.pool_file_checks.specs.Judging.{IsBlamed};
 ghost use Rattle.pool_file_checks.specs.Repositories.{file_text};
 ghost use Rattle.pool_file_checks.specs.Saving.{IsTextOf};
-ghost use Rattle.pool_file.specs.Saves.{Saves};
 ghost use Rattle.std.specs.List.{AllByRecursion, IsDistinct};
 ghost use Rattle.std.specs.Map.{keys_of};
 ghost use Rattle.std.specs.Set.{unique_keys};
@@ -36,6 +35,7 @@ ghost use Rattle.tenant_service.specs.TenantState.{TenantStates, Represents, Idl
 ghost use Rattle.tenant_service.specs.Soundness.{IsSoundTenantState};
 ghost use Rattle.tenant_service.specs.HeldObjects.{held_contents, has_committed_object, has_read_done as read_done, last_held};
 ghost use Rattle.tenant_service.specs.HeldSteps.{step_held};
+ghost use Rattle.tenant_service.specs.Kept.{may_change, KeepsOpened};
 ghost use Rattle.tenant_service.specs.Saved.{saved_of, IsLoadedFrom, LoadsAs, LoadsText, LoadsEach};
 ghost use Rattle.tenant_service.specs.Sizes.{sizes_of, sizes_told};
 ghost use Rattle.tenant_service.specs.Tenants.{CountsTenants, Shows};
@@ -55,14 +55,14 @@ use indexmap::IndexMap;
 use pool_file_format::{Fault, StreamingDigest};
 use service_steps::{Answer, Reply, Step};
 use std::alloc::Global;
-use std::io::{Read, Write};
+use std::io::Read;
 use std::marker::Model;
 use tenant_refs::{Refs, TenantName};
 use tenant_tables::Table;
 
 /// The repositories and streams of any number of tenants. Contracts see what is held of each.
 pub struct Service<N: Naming> {
-    alloc: Global,
+    pub(crate) alloc: Global,
     pub(crate) pool: Pool<N>,
     pub(crate) tenants: IndexMap<TenantName, Tenant>,
 }
@@ -150,7 +150,7 @@ impl<N: Naming> Service<N> {
     }
 
     // Every tenant has a good name, and there are fewer than 2^63 tenants: a fact for proofs.
-    fn has_few_names(&self)
+    pub(crate) fn has_few_names(&self)
         ensures names { AllByRecursion (λ name. is_tenant_name name ≡ true) (keys_of self.now) }
         ensures few { length self.now < 2 ^ 63 }
     {
@@ -159,7 +159,7 @@ impl<N: Naming> Service<N> {
 
     // All tenants together have fewer than 2^64 distinct contents: a fact for proofs.
     #[tactic(auto, unfolding(content_pool::specs::LiveContents::stored_sizes))]
-    fn has_few_contents(&self)
+    pub(crate) fn has_few_contents(&self)
         ensures { length (unique_keys same_content (held_contents self.now)) < 2 ^ 64 }
     {
         let (_contents, _size) = self.stored();
@@ -258,6 +258,12 @@ impl<N: Naming> Service<N> {
         ensures own { (tenant : List ℕ) → IsIsolated N.digest_of tenant (held_of tenant self.old)
             ((step.entry, response_in result out.old.items out.new.items) ∷ [])
             (held_of tenant self.new) }
+        // No other tenant is changed, and an Ask changes none.
+        ensures kept { (tenant : List ℕ) → may_change tenant step.entry ≡ false
+            → held_of tenant self.new ≡ held_of tenant self.old }
+        // What a stream was opened on stays until it ends.
+        ensures opened { (tenant : List ℕ)
+            → KeepsOpened (held_of tenant self.old) (held_of tenant self.new) }
         ensures appended { out.new.items
             ≡ out.old.items ++ added out.old.items out.new.items }
         ensures bad_names { IsRefused (step.entry, response_in result out.old.items out.new.items) }
@@ -274,6 +280,9 @@ impl<N: Naming> Service<N> {
         ensures own { (tenant : List ℕ) → IsIsolated N.digest_of tenant (held_of tenant self.old)
             (run_of steps.now (told_since replies.old.items replies.new.items))
             (held_of tenant self.new) }
+        ensures kept { (tenant : List ℕ)
+            → AllByRecursion (λ s. may_change tenant s ≡ false) steps.now
+            → held_of tenant self.new ≡ held_of tenant self.old }
         ensures appended { replies.new.items
             ≡ replies.old.items ++ drop (length replies.old.items) replies.new.items }
         ensures all { OnOk result
@@ -298,6 +307,9 @@ impl<N: Naming> Service<N> {
         requires { copy_refusal from.now to.now self.old ≡ None }
         ensures copied { IfSome result (λ answer. HasTaken N.digest_of self.old self.new
             (λ run. IsExport from.now to.now run answer)) }
+        ensures others { IfSome result (λ answer. (tenant : List ℕ)
+            → bytes_eq tenant to.now ≡ false
+            → held_of tenant self.new ≡ held_of tenant self.old) }
         ensures same { IsNone result → self.new ≡ self.old }
     {
         copy_by_places(self.alloc, &mut self.pool, &mut self.tenants, from, to)
@@ -380,21 +392,5 @@ impl<N: StreamingDigest> Service<N> {
             pool,
             tenants,
         })
-    }
-
-    /// Writes the repositories of all tenants at their last checkpoints as a pool file, in version
-    /// 2. What a running stream has not saved is left out, and so is a tenant that has neither an
-    /// object nor another HEAD than the first.
-    ///
-    /// `Fault::Device` (68): a call of `write` failed or took no byte. `Fault::Memory` (90): an
-    /// allocation failed. In both cases a prefix of the file is written. `Fault::Refused` is
-    /// never answered. The service is as it was.
-    pub fn save<W: Write>(&self, writer: &mut Counted<W>) -> Result<(), Fault>
-        ensures { Saves (seen (W.contents (device_of writer.old)) writer.old) result
-            (seen (W.contents (device_of writer.new)) writer.new)
-            (file_text N.digest_of (saved_of self.now)) }
-    {
-        let lent = lend_all(self.alloc, &self.tenants)?;
-        pool_file::save_views(self.alloc, &self.pool, &lent, writer)
     }
 }

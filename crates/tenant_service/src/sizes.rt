@@ -1,17 +1,15 @@
 //! What each tenant has in the pool: for the operator.
 
-ghost use Rattle.std.specs.Prelude.{◌≡◌, IfOk, map, take};
+ghost use Rattle.std.specs.Prelude.{◌≡◌, IfOk, map};
 ghost use Rattle.pool_file.specs.Worth.{AllStand, named_in, to_save};
 ghost use Rattle.tenant_service.specs.Sizes.{own_size, size, sizes_by, sizes_told, total};
 ghost use Rattle.tenant_service.specs.Tenants.{holds_of};
 ghost use Rattle.tenant_tables.specs.IsBackedBy.{IsBackedBy};
-ghost use Rattle.tenant_tables.specs.Objects.{objects};
 
 use content_pool::Pool;
 use git_objects::{Memory, Naming};
 use pool_file::{TenantView, tenants_to_save};
 use std::alloc::Global;
-use tenant_tables::Table;
 
 /// What a tenant has at its last checkpoint. A sum of bytes is 2^64 - 1 if it would be greater.
 #[derive(Clone, Copy)]
@@ -28,20 +26,19 @@ pub struct TenantSizes<'a> {
     pub refs: u64,
 }
 
-// The sizes in bytes of the committed objects of a table: the sum of all, and of those that no
-// other table holds.
-fn totals<N: Naming>(pool: &Pool<N>, table: &Table) -> (u64, u64)
-    requires { IsBackedBy N.digest_of pool.now table.now.entries }
-    ensures all { result.0
-        ≡ total size (take table.now.committed (objects pool.now table.now.entries)) }
-    ensures own { result.1 ≡ total (own_size (holds_of pool.now))
-        (take table.now.committed (objects pool.now table.now.entries)) }
+// The sizes in bytes of the objects of a tenant that a save writes: the sum of all, and of those
+// that no other table holds.
+fn totals<N: Naming>(pool: &Pool<N>, view: &TenantView<'_>) -> (u64, u64)
+    requires { IsBackedBy N.digest_of pool.now view.now.table.now.entries }
+    ensures all { result.0 ≡ total size (named_in pool.now view.now).repository.objects }
+    ensures own { result.1
+        ≡ total (own_size (holds_of pool.now)) (named_in pool.now view.now).repository.objects }
 {
     pool.holds_each_once();
     let mut all: u64 = 0;
     let mut own: u64 = 0;
-    for place in 0..table.committed_len() {
-        if let Some((_, slot)) = table.at(place) {
+    for place in 0..view.object_count() {
+        if let Some((_, slot)) = view.table.at(place) {
             let (_, bytes) = pool.get(slot);
             let size = bytes.len() as u64;
             all = all.saturating_add(size);
@@ -58,10 +55,10 @@ fn sizes_of<'a, N: Naming>(pool: &Pool<N>, view: &TenantView<'a>) -> TenantSizes
     requires { IsBackedBy N.digest_of pool.now view.now.table.now.entries }
     ensures { sizes_told result ≡ sizes_by (holds_of pool.now) (named_in pool.now view.now) }
 {
-    let (bytes, own_bytes) = totals(pool, view.table);
+    let (bytes, own_bytes) = totals(pool, view);
     TenantSizes {
         tenant: view.name.as_bytes(),
-        objects: view.table.committed_len() as u64,
+        objects: view.object_count() as u64,
         bytes,
         own_bytes,
         refs: view.refs.len() as u64,

@@ -15,9 +15,11 @@ ghost use Rattle.tenant_service.specs.Soundness.{IsSoundTenantState};
 ghost use Rattle.tenant_service.specs.HeldSteps.{step_held};
 ghost use Rattle.tenant_service.specs.HeldObjects.{has_read_done, last_held};
 ghost use Rattle.tenant_service.specs.Tenants.{holding_in, Stands, IsSettled};
+ghost use Rattle.tenant_service.specs.Opening.{dead_under};
 ghost use Rattle.tenant_service.specs.OneStep.{Takes, refusal_told};
 ghost use Rattle.tenant_service.specs.Removing.{answer_unless, with_stream, without_stream};
 
+use crate::opened::{Opened, opened_on};
 use answers::{Fault, answer_along};
 use content_pool::Pool;
 use git_objects::Naming;
@@ -37,10 +39,10 @@ const OUT_OF_MEMORY: u16 = 90;
 pub enum OpenStream {
     /// There is no stream.
     Closed,
-    /// The stream runs.
-    Running(Stream),
+    /// The stream runs. It was opened on this.
+    Running(Opened, Stream),
     /// The stream is dead: it was refused under this number, or memory ran out (90).
-    Dead(u16),
+    Dead(Opened, u16),
 }
 
 /// A tenant: its objects, its refs, its stream, and the first parents that the last query met.
@@ -74,7 +76,30 @@ fn set_phase(kept: &mut OpenStream, phase: OpenStream)
     drop(mem::replace(kept, phase));
 }
 
-/// Opens a stream. 31 if there is one; then nothing has changed. Takes no memory.
+// The phase after the stream died under this number. Drops a stream that ran.
+fn dead_under(phase: OpenStream, code: u16) -> OpenStream
+    ensures { result ≡ dead_under code phase }
+{
+    match phase {
+        OpenStream::Closed => OpenStream::Closed,
+        OpenStream::Running(opened, stream) => {
+            drop(stream);
+            OpenStream::Dead(opened, code)
+        }
+        OpenStream::Dead(opened, before) => OpenStream::Dead(opened, before),
+    }
+}
+
+// Lets the stream be dead under this number. What it was opened on stays.
+fn kill(kept: &mut OpenStream, code: u16)
+    ensures { kept.new ≡ dead_under code kept.old }
+{
+    let before = mem::replace(kept, OpenStream::Closed);
+    set_phase(kept, dead_under(before, code));
+}
+
+/// Opens a stream, and keeps what the tenant has, for a save as it was at this Open. 31 if there is
+/// a stream, and `Memory(0)` if there is no room for a copy of the refs; then nothing has changed.
 pub fn open<N: Naming>(alloc: Global, pool: &Pool<N>, tenant: &mut Tenant) -> Answer
     requires stands { Stands N.digest_of pool.now tenant.old }
     ensures stands { Stands N.digest_of pool.now tenant.new }
@@ -84,19 +109,23 @@ pub fn open<N: Naming>(alloc: Global, pool: &Pool<N>, tenant: &mut Tenant) -> An
         [] [] (holding_in pool.now tenant.new) }
 {
     match &tenant.phase {
-        OpenStream::Closed => {
-            set_phase(&mut tenant.phase, OpenStream::Running(Stream::new(alloc)));
-            Answer::Ok
-        }
+        OpenStream::Closed => match opened_on(&tenant.table, &tenant.refs) {
+            Ok(opened) => {
+                let stream = Stream::new(alloc);
+                set_phase(&mut tenant.phase, OpenStream::Running(opened, stream));
+                Answer::Ok
+            }
+            Err(_) => Answer::Memory(0),
+        },
         _ => ServiceFault::StreamIsOpen.answer(),
     }
 }
 
-/// Rolls the tenant back to its last checkpoint, and sets the phase of its stream. Takes no memory.
-pub fn give_up<N: Naming>(pool: &mut Pool<N>, tenant: &mut Tenant, phase: OpenStream)
+// Rolls the tenant back to its last checkpoint. Its phase stays. Takes no memory.
+fn go_back<N: Naming>(pool: &mut Pool<N>, tenant: &mut Tenant)
     requires stands { IsBackedBy N.digest_of pool.old tenant.old.table.entries }
     requires settled { IsSettled tenant.old.phase tenant.old.table }
-    ensures phase { tenant.new.phase ≡ phase }
+    ensures phase { tenant.new.phase ≡ tenant.old.phase }
     ensures chain { tenant.new.chain ≡ [] }
     ensures stands { IsBackedBy N.digest_of pool.new tenant.new.table.entries }
     ensures others { PreservesOthers pool.old tenant.old.table.entries
@@ -108,7 +137,6 @@ pub fn give_up<N: Naming>(pool: &mut Pool<N>, tenant: &mut Tenant, phase: OpenSt
     let _within = tenant.table.committed_len();
     tenant.table.roll_back(pool);
     tenant.chain.clear();
-    set_phase(&mut tenant.phase, phase);
 }
 
 /// Feeds the next bytes to the stream, and appends what they print to `out`.
@@ -133,8 +161,9 @@ pub fn feed<N: Naming>(
 {
     let fed = match &mut tenant.phase {
         OpenStream::Closed => return ServiceFault::NoStream.answer(),
-        OpenStream::Dead(code) => return Answer::Fault(*code),
-        OpenStream::Running(stream) => {
+        OpenStream::Dead(_, code) => return Answer::Fault(*code),
+        OpenStream::Running(_, stream) => {
+            let _within = tenant.table.committed_len();
             tenant.chain.clear();
             stream.feed(pool, &mut tenant.table, &mut tenant.refs, piece, out)
         }
@@ -142,11 +171,13 @@ pub fn feed<N: Naming>(
     match fed {
         Ok(()) => Answer::Ok,
         Err(StreamError::Fault(code)) => {
-            give_up(pool, tenant, OpenStream::Dead(code));
+            go_back(pool, tenant);
+            kill(&mut tenant.phase, code);
             Answer::Fault(code)
         }
         Err(StreamError::Memory(items)) => {
-            give_up(pool, tenant, OpenStream::Dead(OUT_OF_MEMORY));
+            go_back(pool, tenant);
+            kill(&mut tenant.phase, OUT_OF_MEMORY);
             Answer::Memory(items)
         }
     }
@@ -157,7 +188,7 @@ pub fn has_read_done(tenant: &Tenant) -> bool
     ensures { (pool : Cells) → result ≡ has_read_done (holding_in pool tenant.now) }
 {
     match &tenant.phase {
-        OpenStream::Running(stream) => stream.is_done(),
+        OpenStream::Running(_, stream) => stream.is_done(),
         _ => false,
     }
 }
@@ -178,8 +209,12 @@ pub fn end<N: Naming>(pool: &mut Pool<N>, tenant: &mut Tenant, out: &mut Vec<u8>
 {
     match mem::replace(&mut tenant.phase, OpenStream::Closed) {
         OpenStream::Closed => ServiceFault::NoStream.answer(),
-        OpenStream::Dead(code) => Answer::Fault(code),
-        OpenStream::Running(stream) => {
+        OpenStream::Dead(opened, code) => {
+            drop(opened);
+            Answer::Fault(code)
+        }
+        OpenStream::Running(opened, stream) => {
+            drop(opened);
             tenant.chain.clear();
             match stream.finish(pool, &mut tenant.table, &mut tenant.refs, out) {
                 Ok(()) => Answer::Ok,
@@ -260,7 +295,8 @@ pub fn restart<N: Naming>(pool: &mut Pool<N>, tenant: &mut Tenant)
     ensures own { holding_in pool.new tenant.new
         ≡ Idle (last_held (holding_in pool.old tenant.old)) }
 {
-    give_up(pool, tenant, OpenStream::Closed);
+    go_back(pool, tenant);
+    set_phase(&mut tenant.phase, OpenStream::Closed);
 }
 
 /// Gives up the stream, running or dead: what is left is the last checkpoint, and no stream. 30 if

@@ -118,7 +118,8 @@ pub fn name_of(tenant: &[u8]) -> Result<TenantName, ServiceFault>
 
 // Opens a stream of the tenant of this name. 32 if the name is bad, and 31 if it has a stream.
 //
-// `Memory(0)` if there is no room for a tenant that was not seen before; then nothing has changed.
+// `Memory(0)` if there is no room for a tenant that was not seen before, or for a copy of the refs;
+// then nothing has changed.
 fn open_stream<N: Naming>(
     alloc: Global,
     pool: &Pool<N>,

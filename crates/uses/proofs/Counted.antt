@@ -19,8 +19,9 @@ use Rattle.tenant_tables.proofs.TableLemmas.{objects-take}
 last-sound : (digest : List ℕ → List ℕ) (held : TenantState)
     → IsSoundTenantState digest held → IsSoundRepository digest (last_held held)
 last-sound digest (Idle repository) sound = sound
-last-sound digest (Busy (Runs now tail)) sound = checkpoint_is_sound digest now.workspace sound
-last-sound digest (Busy (Refused code repository)) sound = sound
+last-sound digest (Busy opened (Runs now tail)) sound =
+    checkpoint_is_sound digest now.workspace sound.1
+last-sound digest (Busy opened (Refused code repository)) sound = sound.1
 
 -- what is said of the committed objects of the table is said of those of the last checkpoint
 pub logged : (digest : List ℕ → List ℕ) (held : TenantState) (pool : Cells) (table : View) (refs : RefStore)

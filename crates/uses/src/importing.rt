@@ -18,7 +18,6 @@ pub fn import<N: Naming>(
     ensures others { (other : List ℕ) → bytes_eq other tenant.now ≡ false
         → held_of other service.new ≡ held_of other service.old }
 {
-    service.is_led();
     let opened = service.step(Step::Open { tenant }, out);
     if opened != Answer::Ok {
         return opened;

@@ -1,8 +1,9 @@
 use Rattle.std.proofs.Common.{refl, ap, ◌∙◌}
 use Rattle.std.proofs.lemmas.Result.{err_from_is_err_and}
 use Rattle.git_objects.specs.Device.{device_of, seen}
+use Rattle.tenant_service.proofs.KeptLemmas.{ask-stays}
 use Rattle.gitpool.specs.Asking.{as_asked}
-use Rattle.gitpool.proofs.AskLemmas.{asked-ok, ask-keeps, ask-bad, ask-not-ok, asks-refused, asks-unwritten, asks-well}
+use Rattle.gitpool.proofs.AskLemmas.{asked-ok, ask-bad, ask-not-ok, asks-refused, asks-unwritten, asks-well}
 use Rattle.gitpool.proofs.asking.ask.Goals as goal
 
 pub returns-in_err-as_asked-clause-asked : goal.returns-in_err-as_asked-clause-asked
@@ -15,9 +16,7 @@ returns-in_err-as_asked-clause-asked g c =
 
 pub returns-in_err-as_asked-clause-unchanged : goal.returns-in_err-as_asked-clause-unchanged
 returns-in_err-as_asked-clause-unchanged g c = λ name.
-    let led = c.is_led.ensures name in
-    ask-keeps _ c.args.tenant.now c.args.query.now _ c.step-answer.result _ _ c.args.service.now c.step-answer.new.self refl refl refl
-    c.new-reply.ensures.items c.step-answer.ensures.own c.step-answer.ensures.bad_names name led.0 led.1
+    c.step-answer.ensures.kept name (ask-stays name _ refl)
 
 pub returns-in_err-as_asked-clause-bad_names : goal.returns-in_err-as_asked-clause-bad_names
 returns-in_err-as_asked-clause-bad_names g c = λ wrong.
@@ -40,9 +39,7 @@ returns-in_err-write_all-clause-asked g c =
 
 pub returns-in_err-write_all-clause-unchanged : goal.returns-in_err-write_all-clause-unchanged
 returns-in_err-write_all-clause-unchanged g c = λ name.
-    let led = c.is_led.ensures name in
-    ask-keeps _ c.args.tenant.now c.args.query.now _ c.step-answer.result _ _ c.args.service.now c.step-answer.new.self refl refl refl
-    c.new-reply.ensures.items c.step-answer.ensures.own c.step-answer.ensures.bad_names name led.0 led.1
+    c.step-answer.ensures.kept name (ask-stays name _ refl)
 
 pub returns-in_err-write_all-clause-bad_names : goal.returns-in_err-write_all-clause-bad_names
 returns-in_err-write_all-clause-bad_names g c = λ wrong.
@@ -60,9 +57,7 @@ returns-clause-asked g c =
 
 pub returns-clause-unchanged : goal.returns-clause-unchanged
 returns-clause-unchanged g c = λ name.
-    let led = c.is_led.ensures name in
-    ask-keeps _ c.args.tenant.now c.args.query.now _ c.step-answer.result _ _ c.args.service.now c.step-answer.new.self refl refl refl
-    c.new-reply.ensures.items c.step-answer.ensures.own c.step-answer.ensures.bad_names name led.0 led.1
+    c.step-answer.ensures.kept name (ask-stays name _ refl)
 
 pub returns-clause-bad_names : goal.returns-clause-bad_names
 returns-clause-bad_names g c = λ wrong.

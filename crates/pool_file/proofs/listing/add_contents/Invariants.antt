@@ -8,4 +8,4 @@ use Rattle.pool_file.proofs.listing.add_contents.Given as goal
 abbrev pub invariant-loop-place : goal.invariant-loop-place
 invariant-loop-place g l =
     Collects l.pool l.fn.listed.keys l.fn.marks.items l.listed.keys l.marks.items
-    (raw_contents (take l.place (objects l.pool l.table.entries)))
+    (raw_contents (take l.place (objects l.pool l.tenant.table.now.entries)))

@@ -9,4 +9,4 @@ use Rattle.pool_file.proofs.numbers.numbers_of.Given as goal
 abbrev pub invariant-loop-place : goal.invariant-loop-place
 invariant-loop-place g l = AreKnown l.pool l.contents l.known
     × (l.numbers.items ≡ map (raw_number l.contents)
-    (raw_contents (take l.place (objects l.pool l.table.entries))))
+    (raw_contents (take l.place (objects l.pool l.tenant.table.now.entries))))

@@ -1,10 +1,9 @@
 use Rattle.std.proofs.Common.{List, sym, ap, subst, ◌∙◌}
 use Rattle.byte_devices.specs.Device.{device_of, seen}
 use Rattle.pool_file_checks.specs.Repositories.{Named, file_text}
-use Rattle.pool_file.specs.declared.tenant.Tenant.{Tenant}
 use Rattle.pool_file.specs.declared.tenant_view.TenantView.{TenantView}
 use Rattle.pool_file.specs.Saves.{Saves}
-use Rattle.pool_file.specs.Worth.{AllStand, TablesStand, to_save}
+use Rattle.pool_file.specs.Worth.{AllStand, to_save}
 use Rattle.pool_file.proofs.Views.{views_stand, views_saved}
 use Rattle.pool_file.proofs.saving.save.Goals as goal
 
@@ -12,9 +11,8 @@ pub save_views-requires : goal.save_views-requires
 save_views-requires g c =
     subst (λ (views : List TenantView). AllStand g.N.Naming.digest_of c.args.pool.now views)
     (sym c.deref.ensures.value)
-    (views_stand g.N.Naming.digest_of c.args.pool.now c.in_ok-views.views.items
-    (subst (λ (ts : List Tenant). TablesStand g.N.Naming.digest_of c.args.pool.now ts)
-    (sym c.in_ok-views.ensures) c.requires))
+    (views_stand g.N.Naming.digest_of c.args.pool.now c.in_ok-views.views.items c.args.tenants.now
+    c.in_ok-views.ensures c.requires)
 
 pub returns : goal.returns
 returns g c =

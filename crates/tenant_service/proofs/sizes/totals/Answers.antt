@@ -1,7 +1,7 @@
-use Rattle.std.proofs.Common.{◌<◌, length, sym, ap, ◌∙◌, arith}
+use Rattle.std.proofs.Common.{length, sym, ap, ◌∙◌}
 use Rattle.git_model.specs.Content.{Content}
 use Rattle.tenant_tables.proofs.Positions.{told_live}
-use Rattle.pool_file.proofs.Collected.{told_there}
+use Rattle.pool_file.proofs.Collected.{before_end, told_there}
 use Rattle.tenant_service.specs.Sizes.{own_size, size}
 use Rattle.tenant_service.specs.Tenants.{holds_of}
 use Rattle.tenant_service.proofs.SizeLemmas.{own-elsewhere, own-here, total-kept, total-told}
@@ -10,16 +10,16 @@ use Rattle.tenant_service.proofs.sizes.totals.Goals.{in-Some+then-hold_count-eq1
 
 pub get-requires : goal.get-requires
 get-requires g c =
-    told_live _ c.args.pool.now c.args.table.now.entries c.loop-place.place _ _ c.requires c.in-Some.ensures
+    told_live _ c.args.pool.now c.args.view.now.table.now.entries c.loop-place.place _ _ c.requires c.in-Some.ensures
 
 pub hold_count-requires : goal.hold_count-requires
 hold_count-requires g c =
-    told_live _ c.args.pool.now c.args.table.now.entries c.loop-place.place _ _ c.requires c.in-Some.ensures
+    told_live _ c.args.pool.now c.args.view.now.table.now.entries c.loop-place.place _ _ c.requires c.in-Some.ensures
 
 pub loop-place-preserved : goal.loop-place-preserved
 loop-place-preserved g c =
     let pool = c.args.pool.now in
-    let es = c.args.table.now.entries in
+    let es = c.args.view.now.table.now.entries in
     let place = c.loop-place.place in
     elim c.match-at.branch [
       | in-Some+then-hold_count-eq1 w ↦
@@ -45,8 +45,7 @@ loop-place-preserved g c =
                 c.loop-place.invariant.own w.own-is;
           }
       | in_default w ↦
-          let n = c.committed_len-place-end.ensures.value in
-          let m = c.committed_len-place-end.ensures.within in
-          let l : place < length es = let t = c.loop-place-test.true in omega (arith, t, n, m) in
+          let l = before_end pool es c.args.view.now.objects place c.object_count-place-end.result
+          (c.object_count-place-end.ensures pool) c.loop-place-test.true in
           absurd (told_there es place w.in_default.ensures l)
     ]

@@ -7,6 +7,6 @@ use Rattle.tenant_service.proofs.sizes.totals.Given as goal
 -- the objects before the place are in the sums
 abbrev pub invariant-loop-place : goal.invariant-loop-place
 invariant-loop-place g l = record {
-  all : l.all ≡ total size (take l.place (objects l.pool l.table.entries));
-  own : l.own ≡ total (own_size (holds_of l.pool)) (take l.place (objects l.pool l.table.entries));
+  all : l.all ≡ total size (take l.place (objects l.pool l.view.table.now.entries));
+  own : l.own ≡ total (own_size (holds_of l.pool)) (take l.place (objects l.pool l.view.table.now.entries));
 }

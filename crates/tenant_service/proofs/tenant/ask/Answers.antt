@@ -29,6 +29,7 @@ stands-with : (digest : List ℕ → List ℕ) (pool : Cells) (t : Tenant) (chai
 stands-with digest pool t chain was sound stays = record {
   entries = was.entries;
   settled = was.settled;
+  opened = was.opened;
   files = was.files;
   chain = stays (good-saved digest pool t was.settled sound) was.chain;
 }

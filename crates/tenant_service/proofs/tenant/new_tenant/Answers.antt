@@ -7,6 +7,7 @@ pub returns-clause-stands : goal.returns-clause-stands
 returns-clause-stands c = λ digest pool. record {
   entries = rw c.new.ensures.entries (IsBackedBy-nil digest pool);
   settled = c.new.ensures.committed ∙ sym (ap length c.new.ensures.entries);
+  opened = tt;
   files = tt;
   chain = rw c.new-3.ensures tt;
 }

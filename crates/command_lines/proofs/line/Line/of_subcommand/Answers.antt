@@ -37,3 +37,39 @@ returns-in-check c =
     let pool : first_of (codes "pool") (rows_of (found_of c.args.given.now)) ≡ Some c.in_ok-pool.pool.now = search rules in
     let check : c.args.name.now ≡ codes "check" = search rules in
     rw (pool, check) refl
+
+pub returns-in-remove : goal.returns-in-remove
+returns-in-remove c =
+    let pool : first_of (codes "pool") (rows_of (found_of c.args.given.now)) ≡ Some c.in_ok-pool.pool.now = search rules in
+    let remove : c.args.name.now ≡ codes "remove" = search rules in
+    rw (pool, remove) c.remove.ensures
+
+pub returns-in-compact : goal.returns-in-compact
+returns-in-compact c =
+    let pool : first_of (codes "pool") (rows_of (found_of c.args.given.now)) ≡ Some c.in_ok-pool.pool.now = search rules in
+    let compact : c.args.name.now ≡ codes "compact" = search rules in
+    rw (pool, compact) c.compact.ensures
+
+pub returns-in-extract : goal.returns-in-extract
+returns-in-extract c =
+    let pool : first_of (codes "pool") (rows_of (found_of c.args.given.now)) ≡ Some c.in_ok-pool.pool.now = search rules in
+    let extract : c.args.name.now ≡ codes "extract" = search rules in
+    rw (pool, extract) c.extract.ensures
+
+pub returns-in-merge : goal.returns-in-merge
+returns-in-merge c =
+    let pool : first_of (codes "pool") (rows_of (found_of c.args.given.now)) ≡ Some c.in_ok-pool.pool.now = search rules in
+    let merge : c.args.name.now ≡ codes "merge" = search rules in
+    rw (pool, merge) c.merge.ensures
+
+pub returns-in-sizes : goal.returns-in-sizes
+returns-in-sizes c =
+    let pool : first_of (codes "pool") (rows_of (found_of c.args.given.now)) ≡ Some c.in_ok-pool.pool.now = search rules in
+    let sizes : c.args.name.now ≡ codes "sizes" = search rules in
+    rw (pool, sizes) refl
+
+pub returns-in-host : goal.returns-in-host
+returns-in-host c =
+    let pool : first_of (codes "pool") (rows_of (found_of c.args.given.now)) ≡ Some c.in_ok-pool.pool.now = search rules in
+    let host : c.args.name.now ≡ codes "host" = search rules in
+    rw (pool, host) refl

@@ -1,0 +1,18 @@
+//! What a host does with frames of steps alone: a law over the definitions, which runs nothing.
+
+ghost use Rattle.std.specs.Prelude.{ℕ, List, Result};
+ghost use Rattle.git_objects.specs.Device.{Device};
+ghost use Rattle.service_steps.specs.declared.frame_fault.FrameFault.{FrameFault};
+ghost use Rattle.gitpool.specs.Requests.{Hosted};
+ghost use Rattle.gitpool.specs.Hosting.{Hosts, IsOfSteps, ServesAlone};
+
+/// Without requests of the operator `host` does what `serve` does: whatever the contract of `host`
+/// says of a run that has steps alone, and after which no frame of the operator begins, the
+/// contract of `serve` says too, and the pool file is as it was.
+pub fn hosting_of_steps_is_serving()
+    ensures { (digest : List ℕ → List ℕ) → (before after : Hosted)
+        → (reader reader' writer writer' : Device) → (answer : Result Unit FrameFault)
+        → (hosts : Hosts digest before after reader reader' writer writer' answer)
+        → IsOfSteps hosts.taken.run hosts.taken.rest
+        → ServesAlone digest before after reader reader' writer writer' answer }
+{}

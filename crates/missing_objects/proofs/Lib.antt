@@ -1,0 +1,7 @@
+pub mod Leading
+pub mod Words
+pub mod Opens
+pub mod Marking
+pub mod Sweeping
+pub mod Places
+pub mod Wholeness

@@ -1,0 +1,5 @@
+pub mod Sums
+pub mod Heads
+pub mod Blocks
+pub mod Packs
+pub mod BlocksLeft

@@ -1,0 +1,120 @@
+-- Frames of requests: the steps of a service, and what its operator asks for, as bytes.
+use Rattle.std.specs.Prelude.{◌≡◌, ◌≢◌, ℕ, ◌+◌, ◌<◌, ◌==◌, Bool, true, nat_lt, nat_eq, if◌then◌else◌, List, [], ◌∷◌, ◌++◌, length, Option, None, Some, IfSome}
+use Rattle.std.specs.List.{find}
+use Rattle.service_steps.specs.declared.kind.Kind.{Kind}
+use Rattle.service_steps.specs.declared.kind.Kind.TheVariants as kind
+use Rattle.service_steps.specs.declared.request.SavedAs.{SavedAs}
+use Rattle.service_steps.specs.declared.request.SavedAs.TheVariants as saved
+use Rattle.service_steps.specs.declared.request.Request.{Request}
+use Rattle.service_steps.specs.declared.request.Request.TheVariants as request
+use Rattle.service_steps.specs.declared.request_kind.RequestKind.{RequestKind}
+use Rattle.service_steps.specs.declared.request_kind.RequestKind.TheVariants as of
+use Rattle.service_steps.specs.Frames.{Frame, frame_text, frame_of, kind_number, tenant_limit, body_limit, largest_body, Fits}
+
+-- The kinds, by their numbers. A step has the number that it has in a frame of its own.
+abbrev pub request_number : RequestKind → ℕ
+request_number (of.Step k) = kind_number k
+request_number of.Save = 16
+request_number of.Abandon = 17
+request_number of.Remove = 18
+request_number of.Compact = 19
+request_number of.Copy = 20
+request_number of.Sizes = 21
+
+abbrev pub all_request_kinds : List RequestKind
+all_request_kinds = of.Step kind.Open ∷ of.Step kind.Feed ∷ of.Step kind.End ∷ of.Step kind.Ask
+    ∷ of.Step kind.Restart ∷ of.Save ∷ of.Abandon ∷ of.Remove ∷ of.Compact ∷ of.Copy ∷ of.Sizes ∷ []
+
+-- The kind with this number, if there is one.
+abbrev pub request_kind_of : ℕ → Option RequestKind
+request_kind_of n = find (λ k. request_number k == n) all_request_kinds
+
+-- A Restart, a Save and a Sizes have no name. Any other name may be as long as two bytes can count.
+abbrev pub name_limit : RequestKind → ℕ
+name_limit (of.Step k) = tenant_limit k
+name_limit of.Save = 0
+name_limit of.Sizes = 0
+name_limit _ = 65535
+
+-- The most bytes of a body. A Copy has a name there, and a Save at most one byte.
+abbrev pub request_limit : RequestKind → ℕ
+request_limit (of.Step k) = body_limit k
+request_limit of.Save = 1
+request_limit of.Copy = largest_body
+request_limit _ = 0
+
+-- The body of a Save is empty or the byte 01. Any other body that is not too long may be any bytes.
+abbrev pub is_save_body : List ℕ → Bool
+is_save_body [] = true
+is_save_body (byte ∷ bytes) = byte == 1
+
+abbrev pub is_body : RequestKind → List ℕ → Bool
+is_body of.Save body = is_save_body body
+is_body _ body = true
+
+-- How many bytes show that a part is wrong, if one is: the third byte for the length of the name,
+-- the fourth byte after the name for the length of the body, and the last byte for the body of a
+-- Save.
+unfoldable pub wrong_request_part : RequestKind → ℕ → List ℕ → Option ℕ
+wrong_request_part k name body =
+    if nat_lt (name_limit k) name then Some 3
+    else if nat_lt (request_limit k) (length body) then Some (7 + name)
+    else if is_body k body then None else Some (7 + name + length body)
+
+-- The same for a frame of any kind: an unknown kind shows with the first byte.
+abbrev pub shown_wrong_request : Option RequestKind → ℕ → List ℕ → Option ℕ
+shown_wrong_request None name body = Some 1
+shown_wrong_request (Some k) name body = wrong_request_part k name body
+
+abbrev pub wrong_request_at : Frame → Option ℕ
+wrong_request_at f = shown_wrong_request (request_kind_of f.kind) (length f.tenant) f.body
+
+-- A good frame of a request has no wrong part.
+abbrev pub IsGoodRequest : Frame → Type 0
+IsGoodRequest f = Fits f × (wrong_request_at f ≡ None)
+
+-- The bytes are the beginning of a frame, good or bad, and `missing` is the rest of it. No wrong
+-- part shows yet.
+pub record BeginsRequest (f : Frame) (bytes missing : List ℕ) : Type 0 where
+  pub fits : Fits f
+  pub parts : frame_text f ≡ bytes ++ missing
+  pub not_yet : IfSome (wrong_request_at f) (λ shown. length bytes < shown)
+
+-- The beginning of a frame of which something is missing. It is cut off if it has a byte.
+pub record IsUnfinishedRequest (bytes : List ℕ) : Type 0 where
+  pub frame : Frame
+  pub missing : List ℕ
+  pub begins : BeginsRequest frame bytes missing
+  pub lacks : missing ≢ []
+
+abbrev pub IsCutOffRequest : List ℕ → Type 0
+IsCutOffRequest bytes = IsUnfinishedRequest bytes × (bytes ≢ [])
+
+-- A bad frame, up to the byte that shows that it is bad.
+pub record IsBadRequest (bytes : List ℕ) : Type 0 where
+  pub frame : Frame
+  pub missing : List ℕ
+  pub fits : Fits frame
+  pub parts : frame_text frame ≡ bytes ++ missing
+  pub shows : wrong_request_at frame ≡ Some (length bytes)
+
+abbrev pub request_framed : RequestKind → List ℕ → List ℕ → Frame
+request_framed k name body = record { kind = request_number k; tenant = name; body = body }
+
+-- The body of a Save.
+abbrev pub save_body : SavedAs → List ℕ
+save_body saved.LastCheckpoint = []
+save_body saved.Opened = 1 ∷ []
+
+-- A request as a frame. A step has the frame that it has in `Frames`.
+abbrev pub request_frame : Request → Frame
+request_frame (request.Step s) = frame_of s
+request_frame (request.Save which) = request_framed of.Save [] (save_body which)
+request_frame (request.Abandon tenant) = request_framed of.Abandon tenant.now []
+request_frame (request.Remove tenant) = request_framed of.Remove tenant.now []
+request_frame (request.Compact tenant) = request_framed of.Compact tenant.now []
+request_frame (request.Copy from to) = request_framed of.Copy from.now to.now
+request_frame request.Sizes = request_framed of.Sizes [] []
+
+abbrev pub request_text : Request → List ℕ
+request_text r = frame_text (request_frame r)

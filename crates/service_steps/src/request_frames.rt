@@ -1,0 +1,119 @@
+//! Requests, read from a reader frame by frame.
+//!
+//! Nothing is read ahead, as by `Frames`.
+
+ghost use Rattle.std.specs.Prelude.{◌≡◌, ◌≤◌, length, true};
+ghost use Rattle.byte_devices.specs.Device.{device_of, seen};
+ghost use Rattle.service_steps.specs.Requests.{is_body, name_limit, request_framed, request_frame, request_limit, is_save_body, save_body};
+ghost use Rattle.service_steps.specs.RequestReading.{ReadsRequest, ReadsRequestKind};
+
+use crate::frame_fault::FrameFault;
+use crate::frames::step_of;
+use crate::request::{Request, SavedAs};
+use crate::request_kind::RequestKind;
+use crate::sized::{read_after_u16, read_after_u32};
+use byte_devices::{Counted, FillFault, fill};
+use std::alloc::Global;
+use std::io::Read;
+
+// The kind of the next frame; `None` if the input ends before it.
+fn read_kind<R: Read>(reader: &mut Counted<R>) -> Result<Option<RequestKind>, FrameFault>
+    ensures { ReadsRequestKind (seen (R.remaining (device_of reader.old)) reader.old) result
+        (seen (R.remaining (device_of reader.new)) reader.new) }
+{
+    let mut byte = [0];
+    match fill(reader, &mut byte) {
+        Ok(()) => match RequestKind::of(byte[0]) {
+            Some(kind) => Ok(Some(kind)),
+            None => Err(FrameFault::BadFrame),
+        },
+        Err(FillFault::Ended) => Ok(None),
+        Err(FillFault::Failed) => Err(FrameFault::Device),
+    }
+}
+
+/// Reads frames of requests, and reuses the memory of one frame for the next.
+#[derive(Drop)]
+pub struct RequestFrames {
+    name: Vec<u8>,
+    body: Vec<u8>,
+}
+
+impl RequestFrames {
+    /// Has read no frame yet. Takes no memory; `next` allocates from `alloc`.
+    pub fn new(alloc: Global) -> RequestFrames {
+        RequestFrames {
+            name: Vec::new(alloc),
+            body: Vec::new(alloc),
+        }
+    }
+
+    /// Reads the next frame and lends its request. `None` if the input ends before a frame.
+    ///
+    /// - `BadFrame` (50) as soon as a wrong part has been read: an unknown kind, a name in a
+    ///   Restart, a Save or a Sizes, a body in a kind that has none, a body of more than 16,777,216
+    ///   bytes, or a body of a Save that is neither empty nor the byte 01.
+    /// - `CutOff` (51) if the input ends inside a frame.
+    /// - `Device` (68) if a call of the reader failed.
+    /// - `Memory` (90) if there is no memory for a name or a body.
+    ///
+    /// After an error no further frame can be read.
+    pub fn next<R: Read>(
+        &mut self,
+        reader: &mut Counted<R>,
+    ) -> Result<Option<Request<'_>>, FrameFault>
+        ensures { ReadsRequest (seen (R.remaining (device_of reader.old)) reader.old) result
+            (seen (R.remaining (device_of reader.new)) reader.new) }
+    {
+        let kind = match read_kind(reader) {
+            Ok(Some(kind)) => kind,
+            Ok(None) => return Ok(None),
+            Err(fault) => return Err(fault),
+        };
+        match read_after_u16(reader, kind.name_limit(), &mut self.name) {
+            Ok(()) => {}
+            Err(fault) => return Err(fault),
+        }
+        match read_after_u32(reader, kind.body_limit(), &mut self.body) {
+            Ok(()) => {}
+            Err(fault) => return Err(fault),
+        }
+        if !kind.is_body(&self.body) {
+            return Err(FrameFault::BadFrame);
+        }
+        Ok(Some(request_of(kind, &self.name, &self.body)))
+    }
+}
+
+// What is saved of a tenant with a stream, by the body of a Save.
+fn saved_as(body: &[u8]) -> SavedAs
+    requires short { length body.now ≤ 1 }
+    requires good { is_save_body body.now ≡ true }
+    ensures { save_body result ≡ body.now }
+{
+    match body {
+        [] => SavedAs::LastCheckpoint,
+        _ => SavedAs::Opened,
+    }
+}
+
+// The request of a frame.
+fn request_of<'a>(kind: RequestKind, name: &'a [u8], body: &'a [u8]) -> Request<'a>
+    requires name { length name.now ≤ name_limit kind }
+    requires body { length body.now ≤ request_limit kind }
+    requires good { is_body kind body.now ≡ true }
+    ensures { request_frame result ≡ request_framed kind name.now body.now }
+{
+    match kind {
+        RequestKind::Step(kind) => Request::Step(step_of(kind, name, body)),
+        RequestKind::Save => Request::Save(saved_as(body)),
+        RequestKind::Abandon => Request::Abandon { tenant: name },
+        RequestKind::Remove => Request::Remove { tenant: name },
+        RequestKind::Compact => Request::Compact { tenant: name },
+        RequestKind::Copy => Request::Copy {
+            from: name,
+            to: body,
+        },
+        RequestKind::Sizes => Request::Sizes,
+    }
+}

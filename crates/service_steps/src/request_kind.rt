@@ -1,0 +1,87 @@
+//! The kinds of the frames of requests, and what their parts may be.
+
+ghost use Rattle.std.specs.Prelude.{◌≡◌};
+ghost use Rattle.service_steps.specs.Requests.{request_kind_of, name_limit, request_limit, is_body};
+
+use crate::kind::{BODY_LIMIT, Kind};
+
+/// The kind of the frame of a request.
+#[derive(Clone, Copy, Debug, PartialEq, Eq)]
+pub enum RequestKind {
+    /// A step of this kind.
+    Step(Kind),
+    /// Save the pool file.
+    Save,
+    /// Give up a stream.
+    Abandon,
+    /// Remove a tenant.
+    Remove,
+    /// Compact a tenant.
+    Compact,
+    /// Copy a tenant.
+    Copy,
+    /// Say what each tenant has.
+    Sizes,
+}
+
+// The one byte of a Save's body, if it has one.
+const OPENED: u8 = 1;
+
+impl RequestKind {
+    /// The kind with this number; `None` for an unknown kind.
+    pub fn of(byte: u8) -> Option<RequestKind>
+        ensures { result ≡ request_kind_of byte }
+    {
+        match byte {
+            1 => Some(RequestKind::Step(Kind::Open)),
+            2 => Some(RequestKind::Step(Kind::Feed)),
+            3 => Some(RequestKind::Step(Kind::End)),
+            4 => Some(RequestKind::Step(Kind::Ask)),
+            5 => Some(RequestKind::Step(Kind::Restart)),
+            16 => Some(RequestKind::Save),
+            17 => Some(RequestKind::Abandon),
+            18 => Some(RequestKind::Remove),
+            19 => Some(RequestKind::Compact),
+            20 => Some(RequestKind::Copy),
+            21 => Some(RequestKind::Sizes),
+            _ => None,
+        }
+    }
+
+    /// The greatest length of the name in bytes. A Restart, a Save and a Sizes name no tenant.
+    pub fn name_limit(self) -> usize
+        ensures { result ≡ name_limit self }
+    {
+        match self {
+            RequestKind::Step(kind) => kind.tenant_limit(),
+            RequestKind::Save => 0,
+            RequestKind::Sizes => 0,
+            _ => u16::MAX as usize,
+        }
+    }
+
+    /// The greatest length of the body in bytes. Only a Feed, an Ask, a Copy and a Save have a
+    /// body.
+    pub fn body_limit(self) -> usize
+        ensures { result ≡ request_limit self }
+    {
+        match self {
+            RequestKind::Step(kind) => kind.body_limit(),
+            RequestKind::Save => 1,
+            RequestKind::Copy => BODY_LIMIT as usize,
+            _ => 0,
+        }
+    }
+
+    /// Whether a body of this kind may be these bytes, if it may be as long. The body of a Save is
+    /// empty or the byte 01.
+    pub fn is_body(self, body: &[u8]) -> bool
+        ensures { result ≡ is_body self body.now }
+    {
+        match (self, body) {
+            (RequestKind::Save, []) => true,
+            (RequestKind::Save, [byte, ..]) => *byte == OPENED,
+            _ => true,
+        }
+    }
+}
