@@ -155,7 +155,7 @@ EXPLANATIONS: Dict[int, Explanation] = {
         "choose a name of this form",
     ),
     33: Explanation(
-        "the target of a copy has an object, a ref, or another HEAD than `refs/heads/main`",
+        "the target of a copy, or a tenant that a merge brings, has an object, a ref, or another HEAD than `refs/heads/main`",
         "something was imported into it before",
         "copy to a new name",
     ),

@@ -189,18 +189,20 @@ class Request(NamedTuple):
 
 
 def import_stream(source: Source, request: Request) -> Imported:
-    """Imports a stream, and saves. After a fault, or where a ref was kept, nothing is saved unless the request keeps a part. Raises
-    Refused, Fault where the tenant's name is bad, OutOfMemory, ServiceError, and what the calls of the request raise."""
+    """Imports a stream, and saves. After a fault, or where a ref was kept, nothing is saved unless the request keeps a part, or a server
+    keeps the pool file: there what a checkpoint or the end saved lasts. Raises Refused, Fault where the tenant's name is bad, OutOfMemory,
+    ServiceError, and what the calls of the request raise."""
     with request.start(True) as service:
+        keeps_part = request.keeps_part or service.is_served
         service.open(request.tenant)
         run = Run(service, request.tenant, request.told, request.shown, request.prepare(service))
         try:
             run.feed_all(source)
         except (Fault, CannotRewrite) as reason:
-            refused = run.refused(lambda: request.start(False), source, reason, request.keeps_part)
-            _give_up(service, request.keeps_part)
+            refused = run.refused(lambda: request.start(False), source, reason, keeps_part)
+            _give_up(service, keeps_part)
             raise refused from None
-        is_taken = request.keeps_part or not run.kept
+        is_taken = keeps_part or not run.kept
         head = set_head(service, request.tenant) if is_taken else None
         if is_taken:
             request.before_save()

@@ -85,7 +85,8 @@ class Many:
         self._shows = shows
 
     def run(self, entries: List[Entry], *, saves: bool) -> List[Outcome]:
-        """Imports all entries, and saves those that went well. Raises ServiceError where the program ends early, or cannot save."""
+        """Imports all entries, and saves those that went well; where a server keeps the pool file, also what the checkpoints of the others
+        left. Raises ServiceError where the program ends early, or cannot save."""
         outcomes: Dict[Entry, Outcome] = {}
         while True:
             with self._start(saves) as service:
@@ -94,7 +95,7 @@ class Many:
                     if entry not in outcomes or not outcomes[entry].failure:
                         outcomes[entry] = self._import(service, entry)
                 failed = [it for it in outcomes.values() if it.failure and it not in before]
-                is_whole = all(it.is_undone for it in failed) or not saves
+                is_whole = all(it.is_undone for it in failed) or not saves or service.is_served
                 if not is_whole or all(it.failure for it in outcomes.values()):
                     service.kill()
             if is_whole:

@@ -286,7 +286,7 @@ def a_pool_that_cannot_be_saved(room: Room) -> None:
     room.commit(site, "New", {"new": "new\n"})
     old = room.pool_bytes()
     os.mkdir(room.pool + ".new")
-    room.fails(site, "push", "pool", "main", says="[remote rejected]")
+    room.fails(site, "push", "pool", "main", says="another run had it in hand")
     os.rmdir(room.pool + ".new")
     assert room.pool_bytes() == old
     room.git(site, "push", "-q", "pool", "main")

@@ -64,7 +64,7 @@ def over_ssh_only_one_tenant(room: Room) -> None:
 def over_ssh_errors_arrive(room: Room) -> None:
     site = room.pushed()
     ssh = forced(room, "--pool", room.path("no", "pool"), "acme/site")
-    room.fails("", "clone", "gitpool::ssh://host", "x", says="there is no pool file", GIT_SSH_COMMAND=ssh)
+    room.fails("", "clone", "gitpool::ssh://host", "x", says="there is no pool here", GIT_SSH_COMMAND=ssh)
     room.fails(site, "push", "gitpool::ssh://host", "main", says="folder of the pool file is not there", GIT_SSH_COMMAND=ssh)
     room.fails("", "clone", "gitpool::ssh://host", "x", says="status 255", GIT_SSH_COMMAND="exit 255; true")
     ssh = forced(room, "--pool", room.pool, "acme/site")

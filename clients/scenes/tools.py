@@ -1,6 +1,7 @@
 """Scenes of gitpool-export, gitpool-import and gitpool-tenants."""
 from __future__ import annotations
 
+import re
 import sys
 import time
 
@@ -172,20 +173,21 @@ def tenants_of_a_pool(room: Room) -> None:
     room.pushed()
     room.client("gitpool-import", "-", "zoo", "--pool", room.pool,
                 data=b"option gitpool head refs/heads/x\nblob\ndata 6\nHello\n\nblob\ndata 1\nx")
+    before = room.pool_bytes()
     out = text(room.client("gitpool-tenants", room.pool).stdout).splitlines()
-    checked = room.run([room.program, "check", "--pool", room.pool]).stdout.split()
-    assert out == ["acme/site objects 9 refs 3 head refs/heads/main", "zoo objects 2 refs 0 head refs/heads/x",
-                   f"tenants 2 objects {int(checked[1])} bytes {int(checked[3])} version 2"], out
+    sizes = [int(word) for word in re.findall("bytes ([0-9]+) own", out[0])]
+    assert out == [f"acme/site objects 9 bytes {sizes[0]} own {sizes[0] - 6} refs 3 head refs/heads/main",
+                   "zoo objects 2 bytes 7 own 1 refs 0 head refs/heads/x", "tenants 2"], out
     whole = room.pool_bytes()
-    for data, says in ((whole[:-1], "cut off"), (whole + b"x", "bytes stand after"), (b"x" + whole, "no pool file"),
-                       (whole[:8] + b"\0\0\0\7" + whole[12:], "version 7"), (whole[:40] + b"?" + whole[41:], ""),
-                       (whole[:12] + b"\xff" * 8 + whole[20:], "cut off"), (b"", "cut off")):
+    assert whole == before
+    for data, says in ((whole[:-1], "cut off"), (whole + b"x", "bytes follow"), (b"x" + whole, "no pool file"),
+                       (whole[:8] + b"\0\0\0\7" + whole[12:], "version"), (whole[:40] + b"?" + whole[41:], ""), (b"", "cut off")):
         with open(room.path("other.pool"), "wb") as file:
             file.write(data)
         done = room.client("gitpool-tenants", room.path("other.pool"), status=3)
-        assert says in text(done.stderr) and not done.stdout, done
         program = room.run([room.program, "check", "--pool", room.path("other.pool")])
-        assert text(program.stderr).split()[-1] in text(done.stderr), (program.stderr, done.stderr)
+        number = text(program.stderr).split()[-1]
+        assert says in text(done.stderr) and f"fault {number}" in text(done.stderr) and not done.stdout, (done, program.stderr)
     room.client("gitpool-tenants", room.path("none"), status=4)
     room.client("gitpool-tenants", status=2)
 

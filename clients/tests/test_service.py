@@ -144,6 +144,43 @@ class OverAPool(unittest.TestCase):
                 service.head("t")
         self.assertEqual((caught.exception.status, str(caught.exception)), (9, "went wrong"))
 
+    def test_requests_of_the_operator(self) -> None:
+        with Service(self.pool) as service:
+            service.import_stream("a", [BLOB, COMMIT])
+            service.copy("a", "b")
+            service.compact("a")
+            self.assertEqual([(it.tenant, it.objects, it.own, it.refs) for it in service.sizes()], [(b"a", 4, 0, 1), (b"b", 4, 0, 1)])
+            service.remove("a")
+            service.open("b")
+            service.feed("b", b"reset refs/heads/new\nfrom refs/heads/main^0\n\ncheckpoint\n")
+            calls: List[Tuple[int, Callable[[], object]]] = [
+                (31, lambda: service.remove("b")), (31, lambda: service.compact("b")), (31, lambda: service.copy("a", "b")),
+                (30, lambda: service.abandon("a")), (32, lambda: service.remove("a//b")), (32, lambda: service.compact("")),
+            ]
+            for number, call in calls:
+                with self.assertRaises(Fault) as caught:
+                    call()
+                self.assertEqual(caught.exception.number, number)
+            for as_opened, refs in ((True, 1), (False, 2)):
+                service.save(as_opened)
+                with Service(self.pool, read_only=True) as saved:
+                    self.assertEqual((len(saved.refs("a")), len(saved.refs("b"))), (0, refs))
+            service.abandon("b")
+            with self.assertRaises(Fault) as caught:
+                service.copy("b", "b")
+            self.assertEqual(caught.exception.number, 33)
+        with Service(self.pool) as service:
+            self.assertEqual([it.tenant for it in service.sizes()], [b"b"])
+
+    def test_the_pool_of_a_stopped_server(self) -> None:
+        os.mkdir(os.path.join(self.folder, "journal"))
+        pool = os.path.join(self.folder, "pool")
+        with self.assertRaises(ServiceError) as caught:
+            Service(pool)
+        self.assertIn("belongs to a server", str(caught.exception))
+        with Service(pool, read_only=True) as service:
+            self.assertEqual(service.refs("t"), [])
+
     def test_a_closed_service(self) -> None:
         service = Service(self.pool)
         service.close()

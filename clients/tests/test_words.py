@@ -1,5 +1,4 @@
-"""Faults in words, progress, addresses, pool files, and changes between trees."""
-import hashlib
+"""Faults in words, progress, addresses, and changes between trees."""
 import io
 import os
 import re
@@ -7,7 +6,6 @@ import unittest
 
 from gitpool_faults import EXPLANATIONS, explain, sentences
 from gitpool_git import Repository
-from gitpool_pools import PoolFault, read_pool
 from gitpool_push import changes_of, commit_command, reset_command, tag_command
 from gitpool_objects import Commit, Tag
 from gitpool_remote import Address, UsageError, read_address, ssh_words
@@ -65,38 +63,6 @@ class Addresses(unittest.TestCase):
             os.environ.pop("GIT_SSH_COMMAND")
             if kept is not None:
                 os.environ["GIT_SSH_COMMAND"] = kept
-
-
-class PoolFiles(unittest.TestCase):
-    @staticmethod
-    def file(version: int) -> bytes:
-        """The file of a tenant `t` with the blob `ab` and, in version 2, a HEAD."""
-        def number(it: int) -> bytes:
-            return it.to_bytes(8, "big")
-
-        text = b"gitpool\n" + version.to_bytes(4, "big") + number(1) + b"\3" + number(2) + b"ab" + number(1)
-        text += b"\0\1t" + number(1) + number(0) + number(0) + (b"\0\x0frefs/heads/main" if version == 2 else b"")
-        return text + hashlib.sha1(text).digest()
-
-    def test_both_versions(self) -> None:
-        for version in (1, 2):
-            pool = read_pool(io.BytesIO(self.file(version)))
-            self.assertEqual((pool.version, pool.objects, pool.bytes), (version, 1, 2))
-            self.assertEqual([tuple(it) for it in pool.tenants], [(b"t", 1, 0, b"refs/heads/main")])
-
-    def refused(self, data: bytes) -> int:
-        with self.assertRaises(PoolFault) as caught:
-            read_pool(io.BytesIO(data))
-        return caught.exception.number
-
-    def test_damaged_files(self) -> None:
-        whole = self.file(2)
-        self.assertEqual({self.refused(whole[:size]) for size in range(len(whole))}, {62})
-        self.assertEqual(self.refused(whole + b"\0"), 69)
-        self.assertEqual(self.refused(self.file(3)), 61)
-        self.assertEqual({self.refused(whole[:at] + b"?" + whole[at + 1 :]) for at in range(8)}, {60})
-        for at in range(12, len(whole)):
-            self.assertIn(self.refused(whole[:at] + bytes((whole[at] ^ 1,)) + whole[at + 1 :]), (62, 63, 69))
 
 
 class Commands(unittest.TestCase):
