@@ -19,6 +19,7 @@ import (
 	"gitpoold/limits"
 	"gitpoold/lists"
 	"gitpoold/logs"
+	"gitpoold/markdown"
 	"gitpoold/metrics"
 	"gitpoold/operator"
 	"gitpoold/site"
@@ -87,13 +88,12 @@ func open(l line) (*server, error) {
 		return nil, err
 	}
 	values := bounds.Get()
-	pool, err := store.Open(store.Config{Folder: folder, Program: found, ChildMemory: values.ChildMemory, Patience: values.SavePatience,
-		Tell: log.Printf})
+	pool, err := store.Open(store.Config{Folder: folder, Program: found, ChildMemory: values.ChildMemory, Tell: log.Printf})
 	if err != nil {
 		return nil, err
 	}
 	s := &site.Site{Pool: tenants.New(pool, bounds.Quota), Access: who, Limits: bounds, Log: log, Metrics: m, Version: version,
-		Work: filepath.Join(folder, "work")}
+		Work: filepath.Join(folder, "work"), Markdown: markdown.HTML}
 	door := operator.New(s, pool)
 	door.Measure()
 	return &server{l, pool, s, door}, nil
@@ -192,6 +192,7 @@ func (s *server) ssh() (*way, error) {
 	if err != nil {
 		return nil, err
 	}
+	s.site.SSHPort = listener.Addr().(*net.TCPAddr).Port
 	return &way{"ssh", s.site.Limits.ListenIdle(listener),
 		func(ctx context.Context, listener net.Listener) error { return sshd.Serve(ctx, listener, s.site, key) }}, nil
 }

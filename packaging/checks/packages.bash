@@ -44,16 +44,21 @@ versions_of_packages_sort() {
 }
 
 packages_have_the_same_bytes() {
-  local words=(--program "$program" --no-static)
-  [ -z "$static" ] || words[2]=--static words[3]=$static
+  local words=(--program "$program" --no-static) count=2
+  [ -z "$static" ] || words[2]=--static words[3]=$static count=3
+  ! has_server || count=$((count + 1))
+  export GOCACHE=$room/gocache
   (umask 077; cd "$room/one"; HOME=/ TZ=Asia/Tokyo LC_ALL=C ./package "${words[@]}" "$room/out one")
   mkdir -m 2777 "$room/tmp/of a group"
   cd "$room/two/of a longer name"
   (umask 000; TMPDIR="$room/tmp/of a group" TZ=America/Lima LANG=de_DE checkout/package "${words[@]}" "$room/out two")
   diff -r "$room/out one" "$room/out two"
   (cd "$room/out one" && sha256sum -c --quiet SHA256SUMS)
-  same "$(find "$room/out one" -name '*.deb' | wc -l)" "$(if [ "$static" ]; then echo 3; else echo 2; fi)"
+  same "$(find "$room/out one" -name '*.deb' | wc -l)" $count
 }
+
+# Whether there is what the server is built with.
+has_server() { (. "$top/server/build" && has_go) 2> /dev/null; }
 
 tar_ball_runs() {
   mkdir "$room/un packed"
@@ -104,6 +109,19 @@ units_name_files_of_the_packages() {
     [ -e "$room/root$it" ] || { echo "no $it"; return 1; }
   done < "$room/named"
   ! grep -rl /opt/gitpool usr/lib/systemd
+}
+
+# The package of the server, beside that of the program.
+server_package_serves() {
+  dpkg-deb -x "$(deb gitpool-server)" "$room/root"
+  same "$("$room/root/usr/bin/gitpoold" --version)" "gitpoold $version"
+  PATH=$plain_path "$room/root/usr/bin/gitpoold" init "$room/served" > /dev/null
+  echo "correct horse" | "$room/root/usr/bin/gitpoold" user "$room/served" alice
+  [ -f "$room/served/pool" ] && [ -f "$room/served/host_key" ]
+  gzip -t "$room/root/usr/share/man/man1/gitpoold.1.gz"
+  grep -hoE '(=|file:)/usr/[^ ]*' "$room/root/usr/lib/systemd/system/gitpoold@.service" | sed 's/^[^/]*//' | while read -r it; do
+    [ -e "$room/root$it" ] || { echo "no $it"; return 1; }
+  done
 }
 
 # Without Redis: durable-serve, which finds the program by GITPOOL, on the PATH, and beside itself.

@@ -1,4 +1,4 @@
-// Package child runs one `gitpool serve` and passes the steps of many askers over it.
+// Package child runs one `gitpool host` and passes the steps of many askers over it.
 //
 // The steps of all askers go to the child in one order, and many are on their way at once. Each asker sends a batch of steps, and
 // gets its answers together, in the order of its steps. Answers are taken from the child into memory at once, so an asker that
@@ -68,7 +68,7 @@ type Batch struct {
 	err     error
 }
 
-// Start runs the program with these words, `program serve --pool FILE`. What it prints on standard error goes to `said`.
+// Start runs the program with these words, `program host --pool FILE`. What it prints on standard error goes to `said`.
 func Start(words []string, said io.Writer) (*Process, error) {
 	childIn, in, err := os.Pipe()
 	if err != nil {

@@ -144,9 +144,12 @@ func TestAnAskerMayLeave(t *testing.T) {
 	if p.Stalled() < 20*time.Millisecond {
 		t.Fatal(p.Stalled())
 	}
+	// (a context that has ended may lose against a sender that is ready: so the program is sent more than a pipe holds)
+	soon, leaveSoon := context.WithTimeout(background, 100*time.Millisecond)
+	defer leaveSoon()
 	large := frames.Step{Kind: frames.Ask, Tenant: "a", Body: make([]byte, 8<<20)}
-	for i := 0; i < 4; i++ {
-		_, err = p.Send(ctx, Short, large)
+	for i := 0; i < 64 && !errors.Is(err, context.DeadlineExceeded); i++ {
+		_, err = p.Send(soon, Short, large)
 	}
 	if !errors.Is(err, context.DeadlineExceeded) {
 		t.Fatal("a child that stopped takes more and more:", err)

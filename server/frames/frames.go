@@ -1,4 +1,5 @@
-// Package frames writes and reads the steps and answers of a service as bytes: docs/FORMATS.md, "Frames".
+// Package frames writes and reads the steps and answers of a service, and the requests of its operator, as bytes: docs/FORMATS.md,
+// "Frames".
 package frames
 
 import (
@@ -11,7 +12,7 @@ import (
 // Kind is the kind of a step.
 type Kind byte
 
-// The kinds of steps that `gitpool serve` answers.
+// The kinds of steps.
 const (
 	Open    Kind = 1
 	Feed    Kind = 2
@@ -19,6 +20,19 @@ const (
 	Ask     Kind = 4
 	Restart Kind = 5
 )
+
+// The kinds of the operator's requests, which `gitpool host` answers.
+const (
+	Save    Kind = 16
+	Abandon Kind = 17
+	Remove  Kind = 18
+	Compact Kind = 19
+	Copy    Kind = 20
+	Sizes   Kind = 21
+)
+
+// AsOpened is the body of a Save that writes what each tenant with a stream had when that stream was opened.
+var AsOpened = []byte{1}
 
 // LongestBody is the most bytes that the body of a step may have.
 const LongestBody = 16777216
@@ -33,7 +47,8 @@ var (
 	ErrCut = errors.New("the input ends inside a frame (fault 51)")
 )
 
-// Step is one step of a tenant. Only a Feed and an Ask have a body; a Restart has no tenant.
+// Step is one step of a tenant, or a request of the operator. A Feed has a piece as its body, an Ask a query, a Copy the name of the
+// other tenant, and a Save nothing or AsOpened; the others have none. A Restart, a Save and a Sizes have no tenant.
 type Step struct {
 	Kind   Kind
 	Tenant string
@@ -66,11 +81,15 @@ func Parse(frame []byte) (step Step, whole bool) {
 // longest gives the most bytes of a name and of a body that a step of this kind may have.
 func longest(kind Kind) (name, body uint32, known bool) {
 	switch kind {
-	case Open, End:
+	case Open, End, Abandon, Remove, Compact:
 		return 65535, 0, true
 	case Feed, Ask:
 		return 65535, LongestBody, true
-	case Restart:
+	case Copy:
+		return 65535, 65535, true
+	case Save:
+		return 0, 1, true
+	case Restart, Sizes:
 		return 0, 0, true
 	}
 	return 0, 0, false

@@ -1,4 +1,4 @@
-// Package httpd serves Git's smart protocol over http: gitprotocol-http(5).
+// Package httpd serves Git's smart protocol over http: gitprotocol-http(5); and pages for browsers.
 package httpd
 
 import (
@@ -12,6 +12,7 @@ import (
 	"time"
 
 	"gitpoold/logs"
+	"gitpoold/pages"
 	"gitpoold/services"
 	"gitpoold/site"
 	"gitpoold/tenants"
@@ -85,8 +86,17 @@ func (s *server) ServeHTTP(w http.ResponseWriter, r *http.Request) {
 	case r.URL.Path == "/healthz":
 		_, _ = io.WriteString(e.w, "ok\n")
 	default:
-		e.service()
+		e.route()
 	}
+}
+
+// route finds out whether a browser or git asks. What has the separator of pages in its path is none of git's.
+func (e *exchange) route() {
+	if place, isPage := pages.Parse(e.r.URL.Path); isPage {
+		e.page(place)
+		return
+	}
+	e.service()
 }
 
 // isOwn tells whether a request comes from this machine, and not through a front.
@@ -111,7 +121,7 @@ func (e *exchange) service() {
 		return
 	}
 	if found == nil {
-		e.fail(http.StatusNotFound, site.ErrNotFound.Error())
+		e.notFound()
 		return
 	}
 	e.record.Tenant = found[1]
@@ -156,12 +166,11 @@ func (e *exchange) with(method string, answer func(*exchange, context.Context, t
 
 // open finds the tenant, if the user has the right to it. Else it has answered.
 func (e *exchange) open() (t tenants.Tenant, ok bool) {
-	user, password, hasUser := e.r.BasicAuth()
-	if hasUser && user != "" && !e.Access.Password(e.r.Context(), user, password, e.record.Address) {
+	user, isRight := e.login()
+	if !isRight {
 		e.askPassword("the user or the password is wrong")
 		return t, false
 	}
-	e.record.User = user
 	t, err := e.Open(user, e.record.Tenant, services.Right(e.name))
 	switch {
 	case err == nil:
@@ -176,7 +185,20 @@ func (e *exchange) open() (t tenants.Tenant, ok bool) {
 	return t, false
 }
 
+// login tells who the user is, "" for a visitor without a password, and whether the password is right.
+func (e *exchange) login() (user string, isRight bool) {
+	user, password, hasUser := e.r.BasicAuth()
+	if hasUser && user != "" && !e.Access.Password(e.r.Context(), user, password, e.record.Address) {
+		return user, false
+	}
+	e.record.User = user
+	return user, true
+}
+
+// challenge asks for a password.
+const challenge = `Basic realm="gitpool", charset="UTF-8"`
+
 func (e *exchange) askPassword(why string) {
-	e.w.Header().Set("WWW-Authenticate", `Basic realm="gitpool", charset="UTF-8"`)
+	e.w.Header().Set("WWW-Authenticate", challenge)
 	e.fail(http.StatusUnauthorized, why)
 }

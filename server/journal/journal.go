@@ -4,6 +4,9 @@
 // digest of the pool file to which they are to be added. So whichever came last at a crash, the new pool file or the new segment,
 // the start finds the segment from which on to carry steps out: the last one that names the digest of the pool file.
 //
+// A save waits for no stream. The pool file has what the tenant of an open stream had at that stream's Open, and the first record of the
+// next segment names the record of that Open. So the stream's steps from there on are kept and carried out as well.
+//
 // The journal is the truth, and the child a copy that is in memory: whatever the journal has is carried out at the next start.
 package journal
 
@@ -38,10 +41,8 @@ type Journal struct {
 	mutex    sync.Mutex
 	changed  *sync.Cond
 	file     *os.File
-	first    uint64
-	last     uint64
-	pools    map[uint64]Digest
-	older    int64
+	segments []segment
+	base     int
 	appended mark
 	synced   mark
 	syncing  bool
@@ -148,7 +149,11 @@ func (j *Journal) fail(err error) {
 func (j *Journal) Bytes() int64 {
 	j.mutex.Lock()
 	defer j.mutex.Unlock()
-	return j.older + j.appended.size
+	bytes := j.appended.size
+	for _, it := range j.segments[:len(j.segments)-1] {
+		bytes += it.size
+	}
+	return bytes
 }
 
 // Number is the number of the last record.
@@ -162,8 +167,11 @@ func (j *Journal) Number() uint64 {
 func (j *Journal) Segments() (first, last uint64) {
 	j.mutex.Lock()
 	defer j.mutex.Unlock()
-	return j.first, j.last
+	return j.segments[0].number, j.current().number
 }
+
+// current is the segment that takes records.
+func (j *Journal) current() *segment { return &j.segments[len(j.segments)-1] }
 
 // IsBroken tells whether the journal takes records.
 func (j *Journal) IsBroken() bool {
@@ -176,50 +184,7 @@ func (j *Journal) IsBroken() bool {
 func (j *Journal) HasSteps() bool {
 	j.mutex.Lock()
 	defer j.mutex.Unlock()
-	return j.first != j.last || j.appended.size > emptySegment
-}
-
-// Begin begins a segment for the steps that come after a pool file, which may become the pool file now. It is on the disk when
-// Begin returns nil; else the journal goes on in the segment that it had.
-func (j *Journal) Begin(pool Digest) error {
-	j.mutex.Lock()
-	defer j.mutex.Unlock()
-	if j.broken == nil {
-		if err := j.file.Sync(); err != nil {
-			j.fail(err)
-			return j.broken
-		}
-		j.synced = j.appended
-	}
-	file, end, err := create(j.folder, j.last+1, pool, j.synced)
-	if err != nil {
-		if _, left := os.Stat(path(j.folder, j.last+1)); !errors.Is(left, os.ErrNotExist) {
-			// Nothing may follow in this segment while another one stands behind it.
-			j.broken = ErrBroken
-		}
-		return err
-	}
-	j.file.Close()
-	j.older += j.synced.size
-	j.file, j.last, j.appended, j.synced, j.broken = file, j.last+1, end, end, nil
-	j.pools[j.last] = pool
-	return nil
-}
-
-// Drop removes all segments but the last, whose pool file is in its place and synced.
-func (j *Journal) Drop() error {
-	j.mutex.Lock()
-	defer j.mutex.Unlock()
-	for ; j.first < j.last; j.first++ {
-		faultpoint.Here("before a segment is removed")
-		if err := os.Remove(path(j.folder, j.first)); err != nil && !errors.Is(err, os.ErrNotExist) {
-			return err
-		}
-		delete(j.pools, j.first)
-	}
-	j.older = 0
-	faultpoint.Here("after all segments are removed")
-	return syncFolder(j.folder)
+	return j.base != len(j.segments)-1 || j.appended.size > j.current().start
 }
 
 // Close closes the journal.

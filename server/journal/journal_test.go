@@ -16,6 +16,9 @@ import (
 
 var pools = [...]Digest{{1}, {2}, {3}}
 
+// emptySegment is the size of a segment without steps that begins where no stream is open.
+const emptySegment = len(title) + headBytes + frameHead + savedBytes + chainBytes
+
 func quiet(string, ...any) {}
 
 func opened(t testing.TB, folder string, pool Digest) *Journal {
@@ -49,7 +52,7 @@ func filled(t testing.TB, j *Journal, from, to int) {
 
 func hasSteps(t testing.TB, j *Journal, from, to int) {
 	t.Helper()
-	hasStepsAfter(t, j, j.pools[j.first], from, to)
+	hasStepsAfter(t, j, j.segments[0].pool, from, to)
 }
 
 func hasStepsAfter(t testing.TB, j *Journal, pool Digest, from, to int) {
@@ -84,7 +87,7 @@ func TestASaveMayStopAnywhere(t *testing.T) {
 	folder := t.TempDir()
 	j := opened(t, folder, pools[0])
 	filled(t, j, 0, 10)
-	if err := j.Begin(pools[1]); err != nil {
+	if err := j.Begin(pools[1], nil); err != nil {
 		t.Fatal(err)
 	}
 	filled(t, j, 10, 15)
@@ -96,13 +99,70 @@ func TestASaveMayStopAnywhere(t *testing.T) {
 	if _, err := os.Stat(path(folder, 1)); !os.IsNotExist(err) {
 		t.Fatal("the first segment is there still")
 	}
-	if err := j.Begin(pools[2]); err != nil {
+	if err := j.Begin(pools[2], nil); err != nil {
 		t.Fatal(err)
 	}
 	if err := j.Drop(); err != nil {
 		t.Fatal(err)
 	}
 	hasSteps(t, opened(t, folder, pools[2]), 15, 15)
+}
+
+// TestOpenStreamsAreKept has two streams that are open at saves: their steps are kept from their Opens on, and those of others are not.
+func TestOpenStreamsAreKept(t *testing.T) {
+	folder := t.TempDir()
+	j := opened(t, folder, pools[0])
+	add := func(kind frames.Kind, tenant, body string) uint64 {
+		number, err := j.Append(frames.Step{Kind: kind, Tenant: tenant, Body: []byte(body)})
+		if err != nil {
+			t.Fatal(err)
+		}
+		return number
+	}
+	save := func(pool Digest, open ...uint64) {
+		for _, err := range []error{j.Begin(pool, open), j.Drop()} {
+			if err != nil {
+				t.Fatal(err)
+			}
+		}
+	}
+	add(frames.Open, "a", "")
+	add(frames.End, "a", "")
+	a := add(frames.Open, "a", "")
+	add(frames.Feed, "a", "1")
+	add(frames.Copy, "a", "c")
+	save(pools[1], a)
+	b := add(frames.Open, "b", "")
+	add(frames.Feed, "a", "2")
+	add(frames.Feed, "b", "3")
+	save(pools[2], a, b)
+	add(frames.Feed, "a", "4")
+	hasBodies(t, j, pools[2], "a:", "a:1", "b:", "a:2", "b:3", "a:4")
+	j = opened(t, folder, pools[2])
+	hasBodies(t, j, pools[2], "a:", "a:1", "b:", "a:2", "b:3", "a:4")
+	add(frames.End, "a", "")
+	save(pools[0], b)
+	hasBodies(t, j, pools[0], "b:", "b:3")
+	if first, last := j.Segments(); first != 2 || last != 4 || j.HasSteps() {
+		t.Fatal(first, last)
+	}
+	os.Remove(path(folder, 2))
+	var damaged *Damaged
+	if _, err := Open(folder, pools[0], quiet); !errors.As(err, &damaged) {
+		t.Fatal("a segment with an Open is missing:", err)
+	}
+}
+
+func hasBodies(t testing.TB, j *Journal, pool Digest, want ...string) {
+	t.Helper()
+	var got []string
+	err := j.Records(pool, func(r Record) error {
+		got = append(got, r.Step.Tenant+":"+string(r.Step.Body))
+		return nil
+	})
+	if err != nil || strings.Join(got, " ") != strings.Join(want, " ") {
+		t.Fatalf("%q, wanted %q: %v", got, want, err)
+	}
 }
 
 func TestAnotherPoolFileIsRefused(t *testing.T) {
@@ -119,11 +179,11 @@ func TestEachCutIsTorn(t *testing.T) {
 	folder := t.TempDir()
 	filled(t, opened(t, folder, pools[0]), 0, 6)
 	whole, _ := os.ReadFile(path(folder, 1))
-	ends := []int{int(emptySegment)}
+	ends := []int{emptySegment}
 	for i := 0; i < 6; i++ {
 		ends = append(ends, ends[i]+headBytes+step(i).Size()+chainBytes)
 	}
-	for at := int(emptySegment); at <= len(whole); at++ {
+	for at := emptySegment; at <= len(whole); at++ {
 		count := 0
 		for count < 6 && ends[count+1] <= at {
 			count++
@@ -157,7 +217,7 @@ func TestEachFlippedByteStopsTheStart(t *testing.T) {
 	folder := t.TempDir()
 	j := opened(t, folder, pools[0])
 	filled(t, j, 0, 5)
-	if err := j.Begin(pools[1]); err != nil {
+	if err := j.Begin(pools[1], nil); err != nil {
 		t.Fatal(err)
 	}
 	filled(t, j, 5, 9)
@@ -187,8 +247,8 @@ func TestHolesAndMissingSegmentsStopTheStart(t *testing.T) {
 	whole, _ := os.ReadFile(path(folder, 1))
 	hole := append([]byte(nil), whole...)
 	copy(hole[300:], make([]byte, 600))
-	cases := map[string][]byte{"a hole": hole, "a record is missing": append(append([]byte(nil), whole[:emptySegment]...),
-		whole[int(emptySegment)+headBytes+step(0).Size()+chainBytes:]...)}
+	cases := map[string][]byte{"a hole": hole, "a record is missing": append(append([]byte(nil), whole[:int64(emptySegment)]...),
+		whole[emptySegment+headBytes+step(0).Size()+chainBytes:]...)}
 	for name, text := range cases {
 		os.WriteFile(path(folder, 1), text, 0o600)
 		var damaged *Damaged
@@ -198,7 +258,7 @@ func TestHolesAndMissingSegmentsStopTheStart(t *testing.T) {
 	}
 	os.WriteFile(path(folder, 1), whole, 0o600)
 	for i := 0; i < 2; i++ {
-		if err := j.Begin(pools[0]); err != nil {
+		if err := j.Begin(pools[0], nil); err != nil {
 			t.Fatal(err)
 		}
 	}
@@ -214,9 +274,9 @@ func TestAnEarlierSegmentMayNotBeCut(t *testing.T) {
 	folder := t.TempDir()
 	j := opened(t, folder, pools[0])
 	filled(t, j, 0, 5)
-	j.Begin(pools[1])
+	j.Begin(pools[1], nil)
 	whole, _ := os.ReadFile(path(folder, 1))
-	for _, size := range []int{len(whole) - 1, len(whole) - headBytes - step(4).Size() - chainBytes, int(emptySegment)} {
+	for _, size := range []int{len(whole) - 1, len(whole) - headBytes - step(4).Size() - chainBytes, emptySegment} {
 		os.WriteFile(path(folder, 1), whole[:size], 0o600)
 		var damaged *Damaged
 		if _, err := Open(folder, pools[0], quiet); !errors.As(err, &damaged) {
@@ -270,7 +330,7 @@ func TestAFailedSyncTakesRecordsBack(t *testing.T) {
 	if _, err := j.Append(step(5)); err == nil || !j.IsBroken() {
 		t.Fatal("the journal went on")
 	}
-	if err := j.Begin(pools[1]); err != nil {
+	if err := j.Begin(pools[1], nil); err != nil {
 		t.Fatal(err)
 	}
 	if _, err := j.Append(step(5)); err != nil || j.IsBroken() {

@@ -11,12 +11,15 @@ import (
 	"gitpoold/frames"
 )
 
-// The kinds of records, beside Open, Feed and End.
+// The kinds of records, beside Open, Feed and End, and the operator's Remove, Compact and Copy.
 const (
-	// saved begins each segment: the digest of the pool file to which the segment's steps are to be added, and the chain before it.
-	saved frames.Kind = 16
-	// GivenUp ends a stream without its End: what it did since its last checkpoint is dropped.
-	GivenUp frames.Kind = 17
+	// saved begins each segment: the digest of the pool file to which the segment's steps are to be added, the chain before it, and the
+	// numbers of the Opens whose streams were open then.
+	saved = frames.Save
+	// GivenUp ends a stream without its End: what it did since its last checkpoint is dropped. Behind an End it takes that back.
+	GivenUp = frames.Abandon
+	// TakenBack says that a request of the operator, whose number its body has, did not happen.
+	TakenBack frames.Kind = 32
 )
 
 // A record is a head, a frame, and a chain: the length of the frame (4 bytes), the record's number (8), and the CRC-32C of both (4);

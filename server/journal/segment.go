@@ -2,7 +2,7 @@ package journal
 
 import (
 	"bufio"
-	"errors"
+	"encoding/binary"
 	"fmt"
 	"io"
 	"os"
@@ -19,17 +19,38 @@ import (
 // title is what each segment begins with.
 const title = "gitpool journal 1\n"
 
-// emptySegment is the size of a segment without steps.
-const emptySegment = int64(len(title) + headBytes + 7 + savedBytes + chainBytes)
+const (
+	// savedBytes is the body of a segment's first record where no stream was open: the digest of the pool file, and the chain before.
+	savedBytes = len(Digest{}) + chainBytes
+	// openBytes is what follows there for each stream that was open: the number of the record of its Open.
+	openBytes = 8
+	// mostOpen is more streams than a server ever has at once.
+	mostOpen  = 1 << 20
+	frameHead = 7
+)
 
-const savedBytes = len(Digest{}) + chainBytes
+// segment is one file of a journal.
+type segment struct {
+	number uint64
+	// pool is the digest of the pool file to which the steps are to be added, and `open` has the numbers of the Opens whose streams
+	// were open when it was saved.
+	pool   Digest
+	open   []uint64
+	before Chain
+	// first is the number of the segment's first record, and start the place behind it.
+	first uint64
+	start int64
+	end   mark
+	size  int64
+}
 
-// create makes a segment that goes on behind a mark. It appears whole: it is written beside its place, synced, and renamed.
-func create(folder string, segment uint64, pool Digest, before mark) (*os.File, mark, error) {
-	end := mark{int64(len(title)), before.number, before.chain}
-	body := append(append([]byte(nil), pool[:]...), before.chain[:]...)
-	bytes := appendRecord([]byte(title), &end, frames.Step{Kind: saved, Body: body})
-	place := path(folder, segment)
+// create makes the file of a segment that goes on behind a mark. It appears whole: it is written beside its place, synced, and renamed.
+func (it *segment) create(folder string, before mark) (*os.File, error) {
+	it.before, it.first = before.chain, before.number+1
+	it.end = mark{int64(len(title)), before.number, before.chain}
+	bytes := appendRecord([]byte(title), &it.end, frames.Step{Kind: saved, Body: it.body()})
+	it.start = it.end.size
+	place := path(folder, it.number)
 	faultpoint.Here("before a segment is written")
 	err := writeSynced(place+".new", bytes)
 	faultpoint.Here("before a segment is renamed")
@@ -48,7 +69,29 @@ func create(folder string, segment uint64, pool Digest, before mark) (*os.File, 
 		os.Remove(place + ".new")
 		os.Remove(place)
 	}
-	return file, end, err
+	return file, err
+}
+
+// body is the body of a segment's first record.
+func (it *segment) body() []byte {
+	body := append(append([]byte(nil), it.pool[:]...), it.before[:]...)
+	for _, number := range it.open {
+		body = binary.BigEndian.AppendUint64(body, number)
+	}
+	return body
+}
+
+// readBody reads the body of a segment's first record, and tells whether it is one.
+func (it *segment) readBody(body []byte) bool {
+	if len(body) < savedBytes || (len(body)-savedBytes)%openBytes != 0 {
+		return false
+	}
+	copy(it.pool[:], body)
+	copy(it.before[:], body[len(it.pool):])
+	for rest := body[savedBytes:]; len(rest) > 0; rest = rest[openBytes:] {
+		it.open = append(it.open, binary.BigEndian.Uint64(rest))
+	}
+	return true
 }
 
 func writeSynced(path string, bytes []byte) error {
@@ -74,12 +117,9 @@ func (d *Damaged) Error() string {
 	return fmt.Sprintf("%s: %s at byte %d; nothing was changed (docs/SERVER.md, \"A damaged journal\")", d.Path, d.Reason, d.At)
 }
 
-// segment is what a look through one of them found.
-type segment struct {
-	pool   Digest
-	before Chain
-	end    mark
-	size   int64
+// lostPool says that the pool file is none that the journal goes on from.
+func lostPool(folder string, pool Digest) error {
+	return &Damaged{folder, 0, fmt.Sprintf("no segment goes on from the pool file with the digest %x; it is another one", pool)}
 }
 
 // Open reads a journal through, for a pool file with this digest. Where it ends in a record that a crash has cut off, that is cut and
@@ -89,53 +129,41 @@ func Open(folder string, pool Digest, tell func(format string, values ...any)) (
 	if err != nil {
 		return nil, err
 	}
-	j := &Journal{folder: folder, tell: tell, pools: map[uint64]Digest{}}
+	j := &Journal{folder: folder, tell: tell}
 	j.changed = sync.NewCond(&j.mutex)
 	if len(numbers) == 0 {
 		return j, j.start(pool)
 	}
-	all, err := readAll(folder, numbers)
-	if err != nil {
+	if j.segments, err = readAll(folder, numbers); err != nil {
 		return nil, err
 	}
-	for i, it := range all {
-		j.pools[numbers[i]] = it.pool
-	}
-	j.first, j.last = numbers[0], numbers[len(numbers)-1]
-	base, err := j.baseOf(pool)
-	if err != nil {
+	if j.base, err = j.baseOf(pool); err != nil {
 		return nil, err
 	}
-	return j, j.goOn(all, int(base-j.first))
-}
-
-// baseOf gives the last segment that goes on from a pool file.
-func (j *Journal) baseOf(pool Digest) (uint64, error) {
-	for number := j.last; number >= j.first; number-- {
-		if j.pools[number] == pool {
-			return number, nil
-		}
+	base := j.segments[j.base]
+	if len(base.open) > 0 && base.open[0] < j.segments[0].first {
+		return nil, &Damaged{path(folder, j.segments[0].number), 0, "the segment before it is missing"}
 	}
-	return 0, &Damaged{j.folder, 0, fmt.Sprintf("no segment goes on from the pool file with the digest %x; it is another one", pool)}
+	return j, j.goOn()
 }
 
 func (j *Journal) start(pool Digest) (err error) {
-	j.first, j.last, j.pools[1] = 1, 1, pool
-	j.file, j.appended, err = create(j.folder, 1, pool, mark{})
-	j.synced = j.appended
+	first := segment{number: 1, pool: pool}
+	j.file, err = first.create(j.folder, mark{})
+	j.segments, j.appended, j.synced = []segment{first}, first.end, first.end
 	return err
 }
 
-// goOn takes the journal up behind its last record, and removes the segments before the base.
-func (j *Journal) goOn(all []segment, base int) (err error) {
-	tail := all[len(all)-1]
-	j.file, err = os.OpenFile(path(j.folder, j.last), os.O_RDWR, 0)
+// goOn takes the journal up behind its last record, and removes the segments that are not needed.
+func (j *Journal) goOn() (err error) {
+	tail := j.current()
+	j.file, err = os.OpenFile(path(j.folder, tail.number), os.O_RDWR, 0)
 	if err != nil {
 		return err
 	}
 	if tail.end.size < tail.size {
 		j.tell("the journal ends in a record that a crash cut off: %d bytes from byte %d of %s are dropped, which nobody was told of",
-			tail.size-tail.end.size, tail.end.size, path(j.folder, j.last))
+			tail.size-tail.end.size, tail.end.size, path(j.folder, tail.number))
 		if err := j.file.Truncate(tail.end.size); err != nil {
 			return err
 		}
@@ -144,16 +172,7 @@ func (j *Journal) goOn(all []segment, base int) (err error) {
 		return err
 	}
 	j.appended, j.synced = tail.end, tail.end
-	for i, it := range all[:len(all)-1] {
-		if i >= base {
-			j.older += it.size
-		} else if err := os.Remove(path(j.folder, j.first)); err != nil {
-			return err
-		} else {
-			j.first++
-		}
-	}
-	return syncFolder(j.folder)
+	return j.dropUnneeded()
 }
 
 // list gives the numbers of the segments in order, and removes those that were never finished.
@@ -187,6 +206,7 @@ func readAll(folder string, numbers []uint64) (all []segment, err error) {
 		if err != nil {
 			return nil, err
 		}
+		it.number = number
 		if i > 0 && all[i-1].end.chain != it.before {
 			return nil, &Damaged{path(folder, number-1), all[i-1].end.size, "records are missing"}
 		}
@@ -230,20 +250,27 @@ func readSegment(place string, isLast bool) (segment, error) {
 // readFirst reads the title and the first record, which tells what was saved before and so where the chain comes from.
 func readFirst(from *bufio.Reader, place string, it segment) (segment, error) {
 	bad := &Damaged{place, 0, "the segment does not begin as one does"}
-	start := make([]byte, emptySegment)
-	if _, err := io.ReadFull(from, start); err != nil {
+	start := make([]byte, len(title)+headBytes)
+	if _, err := io.ReadFull(from, start); err != nil || string(start[:len(title)]) != title {
 		return it, bad
 	}
 	h := readHead(start[len(title):])
-	step, whole := frames.Parse(start[len(title)+headBytes : emptySegment-chainBytes])
-	if string(start[:len(title)]) != title || !h.isGood || !whole || step.Kind != saved || len(step.Body) != savedBytes {
+	if !h.isGood || h.length > frameHead+uint32(savedBytes)+mostOpen*openBytes {
 		return it, bad
 	}
-	copy(it.pool[:], step.Body)
-	copy(it.before[:], step.Body[len(it.pool):])
-	it.end.chain = next(it.before, start[len(title):emptySegment-chainBytes])
-	it.end.number, it.end.size = h.number, emptySegment
-	if string(start[emptySegment-chainBytes:]) != string(it.end.chain[:]) {
+	record := make([]byte, h.recordBytes())
+	copy(record, start[len(title):])
+	if _, err := io.ReadFull(from, record[headBytes:]); err != nil {
+		return it, bad
+	}
+	end := len(record) - chainBytes
+	step, whole := frames.Parse(record[headBytes:end])
+	if !whole || step.Kind != saved || !it.readBody(step.Body) {
+		return it, bad
+	}
+	it.first, it.start = h.number, int64(len(title))+h.recordBytes()
+	it.end = mark{it.start, h.number, next(it.before, record[:end])}
+	if string(record[end:]) != string(it.end.chain[:]) {
 		return it, bad
 	}
 	return it, nil
@@ -268,42 +295,4 @@ func isTorn(file *os.File, end mark, size int64) (bool, error) {
 	tail := make([]byte, headBytes)
 	_, err := file.ReadAt(tail, size-headBytes)
 	return strings.Trim(string(tail), "\x00") == "", err
-}
-
-// Records calls `use` with each record that a pool file has not, in order.
-func (j *Journal) Records(pool Digest, use func(Record) error) error {
-	base, err := j.baseOf(pool)
-	if err != nil {
-		return err
-	}
-	for number := base; number <= j.last; number++ {
-		if err := j.recordsOf(number, use); err != nil {
-			return err
-		}
-	}
-	return nil
-}
-
-func (j *Journal) recordsOf(number uint64, use func(Record) error) error {
-	place := path(j.folder, number)
-	file, err := os.Open(place)
-	if err != nil {
-		return err
-	}
-	defer file.Close()
-	from := bufio.NewReaderSize(file, 1<<18)
-	it, err := readFirst(from, place, segment{})
-	for err == nil && !(number == j.last && it.end.size == j.appended.size) {
-		var record Record
-		if record, err = readRecord(from, &it.end); err == nil {
-			err = use(record)
-		}
-	}
-	if err == io.EOF && number < j.last {
-		return nil
-	}
-	if err == errBad || errors.Is(err, io.EOF) {
-		return &Damaged{place, it.end.size, "a record is not as it was written"}
-	}
-	return err
 }

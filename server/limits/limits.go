@@ -202,7 +202,7 @@ type Values struct {
 	Connections, PerAddress, PerUser               int
 	Handshake, Idle, Request, Drain, Step          time.Duration
 	RequestBytes, Quota, JournalBytes, ChildMemory int64
-	SaveEvery, SavePatience, FrameIdle             time.Duration
+	SaveEvery, FrameIdle                           time.Duration
 	Quotas                                         map[string]int64
 }
 

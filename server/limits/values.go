@@ -71,8 +71,6 @@ var all = []limit{
 		bytes(func(v *Values) *int64 { return &v.JournalBytes })},
 	{"save-every", "1h", "the time after which what has changed is saved",
 		span(func(v *Values) *time.Duration { return &v.SaveEvery })},
-	{"save-patience", "10s", "the time that a save waits for streams of frames",
-		span(func(v *Values) *time.Duration { return &v.SavePatience })},
 	{"frame-idle", "10m", "the time that a client of frames may be silent with a stream open",
 		span(func(v *Values) *time.Duration { return &v.FrameIdle })},
 	{"child-memory", "0", "the bytes of address space that the child may take; 0 is no limit",

@@ -2,6 +2,7 @@ package operator
 
 import (
 	"bufio"
+	"bytes"
 	"context"
 	"net"
 	"time"
@@ -28,8 +29,9 @@ type session struct {
 	answers chan func(context.Context) ([]frames.Answer, error)
 }
 
-// speakFrames answers frames as `gitpool serve` does, until the client ends between frames, a frame is wrong, or the client is silent
-// for too long with a stream open. Streams that are open then are given up.
+// speakFrames answers frames as `gitpool host` does, until the client ends between frames, a frame is wrong, or the client is silent
+// for too long with a stream open. Streams that are open then are given up. A Restart and an Abandon reach the streams of this connection
+// alone.
 func (d *Door) speakFrames(ctx context.Context, conn net.Conn, in *bufio.Reader) {
 	ctx, stop := context.WithCancel(ctx)
 	defer stop()
@@ -67,7 +69,7 @@ func (s *session) read(ctx context.Context) {
 // take passes a step on, and tells whether the connection goes on.
 func (s *session) take(ctx context.Context, step frames.Step) bool {
 	switch step.Kind {
-	case frames.Ask:
+	case frames.Ask, frames.Sizes:
 		return s.ask(ctx, step)
 	case frames.Open:
 		return s.open(ctx, step.Tenant)
@@ -75,10 +77,56 @@ func (s *session) take(ctx context.Context, step frames.Step) bool {
 		return s.feed(ctx, step)
 	case frames.End:
 		return s.end(ctx, step.Tenant)
+	case frames.Abandon:
+		return s.abandon(step.Tenant)
+	case frames.Restart:
+		return s.restart()
 	}
+	return s.operate(ctx, step)
+}
+
+func (s *session) restart() bool {
 	for tenant, stream := range s.streams {
 		stream.GiveUp()
 		delete(s.streams, tenant)
+	}
+	return s.tell(frames.Answer{})
+}
+
+func (s *session) abandon(name string) bool {
+	stream := s.streams[name]
+	if stream == nil {
+		return s.withoutStream(name)
+	}
+	stream.GiveUp()
+	delete(s.streams, name)
+	return s.tell(frames.Answer{})
+}
+
+// operate carries out a request of the operator. Where a save fails, it is answered by 68, and the server goes on.
+func (s *session) operate(ctx context.Context, step frames.Step) bool {
+	var err error
+	switch step.Kind {
+	case frames.Save:
+		if len(step.Body) > 0 && !bytes.Equal(step.Body, frames.AsOpened) {
+			return false
+		}
+		if s.door.store.Save(ctx) != nil {
+			return s.refuse(68)
+		}
+	case frames.Remove:
+		err = s.door.operate([]string{step.Tenant}, func() error { return s.door.store.Remove(ctx, step.Tenant) })
+	case frames.Compact:
+		err = s.door.operate([]string{step.Tenant}, func() error { return s.door.store.Compact(ctx, step.Tenant) })
+	case frames.Copy:
+		to := string(step.Body)
+		err = s.door.operate([]string{step.Tenant, to}, func() error { return s.door.store.Copy(ctx, step.Tenant, to) })
+	}
+	switch {
+	case tenants.ErrorNumber(err) == 90:
+		return s.tell(frames.Answer{Status: frames.Memory})
+	case err != nil:
+		return s.fail(err)
 	}
 	return s.tell(frames.Answer{})
 }

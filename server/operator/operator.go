@@ -1,4 +1,4 @@
-// Package operator answers at a unix socket, to whoever may open it: frames, as `gitpool serve` takes them, of any tenant; and the
+// Package operator answers at a unix socket, to whoever may open it: frames, as `gitpool host` takes them, of any tenant; and the
 // commands of the operator, a line each, such as `status`.
 package operator
 
@@ -134,8 +134,8 @@ func (d *Door) command(ctx context.Context, words []string) (string, error) {
 		"save":    {0, d.save},
 		"tenants": {0, d.tenants},
 		"copy":    {2, d.copy},
-		"remove":  {1, d.cannot},
-		"compact": {1, d.cannot},
+		"remove":  {1, d.remove},
+		"compact": {1, d.compact},
 	}
 	it, found := known[words[0]]
 	if !found || len(words)-1 != it.words {
@@ -144,34 +144,43 @@ func (d *Door) command(ctx context.Context, words []string) (string, error) {
 	return it.do(ctx, words)
 }
 
-func (d *Door) cannot(_ context.Context, words []string) (string, error) {
-	return "", fmt.Errorf("the child `gitpool serve` cannot %s a tenant; nothing was changed", words[0])
-}
-
 func (d *Door) save(ctx context.Context, _ []string) (string, error) {
 	return "", d.store.Save(ctx)
 }
 
 func (d *Door) copy(ctx context.Context, words []string) (string, error) {
-	for _, name := range words[1:] {
-		if _, err := d.site.Pool.Tenant(name); err != nil {
-			return "", err
+	return "", d.operate(words[1:], func() error { return d.store.Copy(ctx, words[1], words[2]) })
+}
+
+func (d *Door) remove(ctx context.Context, words []string) (string, error) {
+	return "", d.operate(words[1:], func() error { return d.store.Remove(ctx, words[1]) })
+}
+
+func (d *Door) compact(ctx context.Context, words []string) (string, error) {
+	return "", d.operate(words[1:], func() error { return d.store.Compact(ctx, words[1]) })
+}
+
+// operate asks something of the store about these tenants. A refusal is told in a sentence.
+func (d *Door) operate(names []string, do func() error) error {
+	for _, name := range names {
+		if !tenants.ValidName(name) {
+			return tenants.Fault{Number: 32}
 		}
 	}
-	err := d.store.Copy(ctx, words[1], words[2])
+	err := do()
 	var refused *store.Refused
 	if errors.As(err, &refused) {
 		err = tenants.Fault{Number: refused.Number}
 	}
-	return "", err
+	return err
 }
 
 // tenants has a line for each tenant.
 func (d *Door) tenants(context.Context, []string) (string, error) {
 	var text strings.Builder
 	for _, it := range d.store.Usages() {
-		fmt.Fprintf(&text, "%s objects %d refs %d bytes %d since-save %d quota %d\n", it.Name, it.Objects, it.Refs, it.Bytes, it.Since,
-			d.site.Limits.Quota(it.Name))
+		fmt.Fprintf(&text, "%s objects %d refs %d bytes %d own %d since %d quota %d\n", it.Name, it.Objects, it.Refs, it.Bytes, it.Own,
+			it.Since, d.site.Limits.Quota(it.Name))
 	}
 	return text.String(), nil
 }
@@ -237,7 +246,7 @@ func (d *Door) Measure() {
 		number(func(s store.State) int64 { return s.Recoveries }))
 	m.Gauge("gitpoold_journal_bytes", "The size of the journal.", number(func(s store.State) int64 { return s.JournalBytes }))
 	m.Gauge("gitpoold_journal_broken", "1 while the journal takes no pushes.", number(func(s store.State) int64 { return one(s.JournalBroken) }))
-	m.Gauge("gitpoold_answering", "1 while questions are answered, 0 while the child is replaced or a save is made.",
+	m.Gauge("gitpoold_answering", "1 while questions are answered, 0 while the child is replaced or saves.",
 		number(func(s store.State) int64 { return one(s.IsAnswering) }))
 	m.Gauge("gitpoold_open_streams", "Streams that are open.", number(func(s store.State) int64 { return int64(s.Streams) }))
 	m.Gauge("gitpoold_connections", "Connections that are open.", func() float64 { return float64(d.site.Limits.Connections()) })

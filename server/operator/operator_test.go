@@ -13,7 +13,6 @@ import (
 	"path/filepath"
 	"strings"
 	"testing"
-	"time"
 
 	"gitpoold/access"
 	"gitpoold/frames"
@@ -43,7 +42,7 @@ func served(t testing.TB, limitLines string) string {
 	must(t, err)
 	who, err := access.Load(folder, log.Printf)
 	must(t, err)
-	s, err := store.Open(store.Config{Folder: folder, Program: program, Patience: 200 * time.Millisecond, Tell: log.Printf})
+	s, err := store.Open(store.Config{Folder: folder, Program: program, Tell: log.Printf})
 	must(t, err)
 	door := New(&site.Site{Pool: tenants.New(s, bounds.Quota), Access: who, Limits: bounds, Log: log, Metrics: m, Version: "9"}, s)
 	door.Measure()
@@ -92,6 +91,9 @@ func steps(random *rand.Rand, count int) (all []frames.Step) {
 		if random.Intn(40) == 0 {
 			step = frames.Step{Kind: frames.Restart}
 		}
+		if random.Intn(4) == 0 {
+			step = request(random, names)
+		}
 		all = append(all, step)
 	}
 	// A stream that has said `done` takes no more, and is given up all the same.
@@ -99,9 +101,23 @@ func steps(random *rand.Rand, count int) (all []frames.Step) {
 		frames.Step{Kind: frames.Restart}, frames.Step{Kind: frames.Open, Tenant: "c"})
 }
 
-// TestFramesAreAnsweredAsByServe sends the same steps to the socket and to `gitpool serve`.
-func TestFramesAreAnsweredAsByServe(t *testing.T) {
-	for seed := int64(0); seed < 2; seed++ {
+// request makes a request of the operator.
+func request(random *rand.Rand, names []string) frames.Step {
+	step := frames.Step{Kind: frames.Save + frames.Kind(random.Intn(6)), Tenant: names[random.Intn(len(names)*3)%5]}
+	switch step.Kind {
+	case frames.Save:
+		step.Tenant, step.Body = "", frames.AsOpened[random.Intn(2):]
+	case frames.Sizes:
+		step.Tenant = ""
+	case frames.Copy:
+		step.Body = []byte(names[random.Intn(len(names))])
+	}
+	return step
+}
+
+// TestFramesAreAnsweredAsByHost sends the same frames to the socket and to `gitpool host`.
+func TestFramesAreAnsweredAsByHost(t *testing.T) {
+	for seed := int64(0); seed < 4; seed++ {
 		var text []byte
 		all := steps(rand.New(rand.NewSource(seed)), 300)
 		for _, step := range all {
@@ -115,7 +131,7 @@ func TestFramesAreAnsweredAsByServe(t *testing.T) {
 		}()
 		got, err := io.ReadAll(conn)
 		must(t, err)
-		command := exec.Command(os.Getenv("GITPOOL"), "serve", "--pool", filepath.Join(t.TempDir(), "pool"))
+		command := exec.Command(os.Getenv("GITPOOL"), "host", "--pool", filepath.Join(t.TempDir(), "pool"))
 		command.Stdin = bytes.NewReader(text)
 		want, err := command.Output()
 		must(t, err)
@@ -148,7 +164,8 @@ func ask(t testing.TB, conn net.Conn, step frames.Step) frames.Answer {
 
 func TestWrongFramesCloseTheConnection(t *testing.T) {
 	folder := served(t, "")
-	for _, text := range []string{"\x06", "\x01\x00\x01t\x00\x00\x00\x01", "\x10\x00\x00\x00\x00\x00\x00"} {
+	for _, text := range []string{"\x06", "\x01\x00\x01t\x00\x00\x00\x01", "\x16\x00\x00\x00\x00\x00\x00", "\x10\x00\x01",
+		"\x10\x00\x00\x00\x00\x00\x01\x02"} {
 		conn := dialed(t, folder)
 		conn.Write([]byte(text))
 		if got, err := io.ReadAll(conn); len(got) > 0 || err != nil {
@@ -193,13 +210,13 @@ func TestCommands(t *testing.T) {
 		}
 		return text
 	}
-	if got := call("tenants"); got != "acme/site objects 0 refs 0 bytes 0 since-save 58 quota 5242880\n" {
+	if got := call("tenants"); got != "acme/site objects 0 refs 0 bytes 0 own 0 since 58 quota 5242880\n" {
 		t.Error(got)
 	}
 	if got := call("save"); got != "" {
 		t.Error(got)
 	}
-	if got := call("tenants"); got != "acme/site objects 2 refs 1 bytes 97 since-save 0 quota 5242880\n" {
+	if got := call("tenants"); got != "acme/site objects 2 refs 1 bytes 97 own 97 since 0 quota 5242880\n" {
 		t.Error(got)
 	}
 	for _, line := range []string{"version            9", "saves              1", "pushes             1", "answering          true"} {
@@ -211,6 +228,9 @@ func TestCommands(t *testing.T) {
 		t.Error(call("tenants"))
 	}
 	refusesCommands(t, call)
+	if call("compact", "acme/site") != "" || call("remove", "acme/fork") != "" || strings.Contains(call("tenants"), "acme/fork") {
+		t.Error(call("tenants"))
+	}
 	if _, err := Call(folder+"/none", "status"); err != ErrNoServer {
 		t.Error(err)
 	}
@@ -221,8 +241,8 @@ func refusesCommands(t *testing.T, call func(words ...string) string) {
 	for want, words := range map[string][]string{
 		"the target of the copy is not empty (fault 33)": {"copy", "acme/site", "acme/fork"},
 		"the name of the repository is bad (fault 32)":   {"copy", "acme/site", "../x"},
-		"cannot remove a tenant; nothing was changed":    {"remove", "acme/site"},
-		"cannot compact a tenant; nothing was changed":   {"compact", "acme/site"},
+		"is bad (fault 32)":                              {"remove", "../x"},
+		"bad (fault 32)":                                 {"compact", "../x"},
 		`there is no command "what" with 0 words`:        {"what"},
 		`there is no command "save" with 1 words`:        {"save", "now"},
 	} {

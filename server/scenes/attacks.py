@@ -239,7 +239,7 @@ def http_of_another_form(room: ServerRoom) -> None:
     asked = b"?service=git-upload-pack"
     for path, status in (
         (b"/acme/site.git/HEAD", b"403"), (b"/acme/site.git/objects/info/packs", b"403"), (b"/acme/site.git/info/refs", b"403"),
-        (b"/acme/site.git/info/refs?service=git-shell", b"403"), (b"/../../etc/passwd", b"404"), (b"/", b"404"), (b"/%2e%2e/x", b"404"),
+        (b"/acme/site.git/info/refs?service=git-shell", b"403"), (b"/../../etc/passwd", b"404"), (b"/", b"200"), (b"/%2e%2e/x", b"404"),
         (b"/healthz", b"200"), (b"/metrics", b"200"), (b"/acme/../acme/site.git/info/refs" + asked, b"404"),
         (b"/acme%2f..%2fsite.git/info/refs" + asked, b"404"), (b"/acme/site%00.git/info/refs" + asked, b"404"),
     ):

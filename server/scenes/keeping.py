@@ -355,7 +355,7 @@ def state(room: ServerRoom, name: str, above: str) -> bool:
 @over_http
 def a_second_server_is_refused(room: ServerRoom) -> None:
     done = room.run([room.server_program, "serve", room.served, "--program", room.program])
-    assert done.returncode == 4 and b"another server has this folder in hand" in done.stderr, done.stderr
+    assert done.returncode == 4 and b"another server or run has this in hand" in done.stderr, done.stderr
     room.pushed()
 
 

@@ -91,11 +91,6 @@ class ServerRoom(Room):
             self.process.wait()
         shutil.rmtree(self.folder, ignore_errors=True)
 
-    def client(self, name: str, *words: str, data: bytes = b"", status: int = 0) -> "subprocess.CompletedProcess[bytes]":
-        """Runs one of the clients, on the pool file as the server saves it for that."""
-        self.serverd("save", self.served)
-        return super().client(name, *words, data=data, status=status)
-
     def memory(self) -> int:
         """The most memory that the server has had so far, in bytes, without the child."""
         with open(f"/proc/{self.process.pid}/status", encoding="ascii") as file:

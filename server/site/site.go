@@ -31,6 +31,10 @@ type Site struct {
 	Work string
 	// Version is that of the program.
 	Version string
+	// SSHPort is where git finds the server over ssh, 0 where it does not; pages show it.
+	SSHPort int
+	// Markdown writes a README for pages; nil shows it as text.
+	Markdown func(contents []byte, resolve func(path, fragment string, isImage bool) string) (string, error)
 }
 
 // Open gives a tenant to a user who wants this right to it; the user "" is a visitor without a password. What it answers depends on

@@ -37,7 +37,7 @@ const (
 func tell(words ...any) { fmt.Println(words...) }
 
 func pushes(folder string) {
-	s, err := Open(Config{Folder: folder, Program: os.Getenv("GITPOOL"), Patience: time.Second, Tell: func(string, ...any) {}})
+	s, err := Open(Config{Folder: folder, Program: os.Getenv("GITPOOL"), Tell: func(string, ...any) {}})
 	if err != nil {
 		tell("closed", err)
 		os.Exit(1)
@@ -55,6 +55,7 @@ func pushes(folder string) {
 			}(fmt.Sprint("t", i))
 		}
 		all.Wait()
+		operateAndTell(s, round)
 		if err := s.Save(background); err != nil {
 			tell("unsaved", err)
 		}
@@ -108,6 +109,38 @@ func giveUpOne(s *Store, tenant string) {
 	st.GiveUp()
 }
 
+// copyOf is the name of the copy of a round.
+func copyOf(round int) string { return fmt.Sprint("copy", round) }
+
+// operateAndTell copies a tenant, compacts it, and removes the copy of the round before.
+func operateAndTell(s *Store, round int) {
+	untilThere(s, "t0")
+	tell("copying", round)
+	if s.Copy(background, "t0", copyOf(round)) == nil {
+		tell("copied", round)
+	}
+	_ = s.Compact(background, "t0")
+	if round == 0 {
+		return
+	}
+	tell("removing", round-1)
+	if s.Remove(background, copyOf(round-1)) == nil {
+		tell("removed", round-1)
+	}
+}
+
+// judgeCopies compares what was told of copies and removals with what is there.
+func judgeCopies(t *testing.T, s *Store, fault, told string) {
+	t.Helper()
+	for round := 0; round < rounds; round++ {
+		said := func(what string) bool { return strings.Contains(told, fmt.Sprintf("%s %d\n", what, round)) }
+		isThere := ask(t, s, copyOf(round), "refs") != ""
+		if said("removed") && isThere || said("copied") && !said("removing") && !isThere || !said("copying") && isThere {
+			t.Fatalf("%s: the copy of round %d is there: %v\n%s", fault, round, isThere, told)
+		}
+	}
+}
+
 // killed runs the pushes with a fault, and gives what they said.
 func killed(t *testing.T, folder, fault, log string) string {
 	t.Helper()
@@ -139,6 +172,7 @@ func judge(t *testing.T, folder, fault, told string) {
 			t.Fatalf("%s: a stream that was given up left %q", fault, refs)
 		}
 	}
+	judgeCopies(t, s, fault, told)
 	last := compare(t, fault, told, history)
 	for tenant, left := range history {
 		delete(left, last[tenant])

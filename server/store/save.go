@@ -5,143 +5,61 @@ import (
 	"errors"
 	"fmt"
 	"os"
-	"os/exec"
 	"path/filepath"
-	"strconv"
-	"strings"
+	"sort"
 	"time"
 
+	"gitpoold/child"
 	"gitpoold/faultpoint"
+	"gitpoold/frames"
 	"gitpoold/journal"
 	"gitpoold/poolfile"
 )
 
-// How a save is made stands in this file alone. The child of today, `gitpool serve`, saves at its end: so a save lets streams end,
-// ends the child's input, takes its file, and starts a child on it. No question is answered meanwhile.
+// How a save is made stands in this file alone. The child writes the file and goes on, with all its streams. A stream that is open is in
+// that file as it was at its Open, and the journal keeps its steps from there on. So a save waits for no stream and ends none.
 
-const (
-	// settleWithin is how long a save waits until what was sent is with the child.
-	settleWithin = time.Minute
-	// saveWithin is how long the child has to save.
-	saveWithin = 30 * time.Minute
-)
+// saveWithin is how long the child has to save.
+const saveWithin = 30 * time.Minute
 
-// ErrOpen says that streams did not end in time for a save.
-var ErrOpen = errors.New("streams are open; nothing was saved, and the journal has all of it")
+// errNotSaved says that the child could not write the pool file. It has what it had, and so has the file.
+var errNotSaved = errors.New("the child did not save")
 
 // Save brings the pool file to what the store has, and drops the journal's segments before. It does nothing where the pool file is
 // up to date. On an error the pool file and the journal together have everything, as before.
 func (s *Store) Save(ctx context.Context) error {
-	return s.saveAnd(ctx, nil)
-}
-
-// Copy copies a tenant to an empty one, in a save. It may be Refused.
-func (s *Store) Copy(ctx context.Context, from, to string) error {
-	var refused error
-	err := s.saveAnd(ctx, func(file string) error {
-		said, err := exec.CommandContext(ctx, s.config.Program, "copy", from, to, "--pool", file).CombinedOutput()
-		if err != nil {
-			refused = refusalOf(strings.TrimSpace(string(said)))
-		}
-		return nil
-	})
-	if err == nil {
-		err = refused
+	if err := s.beginMaintenance(ctx); err != nil {
+		return err
 	}
+	defer s.endMaintenance()
+	if !s.journal.HasSteps() && !s.journal.IsBroken() {
+		return nil
+	}
+	began := time.Now()
+	err := s.save(ctx)
+	s.noteSave(began, err)
 	return err
 }
 
-// refusalOf reads what the program says of a fault.
-func refusalOf(said string) error {
-	number, err := strconv.Atoi(strings.TrimPrefix(said, "gitpool: fault "))
-	if err != nil {
-		return fmt.Errorf("the copy failed: %s", said)
-	}
-	return &Refused{number}
-}
-
-func (s *Store) saveAnd(ctx context.Context, change func(file string) error) error {
+// beginMaintenance waits for its turn among what only one may do at a time: saves, requests of the operator, and another child.
+func (s *Store) beginMaintenance(ctx context.Context) error {
 	select {
 	case s.maintain <- struct{}{}:
-		defer func() { <-s.maintain }()
+		return nil
 	case <-ctx.Done():
 		return ctx.Err()
 	}
-	if change == nil && !s.journal.HasSteps() && !s.journal.IsBroken() {
-		return nil
-	}
-	if err := s.letStreamsEnd(ctx); err != nil {
-		return err
-	}
-	defer s.streams.open()
-	soon, stop := context.WithTimeout(ctx, settleWithin)
-	defer stop()
-	if err := s.steps.shut(soon); err != nil {
-		return ErrOpen
-	}
-	defer s.steps.open()
-	began := time.Now()
-	err := s.take(change)
-	s.noteSave(began, err)
-	if again := s.start(); again != nil {
-		s.config.Tell("no child could be started after a save: %v", again)
-		s.revive()
-	}
-	return err
 }
 
-// letStreamsEnd shuts the gate of streams. Pushes end by themselves; the streams of clients that speak frames are given up after the
-// store's patience.
-func (s *Store) letStreamsEnd(ctx context.Context) error {
-	patient, stop := context.WithTimeout(ctx, s.config.Patience)
-	defer stop()
-	if s.streams.shut(patient) == nil {
-		return nil
-	}
-	s.mutex.Lock()
-	var overdue []*Stream
-	for _, stream := range s.open {
-		if stream.form == Checkpoints {
-			overdue = append(overdue, stream)
-		}
-	}
-	s.mutex.Unlock()
-	for _, stream := range overdue {
-		s.config.Tell("a stream of %s is given up, for a save has waited for it", stream.tenant)
-		stream.giveUpIdle()
-	}
-	again, stop := context.WithTimeout(ctx, s.config.Patience)
-	defer stop()
-	if s.streams.shut(again) != nil {
-		return ErrOpen
-	}
-	return nil
-}
+func (s *Store) endMaintenance() { <-s.maintain }
 
-// take ends the child, and makes the file that it saved the pool file.
-func (s *Store) take(change func(file string) error) error {
-	faultpoint.Here("before the child is ended")
-	overdue := time.AfterFunc(saveWithin, s.process.Kill)
-	defer overdue.Stop()
-	if err := s.process.Close(); err != nil {
-		return fmt.Errorf("the child did not save: %w", err)
-	}
-	faultpoint.Here("after the child has saved")
-	file := filepath.Join(s.room, "pool")
-	if change != nil {
-		if err := change(file); err != nil {
-			return err
-		}
-	}
-	digest, err := poolfile.Digest(file)
-	if err != nil {
-		return err
-	}
-	if err := s.journal.Begin(journal.Digest(digest)); err != nil {
+func (s *Store) save(ctx context.Context) error {
+	if err := s.writeAndBegin(ctx); err != nil {
 		return err
 	}
 	faultpoint.Here("before the pool file is renamed")
-	if err := os.Rename(file, s.folder("pool")); err != nil {
+	next := filepath.Join(s.work(), "pool")
+	if err := os.Rename(next, s.folder("pool")); err != nil {
 		return err
 	}
 	faultpoint.Here("after the pool file is renamed")
@@ -150,6 +68,62 @@ func (s *Store) take(change func(file string) error) error {
 	}
 	faultpoint.Here("after the pool file is synced")
 	return s.journal.Drop()
+}
+
+// writeAndBegin has the child write the pool file, and begins the segment of what comes after it. No step comes in between, so what is in
+// the file and what is in the segment are parted for all tenants at one place. The child answers nobody while it writes.
+func (s *Store) writeAndBegin(ctx context.Context) error {
+	if err := s.steps.shut(ctx); err != nil {
+		return err
+	}
+	defer s.steps.open()
+	faultpoint.Here("before the child saves")
+	if _, err := s.requestOf(s.process, frames.Step{Kind: frames.Save, Body: frames.AsOpened}); err != nil {
+		return fmt.Errorf("%w: %v", errNotSaved, err)
+	}
+	faultpoint.Here("after the child has saved")
+	next := filepath.Join(s.work(), "pool")
+	if err := os.RemoveAll(next); err != nil {
+		return err
+	}
+	if err := linkOrCopy(filepath.Join(s.room, "pool"), next); err != nil {
+		return err
+	}
+	digest, err := poolfile.Digest(next)
+	if err != nil {
+		return err
+	}
+	if err := s.readSizes(s.process); err != nil {
+		return err
+	}
+	return s.journal.Begin(journal.Digest(digest), s.openNumbers())
+}
+
+// openNumbers gives the numbers of the Opens of the streams that the child has, in rising order. The gate `steps` is shut.
+func (s *Store) openNumbers() (numbers []uint64) {
+	s.mutex.Lock()
+	defer s.mutex.Unlock()
+	for _, stream := range s.open {
+		if number, isOpen := stream.openNumber(s.process); isOpen {
+			numbers = append(numbers, number)
+		}
+	}
+	sort.Slice(numbers, func(i, k int) bool { return numbers[i] < numbers[k] })
+	return numbers
+}
+
+// requestOf asks something of a child that nobody else uses meanwhile, and gives the reply. It may be Refused.
+func (s *Store) requestOf(process *child.Process, step frames.Step) ([]byte, error) {
+	soon, stop := context.WithTimeout(context.Background(), saveWithin)
+	defer stop()
+	answers, err := sendAndWait(soon, process, step)
+	if err != nil {
+		if soon.Err() != nil {
+			process.Kill()
+		}
+		return nil, err
+	}
+	return replies(answers)
 }
 
 func (s *Store) noteSave(began time.Time, err error) {

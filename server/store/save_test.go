@@ -15,10 +15,9 @@ import (
 	"gitpoold/frames"
 )
 
-// TestSavesWhilePushesRun has saves between pushes, with a stream of frames that is never ended.
+// TestSavesWhilePushesRun has saves between pushes, with a stream of frames that is open all the time.
 func TestSavesWhilePushesRun(t *testing.T) {
 	c := config(t, folder(t))
-	c.Patience = 100 * time.Millisecond
 	s := opened(t, c)
 	idle, err := s.Begin(background, "idle", Checkpoints)
 	if err != nil {
@@ -42,12 +41,72 @@ func TestSavesWhilePushesRun(t *testing.T) {
 		}
 	}
 	all.Wait()
-	var refused *Refused
-	if _, err := idle.Feed(background, []byte("\n")); !errors.As(err, &refused) || refused.Number != 30 {
-		t.Fatal("the stream that a save waited for is open still:", err)
+	if _, err := idle.Commit(background, []byte("reset refs/heads/none\n")); err != nil {
+		t.Fatal("the stream that was open at saves:", err)
 	}
 	crash(s)
 	hasTwenty(t, opened(t, c))
+}
+
+// commitOn is a commit on top of what a ref of the stream has.
+func commitOn(ref, text, from string) []byte {
+	return []byte(fmt.Sprintf("commit %s\ncommitter a <a@b> 1 +0000\ndata %d\n%s\n%s\n", ref, len(text), text, from))
+}
+
+// TestStreamsLiveThroughSaves saves with streams open, before and after a checkpoint, and crashes at each moment.
+func TestStreamsLiveThroughSaves(t *testing.T) {
+	for moment := 0; moment < 5; moment++ {
+		c := config(t, folder(t))
+		s := opened(t, c)
+		frames, err := s.Begin(background, "f", Checkpoints)
+		if err != nil {
+			t.Fatal(err)
+		}
+		whole, err := s.Begin(background, "w", Whole)
+		if err != nil {
+			t.Fatal(err)
+		}
+		acts := []func() error{
+			func() error { return fed(frames, append(commitOn("refs/heads/main", "one", ""), "checkpoint\n"...)) },
+			func() error { return fed(whole, append([]byte(header), commitOn("refs/heads/main", "one", "")...)) },
+			func() error { return fed(frames, commitOn("refs/heads/main", "two", "")) },
+			func() error { _, err := frames.Commit(background, nil); return err },
+			func() error { _, err := whole.Commit(background, []byte("done\n")); return err },
+		}
+		for at, act := range acts {
+			if err := act(); err != nil {
+				t.Fatal(at, err)
+			}
+			if err := push(s, "other", "refs/heads/main", fmt.Sprint(at)); err != nil {
+				t.Fatal(err)
+			}
+			if err := s.Save(background); err != nil {
+				t.Fatal(at, err)
+			}
+			if at == moment {
+				break
+			}
+		}
+		crash(s)
+		s = opened(t, c)
+		left := [][]string{{"one"}, {"one"}, {"one"}, {"one", "two"}, {"one", "two"}}[moment]
+		hasMessages(t, s, "f", "refs/heads/main", left)
+		hasMessages(t, s, "w", "refs/heads/main", [][]string{nil, nil, nil, nil, {"one"}}[moment])
+		if err := s.Close(background); err != nil {
+			t.Fatal(err)
+		}
+		if first, last := s.journal.Segments(); first != last {
+			t.Fatal(moment, "segments of streams that have ended are kept:", first, last)
+		}
+	}
+}
+
+func fed(st *Stream, body []byte) error {
+	pending, err := st.Feed(background, body)
+	if err == nil {
+		_, err = pending.Wait(background)
+	}
+	return err
 }
 
 func hasTwenty(t *testing.T, s *Store) {
@@ -100,8 +159,8 @@ func TestUsageIsCounted(t *testing.T) {
 	}
 	crash(s)
 	s = opened(t, c)
-	if s.Bytes("a") != fed {
-		t.Fatal(s.Bytes("a"), fed)
+	if told := s.Bytes("a"); told < 1000 || told > 1300 {
+		t.Fatal(told, fed)
 	}
 	s.Save(background)
 	defer s.Close(background)
@@ -110,20 +169,88 @@ func TestUsageIsCounted(t *testing.T) {
 	}
 }
 
-func TestCopyIsASave(t *testing.T) {
+func isRefused(err error, number int) bool {
+	var refused *Refused
+	return errors.As(err, &refused) && refused.Number == number
+}
+
+// TestRequestsOfTheOperatorLast copies, compacts and removes tenants, and crashes before a save.
+func TestRequestsOfTheOperatorLast(t *testing.T) {
 	c := config(t, folder(t))
 	s := opened(t, c)
 	push(s, "a", "refs/heads/main", "m")
+	push(s, "a", "refs/heads/side", strings.Repeat("x", 3000))
 	if err := s.Copy(background, "a", "b"); err != nil {
 		t.Fatal(err)
 	}
-	var refused *Refused
-	if err := s.Copy(background, "a", "b"); !errors.As(err, &refused) || refused.Number != 33 {
+	if err := s.Copy(background, "a", "b"); !isRefused(err, 33) {
 		t.Fatal(err)
 	}
-	crash(s)
-	s = opened(t, c)
+	if err := s.Remove(background, "bad name"); !isRefused(err, 32) {
+		t.Fatal(err)
+	}
+	st, err := s.Begin(background, "a", Whole)
+	if err != nil {
+		t.Fatal(err)
+	}
+	for _, err := range []error{s.Remove(background, "a"), s.Compact(background, "a"), s.Copy(background, "b", "a")} {
+		if !isRefused(err, 31) {
+			t.Fatal(err)
+		}
+	}
+	deletes(t, st, "refs/heads/side")
+	before := s.Bytes("a")
+	if err := s.Compact(background, "a"); err != nil || s.Bytes("a") > before-3000 {
+		t.Fatal(err, before, s.Bytes("a"))
+	}
+	push(s, "c", "refs/heads/main", "secret")
+	if err := s.Remove(background, "c"); err != nil || s.Bytes("c") != 0 {
+		t.Fatal(err, s.Bytes("c"))
+	}
+	after := s.Bytes("a")
+	for i := 0; i < 2; i++ {
+		crash(s)
+		s = opened(t, c)
+		hasMessages(t, s, "a", "refs/heads/main", []string{"m"})
+		hasMessages(t, s, "b", "refs/heads/main", []string{"m"})
+		if refs := ask(t, s, "c", "refs"); refs != "" || s.Bytes("a") != after || s.Bytes("c") != 0 {
+			t.Fatal(refs, s.Bytes("a"), after, s.Bytes("c"))
+		}
+		if err := s.Save(background); err != nil {
+			t.Fatal(err)
+		}
+	}
 	defer s.Close(background)
+	if text, _ := os.ReadFile(c.Folder + "/pool"); strings.Contains(string(text), "secret") {
+		t.Fatal("the pool file has what was removed")
+	}
+}
+
+// deletes ends a stream that deletes a ref.
+func deletes(t testing.TB, st *Stream, ref string) {
+	t.Helper()
+	if err := fed(st, []byte(header+"reset "+ref+"\nfrom "+strings.Repeat("0", 40)+"\n\n")); err != nil {
+		t.Fatal(err)
+	}
+	if _, err := st.Commit(background, []byte("done\n")); err != nil {
+		t.Fatal(err)
+	}
+}
+
+// TestARequestLivesThroughTheChild kills the child while a request of the operator is on its way.
+func TestARequestLivesThroughTheChild(t *testing.T) {
+	s := opened(t, config(t, folder(t)))
+	defer s.Close(background)
+	push(s, "a", "refs/heads/main", "m")
+	pid := s.State().ChildPid
+	syscall.Kill(pid, syscall.SIGSTOP)
+	done := make(chan error)
+	go func() { done <- s.Copy(background, "a", "b") }()
+	time.Sleep(200 * time.Millisecond)
+	syscall.Kill(pid, syscall.SIGKILL)
+	if err := <-done; err != nil {
+		t.Fatal(err)
+	}
 	hasMessages(t, s, "b", "refs/heads/main", []string{"m"})
 }
 
@@ -173,15 +300,16 @@ func TestKeepSaves(t *testing.T) {
 	}
 }
 
-// TestASaveThatFailsLosesNothing lets the child save nowhere, by a folder at the place of its new file.
+// TestASaveThatFailsLosesNothing lets the child save nowhere, by a folder at the place of its file.
 func TestASaveThatFailsLosesNothing(t *testing.T) {
 	c := config(t, folder(t))
 	s := opened(t, c)
 	if err := push(s, "a", "refs/heads/main", "one"); err != nil {
 		t.Fatal(err)
 	}
-	os.Remove(s.room + "/pool.new")
-	if err := os.Mkdir(s.room+"/pool.new", 0o700); err != nil {
+	place := s.room + "/pool"
+	os.Remove(place)
+	if err := os.MkdirAll(place+"/in the way", 0o700); err != nil {
 		t.Fatal(err)
 	}
 	if err := s.Save(background); err == nil {
@@ -191,6 +319,10 @@ func TestASaveThatFailsLosesNothing(t *testing.T) {
 		t.Fatal(err)
 	}
 	hasMessages(t, s, "a", "refs/heads/main", []string{"one", "two"})
+	if s.Counts().Recoveries != 0 {
+		t.Fatal("the child was replaced")
+	}
+	os.RemoveAll(place)
 	if err := s.Save(background); err != nil || s.Counts().FailedSaves != 1 {
 		t.Fatal(err, s.Counts())
 	}

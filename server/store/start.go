@@ -3,6 +3,7 @@ package store
 import (
 	"bytes"
 	"context"
+	"encoding/binary"
 	"fmt"
 	"io"
 	"os"
@@ -25,13 +26,6 @@ func (s *Store) start() error {
 	if err != nil {
 		return err
 	}
-	sizes, err := poolfile.Sizes(s.folder("pool"))
-	if err != nil {
-		return err
-	}
-	s.mutex.Lock()
-	s.sizes, s.since = sizes, map[string]int64{}
-	s.mutex.Unlock()
 	said := &lines{tell: s.config.Tell}
 	process, room, err := s.startChild(said)
 	if err != nil {
@@ -60,7 +54,7 @@ func (s *Store) startChild(said io.Writer) (*child.Process, string, error) {
 	if err := linkOrCopy(s.folder("pool"), file); err != nil {
 		return nil, "", err
 	}
-	words := []string{s.config.Program, "serve", "--pool", file}
+	words := []string{s.config.Program, "host", "--pool", file}
 	if s.config.ChildMemory > 0 {
 		kilobytes := strconv.FormatInt(s.config.ChildMemory/1024, 10)
 		words = append([]string{"sh", "-c", `ulimit -v "$0" && exec "$@"`, kilobytes}, words...)
@@ -89,8 +83,10 @@ func linkOrCopy(from, to string) error {
 		return err
 	}
 	defer target.Close()
-	_, err = io.Copy(target, source)
-	return err
+	if _, err = io.Copy(target, source); err != nil {
+		return err
+	}
+	return target.Sync()
 }
 
 // lines tells the operator what the child prints on standard error, and keeps the last of it.
@@ -159,14 +155,18 @@ func (s *Store) revive() {
 	}
 }
 
-// takeBackUntold takes the Ends back that nobody was told of, where the journal cannot be carried out with them.
+// takeBackUntold takes back what nobody was told of, where the journal cannot be carried out with them.
 func (s *Store) takeBackUntold() {
 	s.mutex.Lock()
 	untold := s.ends
 	s.ends = map[uint64]end{}
 	s.mutex.Unlock()
-	for _, it := range untold {
-		s.takeBack(it.tenant)
+	for number, it := range untold {
+		if it.isRequest {
+			_ = s.takeRequestBack(number, nil)
+		} else {
+			s.takeBack(it.tenant)
+		}
 		it.answer <- frames.Answer{Status: frames.Fault, Value: 90}
 	}
 }
@@ -175,18 +175,22 @@ func (s *Store) takeBackUntold() {
 type replay struct {
 	store   *Store
 	process *child.Process
-	ended   map[uint64]bool
+	fate    fate
 	streams map[string]*replayed
 	waiting []sent
+	// answers are those that somebody may wait for.
 	answers map[uint64]frames.Answer
 }
+
+// fate is what became of what is in the journal, by the numbers of records: the Opens whose streams have an End that was not taken back,
+// and the operator's requests that were taken back.
+type fate struct{ ended, takenBack map[uint64]bool }
 
 // replayed is a stream that is open in the journal. One that leaves nothing is left out.
 type replayed struct {
 	form      Form
 	hasEnd    bool
 	isLeftOut bool
-	fed       int64
 }
 
 type sent struct {
@@ -199,17 +203,13 @@ const replayAhead = 64
 
 // carryOut carries out the journal, and waits until the child has done so.
 func (s *Store) carryOut(process *child.Process, pool journal.Digest) error {
-	ended, err := s.endedStreams(pool)
+	fate, err := s.fateOf(pool)
 	if err != nil {
 		return err
 	}
-	r := &replay{store: s, process: process, ended: ended, streams: map[string]*replayed{},
-		answers: map[uint64]frames.Answer{}}
-	// This one is no step of the journal: it is answered when the child has loaded the pool file.
-	if err := r.send(journal.Record{Step: frames.Step{Kind: frames.Ask, Tenant: "a", Body: []byte("head")}}); err != nil {
-		return err
-	}
-	if err := r.settle(0); err != nil {
+	r := &replay{store: s, process: process, fate: fate, streams: map[string]*replayed{}, answers: map[uint64]frames.Answer{}}
+	// It is answered when the child has loaded the pool file.
+	if err := s.readSizes(process); err != nil {
 		return err
 	}
 	if err := s.journal.Records(pool, r.take); err != nil {
@@ -220,26 +220,31 @@ func (s *Store) carryOut(process *child.Process, pool journal.Digest) error {
 	}
 	for tenant := range r.streams {
 		r.drop(tenant)
+		s.noteGivenUp(tenant)
 	}
 	s.tellEnds(r.answers)
-	return nil
+	return s.readSizes(process)
 }
 
-// endedStreams gives the numbers of the Opens whose streams have an End that was not taken back.
-func (s *Store) endedStreams(pool journal.Digest) (map[uint64]bool, error) {
-	ended, open := map[uint64]bool{}, map[string]uint64{}
+// fateOf looks through the journal for what became of its streams and requests.
+func (s *Store) fateOf(pool journal.Digest) (fate, error) {
+	found, open := fate{map[uint64]bool{}, map[uint64]bool{}}, map[string]uint64{}
 	err := s.journal.Records(pool, func(r journal.Record) error {
 		switch r.Step.Kind {
 		case frames.Open:
 			open[r.Step.Tenant] = r.Number
 		case frames.End:
-			ended[open[r.Step.Tenant]] = true
+			found.ended[open[r.Step.Tenant]] = true
 		case journal.GivenUp:
-			delete(ended, open[r.Step.Tenant])
+			delete(found.ended, open[r.Step.Tenant])
+		case journal.TakenBack:
+			if len(r.Step.Body) == 8 {
+				found.takenBack[binary.BigEndian.Uint64(r.Step.Body)] = true
+			}
 		}
 		return nil
 	})
-	return ended, err
+	return found, err
 }
 
 // take carries out one record.
@@ -250,17 +255,31 @@ func (r *replay) take(record journal.Record) error {
 		return r.takeOpen(record)
 	case journal.GivenUp:
 		return r.takeGivenUp(step.Tenant)
+	case journal.TakenBack:
+		return nil
+	case frames.Remove, frames.Compact:
+		return r.takeRequest(record, step.Tenant)
+	case frames.Copy:
+		return r.takeRequest(record, string(step.Body))
 	}
 	stream := r.streams[step.Tenant]
 	if stream == nil || stream.isLeftOut || step.Kind == frames.End && !stream.hasEnd {
 		return nil
 	}
-	stream.fed += int64(len(step.Body))
 	if step.Kind == frames.End {
 		delete(r.streams, step.Tenant)
-		r.store.mutex.Lock()
-		r.store.since[step.Tenant] += stream.fed
-		r.store.mutex.Unlock()
+	}
+	return r.send(record)
+}
+
+// takeRequest carries out a request of the operator that changes a tenant. A stream that the tenant has in the journal still was not with
+// the child when it got the request: it was lost with an earlier child.
+func (r *replay) takeRequest(record journal.Record, changed string) error {
+	if r.fate.takenBack[record.Number] {
+		return nil
+	}
+	if err := r.takeGivenUp(changed); err != nil {
+		return err
 	}
 	return r.send(record)
 }
@@ -274,7 +293,7 @@ func (r *replay) takeOpen(record journal.Record) error {
 	if len(record.Step.Body) == 1 {
 		stream.form = Form(record.Step.Body[0])
 	}
-	stream.hasEnd = r.ended[record.Number]
+	stream.hasEnd = r.fate.ended[record.Number]
 	stream.isLeftOut = stream.form == Whole && !stream.hasEnd
 	r.streams[tenant] = stream
 	if stream.isLeftOut {
@@ -298,7 +317,7 @@ func (r *replay) drop(tenant string) {
 	stream := r.streams[tenant]
 	delete(r.streams, tenant)
 	if !stream.isLeftOut {
-		giveUp(context.Background(), r.process, tenant, stream.form)
+		giveUp(context.Background(), r.process, tenant)
 	}
 }
 
@@ -324,9 +343,14 @@ func (r *replay) settle(most int) error {
 		if outOfMemory(answers) {
 			return fmt.Errorf("the child has no memory to carry out the journal: %w", &Refused{90})
 		}
-		if it.record.Step.Kind == frames.End {
+		if isAwaited(it.record.Step.Kind) {
 			r.answers[it.record.Number] = answers[0]
 		}
 	}
 	return nil
+}
+
+// isAwaited tells whether somebody may wait for what comes of a record.
+func isAwaited(kind frames.Kind) bool {
+	return kind == frames.End || kind == frames.Remove || kind == frames.Compact || kind == frames.Copy
 }

@@ -34,8 +34,8 @@ var (
 	ErrClosed = errors.New("the server stops; try again")
 	// ErrLoad says that the child cannot load the pool file or carry the journal out.
 	ErrLoad = errors.New("the pool cannot be loaded")
-	// ErrInHand says that another server has the folder.
-	ErrInHand = errors.New("another server has this folder in hand")
+	// ErrInHand says that another server has the folder, or another run its pool file.
+	ErrInHand = errors.New("another server or run has this in hand")
 )
 
 // Refused is a step that the child refused, by the number of its fault.
@@ -51,8 +51,6 @@ type Config struct {
 	Program string
 	// ChildMemory is the most bytes of address space that the child may take, 0 for no limit.
 	ChildMemory int64
-	// Patience is how long a save waits for streams that are open, before it gives up those of clients that speak frames.
-	Patience time.Duration
 	// Tell writes a line for the operator.
 	Tell func(format string, values ...any)
 }
@@ -60,7 +58,7 @@ type Config struct {
 // Store is one pool. Its methods may be called by many goroutines at once.
 type Store struct {
 	config   Config
-	lock     *os.File
+	locks    locks
 	journal  *journal.Journal
 	maintain chan struct{}
 	wanted   chan struct{}
@@ -68,9 +66,8 @@ type Store struct {
 	closing  chan struct{}
 	once     sync.Once
 
-	// Who is inside `steps` may use the process; it is replaced while the gate is shut. Who is inside `streams` has a stream.
+	// Who is inside `steps` may use the process; while the gate is shut, it is replaced, saves, or carries out a request of the operator.
 	steps   *gate
-	streams *gate
 	process *child.Process
 	room    string
 
@@ -78,7 +75,7 @@ type Store struct {
 	newest *child.Process
 	open   map[string]*Stream
 	ends   map[uint64]end
-	sizes  map[string]poolfile.Size
+	sizes  map[string]Size
 	since  map[string]int64
 	counts Counts
 	taken  atomic.Int64
@@ -92,14 +89,14 @@ type Counts struct {
 
 // Open takes a pool up: it reads the journal through, starts the child, and carries out what the pool file has not.
 func Open(config Config) (*Store, error) {
-	lock, err := lockFolder(config.Folder)
+	held, err := lockAll(config.Folder)
 	if err != nil {
 		return nil, err
 	}
-	s := &Store{config: config, lock: lock, maintain: make(chan struct{}, 1), wanted: make(chan struct{}, 1),
-		stopping: make(chan struct{}), closing: make(chan struct{}), steps: newGate(), streams: newGate(), open: map[string]*Stream{}, ends: map[uint64]end{}}
+	s := &Store{config: config, locks: held, maintain: make(chan struct{}, 1), wanted: make(chan struct{}, 1),
+		stopping: make(chan struct{}), closing: make(chan struct{}), steps: newGate(), open: map[string]*Stream{}, ends: map[uint64]end{}}
 	if err := s.begin(); err != nil {
-		lock.Close()
+		held.close()
 		return nil, err
 	}
 	return s, nil
@@ -129,17 +126,44 @@ func (s *Store) folder(name string) string { return filepath.Join(s.config.Folde
 
 func (s *Store) work() string { return s.folder("work") }
 
-// lockFolder keeps a second server out, for as long as the file is open.
-func lockFolder(folder string) (*os.File, error) {
-	file, err := os.OpenFile(filepath.Join(folder, "lock"), os.O_RDWR|os.O_CREATE, 0o600)
+// locks keep others out for as long as they are open: a second server of the folder, and a run of the program on its pool file.
+type locks struct{ folder, pool *os.File }
+
+func lockAll(folder string) (locks, error) {
+	first, err := lockFile(filepath.Join(folder, "lock"))
+	if err != nil {
+		return locks{}, fmt.Errorf("%s: %w", folder, err)
+	}
+	second, err := lockFile(filepath.Join(folder, "pool.new"))
+	if err != nil {
+		first.Close()
+		return locks{}, fmt.Errorf("%s/pool: %w", folder, err)
+	}
+	return locks{first, second}, nil
+}
+
+// lockFile makes a file and locks it, as `gitpool` does with the lock file of a pool file.
+func lockFile(path string) (*os.File, error) {
+	file, err := os.OpenFile(path, os.O_RDWR|os.O_CREATE|syscall.O_NOFOLLOW|syscall.O_NONBLOCK, 0o600)
 	if err != nil {
 		return nil, err
 	}
-	if err := syscall.Flock(int(file.Fd()), syscall.LOCK_EX|syscall.LOCK_NB); err != nil {
-		file.Close()
-		return nil, fmt.Errorf("%s: %w", folder, ErrInHand)
+	if syscall.Flock(int(file.Fd()), syscall.LOCK_EX|syscall.LOCK_NB) == nil {
+		// Whoever has the lock takes the name away.
+		mine, err := file.Stat()
+		named, errNamed := os.Lstat(path)
+		if err == nil && errNamed == nil && os.SameFile(mine, named) {
+			return file, nil
+		}
 	}
-	return file, nil
+	file.Close()
+	return nil, ErrInHand
+}
+
+func (l locks) close() {
+	os.Remove(l.pool.Name())
+	l.pool.Close()
+	l.folder.Close()
 }
 
 // sweep removes the rooms of children whose server was killed.
@@ -161,7 +185,7 @@ type Batch = child.Batch
 
 // Ask sends questions to the child in one batch. It waits while the child is replaced, as long as the context lasts.
 func (s *Store) Ask(ctx context.Context, class child.Class, steps ...frames.Step) (*Batch, error) {
-	if err := s.enter(ctx, s.steps); err != nil {
+	if err := s.enter(ctx); err != nil {
 		return nil, err
 	}
 	defer s.steps.leave()
@@ -169,13 +193,13 @@ func (s *Store) Ask(ctx context.Context, class child.Class, steps ...frames.Step
 	return s.process.Send(ctx, class, steps...)
 }
 
-// enter goes through a gate, unless the store closes.
-func (s *Store) enter(ctx context.Context, through *gate) error {
+// enter goes through the gate `steps`, unless the store closes.
+func (s *Store) enter(ctx context.Context) error {
 	select {
 	case <-s.closing:
 		return ErrClosed
 	default:
-		return through.enter(ctx)
+		return s.steps.enter(ctx)
 	}
 }
 
@@ -185,7 +209,7 @@ func (s *Store) count(change func(*Counts)) {
 	change(&s.counts)
 }
 
-// Bytes tells how many bytes a tenant has: the contents of its objects at the last save, and what it was fed since.
+// Bytes tells how many bytes a tenant has: the contents of its objects when the child was last asked, and what it was fed since.
 func (s *Store) Bytes(tenant string) int64 {
 	s.mutex.Lock()
 	defer s.mutex.Unlock()
@@ -201,10 +225,10 @@ func (s *Store) Counts() Counts {
 	return counts
 }
 
-// Usage is what a tenant has: its size at the last save, and the bytes that it was fed since.
+// Usage is what a tenant has: its size when the child was last asked, and the bytes that it was fed since.
 type Usage struct {
 	Name string
-	poolfile.Size
+	Size
 	Since int64
 }
 
@@ -263,6 +287,6 @@ func (s *Store) Close(ctx context.Context) error {
 	_ = s.steps.shut(context.Background())
 	os.RemoveAll(s.room)
 	s.journal.Close()
-	s.lock.Close()
+	s.locks.close()
 	return err
 }

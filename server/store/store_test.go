@@ -36,7 +36,7 @@ func folder(t testing.TB) string {
 }
 
 func config(t testing.TB, folder string) Config {
-	return Config{Folder: folder, Program: program(t), Patience: time.Second, Tell: func(format string, values ...any) {
+	return Config{Folder: folder, Program: program(t), Tell: func(format string, values ...any) {
 		if testing.Verbose() {
 			fmt.Printf(format+"\n", values...)
 		}
@@ -58,7 +58,9 @@ func crash(s *Store) {
 	s.process.Kill()
 	s.maintain <- struct{}{}
 	s.journal.Close()
-	s.lock.Close()
+	// A process that is killed leaves the name of the lock file.
+	s.locks.pool.Close()
+	s.locks.folder.Close()
 }
 
 const header = "feature force\nfeature done\n"

@@ -1,7 +1,6 @@
 package store
 
 import (
-	"bytes"
 	"context"
 	"sync"
 
@@ -22,16 +21,26 @@ const (
 	Whole Form = 1
 )
 
-// Stream is the stream of a tenant. Its calls come from one goroutine; a save may give it up meanwhile.
+// Stream is the stream of a tenant. Its calls come from one goroutine.
 type Stream struct {
 	store  *Store
 	tenant string
 	form   Form
 
 	mutex    sync.Mutex
-	process  *child.Process
 	fed      int64
 	isClosed bool
+
+	// These are set inside the gate `steps`, and read while it is shut: the child that has the stream, and the number of its Open in the
+	// journal.
+	process *child.Process
+	number  uint64
+	isEnded bool
+}
+
+// openNumber gives the number of the stream's Open, if this child has the stream open. The gate `steps` is shut.
+func (st *Stream) openNumber(process *child.Process) (number uint64, isOpen bool) {
+	return st.number, st.process == process && st.number > 0 && !st.isEnded
 }
 
 // Pending is a piece that is on its way.
@@ -69,15 +78,10 @@ func replies(answers []frames.Answer) (all []byte, err error) {
 	return all, nil
 }
 
-// Begin opens a stream of a tenant, which has to be ended by Commit or given up. A tenant that has one is refused under 31. While a
-// save waits, Begin waits too, as long as the context lasts.
+// Begin opens a stream of a tenant, which has to be ended by Commit or given up. A tenant that has one is refused under 31.
 func (s *Store) Begin(ctx context.Context, tenant string, form Form) (*Stream, error) {
-	if err := s.enter(ctx, s.streams); err != nil {
-		return nil, err
-	}
 	st := &Stream{store: s, tenant: tenant, form: form}
 	if !s.register(st) {
-		s.streams.leave()
 		return nil, &Refused{31}
 	}
 	pending, err := st.openIn(ctx)
@@ -104,15 +108,17 @@ func (s *Store) register(st *Stream) bool {
 func (st *Stream) openIn(ctx context.Context) (Pending, error) {
 	st.mutex.Lock()
 	defer st.mutex.Unlock()
-	if err := st.store.enter(ctx, st.store.steps); err != nil {
+	if err := st.store.enter(ctx); err != nil {
 		return Pending{}, err
 	}
 	defer st.store.steps.leave()
 	st.process = st.store.process
 	record := frames.Step{Kind: frames.Open, Tenant: st.tenant, Body: []byte{byte(st.form)}}
-	if _, err := st.store.journal.Append(record); err != nil {
+	number, err := st.store.journal.Append(record)
+	if err != nil {
 		return Pending{}, err
 	}
+	st.number = number
 	batch, err := st.process.Send(ctx, child.Short, frames.Step{Kind: frames.Open, Tenant: st.tenant})
 	return Pending{batch}, err
 }
@@ -137,7 +143,7 @@ func (st *Stream) Feed(ctx context.Context, body []byte) (Pending, error) {
 
 // enter goes in where the stream is open and its child is the one that there is.
 func (st *Stream) enter(ctx context.Context) error {
-	if err := st.store.enter(ctx, st.store.steps); err != nil {
+	if err := st.store.enter(ctx); err != nil {
 		return err
 	}
 	if st.isClosed || st.process != st.store.process {
@@ -228,7 +234,8 @@ func (st *Stream) sendEnd(ctx context.Context, last []byte) (uint64, *Batch, err
 	if err != nil {
 		return 0, nil, err
 	}
-	s.expect(number, st.tenant)
+	st.isEnded = true
+	s.expect(number, end{tenant: st.tenant})
 	s.taken.Add(int64(len(steps)))
 	faultpoint.Here("before the end is sent")
 	batch, err := st.process.Send(context.Background(), child.Short, steps...)
@@ -242,35 +249,28 @@ func (st *Stream) sendEnd(ctx context.Context, last []byte) (uint64, *Batch, err
 func (st *Stream) GiveUp() {
 	st.mutex.Lock()
 	defer st.mutex.Unlock()
-	st.giveUp()
-}
-
-// giveUpIdle gives the stream up where none of its calls is at work.
-func (st *Stream) giveUpIdle() {
-	if st.mutex.TryLock() {
-		defer st.mutex.Unlock()
-		st.giveUp()
-	}
-}
-
-func (st *Stream) giveUp() {
 	if st.isClosed {
 		return
 	}
 	ctx := context.Background()
 	if err := st.enter(ctx); err == nil {
-		_, err := st.store.journal.Append(frames.Step{Kind: journal.GivenUp, Tenant: st.tenant})
-		if err != nil {
-			st.store.config.Tell("a stream that was given up is not noted in the journal: %v", err)
-		}
-		giveUp(ctx, st.process, st.tenant, st.form)
+		st.store.noteGivenUp(st.tenant)
+		st.isEnded = true
+		giveUp(ctx, st.process, st.tenant)
 		st.store.steps.leave()
 	}
 	st.store.count(func(c *Counts) { c.GivenUp++ })
 	st.close(false)
 }
 
-// close lets the tenant have another stream, and a save go on.
+// noteGivenUp lets the journal keep the steps of a tenant's stream no longer than until the next save.
+func (s *Store) noteGivenUp(tenant string) {
+	if _, err := s.journal.Append(frames.Step{Kind: journal.GivenUp, Tenant: tenant}); err != nil {
+		s.config.Tell("a stream that was given up is not noted in the journal: %v", err)
+	}
+}
+
+// close lets the tenant have another stream.
 func (st *Stream) close(well bool) {
 	s := st.store
 	st.isClosed = true
@@ -285,20 +285,21 @@ func (st *Stream) close(well bool) {
 		s.since[st.tenant] += st.fed
 	}
 	s.mutex.Unlock()
-	s.streams.leave()
 }
 
-// end is an End that is in the journal, and of which nobody was told.
+// end is an End of a tenant, or a request of the operator, that is in the journal, and of which nobody was told.
 type end struct {
-	tenant string
-	answer chan frames.Answer
+	tenant    string
+	isRequest bool
+	answer    chan frames.Answer
 }
 
-// expect lets `outcome` wait for the answer to an End that is in the journal.
-func (s *Store) expect(number uint64, tenant string) {
+// expect lets `outcome` wait for the answer to what is in the journal under a number.
+func (s *Store) expect(number uint64, it end) {
 	s.mutex.Lock()
 	defer s.mutex.Unlock()
-	s.ends[number] = end{tenant, make(chan frames.Answer, 1)}
+	it.answer = make(chan frames.Answer, 1)
+	s.ends[number] = it
 }
 
 func (s *Store) forget(number uint64) {
@@ -307,7 +308,7 @@ func (s *Store) forget(number uint64) {
 	delete(s.ends, number)
 }
 
-// outcome waits until another child has carried an End out, and gives its answer.
+// outcome waits until another child has carried it out, and gives its answer.
 func (s *Store) outcome(number uint64) ([]frames.Answer, error) {
 	s.mutex.Lock()
 	it := s.ends[number]
@@ -320,7 +321,7 @@ func (s *Store) outcome(number uint64) ([]frames.Answer, error) {
 	}
 }
 
-// tellEnds gives the answers to Ends to the pushes that wait for them.
+// tellEnds gives answers to those who wait for them.
 func (s *Store) tellEnds(answers map[uint64]frames.Answer) {
 	s.mutex.Lock()
 	defer s.mutex.Unlock()
@@ -332,30 +333,9 @@ func (s *Store) tellEnds(answers map[uint64]frames.Answer) {
 	}
 }
 
-// Lines that begin no command refuse a stream, wherever it stands: at a command at once; in the middle of a data, once its bytes are
-// there. A data has at most 64 MiB; after that much the stream has been refused, or it had said `done` and takes no more.
-const (
-	noCommand   = "\ngive-up\n"
-	mostRefused = 76 << 20
-)
-
-// noCommands are the pieces of such lines that are fed, the last of them again and again.
-var noCommands = [...]int{len(noCommand), 1 << 16, 1 << 20, 8 << 20}
-
-// giveUp ends a stream in the child. One that asked for `done` and has not said it is refused by its End; another one is refused first.
-func giveUp(ctx context.Context, p *child.Process, tenant string, form Form) {
-	for i, fed := 0, 0; form == Checkpoints && fed < mostRefused; i++ {
-		if i == len(noCommands) {
-			i--
-		}
-		body := bytes.Repeat([]byte(noCommand), noCommands[i]/len(noCommand))
-		fed += len(body)
-		answers, err := sendAndWait(ctx, p, frames.Step{Kind: frames.Feed, Tenant: tenant, Body: body})
-		if err != nil || answers[0].Status != frames.Ok {
-			break
-		}
-	}
-	_, _ = sendAndWait(ctx, p, frames.Step{Kind: frames.End, Tenant: tenant})
+// giveUp gives a stream up in the child: its last checkpoint stays.
+func giveUp(ctx context.Context, p *child.Process, tenant string) {
+	_, _ = sendAndWait(ctx, p, frames.Step{Kind: frames.Abandon, Tenant: tenant})
 }
 
 func sendAndWait(ctx context.Context, p *child.Process, step frames.Step) ([]frames.Answer, error) {

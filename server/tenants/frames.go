@@ -10,7 +10,7 @@ import (
 	"gitpoold/store"
 )
 
-// FrameStream is a stream of a client that speaks frames: its steps are answered as `gitpool serve` answers them, and an End lasts from
+// FrameStream is a stream of a client that speaks frames: its steps are answered as `gitpool host` answers them, and an End lasts from
 // its answer on. It belongs to one goroutine.
 type FrameStream struct {
 	inner *store.Stream

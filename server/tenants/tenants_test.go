@@ -27,7 +27,7 @@ func pool(t testing.TB, quota int64) *Pool {
 	if err := store.Create(folder, program); err != nil {
 		t.Fatal(err)
 	}
-	s, err := store.Open(store.Config{Folder: folder, Program: program, Patience: time.Second, Tell: func(string, ...any) {}})
+	s, err := store.Open(store.Config{Folder: folder, Program: program, Tell: func(string, ...any) {}})
 	if err != nil {
 		t.Fatal(err)
 	}

@@ -31,3 +31,11 @@ func (t Tenant) Room() (int64, error) {
 	}
 	return room, nil
 }
+
+// Names gives the names of all tenants that have, or were fed, something, in order. Who may see which is for the caller to ask.
+func (p *Pool) Names() (names []string) {
+	for _, it := range p.store.Usages() {
+		names = append(names, it.Name)
+	}
+	return names
+}

@@ -1,0 +1,125 @@
+package browse
+
+import (
+	"bytes"
+	"fmt"
+	"strconv"
+	"strings"
+	"time"
+
+	"gitpoold/objects"
+	"gitpoold/tenants"
+)
+
+// Person is who wrote, committed or tagged something, and when.
+type Person struct {
+	Name, Email string
+	When        time.Time
+}
+
+// Message is a message in two parts: its first paragraph in one line, and what comes after it.
+type Message struct{ Subject, Body string }
+
+// Commit is a commit.
+type Commit struct {
+	Name              tenants.Name
+	Tree              tenants.Name
+	Parents           []tenants.Name
+	Author, Committer Person
+	Message
+}
+
+// Tag is an annotated tag.
+type Tag struct {
+	Name   tenants.Name
+	Target tenants.Name
+	Label  string // the tag's own name
+	Tagger Person
+	Message
+}
+
+// ReadCommit reads a commit.
+func ReadCommit(o tenants.Object) (*Commit, error) {
+	if o.Kind != tenants.Commit {
+		return nil, fmt.Errorf("%v: %w", o.Name, ErrKind)
+	}
+	head, message := readHeader(o.Contents)
+	read := objects.ReadHead(o.Contents)
+	text := decoder(head["encoding"])
+	return &Commit{Name: o.Name, Tree: read.Tree, Parents: read.Parents, Author: readPerson(head["author"], text),
+		Committer: readPerson(head["committer"], text), Message: readMessage(text(message))}, nil
+}
+
+// ReadTag reads an annotated tag.
+func ReadTag(o tenants.Object) (*Tag, error) {
+	if o.Kind != tenants.Tag {
+		return nil, fmt.Errorf("%v: %w", o.Name, ErrKind)
+	}
+	head, message := readHeader(o.Contents)
+	text := decoder(nil)
+	target, _ := objects.Tagged(o.Contents)
+	return &Tag{Name: o.Name, Target: target, Label: string(head["tag"]), Tagger: readPerson(head["tagger"], text),
+		Message: readMessage(text(message))}, nil
+}
+
+// readHeader gives the values of header lines, the last one where several have one word, and the message.
+func readHeader(contents []byte) (head map[string][]byte, message []byte) {
+	head = map[string][]byte{}
+	for {
+		line, rest, found := bytes.Cut(contents, []byte("\n"))
+		if len(line) == 0 || !found {
+			return head, rest
+		}
+		word, value, _ := bytes.Cut(line, []byte(" "))
+		head[string(word)] = value
+		contents = rest
+	}
+}
+
+// decoder gives what reads the text of a commit: as the encoding says that it has, if that is Latin-1, and else as UTF-8.
+func decoder(encoding []byte) func([]byte) string {
+	switch strings.ToLower(string(encoding)) {
+	case "iso-8859-1", "iso8859-1", "latin1", "latin-1":
+		return latin
+	}
+	return func(text []byte) string { return string(text) }
+}
+
+func latin(text []byte) string {
+	runes := make([]rune, len(text))
+	for at, it := range text {
+		runes[at] = rune(it)
+	}
+	return string(runes)
+}
+
+// readPerson reads an ident such as `Ada <ada@example.org> 1700000000 +0100`.
+func readPerson(ident []byte, text func([]byte) string) Person {
+	name, rest, _ := bytes.Cut(ident, []byte("<"))
+	email, date, _ := bytes.Cut(rest, []byte("> "))
+	digits, zone, _ := bytes.Cut(date, []byte(" "))
+	p := Person{Name: strings.TrimSpace(text(name)), Email: text(email)}
+	seconds, err := strconv.ParseInt(string(digits), 10, 64)
+	if err == nil && seconds < lastSecond {
+		p.When = time.Unix(seconds, 0).In(readZone(string(zone)))
+	}
+	return p
+}
+
+// lastSecond is the end of the year 9999.
+const lastSecond = 253402300800
+
+// readZone reads hours and minutes from UTC, such as -0330.
+func readZone(text string) *time.Location {
+	minutes, err := strconv.Atoi(text)
+	if err != nil || len(text) != 5 {
+		return time.UTC
+	}
+	return time.FixedZone("", (minutes/100*60+minutes%100)*60)
+}
+
+func readMessage(text string) Message {
+	text = strings.Trim(text, "\n")
+	subject, body, _ := strings.Cut(text, "\n\n")
+	return Message{strings.ReplaceAll(strings.TrimSpace(subject), "\n", " "), strings.Trim(body, "\n")}
+}

@@ -1,0 +1,219 @@
+package httpd
+
+import (
+	"bufio"
+	"bytes"
+	"fmt"
+	"net"
+	"net/http"
+	"net/url"
+	"regexp"
+	"strings"
+	"time"
+
+	"gitpoold/access"
+	"gitpoold/pages"
+	"gitpoold/site"
+)
+
+// page answers a browser.
+func (e *exchange) page(place pages.Place) {
+	if e.r.Method != http.MethodGet && e.r.Method != http.MethodHead {
+		e.w.Header().Set("Allow", "GET, HEAD")
+		e.fail(http.StatusMethodNotAllowed, "a page is asked by GET")
+		return
+	}
+	e.finish()
+	v := pages.Visit{Place: place, Query: e.r.URL.Query(), Now: time.Now(), Markdown: e.Markdown}
+	unescaped, _ := url.PathUnescape(place.URL())
+	switch {
+	case place.Kind == pages.Style || place.Kind == pages.Icon:
+		e.send(pages.Static(place.Kind))
+		return
+	case unescaped != e.r.URL.Path:
+		// It says nothing of whether there is such a tenant.
+		e.send(pages.Answer{Status: http.StatusFound, Location: place.URL()})
+		return
+	}
+	e.record.Tenant = place.Tenant
+	user, isRight := e.login()
+	if v.User = user; !isRight {
+		v.User = ""
+		e.askSignIn(v, "The user or the password is wrong.")
+		return
+	}
+	leave, err := e.Limits.Enter(user, e.record.Address)
+	if err != nil {
+		e.w.Header().Set("Retry-After", "1")
+		e.send(v.Refusal(http.StatusTooManyRequests, "Too many requests at once", "Please try again in a moment."))
+		return
+	}
+	defer leave()
+	// Whatever the peer does, its connection ends then.
+	timer := time.AfterFunc(e.Limits.Get().Request, func() { stop(e.r) })
+	defer timer.Stop()
+	e.visit(v)
+}
+
+// visit lets a user in, or says that there is no such repository.
+func (e *exchange) visit(v pages.Visit) {
+	if v.Place.Kind == pages.Tenants {
+		if to, wants := v.Query["sign-in"]; wants {
+			e.signIn(v, to[0])
+			return
+		}
+		v.Listed = e.listed(v.User)
+		e.send(v.Answer(e.r.Context()))
+		return
+	}
+	t, err := e.Open(v.User, v.Place.Tenant, access.Read)
+	switch {
+	case err != nil && v.User == "":
+		e.askSignIn(v, "This needs a user and a password.")
+		return
+	case err != nil:
+		e.send(v.Refusal(http.StatusNotFound, "No such repository", "There is no such repository, or you may not read it."))
+		return
+	}
+	v.Repository = t
+	v.CloneHTTP, v.CloneSSH = e.cloneURLs(v.User, v.Place.Tenant)
+	e.send(v.Answer(e.r.Context()))
+}
+
+// listed are the tenants that a user may see and that have something.
+func (e *exchange) listed(user string) (all []pages.Listed) {
+	for _, name := range e.Pool.Names() {
+		right := e.Access.Right(user, name)
+		if right == access.None {
+			continue
+		}
+		if t, err := e.Pool.Tenant(name); err == nil {
+			all = append(all, pages.Listed{Name: name, CanPush: right >= access.Write, Repository: t})
+		}
+	}
+	return all
+}
+
+func (e *exchange) askSignIn(v pages.Visit, why string) {
+	e.w.Header().Set("WWW-Authenticate", challenge)
+	e.send(v.Refusal(http.StatusUnauthorized, "Sign in", why))
+}
+
+// signIn asks who the user is, and leads back to the page from which they came.
+func (e *exchange) signIn(v pages.Visit, to string) {
+	if v.User == "" {
+		e.askSignIn(v, "This needs a user and a password.")
+		return
+	}
+	back := pages.Place{Kind: pages.Tenants}
+	if path, err := url.PathUnescape(to); err == nil {
+		if place, is := pages.Parse(path); is {
+			back = place
+		}
+	}
+	e.send(pages.Answer{Status: http.StatusSeeOther, Location: back.URL()})
+}
+
+var hostForm = regexp.MustCompile(`^(?:[A-Za-z0-9.-]{1,253}|\[[0-9A-Fa-f:.]{2,45}\])(?::[0-9]{1,5})?$`)
+
+// cloneURLs are what git takes, by the name under which the browser found the server.
+func (e *exchange) cloneURLs(user, tenant string) (overHTTP, overSSH string) {
+	host, who := e.r.Host, ""
+	if !hostForm.MatchString(host) {
+		return "", ""
+	}
+	if user != "" {
+		who = user + "@"
+	}
+	scheme := "http"
+	if e.r.TLS != nil || strings.EqualFold(e.r.Header.Get("X-Forwarded-Proto"), "https") {
+		scheme = "https"
+	}
+	overHTTP = fmt.Sprintf("%s://%s%s/%s.git", scheme, who, host, tenant)
+	if e.SSHPort != 0 && user != "" {
+		name, _, err := net.SplitHostPort(host)
+		if err != nil {
+			name = strings.Trim(host, "[]")
+		}
+		overSSH = fmt.Sprintf("ssh://%s%s/%s.git", who, net.JoinHostPort(name, fmt.Sprint(e.SSHPort)), tenant)
+	}
+	return overHTTP, overSSH
+}
+
+// What a browser may do with an answer: a page may use the server's own style and icon; anything else may do nothing.
+const (
+	pagePolicy = "default-src 'none'; style-src 'self'; img-src 'self'; base-uri 'none'; form-action 'none'; frame-ancestors 'none'"
+	filePolicy = "default-src 'none'; base-uri 'none'; form-action 'none'; frame-ancestors 'none'; sandbox"
+)
+
+// send sends an answer, or that the browser has it already.
+func (e *exchange) send(a pages.Answer) {
+	h := e.w.Header()
+	h.Set("X-Content-Type-Options", "nosniff")
+	h.Set("Referrer-Policy", "no-referrer")
+	h.Set("Cross-Origin-Resource-Policy", "same-origin")
+	h.Set("Content-Security-Policy", filePolicy)
+	h.Set("Cache-Control", "private, no-cache")
+	h.Set("Vary", "Authorization")
+	if a.IsPage {
+		h.Set("Content-Security-Policy", pagePolicy)
+	}
+	if a.IsStatic {
+		h.Set("Cache-Control", "public, max-age=31536000, immutable")
+		h.Del("Vary")
+	}
+	if a.Tag != "" {
+		h.Set("ETag", `"`+a.Tag+`"`)
+	}
+	if a.Name != "" {
+		h.Set("Content-Disposition", a.Name)
+	}
+	e.record.Err = a.Err
+	switch {
+	case a.Location != "":
+		h.Set("Location", a.Location)
+		e.w.WriteHeader(a.Status)
+	case a.Stream != nil:
+		h.Set("Content-Type", a.Kind)
+		e.stream(a)
+	case a.Status != http.StatusOK:
+		h.Set("Content-Type", a.Kind)
+		e.w.WriteHeader(a.Status)
+		_, _ = e.w.Write(a.Body)
+	default:
+		h.Set("Content-Type", a.Kind)
+		http.ServeContent(e.w, e.r, "", time.Time{}, bytes.NewReader(a.Body))
+	}
+}
+
+// stream sends what is written as it comes. Where that ends too soon, so does the connection, and a browser says so.
+func (e *exchange) stream(a pages.Answer) {
+	if strings.Contains(e.r.Header.Get("If-None-Match"), `"`+a.Tag+`"`) {
+		e.w.Header().Del("Content-Type")
+		e.w.WriteHeader(http.StatusNotModified)
+		return
+	}
+	e.w.WriteHeader(http.StatusOK)
+	if e.r.Method == http.MethodHead {
+		return
+	}
+	out := bufio.NewWriterSize(e.w, 64<<10)
+	err := a.Stream(e.r.Context(), out)
+	if err == nil {
+		err = out.Flush()
+	}
+	if e.record.Err = err; err != nil {
+		stop(e.r)
+	}
+}
+
+// notFound answers a path at which nothing is: a browser gets a page.
+func (e *exchange) notFound() {
+	if !strings.Contains(e.r.Header.Get("Accept"), "text/html") {
+		e.fail(http.StatusNotFound, site.ErrNotFound.Error())
+		return
+	}
+	e.finish()
+	v := pages.Visit{Place: pages.Place{Kind: pages.Tenants}}
+	e.send(v.Refusal(http.StatusNotFound, "No such page", "There is nothing at this address."))
+}

@@ -1,0 +1,79 @@
+package journal
+
+import (
+	"errors"
+	"os"
+
+	"gitpoold/faultpoint"
+)
+
+// Begin begins a segment for the steps that come after a pool file, which may become the pool file now. `open` has the numbers of the
+// Opens of the streams that are open, in rising order: the pool file has what their tenants had at them. The segment is on the disk when
+// Begin returns nil; else the journal goes on in the segment that it had.
+func (j *Journal) Begin(pool Digest, open []uint64) error {
+	j.mutex.Lock()
+	defer j.mutex.Unlock()
+	if j.broken == nil {
+		if err := j.file.Sync(); err != nil {
+			j.fail(err)
+			return j.broken
+		}
+		j.synced = j.appended
+	}
+	made := segment{number: j.current().number + 1, pool: pool, open: open}
+	file, err := made.create(j.folder, j.synced)
+	if err != nil {
+		if _, left := os.Stat(path(j.folder, made.number)); !errors.Is(left, os.ErrNotExist) {
+			// Nothing may follow in this segment while another one stands behind it.
+			j.broken = ErrBroken
+		}
+		return err
+	}
+	j.file.Close()
+	j.current().size = j.synced.size
+	j.segments = append(j.segments, made)
+	j.file, j.appended, j.synced, j.broken = file, made.end, made.end, nil
+	return nil
+}
+
+// Drop removes the segments that are not needed any more: the pool file that the last one names is in its place and synced.
+func (j *Journal) Drop() error {
+	j.mutex.Lock()
+	defer j.mutex.Unlock()
+	j.base = len(j.segments) - 1
+	return j.dropUnneeded()
+}
+
+// dropUnneeded removes the segments before the base that have no step of a stream which was open at its save.
+func (j *Journal) dropUnneeded() error {
+	for from := j.neededFrom(); from > 0; from-- {
+		faultpoint.Here("before a segment is removed")
+		if err := os.Remove(path(j.folder, j.segments[0].number)); err != nil && !errors.Is(err, os.ErrNotExist) {
+			return err
+		}
+		j.segments = j.segments[1:]
+		j.base--
+	}
+	faultpoint.Here("after all segments are removed")
+	return syncFolder(j.folder)
+}
+
+// neededFrom is the place of the first segment that is carried out.
+func (j *Journal) neededFrom() int {
+	base := j.segments[j.base]
+	from := j.base
+	for len(base.open) > 0 && from > 0 && j.segments[from].first > base.open[0] {
+		from--
+	}
+	return from
+}
+
+// baseOf gives the place of the last segment that goes on from a pool file.
+func (j *Journal) baseOf(pool Digest) (int, error) {
+	for at := len(j.segments) - 1; at >= 0; at-- {
+		if j.segments[at].pool == pool {
+			return at, nil
+		}
+	}
+	return 0, lostPool(j.folder, pool)
+}

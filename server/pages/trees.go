@@ -1,0 +1,246 @@
+package pages
+
+import (
+	"context"
+	"net/http"
+	"path"
+	"sort"
+	"strconv"
+	"strings"
+
+	"gitpoold/browse"
+	"gitpoold/tenants"
+)
+
+// Most of a tree that one page shows: entries, and bytes of their names.
+const (
+	mostEntries = 1000
+	mostNames   = 256 << 10
+)
+
+// entryRow is an entry of a tree as its page shows it.
+type entryRow struct {
+	URL, Name, Kind, Class string
+}
+
+// listing is a tree, or a page of it.
+type listing struct {
+	Rows        []entryRow
+	Count, More string
+	Parent      string
+	Latest      *commitLine
+	Archive     string
+	Readme      *readme
+}
+
+// listing reads a tree and, on its first page, its README.
+func (v Visit) listing(ctx context.Context, at Place, tree tenants.Name, c *browse.Commit) (*listing, error) {
+	o, err := browse.Object(ctx, v.Repository, tree)
+	if err != nil {
+		return nil, err
+	}
+	entries, err := browse.Entries(o)
+	if err != nil {
+		return nil, err
+	}
+	sort.SliceStable(entries, func(i, k int) bool { return entries[i].IsTree() && !entries[k].IsTree() })
+	l := &listing{Count: several(len(entries), "entry", "entries"), Latest: v.lineOf(at, c)}
+	if c != nil {
+		l.Archive = at.At(Archive, at.Revision, "").URL()
+	}
+	if at.Path != "" {
+		l.Parent = at.At(Tree, at.Revision, parentOf(at.Path)).URL()
+	}
+	from, _ := strconv.Atoi(v.Query.Get("from"))
+	if from < 0 || from > len(entries) {
+		from = 0
+	}
+	names := 0
+	for _, it := range entries[from:] {
+		if names += len(it.Path); len(l.Rows) > 0 && (len(l.Rows) == mostEntries || names > mostNames) {
+			l.More = at.URL() + "?from=" + strconv.Itoa(from+len(l.Rows))
+			break
+		}
+		l.Rows = append(l.Rows, rowOf(at, it))
+	}
+	if from == 0 {
+		l.Readme, err = v.readme(ctx, at, entries)
+	}
+	return l, err
+}
+
+func parentOf(of string) string {
+	if parent := path.Dir(of); parent != "." {
+		return parent
+	}
+	return ""
+}
+
+// joinedPath is the path of an entry below a directory.
+func joinedPath(folder, name string) string {
+	if folder == "" {
+		return name
+	}
+	return folder + "/" + name
+}
+
+func rowOf(at Place, it browse.Entry) entryRow {
+	row := entryRow{Name: visible(it.Path), URL: at.At(Blob, at.Revision, joinedPath(at.Path, it.Path)).URL()}
+	switch {
+	case it.IsTree():
+		row.URL = at.At(Tree, at.Revision, joinedPath(at.Path, it.Path)).URL()
+		row.Kind, row.Class = "directory", "d"
+	case it.IsGitlink():
+		row.URL, row.Kind, row.Class = "", "submodule at "+it.Name.String()[:10], "m"
+	case it.IsLink():
+		row.Kind, row.Class = "symbolic link", "l"
+	case it.Mode == "100755":
+		row.Kind, row.Class = "executable file", "x"
+	default:
+		row.Kind, row.Class = "file", "f"
+	}
+	return row
+}
+
+// home shows a tenant: its files as HEAD has them, and how to clone it.
+func (v Visit) home(ctx context.Context) (Answer, error) {
+	refs, head, err := v.Repository.Refs(ctx)
+	if err != nil {
+		return Answer{}, err
+	}
+	page := struct {
+		Clone, Push          []string
+		Branches, Tags, Refs string
+		Head                 string
+		Listing              *listing
+		IsEmpty              bool
+	}{Clone: v.clones("git clone "), Head: visible(shortRef(head)), Refs: v.Place.At(Refs, "", "").URL(), IsEmpty: len(refs) == 0}
+	if page.IsEmpty {
+		page.Push = v.clones("git push ", " HEAD:main")
+	}
+	page.Branches = several(counted(refs, "refs/heads/"), "branch", "branches")
+	page.Tags = several(counted(refs, "refs/tags/"), "tag", "tags")
+	c, err := headOf(ctx, v.Repository)
+	if err == nil && c != nil {
+		page.Listing, err = v.listing(ctx, v.Place.At(Tree, "HEAD", ""), c.Tree, c)
+	}
+	if err != nil {
+		return Answer{}, err
+	}
+	return v.page("home", frame{Title: v.Place.Tenant, Tab: Home}, page)
+}
+
+func counted(refs []tenants.Ref, front string) (count int) {
+	for _, it := range refs {
+		if strings.HasPrefix(it.Name, front) {
+			count++
+		}
+	}
+	return count
+}
+
+// clones gives commands with the URLs that git takes.
+func (v Visit) clones(front string, after ...string) (commands []string) {
+	for _, it := range []string{v.CloneHTTP, v.CloneSSH} {
+		if it != "" {
+			commands = append(commands, front+visible(it)+strings.Join(after, ""))
+		}
+	}
+	return commands
+}
+
+// found is what a revision and a path come to. Commit is nil where the revision is no commit.
+type found struct {
+	commit *browse.Commit
+	object tenants.Object
+	entry  browse.Entry // of the path in its directory
+}
+
+// find finds a tree or a blob.
+func (v Visit) find(ctx context.Context) (f found, err error) {
+	at := v.Place
+	whole := at.Revision + "^{}"
+	if at.Path != "" {
+		whole = at.Revision + ":" + at.Path
+	}
+	names, err := browse.Names(ctx, v.Repository, at.Revision+"^{commit}", whole, at.Revision+":"+parentOf(at.Path))
+	if err != nil {
+		return f, err
+	}
+	if !names[0].IsZero() {
+		if f.commit, err = commitOf(ctx, v.Repository, at.Revision); err != nil || f.commit == nil {
+			return f, err
+		}
+		if at.Path == "" {
+			names[1] = f.commit.Tree
+		}
+	}
+	if f.object, err = browse.Object(ctx, v.Repository, names[1]); err != nil || at.Path == "" {
+		return f, err
+	}
+	parent, err := browse.Object(ctx, v.Repository, names[2])
+	if err != nil {
+		return f, err
+	}
+	entries, err := browse.Entries(parent)
+	for _, it := range entries {
+		if it.Path == path.Base(at.Path) {
+			f.entry = it
+		}
+	}
+	return f, err
+}
+
+// longestCrumbs is how long a path may be of which each directory has a link.
+const longestCrumbs = 4096
+
+// pathCrumbs are the links of the directories that lead to a path; the last one is only its name.
+func (v Visit) pathCrumbs() []link {
+	at := v.Place
+	crumbs := []link{{at.At(Tree, at.Revision, "").URL(), visible(shownRevision(at.Revision))}}
+	if len(at.Path) > longestCrumbs {
+		return append(crumbs, link{"", visible(at.Path)})
+	}
+	for end := 0; end < len(at.Path); end++ {
+		next := strings.IndexByte(at.Path[end:], '/')
+		if next < 0 {
+			next = len(at.Path) - end
+		}
+		crumbs = append(crumbs, link{at.At(Tree, at.Revision, at.Path[:end+next]).URL(), visible(at.Path[end : end+next])})
+		end += next
+	}
+	crumbs[len(crumbs)-1].URL = ""
+	return crumbs
+}
+
+// shownRevision is a revision as people say it: all digits of a name are too many.
+func shownRevision(revision string) string {
+	if _, isName := tenants.ParseName(revision); isName {
+		return revision[:10]
+	}
+	return shortRef(revision)
+}
+
+// tree shows a tree of a revision.
+func (v Visit) tree(ctx context.Context) (Answer, error) {
+	f, err := v.find(ctx)
+	if err != nil {
+		return Answer{}, err
+	}
+	if f.object.Kind == tenants.Blob {
+		return redirect(v.Place.At(Blob, v.Place.Revision, v.Place.Path)), nil
+	}
+	l, err := v.listing(ctx, v.Place, f.object.Name, f.commit)
+	if err != nil {
+		return Answer{}, err
+	}
+	title := v.Place.Tenant + ": "
+	if v.Place.Path != "" {
+		title += visible(v.Place.Path) + " at "
+	}
+	return v.page("tree", frame{Title: title + visible(shownRevision(v.Place.Revision)), Tab: Tree, Revision: v.Place.Revision,
+		Crumbs: v.pathCrumbs()}, struct{ Listing *listing }{l})
+}
+
+// redirect answers with another place.
+func redirect(to Place) Answer { return Answer{Status: http.StatusFound, Location: to.URL()} }

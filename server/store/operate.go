@@ -1,0 +1,131 @@
+package store
+
+import (
+	"bytes"
+	"context"
+	"encoding/binary"
+	"fmt"
+
+	"gitpoold/child"
+	"gitpoold/faultpoint"
+	"gitpoold/frames"
+	"gitpoold/journal"
+)
+
+// Remove removes a tenant. It may be Refused: under 32, and under 31 while the tenant has a stream. The removal lasts when Remove
+// returns nil. What the tenant had stays in the journal until the next save.
+func (s *Store) Remove(ctx context.Context, tenant string) error {
+	return s.operate(ctx, tenant, frames.Step{Kind: frames.Remove, Tenant: tenant})
+}
+
+// Compact removes the objects of a tenant that its refs do not reach. It may be Refused as Remove is, and under 90.
+func (s *Store) Compact(ctx context.Context, tenant string) error {
+	return s.operate(ctx, tenant, frames.Step{Kind: frames.Compact, Tenant: tenant})
+}
+
+// Copy copies a tenant, as it is at its last checkpoint, to an empty one. It may be Refused.
+func (s *Store) Copy(ctx context.Context, from, to string) error {
+	return s.operate(ctx, to, frames.Step{Kind: frames.Copy, Tenant: from, Body: []byte(to)})
+}
+
+// operate carries out a request of the operator that changes one tenant. Where the child dies meanwhile, the next one carries it out.
+func (s *Store) operate(ctx context.Context, changed string, step frames.Step) error {
+	number, err := s.sendRequest(ctx, changed, step)
+	if number == 0 {
+		return err
+	}
+	if err != nil {
+		if _, isRefused := err.(*Refused); !isRefused {
+			answers, lost := s.outcome(number)
+			if err = lost; err == nil {
+				_, err = replies(answers)
+			}
+		}
+	}
+	s.forget(number)
+	return err
+}
+
+// sendRequest puts a request into the journal, syncs that, and lets the child carry the request out. No step comes in between, so that
+// the journal has it at the same place among all steps as the child. The number is 0 if it did not come into the journal, or was taken
+// back there.
+func (s *Store) sendRequest(ctx context.Context, changed string, step frames.Step) (uint64, error) {
+	if err := s.beginMaintenance(ctx); err != nil {
+		return 0, err
+	}
+	defer s.endMaintenance()
+	if err := s.steps.shut(ctx); err != nil {
+		return 0, err
+	}
+	defer s.steps.open()
+	if s.hasStream(changed) {
+		return 0, &Refused{31}
+	}
+	number, err := s.journal.Append(step)
+	if err == nil {
+		err = s.journal.Sync(number)
+	}
+	if err != nil {
+		return 0, err
+	}
+	s.expect(number, end{isRequest: true})
+	faultpoint.Here("before a request of the operator is sent")
+	_, err = s.requestOf(s.process, step)
+	if refused, isRefused := err.(*Refused); isRefused && refused.Number == 90 {
+		s.forget(number)
+		return 0, s.takeRequestBack(number, err)
+	}
+	if err == nil {
+		err = s.readSizes(s.process)
+	}
+	return number, err
+}
+
+func (s *Store) hasStream(tenant string) bool {
+	s.mutex.Lock()
+	defer s.mutex.Unlock()
+	return s.open[tenant] != nil
+}
+
+// takeRequestBack notes that a request which was refused for want of memory does not count: the next start might have the memory. Any
+// other refusal comes again there.
+func (s *Store) takeRequestBack(number uint64, refused error) error {
+	last, err := s.journal.Append(frames.Step{Kind: journal.TakenBack, Body: binary.BigEndian.AppendUint64(nil, number)})
+	if err == nil {
+		err = s.journal.Sync(last)
+	}
+	if err != nil {
+		s.config.Tell("the journal keeps a request of the operator that was refused for want of memory: %v", err)
+		return ErrUnknown
+	}
+	return refused
+}
+
+// Size is what a tenant has at its last checkpoint: how many objects and refs, the bytes of their contents, whoever else has them too,
+// and the bytes that no other tenant has.
+type Size struct{ Objects, Bytes, Own, Refs int64 }
+
+// readSizes asks the child what each tenant has. Nobody else uses the process meanwhile, or the gate `steps` is shut.
+func (s *Store) readSizes(process *child.Process) error {
+	reply, err := s.requestOf(process, frames.Step{Kind: frames.Sizes})
+	if err != nil {
+		return err
+	}
+	sizes := map[string]Size{}
+	for _, line := range bytes.Split(bytes.TrimSuffix(reply, []byte("\n")), []byte("\n")) {
+		var name string
+		var it Size
+		if len(line) == 0 {
+			continue
+		}
+		_, err := fmt.Sscanf(string(line), "%s objects %d bytes %d own %d refs %d", &name, &it.Objects, &it.Bytes, &it.Own, &it.Refs)
+		if err != nil {
+			return fmt.Errorf("the child tells sizes in a line %q: %w", line, err)
+		}
+		sizes[name] = it
+	}
+	s.mutex.Lock()
+	defer s.mutex.Unlock()
+	s.sizes, s.since = sizes, map[string]int64{}
+	return nil
+}
