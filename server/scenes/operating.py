@@ -205,9 +205,9 @@ def commands_say_what_is_wrong(room: ServerRoom) -> None:
 
 @over_http
 def the_first_commands_of_the_manual_serve_a_repository(room: ServerRoom) -> None:
-    """Runs the first two blocks of docs/SERVER.md with other places and ports."""
+    """Runs the two blocks of docs/SERVER.md that follow the packages, with other places and ports."""
     with open(os.path.join(TOP, "docs", "SERVER.md"), encoding="utf-8") as file:
-        blocks = re.findall(r"\n\n((?:    .+\n)+)", file.read())[:2]
+        blocks = re.findall(r"\n\n((?:    .+\n)+)", file.read())[1:3]
     room.site("mine")
     script = "".join(blocks).replace("alice@", "alice:correct%20horse%20battery@", 2).replace("./gitpoold", room.server_program)
     for old, new in (("/srv/git", room.path("srv")), ("/path/to/your/repository", room.path("mine")), ("site.git main", "site.git main; true"),

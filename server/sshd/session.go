@@ -4,6 +4,7 @@ import (
 	"context"
 	"encoding/binary"
 	"fmt"
+	"io"
 	"strings"
 	"time"
 
@@ -43,7 +44,11 @@ func (s *session) serve(ctx context.Context, requests <-chan *ssh.Request) {
 			timer.Stop()
 			reply(request, true)
 			go ssh.DiscardRequests(requests)
-			s.exit(s.run(ctx, request.Payload))
+			status := s.run(ctx, request.Payload)
+			s.exit(status)
+			if status != ended {
+				s.awaitEnd()
+			}
 			return
 		case "shell":
 			reply(request, true)
@@ -76,6 +81,15 @@ func (s *session) exit(status uint32) {
 	var payload [4]byte
 	binary.BigEndian.PutUint32(payload[:], status)
 	_, _ = s.channel.SendRequest("exit-status", false, payload[:])
+}
+
+// awaitEnd reads on, for a second at most, until the client ends its side. A git that writes to an ssh that has gone dies of SIGPIPE before it shows
+// what the server said.
+func (s *session) awaitEnd() {
+	_ = s.channel.CloseWrite()
+	timer := time.AfterFunc(time.Second, func() { s.channel.Close() })
+	defer timer.Stop()
+	_, _ = io.Copy(io.Discard, s.channel)
 }
 
 // say writes a sentence to the user's terminal.
