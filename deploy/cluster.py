@@ -11,10 +11,8 @@ import tempfile
 import time
 from typing import Callable, Dict, List, Optional, Tuple
 
-import redis
-
-from redis_log import AWAY, Log, connect
-from shard import find_program
+from program import Kind, find_program
+from redis_log import AWAY, Log, Server, connect
 
 HERE = os.path.dirname(os.path.realpath(__file__))
 
@@ -25,7 +23,7 @@ Name = Tuple[int, str]
 def free_port() -> int:
     with socket.socket() as it:
         it.bind(("127.0.0.1", 0))
-        return it.getsockname()[1]
+        return int(it.getsockname()[1])
 
 
 def wait_until(is_so: Callable[[], object], seconds: float, what: str) -> None:
@@ -50,7 +48,7 @@ class Cluster:
         self.workers: Dict[Name, "subprocess.Popen[bytes]"] = {}
         self.names = [(shard, machine) for shard in range(shards) for machine in machines]
         self.start_redis()
-        self.server = connect(self.url)
+        self.server: Server = connect(self.url)
         wait_until(self.is_up, 30, "no redis-server")
         self.server.set("gitpool:shards", shards)
         for name in self.names:
@@ -103,7 +101,7 @@ class Cluster:
 
     def place(self, name: Name, what: str = "place") -> str:
         """What a worker last said of itself: its place, or that of its last save."""
-        return self.log(name[0]).workers().get(name[1], {}).get(what, "0-0")
+        return str(self.log(name[0]).workers().get(name[1], {}).get(what, "0-0"))
 
     def move(self, name: Name, machine: str) -> Name:
         """Moves a worker to another machine, as docs/DEPLOY.md says."""
@@ -123,22 +121,24 @@ class Cluster:
         if os.path.exists(self.pool(name)):
             os.unlink(self.pool(name))
 
-    def settle(self, shard: int, seconds: float = 60) -> None:
-        """Asks for a save of a shard, and waits until all its workers have made it at one place."""
-        log = self.log(shard)
+    def settle(self, shard: int, seconds: float = 60, meanwhile: Callable[[], object] = lambda: None) -> None:
+        """Asks for a save of a shard, and waits until all its workers have made it, at one place. Asks again after a while, for a
+        worker may have saved by itself since."""
         names = [it for it in self.names if it[0] == shard]
-
-        def is_saved() -> bool:
-            saved = {self.place(it, "saved") for it in names}
-            return saved == {log.last()}
-
         until = time.monotonic() + seconds
-        while not is_saved():
-            for saved in {self.place(it, "saved") for it in names}:
-                log.settle(1, saved)
+
+        def is_settled(place: str) -> bool:
+            meanwhile()
+            return {self.place(it, "saved") for it in names} == {place}
+
+        while True:
+            place, again = self.log(shard).note(Kind.SAVE), time.monotonic() + 15
+            while time.monotonic() < again:
+                if is_settled(place):
+                    return
+                time.sleep(0.05)
             if time.monotonic() > until:
                 raise TimeoutError(f"shard {shard} is not saved")
-            time.sleep(1.5)
 
 
-__all__ = ["Cluster", "redis", "wait_until"]
+__all__ = ["Cluster", "free_port", "wait_until"]

@@ -1,195 +1,229 @@
 """A shard's log as a stream of Redis, with its answers, its queries and what its workers say of themselves.
 
-All keys of a shard carry `{SHARD}`, so that Redis Cluster keeps them on one node:
+All keys of a shard carry `{SHARD}`:
 
     gitpool:{3}                  the log: a stream, one entry a step
+    gitpool:{3}:chain            the link of its last entry (chain.py)
+    gitpool:{3}:base             the digest of the pool file that the log began with
     gitpool:{3}:sent:SESSION     the number of the last step that this session has in the log
     gitpool:{3}:told:SESSION     the session's last answer: a stream whose entry N-0 answers the step N
-    gitpool:{3}:asks             queries that no worker has taken yet: a list
-    gitpool:{3}:blocked:TENANT   why the tenant may send nothing
+    gitpool:{3}:owes:TENANT      session to the bytes of a long answer that it has yet to read: a hash
+    gitpool:{3}:sessions:TENANT  the tenant's connections, by when each is forgotten: a sorted set
+    gitpool:{3}:last             tenant to the place of its last entry: a hash
+    gitpool:{3}:taken            tenant to the bytes that the log has of it: a hash
+    gitpool:{3}:asks, :wake      queries that no worker has taken yet: a list; and a stream with an entry for the last of them
+    gitpool:{3}:blocked:TENANT   why the tenant may send and ask nothing
+    gitpool:{3}:full             tenant to why it may open and feed nothing: a hash
+    gitpool:{3}:limits           what the operator has said of owners' limits: a hash
     gitpool:{3}:skipped          places of entries that no worker is to carry out: a set
+    gitpool:{3}:saving           the worker that saves now
     gitpool:{3}:workers          worker to what it last said of itself: a hash
     gitpool:shards               how many shards there are; never changes
 """
 from __future__ import annotations
 
 import json
-import os
-import time
-from typing import Any, Callable, Dict, Iterable, List, Optional, Set, Tuple, TypeVar
-from urllib.parse import urlsplit
+import uuid
+from typing import Any, Dict, Iterable, List, NamedTuple, Optional, Set, Tuple
 
-import redis
-from redis.sentinel import Sentinel
-
-from shard import GIVE_UP, SETTLE, START, Answer, Entry, settling
+import scripts
+from chain import FIRST, START, Entry, LogLost, checksum_of, link_after, order
+from limits import ENTRY_BYTES, OWNER_LIMITS
+from program import Answer, Kind
+from redis_server import AWAY, Away, Fields, RedisError, Server, connect, patiently
 
 DAY = 86_400
-"""How many seconds an idle session and its last answer are kept."""
+"""How many seconds it is kept how far an idle session has come."""
 
-AWAY = (redis.ConnectionError, redis.TimeoutError, redis.exceptions.ReadOnlyError)
-"""What a call of Redis raises while the server is away, loads its file, or is no longer the primary."""
+KEPT = 600
+"""How many seconds a session's last answer is kept, and a connection that is not heard from."""
 
-# Each is one call, so that no crash leaves a step in the log without its number, or a number without its step. The stream
-# of a session's answers begins with 0-1, so that it is there to expire with the session.
-_SEND = """
-local last = tonumber(redis.call('GET', KEYS[2]) or '0')
-if tonumber(ARGV[1]) <= last then return 'sent' end
-if tonumber(ARGV[1]) ~= last + 1 then return 'lost' end
-if redis.call('EXISTS', KEYS[3]) == 1 then return 'blocked' end
-redis.call('XADD', KEYS[1], '*', 'session', ARGV[2], 'number', ARGV[1], 'kind', ARGV[3], 'tenant', ARGV[4], 'body', ARGV[5])
-redis.call('SET', KEYS[2], ARGV[1], 'EX', ARGV[6])
-if last == 0 then redis.call('XADD', KEYS[4], '0-1', 'first', '') end
-redis.call('EXPIRE', KEYS[4], ARGV[6])
-return 'sent'
-"""
-_ASK = """
-if redis.call('EXISTS', KEYS[2]) == 1 then return 'blocked' end
-if redis.call('EXISTS', KEYS[3]) == 0 then redis.call('XADD', KEYS[3], '0-1', 'first', '') end
-redis.call('EXPIRE', KEYS[3], ARGV[2])
-redis.call('RPUSH', KEYS[1], ARGV[1])
-return 'sent'
-"""
+LONG = 4_096
+"""From how many bytes on a reply is dropped as soon as it is read."""
 
-T = TypeVar("T")
+SAVES_WITHIN = 600
+"""After how many seconds another worker may save although this one has not ended its save."""
 
 
-class Away(Exception):
-    """Redis did not answer for as long as was to be waited."""
+class Query(NamedTuple):
+    """A query: to be answered by a worker that has come to the place `after`. The entry has it as its body, and no place."""
 
-
-def connect(url: Optional[str] = None, connected: Callable[[], None] = lambda: None) -> "redis.Redis[bytes]":
-    """The Redis of a URL, else of the environment's GITPOOL_REDIS: `redis://..` or `unix://..` as python3-redis has them, or
-    `sentinel://HOST:PORT/NAME` for the primary that a Sentinel knows under this name. Each new connection is told of."""
-    url = url or os.environ.get("GITPOOL_REDIS") or "redis://127.0.0.1:6379/0"
-
-    def told(connection: Any) -> None:
-        connected()
-        connection.on_connect()
-
-    parts = urlsplit(url)
-    if parts.scheme == "sentinel":
-        sentinel = Sentinel([(parts.hostname or "127.0.0.1", parts.port or 26379)], socket_timeout=5)
-        return sentinel.master_for(parts.path.strip("/"), socket_timeout=5, password=parts.password, redis_connect_func=told)
-    return redis.Redis.from_url(url, socket_timeout=5, redis_connect_func=told)  # type: ignore[call-overload]
-
-
-def patiently(call: Callable[[], T], patience: float) -> T:
-    """What the call gives, which is made again while Redis is away. Raises Away after so many seconds."""
-    until = time.monotonic() + patience
-    while True:
-        try:
-            return call()
-        except AWAY as error:
-            if time.monotonic() > until:
-                raise Away(str(error)) from error
-            time.sleep(0.05)
+    after: str
+    entry: Entry
 
 
 class Log:
     """The keys of one shard. Each call is one round trip, and raises what Redis raises (AWAY)."""
 
-    def __init__(self, server: "redis.Redis[bytes]", shard: int):
+    def __init__(self, server: Server, shard: int):
         self.server = server
         self.shard = shard
         self.key = f"gitpool:{{{shard}}}"
-        self._send = server.register_script(_SEND)
-        self._ask = server.register_script(_ASK)
+        self._run = {name: server.register_script(getattr(scripts, name)) for name in ("SEND", "NOTE", "ASK", "TELL", "ENTER", "TRIM", "FREE")}
+
+    def _of(self, what: str, name: str = "") -> str:
+        return f"{self.key}:{what}" + (f":{name}" if name else "")
 
     # The log
 
     def send(self, session: str, number: int, kind: int, tenant: bytes, body: bytes) -> str:
-        """Appends the step with this number of the session, once, however often it is sent: `sent`; `blocked` where the
-        tenant may not; `lost` where the numbers before it are not known (any more)."""
-        keys = [self.key, f"{self.key}:sent:{session}", self._blocked(tenant), self._told(session)]
-        return self._send(keys, [number, session, int(kind), tenant, body, DAY]).decode()
+        """Appends the step with this number of the session, once, however often it is sent. Gives `sent`; `lost` where the numbers
+        before it are not known (any more); or why the tenant may not: `blocked`, `full`, `log` or `answers`."""
+        keys = [self.key, self._of("chain"), self._of("sent", session), self._told(session), self._blocked(tenant), self._of("full"),
+                self._of("taken"), self._of("last"), self._of("limits"), self._of("owes", tenant.hex())]
+        words = [session, number, int(kind), tenant, body, checksum_of(kind, tenant, body), DAY, KEPT, ENTRY_BYTES, OWNER_LIMITS["log-bytes"],
+                 OWNER_LIMITS["answer-bytes"]]
+        return _text(self._run["SEND"](keys, words))
 
-    def settle(self, level: int, saved: str) -> None:
-        """Asks for a save, after the one at this place. It may be asked twice: the second one is passed over."""
-        self.server.xadd(self.key, {"kind": SETTLE, "body": settling(level, saved)})
+    def note(self, kind: int, tenant: bytes = b"", body: bytes = b"") -> str:
+        """Appends an entry for whose answer nobody waits, and gives its place."""
+        words = [uuid.uuid4().hex, int(kind), tenant, body, checksum_of(kind, tenant, body)]
+        return _text(self._run["NOTE"]([self.key, self._of("chain")], words))
 
     def give_up(self, tenant: bytes, opened: str) -> None:
         """Drops a tenant's stream that was opened at this place; once it is no longer open, this is passed over."""
-        self.server.xadd(self.key, {"kind": GIVE_UP, "tenant": tenant, "body": opened})
+        self.note(Kind.ABANDON, tenant, opened.encode())
 
-    def read(self, place: str, count: int, block: Optional[int]) -> List[Entry]:
-        """The next entries after a place, waiting for them for so many milliseconds, or not at all."""
-        found = self.server.xread({self.key: place}, count=count, block=block)
-        return [_entry(*it) for it in found[0][1]] if found else []
+    def read(self, place: str, count: int, block: Optional[int], woken: Optional[str] = None) -> Tuple[List[Entry], Optional[str]]:
+        """The next entries after a place, waited for for so many milliseconds, or not at all. With the place of the last query in
+        `woken` it also returns when there is a query after that. Gives the entries, and the new `woken`."""
+        streams = {self.key: place} if woken is None else {self.key: place, self._of("wake"): woken}
+        entries: List[Entry] = []
+        for name, found in self.server.xread(streams, count=count, block=block):
+            if name.decode() == self.key:
+                entries = [_entry(*it) for it in found]
+            else:
+                woken = found[-1][0].decode()
+        return entries, woken
 
-    def follows(self, place: str) -> bool:
-        """Whether the log goes on from this place: it still has the place's entry, or has lost none from its start on."""
-        if place != START:
-            return bool(self.server.xrange(self.key, place, place))
-        if not self.server.exists(self.key):
-            return True
-        about = self.server.xinfo_stream(self.key)
-        return about.get("entries-added", about["length"]) == about["length"]
+    def check_has(self, place: str) -> None:
+        """Raises LogLost unless the log has the entry of this place."""
+        if not self.server.xrange(self.key, place, place):
+            raise LogLost(f"the log no longer has the entry {place}, at which a stream was opened")
+
+    def check_goes_on(self, place: str, link: Optional[str]) -> None:
+        """Raises LogLost unless the log goes on from a reader that has come to this place, and to this link there."""
+        pipe = self.server.pipeline()
+        pipe.get(self._of("chain"))
+        pipe.xrange(self.key, "(" + place, "+", 1)
+        last, found = pipe.execute()
+        if found:
+            entry = _entry(*found[0])
+            goes_on = not entry.link or entry.link == link_after(link or "", entry.session, entry.number, entry.checksum)
+        else:
+            goes_on = (last or b"").decode() == link
+        if not goes_on:
+            raise LogLost(f"the log does not go on from {place}")
 
     def last(self) -> str:
         """The place of the last entry."""
         found = self.server.xrevrange(self.key, count=1)
         return found[0][0].decode() if found else START
 
-    def trim(self) -> int:
-        """Drops what each known worker has saved, and says how many entries that were. The entry at the place of the
-        oldest save stays: by it a worker sees that the log goes on from its file."""
-        saved = [it["saved"] for it in self.workers().values()]
-        if not saved:
-            return 0
-        oldest = min(saved, key=lambda it: tuple(map(int, it.split("-"))))
-        return self.server.xtrim(self.key, minid=oldest, approximate=False)
+    def base(self, digest: str) -> str:
+        """The digest of the pool file that the log began with; this one, where nobody has said so yet."""
+        self.server.set(self._of("base"), digest, nx=True)
+        return (self.server.get(self._of("base")) or b"").decode()
+
+    def trim(self, batch: int = 100) -> int:
+        """Drops what no known worker needs any more, and says how many entries that were."""
+        oldest = min((it["since"] for it in self.workers().values()), key=order, default=START)
+        dropped, found = 0, batch if order(oldest) > order(START) else 0
+        while found == batch:
+            found = int(self._run["TRIM"]([self.key, self._of("taken")], [oldest, batch, ENTRY_BYTES]))
+            dropped += found
+        return dropped
 
     def skipped(self) -> Set[str]:
         """The places of entries that no worker is to carry out."""
-        return {it.decode() for it in self.server.smembers(f"{self.key}:skipped")}
+        return {it.decode() for it in self.server.smembers(self._of("skipped"))}
+
+    def skip(self, place: str) -> None:
+        self.server.sadd(self._of("skipped"), place)
+
+    # Sessions
+
+    def enter(self, session: str, tenant: bytes) -> str:
+        """Counts a connection of a tenant, for KEPT seconds or until it leaves: `sent`, or `connections` where it has too many."""
+        keys = [self._of("sessions", tenant.hex()), self._of("limits")]
+        return _text(self._run["ENTER"](keys, [session, KEPT, OWNER_LIMITS["connections"]]))
+
+    def leave(self, session: str, tenant: bytes) -> None:
+        """Forgets a session with all that is kept for it."""
+        pipe = self.server.pipeline()
+        pipe.zrem(self._of("sessions", tenant.hex()), session)
+        pipe.hdel(self._of("owes", tenant.hex()), session, session + "-asks")
+        pipe.delete(self._of("sent", session), self._told(session), self._told(session + "-asks"))
+        pipe.execute()
+
+    def last_of(self, tenant: bytes) -> str:
+        """The place of a tenant's last entry."""
+        found = self.server.hget(self._of("last"), tenant)
+        return found.decode() if found is not None else START
 
     # Answers
 
     def _told(self, session: str) -> str:
-        return f"{self.key}:told:{session}"
+        return self._of("told", session)
 
     def publish(self, told: Iterable[Tuple[Entry, Answer]]) -> None:
         """Puts each answer where its session waits. Of two answers to one step, as a second worker or a second run of the
         same one gives, Redis takes the first: an entry's number has to be above the last one's."""
         pipe = self.server.pipeline(transaction=False)
         for entry, answer in told:
+            if len(answer.reply) > LONG:
+                self._publish_long(entry, answer)
+                continue
             fields = {"place": entry.place, "status": answer.status, "value": answer.value, "reply": answer.reply}
             pipe.xadd(self._told(entry.session), fields, id=f"{entry.number}-0", maxlen=1, approximate=False, nomkstream=True)
         for found in pipe.execute(raise_on_error=False):  # a session that is forgotten gets none
             if isinstance(found, Exception) and "equal or smaller" not in str(found):
                 raise found
 
-    def answer(self, session: str, number: int, block: int) -> Optional[Tuple[str, Answer]]:
+    def _publish_long(self, entry: Entry, answer: Answer) -> None:
+        keys = [self._told(entry.session), self._of("owes", entry.tenant.hex()), self._of("limits")]
+        kind = "query" if entry.kind == Kind.ASK else "step"
+        self._run["TELL"](keys, [entry.number, entry.place, answer.status, answer.value, answer.reply, entry.session, kind, KEPT,
+                                 OWNER_LIMITS["answer-bytes"]])
+
+    def answer(self, session: str, number: int, tenant: bytes, block: Optional[int]) -> Optional[Tuple[str, Answer]]:
         """The answer to a session's step and the step's place, waited for for so many milliseconds; else None."""
         found = self.server.xread({self._told(session): f"{number - 1}-1"}, count=1, block=block)
         if not found or int(found[0][1][0][0].split(b"-")[0]) != number:
             return None
         fields = found[0][1][0][1]
         answer = Answer(int(fields[b"status"]), int(fields[b"value"]), fields[b"reply"])
+        if len(answer.reply) > LONG:
+            self._drop_answer(session, tenant)
         return fields[b"place"].decode(), answer
+
+    def _drop_answer(self, session: str, tenant: bytes) -> None:
+        pipe = self.server.pipeline()
+        pipe.xtrim(self._told(session), maxlen=0, approximate=False)
+        pipe.hdel(self._of("owes", tenant.hex()), session)
+        pipe.execute()
 
     # Queries
 
-    def ask(self, session: str, number: int, after: str, tenant: bytes, query: bytes) -> str:
+    def ask(self, session: str, number: int, after: str, tenant: bytes, query: bytes, kind: int = Kind.ASK) -> str:
         """Puts a query where the first free worker takes it, which answers once it has come to the place `after`. `sent`, or
         `blocked`. A query that is lost with a worker changes nothing: it is to be asked again under another number."""
-        text = json.dumps([session, number, after, tenant.hex(), query.hex()])
-        return self._ask([f"{self.key}:asks", self._blocked(tenant), self._told(session)], [text, DAY]).decode()
+        text = json.dumps([session, number, after, tenant.hex(), query.hex(), int(kind)])
+        keys = [self._of("asks"), self._of("wake"), self._told(session), self._blocked(tenant)]
+        return _text(self._run["ASK"](keys, [text, number, KEPT]))
 
-    def asks(self, count: int) -> List[Tuple[str, Entry]]:
-        """Takes queries: each with the place that it waits for. The entry has the query as its body, and no place."""
-        found = self.server.lpop(f"{self.key}:asks", count) or []
-        read = (json.loads(it) for it in found)
-        return [(it[2], Entry("", 4, bytes.fromhex(it[3]), bytes.fromhex(it[4]), it[0], it[1])) for it in read]
+    def asks(self, count: int) -> List[Query]:
+        """Takes queries."""
+        read = (json.loads(it) for it in self.server.lpop(self._of("asks"), count) or [])
+        return [Query(it[2], Entry("", it[5], bytes.fromhex(it[3]), bytes.fromhex(it[4]), it[0], it[1])) for it in read]
 
-    # Owners and workers
+    # Owners
 
     def _blocked(self, tenant: bytes) -> str:
-        return f"{self.key}:blocked:{tenant.hex()}"
+        return self._of("blocked", tenant.hex())
 
     def block(self, tenant: bytes, why: str, seconds: Optional[int] = None) -> None:
-        """Lets a tenant send nothing, for so many seconds or until it is allowed."""
+        """Lets a tenant send and ask nothing, for so many seconds or until it is allowed."""
         self.server.set(self._blocked(tenant), why, ex=seconds)
 
     def allow(self, tenant: bytes) -> None:
@@ -199,29 +233,68 @@ class Log:
         found = self.server.get(self._blocked(tenant))
         return found.decode() if found is not None else None
 
+    def full(self) -> Dict[bytes, str]:
+        """The tenants that may open and feed nothing, and why."""
+        return {tenant: why.decode() for tenant, why in self.server.hgetall(self._of("full")).items()}
+
+    def set_full(self, tenant: bytes, why: Optional[str]) -> None:
+        """Lets a tenant open and feed nothing, or lifts that."""
+        if why is None:
+            self.server.hdel(self._of("full"), tenant)
+        else:
+            self.server.hset(self._of("full"), tenant, why)
+
+    def limits(self) -> Dict[str, int]:
+        """What owners may take: the names of OWNER_LIMITS, and `quota:TENANT`, the name in hexadecimal digits."""
+        return {**OWNER_LIMITS, **{name.decode(): int(it) for name, it in self.server.hgetall(self._of("limits")).items()}}
+
+    def set_limit(self, name: str, value: Optional[int]) -> None:
+        """Sets a limit, or without a value what it is by default."""
+        if value is None:
+            self.server.hdel(self._of("limits"), name)
+        else:
+            self.server.hset(self._of("limits"), name, value)
+
+    # Workers
+
+    def begin_save(self, worker: str) -> bool:
+        """Whether this worker may save now: one at a time, so that the others answer meanwhile."""
+        return bool(self.server.set(self._of("saving"), worker, nx=True, ex=SAVES_WITHIN))
+
+    def end_save(self, worker: str) -> None:
+        self._run["FREE"]([self._of("saving")], [worker])
+
     def say(self, worker: str, about: Dict[str, Any]) -> None:
-        """Says what a worker is at: its place, and that of its last save, up to which the log may be trimmed."""
-        self.server.hset(f"{self.key}:workers", worker, json.dumps(about))
+        """Says what a worker is at: its place, and that from which on it needs the log."""
+        self.server.hset(self._of("workers"), worker, json.dumps(about))
 
     def workers(self) -> Dict[str, Dict[str, Any]]:
-        found = self.server.hgetall(f"{self.key}:workers")
+        found = self.server.hgetall(self._of("workers"))
         return {name.decode(): json.loads(it) for name, it in found.items()}
 
     def forget(self, worker: str) -> None:
         """Takes a worker that is gone for good out of those that the log is kept for."""
-        self.server.hdel(f"{self.key}:workers", worker)
+        self.server.hdel(self._of("workers"), worker)
 
 
-def _entry(place: bytes, fields: Dict[bytes, bytes]) -> Entry:
-    """An entry as it stands in Redis. What `send` and `settle` have not written has a kind that is none, 0."""
-    kind = fields.get(b"kind", b"")
+def _text(found: object) -> str:
+    return found.decode() if isinstance(found, bytes) else str(found)
+
+
+def _entry(place: bytes, fields: Fields) -> Entry:
+    """An entry as it stands in Redis. What another hand has written has no link."""
+    kind, number = fields.get(b"kind", b""), fields.get(b"number", b"")
     return Entry(place.decode(), int(kind) if kind.isdigit() else 0, fields.get(b"tenant", b""), fields.get(b"body", b""),
-                 fields.get(b"session", b"").decode(), int(fields.get(b"number", b"0")))
+                 fields.get(b"session", b"").decode(), int(number) if number.isdigit() else 0,
+                 fields.get(b"checksum", b"").decode(), fields.get(b"link", b"").decode())
 
 
-def shards(server: "redis.Redis[bytes]") -> int:
+def shards(server: Server) -> int:
     """How many shards there are. Raises LookupError where nobody has said so yet (`admin create`)."""
     found = server.get("gitpool:shards")
     if found is None:
         raise LookupError("no shards yet: run deploy/admin create")
     return int(found)
+
+
+__all__ = ["AWAY", "FIRST", "KEPT", "Away", "Log", "Query", "RedisError", "Server", "connect", "patiently", "shards"]

@@ -48,7 +48,7 @@ def _read_tenant(file: BinaryIO, sizes: List[int]) -> Tuple[bytes, Repository]:
 
 
 def _number(file: BinaryIO) -> int:
-    return _NUMBER.unpack(file.read(8))[0]
+    return int(_NUMBER.unpack(file.read(8))[0])
 
 
 def _sized(file: BinaryIO) -> bytes:
