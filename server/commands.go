@@ -17,6 +17,7 @@ import (
 	"golang.org/x/crypto/ssh"
 
 	"gitpoold/access"
+	"gitpoold/hooks"
 	"gitpoold/limits"
 	"gitpoold/operator"
 	"gitpoold/store"
@@ -47,7 +48,8 @@ func program(flag string) (string, error) {
 
 const (
 	accessText = "# USER PATTERN RIGHT: the user * is everyone; a pattern is acme/site, acme/* or *; a right is r or rw.\n"
-	limitsText = "# NAME VALUE, or quota TENANT VALUE: `gitpoold limits` lists and sets them.\n"
+	hooksText  = "# PATTERN WHERE: a program or an http address that is told of pushes; `gitpoold hooks` changes them.\n"
+	limitsText = "# NAME VALUE, quota TENANT VALUE, or daily-bytes USER VALUE: `gitpoold limits` lists and sets them.\n"
 )
 
 // runInit makes what a folder lacks.
@@ -63,7 +65,7 @@ func runInit(l line) error {
 	if err := store.Create(folder, found); err != nil {
 		return err
 	}
-	for name, text := range map[string]string{"access": accessText, "passwords": "", "keys": "", "limits": limitsText} {
+	for name, text := range map[string]string{"access": accessText, "passwords": "", "keys": "", "limits": limitsText, "hooks": hooksText} {
 		if err := createFile(filepath.Join(folder, name), text); err != nil {
 			return err
 		}
@@ -176,7 +178,29 @@ func runLimits(l line) error {
 	}
 	rows, err := limits.Rows(path)
 	for _, row := range rows {
-		fmt.Printf("%-24s %-8s %s (default %s)\n", row.Name, row.Value, row.About, row.Default)
+		about := row.About
+		if row.Default != "" {
+			about += " (default " + row.Default + ")"
+		}
+		fmt.Printf("%-24s %-8s %s\n", row.Name, row.Value, about)
+	}
+	return err
+}
+
+// runHooks lists the hooks, or changes them.
+func runHooks(l line) error {
+	words := l.words[1 : len(l.words)-1]
+	switch {
+	case len(words) == 3 && words[0] == "add":
+		return hooks.Add(l.folder(), words[1], words[2])
+	case len(words) == 3 && words[0] == "remove":
+		return hooks.Remove(l.folder(), words[1], words[2])
+	case len(words) > 0:
+		return errors.New("say `add PATTERN WHERE` or `remove PATTERN WHERE`")
+	}
+	rows, err := hooks.Rows(l.folder())
+	for _, row := range rows {
+		fmt.Println(row)
 	}
 	return err
 }

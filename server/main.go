@@ -59,7 +59,9 @@ func commands() []command {
 		{"copy", "DIR FROM TO", "copy a tenant to an empty one", 3, 3, []string{"--socket"}, runCall},
 		{"remove", "DIR TENANT", "remove a tenant", 2, 2, []string{"--socket"}, runCall},
 		{"compact", "DIR TENANT", "drop what no ref of a tenant reaches", 2, 2, []string{"--socket"}, runCall},
-		{"limits", "DIR [NAME VALUE | quota TENANT VALUE]", "list the limits, or set one; the value `default` unsets it", 1, 4, nil, runLimits},
+		{"limits", "DIR [NAME VALUE | quota TENANT VALUE | daily-bytes|daily-child USER VALUE]", "list the limits, or set one; the value `default` unsets it", 1, 4, nil, runLimits},
+		{"hooks", "DIR [add|remove PATTERN WHERE]", "list the hooks, or let a program or an http address be told of pushes", 1, 4,
+			nil, runHooks},
 	}
 }
 

@@ -11,10 +11,13 @@ import (
 	"path/filepath"
 	"sync"
 	"syscall"
+	"time"
 
 	"golang.org/x/crypto/ssh"
 
 	"gitpoold/access"
+	"gitpoold/daily"
+	"gitpoold/hooks"
 	"gitpoold/httpd"
 	"gitpoold/limits"
 	"gitpoold/lists"
@@ -66,6 +69,8 @@ func runServe(l line) error {
 	if err := s.store.Close(context.Background()); err != nil {
 		s.site.Log.Printf("the pool is not saved: %v; the journal has all of it", err)
 	}
+	s.site.Hooks.Close()
+	s.site.Daily.Save()
 	s.site.Log.Printf("the server has ended")
 	return failed
 }
@@ -88,12 +93,17 @@ func open(l line) (*server, error) {
 		return nil, err
 	}
 	values := bounds.Get()
+	told, err := hooks.Load(folder, func() time.Duration { return bounds.Get().Hook }, log.Printf, m)
+	if err != nil {
+		return nil, err
+	}
 	pool, err := store.Open(store.Config{Folder: folder, Program: found, ChildMemory: values.ChildMemory, Tell: log.Printf})
 	if err != nil {
 		return nil, err
 	}
-	s := &site.Site{Pool: tenants.New(pool, bounds.Quota), Access: who, Limits: bounds, Log: log, Metrics: m, Version: version,
-		Work: filepath.Join(folder, "work"), Markdown: markdown.HTML}
+	s := &site.Site{Pool: tenants.New(pool, bounds.Quota), Access: who, Limits: bounds, Log: log, Metrics: m, Hooks: told, Version: version,
+		Daily: daily.Open(filepath.Join(folder, "usage"), bounds.Daily, log.Printf),
+		Work:  filepath.Join(folder, "work"), Markdown: markdown.HTML}
 	door := operator.New(s, pool)
 	door.Measure()
 	return &server{l, pool, s, door}, nil
@@ -201,6 +211,7 @@ func (s *server) ssh() (*way, error) {
 func (s *server) serve(ctx context.Context, stop func(), ways []way) error {
 	keeping, stopKeeping := context.WithCancel(context.Background())
 	go s.store.Keep(keeping, s.rhythm)
+	go s.site.Daily.Keep(keeping.Done())
 	defer stopKeeping()
 	failed := make(chan error, len(ways))
 	var all sync.WaitGroup

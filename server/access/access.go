@@ -45,8 +45,8 @@ func ValidPattern(pattern string) bool {
 	return pattern == "*" || tenants.ValidName(strings.TrimSuffix(pattern, "/*"))
 }
 
-// matches tells whether a pattern names a tenant.
-func matches(pattern, tenant string) bool {
+// Matches tells whether a pattern names a tenant.
+func Matches(pattern, tenant string) bool {
 	if pattern == "*" || pattern == tenant {
 		return true
 	}
@@ -154,7 +154,7 @@ func (a *Access) Right(user, tenant string) Right {
 	best := None
 	for _, grants := range [][]grant{r.grants[user], r.grants[Everyone]} {
 		for _, it := range grants {
-			if it.right > best && matches(it.pattern, tenant) {
+			if it.right > best && Matches(it.pattern, tenant) {
 				best = it.right
 			}
 		}

@@ -100,7 +100,7 @@ func readPerson(ident []byte, text func([]byte) string) Person {
 	digits, zone, _ := bytes.Cut(date, []byte(" "))
 	p := Person{Name: strings.TrimSpace(text(name)), Email: text(email)}
 	seconds, err := strconv.ParseInt(string(digits), 10, 64)
-	if err == nil && seconds < lastSecond {
+	if err == nil && 0 <= seconds && seconds < lastSecond {
 		p.When = time.Unix(seconds, 0).In(readZone(string(zone)))
 	}
 	return p

@@ -63,6 +63,7 @@ type Batch struct {
 	frames  []byte
 	count   int
 	class   Class
+	charge  func(time.Duration)
 	answers []frames.Answer
 	done    chan struct{}
 	err     error
@@ -86,15 +87,19 @@ func Start(words []string, said io.Writer) (*Process, error) {
 	widen(out)
 	command := exec.Command(words[0], words[1:]...)
 	command.Stdin, command.Stdout, command.Stderr = childIn, childOut, said
-	// A signal for the server's group is not for the child: the end of its input is what ends it, and makes it save. A server that is
-	// killed takes the child with it.
-	command.SysProcAttr = &syscall.SysProcAttr{Setpgid: true, Pdeathsig: syscall.SIGKILL}
-	if err := onStarter(command.Start); err != nil {
+	// A signal for the server's group is not for the child: the end of its input is what ends it, and makes it save.
+	if err := StartTied(command); err != nil {
 		in.Close()
 		out.Close()
 		return nil, err
 	}
 	return follow(command, in, out), nil
+}
+
+// StartTied starts a command in a process group of its own. A server that is killed takes the command with it.
+func StartTied(command *exec.Cmd) error {
+	command.SysProcAttr = &syscall.SysProcAttr{Setpgid: true, Pdeathsig: syscall.SIGKILL}
+	return onStarter(command.Start)
 }
 
 var (
@@ -167,7 +172,7 @@ func (p *Process) Send(ctx context.Context, class Class, steps ...frames.Step) (
 	for _, step := range steps {
 		size += step.Size()
 	}
-	b := &Batch{frames: make([]byte, 0, size), count: len(steps), class: class, done: make(chan struct{})}
+	b := &Batch{frames: make([]byte, 0, size), count: len(steps), class: class, charge: chargeOf(ctx), done: make(chan struct{})}
 	for _, step := range steps {
 		b.frames = step.AppendTo(b.frames)
 	}
@@ -195,11 +200,15 @@ func (p *Process) wait() {
 	p.waiting++
 }
 
-func (p *Process) unwait() {
+// unwait counts it no more, and gives the time since the batch before was answered, or since this one came if none waited before it.
+func (p *Process) unwait() time.Duration {
 	p.mutex.Lock()
 	defer p.mutex.Unlock()
+	now := time.Now()
+	took := now.Sub(p.answered)
 	p.waiting--
-	p.answered = time.Now()
+	p.answered = now
+	return took
 }
 
 // Stalled is for how long the child has worked without an answer.
@@ -253,7 +262,9 @@ func (b *Batch) Wait(ctx context.Context) ([]frames.Answer, error) {
 func (p *Process) finish(b *Batch, err error) {
 	b.err = err
 	p.leave(b.class)
-	p.unwait()
+	if took := p.unwait(); b.charge != nil && err == nil {
+		b.charge(took)
+	}
 	close(b.done)
 }
 

@@ -31,14 +31,19 @@ func echo(left int) int {
 		if err == io.EOF {
 			return 0
 		}
-		if string(step.Body) == "stop" {
+		switch string(step.Body) {
+		case "stop":
 			time.Sleep(time.Hour)
+		case "slow":
+			time.Sleep(slow)
 		}
 		out.Write(frames.Answer{Reply: []byte(step.Tenant + ":" + string(step.Body))}.AppendTo(nil))
 		out.Flush()
 	}
 	return 3
 }
+
+const slow = 200 * time.Millisecond
 
 var background = context.Background()
 

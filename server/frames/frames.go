@@ -31,6 +31,12 @@ const (
 	Sizes   Kind = 21
 )
 
+// The kinds of what a fetch asks, which `gitpool host` answers too.
+const (
+	Missing Kind = 22
+	Entries Kind = 23
+)
+
 // AsOpened is the body of a Save that writes what each tenant with a stream had when that stream was opened.
 var AsOpened = []byte{1}
 
@@ -48,7 +54,8 @@ var (
 )
 
 // Step is one step of a tenant, or a request of the operator. A Feed has a piece as its body, an Ask a query, a Copy the name of the
-// other tenant, and a Save nothing or AsOpened; the others have none. A Restart, a Save and a Sizes have no tenant.
+// other tenant, and a Save nothing or AsOpened; a Missing has the number of the wanted names, these, and the names that the client has; an
+// Entries has the most bytes of its reply, and names; the others have none. A Restart, a Save and a Sizes have no tenant.
 type Step struct {
 	Kind   Kind
 	Tenant string
@@ -83,7 +90,7 @@ func longest(kind Kind) (name, body uint32, known bool) {
 	switch kind {
 	case Open, End, Abandon, Remove, Compact:
 		return 65535, 0, true
-	case Feed, Ask:
+	case Feed, Ask, Missing, Entries:
 		return 65535, LongestBody, true
 	case Copy:
 		return 65535, 65535, true
@@ -111,7 +118,25 @@ func ReadStep(from *bufio.Reader) (Step, error) {
 		return Step{}, err
 	}
 	contents, err := readSized(from, 4, body)
+	if err == nil && !isBody(Kind(kind), contents) {
+		err = ErrWrong
+	}
 	return Step{Kind(kind), string(tenant), contents}, err
+}
+
+// nameBytes is how many bytes the name of an object has.
+const nameBytes = 20
+
+// isBody tells whether a kind that has names in its body may have this one: a Missing has a number of wanted names and at least as many names,
+// and an Entries a limit before them.
+func isBody(kind Kind, body []byte) bool {
+	switch kind {
+	case Missing:
+		return len(body) >= 4 && (len(body)-4)%nameBytes == 0 && uint64(binary.BigEndian.Uint32(body)) <= uint64(len(body)-4)/nameBytes
+	case Entries:
+		return len(body) >= 8 && (len(body)-8)%nameBytes == 0
+	}
+	return true
 }
 
 // readSized reads bytes that stand after their length, which has so many bytes itself.

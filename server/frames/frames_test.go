@@ -17,7 +17,8 @@ func read(text []byte) (Step, error) {
 
 func TestStepsComeBack(t *testing.T) {
 	steps := []Step{{Open, "a", nil}, {Feed, "acme/site", []byte("blob\n")}, {End, strings.Repeat("x", 65535), nil},
-		{Ask, "", bytes.Repeat([]byte("y"), 3<<20)}, {Restart, "", nil}}
+		{Ask, "", bytes.Repeat([]byte("y"), 3<<20)}, {Restart, "", nil}, {Missing, "t", []byte("\x00\x00\x00\x01" + strings.Repeat("x", 60))},
+		{Missing, "t", make([]byte, 4)}, {Entries, "t", make([]byte, 8+3*20)}, {Entries, "t", make([]byte, 8)}}
 	for _, step := range steps {
 		text := step.AppendTo(nil)
 		got, err := read(text)
@@ -44,6 +45,13 @@ func TestWrongFramesAreRefused(t *testing.T) {
 		"\x02\x00\x01t\x01\x00\x00\x01":    ErrWrong,
 		"\x02\x00\x01t\x00\x00\x00\x02x":   ErrCut,
 		"\x02\x00\x01t\x01\x00\x00\x00xyz": ErrCut,
+		"\x16\x00\x01t\x00\x00\x00\x03xyz": ErrWrong,
+		"\x16\x00\x01t\x00\x00\x00\x05\x00\x00\x00\x00x":                                          ErrWrong,
+		"\x16\x00\x01t\x00\x00\x00\x18\x00\x00\x00\x02" + strings.Repeat("x", 20):                 ErrWrong,
+		"\x16\x00\x01t\x00\x00\x00\x18\xff\xff\xff\xff" + strings.Repeat("x", 20):                 ErrWrong,
+		"\x17\x00\x01t\x00\x00\x00\x07\x00\x00\x00\x00\x00\x00\x00":                               ErrWrong,
+		"\x17\x00\x01t\x00\x00\x00\x09\x00\x00\x00\x00\x00\x00\x00\x00x":                          ErrWrong,
+		"\x17\x00\x01t\x00\x00\x00\x1c\x00\x00\x00\x00\x00\x00\x00\x00" + strings.Repeat("x", 19): ErrCut,
 	} {
 		if _, err := read([]byte(text)); !errors.Is(err, want) {
 			t.Errorf("%q: %v, wanted %v", text, err, want)

@@ -9,6 +9,7 @@ import (
 	"net/http"
 	"time"
 
+	"gitpoold/daily"
 	"gitpoold/logs"
 	"gitpoold/pktline"
 	"gitpoold/services"
@@ -24,6 +25,7 @@ type exchange struct {
 	name   string // of the service
 	began  time.Time
 	record logs.Request
+	meter  *daily.Meter
 
 	hasFinished bool
 }
@@ -69,7 +71,7 @@ func (e *exchange) head(kind string) {
 // use is the use of the service that the request asks for.
 func (e *exchange) use(t tenants.Tenant, in io.Reader, out *pktline.Writer) services.Use {
 	return services.Use{Site: e.Site, Service: e.name, Version: services.Version(e.r.Header.Get("Git-Protocol")), User: e.record.User,
-		Address: e.record.Address, Tenant: t, In: in, Out: out}
+		Address: e.record.Address, Tenant: t, Meter: e.meter, In: in, Out: out}
 }
 
 // advertise answers info/refs.
@@ -133,7 +135,7 @@ func (e *exchange) body() (io.Reader, error) {
 		most = mostOfFetch
 	}
 	watched := e.Limits.Watched(http.MaxBytesReader(e.w, e.r.Body, most), func() { stop(e.r) })
-	counted := services.Counting{From: watched, Count: &e.record.In}
+	counted := services.Counting{From: watched, Count: &e.record.In, Meter: e.meter}
 	switch e.r.Header.Get("Content-Encoding") {
 	case "", "identity":
 		return counted, nil
@@ -149,6 +151,7 @@ type counting struct {
 	http.ResponseWriter
 	status int
 	bytes  int64
+	meter  *daily.Meter
 }
 
 func (c *counting) WriteHeader(status int) {
@@ -159,6 +162,7 @@ func (c *counting) WriteHeader(status int) {
 func (c *counting) Write(data []byte) (int, error) {
 	n, err := c.ResponseWriter.Write(data)
 	c.bytes += int64(n)
+	c.meter.Add(n)
 	if f, is := c.ResponseWriter.(http.Flusher); is {
 		f.Flush()
 	}

@@ -9,6 +9,7 @@ import (
 	"net"
 	"net/http"
 	"regexp"
+	"strconv"
 	"time"
 
 	"gitpoold/logs"
@@ -158,6 +159,13 @@ func (e *exchange) with(method string, answer func(*exchange, context.Context, t
 		return
 	}
 	defer leave()
+	meter := e.Daily.Meter(e.record.User, e.record.Address)
+	if err := meter.Err(); err != nil {
+		e.w.Header().Set("Retry-After", strconv.Itoa(int(meter.Left().Seconds())+1))
+		e.fail(http.StatusTooManyRequests, err.Error())
+		return
+	}
+	e.meter, e.w.meter = meter, meter
 	// Whatever the peer does, its connection ends then.
 	timer := time.AfterFunc(e.Limits.Get().Request, func() { stop(e.r) })
 	defer timer.Stop()

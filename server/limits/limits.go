@@ -1,7 +1,7 @@
 // Package limits bounds what clients may take: connections, time and bytes.
 //
-// The operator's file `limits` has lines `NAME VALUE`, and `quota TENANT VALUE` for one tenant. What it leaves out has its default. The
-// command `gitpoold limits` changes it, and a running server reads it again when it has changed.
+// The operator's file `limits` has lines `NAME VALUE`; `quota TENANT VALUE` for one tenant; and `daily-bytes USER VALUE` and `daily-child
+// USER VALUE` for one user. What it leaves out has its default. The command `gitpoold limits` changes it, and a running server reads it again when it has changed.
 package limits
 
 import (
@@ -12,6 +12,7 @@ import (
 	"sync"
 	"time"
 
+	"gitpoold/daily"
 	"gitpoold/lists"
 )
 
@@ -42,6 +43,19 @@ func (l *Limits) Quota(tenant string) int64 {
 		return own
 	}
 	return values.Quota
+}
+
+// Daily gives what a user may take in a day, 0 for no limit. The user "" is a visitor.
+func (l *Limits) Daily(user string) daily.Amount {
+	values := l.Get()
+	most := daily.Amount{Bytes: values.DailyBytes, Child: values.DailyChild}
+	if own, has := values.UserBytes[user]; has {
+		most.Bytes = own
+	}
+	if own, has := values.UserChild[user]; has {
+		most.Child = own
+	}
+	return most
 }
 
 // Refusals of limits: sentences for the client.
@@ -200,10 +214,12 @@ func (c *connection) Write(bytes []byte) (written int, err error) {
 // Values are the limits. Bytes are bytes; a time of 0 is none.
 type Values struct {
 	Connections, PerAddress, PerUser               int
-	Handshake, Idle, Request, Drain, Step          time.Duration
+	Handshake, Idle, Request, Drain, Step, Hook    time.Duration
 	RequestBytes, Quota, JournalBytes, ChildMemory int64
-	SaveEvery, FrameIdle                           time.Duration
-	Quotas                                         map[string]int64
+	DailyBytes                                     int64
+	SaveEvery, FrameIdle, DailyChild               time.Duration
+	Quotas, UserBytes                              map[string]int64
+	UserChild                                      map[string]time.Duration
 }
 
 // Watched gives a reader of which each Read has to end within Idle; else `stop` is called, which closes the connection that it reads

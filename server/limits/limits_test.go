@@ -8,6 +8,8 @@ import (
 	"path/filepath"
 	"testing"
 	"time"
+
+	"gitpoold/daily"
 )
 
 func quiet(string, ...any) {}
@@ -51,6 +53,29 @@ func TestLimitsAreSetWhileTheServerRuns(t *testing.T) {
 	rows, err := Rows(path)
 	if err != nil || len(rows) != len(all) || rows[0].Value != "7" || rows[0].Default != "1024" {
 		t.Fatal(rows, err)
+	}
+}
+
+func TestDailyLimitsOfUsers(t *testing.T) {
+	l, path := loaded(t, "daily-bytes 5G\n")
+	for _, words := range [][]string{{"daily-bytes", "alice", "1M"}, {"daily-child", "bob", "20s"}, {"daily-child", "10m"}, {"daily-bytes", "carol", "0"}} {
+		if err := Set(path, words...); err != nil {
+			t.Fatal(err)
+		}
+	}
+	for user, want := range map[string]daily.Amount{"": {Bytes: 5 << 30, Child: 10 * time.Minute}, "alice": {Bytes: 1 << 20, Child: 10 * time.Minute},
+		"bob": {Bytes: 5 << 30, Child: 20 * time.Second}, "carol": {Child: 10 * time.Minute}} {
+		if got := l.Daily(user); got != want {
+			t.Error(user, got)
+		}
+	}
+	if err := Set(path, "daily-bytes", "alice", "default"); err != nil || l.Daily("alice").Bytes != 5<<30 {
+		t.Error(l.Daily("alice"), err)
+	}
+	for _, words := range [][]string{{"daily-bytes", "git", "1"}, {"daily-bytes", "a/b", "1"}, {"daily-child", "bob", "x"}, {"idle", "bob", "1s"}} {
+		if Set(path, words...) == nil {
+			t.Error(words)
+		}
 	}
 }
 

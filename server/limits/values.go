@@ -7,6 +7,7 @@ import (
 	"strings"
 	"time"
 
+	"gitpoold/access"
 	"gitpoold/lists"
 	"gitpoold/tenants"
 )
@@ -46,6 +47,16 @@ func span(into func(*Values) *time.Duration) func(*Values, string) error {
 	}
 }
 
+func spanOrNone(into func(*Values) *time.Duration) func(*Values, string) error {
+	return func(v *Values, word string) error {
+		if word == "0" {
+			*into(v) = 0
+			return nil
+		}
+		return span(into)(v, word)
+	}
+}
+
 var all = []limit{
 	{"connections", "1024", "connections at once",
 		count(func(v *Values) *int { return &v.Connections })},
@@ -63,10 +74,16 @@ var all = []limit{
 		span(func(v *Values) *time.Duration { return &v.Drain })},
 	{"step", "5m", "the time that the child has for one answer; then it is replaced",
 		span(func(v *Values) *time.Duration { return &v.Step })},
+	{"hook", "30s", "the time that a hook has for one push; then it is ended",
+		span(func(v *Values) *time.Duration { return &v.Hook })},
 	{"request-bytes", "1G", "the bytes that one request may bring",
 		bytes(func(v *Values) *int64 { return &v.RequestBytes })},
 	{"quota", "1G", "the bytes that a tenant may have; 0 is no limit",
 		bytes(func(v *Values) *int64 { return &v.Quota })},
+	{dailyBytesName, "0", "the bytes that a user may push and fetch in a day of UTC; 0 is no limit",
+		bytes(func(v *Values) *int64 { return &v.DailyBytes })},
+	{dailyChildName, "0", "the time of the child that a user's pushes and fetches may take in a day of UTC; 0 is no limit",
+		spanOrNone(func(v *Values) *time.Duration { return &v.DailyChild })},
 	{"journal-bytes", "256M", "the bytes of the journal that ask for a save",
 		bytes(func(v *Values) *int64 { return &v.JournalBytes })},
 	{"save-every", "1h", "the time after which what has changed is saved",
@@ -77,7 +94,12 @@ var all = []limit{
 		bytes(func(v *Values) *int64 { return &v.ChildMemory })},
 }
 
-const quotaName = "quota"
+// The limits that a tenant, or a user, may have of its own.
+const (
+	quotaName      = "quota"
+	dailyBytesName = "daily-bytes"
+	dailyChildName = "daily-child"
+)
 
 // ParseBytes reads a number of bytes, in all or with K, M, G or T for powers of 1,024.
 func ParseBytes(word string) (int64, error) {
@@ -104,7 +126,7 @@ func find(name string) (limit, error) {
 
 // Defaults gives the limits of an empty file.
 func Defaults() Values {
-	v := Values{Quotas: map[string]int64{}}
+	v := Values{Quotas: map[string]int64{}, UserBytes: map[string]int64{}, UserChild: map[string]time.Duration{}}
 	for _, it := range all {
 		if err := it.set(&v, it.first); err != nil {
 			panic(err)
@@ -126,10 +148,8 @@ func read(path string) (Values, error) {
 
 // take takes one line of the file.
 func (v *Values) take(words []string) error {
-	if len(words) == 3 && words[0] == quotaName && tenants.ValidName(words[1]) {
-		most, err := ParseBytes(words[2])
-		v.Quotas[words[1]] = most
-		return err
+	if len(words) == 3 {
+		return v.takeOwn(words)
 	}
 	if len(words) != 2 {
 		return fmt.Errorf("`%s` is no line NAME VALUE", strings.Join(words, " "))
@@ -144,22 +164,45 @@ func (v *Values) take(words []string) error {
 	return nil
 }
 
+// takeOwn takes the limit of one tenant or one user.
+func (v *Values) takeOwn(words []string) error {
+	var own Values
+	it, err := find(words[0])
+	if err == nil {
+		err = it.set(&own, words[2])
+	}
+	if err != nil {
+		return fmt.Errorf("%s: %w", words[0], err)
+	}
+	switch {
+	case words[0] == quotaName && tenants.ValidName(words[1]):
+		v.Quotas[words[1]] = own.Quota
+	case words[0] == dailyBytesName && access.ValidUser(words[1]):
+		v.UserBytes[words[1]] = own.DailyBytes
+	case words[0] == dailyChildName && access.ValidUser(words[1]):
+		v.UserChild[words[1]] = own.DailyChild
+	default:
+		return fmt.Errorf("`%s` is no line quota TENANT VALUE, daily-bytes USER VALUE or daily-child USER VALUE", strings.Join(words, " "))
+	}
+	return nil
+}
+
 // Row is one limit, as the operator sees it.
 type Row struct{ Name, Value, Default, About string }
 
-// Rows gives all limits of a folder's file, those of single tenants last.
+// Rows gives all limits of a folder's file, those of single tenants and users last.
 func Rows(path string) ([]Row, error) {
 	lines, err := lists.Read(path)
 	if err != nil {
 		return nil, err
 	}
 	said := map[string]string{}
-	var tenants []Row
+	var own []Row
 	for _, words := range lines {
 		if len(words) == 2 {
 			said[words[0]] = words[1]
 		} else if len(words) == 3 {
-			tenants = append(tenants, Row{Name: words[0] + " " + words[1], Value: words[2], About: "of this tenant"})
+			own = append(own, Row{Name: words[0] + " " + words[1], Value: words[2], About: "of its own"})
 		}
 	}
 	var rows []Row
@@ -170,11 +213,11 @@ func Rows(path string) ([]Row, error) {
 		}
 		rows = append(rows, row)
 	}
-	sort.Slice(tenants, func(i, k int) bool { return tenants[i].Name < tenants[k].Name })
-	return append(rows, tenants...), nil
+	sort.Slice(own, func(i, k int) bool { return own[i].Name < own[k].Name })
+	return append(rows, own...), nil
 }
 
-// Set sets a limit, or one tenant's quota by `quota TENANT VALUE`. The value `default` takes the line out.
+// Set sets a limit, or that of one tenant or user by `NAME TENANT VALUE` or `NAME USER VALUE`. The value `default` takes the line out.
 func Set(path string, words ...string) error {
 	v := Defaults()
 	name, value := words[:len(words)-1], words[len(words)-1]

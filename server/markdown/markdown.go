@@ -70,7 +70,7 @@ func HTML(contents []byte, resolve func(path, fragment string, isImage bool) str
 		goldmark.WithRendererOptions(html.WithXHTML()), goldmark.WithParserOptions(parser.WithAutoHeadingID()))
 	source := text.NewReader(contents)
 	document := converter.Parser().Parse(source, parser.WithContext(parser.NewContext(parser.WithIDs(headings{}))))
-	rewriter(resolve).rewrite(document)
+	rewriter(resolve).rewrite(document, contents)
 	var to bounded
 	err := converter.Renderer().Render(&to, contents, document)
 	if errors.Is(err, errLong) {
@@ -114,8 +114,9 @@ func anchorOf(heading string) string {
 // rewriter changes a document so that it can stand in a page.
 type rewriter func(path, fragment string, isImage bool) string
 
-func (w rewriter) rewrite(document ast.Node) {
+func (w rewriter) rewrite(document ast.Node, source []byte) {
 	var images []*ast.Image
+	var bare []*ast.AutoLink
 	_ = ast.Walk(document, func(n ast.Node, isEntering bool) (ast.WalkStatus, error) {
 		if !isEntering {
 			return ast.WalkContinue, nil
@@ -129,6 +130,7 @@ func (w rewriter) rewrite(document ast.Node) {
 			it.Destination = []byte(w.target(string(it.Destination), false))
 		case *ast.AutoLink:
 			it.SetAttributeString("rel", []byte("nofollow noreferrer"))
+			bare = append(bare, it)
 		case *ast.Image:
 			images = append(images, it)
 		}
@@ -137,6 +139,17 @@ func (w rewriter) rewrite(document ast.Node) {
 	for _, it := range images {
 		w.unimage(it)
 	}
+	for _, it := range bare {
+		w.unlink(it, source)
+	}
+}
+
+// unlink puts the words of a bare address in its place, unless it leads to the web or is one of mail.
+func (w rewriter) unlink(link *ast.AutoLink, source []byte) {
+	if link.AutoLinkType == ast.AutoLinkEmail || w.target(string(link.URL(source)), false) != "" {
+		return
+	}
+	link.Parent().ReplaceChild(link.Parent(), link, ast.NewString(link.Label(source)))
 }
 
 // unimage puts a link to an image in its place; within a link only its words.

@@ -69,7 +69,7 @@ func (s *session) read(ctx context.Context) {
 // take passes a step on, and tells whether the connection goes on.
 func (s *session) take(ctx context.Context, step frames.Step) bool {
 	switch step.Kind {
-	case frames.Ask, frames.Sizes:
+	case frames.Ask, frames.Sizes, frames.Missing, frames.Entries:
 		return s.ask(ctx, step)
 	case frames.Open:
 		return s.open(ctx, step.Tenant)

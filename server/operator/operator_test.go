@@ -74,12 +74,16 @@ func dialed(t testing.TB, folder string) net.Conn {
 	return conn
 }
 
-// steps makes steps of some tenants at random: good ones, and ones that are refused.
+// steps makes steps of some tenants at random, after a commit of each: good ones, and ones that are refused.
 func steps(random *rand.Rand, count int) (all []frames.Step) {
 	bodies := []string{"commit refs/heads/main\ncommitter a <a@b> 1 +0000\ndata 1\nx\n", "checkpoint\n", "blob\nmark :1\ndata 3\nabc\nget-mark :1\n",
 		"no command\n", "progress on\n", "feature done\n", "reset refs/heads/other\nfrom refs/heads/main^0\n\n", "data", ""}
 	queries := []string{"refs", "head", "log main", "cat main", "rev-parse f2ba", "no query", "export", strings.Repeat("x", 9000)}
 	names := []string{"a", "acme/site", "b", "../bad", ""}
+	for _, tenant := range names[:3] {
+		all = append(all, frames.Step{Kind: frames.Open, Tenant: tenant},
+			frames.Step{Kind: frames.Feed, Tenant: tenant, Body: []byte(bodies[0])}, frames.Step{Kind: frames.End, Tenant: tenant})
+	}
 	for i := 0; i < count; i++ {
 		step := frames.Step{Kind: frames.Kind(1 + random.Intn(4)), Tenant: names[random.Intn(len(names)*3)%5]}
 		switch step.Kind {
@@ -103,7 +107,7 @@ func steps(random *rand.Rand, count int) (all []frames.Step) {
 
 // request makes a request of the operator.
 func request(random *rand.Rand, names []string) frames.Step {
-	step := frames.Step{Kind: frames.Save + frames.Kind(random.Intn(6)), Tenant: names[random.Intn(len(names)*3)%5]}
+	step := frames.Step{Kind: frames.Save + frames.Kind(random.Intn(8)), Tenant: names[random.Intn(len(names)*3)%5]}
 	switch step.Kind {
 	case frames.Save:
 		step.Tenant, step.Body = "", frames.AsOpened[random.Intn(2):]
@@ -111,12 +115,27 @@ func request(random *rand.Rand, names []string) frames.Step {
 		step.Tenant = ""
 	case frames.Copy:
 		step.Body = []byte(names[random.Intn(len(names))])
+	case frames.Missing:
+		step.Body = append([]byte{0, 0, 0, byte(random.Intn(3))}, objectNames(random, 2+random.Intn(3))...)
+	case frames.Entries:
+		step.Body = append([]byte{0, 0, 0, 0, 0, 0, byte(random.Intn(3)), 0}, objectNames(random, random.Intn(3))...)
 	}
 	return step
 }
 
+// objectNames are names that tenants may have: of the commit of `steps`, of its tree, and of nothing.
+func objectNames(random *rand.Rand, count int) (bytes []byte) {
+	all := []string{"5566f0fb5202abaf7f0d21e3b976f604075c31ae", "4b825dc642cb6eb9a060e54bf8d69288fbee4904", strings.Repeat("1", 40)}
+	for ; count > 0; count-- {
+		name, _ := tenants.ParseName(all[random.Intn(len(all)+3)%len(all)])
+		bytes = append(bytes, name[:]...)
+	}
+	return bytes
+}
+
 // TestFramesAreAnsweredAsByHost sends the same frames to the socket and to `gitpool host`.
 func TestFramesAreAnsweredAsByHost(t *testing.T) {
+	found := 0
 	for seed := int64(0); seed < 4; seed++ {
 		var text []byte
 		all := steps(rand.New(rand.NewSource(seed)), 300)
@@ -135,11 +154,15 @@ func TestFramesAreAnsweredAsByHost(t *testing.T) {
 		command.Stdin = bytes.NewReader(text)
 		want, err := command.Output()
 		must(t, err)
-		compare(t, seed, all, got, want)
+		found += compare(t, seed, all, got, want)
+	}
+	if found == 0 {
+		t.Error("nothing was found that a fetch asks for")
 	}
 }
 
-func compare(t *testing.T, seed int64, all []frames.Step, got, want []byte) {
+// compare gives how many answers to what a fetch asks have a reply.
+func compare(t *testing.T, seed int64, all []frames.Step, got, want []byte) (found int) {
 	t.Helper()
 	mine, theirs := bufio.NewReader(bytes.NewReader(got)), bufio.NewReader(bytes.NewReader(want))
 	for i, step := range all {
@@ -150,7 +173,11 @@ func compare(t *testing.T, seed int64, all []frames.Step, got, want []byte) {
 			t.Fatalf("seed %d, step %d, %d %q %.40q: %v %d %.60q %v, wanted %d %.60q", seed, i, step.Kind, step.Tenant, step.Body,
 				answer.Status, answer.Value, answer.Reply, err, wanted.Value, wanted.Reply)
 		}
+		if (step.Kind == frames.Missing || step.Kind == frames.Entries) && len(answer.Reply) > 0 {
+			found++
+		}
 	}
+	return found
 }
 
 func ask(t testing.TB, conn net.Conn, step frames.Step) frames.Answer {
@@ -164,7 +191,7 @@ func ask(t testing.TB, conn net.Conn, step frames.Step) frames.Answer {
 
 func TestWrongFramesCloseTheConnection(t *testing.T) {
 	folder := served(t, "")
-	for _, text := range []string{"\x06", "\x01\x00\x01t\x00\x00\x00\x01", "\x16\x00\x00\x00\x00\x00\x00", "\x10\x00\x01",
+	for _, text := range []string{"\x06", "\x01\x00\x01t\x00\x00\x00\x01", "\x18\x00\x00\x00\x00\x00\x00", "\x10\x00\x01",
 		"\x10\x00\x00\x00\x00\x00\x01\x02"} {
 		conn := dialed(t, folder)
 		conn.Write([]byte(text))

@@ -232,38 +232,21 @@ func TestThinPacks(t *testing.T) {
 	}
 }
 
-func TestGitTakesPacks(t *testing.T) {
-	for _, deflateFrom := range []int{0, 1, 100} {
-		var out bytes.Buffer
-		w := NewWriter(&out)
-		w.DeflateFrom = deflateFrom
-		sizes := []int{0, 1, 15, 16, 2047, 2048, 65534, 65535, 65536, 131070, 131071, 3000000}
-		w.Begin(len(sizes) + 1)
-		tree := []byte(strings.Repeat("100644 a\x00aaaaaaaaaaaaaaaaaaaa", 40))
-		at := w.Place()
-		_ = w.Add(tenants.Blob, tree)
-		for i, size := range sizes[1:] {
-			_ = w.Add(tenants.Blob, bytes.Repeat([]byte{byte('a' + i)}, size))
-		}
-		if back := w.Place() - at; w.AddDelta(back, EndsDelta(tree, append(tree[:500:500], tree[560:]...))) != nil {
-			t.Fatal("no delta")
-		}
-		if err := w.Finish(); err != nil {
+func TestAWriterWritesPacks(t *testing.T) {
+	entries := newMaker(0)
+	entries.Reset()
+	entries.entry(3, 1, nil, []byte("a")).entry(3, 2, nil, []byte("bc"))
+	want := newMaker(2)
+	want.Write(entries.Bytes())
+	var out bytes.Buffer
+	w := NewWriter(&out)
+	for _, err := range []error{w.Begin(2), w.Entries(entries.Bytes()[:5]), w.Entries(entries.Bytes()[5:]), w.Finish()} {
+		if err != nil {
 			t.Fatal(err)
 		}
-		mine := append([]byte{}, out.Bytes()...)
-		room := t.TempDir()
-		if said, err := exec.Command("git", "init", "-q", "--bare", room).CombinedOutput(); err != nil {
-			t.Fatal(string(said))
-		}
-		git := exec.Command("git", "-C", room, "index-pack", "--stdin")
-		git.Stdin = &out
-		if said, err := git.CombinedOutput(); err != nil {
-			t.Fatal(string(said))
-		}
-		if _, err := read(t, mine, noBase{}, Usual); err != nil {
-			t.Fatal(err)
-		}
+	}
+	if got := out.Bytes(); !bytes.Equal(got, want.done()) {
+		t.Fatalf("%q", got)
 	}
 }
 
@@ -274,22 +257,6 @@ func FuzzPatch(f *testing.F) {
 	f.Fuzz(func(t *testing.T, base, delta []byte) {
 		if out, err := Patch(base, delta, 1<<16); err == nil && len(out) > 1<<16 {
 			t.Fatal("too long")
-		}
-	})
-}
-
-func FuzzEndsDelta(f *testing.F) {
-	long := strings.Repeat("some text that has an end", 9)
-	f.Add([]byte(long), []byte(strings.Replace(long, "that", "which", 1)))
-	f.Add([]byte(long), []byte{})
-	f.Fuzz(func(t *testing.T, old, new []byte) {
-		if delta := EndsDelta(old, new); delta != nil {
-			if len(delta) < 4 {
-				t.Fatal("git takes no delta that is so short")
-			}
-			if out, err := Patch(old, delta, 1<<24); err != nil || !bytes.Equal(out, new) {
-				t.Fatalf("%v", err)
-			}
 		}
 	})
 }
@@ -322,4 +289,28 @@ func FuzzRead(f *testing.F) {
 			}
 		}
 	})
+}
+
+// TestWorkIsBounded has deltas that cost far more than their bytes: those of one base in a row are cheap, others are refused in the end.
+func TestWorkIsBounded(t *testing.T) {
+	const size, count = 1 << 16, 100
+	defer func(was int64) { leastWork = was }(leastWork)
+	leastWork = 1 << 20
+	limits := Usual
+	limits.Bytes = 1 << 18
+	base, other := make([]byte, size), bytes.Repeat([]byte{1}, size)
+	small := delta(size, 1, 1, 'x')
+	one, two := NameOf(tenants.Blob, base), NameOf(tenants.Blob, other)
+	row := newMaker(count+1).entry(3, size, nil, base)
+	turns := newMaker(count+2).entry(3, size, nil, base).entry(3, size, nil, other)
+	for at := 0; at < count; at++ {
+		row.entry(7, len(small), one[:], small)
+		turns.entry(7, len(small), [][]byte{one[:], two[:]}[at%2], small)
+	}
+	if _, err := read(t, row.done(), noBase{}, limits); err != nil {
+		t.Fatal(err)
+	}
+	if _, err := read(t, turns.done(), noBase{}, limits); err == nil || !strings.Contains(err.Error(), "more work") {
+		t.Fatal(err)
+	}
 }

@@ -27,6 +27,9 @@ type reading struct {
 	byEntry  map[int][]int
 	byName   map[tenants.Name][]int
 	waiting  int
+	work     int64
+	lastBase int
+	last     []byte
 }
 
 // Read reads a whole pack up to the end of the input. An error is a sentence for the client; the objects that were read before it
@@ -138,7 +141,34 @@ func (r *reading) inflate(size int64) (data []byte, err error) {
 	if n != size {
 		return nil, wrong("an entry has another size than it says")
 	}
-	return r.data.Bytes(), nil
+	return r.data.Bytes(), r.spend(n)
+}
+
+// The work that a pack may take: so many bytes, and so many for each that it may have inflated.
+var leastWork int64 = 1 << 30
+
+const workForByte = 4
+
+// spend counts bytes that were inflated, read as a base or made by a delta, whether or not they are kept. A small pack may ask for the
+// same large object again and again.
+func (r *reading) spend(bytes int64) error {
+	if r.work += bytes; r.work > leastWork+workForByte*r.limits.Bytes {
+		return Refused{"the deltas of the pack take more work than this server does; git repack -a -d -f makes others"}
+	}
+	return nil
+}
+
+// baseOf gives the contents of a base. The one of the delta before is at hand.
+func (r *reading) baseOf(at int) ([]byte, error) {
+	if r.last != nil && r.lastBase == at {
+		return r.last, nil
+	}
+	contents, err := r.contents(at)
+	if err == nil {
+		err = r.spend(int64(len(contents)))
+	}
+	r.last, r.lastBase = contents, at
+	return contents, err
 }
 
 // inflating tells an input that failed from bytes that cannot be inflated.
@@ -234,11 +264,14 @@ func (r *reading) patched(base int, delta []byte) (contents []byte, depth int32,
 	if int(depth) > r.limits.DeltaDepth {
 		return nil, 0, wrong("a chain of deltas is too long")
 	}
-	old, err := r.contents(base)
+	old, err := r.baseOf(base)
 	if err != nil {
 		return nil, 0, err
 	}
 	contents, err = Patch(old, delta, r.limits.ObjectBytes)
+	if err == nil {
+		err = r.spend(int64(len(contents)))
+	}
 	return contents, depth, err
 }
 
@@ -247,7 +280,7 @@ func (r *reading) patched(base int, delta []byte) (contents []byte, depth int32,
 func (r *reading) resolve(ctx context.Context) error {
 	for name := range r.byName {
 		if at, is := r.own[name]; is {
-			if err := r.resolveFrom(int(at), r.takeName(name)); err != nil {
+			if err := r.resolveFrom(ctx, int(at), r.takeName(name)); err != nil {
 				return err
 			}
 		}
@@ -257,7 +290,7 @@ func (r *reading) resolve(ctx context.Context) error {
 		if err != nil {
 			return err
 		}
-		if err := r.resolveFrom(found, r.takeName(name)); err != nil {
+		if err := r.resolveFrom(ctx, found, r.takeName(name)); err != nil {
 			return err
 		}
 	}
@@ -292,8 +325,8 @@ func (r *reading) tenantBase(ctx context.Context) (tenants.Name, int, error) {
 	return last, 0, Refused{"the pack has a delta against " + last.String() + ", which is not here"}
 }
 
-// resolveFrom carries out deltas of one base, and all that wait for what they make.
-func (r *reading) resolveFrom(base int, children []int) error {
+// resolveFrom carries out deltas of one base, and all that wait for what they make, as long as the context lasts.
+func (r *reading) resolveFrom(ctx context.Context, base int, children []int) error {
 	type step struct{ base, child int }
 	var steps []step
 	push := func(base int, children []int) {
@@ -302,7 +335,7 @@ func (r *reading) resolveFrom(base int, children []int) error {
 		}
 	}
 	push(base, children)
-	for len(steps) > 0 {
+	for len(steps) > 0 && ctx.Err() == nil {
 		next := steps[len(steps)-1]
 		steps = steps[:len(steps)-1]
 		if err := r.resolveOne(next.base, next.child); err != nil {
@@ -312,7 +345,7 @@ func (r *reading) resolveFrom(base int, children []int) error {
 		delete(r.byEntry, next.child)
 		push(next.child, r.takeName(r.entries[next.child].name))
 	}
-	return nil
+	return ctx.Err()
 }
 
 func (r *reading) resolveOne(base, child int) error {

@@ -371,7 +371,7 @@ def a_restored_backup_serves(room: ServerRoom) -> None:
     other = room.path("restored")
     room.serverd("init", other, "--program", room.program)
     os.replace(backup, os.path.join(other, "pool"))
-    for name in ("access", "passwords", "keys", "limits", "host_key"):
+    for name in ("access", "passwords", "keys", "limits", "hooks", "host_key"):
         os.replace(os.path.join(room.served, name), os.path.join(other, name))
     room.served = other
     room.start()

@@ -8,6 +8,9 @@ import (
 	"strings"
 
 	"gitpoold/access"
+	"gitpoold/child"
+	"gitpoold/daily"
+	"gitpoold/hooks"
 	"gitpoold/logs"
 	"gitpoold/pack"
 	"gitpoold/pktline"
@@ -54,32 +57,70 @@ type Use struct {
 	Version       int // of the protocol
 	User, Address string
 	Tenant        tenants.Tenant
+	Meter         *daily.Meter
 	In            io.Reader
 	Out           *pktline.Writer
 }
 
 // Advertise writes what stands before the first request.
 func (u Use) Advertise(ctx context.Context) error {
+	ctx = child.Charging(ctx, u.Meter.AddChild)
 	if u.Service == ReceivePack {
 		return receivepack.Advertise(ctx, u.Tenant, u.Out, u.Version)
 	}
 	return uploadpack.Advertise(ctx, u.Tenant, u.Out, u.Version)
 }
 
-// Serve answers what follows: one request, or a whole session. It writes each ref that a push changed to the log.
+// Serve answers what follows: one request, or a whole session. It writes each ref that a push changed to the log, and lets hooks be told.
 func (u Use) Serve(ctx context.Context, isStateless bool) error {
-	in := bufio.NewReaderSize(u.In, 1<<16)
+	ctx = child.Charging(ctx, u.Meter.AddChild)
 	if u.Service == UploadPack {
-		return uploadpack.Server{Folder: u.Site.Work}.Serve(ctx, u.Tenant, in, u.Out, u.Version, isStateless)
+		in := bufio.NewReaderSize(u.In, 1<<16)
+		return uploadpack.Server{MaySend: u.mayGoOn}.Serve(ctx, u.Tenant, in, u.Out, u.Version, isStateless)
 	}
+	in := bufio.NewReaderSize(&refusing{from: u.In, mayGoOn: u.mayGoOn}, 1<<16)
 	limits := pack.Usual
 	limits.PackBytes = u.Site.Limits.Get().RequestBytes
 	result, err := receivepack.Server{Folder: u.Site.Work, Limits: limits}.Serve(ctx, u.Tenant, in, u.Out)
+	u.tell(result)
+	return err
+}
+
+// mayGoOn refuses what goes beyond what the user may take in a day.
+func (u Use) mayGoOn() error {
+	if err := u.Meter.Err(); err != nil {
+		return uploadpack.Refused{Why: err.Error()}
+	}
+	return nil
+}
+
+// refusing reads until it may not go on, and gives that error once. What is read after it is the rest of a push that was refused.
+type refusing struct {
+	from    io.Reader
+	mayGoOn func() error
+	refused error
+}
+
+func (r *refusing) Read(into []byte) (int, error) {
+	if r.refused == nil {
+		if r.refused = r.mayGoOn(); r.refused != nil {
+			return 0, r.refused
+		}
+	}
+	return r.from.Read(into)
+}
+
+// tell tells the log and the hooks what a push changed.
+func (u Use) tell(result receivepack.Result) {
+	push := hooks.Push{Tenant: u.Tenant.Name(), User: u.User, Options: result.Options}
 	for _, it := range result.Changes {
+		push.Changes = append(push.Changes, hooks.Change{Ref: it.Ref, Old: it.Old.String(), New: it.New.String()})
 		u.Site.Log.Change(logs.Change{Address: u.Address, User: u.User, Tenant: u.Tenant.Name(), Ref: it.Ref,
 			Old: it.Old.String(), New: it.New.String()})
 	}
-	return err
+	if u.Site.Hooks != nil && len(push.Changes) > 0 {
+		u.Site.Hooks.Tell(push)
+	}
 }
 
 // Counting counts the bytes that pass.
@@ -87,12 +128,14 @@ type Counting struct {
 	From  io.Reader
 	To    io.Writer
 	Count *int64
+	Meter *daily.Meter
 }
 
 // Read reads and counts.
 func (c Counting) Read(into []byte) (int, error) {
 	n, err := c.From.Read(into)
 	*c.Count += int64(n)
+	c.Meter.Add(n)
 	return n, err
 }
 
@@ -100,5 +143,6 @@ func (c Counting) Read(into []byte) (int, error) {
 func (c Counting) Write(data []byte) (int, error) {
 	n, err := c.To.Write(data)
 	*c.Count += int64(n)
+	c.Meter.Add(n)
 	return n, err
 }

@@ -5,6 +5,8 @@ import (
 	"errors"
 
 	"gitpoold/access"
+	"gitpoold/daily"
+	"gitpoold/hooks"
 	"gitpoold/limits"
 	"gitpoold/logs"
 	"gitpoold/metrics"
@@ -26,6 +28,10 @@ type Site struct {
 	Limits  *limits.Limits
 	Log     *logs.Log
 	Metrics *metrics.Metrics
+	// Daily counts what users take in a day; nil counts nothing.
+	Daily *daily.Ledger
+	// Hooks are told of pushes; nil has none.
+	Hooks *hooks.Hooks
 	// Work is a folder for files that requests need while they last; the server empties it when it starts. Where it is "", they go to
 	// the system's place for such files.
 	Work string

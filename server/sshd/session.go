@@ -10,6 +10,7 @@ import (
 
 	"golang.org/x/crypto/ssh"
 
+	"gitpoold/daily"
 	"gitpoold/logs"
 	"gitpoold/pktline"
 	"gitpoold/services"
@@ -114,15 +115,19 @@ func (s *session) run(ctx context.Context, payload []byte) uint32 {
 		return s.say(err.Error())
 	}
 	defer leave()
+	meter := s.Daily.Meter(s.user, s.address)
+	if err := meter.Err(); err != nil {
+		return s.say(err.Error())
+	}
 	t, err := s.Open(s.user, tenantOf(path), services.Right(service))
 	if err != nil {
 		return s.say(err.Error())
 	}
-	return s.timed(ctx, service, t)
+	return s.timed(ctx, service, t, meter)
 }
 
 // timed carries out a service, and ends it after the time that the operator gives.
-func (s *session) timed(ctx context.Context, service string, t tenants.Tenant) uint32 {
+func (s *session) timed(ctx context.Context, service string, t tenants.Tenant, meter *daily.Meter) uint32 {
 	ctx, stop := context.WithTimeout(ctx, s.Limits.Get().Request)
 	defer stop()
 	finished := make(chan struct{})
@@ -136,7 +141,7 @@ func (s *session) timed(ctx context.Context, service string, t tenants.Tenant) u
 	}()
 	record := logs.Request{Protocol: "ssh", Address: s.address, User: s.user, Tenant: t.Name(), What: service}
 	began := time.Now()
-	record.Err = s.service(ctx, service, t, &record)
+	record.Err = s.service(ctx, s.use(service, t, meter, &record))
 	record.Took = time.Since(began)
 	if record.Err != nil {
 		record.Status = failed
@@ -145,10 +150,13 @@ func (s *session) timed(ctx context.Context, service string, t tenants.Tenant) u
 	return uint32(record.Status)
 }
 
-func (s *session) service(ctx context.Context, service string, t tenants.Tenant, record *logs.Request) error {
-	use := services.Use{Site: s.Site, Service: service, Version: services.Version(s.protocol), User: s.user, Address: s.address, Tenant: t,
-		In:  services.Counting{From: s.channel, Count: &record.In},
-		Out: pktline.NewWriter(services.Counting{To: s.channel, Count: &record.Out})}
+func (s *session) use(service string, t tenants.Tenant, meter *daily.Meter, record *logs.Request) services.Use {
+	return services.Use{Site: s.Site, Service: service, Version: services.Version(s.protocol), User: s.user, Address: s.address, Tenant: t,
+		Meter: meter, In: services.Counting{From: s.channel, Count: &record.In, Meter: meter},
+		Out: pktline.NewWriter(services.Counting{To: s.channel, Count: &record.Out, Meter: meter})}
+}
+
+func (s *session) service(ctx context.Context, use services.Use) error {
 	if err := use.Advertise(ctx); err != nil {
 		return err
 	}

@@ -238,7 +238,7 @@ func (st *Stream) sendEnd(ctx context.Context, last []byte) (uint64, *Batch, err
 	s.expect(number, end{tenant: st.tenant})
 	s.taken.Add(int64(len(steps)))
 	faultpoint.Here("before the end is sent")
-	batch, err := st.process.Send(context.Background(), child.Short, steps...)
+	batch, err := st.process.Send(child.Endless(ctx), child.Short, steps...)
 	if err != nil {
 		batch = child.Lost(err)
 	}

@@ -66,6 +66,11 @@ func (t Tenant) begin(ctx context.Context, class child.Class, queries []string) 
 	for i, query := range queries {
 		steps[i] = frames.Step{Kind: frames.Ask, Tenant: t.name, Body: []byte(query)}
 	}
+	return t.send(ctx, class, steps...)
+}
+
+// send sends steps in one batch, and gives the call that waits for their answers.
+func (t Tenant) send(ctx context.Context, class child.Class, steps ...frames.Step) func() ([]frames.Answer, error) {
 	if len(steps) == 0 {
 		return func() ([]frames.Answer, error) { return nil, nil }
 	}

@@ -12,8 +12,8 @@ import (
 
 // Server has what an operator may set.
 type Server struct {
-	Folder      string // for temporary files
-	DeflateFrom int    // the bytes from which contents are deflated, or 0 for never
+	// MaySend is asked before each part of a pack. An error of it ends the pack and is told; nil means no such question.
+	MaySend func() error
 }
 
 // mostLines is how many bytes of lines one request may have.

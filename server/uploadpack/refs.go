@@ -19,6 +19,7 @@ type Repository interface {
 	walk.Source
 	Has(context.Context, []tenants.Name) ([]bool, error)
 	Refs(context.Context) (refs []tenants.Ref, head string, err error)
+	Entries(ctx context.Context, objects tenants.Listing, use func(entries []byte) error) error
 }
 
 // Agent is how the server calls itself to clients.

@@ -3,9 +3,10 @@ package uploadpack
 import (
 	"bufio"
 	"bytes"
+	"compress/zlib"
 	"context"
+	"encoding/binary"
 	"fmt"
-	"os"
 	"strings"
 	"testing"
 
@@ -76,6 +77,72 @@ func (m *memoryRepository) Refs(context.Context) ([]tenants.Ref, string, error) 
 	return m.refs, m.head, nil
 }
 
+// references are the objects that an object refers to.
+func references(o tenants.Object) (names []tenants.Name) {
+	switch o.Kind {
+	case tenants.Commit:
+		head := objects.ReadHead(o.Contents)
+		return append([]tenants.Name{head.Tree}, head.Parents...)
+	case tenants.Tag:
+		target, _ := objects.Tagged(o.Contents)
+		return []tenants.Name{target}
+	case tenants.Tree:
+		for entry, rest, ok := objects.NextEntry(o.Contents); ok; entry, rest, ok = objects.NextEntry(rest) {
+			names = append(names, entry.Name)
+		}
+	}
+	return names
+}
+
+// Missing lists what the wants reach and the haves do not, as the service does.
+func (m *memoryRepository) Missing(_ context.Context, wants, haves []tenants.Name) (found tenants.Listing, err error) {
+	seen := map[tenants.Name]bool{}
+	var walk func(name tenants.Name, use func(tenants.Object))
+	walk = func(name tenants.Name, use func(tenants.Object)) {
+		o, is := m.objects[name]
+		if seen[name] || !is {
+			return
+		}
+		seen[name] = true
+		for _, name := range references(o) {
+			walk(name, use)
+		}
+		use(o)
+	}
+	for _, name := range haves {
+		walk(name, func(tenants.Object) {})
+	}
+	for _, name := range wants {
+		if _, is := m.objects[name]; !is {
+			return nil, tenants.ErrMissing
+		}
+		walk(name, func(o tenants.Object) { found = found.With(o.Name, o.Kind, uint64(len(o.Contents))) })
+	}
+	return found, nil
+}
+
+// Entries gives entries of a pack, one at a time.
+func (m *memoryRepository) Entries(_ context.Context, listing tenants.Listing, use func([]byte) error) error {
+	for at := 0; at < listing.Len(); at++ {
+		o, is := m.objects[listing.Name(at)]
+		if !is || o.Kind != listing.Kind(at) || uint64(len(o.Contents)) != listing.Size(at) {
+			return tenants.ErrMissing
+		}
+		entry := bytes.NewBuffer([]byte{byte(o.Kind)<<4 | byte(len(o.Contents)&15)})
+		if rest := len(o.Contents) >> 4; rest > 0 {
+			entry.Bytes()[0] |= 0x80
+			entry.Write(binary.AppendUvarint(nil, uint64(rest)))
+		}
+		deflater := zlib.NewWriter(entry)
+		_, _ = deflater.Write(o.Contents)
+		_ = deflater.Close()
+		if err := use(entry.Bytes()); err != nil {
+			return err
+		}
+	}
+	return nil
+}
+
 // smallRepository has a history of some commits, and a tag.
 func smallRepository() (*memoryRepository, []tenants.Name) {
 	m := &memoryRepository{objects: map[tenants.Name]tenants.Object{}, head: "refs/heads/main"}
@@ -95,7 +162,7 @@ func smallRepository() (*memoryRepository, []tenants.Name) {
 
 func serve(m *memoryRepository, version int, request []byte) []byte {
 	var out bytes.Buffer
-	s := Server{Folder: os.TempDir()}
+	s := Server{}
 	_ = s.Serve(context.Background(), m, bufio.NewReader(bytes.NewReader(request)), pktline.NewWriter(&out), version, true)
 	return out.Bytes()
 }

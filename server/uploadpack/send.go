@@ -4,7 +4,6 @@ import (
 	"context"
 	"fmt"
 	"io"
-	"time"
 
 	"gitpoold/objects"
 	"gitpoold/pack"
@@ -28,7 +27,8 @@ type fetch struct {
 	history  *walk.History
 	out      *pktline.Writer
 	boundary walk.Boundary
-	tips     []tenants.Name // the commits that the wants lead to
+	tips     []tenants.Name // the commits that the wants lead to, once they were asked for
+	hasTips  bool
 	common   []tenants.Name // the commits that both sides have
 }
 
@@ -37,15 +37,24 @@ func (s Server) begin(ctx context.Context, t Repository, q *request, out *pktlin
 	if err := q.check(ctx, t); err != nil {
 		return nil, err
 	}
-	f := &fetch{request: q, Server: s, t: t, history: walk.NewHistory(t), out: out}
-	var err error
-	f.tips, err = commitsOf(ctx, t, q.wants)
-	return f, err
+	return &fetch{request: q, Server: s, t: t, history: walk.NewHistory(t), out: out}, nil
+}
+
+// leads finds the commits that the wants lead to.
+func (f *fetch) leads(ctx context.Context) (err error) {
+	if !f.hasTips {
+		f.hasTips = true
+		f.tips, err = commitsOf(ctx, f.t, f.wants)
+	}
+	return err
 }
 
 // bound finds where the history is to end, and tells the client.
 func (f *fetch) bound(ctx context.Context) error {
 	if f.deepening.IsSet() {
+		if err := f.leads(ctx); err != nil {
+			return err
+		}
 		boundary, err := f.history.Bound(ctx, f.deepening, f.tips, f.shallow)
 		if err != nil {
 			return err
@@ -66,6 +75,9 @@ func (f *fetch) isReady(ctx context.Context) (bool, error) {
 	if len(f.common) == 0 {
 		return false, nil
 	}
+	if err := f.leads(ctx); err != nil {
+		return false, err
+	}
 	f.history.Cut(f.shallow)
 	return f.history.ReachesAny(ctx, f.tips, f.common)
 }
@@ -78,6 +90,9 @@ func (f *fetch) send(ctx context.Context, hasBands, isShort bool) error {
 		if !f.can["no-progress"] {
 			progress = f.out.Sideband(pktline.ProgressChannel, isShort)
 		}
+	}
+	if f.MaySend != nil {
+		data = asking{data, f.MaySend}
 	}
 	err := f.sendPack(ctx, data, progress)
 	if err != nil && hasBands {
@@ -92,11 +107,31 @@ func (f *fetch) send(ctx context.Context, hasBands, isShort bool) error {
 	return err
 }
 
+// asking asks before each part of what is written whether it may.
+type asking struct {
+	to  io.Writer
+	may func() error
+}
+
+const askedBytes = 64 << 10
+
+func (a asking) Write(data []byte) (written int, err error) {
+	for rest := data; len(rest) > 0 && err == nil; {
+		part := rest
+		if len(part) > askedBytes {
+			part = part[:askedBytes]
+		}
+		rest = rest[len(part):]
+		if err = a.may(); err == nil {
+			_, err = a.to.Write(part)
+			written += len(part)
+		}
+	}
+	return written, err
+}
+
 func (f *fetch) sendPack(ctx context.Context, data, progress io.Writer) error {
-	spool := pack.NewSpool(f.Folder)
-	defer spool.Close()
-	q := walk.Request{Wants: f.wants, Haves: f.common, Was: f.shallow, Boundary: f.boundary, Filter: f.filter,
-		OffsetDeltas: f.can["ofs-delta"]}
+	q := walk.Request{Wants: f.wants, Haves: f.common, Was: f.shallow, Boundary: f.boundary, Filter: f.filter}
 	if f.can["include-tag"] {
 		tags, err := f.tagChains(ctx)
 		if err != nil {
@@ -104,24 +139,20 @@ func (f *fetch) sendPack(ctx context.Context, data, progress io.Writer) error {
 		}
 		q.Tags = tags
 	}
-	show := f.progress(progress)
-	missing, err := walk.Find(ctx, f.t, f.history, q, f.writer(spool), show)
-	if err != nil {
-		return err
-	}
-	fmt.Fprintf(progress, "Enumerating objects: %d, done.\n", missing.Entries+len(missing.Blobs))
-	entries, err := spool.Reader()
+	listing, err := walk.Select(ctx, f.t, f.history, q)
 	if err != nil {
 		return err
 	}
 	f.history = nil
-	return missing.Send(ctx, entries, f.writer(data))
-}
-
-func (f *fetch) writer(to io.Writer) *pack.Writer {
-	w := pack.NewWriter(to)
-	w.DeflateFrom = f.DeflateFrom
-	return w
+	fmt.Fprintf(progress, "Enumerating objects: %d, done.\n", listing.Len())
+	w := pack.NewWriter(data)
+	if err := w.Begin(listing.Len()); err != nil {
+		return err
+	}
+	if err := f.t.Entries(ctx, listing, w.Entries); err != nil {
+		return err
+	}
+	return w.Finish()
 }
 
 func (f *fetch) tagChains(ctx context.Context) (chains []walk.Chain, err error) {
@@ -134,16 +165,4 @@ func (f *fetch) tagChains(ctx context.Context) (chains []walk.Chain, err error) 
 		chains = append(chains, chain)
 	}
 	return chains, err
-}
-
-// progress shows how many objects were found, at most once a second, which also keeps the connection alive.
-func (f *fetch) progress(to io.Writer) func(int) {
-	last := time.Now()
-	return func(count int) {
-		if time.Since(last) > time.Second {
-			last = time.Now()
-			fmt.Fprintf(to, "Enumerating objects: %d\r", count)
-			f.out.Flush()
-		}
-	}
 }

@@ -1,6 +1,7 @@
 // Package walk finds the objects that a fetch has to send: what the wanted objects reach and the client has not.
 //
-// It asks a tenant for commits and trees as it goes, many at once. What is sent may be more than what the client lacks, never less.
+// A tenant tells what is missing where histories are whole. Where they end before their roots, commits are walked here, many at once. What is
+// sent may then be more than what the client lacks, never less.
 package walk
 
 import (
@@ -15,13 +16,14 @@ import (
 type Source interface {
 	Objects(context.Context, []tenants.Name, func(tenants.Object) error) error
 	Log(context.Context, string) ([]tenants.Name, error)
+	Missing(ctx context.Context, wants, haves []tenants.Name) (tenants.Listing, error)
 }
 
-// commit is a commit that has been read. Contents are kept for a while, for most commits that are read are sent.
+// commit is a commit that has been read.
 type commit struct {
 	objects.Head
-	contents []byte
-	flags    flags
+	size  uint64
+	flags flags
 }
 
 type flags uint8
@@ -39,7 +41,6 @@ type History struct {
 	cuts    map[tenants.Name]bool
 	common  []tenants.Name
 	rounds  int
-	kept    int
 }
 
 // A walk goes to parents one round of questions after another. After so many rounds it asks for the rest of a history at once: in a
@@ -47,7 +48,6 @@ type History struct {
 const (
 	patience     = 64
 	longPatience = 1024
-	mostKept     = 16 << 20
 )
 
 // NewHistory makes an empty one.
@@ -116,11 +116,16 @@ func (h *History) read(ctx context.Context, names []tenants.Name) error {
 		if o.Kind != tenants.Commit {
 			return fmt.Errorf("object %v is a %v where a commit has to be", o.Name, o.Kind)
 		}
-		c := &commit{Head: objects.ReadHead(o.Contents)}
-		if h.kept += len(o.Contents); h.kept < mostKept {
-			c.contents = o.Contents
-		}
-		h.commits[o.Name] = c
+		h.commits[o.Name] = &commit{Head: objects.ReadHead(o.Contents), size: uint64(len(o.Contents))}
 		return nil
 	})
+}
+
+// trees gives the trees of commits that were read, once each.
+func (h *History) trees(names []tenants.Name) (trees []tenants.Name) {
+	seen := map[tenants.Name]bool{}
+	for _, name := range names {
+		trees = append(trees, unseen([]tenants.Name{h.commits[name].Tree}, seen)...)
+	}
+	return trees
 }

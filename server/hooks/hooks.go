@@ -1,0 +1,206 @@
+// Package hooks tells programs and http addresses of pushes, after them. No push waits for what is told.
+//
+// The operator's file `hooks` has lines `PATTERN WHERE`: the pattern names tenants as one of a grant does, and WHERE is the path of a
+// program or an address that begins with http:// or https://. The command `gitpoold hooks` changes it, and a running server reads it
+// again when it has changed.
+package hooks
+
+import (
+	"context"
+	"path/filepath"
+	"sync"
+	"time"
+
+	"gitpoold/lists"
+	"gitpoold/metrics"
+)
+
+// Change is a ref that a push changed. Old and New are names of objects in digits, zeros where there is none.
+type Change struct {
+	Ref string `json:"ref"`
+	Old string `json:"old"`
+	New string `json:"new"`
+}
+
+// Push is what a hook is told of one push.
+type Push struct {
+	Tenant  string   `json:"tenant"`
+	User    string   `json:"user"`
+	Changes []Change `json:"changes"`
+	Options []string `json:"options"`
+}
+
+// size is about how many bytes a push takes while it waits.
+func (p Push) size() int {
+	size := len(p.Tenant) + len(p.User)
+	for _, it := range p.Changes {
+		size += len(it.Ref) + len(it.Old) + len(it.New) + 3
+	}
+	for _, option := range p.Options {
+		size += len(option) + 1
+	}
+	return size
+}
+
+// What waits for one hook has these bounds; it misses the pushes beyond them.
+const (
+	mostWaiting      = 1000
+	mostWaitingBytes = 16 << 20
+)
+
+// Hooks tells the hooks of a folder. Its methods may be called by many goroutines at once.
+type Hooks struct {
+	lines   *lists.Followed[[]line]
+	within  func() time.Duration
+	tell    func(format string, values ...any)
+	metrics *metrics.Metrics
+	ctx     context.Context
+	stop    func()
+	running sync.WaitGroup
+
+	mutex    sync.Mutex
+	queues   map[string]*queue
+	isClosed bool
+}
+
+// queue is what waits for one hook, which is told one push after another.
+type queue struct {
+	pushes []Push
+	bytes  int
+	missed int
+}
+
+// Load reads the hooks of a folder. `within` gives the time that a hook has for one push; `tell` gets lines for the operator.
+func Load(folder string, within func() time.Duration, tell func(string, ...any), m *metrics.Metrics) (*Hooks, error) {
+	path := filepath.Join(folder, "hooks")
+	followed, err := lists.Follow(func() ([]line, error) { return read(path) }, tell, path)
+	if err != nil {
+		return nil, err
+	}
+	h := &Hooks{lines: followed, within: within, tell: tell, metrics: m, queues: map[string]*queue{}}
+	h.ctx, h.stop = context.WithCancel(context.Background())
+	m.Gauge("gitpoold_hooks_waiting", "Pushes that hooks are still to be told of.", func() float64 { return float64(h.Waiting()) })
+	return h, nil
+}
+
+// Tell lets each hook of the push's tenant be told, once each. It does not wait.
+func (h *Hooks) Tell(p Push) {
+	told := map[string]bool{}
+	for _, it := range h.lines.Get() {
+		if it.matches(p.Tenant) && !told[it.where] {
+			told[it.where] = true
+			h.put(it.where, p)
+		}
+	}
+}
+
+// Waiting is how many pushes hooks are still to be told of.
+func (h *Hooks) Waiting() (count int) {
+	h.mutex.Lock()
+	defer h.mutex.Unlock()
+	for _, q := range h.queues {
+		count += len(q.pushes)
+	}
+	return count
+}
+
+// Close ends what is at work, and drops what waits.
+func (h *Hooks) Close() {
+	h.mutex.Lock()
+	h.isClosed = true
+	h.mutex.Unlock()
+	if waiting := h.Waiting(); waiting > 0 {
+		h.tell("the server stops; hooks are not told of %d pushes", waiting)
+	}
+	h.stop()
+	h.running.Wait()
+}
+
+// put lets a push wait for a hook, or lets the hook miss it.
+func (h *Hooks) put(where string, p Push) {
+	h.mutex.Lock()
+	defer h.mutex.Unlock()
+	if h.isClosed {
+		return
+	}
+	q := h.queues[where]
+	if q == nil {
+		q = &queue{}
+		h.queues[where] = q
+		h.running.Add(1)
+		go h.work(where, q)
+	}
+	size := p.size()
+	if len(q.pushes) >= mostWaiting || q.bytes+size > mostWaitingBytes {
+		if q.missed++; q.missed == 1 {
+			h.tell("hook %s misses pushes: too many wait for it", shown(where))
+		}
+		h.count("missed")
+		return
+	}
+	q.pushes = append(q.pushes, p)
+	q.bytes += size
+}
+
+// work tells a hook one push after another, until none waits.
+func (h *Hooks) work(where string, q *queue) {
+	defer h.running.Done()
+	for {
+		p, has := h.next(where, q)
+		if !has {
+			return
+		}
+		began := time.Now()
+		err := h.deliver(where, p)
+		h.metrics.Observe("gitpoold_hook_seconds", "The time of hooks.", time.Since(began).Seconds())
+		if h.count(resultOf(err)); err != nil {
+			h.tell("hook %s was not told of a push to %s: %v", shown(where), p.Tenant, err)
+		}
+		h.leave(q)
+	}
+}
+
+// next gives the push that is told next. It stays in the queue until `leave`. Where there is none, the queue ends.
+func (h *Hooks) next(where string, q *queue) (Push, bool) {
+	h.mutex.Lock()
+	defer h.mutex.Unlock()
+	if len(q.pushes) > 0 && h.ctx.Err() == nil {
+		return q.pushes[0], true
+	}
+	if q.missed > 0 {
+		h.tell("hook %s has missed %d pushes", shown(where), q.missed)
+	}
+	delete(h.queues, where)
+	return Push{}, false
+}
+
+func (h *Hooks) leave(q *queue) {
+	h.mutex.Lock()
+	defer h.mutex.Unlock()
+	q.bytes -= q.pushes[0].size()
+	q.pushes[0] = Push{}
+	q.pushes = q.pushes[1:]
+}
+
+// deliver tells a hook of one push, within its time.
+func (h *Hooks) deliver(where string, p Push) error {
+	ctx, stop := context.WithTimeout(h.ctx, h.within())
+	defer stop()
+	var err error
+	if isAddress(where) {
+		err = post(ctx, where, p)
+	} else {
+		err = run(ctx, where, p)
+	}
+	switch {
+	case err != nil && h.ctx.Err() != nil:
+		return errStopped
+	case err != nil && ctx.Err() != nil:
+		return errLate
+	}
+	return err
+}
+
+func (h *Hooks) count(result string) {
+	h.metrics.Add("gitpoold_hooks_total", "What hooks were told of, by how it went.", 1, "result", result)
+}

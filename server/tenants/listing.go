@@ -1,0 +1,148 @@
+package tenants
+
+import (
+	"context"
+	"encoding/binary"
+	"math/bits"
+
+	"gitpoold/child"
+	"gitpoold/frames"
+)
+
+// Listing has objects with their kinds and sizes, as the child lists them: 29 bytes for each.
+type Listing []byte
+
+const listedBytes = 29
+
+// Len is how many objects a listing has.
+func (l Listing) Len() int { return len(l) / listedBytes }
+
+// Name gives the name of an object.
+func (l Listing) Name(at int) (name Name) {
+	copy(name[:], l[at*listedBytes:])
+	return name
+}
+
+// Kind gives the kind of an object.
+func (l Listing) Kind(at int) Kind { return Kind(l[at*listedBytes+len(Name{})]) }
+
+// Size gives the bytes of an object's contents.
+func (l Listing) Size(at int) uint64 {
+	return binary.BigEndian.Uint64(l[at*listedBytes+len(Name{})+1:])
+}
+
+// With gives a listing with one more object.
+func (l Listing) With(name Name, kind Kind, size uint64) Listing {
+	return binary.BigEndian.AppendUint64(append(append(l, name[:]...), byte(kind)), size)
+}
+
+// Keep gives those objects for which `keep` gives true. The listing itself has them no more.
+func (l Listing) Keep(keep func(at int) bool) Listing {
+	kept := l[:0]
+	for at := 0; at < l.Len(); at++ {
+		if keep(at) {
+			kept = append(kept, l[at*listedBytes:(at+1)*listedBytes]...)
+		}
+	}
+	return kept
+}
+
+// Missing lists what the wants reach and the haves do not, each object after all that it refers to. A want that the tenant has not gives
+// ErrMissing; a have that it has not counts for nothing.
+func (t Tenant) Missing(ctx context.Context, wants, haves []Name) (Listing, error) {
+	body := binary.BigEndian.AppendUint32(make([]byte, 0, 4+len(Name{})*(len(wants)+len(haves))), uint32(len(wants)))
+	body = appendNames(appendNames(body, wants), haves)
+	if len(body) > frames.LongestBody {
+		return nil, Fault{25}
+	}
+	answers, err := t.send(ctx, child.Bulk, frames.Step{Kind: frames.Missing, Tenant: t.name, Body: body})()
+	if err != nil {
+		return nil, err
+	}
+	reply, err := checked(answers[0])
+	if err == nil && len(reply)%listedBytes != 0 {
+		err = errAnswer
+	}
+	return reply, err
+}
+
+func appendNames(to []byte, names []Name) []byte {
+	for _, name := range names {
+		to = append(to, name[:]...)
+	}
+	return to
+}
+
+// entriesAtOnce is about how many bytes of entries are asked for at once: so few that short questions wait for them some milliseconds.
+const entriesAtOnce = 1 << 20
+
+// Entries calls `use` with the entries of a pack that has these objects, a megabyte or one object at a time; it asks for the next ones while
+// `use` has those before. An object that the tenant has not gives ErrMissing; an error of `use` ends the call and is given back.
+func (t Tenant) Entries(ctx context.Context, objects Listing, use func(entries []byte) error) error {
+	ctx, stop := context.WithCancel(ctx)
+	defer stop()
+	rest, next := t.askEntries(ctx, objects)
+	for next != nil {
+		entries, err := next()
+		if err != nil {
+			return err
+		}
+		rest, next = t.askEntries(ctx, rest)
+		if err := use(entries); err != nil {
+			return err
+		}
+	}
+	return nil
+}
+
+// askEntries begins to ask for the first entries. It gives the objects after them, and the call that waits for the entries, or nil where
+// there are none.
+func (t Tenant) askEntries(ctx context.Context, objects Listing) (rest Listing, wait func() ([]byte, error)) {
+	count, size := firstEntries(objects)
+	if count == 0 {
+		return nil, nil
+	}
+	body := binary.BigEndian.AppendUint64(make([]byte, 0, 8+len(Name{})*count), size)
+	for at := 0; at < count; at++ {
+		body = append(body, objects[at*listedBytes:at*listedBytes+len(Name{})]...)
+	}
+	answers := t.send(ctx, child.Bulk, frames.Step{Kind: frames.Entries, Tenant: t.name, Body: body})
+	return objects[count*listedBytes:], func() ([]byte, error) {
+		all, err := answers()
+		if err != nil {
+			return nil, err
+		}
+		reply, err := checked(all[0])
+		if err == nil && uint64(len(reply)) != size {
+			err = errAnswer
+		}
+		return reply, err
+	}
+}
+
+// firstEntries is how many objects to ask for at once, and how many bytes their entries have.
+func firstEntries(objects Listing) (count int, size uint64) {
+	for ; count < objects.Len(); count++ {
+		more := entryBytes(objects.Size(count))
+		if count > 0 && size+more > entriesAtOnce {
+			break
+		}
+		size += more
+	}
+	return count, size
+}
+
+// entryBytes is how many bytes the entry of an object has: the kind and the size, four bits of it and then seven to a byte; two bytes of zlib;
+// the contents in stored blocks of at most 65535 bytes with five bytes before each; and four bytes of Adler-32.
+func entryBytes(size uint64) uint64 {
+	const block = 65535
+	head := uint64(1)
+	if more := bits.Len64(size >> 4); more > 0 {
+		head += uint64(more+6) / 7
+	}
+	blocks := (size + block - 1) / block
+	if blocks == 0 {
+		blocks = 1
+	}
+	return head + 2 + 5*blocks + size + 4
+}

@@ -1,0 +1,134 @@
+package tenants
+
+import (
+	"bytes"
+	"compress/zlib"
+	"errors"
+	"fmt"
+	"io"
+	"strings"
+	"testing"
+)
+
+// edges are sizes at which an entry has another form.
+var edges = []int{0, 1, 15, 16, 2047, 2048, 65534, 65535, 65536, 131070, 131071, 262143, 262144, 1 << 20, 3_000_000}
+
+// edgy makes a tenant with a blob of each size.
+func edgy(t testing.TB, p *Pool, name string) (it Tenant, commit Name) {
+	it = tenant(t, p, name)
+	err := it.Push(background, agree, func(s *Stream) (err error) {
+		s.WriteString("commit refs/heads/main\nmark :1\ncommitter a <a@b> 1 +0000\ndata 2\nhi\n")
+		for at, size := range edges {
+			fmt.Fprintf(s, "M 644 inline f%d\ndata %d\n%s\n", at, size, strings.Repeat(string(rune('a'+at)), size))
+		}
+		commit, err = s.Name(":1")
+		return err
+	})
+	if err != nil {
+		t.Fatal(err)
+	}
+	return it, commit
+}
+
+// nextEntry reads the next entry of a pack.
+func nextEntry(t *testing.T, from *bytes.Reader) (kind Kind, contents []byte) {
+	t.Helper()
+	b, err := from.ReadByte()
+	size, shift := int(b&15), 4
+	for kind = Kind(b >> 4 & 7); err == nil && b&0x80 != 0; shift += 7 {
+		b, err = from.ReadByte()
+		size |= int(b&0x7f) << shift
+	}
+	if err != nil {
+		t.Fatal(err)
+	}
+	inflater, err := zlib.NewReader(from)
+	if err != nil {
+		t.Fatal(err)
+	}
+	contents, err = io.ReadAll(inflater)
+	if err != nil || len(contents) != size {
+		t.Fatal(err, len(contents), size)
+	}
+	return kind, contents
+}
+
+func TestMissingAndEntries(t *testing.T) {
+	it, commit := edgy(t, pool(t, 0), "acme/site")
+	listing, err := it.Missing(background, []Name{commit}, nil)
+	if err != nil || listing.Len() != len(edges)+2 || listing.Name(listing.Len()-1) != commit {
+		t.Fatal(listing.Len(), err)
+	}
+	var entries []byte
+	count := 0
+	err = it.Entries(background, listing, func(part []byte) error {
+		count++
+		entries = append(entries, part...)
+		return nil
+	})
+	if err != nil || count < 3 {
+		t.Fatal(count, err)
+	}
+	from := bytes.NewReader(entries)
+	for at := 0; at < listing.Len(); at++ {
+		kind, contents := nextEntry(t, from)
+		o, err := it.Object(background, listing.Name(at))
+		if err != nil || kind != o.Kind || kind != listing.Kind(at) || !bytes.Equal(contents, o.Contents) || uint64(len(contents)) != listing.Size(at) {
+			t.Fatal(at, kind, len(contents), err)
+		}
+	}
+	if from.Len() > 0 {
+		t.Fatal("bytes after the last entry", from.Len())
+	}
+	if _, err := it.Missing(background, []Name{commit, {1}}, nil); !errors.Is(err, ErrMissing) {
+		t.Fatal(err)
+	}
+	if some, err := it.Missing(background, []Name{commit}, []Name{{1}, listing.Name(0), listing.Name(1)}); err != nil || some.Len() != len(edges) {
+		t.Fatal(some.Len(), err)
+	}
+}
+
+func TestAnotherTenantsObjectsAreMissing(t *testing.T) {
+	p := pool(t, 0)
+	_, commit := edgy(t, p, "acme/site")
+	other := tenant(t, p, "acme/other")
+	if _, err := other.Missing(background, []Name{commit}, nil); !errors.Is(err, ErrMissing) {
+		t.Fatal(err)
+	}
+	if err := other.Entries(background, Listing{}.With(commit, Commit, 10), func([]byte) error { return nil }); !errors.Is(err, ErrMissing) {
+		t.Fatal(err)
+	}
+	if some, err := other.Missing(background, nil, []Name{commit}); err != nil || some.Len() != 0 {
+		t.Fatal(some, err)
+	}
+}
+
+func TestEntriesEndWithTheirUse(t *testing.T) {
+	it, commit := edgy(t, pool(t, 0), "acme/site")
+	listing, err := it.Missing(background, []Name{commit}, nil)
+	if err != nil {
+		t.Fatal(err)
+	}
+	stop := errors.New("enough")
+	if err := it.Entries(background, listing, func([]byte) error { return stop }); err != stop {
+		t.Fatal(err)
+	}
+	if err := it.Entries(background, nil, func([]byte) error { return stop }); err != nil {
+		t.Fatal(err)
+	}
+	wrong := Listing{}.With(commit, Commit, 1)
+	if err := it.Entries(background, wrong, func([]byte) error { return nil }); err != (Fault{25}) {
+		t.Fatal(err)
+	}
+}
+
+func TestListings(t *testing.T) {
+	var l Listing
+	for at := 0; at < 5; at++ {
+		l = l.With(Name{byte(at)}, Kind(1+at%4), uint64(at)<<40)
+	}
+	l = l.Keep(func(at int) bool { return at != 1 && at != 3 })
+	if l.Len() != 3 || l.Name(1) != (Name{2}) || l.Kind(2) != 1 || l.Size(2) != 4<<40 {
+		t.Fatalf("%x", []byte(l))
+	}
+}

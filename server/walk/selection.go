@@ -1,0 +1,251 @@
+package walk
+
+import (
+	"context"
+	"math"
+
+	"gitpoold/objects"
+	"gitpoold/tenants"
+)
+
+// Request is what a fetch asks for. Wants and Haves are objects of the tenant.
+type Request struct {
+	Wants, Haves []tenants.Name
+	Was          []tenants.Name // commits that the client has without their parents
+	Boundary     Boundary
+	Filter       Filter
+	Tags         []Chain // annotated tags to send where what they are of is sent
+}
+
+// Chain is an annotated tag, the tags that it leads to, and what the last one is of.
+type Chain struct {
+	Names  []tenants.Name
+	Peeled tenants.Name
+}
+
+// Select lists what a fetch has to send. Where a history is whole, the tenant is asked once for all that is missing. Else the commits are
+// walked, and the tenant is asked for what the trees have that the client's trees have not.
+func Select(ctx context.Context, source Source, h *History, q Request) (tenants.Listing, error) {
+	h.Cut(q.Was)
+	h.Cut(q.Boundary.Shallow)
+	s := &selection{source: source, history: h, request: q, isNamed: map[tenants.Name]bool{}}
+	steps := []func(context.Context) error{s.whole, s.named, s.filter, s.tags}
+	if !s.isWhole() {
+		steps[0] = s.part
+	}
+	for _, step := range steps {
+		if err := step(ctx); err != nil {
+			return nil, err
+		}
+	}
+	return s.listing, nil
+}
+
+// selection is a listing on its way.
+type selection struct {
+	source  Source
+	history *History
+	request Request
+	listing tenants.Listing
+	// isNamed is true of the trees and blobs that are wanted by their own names: they are sent whatever the client has, and pass every filter.
+	isNamed map[tenants.Name]bool
+}
+
+// isWhole tells whether the client's history and the one that it gets end nowhere before their roots, and no filter counts the depth of trees.
+func (s *selection) isWhole() bool {
+	q := s.request
+	return len(q.Was)+len(q.Boundary.Shallow)+len(q.Boundary.Unshallow) == 0 && !s.countsDepth()
+}
+
+func (s *selection) countsDepth() bool {
+	return s.request.Filter.TreeDepth > 0 && s.request.Filter.TreeDepth < math.MaxInt
+}
+
+func (s *selection) whole(ctx context.Context) (err error) {
+	s.listing, err = s.source.Missing(ctx, s.request.Wants, s.request.Haves)
+	if err != nil || s.request.Filter == All && len(s.request.Haves) == 0 {
+		return err
+	}
+	_, _, err = s.lead(ctx, s.unlisted(s.request.Wants))
+	return err
+}
+
+// unlisted gives those names of which the listing does not say already that they are no tags. Trees and blobs among the others become named
+// ones.
+func (s *selection) unlisted(names []tenants.Name) (left []tenants.Name) {
+	open := map[tenants.Name]bool{}
+	unseen(names, open)
+	for at := 0; at < s.listing.Len(); at++ {
+		name := s.listing.Name(at)
+		if kind := s.listing.Kind(at); open[name] && kind != tenants.Tag {
+			delete(open, name)
+			s.isNamed[name] = kind != tenants.Commit
+		}
+	}
+	for name := range open {
+		left = append(left, name)
+	}
+	return left
+}
+
+// lead finds what names lead to: commits, and tags on the way; trees and blobs become named ones.
+func (s *selection) lead(ctx context.Context, names []tenants.Name) (commits []tenants.Name, tags tenants.Listing, err error) {
+	for seen := map[tenants.Name]bool{}; len(names) > 0; {
+		var after []tenants.Name
+		err = s.source.Objects(ctx, names, func(o tenants.Object) error {
+			target, isTag := objects.Tagged(o.Contents)
+			switch {
+			case o.Kind == tenants.Commit:
+				commits = append(commits, o.Name)
+			case o.Kind != tenants.Tag:
+				s.isNamed[o.Name] = true
+			case isTag:
+				tags = tags.With(o.Name, o.Kind, uint64(len(o.Contents)))
+				after = append(after, unseen([]tenants.Name{target}, seen)...)
+			}
+			return nil
+		})
+		if err != nil {
+			return nil, nil, err
+		}
+		names = after
+	}
+	return commits, tags, nil
+}
+
+// part lists the commits of a part of the history, and what their trees have that the client's have not.
+func (s *selection) part(ctx context.Context) error {
+	wants, tags, err := s.lead(ctx, s.request.Wants)
+	if err != nil {
+		return err
+	}
+	if err := s.history.Load(ctx, s.request.Boundary.Unshallow); err != nil {
+		return err
+	}
+	for _, name := range s.request.Boundary.Unshallow {
+		wants = append(wants, s.history.commits[name].Parents...)
+	}
+	order, edges, err := s.history.Paint(ctx, wants, s.request.Haves)
+	if err != nil {
+		return err
+	}
+	s.listing = tags
+	for _, name := range order {
+		s.listing = s.listing.With(name, tenants.Commit, s.history.commits[name].size)
+	}
+	if s.request.Filter.TreeDepth == 0 {
+		return nil
+	}
+	return s.trees(ctx, order, append(append(edges, s.request.Boundary.Unshallow...), s.request.Haves...))
+}
+
+// trees lists what the trees of commits have, and those of the client's commits have not.
+func (s *selection) trees(ctx context.Context, order, clients []tenants.Name) error {
+	if err := s.history.Load(ctx, clients); err != nil {
+		return err
+	}
+	roots := s.history.trees(order)
+	found, err := s.source.Missing(ctx, roots, s.history.trees(clients))
+	if err == nil && s.countsDepth() {
+		found, err = s.above(ctx, found, roots)
+	}
+	s.listing = append(s.listing, found...)
+	return err
+}
+
+// above leaves out what is too deep below the roots.
+func (s *selection) above(ctx context.Context, found tenants.Listing, roots []tenants.Name) (tenants.Listing, error) {
+	seen := map[tenants.Name]bool{}
+	wave := unseen(roots, seen)
+	for depth := 1; depth < s.request.Filter.TreeDepth && len(wave) > 0; depth++ {
+		var after []tenants.Name
+		err := s.source.Objects(ctx, wave, func(o tenants.Object) error {
+			if o.Kind != tenants.Tree {
+				return nil
+			}
+			forEach(o.Contents, func(e objects.Entry) {
+				if fresh := unseen([]tenants.Name{e.Name}, seen); e.IsTree() {
+					after = append(after, fresh...)
+				}
+			})
+			return nil
+		})
+		if err != nil {
+			return nil, err
+		}
+		wave = after
+	}
+	return found.Keep(func(at int) bool { return seen[found.Name(at)] }), nil
+}
+
+func forEach(contents []byte, use func(objects.Entry)) {
+	for entry, rest, ok := objects.NextEntry(contents); ok; entry, rest, ok = objects.NextEntry(rest) {
+		if !entry.IsGitlink() {
+			use(entry)
+		}
+	}
+}
+
+// named adds what the named trees and blobs reach, as far as it is not listed.
+func (s *selection) named(ctx context.Context) error {
+	var roots []tenants.Name
+	for name, is := range s.isNamed {
+		if is {
+			roots = append(roots, name)
+		}
+	}
+	if len(roots) == 0 || s.isWhole() && len(s.request.Haves) == 0 {
+		return nil
+	}
+	found, err := s.source.Missing(ctx, roots, nil)
+	if err == nil && s.countsDepth() {
+		found, err = s.above(ctx, found, roots)
+	}
+	listed := make(map[tenants.Name]bool, s.listing.Len())
+	for at := 0; at < s.listing.Len(); at++ {
+		listed[s.listing.Name(at)] = true
+	}
+	s.listing = append(s.listing, found.Keep(func(at int) bool { return !listed[found.Name(at)] })...)
+	return err
+}
+
+// filter leaves out what the filter does.
+func (s *selection) filter(context.Context) error {
+	f := s.request.Filter
+	if f == All {
+		return nil
+	}
+	s.listing = s.listing.Keep(func(at int) bool {
+		switch s.listing.Kind(at) {
+		case tenants.Tree:
+			return f.TreeDepth > 0 || s.isNamed[s.listing.Name(at)]
+		case tenants.Blob:
+			return f.TreeDepth > 0 && s.listing.Size(at) < uint64(f.BlobBytes) || s.isNamed[s.listing.Name(at)]
+		}
+		return true
+	})
+	return nil
+}
+
+// tags adds annotated tags of what is listed, and the tags between.
+func (s *selection) tags(ctx context.Context) error {
+	if len(s.request.Tags) == 0 {
+		return nil
+	}
+	chains := map[tenants.Name][]tenants.Name{}
+	for _, chain := range s.request.Tags {
+		chains[chain.Peeled] = append(chains[chain.Peeled], chain.Names...)
+	}
+	var names []tenants.Name
+	listed := map[tenants.Name]bool{}
+	for at := 0; at < s.listing.Len(); at++ {
+		name := s.listing.Name(at)
+		if names = append(names, chains[name]...); s.listing.Kind(at) == tenants.Tag {
+			listed[name] = true
+		}
+	}
+	return s.source.Objects(ctx, unseen(names, listed), func(o tenants.Object) error {
+		s.listing = s.listing.With(o.Name, o.Kind, uint64(len(o.Contents)))
+		return nil
+	})
+}
