@@ -91,8 +91,8 @@ EXPLANATIONS: Dict[int, Explanation] = {
     ),
     16: Explanation(
         "a name or expression names nothing in the repository, or an unborn branch",
-        "a misspelt ref, a mistyped tenant, another tenant's object, or HEAD, which is `refs/heads/main` until a stream sets it",
-        "ask `refs` for what exists and `head` for HEAD; docs/USE.md, \"Set HEAD\"",
+        "a misspelt ref or tenant, another's object, or HEAD, which is `refs/heads/main` until a stream sets it",
+        "ask `refs` and `head`; USE.md, \"Set HEAD\"",
     ),
     17: Explanation(
         "several object names begin with these digits",

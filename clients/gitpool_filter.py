@@ -169,7 +169,7 @@ class SignatureStage(Stage):
 
 
 class FilterError(ValueError):
-    """A list of filters has a word that is none."""
+    """A list of filters has a word that names no filter."""
 
 
 def add_filters(plan: Plan, words: str) -> None:

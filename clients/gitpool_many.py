@@ -34,7 +34,7 @@ class Entry(NamedTuple):
 
 
 class ListError(Exception):
-    """A list has a line that is none of `TENANT PATH`, or a tenant twice."""
+    """A list has a line that is not `TENANT PATH`, or a tenant twice."""
 
 
 def read_list(name: str, file: BinaryIO) -> List[Entry]:

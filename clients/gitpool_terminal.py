@@ -60,7 +60,7 @@ def _escaped(text: bytes, kept: str) -> str:
 
 
 def status_of(error: Exception) -> int:
-    """The exit status that the program would have: 1 for a fault, 5 for want of memory, else that of the program."""
+    """The exit status that the program would have: 1 for a fault, 5 if memory ran out, else that of the program."""
     if isinstance(error, Fault):
         return 1
     if isinstance(error, OutOfMemory):

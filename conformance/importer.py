@@ -121,7 +121,7 @@ class _Output:
                 raise Trouble(f"does not end in {self._limits.seconds:g} s")
             for key, _ in self._selector.select(min(left, 0.5)):
                 self._take(key.fileobj)  # type: ignore[arg-type]
-            # (a process that it left behind may hold the pipes)
+            # (a process that it started and that still runs may hold the pipes)
             if self._process.poll() is not None and not self._selector.select(0):
                 break
         self._wait(until)

@@ -10,6 +10,7 @@ import subprocess
 import sys
 import tempfile
 import time
+from typing import Dict, List, Optional, Tuple
 
 program = os.path.abspath(sys.argv[1])
 rounds = int(sys.argv[2]) if len(sys.argv) > 2 else 3
@@ -18,7 +19,7 @@ here = os.path.dirname(os.path.abspath(__file__))
 GIT = ["git", "-c", "core.compression=0", "-c", "pack.compression=0"]
 
 
-def ran(words, given=b"", folder=None):
+def ran(words: List[str], given: bytes = b"", folder: Optional[str] = None) -> Tuple[bytes, float]:
     """What a process prints, and its seconds."""
     start = time.monotonic()
     done = subprocess.run(words, input=given, cwd=folder, stdout=subprocess.PIPE, check=True)
@@ -28,25 +29,25 @@ def ran(words, given=b"", folder=None):
 class Pool:
     """A pool file in which the tenant `a` has the history."""
 
-    def __init__(self, folder, stream):
+    def __init__(self, folder: str, stream: bytes) -> None:
         self.first, self.path = os.path.join(folder, "first"), os.path.join(folder, "pool")
         ran([program, "import", "a", "--pool", self.first], stream)
 
-    def told(self, query, path):
+    def told(self, query: List[str], path: str) -> Tuple[bytes, float]:
         return ran([program, "ask", *query, "--pool", path])
 
-    def left(self, words, given=b""):
+    def left(self, words: List[str], given: bytes = b"") -> float:
         """The seconds of a run over a file as it was at first."""
         subprocess.run(["cp", self.first, self.path], check=True)
         return ran([program, *words, "--pool", self.path], given)[1]
 
-    def tenants(self):
+    def tenants(self) -> Tuple[bytes, List[bytes]]:
         """What the file has now: its counts, and digests of what both tenants tell."""
         looks = [self.told([tenant, query], self.path)[0] for tenant in "ab" for query in ("refs", "head", "export")]
         return ran([program, "check", "--pool", self.path])[0], [hashlib.sha1(it).digest() for it in looks]
 
 
-def fresh(folder, name, stream):
+def fresh(folder: str, name: str, stream: bytes) -> Tuple[bytes, float]:
     """The refs of a bare repository that git fast-import filled, and its seconds."""
     path = os.path.join(folder, name)
     ran(["git", "init", "-q", "--bare", path])
@@ -56,7 +57,7 @@ def fresh(folder, name, stream):
     return refs, took
 
 
-def main():
+def main() -> None:
     stream = ran([os.path.join(here, "..", "history", "make_history"), "--commits", commits])[0]
     with tempfile.TemporaryDirectory() as folder:
         pool = Pool(folder, stream)
@@ -66,7 +67,8 @@ def main():
             "import": (["import", "b"], export),
             "copy": (["copy", "a", "b"], b""),
         }
-        best, left = dict.fromkeys([*runs, "no pool file", "git"], float("inf")), {}
+        best = dict.fromkeys([*runs, "no pool file", "git"], float("inf"))
+        left: Dict[str, Tuple[bytes, List[bytes]]] = {}
         refs = fresh(folder, "git", stream)[0]
         for _ in range(rounds):
             for name, (words, given) in runs.items():

@@ -7,6 +7,7 @@ import subprocess
 import sys
 import tempfile
 import time
+from typing import List, Tuple
 
 program = os.path.abspath(sys.argv[1])
 rounds = int(sys.argv[2]) if len(sys.argv) > 2 else 3
@@ -24,7 +25,7 @@ HISTORIES = {
 }
 
 
-def written(name, words):
+def written(name: str, words: List[str]) -> Tuple[str, int]:
     """Writes a history, and asks for the name of each of its commits."""
     stream = os.path.join(folder, name.replace(" ", "_"))
     with open(stream, "wb") as file:
@@ -36,7 +37,7 @@ def written(name, words):
     return stream, len(marks)
 
 
-def once(words, source, fresh):
+def once(words: List[str], source: str, fresh: bool) -> Tuple[float, float, bytes]:
     """Seconds, the most memory in MB, and what is printed. GNU time asks for the memory of the process alone, for one that
     this script starts by itself would count this script's."""
     repository = tempfile.mkdtemp(dir=folder)
@@ -52,7 +53,7 @@ def once(words, source, fresh):
         return took, int(size.read()) * 1024 / 1e6, told.read()
 
 
-def measure(name, words):
+def measure(name: str, words: List[str]) -> None:
     stream, count = written(name, words)
     size = os.path.getsize(stream) / 1e6
     ours, git = zip(*([once(it, stream, it is GIT) for it in ([program], GIT)] for _ in range(rounds)))

@@ -55,7 +55,7 @@ class Run:
 
 
 # The kinds of further frames that `host` takes.
-SAVE, ABANDON, REMOVE, COMPACT, COPY, SIZES = range(16, 22)
+SAVE, ABANDON, REMOVE, COMPACT, COPY, SIZES, MISSING, ENTRIES = range(16, 24)
 
 
 def frame(kind, tenant, body=b""):

@@ -7,6 +7,7 @@ import subprocess
 import sys
 import tempfile
 import time
+from typing import Dict, List, Tuple
 
 program, sha1 = sys.argv[1], sys.argv[2]
 folder = tempfile.mkdtemp()
@@ -19,17 +20,17 @@ with open(stream, "wb") as s, open(contents, "wb") as c:
         c.write(blob)
 
 
-def once(words, source, fresh=None):
-    repository = fresh and tempfile.mkdtemp(dir=folder)
+def once(words: List[str], source: str, fresh: bool) -> Tuple[float, float]:
+    """The seconds and the most memory in MiB of a run, in a fresh repository of git if it asks for one."""
+    repository = tempfile.mkdtemp(dir=folder)
     if fresh:
         subprocess.run(["git", "init", "-q", "--bare", repository], check=True)
     start = time.monotonic()
-    child = subprocess.Popen(words, stdin=open(source, "rb"), stdout=subprocess.DEVNULL, cwd=repository or folder)
+    child = subprocess.Popen(words, stdin=open(source, "rb"), stdout=subprocess.DEVNULL, cwd=repository)
     _, status, usage = os.wait4(child.pid, 0)
     took = time.monotonic() - start
     assert status == 0, (words, status)
-    if fresh:
-        subprocess.run(["rm", "-rf", repository], check=True)
+    subprocess.run(["rm", "-rf", repository], check=True)
     return took, usage.ru_maxrss / 1024
 
 
@@ -39,7 +40,7 @@ runs = {
     "sha1sum": (["sha1sum"], contents, False),
     "the kit's sha1": ([sha1], contents, False),
 }
-seen = {name: [] for name in runs}
+seen: Dict[str, List[Tuple[float, float]]] = {name: [] for name in runs}
 for _ in range(3):
     for name, (words, source, fresh) in runs.items():
         seen[name].append(once(words, source, fresh))

@@ -14,12 +14,17 @@ BLOBS = 10_000
 PIECE = 1024
 
 
-def frame(kind, tenant, body=b""):
-    return bytes([kind]) + struct.pack(">H", len(tenant)) + tenant + struct.pack(">I", len(body)) + body
+def frame(kind: int, tenant: bytes, body: bytes = b"") -> bytes:
+    return struct.pack(">BH", kind, len(tenant)) + tenant + struct.pack(">I", len(body)) + body
 
 
-def write_frames(path, count):
-    stream = b"".join(b"blob\ndata 300\n" + struct.pack(">I", i) + b"a" * 296 + b"\n" for i in range(BLOBS))
+def blobs() -> bytes:
+    """The stream that each tenant feeds."""
+    return b"".join(b"blob\ndata 300\n" + struct.pack(">I", number) + b"a" * 296 + b"\n" for number in range(BLOBS))
+
+
+def write_frames(path: str, count: int) -> None:
+    stream = blobs()
     tenants = [b"tenant%d" % number for number in range(count)]
     with open(path, "wb") as out:
         for tenant in tenants:
@@ -31,7 +36,7 @@ def write_frames(path, count):
             out.write(frame(3, tenant))
 
 
-def measure(program, path, count):
+def measure(program: str, path: str, count: int) -> None:
     start = time.time()
     with open(path, "rb") as frames, open(path + ".out", "wb") as answers:
         run = subprocess.Popen(["nice", "-n", "-10", program, "sha1"], stdin=frames, stdout=answers)
@@ -47,9 +52,14 @@ def measure(program, path, count):
     )
 
 
-with tempfile.TemporaryDirectory() as folder:
-    for count in (1, 100):
-        path = os.path.join(folder, "frames")
-        write_frames(path, count)
-        for _ in range(3):
-            measure(os.path.abspath(sys.argv[1]), path, count)
+def main() -> None:
+    with tempfile.TemporaryDirectory() as folder:
+        for count in (1, 100):
+            path = os.path.join(folder, "frames")
+            write_frames(path, count)
+            for _ in range(3):
+                measure(os.path.abspath(sys.argv[1]), path, count)
+
+
+if __name__ == "__main__":
+    main()

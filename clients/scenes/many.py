@@ -117,7 +117,7 @@ def lists_that_are_refused(room: Room) -> None:
 
 @scene
 def many_that_are_killed(room: Room) -> None:
-    """A kill between two streams leaves the pool file as it was, and no run behind."""
+    """A kill between two streams leaves the pool file as it was, and no run goes on."""
     room.pushed()
     before = room.pool_bytes()
     write(room, "stream", commit(1, "good", "", "M 644 inline f\ndata 1\nx").encode())

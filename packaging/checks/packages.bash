@@ -124,23 +124,27 @@ server_package_serves() {
   done
 }
 
-# Without Redis: durable-serve, which finds the program by GITPOOL, on the PATH, and beside itself.
+# Without Redis: the program is found by GITPOOL, on the PATH, and beside the folder; a shard works, and the commands say what they do.
 deploy_finds_the_program() {
   make_program "$room/elsewhere/gitpool" other
   cd "$room/root/usr/lib/gitpool/deploy"
-  find_it='from shard import find_program; print(find_program())'
+  find_it='from program import find_program; print(find_program())'
   same "$(PATH=$plain_path python3 -Bc "$find_it")" "$(PATH=$plain_path command -v gitpool || echo "$room/root/usr/lib/gitpool/gitpool")"
   same "$(PATH=$room/elsewhere:$plain_path python3 -Bc "$find_it")" "$room/elsewhere/gitpool"
   said=$(GITPOOL=/named PATH=$room/elsewhere:$plain_path python3 -Bc "$find_it" 2>&1) && return 1
   [[ $said == *"no program /named"* ]]
   cd "$room"
-  export GITPOOL=$room/root/usr/lib/gitpool/gitpool PYTHONPATH=$room/root/usr/lib/python3/dist-packages
+  export GITPOOL=$room/root/usr/lib/gitpool/gitpool PYTHONPATH=$room/root/usr/lib/gitpool/deploy
   python3 -Bc 'if True:
-    import sys
-    from gitpool import Service
-    with Service(command=["python3", sys.argv[1] + "/durable-serve", "--pool", "durable.pool"]) as service:
-        service.import_stream("alice", [b"blob\ndata 6\nhello\n"])' "$room/root/usr/lib/gitpool/deploy"
-  same "$(gitpool ask alice 'cat ce01' --pool durable.pool | head -n 1)" "$hello blob 6"
+    from shard import Shard
+    shard = Shard("shard.pool")
+    shard.service.import_stream("alice", [b"blob\ndata 6\nhello\n"])
+    shard.save()
+    shard.kill()'
+  same "$(gitpool ask alice 'cat ce01' --pool shard.pool | head -n 1)" "$hello blob 6"
+  for it in admin front worker; do
+    [ ! -d /usr/lib/python3/dist-packages/redis ] || /usr/bin/python3 -B "$room/root/usr/lib/gitpool/deploy/$it" --help > "$room/said"
+  done
 }
 
 # Links the static executable, where the object is there.

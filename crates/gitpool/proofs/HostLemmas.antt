@@ -51,6 +51,8 @@ with_step-more (request.Remove tenant) told a b = refl
 with_step-more (request.Compact tenant) told a b = refl
 with_step-more (request.Copy from to) told a b = refl
 with_step-more request.Sizes told a b = refl
+with_step-more (request.Missing tenant wants haves) told a b = refl
+with_step-more (request.Entries tenant limit names) told a b = refl
 
 steps-more : (run : HostRun) (one : Request × Response) → steps_in (run ++ one ∷ []) ≡ steps_in run ++ with_step one.0 one.1 []
 steps-more [] one = refl
@@ -87,6 +89,10 @@ own-one digest tenant b c (request.Compact given) told takes spared =
 own-one digest tenant b c (request.Copy from to) told takes spared =
     by-others digest tenant to.now b.tenants c.tenants takes.0.others spared
 own-one digest tenant b c request.Sizes told takes spared =
+    same-none digest tenant b.tenants c.tenants (ap (λ (x : Hosted). held_of tenant x.tenants) takes.0)
+own-one digest tenant b c (request.Missing given wants haves) told takes spared =
+    same-none digest tenant b.tenants c.tenants (ap (λ (x : Hosted). held_of tenant x.tenants) takes.0)
+own-one digest tenant b c (request.Entries given limit names) told takes spared =
     same-none digest tenant b.tenants c.tenants (ap (λ (x : Hosted). held_of tenant x.tenants) takes.0)
 
 -- ---- so far

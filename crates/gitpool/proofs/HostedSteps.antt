@@ -30,6 +30,8 @@ by_step P so (request.Remove tenant) is = absurd (true≢false (sym is))
 by_step P so (request.Compact tenant) is = absurd (true≢false (sym is))
 by_step P so (request.Copy from to) is = absurd (true≢false (sym is))
 by_step P so request.Sizes is = absurd (true≢false (sym is))
+by_step P so (request.Missing tenant wants haves) is = absurd (true≢false (sym is))
+by_step P so (request.Entries tenant limit names) is = absurd (true≢false (sym is))
 
 all_spared : (tenant : List ℕ) (run : HostRun) → AreSteps run → IsSpared tenant run
 all_spared tenant [] steps = tt

@@ -33,6 +33,7 @@ pub mod Serving
 pub mod Asking
 pub mod Checking
 pub mod Sizing
+pub mod Packing
 pub mod SaveFaults
 pub mod Places
 pub mod Requests

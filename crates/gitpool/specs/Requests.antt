@@ -20,6 +20,7 @@ use Rattle.tenant_service.specs.Kept.{KeepsOpened, may_change}
 use Rattle.tenant_service.specs.Removing.{abandon_refusal, all_but, answer_unless, removal_refusal}
 use Rattle.tenant_service.specs.Saved.{saved_as_opened, saved_of}
 use Rattle.tenant_service.specs.TenantState.{TenantStates, Idle, held_of}
+use Rattle.gitpool.specs.Packing.{IsTold, entries_told, missing_told}
 use Rattle.gitpool.specs.Places.{IsAsKnown}
 use Rattle.gitpool.specs.Sizing.{sizes_text}
 
@@ -132,3 +133,7 @@ Takes digest (request.Copy from to) before told after =
     Copied digest from.now to.now before.tenants told after.tenants × (after.file ≡ before.file)
 Takes digest request.Sizes before told after =
     (after ≡ before) × IsSized before.tenants told.answer told.reply
+Takes digest (request.Missing tenant wants haves) before told after = (after ≡ before)
+    × IsTold (missing_told tenant.now before.tenants wants.now haves.now) told.answer told.reply
+Takes digest (request.Entries tenant limit names) before told after = (after ≡ before)
+    × IsTold (entries_told tenant.now before.tenants limit names.now) told.answer told.reply

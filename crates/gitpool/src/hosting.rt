@@ -1,4 +1,4 @@
-//! Frames of steps and of requests of the operator, from a reader to a writer, over one service
+//! Frames of steps, requests of the operator and questions for a pack, over one service
 //! that is saved while it runs.
 //!
 //! Each answer is written before the next frame is read, as by `serve`.
@@ -10,6 +10,7 @@ ghost use Rattle.gitpool.specs.Places.{Replaces};
 ghost use Rattle.gitpool.specs.Requests.{IsSaved, IsSized, Takes, hosted, pool_text, told_with};
 ghost use Rattle.gitpool.specs.Hosting.{Hosts};
 
+use crate::packing::{answer_entries, answer_missing};
 use crate::pool_place::PoolPlace;
 use crate::save_fault::SaveFault;
 use crate::sizing::append_sizes;
@@ -117,6 +118,16 @@ fn take<N: StreamingDigest, P: PoolPlace>(
         Request::Compact { tenant } => service.compact_tenant(tenant),
         Request::Copy { from, to } => service.copy_tenant(from, to),
         Request::Sizes => answer_sizes(alloc, service, out),
+        Request::Missing {
+            tenant,
+            wants,
+            haves,
+        } => answer_missing(alloc, service, tenant, wants, haves, out),
+        Request::Entries {
+            tenant,
+            limit,
+            names,
+        } => answer_entries(alloc, service, tenant, limit, names, out),
     }
 }
 
@@ -161,8 +172,9 @@ fn answer_requests<N: StreamingDigest, P: PoolPlace, R: Read, W: Write>(
 /// `Service::abandon`, `remove_tenant`, `compact_tenant` and `copy_tenant`. A Save replaces the
 /// pool file at `place`, and leaves the service as it is, its streams too: Ok after the file was
 /// replaced; Fault(68) if it could not be, and Memory(0) if memory ran out, which leave the old
-/// file. A Sizes has the lines of `sizes` as its reply, or Memory(0) without a reply. At the end of
-/// the run nothing is saved.
+/// file. A Sizes has the lines of `sizes` as its reply, or Memory(0) without a reply. A Missing has
+/// 29 bytes for each object of `Service::missing`, and an Entries what `Service::entries` appends, or
+/// the number of their refusal or Memory(0) without a reply. At the end of the run nothing is saved.
 ///
 /// `BadFrame` (50), `CutOff` (51), `Memory` (90) and `Device` (68) are those of `serve`.
 pub fn host<N: StreamingDigest, P: PoolPlace, R: Read, W: Write>(

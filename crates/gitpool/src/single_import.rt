@@ -14,8 +14,35 @@ use std::alloc::Global;
 use std::io::{Read, Write};
 use tenant_service::Service;
 
-// The only tenant of the service, which is dropped afterwards.
+// The only tenant of the service.
 const TENANT: &[u8] = b"one";
+
+/// Carries out one stream as `import_one` does, and hands back the service that took it. A program
+/// that ends then need not wait until each object is freed.
+///
+/// The faults are those of `import_one`.
+pub fn import_new<N: Naming, R: Read, W: Write>(
+    alloc: Global,
+    naming: N,
+    reader: &mut Counted<R>,
+    writer: &mut Counted<W>,
+) -> (Service<N>, Result<(), ImportFault>)
+    ensures imported { Imports N.digest_of
+        (seen (R.remaining (device_of reader.old)) reader.old)
+        (seen (R.remaining (device_of reader.new)) reader.new)
+        (seen (W.contents (device_of writer.old)) writer.old)
+        (seen (W.contents (device_of writer.new)) writer.new) result.1 }
+    ensures exports { (repository : Repository) → IsSoundRepository N.digest_of repository
+        → CanBeCopied repository
+        → HasExport (R.remaining (device_of reader.old)) repository
+        → TakesExport N.digest_of repository
+        (seen (W.contents (device_of writer.old)) writer.old)
+        (seen (W.contents (device_of writer.new)) writer.new) result.1 }
+{
+    let mut service = Service::new(alloc, naming);
+    let imported = import(alloc, &mut service, TENANT, reader, writer);
+    (service, imported)
+}
 
 /// Carries out one stream of git-fast-import(1) over an empty repository: reads it from `reader`,
 /// and writes its replies to `writer`, with object names by `naming`. The replies to what was read
@@ -52,8 +79,7 @@ pub fn import_one<N: Naming, R: Read, W: Write>(
         (seen (W.contents (device_of writer.old)) writer.old)
         (seen (W.contents (device_of writer.new)) writer.new) result }
 {
-    let mut service = Service::new(alloc, naming);
-    let imported = import(alloc, &mut service, TENANT, reader, writer);
+    let (service, imported) = import_new(alloc, naming, reader, writer);
     drop(service);
     imported
 }

@@ -5,6 +5,7 @@ use crate::pools::{Missing, load, save_again};
 use crate::run_fault::RunFault;
 use gitpool::{Counted, PoolPlace, SaveFault, Service, Sha1Naming};
 use lock_files::{LockFault, LockFile, NextFile};
+use std::io::BufReader;
 use std::mem::forget;
 
 // The place of a locked pool file.
@@ -69,7 +70,7 @@ fn host(
     lock: &LockFile,
 ) -> Result<(), RunFault> {
     let mut place = LockedPlace { rt, lock };
-    let mut reader = Counted::new(rt.stdin());
+    let mut reader = Counted::new(BufReader::new(rt.alloc(), rt.stdin())?);
     let mut writer = Counted::new(rt.stdout());
     Ok(gitpool::host(rt.alloc(), service, &mut place, &mut reader, &mut writer)?)
 }

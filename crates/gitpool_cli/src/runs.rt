@@ -8,18 +8,16 @@ use crate::pools::{Missing, load, save};
 use crate::run_fault::RunFault;
 use gitpool::{Answer, Counted, Line, Service, Sha1Naming};
 use lock_files::LockFile;
+use std::io::BufReader;
 use std::mem::forget;
 
-// The only tenant of a run without a pool file.
-const ALONE: &[u8] = b"one";
-
-/// Carries out one stream from standard input over an empty repository, which is not kept: the same
-/// as `gitpool::import_one`, but without a drop of what was read.
+/// Carries out one stream from standard input over an empty repository, which is not kept.
 pub fn run_alone(rt: &HostRuntime) -> Result<(), RunFault> {
-    let mut service = Service::new(rt.alloc(), Sha1Naming);
-    let outcome = import(rt, &mut service, ALONE);
+    let mut reader = Counted::new(rt.stdin());
+    let mut writer = Counted::new(rt.stdout());
+    let (service, outcome) = gitpool::import_new(rt.alloc(), Sha1Naming, &mut reader, &mut writer);
     leave(service);
-    outcome
+    Ok(outcome?)
 }
 
 /// Carries out a command line. If several calls are refused, the first fault is answered;
@@ -118,7 +116,7 @@ fn carry_out(
 
 // Answers frames of steps, up to the end of the input.
 fn serve(rt: &HostRuntime, service: &mut Service<Sha1Naming>) -> Result<(), RunFault> {
-    let mut reader = Counted::new(rt.stdin());
+    let mut reader = Counted::new(BufReader::new(rt.alloc(), rt.stdin())?);
     let mut writer = Counted::new(rt.stdout());
     Ok(gitpool::serve(rt.alloc(), service, &mut reader, &mut writer)?)
 }

@@ -6,8 +6,8 @@ use gitpool::{Answer, Counted, FrameFault, Service, Sha1Naming, Step, host, size
 use service_steps::write_answer;
 use std::alloc::{AllocError, Global};
 
-// A frame: its kind, its name and its body.
-type Frame = (u8, &'static [u8], &'static [u8]);
+/// A frame: its kind, its name and its body.
+pub type Frame = (u8, &'static [u8], &'static [u8]);
 
 // A blob of 6 bytes, a tree of 29 and a commit of 98.
 const COMMIT: &[u8] = b"blob\nmark :1\ndata 6\nhello\n\n\
@@ -60,7 +60,8 @@ fn put_frame(out: &mut Vec<u8>, frame: Frame) -> Result<(), AllocError> {
     Ok(())
 }
 
-fn put_frames(out: &mut Vec<u8>, frames: &[Frame]) -> Result<(), AllocError> {
+/// Appends these frames.
+pub fn put_frames(out: &mut Vec<u8>, frames: &[Frame]) -> Result<(), AllocError> {
     for frame in frames {
         put_frame(out, *frame)?;
     }
@@ -161,8 +162,8 @@ fn told_all(alloc: Global, frames: &[Frame], file: &mut Vec<u8>, out: &mut Vec<u
     all
 }
 
-// Hosts these bytes over an empty service. `out` gets the answers.
-fn hosted(
+/// Hosts these bytes over an empty service. `out` gets the answers.
+pub fn hosted(
     alloc: Global,
     place: &mut MemoryPlace,
     bytes: &[u8],
@@ -266,7 +267,16 @@ fn a_refused_save_leaves_the_pool_file_and_the_run(rt: HostRuntime) {
 const ENDS: &[(&[u8], FrameFault)] = &[
     (b"\x15\0\0\0\0\0\0\x06", FrameFault::BadFrame),
     (b"\x15\0\0\0\0\0\0\x0f", FrameFault::BadFrame),
-    (b"\x15\0\0\0\0\0\0\x16", FrameFault::BadFrame),
+    (b"\x15\0\0\0\0\0\0\x18", FrameFault::BadFrame),
+    (b"\x15\0\0\0\0\0\0\x16\0\x01t\0\0\0\0", FrameFault::BadFrame),
+    (
+        b"\x15\0\0\0\0\0\0\x16\0\x01t\0\0\0\x04\0\0\0\x01",
+        FrameFault::BadFrame,
+    ),
+    (
+        b"\x15\0\0\0\0\0\0\x17\0\x01t\0\0\0\x09\0\0\0\0\0\0\0\0\0",
+        FrameFault::BadFrame,
+    ),
     (b"\x15\0\0\0\0\0\0\x10\0\x01", FrameFault::BadFrame),
     (b"\x15\0\0\0\0\0\0\x10\0\0\0\0\0\x02", FrameFault::BadFrame),
     (

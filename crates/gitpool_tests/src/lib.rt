@@ -18,6 +18,8 @@ mod frames;
 #[cfg(test)]
 mod held;
 #[cfg(test)]
+mod hosted_packs;
+#[cfg(test)]
 mod hosting;
 #[cfg(test)]
 mod limits;
@@ -29,6 +31,8 @@ mod moves;
 mod one_byte;
 #[cfg(test)]
 mod opened;
+#[cfg(test)]
+mod packing;
 #[cfg(test)]
 mod removals;
 #[cfg(test)]

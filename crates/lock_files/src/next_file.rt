@@ -46,6 +46,7 @@ impl NextFile {
         remove_if_named(rt, &self.name, &self.file);
     }
 
+    // Gives the file the name of the locked file. It is synced before, and its folder after.
     pub(crate) fn put(&self, rt: &HostRuntime, locked: &str) -> Result<(), LockFault> {
         put(rt, &self.file, &self.name, locked)
     }

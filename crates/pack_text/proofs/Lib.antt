@@ -3,3 +3,5 @@ pub mod Heads
 pub mod Blocks
 pub mod Packs
 pub mod BlocksLeft
+pub mod EntriesLeft
+pub mod Fed

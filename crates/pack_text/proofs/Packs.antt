@@ -1,8 +1,8 @@
 -- Entries and whole packs are read back.
-use Rattle.std.proofs.Common.{◌≡◌, ◌+◌, ◌*◌, ◌-◌, ◌%◌, ◌^◌, ◌<◌, ◌≤◌, ℕ, zero, suc, List, [], ◌∷◌, ◌++◌, length, take, drop, Bool, true, false, Option, None, Some, All, arith, refl, ap, sym, ◌∙◌, append_assoc}
-use Rattle.std.specs.Prelude.{nat_le, ◌==◌, ◌&&◌, if◌then◌else◌, codes, find, option_and_then}
+use Rattle.std.proofs.Common.{◌≡◌, ◌-◌, ◌^◌, ◌<◌, ℕ, suc, List, [], ◌∷◌, ◌++◌, length, take, Bool, true, None, Some, All, arith, refl, ap, sym, ◌∙◌, append_assoc}
+use Rattle.std.specs.Prelude.{nat_le, ◌==◌, ◌&&◌, if◌then◌else◌, option_and_then}
 use Rattle.std.specs.Int.{w32, from_be_bytes, to_be_bytes}
-use Rattle.std.specs.List.{flat_map, sum}
+use Rattle.std.specs.List.{flat_map}
 use Rattle.std.specs.Option.{option_map}
 use Rattle.std.specs.Str.{bytes_eq}
 use Rattle.std.proofs.lemmas.Bool.Decides.{nat_tests}
@@ -14,9 +14,9 @@ use Rattle.std.proofs.Math.Seq.{take-append_seam}
 use Rattle.git_model.specs.declared.kind.Kind.{Kind}
 use Rattle.git_model.specs.declared.kind.Kind.TheVariants as kind
 use Rattle.git_model.specs.Content.{Content, content_from}
-use Rattle.pack_text.specs.Adler.{adler32, high_sum}
-use Rattle.pack_text.specs.PackText.{blocks_text, entry_text, head_text, header_text, number_of, pack_body, pack_text, zlib_text}
-use Rattle.pack_text.specs.PackReading.{Read, blocks_read, checked, entries_read, entry_of, entry_read, head_read, kind_of, pack_read, sealed, zlib_read}
+use Rattle.pack_text.specs.Adler.{adler32}
+use Rattle.pack_text.specs.PackText.{blocks_text, entry_text, head_text, header_text, number_of, pack_text, zlib_text}
+use Rattle.pack_text.specs.PackReading.{blocks_read, checked, entries_read, entry_of, entry_read, kind_of, pack_read, sealed, zlib_read}
 use Rattle.pack_text.specs.Contents.{FitsEntry}
 use Rattle.pack_text.proofs.Heads.{heads-back}
 use Rattle.pack_text.proofs.Blocks.{blocks-back, blocks-length}

@@ -1,5 +1,5 @@
 -- Which contents an entry has room for.
-use Rattle.std.specs.Prelude.{ℕ, ◌<◌, ◌^◌, length}
+use Rattle.std.specs.Prelude.{◌<◌, ◌^◌, length}
 use Rattle.git_model.specs.Content.{Content}
 
 -- An entry has room for the size of the contents. A slice always has fewer bytes than this, and the

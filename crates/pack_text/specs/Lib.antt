@@ -4,4 +4,5 @@ pub mod PackText
 pub mod PackReading
 pub mod Contents
 pub mod Sinks
+pub mod BlockWriting
 pub mod AddingUp

@@ -29,3 +29,5 @@ mod sums;
 mod tenants;
 #[cfg(test)]
 mod whole;
+#[cfg(test)]
+mod whole_packs;

@@ -2,5 +2,6 @@ pub use Rattle.byte_devices.proofs.ReadLemmas
 pub mod SizedLemmas
 pub mod FrameLemmas
 pub mod RequestLemmas
+pub mod PackRequests
 pub mod StepRequestLemmas
 pub mod WriteLemmas

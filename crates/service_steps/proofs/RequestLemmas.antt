@@ -40,23 +40,6 @@ by_body k n body b within few is =
 abbrev hides : Option ℕ → ℕ → Type 0
 hides at size = IfSome at (λ shown. size < shown)
 
--- No body is a body of each kind.
-no_body : (k : RequestKind) → is_body k [] ≡ true
-no_body (of.Step k) = refl
-no_body of.Save = refl
-no_body of.Abandon = refl
-no_body of.Remove = refl
-no_body of.Compact = refl
-no_body of.Copy = refl
-no_body of.Sizes = refl
-
-hides_name : (k : RequestKind) (n size : ℕ) → (3 ≤ size → n ≤ name_limit k) → hides (wrong_request_part k n []) size
-hides_name k n size limited =
-    by_less (name_limit k) n
-    (λ over. subst (λ (at : Option ℕ). hides at size) (sym (wrong_name k n [] over))
-    (by_less size 3 (λ short. short) (λ long. let w = limited long in absurd (omega (arith, over, w)))))
-    (λ within. subst (λ (at : Option ℕ). hides at size) (sym (by_body k n [] true within (omega arith) (no_body k))) tt)
-
 hides_body : (k : RequestKind) (n size : ℕ) (body : List ℕ) → n ≤ name_limit k → (7 + n ≤ size → length body ≤ request_limit k)
     → size < 7 + n + length body → hides (wrong_request_part k n body) size
 hides_body k n size body within limited lacks =
@@ -68,6 +51,13 @@ hides_body k n size body within limited lacks =
     by : (b : Bool) → is_body k body ≡ b → length body ≤ request_limit k → hides (wrong_request_part k n body) size
     by true is few = subst (λ (at : Option ℕ). hides at size) (sym (by_body k n body true within few is)) tt
     by false is few = subst (λ (at : Option ℕ). hides at size) (sym (by_body k n body false within few is)) lacks
+
+hides_name : (k : RequestKind) (n size : ℕ) → (3 ≤ size → n ≤ name_limit k) → size < 7 + n → hides (wrong_request_part k n []) size
+hides_name k n size limited lacks =
+    by_less (name_limit k) n
+    (λ over. subst (λ (at : Option ℕ). hides at size) (sym (wrong_name k n [] over))
+    (by_less size 3 (λ short. short) (λ long. let w = limited long in absurd (omega (arith, over, w)))))
+    (λ within. hides_body k n size [] within (λ _. omega arith) (omega (arith, lacks)))
 
 -- ---- a frame that is not whole
 
@@ -85,6 +75,13 @@ no_request_read = record {
   lacks = some_more (1 ∷ []) (sized w16 [] ++ sized w32 []) (λ none. let e : length {A = ℕ} (1 ∷ []) ≡ 0 = ap length none in omega (arith, e));
 }
 
+-- What is there of a name is not longer than the name.
+short_name : (byte : ℕ) (room bytes missing : List ℕ) → sized w16 room ≡ bytes ++ missing → length (byte ∷ bytes) < 7 + length room
+short_name byte room bytes missing parts =
+    let a = sized-length room [] in
+    let b : length (sized w16 room ++ []) ≡ length bytes + length missing = ap length (append-nil (sized w16 room) ∙ parts) ∙ length-append bytes missing in
+    omega (arith, a, b)
+
 -- Inside its name.
 name_unfinished : (byte : ℕ) (k : RequestKind) (bytes : List ℕ) → byte < 256 → request_kind_of byte ≡ Some k
     → IsUnfinishedPart w16 (name_limit k) bytes → IsUnfinishedRequest (byte ∷ bytes)
@@ -95,7 +92,7 @@ name_unfinished byte k bytes small is p = record {
     fits = record { kind = small; tenant = p.fits; body = omega arith };
     parts = ap (λ (l : List ℕ). byte ∷ l ++ sized w32 []) p.parts ∙ ap (λ (l : List ℕ). byte ∷ l) (append_assoc bytes p.missing (sized w32 []));
     not_yet = subst (λ (o : Option RequestKind). hides (shown_wrong_request o (length p.room) []) (length (byte ∷ bytes))) (sym is)
-        (hides_name k (length p.room) (length (byte ∷ bytes)) (λ there. p.limited (omega (arith, there))));
+        (hides_name k (length p.room) (length (byte ∷ bytes)) (λ there. p.limited (omega (arith, there))) (short_name byte p.room bytes p.missing p.parts));
   };
   lacks = some_more p.missing (sized w32 []) p.lacks;
 }

@@ -1,5 +1,5 @@
 -- The frame of a request that is a step: what is read of it is what is read of a step.
-use Rattle.std.proofs.Common.{◌≡◌, ◌≢◌, ℕ, ◌+◌, ◌<◌, Bool, true, false, cond, eqb, ltb, not, true≢false, List, [], ◌∷◌, ◌++◌, length, Option, None, Some, IfSome, refl, sym, ap, subst, ◌∙◌, arith}
+use Rattle.std.proofs.Common.{◌≡◌, ℕ, ◌+◌, ◌<◌, Bool, true, false, cond, eqb, not, true≢false, List, [], ◌∷◌, ◌++◌, length, Option, None, Some, IfSome, refl, sym, ap, subst, ◌∙◌, arith}
 use Rattle.std.proofs.lemmas.Bool.{eqb-true}
 use Rattle.service_steps.specs.declared.kind.Kind.{Kind}
 use Rattle.service_steps.specs.declared.kind.Kind.TheVariants as kind
@@ -7,7 +7,7 @@ use Rattle.service_steps.specs.declared.request_kind.RequestKind.{RequestKind}
 use Rattle.service_steps.specs.declared.request_kind.RequestKind.TheVariants as of
 use Rattle.service_steps.specs.declared.step.Step.{Step}
 use Rattle.service_steps.specs.declared.step.Step.TheVariants as step
-use Rattle.service_steps.specs.Frames.{Frame, frame_text, frame_of, kind_of, wrong_part, shown_wrong, wrong_at, IsGood, Begins, IsUnfinished, IsCutOff, IsBad}
+use Rattle.service_steps.specs.Frames.{Frame, frame_text, frame_of, kind_of, wrong_part, shown_wrong, wrong_at, IsGood, IsUnfinished, IsCutOff, IsBad}
 use Rattle.service_steps.specs.Requests.{request_kind_of, wrong_request_part, shown_wrong_request, wrong_request_at, IsGoodRequest, IsUnfinishedRequest, IsCutOffRequest, IsBadRequest}
 use Rattle.service_steps.specs.StepFrames.{is_operator_kind, begins_no_request}
 use Rattle.service_steps.proofs.FrameLemmas.{none_read}
@@ -37,16 +37,17 @@ differs k n none is = by (eqb k n) refl
     by true e = absurd (true≢false (sym is ∙ ap is_operator_kind (eqb-true k n e) ∙ none))
     by false e = e
 
-none-left : (a b c d e f : Bool) → a ≡ false → b ≡ false → c ≡ false → d ≡ false → e ≡ false → f ≡ false
+none-left : (a b c d e f g h : Bool) → a ≡ false → b ≡ false → c ≡ false → d ≡ false → e ≡ false → f ≡ false → g ≡ false → h ≡ false
     → cond a (Some of.Save) (cond b (Some of.Abandon) (cond c (Some of.Remove) (cond d (Some of.Compact) (cond e (Some of.Copy)
-    (cond f (Some of.Sizes) None))))) ≡ None
-none-left a b c d e f ea eb ec ed ee ef = rw (ea, eb, ec, ed, ee, ef) refl
+    (cond f (Some of.Sizes) (cond g (Some of.Missing) (cond h (Some of.Entries) None))))))) ≡ None
+none-left a b c d e f g h ea eb ec ed ee ef eg eh = rw (ea, eb, ec, ed, ee, ef, eg, eh) refl
 
 same_kind : (n : ℕ) → is_operator_kind n ≡ false → request_kind_of n ≡ as_request (kind_of n)
 same_kind n none =
     steps_first (eqb 1 n) (eqb 2 n) (eqb 3 n) (eqb 4 n) (eqb 5 n) _
-    (none-left (eqb 16 n) (eqb 17 n) (eqb 18 n) (eqb 19 n) (eqb 20 n) (eqb 21 n) (differs 16 n none refl) (differs 17 n none refl)
-    (differs 18 n none refl) (differs 19 n none refl) (differs 20 n none refl) (differs 21 n none refl))
+    (none-left (eqb 16 n) (eqb 17 n) (eqb 18 n) (eqb 19 n) (eqb 20 n) (eqb 21 n) (eqb 22 n) (eqb 23 n) (differs 16 n none refl)
+    (differs 17 n none refl) (differs 18 n none refl) (differs 19 n none refl) (differs 20 n none refl) (differs 21 n none refl)
+    (differs 22 n none refl) (differs 23 n none refl))
 
 -- ---- wrong parts
 

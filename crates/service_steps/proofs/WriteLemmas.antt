@@ -1,5 +1,9 @@
 -- A text that is written in two parts.
-use Rattle.std.proofs.Common.{ℕ, List, ◌++◌, Option, Result, Ok, Err, OnErr, sym, ap, ◌∙◌, append_assoc}
+use Rattle.std.proofs.Common.{◌≡◌, ℕ, ◌+◌, ◌-◌, List, ◌++◌, length, take, Option, Result, Ok, Err, OnErr, sym, ap, ◌∙◌, append_assoc, arith}
+use Rattle.std.proofs.Math.Seq.{take-append_seam}
+use Rattle.std.proofs.lemmas.List.{length-append}
+use Rattle.std.proofs.lemmas.Slice.{take-put_mid}
+use borrow.Rule.Slice.PartMut.{put_mid}
 use Rattle.std.specs.Io.KnownBytes.{Appends}
 use Rattle.byte_devices.specs.Device.{AppendsFront}
 use Rattle.byte_devices.proofs.KnownBytes.{Appends-trans}
@@ -25,3 +29,14 @@ front_of_later a b c first later written f = record {
 pub on_err : {A E P Q : Type 0} (r : Result A E) → (P → Q) → OnErr r P → OnErr r Q
 on_err (Ok a) f p = tt
 on_err (Err e) f p = f p
+
+-- Two parts are put into room that is long enough, one after the other.
+pub take-joined : (a b first later room : List ℕ) (n k : ℕ) → a ≡ first → b ≡ later → length first ≡ n → length later ≡ k
+    → take (n + k) (put_mid n (n + k - n) (a ++ room) b) ≡ first ++ later
+take-joined a b first later room n k one other long more =
+    let whole : length (a ++ room) ≡ length a + length room = length-append a room in
+    let longer : length a ≡ n = ap length one ∙ long in
+    let further : length b ≡ k = ap length other ∙ more in
+    take-put_mid n (n + k - n) (a ++ room) b (n + k) (omega (arith, further)) (omega (arith, whole, longer))
+    ∙ ap (λ (l : List ℕ). l ++ b) (ap (λ (m : ℕ). take m (a ++ room)) (sym longer) ∙ take-append_seam a room)
+    ∙ ap (λ (l : List ℕ). l ++ b) one ∙ ap (λ (l : List ℕ). first ++ l) other

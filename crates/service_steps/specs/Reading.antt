@@ -1,5 +1,5 @@
 -- What a call that reads a frame or a part of it does to the reader, for each answer.
-use Rattle.std.specs.Prelude.{◌≡◌, ◌≢◌, ℕ, ◌<◌, ◌≤◌, ◌*◌, ◌^◌, List, [], ◌∷◌, ◌++◌, length, get_or, Option, None, Some, Result, Ok, Err}
+use Rattle.std.specs.Prelude.{◌≡◌, ◌≢◌, ℕ, ◌<◌, ◌≤◌, ◌*◌, ◌^◌, List, [], ◌∷◌, ◌++◌, length, Option, None, Some, Result, Ok, Err}
 use Rattle.std.specs.Int.{Width, to_be_bytes, byte_len}
 use Rattle.byte_devices.specs.Device.{Device}
 pub use Rattle.byte_devices.specs.Reading.{HasReadWell, HasReadAll, HasFailed, AreBytes, IsShort, Fills}

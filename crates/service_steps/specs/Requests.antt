@@ -1,7 +1,7 @@
 -- Frames of requests: the steps of a service, and what its operator asks for, as bytes.
-use Rattle.std.specs.Prelude.{◌≡◌, ◌≢◌, ℕ, ◌+◌, ◌<◌, ◌==◌, Bool, true, nat_lt, nat_eq, if◌then◌else◌, List, [], ◌∷◌, ◌++◌, length, Option, None, Some, IfSome}
+use Rattle.std.specs.Prelude.{◌≡◌, ◌≢◌, ℕ, ◌+◌, ◌-◌, ◌/◌, ◌%◌, ◌<◌, ◌==◌, ◌&&◌, Bool, true, nat_lt, nat_le, if◌then◌else◌, List, [], ◌∷◌, ◌++◌, length, take, Option, None, Some, IfSome}
+use Rattle.std.specs.Int.{w32, w64, from_be_bytes, to_be_bytes}
 use Rattle.std.specs.List.{find}
-use Rattle.service_steps.specs.declared.kind.Kind.{Kind}
 use Rattle.service_steps.specs.declared.kind.Kind.TheVariants as kind
 use Rattle.service_steps.specs.declared.request.SavedAs.{SavedAs}
 use Rattle.service_steps.specs.declared.request.SavedAs.TheVariants as saved
@@ -20,10 +20,13 @@ request_number of.Remove = 18
 request_number of.Compact = 19
 request_number of.Copy = 20
 request_number of.Sizes = 21
+request_number of.Missing = 22
+request_number of.Entries = 23
 
 abbrev pub all_request_kinds : List RequestKind
 all_request_kinds = of.Step kind.Open ∷ of.Step kind.Feed ∷ of.Step kind.End ∷ of.Step kind.Ask
-    ∷ of.Step kind.Restart ∷ of.Save ∷ of.Abandon ∷ of.Remove ∷ of.Compact ∷ of.Copy ∷ of.Sizes ∷ []
+    ∷ of.Step kind.Restart ∷ of.Save ∷ of.Abandon ∷ of.Remove ∷ of.Compact ∷ of.Copy ∷ of.Sizes
+    ∷ of.Missing ∷ of.Entries ∷ []
 
 -- The kind with this number, if there is one.
 abbrev pub request_kind_of : ℕ → Option RequestKind
@@ -36,25 +39,40 @@ name_limit of.Save = 0
 name_limit of.Sizes = 0
 name_limit _ = 65535
 
--- The most bytes of a body. A Copy has a name there, and a Save at most one byte.
+-- The most bytes of a body. A Copy has a name there, a Save at most one byte, and a Missing and an
+-- Entries have names.
 abbrev pub request_limit : RequestKind → ℕ
 request_limit (of.Step k) = body_limit k
 request_limit of.Save = 1
 request_limit of.Copy = largest_body
+request_limit of.Missing = largest_body
+request_limit of.Entries = largest_body
 request_limit _ = 0
 
--- The body of a Save is empty or the byte 01. Any other body that is not too long may be any bytes.
+-- The body of a Save is empty or the byte 01.
 abbrev pub is_save_body : List ℕ → Bool
 is_save_body [] = true
 is_save_body (byte ∷ bytes) = byte == 1
 
+-- The body of a Missing is the number of the wanted names in four bytes, and at least as many names
+-- of 20 bytes each: the wanted ones, and then those that are had.
+abbrev pub is_missing_body : List ℕ → Bool
+is_missing_body body = nat_le 4 (length body) && ((length body - 4) % 20 == 0
+    && nat_le (from_be_bytes w32 (take 4 body)) ((length body - 4) / 20))
+
+-- The body of an Entries is the most bytes that may come back in eight bytes, and names.
+abbrev pub is_entries_body : List ℕ → Bool
+is_entries_body body = nat_le 8 (length body) && (length body - 8) % 20 == 0
+
+-- Any other body that is not too long may be any bytes.
 abbrev pub is_body : RequestKind → List ℕ → Bool
 is_body of.Save body = is_save_body body
+is_body of.Missing body = is_missing_body body
+is_body of.Entries body = is_entries_body body
 is_body _ body = true
 
 -- How many bytes show that a part is wrong, if one is: the third byte for the length of the name,
--- the fourth byte after the name for the length of the body, and the last byte for the body of a
--- Save.
+-- the fourth byte after the name for the length of the body, and the last byte for the body.
 unfoldable pub wrong_request_part : RequestKind → ℕ → List ℕ → Option ℕ
 wrong_request_part k name body =
     if nat_lt (name_limit k) name then Some 3
@@ -106,6 +124,13 @@ abbrev pub save_body : SavedAs → List ℕ
 save_body saved.LastCheckpoint = []
 save_body saved.Opened = 1 ∷ []
 
+-- The bodies of a Missing and an Entries.
+abbrev pub missing_body : List ℕ → List ℕ → List ℕ
+missing_body wants haves = to_be_bytes w32 (length wants / 20) ++ (wants ++ haves)
+
+abbrev pub entries_body : ℕ → List ℕ → List ℕ
+entries_body limit names = to_be_bytes w64 limit ++ names
+
 -- A request as a frame. A step has the frame that it has in `Frames`.
 abbrev pub request_frame : Request → Frame
 request_frame (request.Step s) = frame_of s
@@ -115,6 +140,10 @@ request_frame (request.Remove tenant) = request_framed of.Remove tenant.now []
 request_frame (request.Compact tenant) = request_framed of.Compact tenant.now []
 request_frame (request.Copy from to) = request_framed of.Copy from.now to.now
 request_frame request.Sizes = request_framed of.Sizes [] []
+request_frame (request.Missing tenant wants haves) =
+    request_framed of.Missing tenant.now (missing_body wants.now haves.now)
+request_frame (request.Entries tenant limit names) =
+    request_framed of.Entries tenant.now (entries_body limit names.now)
 
 abbrev pub request_text : Request → List ℕ
 request_text r = frame_text (request_frame r)

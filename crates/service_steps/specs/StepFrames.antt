@@ -3,9 +3,9 @@ use Rattle.std.specs.Prelude.{ℕ, Bool, true, false, ◌&&◌, not, nat_lt, Lis
 use Rattle.service_steps.specs.declared.request.Request.{Request}
 use Rattle.service_steps.specs.declared.request.Request.TheVariants as request
 
--- The numbers of the kinds of the operator's requests.
+-- The numbers of the kinds of requests that are no steps.
 abbrev pub is_operator_kind : ℕ → Bool
-is_operator_kind byte = nat_lt 15 byte && nat_lt byte 22
+is_operator_kind byte = nat_lt 15 byte && nat_lt byte 24
 
 abbrev pub begins_no_request : List ℕ → Bool
 begins_no_request [] = true

@@ -6,18 +6,23 @@ ghost use Rattle.std.specs.Prelude.{◌≡◌};
 ghost use Rattle.service_steps.specs.Faults.{code_of};
 
 use crate::answer::Answer;
+use thiserror::Error;
 
 /// Why a service itself refuses a step or a call of the operator. A refusal changes nothing.
-#[derive(Clone, Copy, Debug, PartialEq, Eq)]
+#[derive(Clone, Copy, Debug, PartialEq, Eq, Error)]
 pub enum ServiceFault {
     /// A Feed, an End or an abandon of a tenant without a stream: 30.
+    #[error("fault 30")]
     NoStream,
     /// An Open of a tenant that has a stream, even a dead one, a copy to that tenant, or its removal:
     /// 31.
+    #[error("fault 31")]
     StreamIsOpen,
     /// A name that no tenant can have: 32.
+    #[error("fault 32")]
     BadTenantName,
     /// A copy to a tenant that has an object, a ref, or a HEAD other than `refs/heads/main`: 33.
+    #[error("fault 33")]
     TenantNotEmpty,
 }
 

@@ -1,4 +1,4 @@
-//! What a host is sent: a step, or a request of the operator.
+//! What a host is sent: a step, a request of the operator, or a question for a pack.
 
 use crate::step::Step;
 
@@ -11,7 +11,7 @@ pub enum SavedAs {
     Opened,
 }
 
-/// A step, or a request of the operator.
+/// A step, a request of the operator, or a question for a pack.
 #[derive(Clone, Copy, Debug, PartialEq, Eq)]
 pub enum Request<'a> {
     /// Take this step.
@@ -42,4 +42,22 @@ pub enum Request<'a> {
     },
     /// Say what each tenant has.
     Sizes,
+    /// Say which objects the wanted names reach and the had names do not.
+    Missing {
+        /// The tenant's name.
+        tenant: &'a [u8],
+        /// The wanted names, 20 bytes for each.
+        wants: &'a [u8],
+        /// The names of what is there already, 20 bytes for each.
+        haves: &'a [u8],
+    },
+    /// Give objects as entries of a pack.
+    Entries {
+        /// The tenant's name.
+        tenant: &'a [u8],
+        /// The most bytes that all the entries may have together.
+        limit: u64,
+        /// The names of the objects, 20 bytes for each.
+        names: &'a [u8],
+    },
 }

@@ -4,7 +4,8 @@
 
 ghost use Rattle.std.specs.Prelude.{◌≡◌, ◌≤◌, length, true};
 ghost use Rattle.byte_devices.specs.Device.{device_of, seen};
-ghost use Rattle.service_steps.specs.Requests.{is_body, name_limit, request_framed, request_frame, request_limit, is_save_body, save_body};
+ghost use Rattle.service_steps.specs.Requests.{is_body, name_limit, request_framed, request_frame, request_limit, is_save_body, save_body, is_missing_body, is_entries_body};
+ghost use Rattle.service_steps.specs.declared.request_kind.RequestKind.TheVariants as of;
 ghost use Rattle.service_steps.specs.RequestReading.{ReadsRequest, ReadsRequestKind};
 
 use crate::frame_fault::FrameFault;
@@ -52,7 +53,8 @@ impl RequestFrames {
     ///
     /// - `BadFrame` (50) as soon as a wrong part has been read: an unknown kind, a name in a
     ///   Restart, a Save or a Sizes, a body in a kind that has none, a body of more than 16,777,216
-    ///   bytes, or a body of a Save that is neither empty nor the byte 01.
+    ///   bytes, a body of a Save that is neither empty nor the byte 01, or one of a Missing or an
+    ///   Entries that does not end with a whole name or has fewer names than it counts.
     /// - `CutOff` (51) if the input ends inside a frame.
     /// - `Device` (68) if a call of the reader failed.
     /// - `Memory` (90) if there is no memory for a name or a body.
@@ -97,6 +99,33 @@ fn saved_as(body: &[u8]) -> SavedAs
     }
 }
 
+// The request of a Missing with this body.
+fn missing_request<'a>(tenant: &'a [u8], body: &'a [u8]) -> Request<'a>
+    requires { is_missing_body body.now ≡ true }
+    ensures { request_frame result ≡ request_framed of.Missing tenant.now body.now }
+{
+    let (count, names) = body.split_first_chunk::<4>().unwrap();
+    let (wants, haves) = names.split_at(u32::from_be_bytes(*count) as usize * 20);
+    Request::Missing {
+        tenant,
+        wants,
+        haves,
+    }
+}
+
+// The request of an Entries with this body.
+fn entries_request<'a>(tenant: &'a [u8], body: &'a [u8]) -> Request<'a>
+    requires { is_entries_body body.now ≡ true }
+    ensures { request_frame result ≡ request_framed of.Entries tenant.now body.now }
+{
+    let (limit, names) = body.split_first_chunk::<8>().unwrap();
+    Request::Entries {
+        tenant,
+        limit: u64::from_be_bytes(*limit),
+        names,
+    }
+}
+
 // The request of a frame.
 fn request_of<'a>(kind: RequestKind, name: &'a [u8], body: &'a [u8]) -> Request<'a>
     requires name { length name.now ≤ name_limit kind }
@@ -115,5 +144,7 @@ fn request_of<'a>(kind: RequestKind, name: &'a [u8], body: &'a [u8]) -> Request<
             to: body,
         },
         RequestKind::Sizes => Request::Sizes,
+        RequestKind::Missing => missing_request(name, body),
+        RequestKind::Entries => entries_request(name, body),
     }
 }

@@ -1,7 +1,7 @@
 //! The kinds of the frames of requests, and what their parts may be.
 
 ghost use Rattle.std.specs.Prelude.{◌≡◌};
-ghost use Rattle.service_steps.specs.Requests.{request_kind_of, name_limit, request_limit, is_body};
+ghost use Rattle.service_steps.specs.Requests.{request_kind_of, name_limit, request_limit, is_body, is_save_body, is_missing_body, is_entries_body};
 
 use crate::kind::{BODY_LIMIT, Kind};
 
@@ -22,10 +22,47 @@ pub enum RequestKind {
     Copy,
     /// Say what each tenant has.
     Sizes,
+    /// Say which objects are missing.
+    Missing,
+    /// Give objects as entries of a pack.
+    Entries,
 }
 
 // The one byte of a Save's body, if it has one.
 const OPENED: u8 = 1;
+
+// How many bytes a name has.
+const NAME_BYTES: usize = 20;
+
+fn is_save_body(body: &[u8]) -> bool
+    ensures { result ≡ is_save_body body.now }
+{
+    match body {
+        [] => true,
+        [byte, ..] => *byte == OPENED,
+    }
+}
+
+fn is_missing_body(body: &[u8]) -> bool
+    ensures { result ≡ is_missing_body body.now }
+{
+    match body.split_first_chunk::<4>() {
+        Some((count, names)) => {
+            names.len() % NAME_BYTES == 0
+                && u32::from_be_bytes(*count) as usize <= names.len() / NAME_BYTES
+        }
+        None => false,
+    }
+}
+
+fn is_entries_body(body: &[u8]) -> bool
+    ensures { result ≡ is_entries_body body.now }
+{
+    match body.split_first_chunk::<8>() {
+        Some((_, names)) => names.len() % NAME_BYTES == 0,
+        None => false,
+    }
+}
 
 impl RequestKind {
     /// The kind with this number; `None` for an unknown kind.
@@ -44,6 +81,8 @@ impl RequestKind {
             19 => Some(RequestKind::Compact),
             20 => Some(RequestKind::Copy),
             21 => Some(RequestKind::Sizes),
+            22 => Some(RequestKind::Missing),
+            23 => Some(RequestKind::Entries),
             _ => None,
         }
     }
@@ -60,8 +99,8 @@ impl RequestKind {
         }
     }
 
-    /// The greatest length of the body in bytes. Only a Feed, an Ask, a Copy and a Save have a
-    /// body.
+    /// The greatest length of the body in bytes. Only a Feed, an Ask, a Copy, a Save, a Missing and
+    /// an Entries have a body.
     pub fn body_limit(self) -> usize
         ensures { result ≡ request_limit self }
     {
@@ -69,18 +108,22 @@ impl RequestKind {
             RequestKind::Step(kind) => kind.body_limit(),
             RequestKind::Save => 1,
             RequestKind::Copy => BODY_LIMIT as usize,
+            RequestKind::Missing => BODY_LIMIT as usize,
+            RequestKind::Entries => BODY_LIMIT as usize,
             _ => 0,
         }
     }
 
     /// Whether a body of this kind may be these bytes, if it may be as long. The body of a Save is
-    /// empty or the byte 01.
+    /// empty or the byte 01. A Missing has a count in four bytes, and at least as many names of 20
+    /// bytes; an Entries a limit in eight bytes, and names.
     pub fn is_body(self, body: &[u8]) -> bool
         ensures { result ≡ is_body self body.now }
     {
-        match (self, body) {
-            (RequestKind::Save, []) => true,
-            (RequestKind::Save, [byte, ..]) => *byte == OPENED,
+        match self {
+            RequestKind::Save => is_save_body(body),
+            RequestKind::Missing => is_missing_body(body),
+            RequestKind::Entries => is_entries_body(body),
             _ => true,
         }
     }

@@ -1,6 +1,6 @@
 //! Answers as bytes.
 
-ghost use Rattle.std.specs.Prelude.{◌≡◌, OnOk, OnErr};
+ghost use Rattle.std.specs.Prelude.{◌≡◌, ◌≤◌, ◌+◌, ◌++◌, length, take, OnOk, OnErr};
 ghost use Rattle.std.specs.Io.KnownBytes.{Appends};
 ghost use Rattle.byte_devices.specs.Device.{device_of, faults_of, AppendsFront, HasFault};
 ghost use Rattle.service_steps.specs.Frames.{status_of, answer_head, answer_text};
@@ -12,6 +12,9 @@ use std::io::Write;
 
 // How many bytes come before the reply.
 const HEAD: usize = 17;
+
+// The longest frame that is written by one call.
+const SHORT: usize = 1_024;
 
 fn status_of(answer: Answer) -> (u8, u64)
     ensures { (result.0, result.1) ≡ status_of answer }
@@ -35,6 +38,54 @@ fn answer_head(answer: Answer, size: u64) -> [u8; HEAD]
     head
 }
 
+// Puts the two parts of a short frame side by side, and answers how long the frame is.
+fn join_parts(frame: &mut [u8; SHORT], head: &[u8; HEAD], reply: &[u8]) -> usize
+    requires { length reply.now ≤ 1007 }
+    ensures size { result ≡ 17 + length reply.now }
+    ensures joined { take result frame.new ≡ head.now ++ reply.now }
+{
+    let size = HEAD + reply.len();
+    frame[..HEAD].copy_from_slice(head);
+    frame[HEAD..size].copy_from_slice(reply);
+    size
+}
+
+// Writes a short frame by one call, so that its reader need not wait twice.
+fn write_short<W: Write>(
+    writer: &mut Counted<W>,
+    head: &[u8; HEAD],
+    reply: &[u8],
+) -> Result<(), DeviceFault>
+    requires { length reply.now ≤ 1007 }
+    ensures written { OnOk result (Appends (W.contents (device_of writer.old))
+        (W.contents (device_of writer.new)) (head.now ++ reply.now)) }
+    ensures well { OnOk result (faults_of writer.new ≡ faults_of writer.old) }
+    ensures front { OnErr result (AppendsFront (W.contents (device_of writer.old))
+        (W.contents (device_of writer.new)) (head.now ++ reply.now)) }
+    ensures cause { OnErr result (HasFault (faults_of writer.old) (faults_of writer.new)) }
+{
+    let mut frame = [0; SHORT];
+    let size = join_parts(&mut frame, head, reply);
+    write_all(writer, &frame[..size])
+}
+
+// Writes a long frame by a call for each part.
+fn write_long<W: Write>(
+    writer: &mut Counted<W>,
+    head: &[u8; HEAD],
+    reply: &[u8],
+) -> Result<(), DeviceFault>
+    ensures written { OnOk result (Appends (W.contents (device_of writer.old))
+        (W.contents (device_of writer.new)) (head.now ++ reply.now)) }
+    ensures well { OnOk result (faults_of writer.new ≡ faults_of writer.old) }
+    ensures front { OnErr result (AppendsFront (W.contents (device_of writer.old))
+        (W.contents (device_of writer.new)) (head.now ++ reply.now)) }
+    ensures cause { OnErr result (HasFault (faults_of writer.old) (faults_of writer.new)) }
+{
+    write_all(writer, head)?;
+    write_all(writer, reply)
+}
+
 /// Writes an answer and the bytes of its reply as one frame. Takes no memory.
 ///
 /// `DeviceFault` (68) if a call of the writer failed. A prefix of the frame has then been written,
@@ -52,6 +103,9 @@ pub fn write_answer<W: Write>(
     ensures cause { OnErr result (HasFault (faults_of writer.old) (faults_of writer.new)) }
 {
     let head = answer_head(answer, reply.len() as u64);
-    write_all(writer, &head)?;
-    write_all(writer, reply)
+    if reply.len() <= SHORT - HEAD {
+        write_short(writer, &head, reply)
+    } else {
+        write_long(writer, &head, reply)
+    }
 }

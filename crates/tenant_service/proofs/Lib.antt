@@ -36,3 +36,4 @@ mod ExtractLemmas
 mod AcrossLemmas
 mod MergeLemmas
 mod MoveLemmas
+pub mod PackLemmas

@@ -3,7 +3,7 @@ use Rattle.std.specs.Prelude.{◌≡◌, ◌≤◌, List, ◌++◌, length}
 use Rattle.git_model.specs.Repository.{Object}
 use Rattle.stream_commands.specs.Workspace.{Workspace}
 
--- A workspace has the objects of an earlier one, and perhaps more behind them. No fewer of them are
+-- A workspace has the objects of an earlier one, and perhaps more after them. No fewer of them are
 -- committed.
 pub record KeepsObjects (before after : Workspace) : Type 0 where
   pub more : List Object

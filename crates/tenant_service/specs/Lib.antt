@@ -2,7 +2,8 @@
 -- objects, what each call does to it, whether it is sound, what a step leaves of it, and what a
 -- stream leaves of its objects; the name of a step; what of it a pool file has; copies, and what a
 -- copy leaves; then what a stream was opened on, where the parts of a tenant lie, what one step, the
--- operator or a copy by places does to them, and how a save and a load see them.
+-- operator or a copy by places does to them, how a save and a load see them, and what a pack of a
+-- tenant has.
 pub mod Alone
 pub mod Headline
 pub mod TenantState
@@ -27,3 +28,4 @@ pub mod Extracting
 pub mod Merging
 pub mod Across
 pub mod ComingIn
+pub mod Packing

@@ -16,6 +16,7 @@ mod loading;
 mod merging;
 mod moves;
 mod opened;
+mod packing;
 mod removing;
 mod saving;
 mod service;
@@ -24,6 +25,7 @@ mod tenant;
 mod tenants;
 
 pub use extract_fault::ExtractFault;
+pub use pack_objects::{MissingObject, PackFault};
 pub use pool_file_format::{Fault, Refusal, StreamingDigest};
 pub use service::Service;
 pub use service_steps::{Answer, Reply, ServiceFault, Step};

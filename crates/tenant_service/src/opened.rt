@@ -1,6 +1,6 @@
 //! What a tenant had when its stream was opened.
 //!
-//! The objects are the first ones of its table: a stream only adds more behind them. The refs are a
+//! The objects are the first ones of its table: a stream only adds more after them. The refs are a
 //! copy, since each checkpoint changes those of the tenant.
 
 ghost use Rattle.std.specs.Prelude.{◌≡◌, IfOk};

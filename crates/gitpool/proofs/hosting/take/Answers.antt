@@ -25,3 +25,10 @@ returns-in-Step g c =
       },
       refl,
     )
+
+pub returns-in-Missing : goal.returns-in-Missing
+returns-in-Missing g c =
+    let D = g.N.Naming.digest_of in
+    let held = hosted c.args.service.now (g.P.PoolPlace.file c.args.place.now) in
+    subst (λ (r : Request). Takes D r held (told_with c.answer_missing.result c.answer_missing.new.out.items) held)
+    (sym c.in-Missing.is) (refl, c.answer_missing.ensures)

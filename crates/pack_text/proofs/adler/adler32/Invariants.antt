@@ -1,4 +1,4 @@
-use Rattle.std.proofs.Common.{◌≡◌, ◌<◌, length}
+use Rattle.std.proofs.Common.{◌<◌, length}
 use Rattle.pack_text.proofs.Sums.{IsSummed}
 use Rattle.pack_text.proofs.adler.adler32.Given as goal
 

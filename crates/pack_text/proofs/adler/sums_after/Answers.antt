@@ -1,4 +1,4 @@
-use Rattle.std.proofs.Common.{refl, arith}
+use Rattle.std.proofs.Common.{arith}
 use Rattle.pack_text.specs.Adler.{high_sum}
 use Rattle.pack_text.proofs.Sums.{sum-next, high-next}
 use Rattle.pack_text.proofs.adler.sums_after.Goals as goal

@@ -1,4 +1,4 @@
-use Rattle.std.proofs.Common.{◌-◌, [], ◌∷◌, ◌++◌, length, refl}
+use Rattle.std.proofs.Common.{◌-◌, ◌∷◌, ◌++◌, length, refl}
 use Rattle.std.specs.Int.{w16, to_le_bytes}
 use Rattle.std.proofs.lemmas.Result.{err_from_is_err_and}
 use Rattle.pool_file_format.proofs.Pieces.{then_is, stops_is}

@@ -1,4 +1,4 @@
-use Rattle.std.proofs.Common.{◌+◌, ◌*◌, ◌%◌, ℕ, arith, length, ◌++◌, ap}
+use Rattle.std.proofs.Common.{◌+◌, ◌*◌, ◌%◌, ℕ, arith, length, ap}
 use Rattle.std.proofs.lemmas.List.{length-append}
 use Rattle.pack_text.specs.Adler.{adler32}
 use Rattle.pack_text.specs.PackText.{blocks_text, head_text, number_of, zlib_text}

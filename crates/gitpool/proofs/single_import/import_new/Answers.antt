@@ -2,7 +2,7 @@ use Rattle.std.proofs.Common.{refl}
 use Rattle.tenant_service.specs.TenantState.{empty_repository}
 use Rattle.gitpool.proofs.ExportLemmas.{takes-export}
 use Rattle.gitpool.proofs.ImportLemmas.{imports-effect, new-can-open}
-use Rattle.gitpool.proofs.single_import.import_one.Goals as goal
+use Rattle.gitpool.proofs.single_import.import_new.Goals as goal
 
 pub returns-clause-imported : goal.returns-clause-imported
 returns-clause-imported g c =

@@ -1,0 +1,3 @@
+pub mod EntryTexts
+pub mod MissingTold
+pub mod NamesMore
