@@ -70,7 +70,14 @@ func runInit(l line) error {
 			return err
 		}
 	}
-	return createHostKey(filepath.Join(folder, "host_key"))
+	if err := createHostKey(filepath.Join(folder, "host_key")); err != nil {
+		return err
+	}
+	log, err := logOptions(l)
+	if err != nil || log == nil {
+		return err
+	}
+	return store.CreateLog(folder, *log)
 }
 
 // createFile makes a file, unless there is one.

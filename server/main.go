@@ -43,16 +43,24 @@ type line struct {
 // folder is the server's folder, which each command names first.
 func (l line) folder() string { return l.words[0] }
 
+// logFlags are those of a journal in Redis, and switches the flags that have no value.
+var (
+	logFlags = []string{"--log", "--log-wait", "--replicas", "--log-unsynced"}
+	switches = map[string]bool{"--log-unsynced": true}
+)
+
 func commands() []command {
 	return []command{
-		{"init", "DIR", "make a folder for a server", 1, 1, []string{"--program"}, runInit},
+		{"init", "DIR [--log ADDRESS]", "make a folder for a server, and with --log a log in Redis for its journal", 1, 1,
+			append([]string{"--program"}, logFlags...), runInit},
 		{"user", "DIR USER [--key FILE]", "give a user a password, read from standard input, or the keys of a file", 2, 2,
 			[]string{"--key"}, runUser},
 		{"grant", "DIR USER PATTERN r|rw", "let a user, or '*' for everyone, read or also write tenants: acme/site, 'acme/*' or '*'", 4, 4,
 			nil, runGrant},
 		{"revoke", "DIR USER [PATTERN]", "take a grant back; without a pattern all grants, the password and the keys", 2, 3, nil, runRevoke},
-		{"serve", "DIR [--http ADDRESS] [--ssh ADDRESS] [--socket PATH] [--certificate FILE --certificate-key FILE]",
-			"serve until SIGTERM", 1, 1, []string{"--http", "--ssh", "--socket", "--program", "--certificate", "--certificate-key"}, runServe},
+		{"serve", "DIR [--http ADDRESS] [--ssh ADDRESS] [--socket PATH] [--certificate FILE --certificate-key FILE] " +
+			"[--log ADDRESS [--log-wait TIME] [--replicas N] [--log-unsynced]] [--pool-copy PATH]", "serve until SIGTERM", 1, 1,
+			append([]string{"--http", "--ssh", "--socket", "--program", "--certificate", "--certificate-key", "--pool-copy"}, logFlags...), runServe},
 		{"status", "DIR", "tell how the running server stands", 1, 1, []string{"--socket"}, runCall},
 		{"save", "DIR", "save the pool file now", 1, 1, []string{"--socket"}, runCall},
 		{"tenants", "DIR", "list the tenants of the running server, with their sizes", 1, 1, []string{"--socket"}, runCall},
@@ -103,8 +111,11 @@ func (c command) start(words []string) int {
 
 func statusOf(err error) int {
 	var damaged *journal.Damaged
+	var bad *journal.BadLog
 	switch {
-	case errors.As(err, &damaged), errors.Is(err, poolfile.ErrForm), errors.Is(err, store.ErrLoad):
+	case errors.As(err, &bad) && bad.IsTaken:
+		return statusDevice
+	case errors.As(err, &damaged), errors.As(err, &bad), errors.Is(err, poolfile.ErrForm), errors.Is(err, store.ErrLoad):
 		return statusDamaged
 	case errors.Is(err, store.ErrInHand), errors.Is(err, os.ErrNotExist), errors.Is(err, os.ErrPermission):
 		return statusDevice
@@ -124,7 +135,7 @@ func (c command) parse(words []string) (found line, err error) {
 		if !c.takes(name) {
 			return found, fmt.Errorf("there is no option `%s`", name)
 		}
-		if !hasValue {
+		if !hasValue && !switches[name] {
 			if i++; i == len(words) {
 				return found, fmt.Errorf("`%s` has no value", name)
 			}

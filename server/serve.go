@@ -97,7 +97,12 @@ func open(l line) (*server, error) {
 	if err != nil {
 		return nil, err
 	}
-	pool, err := store.Open(store.Config{Folder: folder, Program: found, ChildMemory: values.ChildMemory, Tell: log.Printf})
+	redis, err := logOptions(l)
+	if err != nil {
+		return nil, err
+	}
+	pool, err := store.Open(store.Config{Folder: folder, Program: found, ChildMemory: values.ChildMemory, Log: redis,
+		Copy: l.flags["--pool-copy"], Stop: stopAtOnce, Tell: log.Printf})
 	if err != nil {
 		return nil, err
 	}

@@ -10,12 +10,15 @@ import (
 	"gitpoold/frames"
 )
 
-// TestTheChildsTimeIsCharged has one asker of slow questions, and one whose quick ones wait meanwhile.
+// TestTheChildsTimeIsCharged has one asker of slow questions, and one whose quick ones wait meanwhile. A quick question that was charged for
+// its wait would cost as much as a slow one. The bounds are half of what the slow ones take, for a machine that is busy with other things.
 func TestTheChildsTimeIsCharged(t *testing.T) {
+	const count = 4
 	p := started(t, 1000)
+	asked(p, Short, 1, "the start of the child is charged to nobody")
 	var charged [2]atomic.Int64
 	var all sync.WaitGroup
-	ask := func(who, count int, body string) {
+	ask := func(who int, body string) {
 		defer all.Done()
 		ctx := Charging(background, func(took time.Duration) { charged[who].Add(int64(took)) })
 		for k := 0; k < count; k++ {
@@ -29,11 +32,11 @@ func TestTheChildsTimeIsCharged(t *testing.T) {
 		}
 	}
 	all.Add(2)
-	go ask(0, 4, "slow")
-	go ask(1, 20, "quick")
+	go ask(0, "slow")
+	go ask(1, "quick")
 	all.Wait()
 	slowly, quickly := time.Duration(charged[0].Load()), time.Duration(charged[1].Load())
-	if slowly < 4*slow*9/10 || quickly > slow {
+	if slowly < count*slow/2 || quickly > count*slow/2 {
 		t.Fatal(slowly, quickly)
 	}
 	if chargeOf(background) != nil || chargeOf(Endless(context.TODO())) != nil {

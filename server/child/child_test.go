@@ -43,7 +43,7 @@ func echo(left int) int {
 	return 3
 }
 
-const slow = 200 * time.Millisecond
+const slow = 500 * time.Millisecond
 
 var background = context.Background()
 
@@ -127,7 +127,7 @@ func TestEveryoneIsToldThatTheChildEnded(t *testing.T) {
 func TestAKilledChildTellsEveryone(t *testing.T) {
 	p := started(t, 1<<30)
 	go func() {
-		time.Sleep(20 * time.Millisecond)
+		asked(p, Short, 10, "a")
 		p.Kill()
 	}()
 	if wrong, gone := askedByMany(p); wrong != 0 || gone == 0 {

@@ -47,7 +47,11 @@ type Ledger struct {
 // Open reads the counts of a file, if they are of today. A file that is not there, or that is damaged, has none. `most` gives what a user may
 // take in a day; `tell` gets lines for the operator.
 func Open(path string, most func(user string) Amount, tell func(string, ...any)) *Ledger {
-	l := &Ledger{path: path, most: most, tell: tell, clock: time.Now, taken: map[string]Amount{}}
+	return openAt(time.Now, path, most, tell)
+}
+
+func openAt(clock func() time.Time, path string, most func(user string) Amount, tell func(string, ...any)) *Ledger {
+	l := &Ledger{path: path, most: most, tell: tell, clock: clock, taken: map[string]Amount{}}
 	l.read()
 	return l
 }

@@ -10,6 +10,8 @@ import (
 	"time"
 )
 
+var noon = time.Date(2026, 1, 2, 12, 0, 0, 0, time.UTC)
+
 // at is a ledger at a time, which a test moves on.
 type at struct {
 	*Ledger
@@ -19,10 +21,9 @@ type at struct {
 
 func opened(t *testing.T, path string, most Amount) *at {
 	t.Helper()
-	a := &at{now: time.Now().UTC().Truncate(24 * time.Hour).Add(12 * time.Hour)}
+	a := &at{now: noon}
 	tell := func(format string, values ...any) { a.notes = append(a.notes, fmt.Sprintf(format, values...)) }
-	a.Ledger = Open(path, func(string) Amount { return most }, tell)
-	a.clock = func() time.Time { return a.now }
+	a.Ledger = openAt(func() time.Time { return a.now }, path, func(string) Amount { return most }, tell)
 	return a
 }
 
@@ -94,7 +95,7 @@ func TestCountsOutliveARestart(t *testing.T) {
 }
 
 func TestAFileOfAnotherDayOrForm(t *testing.T) {
-	today := time.Now().UTC().Format("2006-01-02")
+	today := noon.Format("2006-01-02")
 	for text, says := range map[string]string{
 		"":                             "",
 		"2020-01-01\nalice 5 1.0\n":    "",

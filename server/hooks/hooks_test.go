@@ -212,13 +212,23 @@ func isGone(group int) bool {
 	return false
 }
 
+// answering serves by a handler, after the body was read. Whoever answers before that closes the connection under a client that still
+// writes, which may then see no answer.
+func answering(t *testing.T, handler http.Handler) string {
+	t.Helper()
+	server := httptest.NewServer(http.HandlerFunc(func(w http.ResponseWriter, r *http.Request) {
+		_, _ = io.Copy(io.Discard, r.Body)
+		handler.ServeHTTP(w, r)
+	}))
+	t.Cleanup(server.Close)
+	return server.URL
+}
+
 func TestAHookThatFails(t *testing.T) {
-	refusing := httptest.NewServer(http.HandlerFunc(func(w http.ResponseWriter, r *http.Request) { http.Error(w, "no", 503) }))
-	defer refusing.Close()
-	moved := httptest.NewServer(http.RedirectHandler(refusing.URL, http.StatusFound))
-	defer moved.Close()
-	closed := httptest.NewServer(nil)
-	closed.Close()
+	refusing := answering(t, http.HandlerFunc(func(w http.ResponseWriter, r *http.Request) { http.Error(w, "no", 503) }))
+	moved := answering(t, http.RedirectHandler(refusing, http.StatusFound))
+	// Nobody listens at port 1, and it is given to nobody who asks for any port.
+	const closed = "http://127.0.0.1:1"
 	var large []string
 	for i := 0; i < 5000; i++ {
 		large = append(large, "refs/heads/"+strconv.Itoa(i))
@@ -227,9 +237,9 @@ func TestAHookThatFails(t *testing.T) {
 		script(t, "echo the disk is full >&2; exit 3"): "exit status 3: the disk is full",
 		script(t, "kill -9 $$"):                        "signal: killed",
 		"/no/such/program":                             "no such file",
-		refusing.URL:                                   "it answered 503",
-		moved.URL:                                      "it answered 302",
-		closed.URL + "/x?key=secret":                   "connection refused",
+		refusing:                                       "it answered 503",
+		moved:                                          "it answered 302",
+		closed + "/x?key=secret":                       "connection refused",
 	} {
 		h := loaded(t, time.Minute, "* "+where)
 		h.Tell(pushTo("acme/site", large...))
@@ -284,6 +294,22 @@ func TestWhatAHookPrintsIsRead(t *testing.T) {
 	}
 }
 
+// TestWhatIsInAPipeIsReadLate reads a pipe whose deadline has passed, and which somebody has open still.
+func TestWhatIsInAPipeIsReadLate(t *testing.T) {
+	for _, said := range []string{"a reason\n", ""} {
+		out, to, err := os.Pipe()
+		must(t, err)
+		_, err = to.WriteString(said)
+		must(t, err)
+		must(t, out.SetReadDeadline(time.Now().Add(-time.Second)))
+		if got := string(firstOf(out)); got != strings.TrimSpace(said) {
+			t.Errorf("%q", got)
+		}
+		to.Close()
+		out.Close()
+	}
+}
+
 func TestWhatAHookLeavesEndsWithIt(t *testing.T) {
 	folder := t.TempDir()
 	hook := script(t, "echo $$ > "+folder+"/pid; sleep 600 &")
@@ -317,14 +343,17 @@ func TestCloseEndsWhatIsAtWork(t *testing.T) {
 }
 
 func TestAQueueHasBounds(t *testing.T) {
-	h := loaded(t, time.Hour, "* "+script(t, "sleep 600"))
+	// Both scripts are written before the first hook begins: a process on its way from fork to exec has the files of this one open, and a
+	// file that somebody has open for writing cannot be run.
+	hook, another := script(t, "sleep 600"), script(t, "sleep 600")
+	h := loaded(t, time.Hour, "* "+hook)
 	for i := 0; i < mostWaiting+7; i++ {
 		h.Tell(pushTo("acme/site", "refs/heads/main"))
 	}
 	if h.Waiting() != mostWaiting || h.result("missed") != 7 || strings.Count(h.noted(), "misses pushes") != 1 {
 		t.Error(h.Waiting(), h.result("missed"), h.noted())
 	}
-	other := loaded(t, time.Hour, "* "+script(t, "sleep 600"))
+	other := loaded(t, time.Hour, "* "+another)
 	large := pushTo("acme/site", strings.Repeat("x", mostWaitingBytes/2))
 	for i := 0; i < 3; i++ {
 		other.Tell(large)

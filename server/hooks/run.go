@@ -3,6 +3,7 @@ package hooks
 import (
 	"bytes"
 	"context"
+	"errors"
 	"fmt"
 	"io"
 	"os"
@@ -91,11 +92,33 @@ const afterEnd = 100 * time.Millisecond
 // mostSaid is how much of what a program prints is kept for the log; the rest is dropped.
 const mostSaid = 500
 
-func firstOf(out io.Reader) []byte {
+// firstOf reads what a program prints, until the pipe ends or its deadline passes, and gives the first of it.
+func firstOf(out *os.File) []byte {
 	var kept bytes.Buffer
-	_, _ = io.CopyN(&kept, out, mostSaid)
+	_, err := io.CopyN(&kept, out, mostSaid)
+	if errors.Is(err, os.ErrDeadlineExceeded) {
+		kept.Write(atHand(out, mostSaid-kept.Len()))
+		return bytes.TrimSpace(kept.Bytes())
+	}
 	_, _ = io.Copy(io.Discard, out)
 	return bytes.TrimSpace(kept.Bytes())
+}
+
+// atHand gives what is in a pipe, and waits for nothing. On a busy machine a deadline may pass before what is there was read.
+func atHand(out *os.File, most int) []byte {
+	text, count := make([]byte, most), 0
+	raw, err := out.SyscallConn()
+	if err != nil || out.SetReadDeadline(time.Time{}) != nil {
+		return nil
+	}
+	_ = raw.Read(func(fd uintptr) bool {
+		count, _ = syscall.Read(int(fd), text)
+		return true
+	})
+	if count < 0 {
+		return nil
+	}
+	return text[:count]
 }
 
 // lines are what a program reads: the lines of a post-receive of githooks(5).

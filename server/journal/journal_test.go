@@ -21,7 +21,7 @@ const emptySegment = len(title) + headBytes + frameHead + savedBytes + chainByte
 
 func quiet(string, ...any) {}
 
-func opened(t testing.TB, folder string, pool Digest) *Journal {
+func opened(t testing.TB, folder string, pool Digest) *Files {
 	t.Helper()
 	j, err := Open(folder, pool, quiet)
 	if err != nil {
@@ -35,7 +35,7 @@ func step(i int) frames.Step {
 	return frames.Step{Kind: frames.Feed, Tenant: "acme/site", Body: bytes.Repeat([]byte{byte(i)}, i*37%900)}
 }
 
-func filled(t testing.TB, j *Journal, from, to int) {
+func filled(t testing.TB, j *Files, from, to int) {
 	t.Helper()
 	for i := from; i < to; i++ {
 		number, err := j.Append(step(i))
@@ -50,12 +50,12 @@ func filled(t testing.TB, j *Journal, from, to int) {
 	}
 }
 
-func hasSteps(t testing.TB, j *Journal, from, to int) {
+func hasSteps(t testing.TB, j *Files, from, to int) {
 	t.Helper()
 	hasStepsAfter(t, j, j.segments[0].pool, from, to)
 }
 
-func hasStepsAfter(t testing.TB, j *Journal, pool Digest, from, to int) {
+func hasStepsAfter(t testing.TB, j *Files, pool Digest, from, to int) {
 	t.Helper()
 	i := from
 	err := j.Records(pool, func(r Record) error {
@@ -153,7 +153,7 @@ func TestOpenStreamsAreKept(t *testing.T) {
 	}
 }
 
-func hasBodies(t testing.TB, j *Journal, pool Digest, want ...string) {
+func hasBodies(t testing.TB, j *Files, pool Digest, want ...string) {
 	t.Helper()
 	var got []string
 	err := j.Records(pool, func(r Record) error {

@@ -20,6 +20,9 @@ const (
 	GivenUp = frames.Abandon
 	// TakenBack says that a request of the operator, whose number its body has, did not happen.
 	TakenBack frames.Kind = 32
+	// TakenOver says that a server has taken a log in Redis over: what it drew at random, so that no two histories have the same chain,
+	// and the name of its machine.
+	TakenOver frames.Kind = 33
 )
 
 // A record is a head, a frame, and a chain: the length of the frame (4 bytes), the record's number (8), and the CRC-32C of both (4);

@@ -11,7 +11,7 @@ import (
 
 // Records calls `use` with each record that a pool file has not, in order: those of the streams that were open when it was saved, from
 // their Opens on; and all that came since.
-func (j *Journal) Records(pool Digest, use func(Record) error) error {
+func (j *Files) Records(pool Digest, use func(Record) error) error {
 	base, err := j.baseOf(pool)
 	if err != nil {
 		return err
@@ -47,7 +47,7 @@ func openOnly(numbers []uint64, use func(Record) error) func(Record) error {
 	}
 }
 
-func (j *Journal) recordsOf(at int, use func(Record) error) error {
+func (j *Files) recordsOf(at int, use func(Record) error) error {
 	isLast := at == len(j.segments)-1
 	place := path(j.folder, j.segments[at].number)
 	file, err := os.Open(place)

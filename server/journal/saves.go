@@ -10,7 +10,7 @@ import (
 // Begin begins a segment for the steps that come after a pool file, which may become the pool file now. `open` has the numbers of the
 // Opens of the streams that are open, in rising order: the pool file has what their tenants had at them. The segment is on the disk when
 // Begin returns nil; else the journal goes on in the segment that it had.
-func (j *Journal) Begin(pool Digest, open []uint64) error {
+func (j *Files) Begin(pool Digest, open []uint64) error {
 	j.mutex.Lock()
 	defer j.mutex.Unlock()
 	if j.broken == nil {
@@ -37,7 +37,7 @@ func (j *Journal) Begin(pool Digest, open []uint64) error {
 }
 
 // Drop removes the segments that are not needed any more: the pool file that the last one names is in its place and synced.
-func (j *Journal) Drop() error {
+func (j *Files) Drop() error {
 	j.mutex.Lock()
 	defer j.mutex.Unlock()
 	j.base = len(j.segments) - 1
@@ -45,7 +45,7 @@ func (j *Journal) Drop() error {
 }
 
 // dropUnneeded removes the segments before the base that have no step of a stream which was open at its save.
-func (j *Journal) dropUnneeded() error {
+func (j *Files) dropUnneeded() error {
 	for from := j.neededFrom(); from > 0; from-- {
 		faultpoint.Here("before a segment is removed")
 		if err := os.Remove(path(j.folder, j.segments[0].number)); err != nil && !errors.Is(err, os.ErrNotExist) {
@@ -59,21 +59,12 @@ func (j *Journal) dropUnneeded() error {
 }
 
 // neededFrom is the place of the first segment that is carried out.
-func (j *Journal) neededFrom() int {
-	base := j.segments[j.base]
-	from := j.base
-	for len(base.open) > 0 && from > 0 && j.segments[from].first > base.open[0] {
-		from--
-	}
-	return from
-}
+func (j *Files) neededFrom() int { return neededFrom(j.segments, j.base) }
 
 // baseOf gives the place of the last segment that goes on from a pool file.
-func (j *Journal) baseOf(pool Digest) (int, error) {
-	for at := len(j.segments) - 1; at >= 0; at-- {
-		if j.segments[at].pool == pool {
-			return at, nil
-		}
+func (j *Files) baseOf(pool Digest) (int, error) {
+	if at, found := baseOf(j.segments, pool); found {
+		return at, nil
 	}
 	return 0, lostPool(j.folder, pool)
 }

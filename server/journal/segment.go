@@ -124,12 +124,12 @@ func lostPool(folder string, pool Digest) error {
 
 // Open reads a journal through, for a pool file with this digest. Where it ends in a record that a crash has cut off, that is cut and
 // told: nobody was told of it. Anything else that is not as it was written is Damaged. A folder without segments begins one.
-func Open(folder string, pool Digest, tell func(format string, values ...any)) (*Journal, error) {
+func Open(folder string, pool Digest, tell func(format string, values ...any)) (*Files, error) {
 	numbers, err := list(folder)
 	if err != nil {
 		return nil, err
 	}
-	j := &Journal{folder: folder, tell: tell}
+	j := &Files{folder: folder, tell: tell}
 	j.changed = sync.NewCond(&j.mutex)
 	if len(numbers) == 0 {
 		return j, j.start(pool)
@@ -147,7 +147,7 @@ func Open(folder string, pool Digest, tell func(format string, values ...any)) (
 	return j, j.goOn()
 }
 
-func (j *Journal) start(pool Digest) (err error) {
+func (j *Files) start(pool Digest) (err error) {
 	first := segment{number: 1, pool: pool}
 	j.file, err = first.create(j.folder, mark{})
 	j.segments, j.appended, j.synced = []segment{first}, first.end, first.end
@@ -155,7 +155,7 @@ func (j *Journal) start(pool Digest) (err error) {
 }
 
 // goOn takes the journal up behind its last record, and removes the segments that are not needed.
-func (j *Journal) goOn() (err error) {
+func (j *Files) goOn() (err error) {
 	tail := j.current()
 	j.file, err = os.OpenFile(path(j.folder, tail.number), os.O_RDWR, 0)
 	if err != nil {
@@ -263,17 +263,42 @@ func readFirst(from *bufio.Reader, place string, it segment) (segment, error) {
 	if _, err := io.ReadFull(from, record[headBytes:]); err != nil {
 		return it, bad
 	}
-	end := len(record) - chainBytes
-	step, whole := frames.Parse(record[headBytes:end])
-	if !whole || step.Kind != saved || !it.readBody(step.Body) {
-		return it, bad
-	}
-	it.first, it.start = h.number, int64(len(title))+h.recordBytes()
-	it.end = mark{it.start, h.number, next(it.before, record[:end])}
-	if string(record[end:]) != string(it.end.chain[:]) {
+	if !it.takeFirst(record, int64(len(title))) {
 		return it, bad
 	}
 	return it, nil
+}
+
+// takeFirst takes the record of a segment that stands first, behind so many bytes, and tells whether it is one.
+func (it *segment) takeFirst(record []byte, behind int64) bool {
+	end := len(record) - chainBytes
+	h := readHead(record)
+	step, whole := frames.Parse(record[headBytes:end])
+	if !whole || step.Kind != saved || !it.readBody(step.Body) {
+		return false
+	}
+	it.first, it.start = h.number, behind+h.recordBytes()
+	it.end = mark{it.start, h.number, next(it.before, record[:end])}
+	return string(record[end:]) == string(it.end.chain[:])
+}
+
+// neededFrom is the place of the first segment that is carried out where the pool file is that of the segment `base`.
+func neededFrom(all []segment, base int) int {
+	from, open := base, all[base].open
+	for len(open) > 0 && from > 0 && all[from].first > open[0] {
+		from--
+	}
+	return from
+}
+
+// baseOf gives the place of the last segment that goes on from a pool file.
+func baseOf(all []segment, pool Digest) (at int, found bool) {
+	for at := len(all) - 1; at >= 0; at-- {
+		if all[at].pool == pool {
+			return at, true
+		}
+	}
+	return 0, false
 }
 
 // isTorn tells whether what is behind a mark is what a crash leaves of a record: its beginning, or its beginning and zeros, to the end

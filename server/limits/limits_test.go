@@ -6,6 +6,8 @@ import (
 	"net"
 	"os"
 	"path/filepath"
+	"strings"
+	"sync"
 	"testing"
 	"time"
 
@@ -114,7 +116,7 @@ func dialed(t *testing.T, address string) net.Conn {
 
 // isClosed tells whether the peer has closed a connection.
 func isClosed(conn net.Conn) bool {
-	conn.SetReadDeadline(time.Now().Add(time.Second))
+	conn.SetReadDeadline(time.Now().Add(20 * time.Second))
 	_, err := conn.Read(make([]byte, 1))
 	return err != nil && !errors.Is(err, os.ErrDeadlineExceeded)
 }
@@ -172,7 +174,7 @@ func TestASilentPeerIsLeft(t *testing.T) {
 		t.Fatal(err)
 	}
 	began := time.Now()
-	if _, err := conn.Write(make([]byte, 64<<20)); !errors.Is(err, os.ErrDeadlineExceeded) || time.Since(began) > 5*time.Second {
+	if _, err := conn.Write(make([]byte, 64<<20)); !errors.Is(err, os.ErrDeadlineExceeded) || time.Since(began) > 20*time.Second {
 		t.Fatal("a peer that takes nothing:", err, time.Since(began))
 	}
 }
@@ -204,10 +206,10 @@ func TestAPeerThatTakesSlowlyIsServed(t *testing.T) {
 
 func TestABodyThatStopsIsLeft(t *testing.T) {
 	l, _ := loaded(t, "idle 30ms\n")
-	from, to := io.Pipe()
-	go to.Write([]byte("a"))
+	from, _ := io.Pipe()
 	stopped := make(chan struct{})
-	body := l.Watched(from, func() { close(stopped); from.Close() })
+	var once sync.Once
+	body := l.Watched(io.MultiReader(strings.NewReader("a"), from), func() { once.Do(func() { close(stopped); from.Close() }) })
 	if count, err := body.Read(make([]byte, 9)); count != 1 || err != nil {
 		t.Fatal(err)
 	}

@@ -70,10 +70,11 @@ func (s sample) judge() (kept, suspect error) {
 		}
 		return nil, objects.FsckTag(o.Name, tag, o.Contents)
 	case "tree":
-		if err := objects.CheckTree(o.Name, o.Contents); err != nil {
+		facts, err := objects.ExamineTree(o.Name, o.Contents, func(tenants.Name, objects.Special) {})
+		if err != nil {
 			return err, nil
 		}
-		return nil, objects.FsckTree(o.Name, o.Contents, func(tenants.Name, objects.Special) {})
+		return nil, facts.Suspect
 	case "modules":
 		return nil, objects.FsckSpecial(o, objects.Modules)
 	case "attributes":

@@ -66,22 +66,7 @@ const (
 	Attributes
 )
 
-// FsckTree gives a *Refusal where git's fsck finds a fault in a tree that a tenant could keep. It calls found with the name of
-// each blob that git reads by itself, .gitmodules or .gitattributes in any disguise.
-func FsckTree(name tenants.Name, contents []byte, found func(tenants.Name, Special)) error {
-	for rest := contents; len(rest) > 0; {
-		entry, after, ok := NextEntry(rest)
-		if !ok {
-			break
-		}
-		if err := fsckEntry(name, entry, found); err != nil {
-			return err
-		}
-		rest = after
-	}
-	return nil
-}
-
+// fsckEntry gives a *Refusal where git's fsck finds a fault in an entry that a tenant could keep.
 func fsckEntry(name tenants.Name, entry Entry, found func(tenants.Name, Special)) error {
 	if entry.Name.IsZero() {
 		return suspect("tree", name, "has an entry `%s` that names no object", shown(entry.Path))

@@ -3,8 +3,8 @@ package objects
 import (
 	"bytes"
 	"fmt"
-	"math/big"
 	"regexp"
+	"strconv"
 	"strings"
 
 	"gitpoold/tenants"
@@ -75,8 +75,6 @@ func headers(contents []byte) (lines []header, message []byte, whole bool) {
 	}
 }
 
-var identForm = regexp.MustCompile(`(?s)\A(?:[^<>\n]* )?<[^<>\n]*> ([0-9]{1,20}) [+-][0-9]{4}\z`)
-
 func checkIdent(kind string, name tenants.Name, h header) error {
 	if !isIdent(h.value) {
 		return refuse("%s %s has a malformed %s line, which gitpool does not keep: %s", kind, short(name), h.word, shown(h.value))
@@ -87,13 +85,28 @@ func checkIdent(kind string, name tenants.Name, h header) error {
 	return nil
 }
 
+// isIdent tells whether bytes are a name, a space, an address between < and >, a space, seconds below 2^64, a space, and a time zone.
 func isIdent(ident []byte) bool {
-	found := identForm.FindSubmatch(latin(ident))
-	if found == nil || ident[0] == '<' {
+	name, rest, hasAddress := bytes.Cut(ident, []byte(" <"))
+	address, date, hasDate := bytes.Cut(rest, []byte("> "))
+	if !hasAddress || !hasDate || bytes.ContainsAny(name, "<>\n") || bytes.ContainsAny(address, "<>\n") {
 		return false
 	}
-	seconds, ok := new(big.Int).SetString(string(found[1]), 10)
-	return ok && seconds.BitLen() <= 64
+	seconds, zone, _ := bytes.Cut(date, []byte(" "))
+	if len(zone) != 5 || zone[0] != '+' && zone[0] != '-' || !isDigits(zone[1:]) || len(seconds) > 20 || !isDigits(seconds) {
+		return false
+	}
+	_, err := strconv.ParseUint(string(seconds), 10, 64)
+	return err == nil
+}
+
+func isDigits(text []byte) bool {
+	for _, b := range text {
+		if b < '0' || b > '9' {
+			return false
+		}
+	}
+	return len(text) > 0
 }
 
 // latin puts a letter in the place of each byte that is no ASCII, so that an expression reads bytes and not runes.
@@ -250,24 +263,40 @@ func (t *Tag) check(name tenants.Name, lines []header) error {
 	return checkMessage("tag", name, t.Message)
 }
 
-// CheckTree gives a *Refusal where a tenant cannot keep a tree as it is: where it is not the one tree of its files.
-func CheckTree(name tenants.Name, contents []byte) error {
+// TreeFacts is what a look at each entry of a tree finds: how many there are, whether a directory is among them, and the *Refusal of what
+// git's fsck finds in a tree that a tenant could keep.
+type TreeFacts struct {
+	Entries  int
+	HasTrees bool
+	Suspect  error
+}
+
+// ExamineTree looks at each entry of a tree. The error is a *Refusal where a tenant cannot keep the tree as it is: where it is not the one
+// tree of its files. It calls found with the name of each blob that git reads by itself, .gitmodules or .gitattributes in any disguise.
+func ExamineTree(name tenants.Name, contents []byte, found func(tenants.Name, Special)) (facts TreeFacts, err error) {
 	var before Entry
 	files := map[string]bool{}
-	for rest := contents; len(rest) > 0; {
-		entry, after, ok := NextEntry(rest)
+	entry, rest, ok := NextEntry(contents)
+	for len(contents) > 0 {
 		if !ok || len(entry.Path) == 0 || len(entry.Mode) == 0 {
-			return refuse("tree %s is malformed, which gitpool does not keep", short(name))
+			return facts, refuse("tree %s is malformed, which gitpool does not keep", short(name))
 		}
+		next, after, hasNext := NextEntry(rest)
 		if err := checkEntry(name, before, entry); err != nil {
-			return err
+			return facts, err
 		}
-		if err := checkTwice(name, entry, files, after); err != nil {
-			return err
+		if err := checkTwice(name, entry, files, next, hasNext); err != nil {
+			return facts, err
 		}
-		before, rest = entry, after
+		if facts.Suspect == nil {
+			facts.Suspect = fsckEntry(name, entry, found)
+		}
+		facts.Entries++
+		facts.HasTrees = facts.HasTrees || entry.IsTree()
+		before, entry, ok = entry, next, hasNext
+		contents, rest = rest, after
 	}
-	return nil
+	return facts, nil
 }
 
 func checkEntry(name tenants.Name, before, entry Entry) error {
@@ -286,11 +315,11 @@ func checkEntry(name tenants.Name, before, entry Entry) error {
 }
 
 // checkTwice refuses a directory that has the name of a file. The file need not stand beside it: what is between begins with its name.
-func checkTwice(name tenants.Name, entry Entry, files map[string]bool, after []byte) error {
+func checkTwice(name tenants.Name, entry Entry, files map[string]bool, next Entry, hasNext bool) error {
 	if entry.IsTree() && files[string(entry.Path)] {
 		return refuse("tree %s has two entries of one name, which gitpool does not keep", short(name))
 	}
-	if next, _, ok := NextEntry(after); ok && bytes.HasPrefix(next.Path, entry.Path) && !entry.IsTree() {
+	if hasNext && bytes.HasPrefix(next.Path, entry.Path) && !entry.IsTree() {
 		files[string(entry.Path)] = true
 	}
 	return nil

@@ -14,6 +14,7 @@ import (
 	"sync"
 	"time"
 
+	"gitpoold/journal"
 	"gitpoold/site"
 	"gitpoold/store"
 	"gitpoold/tenants"
@@ -204,6 +205,11 @@ func (d *Door) status(context.Context, []string) (string, error) {
 	line("journal-segments", fmt.Sprintf("%d to %d", state.FirstSegment, state.LastSegment))
 	line("journal-records", state.Records)
 	line("journal-broken", state.JournalBroken)
+	if log := state.Log; log != nil {
+		line("log-answering", log.IsAnswering)
+		line("log-appends", log.Appends)
+		line("log-waiting", log.WaitingBytes)
+	}
 	line("saves", state.Saves)
 	line("failed-saves", state.FailedSaves)
 	line("last-save", when(state.LastSave))
@@ -246,6 +252,9 @@ func (d *Door) Measure() {
 		number(func(s store.State) int64 { return s.Recoveries }))
 	m.Gauge("gitpoold_journal_bytes", "The size of the journal.", number(func(s store.State) int64 { return s.JournalBytes }))
 	m.Gauge("gitpoold_journal_broken", "1 while the journal takes no pushes.", number(func(s store.State) int64 { return one(s.JournalBroken) }))
+	if d.store.State().Log != nil {
+		d.measureLog()
+	}
 	m.Gauge("gitpoold_answering", "1 while questions are answered, 0 while the child is replaced or saves.",
 		number(func(s store.State) int64 { return one(s.IsAnswering) }))
 	m.Gauge("gitpoold_open_streams", "Streams that are open.", number(func(s store.State) int64 { return int64(s.Streams) }))
@@ -253,6 +262,24 @@ func (d *Door) Measure() {
 	m.Gauge("gitpoold_child_resident_bytes", "The memory of the child.",
 		number(func(s store.State) int64 { return residentBytes(s.ChildPid) }))
 	m.Gauge("gitpoold_server_resident_bytes", "The memory of the server.", func() float64 { return float64(residentBytes(os.Getpid())) })
+}
+
+// measureLog lets metrics tell how a journal in Redis stands.
+func (d *Door) measureLog() {
+	number := func(read func(journal.RedisCounts) float64) func() float64 {
+		return func() float64 { return read(*d.store.State().Log) }
+	}
+	m := d.site.Metrics
+	m.Gauge("gitpoold_log_answering", "1 while the Redis of the journal takes records.",
+		number(func(c journal.RedisCounts) float64 { return float64(one(c.IsAnswering)) }))
+	m.Gauge("gitpoold_log_waiting_bytes", "Bytes of records that Redis has not yet been sent.",
+		number(func(c journal.RedisCounts) float64 { return float64(c.WaitingBytes) }))
+	m.Counter("gitpoold_log_appends_total", "Times that records were appended to the journal in Redis, some together.",
+		number(func(c journal.RedisCounts) float64 { return float64(c.Appends) }))
+	m.Counter("gitpoold_log_append_seconds_total", "Seconds that these appends took.",
+		number(func(c journal.RedisCounts) float64 { return c.Seconds }))
+	m.Counter("gitpoold_log_connections_total", "Connections to the Redis of the journal.",
+		number(func(c journal.RedisCounts) float64 { return float64(c.Connections) }))
 }
 
 func one(is bool) int64 {

@@ -180,13 +180,22 @@ func compare(t *testing.T, seed int64, all []frames.Step, got, want []byte) (fou
 	return found
 }
 
-func ask(t testing.TB, conn net.Conn, step frames.Step) frames.Answer {
+// ask sends steps together, so that no time passes between them.
+func ask(t testing.TB, conn net.Conn, steps ...frames.Step) (answers []frames.Answer) {
 	t.Helper()
-	_, err := conn.Write(step.AppendTo(nil))
+	var text []byte
+	for _, step := range steps {
+		text = step.AppendTo(text)
+	}
+	_, err := conn.Write(text)
 	must(t, err)
-	answer, err := frames.ReadAnswer(bufio.NewReaderSize(conn, 16))
-	must(t, err)
-	return answer
+	in := bufio.NewReader(conn)
+	for range steps {
+		answer, err := frames.ReadAnswer(in)
+		must(t, err)
+		answers = append(answers, answer)
+	}
+	return answers
 }
 
 func TestWrongFramesCloseTheConnection(t *testing.T) {
@@ -199,7 +208,7 @@ func TestWrongFramesCloseTheConnection(t *testing.T) {
 			t.Errorf("%q: %q %v", text, got, err)
 		}
 	}
-	if answer := ask(t, dialed(t, folder), frames.Step{Kind: frames.Ask, Tenant: "a", Body: []byte("head")}); answer.Status != frames.Ok {
+	if answer := ask(t, dialed(t, folder), frames.Step{Kind: frames.Ask, Tenant: "a", Body: []byte("head")}); answer[0].Status != frames.Ok {
 		t.Fatal(answer)
 	}
 }
@@ -209,17 +218,14 @@ func TestALostConnectionGivesItsStreamUp(t *testing.T) {
 	folder := served(t, "frame-idle 200ms\n")
 	for _, silent := range []bool{false, true} {
 		conn := dialed(t, folder)
-		ask(t, conn, frames.Step{Kind: frames.Open, Tenant: "a"})
-		ask(t, conn, frames.Step{Kind: frames.Feed, Tenant: "a", Body: []byte("reset refs/heads/main\n")})
+		ask(t, conn, frames.Step{Kind: frames.Open, Tenant: "a"},
+			frames.Step{Kind: frames.Feed, Tenant: "a", Body: []byte("reset refs/heads/main\n")})
 		if !silent {
 			conn.Close()
 		}
-		other := dialed(t, folder)
-		if answer := ask(t, other, frames.Step{Kind: frames.Open, Tenant: "a"}); answer.Status != frames.Ok {
-			t.Fatal(silent, answer)
-		}
-		if answer := ask(t, other, frames.Step{Kind: frames.End, Tenant: "a"}); answer.Status != frames.Ok {
-			t.Fatal(silent, answer)
+		answers := ask(t, dialed(t, folder), frames.Step{Kind: frames.Open, Tenant: "a"}, frames.Step{Kind: frames.End, Tenant: "a"})
+		if answers[0].Status != frames.Ok || answers[1].Status != frames.Ok {
+			t.Fatal(silent, answers)
 		}
 	}
 }
@@ -227,9 +233,9 @@ func TestALostConnectionGivesItsStreamUp(t *testing.T) {
 func TestCommands(t *testing.T) {
 	folder := served(t, "quota acme/site 5M\n")
 	conn := dialed(t, folder)
-	ask(t, conn, frames.Step{Kind: frames.Open, Tenant: "acme/site"})
-	ask(t, conn, frames.Step{Kind: frames.Feed, Tenant: "acme/site", Body: []byte("commit refs/heads/main\ncommitter a <a@b> 1 +0000\ndata 1\nx\n")})
-	ask(t, conn, frames.Step{Kind: frames.End, Tenant: "acme/site"})
+	ask(t, conn, frames.Step{Kind: frames.Open, Tenant: "acme/site"},
+		frames.Step{Kind: frames.Feed, Tenant: "acme/site", Body: []byte("commit refs/heads/main\ncommitter a <a@b> 1 +0000\ndata 1\nx\n")},
+		frames.Step{Kind: frames.End, Tenant: "acme/site"})
 	call := func(words ...string) string {
 		text, err := Call(folder+"/socket", words...)
 		if err != nil {

@@ -43,6 +43,15 @@ func read(t testing.TB, pack []byte, base Base, limits Limits) (*Quarantine, err
 	return q, q.Read(context.Background(), bytes.NewReader(pack))
 }
 
+// namesOf gives the names of a kind of objects.
+func namesOf(q *Quarantine, kind tenants.Kind) (names []tenants.Name) {
+	_ = q.Each(kind, func(at int) error {
+		names = append(names, q.NameAt(at))
+		return nil
+	})
+	return names
+}
+
 // gitPack has a few versions of files, with deltas that git made; names are those of its objects.
 func gitPack(t testing.TB, words ...string) (pack []byte, names []string) {
 	room := t.TempDir()
@@ -72,7 +81,7 @@ func TestPacksOfGitAreRead(t *testing.T) {
 				t.Fatalf("%s: %v", text, err)
 			}
 		}
-		if count := len(q.Names(tenants.Commit)); count != 6 {
+		if count := len(namesOf(q, tenants.Commit)); count != 6 {
 			t.Fatalf("%d commits", count)
 		}
 	}
@@ -95,7 +104,11 @@ func TestCutAndChangedPacksAreRefused(t *testing.T) {
 	}
 }
 
-var deflater = zlib.NewWriter(nil)
+// The writer of small contents begins anew without much work, and that of large ones goes through zeros fast.
+var (
+	deflater, _ = zlib.NewWriterLevel(nil, zlib.BestSpeed)
+	quick, _    = zlib.NewWriterLevel(nil, zlib.HuffmanOnly)
+)
 
 // maker makes packs of any entries, with the right digest.
 type maker struct{ bytes.Buffer }
@@ -116,9 +129,13 @@ func (m *maker) entry(kind byte, says int, base, contents []byte) *maker {
 	}
 	m.WriteByte(first)
 	m.Write(base)
-	deflater.Reset(m)
-	_, _ = deflater.Write(contents)
-	_ = deflater.Close()
+	to := deflater
+	if len(contents) < 100 {
+		to = quick
+	}
+	to.Reset(m)
+	_, _ = to.Write(contents)
+	_ = to.Close()
 	return m
 }
 
@@ -282,7 +299,7 @@ func FuzzRead(f *testing.F) {
 			return
 		}
 		for kind := tenants.Commit; kind <= tenants.Tag; kind++ {
-			for _, name := range q.Names(kind) {
+			for _, name := range namesOf(q, kind) {
 				if o, err := q.Object(context.Background(), name); err != nil || NameOf(o.Kind, o.Contents) != name {
 					t.Fatalf("%v: %v", name, err)
 				}

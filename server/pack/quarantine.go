@@ -1,12 +1,11 @@
 package pack
 
 import (
-	"bufio"
 	"context"
 	"crypto/sha1"
-	"fmt"
+	"hash"
 	"io"
-	"os"
+	"strconv"
 
 	"gitpoold/tenants"
 )
@@ -21,113 +20,114 @@ type Base interface {
 type Quarantine struct {
 	base    Base
 	limits  Limits
-	file    *os.File
-	out     *bufio.Writer
-	flushed int64
-	end     int64
+	spool   *spool
 	own     map[tenants.Name]int32
 	entries []entry
+	namer   namer
 }
 
 // entry is an object of the pack, or a delta that waits for its base.
 type entry struct {
 	name  tenants.Name
 	kind  byte
+	isOwn bool // whether it is the first one of its object, and the object is the pack's
 	depth int32
 	size  int64
 	at    int64
 	start int64
 }
 
-const spoolBlock = 1 << 18
-
 // NewQuarantine makes an empty one in a folder for temporary files. Close gives its disk space back.
 func NewQuarantine(folder string, base Base, limits Limits) (*Quarantine, error) {
-	file, err := os.CreateTemp(folder, "gitpoold-push-")
+	spool, err := newSpool(folder)
 	if err != nil {
 		return nil, err
 	}
-	if err := os.Remove(file.Name()); err != nil {
-		file.Close()
-		return nil, err
-	}
-	return &Quarantine{base: base, limits: limits, file: file, out: bufio.NewWriterSize(file, spoolBlock),
-		own: map[tenants.Name]int32{}}, nil
+	return &Quarantine{base: base, limits: limits, spool: spool, own: map[tenants.Name]int32{}, namer: newNamer()}, nil
 }
 
 // Close drops the objects.
-func (q *Quarantine) Close() error { return q.file.Close() }
+func (q *Quarantine) Close() error { return q.spool.file.Close() }
 
-// Names gives the names of the objects of a kind, in the order of the pack.
-func (q *Quarantine) Names(kind tenants.Kind) (names []tenants.Name) {
-	for at := range q.entries {
-		if it := &q.entries[at]; it.kind == byte(kind) && q.isFirst(it.name, at) {
-			names = append(names, it.name)
-		}
-	}
-	return names
+// Len is how many entries the pack has.
+func (q *Quarantine) Len() int { return len(q.entries) }
+
+// Find gives the place of an object of the pack among its entries.
+func (q *Quarantine) Find(name tenants.Name) (at int, isOwn bool) {
+	found, isOwn := q.own[name]
+	return int(found), isOwn
 }
 
-func (q *Quarantine) isFirst(name tenants.Name, at int) bool {
-	first, is := q.own[name]
-	return is && int(first) == at
+// KindAt gives the kind of the object at a place.
+func (q *Quarantine) KindAt(at int) tenants.Kind { return tenants.Kind(q.entries[at].kind) }
+
+// ContentsAt gives the contents of the object at a place. Who keeps them for long keeps a copy.
+func (q *Quarantine) ContentsAt(at int) ([]byte, error) { return q.contents(at) }
+
+// Each calls use with the place of each object of a kind, in the order of the pack, until it gives an error.
+func (q *Quarantine) Each(kind tenants.Kind, use func(at int) error) error {
+	for at := range q.entries {
+		if it := &q.entries[at]; it.isOwn && it.kind == byte(kind) {
+			if err := use(at); err != nil {
+				return err
+			}
+		}
+	}
+	return nil
 }
 
 // Kind tells whether the pack has an object, and of which kind.
 func (q *Quarantine) Kind(name tenants.Name) (tenants.Kind, bool) {
-	at, is := q.own[name]
+	at, is := q.Find(name)
 	if !is {
 		return 0, false
 	}
-	return tenants.Kind(q.entries[at].kind), true
+	return q.KindAt(at), true
 }
 
-// Size gives the bytes of an object of the pack.
-func (q *Quarantine) Size(name tenants.Name) int64 { return q.entries[q.own[name]].size }
+// NameAt gives the name of the object at a place.
+func (q *Quarantine) NameAt(at int) tenants.Name { return q.entries[at].name }
 
-// Object gives an object of the pack, or else of the tenant.
+// SizeAt gives how many bytes the object at a place has.
+func (q *Quarantine) SizeAt(at int) int64 { return q.entries[at].size }
+
+// ObjectAt gives the object at a place, as Object does.
+func (q *Quarantine) ObjectAt(at int) (tenants.Object, error) {
+	contents, err := q.contents(at)
+	return tenants.Object{Name: q.NameAt(at), Kind: q.KindAt(at), Contents: contents}, err
+}
+
+// Object gives an object of the pack, or else of the tenant. Who keeps its contents for long keeps a copy.
 func (q *Quarantine) Object(ctx context.Context, name tenants.Name) (tenants.Object, error) {
-	at, is := q.own[name]
-	if !is {
-		return q.base.Object(ctx, name)
+	if at, is := q.Find(name); is {
+		return q.ObjectAt(at)
 	}
-	contents, err := q.contents(int(at))
-	return tenants.Object{Name: name, Kind: tenants.Kind(q.entries[at].kind), Contents: contents}, err
+	return q.base.Object(ctx, name)
 }
 
 // contents gives the bytes of an entry: an object, or the instructions of a delta that waits.
 func (q *Quarantine) contents(at int) ([]byte, error) {
-	it := &q.entries[at]
-	if it.at+it.size > q.flushed {
-		if err := q.out.Flush(); err != nil {
-			return nil, err
-		}
-		q.flushed = q.end
-	}
-	contents := make([]byte, it.size)
-	_, err := q.file.ReadAt(contents, it.at)
-	return contents, err
+	return q.spool.read(q.entries[at].at, q.entries[at].size)
 }
 
 // put stores bytes as the next ones of the file.
 func (q *Quarantine) put(data []byte) (at int64, err error) {
-	at = q.end
+	at = q.spool.end
 	if at+int64(len(data)) > q.limits.Bytes {
 		return 0, tooMuch("what a push has inflated", q.limits.Bytes)
 	}
-	_, err = q.out.Write(data)
-	q.end += int64(len(data))
-	return at, err
+	return at, q.spool.append(data)
 }
 
 // keep stores an object of the pack. One that is there already is not stored again.
 func (q *Quarantine) keep(it entry, contents []byte) (err error) {
-	it.name, it.size = NameOf(tenants.Kind(it.kind), contents), int64(len(contents))
+	it.name, it.size = q.namer.name(tenants.Kind(it.kind), contents), int64(len(contents))
 	if was, is := q.own[it.name]; is {
 		it.at = q.entries[was].at
 	} else if it.at, err = q.put(contents); err != nil {
 		return err
 	} else {
+		it.isOwn = true
 		q.own[it.name] = int32(len(q.entries))
 	}
 	q.entries = append(q.entries, it)
@@ -135,11 +135,27 @@ func (q *Quarantine) keep(it entry, contents []byte) (err error) {
 }
 
 // NameOf gives the name of an object.
-func NameOf(kind tenants.Kind, contents []byte) (name tenants.Name) {
-	digest := sha1.New()
-	fmt.Fprintf(digest, "%s %d\x00", kind, len(contents))
-	digest.Write(contents)
-	digest.Sum(name[:0])
+func NameOf(kind tenants.Kind, contents []byte) tenants.Name {
+	n := newNamer()
+	return n.name(kind, contents)
+}
+
+// namer gives the names of many objects.
+type namer struct {
+	digest hash.Hash
+	text   []byte
+}
+
+func newNamer() namer { return namer{digest: sha1.New()} }
+
+func (n *namer) name(kind tenants.Kind, contents []byte) (name tenants.Name) {
+	n.text = append(append(n.text[:0], kind.String()...), ' ')
+	n.text = append(strconv.AppendInt(n.text, int64(len(contents)), 10), 0)
+	n.digest.Reset()
+	n.digest.Write(n.text)
+	n.digest.Write(contents)
+	n.text = n.digest.Sum(n.text[:0])
+	copy(name[:], n.text)
 	return name
 }
 

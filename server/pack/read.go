@@ -2,12 +2,13 @@ package pack
 
 import (
 	"bytes"
-	"compress/zlib"
 	"context"
 	"encoding/binary"
 	"errors"
 	"io"
 	"sort"
+
+	"github.com/klauspost/compress/zlib"
 
 	"gitpoold/tenants"
 )
@@ -121,6 +122,9 @@ func (r *reading) entryHead(it *entry) (size int64, err error) {
 	return size, nil
 }
 
+// mostKept is how much memory stays for the next entry.
+const mostKept = 1 << 18
+
 // inflate reads so many bytes and the end of their stream. What is not there is not allocated. The bytes last until the next call.
 func (r *reading) inflate(size int64) (data []byte, err error) {
 	if r.inflater == nil {
@@ -131,7 +135,7 @@ func (r *reading) inflate(size int64) (data []byte, err error) {
 	if err != nil {
 		return nil, r.inflating()
 	}
-	if r.data.Reset(); r.data.Cap() > spoolBlock {
+	if r.data.Reset(); r.data.Cap() > mostKept {
 		r.data = bytes.Buffer{}
 	}
 	n, err := io.Copy(&r.data, io.LimitReader(r.inflater, size+1))
@@ -359,12 +363,13 @@ func (r *reading) resolveOne(base, child int) error {
 	}
 	it := &r.entries[child]
 	it.kind, it.depth, it.size = r.entries[base].kind, depth, int64(len(contents))
-	it.name = NameOf(tenants.Kind(it.kind), contents)
+	it.name = r.namer.name(tenants.Kind(it.kind), contents)
 	r.waiting--
 	if was, is := r.own[it.name]; is {
 		it.at = r.entries[was].at
 		return nil
 	}
+	it.isOwn = true
 	r.own[it.name] = int32(child)
 	it.at, err = r.put(contents)
 	return err

@@ -72,11 +72,12 @@ func (f *feeding) add(before, after, under []byte) error {
 
 // addTree tells what a directory has. One that the pack has not is the tenant's, and is told by its name.
 func (f *feeding) addTree(old, new *objects.Entry, path []byte) error {
-	if kind, isOwn := f.own.Kind(new.Name); !isOwn {
+	at, isOwn := f.own.Find(new.Name)
+	if !isOwn {
 		f.note(new.Name, "the path "+shown(path)+" has the tree")
 		f.put("M 040000 ", new.Name.String(), " ", objects.Quote(path), "\n")
 		return nil
-	} else if kind != tenants.Tree {
+	} else if kind := f.own.KindAt(at); kind != tenants.Tree {
 		return refusal("the path " + shown(path) + " is a directory, and its object is a " + kind.String())
 	}
 	base := objects.EmptyTree
@@ -87,24 +88,24 @@ func (f *feeding) addTree(old, new *objects.Entry, path []byte) error {
 }
 
 func (f *feeding) addFile(new *objects.Entry, path []byte) error {
-	kind, isOwn := f.own.Kind(new.Name)
-	if isOwn && kind != tenants.Blob && !new.IsGitlink() {
-		return refusal("the path " + shown(path) + " is a file, and its object is a " + kind.String())
+	at, isOwn := f.own.Find(new.Name)
+	if isOwn && f.own.KindAt(at) != tenants.Blob && !new.IsGitlink() {
+		return refusal("the path " + shown(path) + " is a file, and its object is a " + f.own.KindAt(at).String())
 	}
 	if !isOwn && !new.IsGitlink() {
 		f.note(new.Name, "the path "+shown(path)+" has the blob")
 	}
-	if !isOwn || new.IsGitlink() || f.blobs[new.Name] {
+	if !isOwn || new.IsGitlink() || f.told[at] {
 		f.put("M ", string(new.Mode), " ", new.Name.String(), " ", objects.Quote(path), "\n")
 		return nil
 	}
-	f.blobs[new.Name] = true
-	o, err := f.own.Object(f.ctx, new.Name)
+	f.told[at] = true
+	contents, err := f.own.ContentsAt(at)
 	if err != nil {
 		return err
 	}
 	f.put("M ", string(new.Mode), " inline ", objects.Quote(path), "\n")
-	f.data(o.Contents)
+	f.data(contents)
 	return nil
 }
 
@@ -165,13 +166,18 @@ func orderOf(old, new objects.Entry, hasOld, hasNew bool) int {
 	return objects.CompareKeys(old, new)
 }
 
-// treeCache has the trees that were read last: the tree of one commit is the base of the next.
+// treeCache has trees that were read last and would take a while to be read again: the tree of one commit is the base of the next.
 type treeCache struct {
 	young, old map[tenants.Name][]byte
 	size       int
 }
 
-const mostCached = 8 << 20
+const (
+	mostCached = 8 << 20
+	// cachedFrom is the size of trees of the pack from which on they are cached. Smaller ones are read from the pack's spool, which has
+	// what was read last in memory.
+	cachedFrom = 1 << 14
+)
 
 func (c *treeCache) get(name tenants.Name) ([]byte, bool) {
 	if contents, is := c.young[name]; is {
@@ -192,6 +198,10 @@ func (c *treeCache) put(name tenants.Name, contents []byte) {
 func (f *feeding) tree(name tenants.Name, path []byte) ([]byte, error) {
 	if name == objects.EmptyTree {
 		return nil, nil
+	}
+	at, isOwn := f.own.Find(name)
+	if isOwn && f.own.KindAt(at) == tenants.Tree && f.own.SizeAt(at) < cachedFrom {
+		return f.own.ContentsAt(at)
 	}
 	if contents, is := f.trees.get(name); is {
 		return contents, nil

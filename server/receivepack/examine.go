@@ -26,30 +26,31 @@ func (p *push) examine(ctx context.Context) error {
 	return p.examineRefs(ctx)
 }
 
-func (p *push) each(ctx context.Context, kind tenants.Kind, use func(tenants.Object) error) error {
-	for _, name := range p.own.Names(kind) {
-		o, err := p.own.Object(ctx, name)
+func (p *push) each(ctx context.Context, kind tenants.Kind, use func(at int, o tenants.Object) error) error {
+	err := p.own.Each(kind, func(at int) error {
+		o, err := p.own.ObjectAt(at)
 		if err == nil {
-			err = use(o)
+			err = use(at, o)
 		}
-		if err != nil {
-			return err
-		}
+		return err
+	})
+	if err != nil {
+		return err
 	}
 	return ctx.Err()
 }
 
 func (p *push) examineBlobs(context.Context) error {
-	for _, name := range p.own.Names(tenants.Blob) {
-		if p.own.Size(name) > objects.LongestData {
-			return objects.TooLong("blob", name)
+	return p.own.Each(tenants.Blob, func(at int) error {
+		if p.own.SizeAt(at) > objects.LongestData {
+			return objects.TooLong("blob", p.own.NameAt(at))
 		}
-	}
-	return nil
+		return nil
+	})
 }
 
 func (p *push) examineCommits(ctx context.Context) error {
-	return p.each(ctx, tenants.Commit, func(o tenants.Object) error {
+	return p.each(ctx, tenants.Commit, func(_ int, o tenants.Object) error {
 		c, err := objects.ReadCommit(o.Name, o.Contents)
 		if err == nil && !p.AllowsSuspect {
 			err = objects.FsckCommit(o.Name, c, o.Contents)
@@ -62,8 +63,8 @@ func (p *push) examineCommits(ctx context.Context) error {
 }
 
 func (p *push) examineTags(ctx context.Context) error {
-	return p.each(ctx, tenants.Tag, func(o tenants.Object) error {
-		tag, err := objects.ReadTag(o.Name, o.Contents)
+	return p.each(ctx, tenants.Tag, func(_ int, o tenants.Object) error {
+		tag, err := readTag(o)
 		if err == nil && !p.AllowsSuspect {
 			err = objects.FsckTag(o.Name, tag, o.Contents)
 		}
@@ -72,21 +73,35 @@ func (p *push) examineTags(ctx context.Context) error {
 	})
 }
 
+// readTag reads a tag that is kept for the whole push, and so has bytes of its own.
+func readTag(o tenants.Object) (*objects.Tag, error) {
+	return objects.ReadTag(o.Name, append([]byte{}, o.Contents...))
+}
+
 func (p *push) examineTrees(ctx context.Context) error {
 	special := map[tenants.Name]objects.Special{}
-	err := p.each(ctx, tenants.Tree, func(o tenants.Object) error {
-		err := objects.CheckTree(o.Name, o.Contents)
+	counts := make([]int32, p.own.Len())
+	err := p.each(ctx, tenants.Tree, func(at int, o tenants.Object) error {
+		facts, err := objects.ExamineTree(o.Name, o.Contents, func(blob tenants.Name, what objects.Special) { special[blob] |= what })
 		if err == nil && !p.AllowsSuspect {
-			err = objects.FsckTree(o.Name, o.Contents, func(blob tenants.Name, what objects.Special) { special[blob] |= what })
+			err = facts.Suspect
+		}
+		if !facts.HasTrees {
+			counts[at] = int32(smaller(facts.Entries, mostFiles+1))
 		}
 		return err
 	})
-	if err != nil {
+	if err == nil {
+		err = p.countFiles(ctx, counts)
+	}
+	if err != nil || p.AllowsSuspect {
 		return err
 	}
-	if err := p.countFiles(ctx); err != nil {
-		return err
-	}
+	return p.examineSpecial(ctx, special)
+}
+
+// examineSpecial judges the blobs that git reads by itself.
+func (p *push) examineSpecial(ctx context.Context, special map[tenants.Name]objects.Special) error {
 	for name, what := range special {
 		o, err := p.own.Object(ctx, name)
 		if errors.Is(err, tenants.ErrMissing) {
@@ -103,37 +118,36 @@ func (p *push) examineTrees(ctx context.Context) error {
 }
 
 // countFiles refuses commits with more files than a branch may have. A tree that has another one twice, and so on, has few entries and
-// more files than there is room for.
-func (p *push) countFiles(ctx context.Context) error {
-	counts := map[tenants.Name]int{}
-	for _, head := range p.heads {
-		if count, err := p.filesOf(ctx, head.Tree, counts, 0); err != nil {
-			return err
-		} else if count > mostFiles {
-			return refusal("a commit has more than 1,048,576 files")
+// more files than there is room for. The counts are those of trees, by their places, as far as they are known; 0 is none.
+func (p *push) countFiles(ctx context.Context, counts []int32) error {
+	return p.own.Each(tenants.Commit, func(at int) error {
+		count, err := p.filesOf(ctx, p.heads[p.own.NameAt(at)].Tree, counts, 0)
+		if err == nil && count > mostFiles {
+			err = refusal("a commit has more than 1,048,576 files")
 		}
-	}
-	return nil
+		return err
+	})
 }
 
 // filesOf counts the files below a tree of the pack, up to one too many. Directories of the tenant count as one.
-func (p *push) filesOf(ctx context.Context, tree tenants.Name, counts map[tenants.Name]int, depth int) (int, error) {
-	if count, is := counts[tree]; is {
-		return count, nil
-	}
-	if kind, isOwn := p.own.Kind(tree); !isOwn || kind != tenants.Tree {
+func (p *push) filesOf(ctx context.Context, tree tenants.Name, counts []int32, depth int) (int32, error) {
+	at, isOwn := p.own.Find(tree)
+	if !isOwn || p.own.KindAt(at) != tenants.Tree {
 		return 1, nil
 	}
 	if depth > objects.MostComponents {
 		return 0, objects.TooDeep()
 	}
-	o, err := p.own.Object(ctx, tree)
+	if counts[at] > 0 {
+		return counts[at], nil
+	}
+	contents, err := p.own.ContentsAt(at)
 	if err != nil {
 		return 0, err
 	}
-	count := 0
-	for entry, rest, ok := objects.NextEntry(o.Contents); ok && count <= mostFiles; entry, rest, ok = objects.NextEntry(rest) {
-		below := 1
+	count := int32(0)
+	for entry, rest, ok := objects.NextEntry(contents); ok && count <= mostFiles; entry, rest, ok = objects.NextEntry(rest) {
+		below := int32(1)
 		if entry.IsTree() {
 			if below, err = p.filesOf(ctx, entry.Name, counts, depth+1); err != nil {
 				return 0, err
@@ -141,7 +155,7 @@ func (p *push) filesOf(ctx context.Context, tree tenants.Name, counts map[tenant
 		}
 		count += below
 	}
-	counts[tree] = count
+	counts[at] = count
 	return count, nil
 }
 
@@ -198,7 +212,7 @@ func (p *push) examineTarget(ctx context.Context, change Change) error {
 }
 
 func (p *push) examineTagRef(change Change, o tenants.Object) error {
-	tag, err := objects.ReadTag(o.Name, o.Contents)
+	tag, err := readTag(o)
 	if err != nil {
 		return err
 	}

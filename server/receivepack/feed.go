@@ -4,6 +4,7 @@ import (
 	"context"
 	"errors"
 	"fmt"
+	"strconv"
 
 	"gitpoold/objects"
 	"gitpoold/tenants"
@@ -15,7 +16,7 @@ type feeding struct {
 	ctx     context.Context
 	to      *tenants.Stream
 	scratch string
-	blobs   map[tenants.Name]bool   // that were told
+	told    []bool                  // of the entries of the pack: the blobs that were told
 	outside map[tenants.Name]string // objects that the pack has not, and what names them
 	trees   treeCache
 	err     error
@@ -23,7 +24,7 @@ type feeding struct {
 
 // feed tells the stream: commits with what changed since their first parents, then tags, then refs.
 func (p *push) feed(ctx context.Context, to *tenants.Stream) error {
-	f := &feeding{push: p, ctx: ctx, to: to, scratch: p.scratchRef(), blobs: map[tenants.Name]bool{}, outside: map[tenants.Name]string{}}
+	f := &feeding{push: p, ctx: ctx, to: to, scratch: p.scratchRef(), told: make([]bool, p.own.Len()), outside: map[tenants.Name]string{}}
 	err := f.all()
 	// An object that is missing is told by its name and place, and not by the number of a fault.
 	if missing := f.missing(); missing != nil && (err == nil || tenants.IsSentence(err)) {
@@ -66,7 +67,7 @@ func (f *feeding) put(parts ...string) {
 }
 
 func (f *feeding) data(contents []byte) {
-	f.put(fmt.Sprintf("data %d\n", len(contents)))
+	f.put("data ", strconv.Itoa(len(contents)), "\n")
 	if f.err == nil {
 		_, f.err = f.to.Write(contents)
 	}
@@ -238,14 +239,15 @@ func (f *feeding) missing() error {
 // tag tells an annotated tag and asks for its name. A blob that it is of is told before it.
 func (f *feeding) tag(name tenants.Name) error {
 	tag := f.tags[name]
-	if kind, isOwn := f.own.Kind(tag.Target); isOwn && kind.String() != tag.Kind {
+	at, isOwn := f.own.Find(tag.Target)
+	if !isOwn {
+		f.note(tag.Target, "tag "+name.String()[:12]+" is of")
+	} else if kind := f.own.KindAt(at); kind.String() != tag.Kind {
 		return refusal("tag " + name.String()[:12] + " says that it is of a " + tag.Kind + ", and it is of a " + kind.String())
-	} else if isOwn && kind == tenants.Blob {
-		if err := f.blob(tag.Target); err != nil {
+	} else if kind == tenants.Blob {
+		if err := f.blob(at); err != nil {
 			return err
 		}
-	} else if !isOwn {
-		f.note(tag.Target, "tag "+name.String()[:12]+" is of")
 	}
 	f.put(tagCommand(tag, "mark :1\n"))
 	return f.expect(name)
@@ -260,17 +262,17 @@ func tagCommand(tag *objects.Tag, mark string) string {
 	return fmt.Sprintf("tag %s\n%sfrom %v\n%sdata %d\n%s\n", tag.Name, mark, tag.Target, tagger, len(tag.Message), tag.Message)
 }
 
-func (f *feeding) blob(name tenants.Name) error {
-	if f.blobs[name] {
+func (f *feeding) blob(at int) error {
+	if f.told[at] {
 		return nil
 	}
-	f.blobs[name] = true
-	o, err := f.own.Object(f.ctx, name)
+	f.told[at] = true
+	contents, err := f.own.ContentsAt(at)
 	if err != nil {
 		return err
 	}
 	f.put("blob\n")
-	f.data(o.Contents)
+	f.data(contents)
 	return nil
 }
 

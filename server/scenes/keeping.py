@@ -11,7 +11,7 @@ import threading
 import time
 from typing import Dict, List, Tuple
 
-from scenes.room import text
+from scenes.room import text, wait_for
 from served import ServerRoom, over_http
 
 
@@ -188,7 +188,8 @@ def a_small_disk(room: ServerRoom) -> None:
     finally:
         room.process.kill()
         room.process.wait()
-        subprocess.run(["umount", place], check=True)
+        # The child of a server that was killed takes a moment to end, and has files open there until then.
+        wait_for(lambda: subprocess.run(["umount", place], capture_output=True).returncode == 0)
 
 
 def fill_and_judge(room: ServerRoom) -> None:

@@ -23,12 +23,15 @@ GRANTS = (("alice", "*", "rw"), ("bob", "acme/site", "r"), ("*", "open/*", "r"))
 class ServerRoom(Room):
     """A room whose tenants are asked and changed through a server, over http or ssh."""
 
+    has_helper = False
+
     def __init__(self, program: str, server: str, scheme: str = "http", version: int = 2):
         super().__init__(program)
         self.scheme, self.version, self.server_program = scheme, version, server
         self.served = self.path("served")
         self.pool = os.path.join(self.served, "pool")
         self.log = self.path("server.log")
+        self.options: List[str] = []
         self.set_up()
         self.process: "subprocess.Popen[bytes]"
         self.http, self.ssh = ("", 0), ("", 0)
@@ -56,7 +59,8 @@ class ServerRoom(Room):
 
     def start(self) -> None:
         """Starts the server, and waits until it serves."""
-        words = [self.server_program, "serve", self.served, "--http", "127.0.0.1:0", "--ssh", "127.0.0.1:0", "--program", self.program]
+        words = [self.server_program, "serve", self.served, "--http", "127.0.0.1:0", "--ssh", "127.0.0.1:0", "--program", self.program,
+                 *self.options]
         before = os.path.getsize(self.log) if os.path.exists(self.log) else 0
         with open(self.log, "ab") as log:
             self.process = subprocess.Popen(words, stderr=log, stdout=log, env=self.environment, start_new_session=True)

@@ -22,7 +22,7 @@ func Create(folder, program string) error {
 	if err != nil {
 		return err
 	}
-	if len(segments) > 0 {
+	if _, err := os.Stat(filepath.Join(folder, placeName)); len(segments) > 0 || err == nil {
 		return errors.New("there is a journal and no pool file: put the pool file back from a backup")
 	}
 	command := exec.Command(program, "serve", "--pool", pool)

@@ -55,7 +55,7 @@ func (s *Store) Keep(ctx context.Context, rhythm func() Rhythm) {
 }
 
 func (s *Store) isDue(now Rhythm, last time.Time) bool {
-	return s.journal.Bytes() > now.JournalBytes || s.journal.IsBroken() || s.journal.HasSteps() && time.Since(last) > now.SaveEvery
+	return s.journal.Bytes() > now.JournalBytes || s.journal.IsHealedBySave() || s.journal.HasSteps() && time.Since(last) > now.SaveEvery
 }
 
 // endStalled ends a child that works without an answer for too long; `watch`, or the save that waits for it, starts another one.

@@ -30,13 +30,13 @@ func (s *Store) Copy(ctx context.Context, from, to string) error {
 
 // operate carries out a request of the operator that changes one tenant. Where the child dies meanwhile, the next one carries it out.
 func (s *Store) operate(ctx context.Context, changed string, step frames.Step) error {
-	number, err := s.sendRequest(ctx, changed, step)
+	number, outcome, err := s.sendRequest(ctx, changed, step)
 	if number == 0 {
 		return err
 	}
 	if err != nil {
 		if _, isRefused := err.(*Refused); !isRefused {
-			answers, lost := s.outcome(number)
+			answers, lost := s.outcome(outcome)
 			if err = lost; err == nil {
 				_, err = replies(answers)
 			}
@@ -48,37 +48,37 @@ func (s *Store) operate(ctx context.Context, changed string, step frames.Step) e
 
 // sendRequest puts a request into the journal, syncs that, and lets the child carry the request out. No step comes in between, so that
 // the journal has it at the same place among all steps as the child. The number is 0 if it did not come into the journal, or was taken
-// back there.
-func (s *Store) sendRequest(ctx context.Context, changed string, step frames.Step) (uint64, error) {
+// back there. Where the child dies, the outcome comes from the next one.
+func (s *Store) sendRequest(ctx context.Context, changed string, step frames.Step) (number uint64, outcome <-chan frames.Answer, err error) {
 	if err := s.beginMaintenance(ctx); err != nil {
-		return 0, err
+		return 0, nil, err
 	}
 	defer s.endMaintenance()
 	if err := s.steps.shut(ctx); err != nil {
-		return 0, err
+		return 0, nil, err
 	}
 	defer s.steps.open()
 	if s.hasStream(changed) {
-		return 0, &Refused{31}
+		return 0, nil, &Refused{31}
 	}
-	number, err := s.journal.Append(step)
+	number, err = s.journal.Append(step)
 	if err == nil {
 		err = s.journal.Sync(number)
 	}
 	if err != nil {
-		return 0, err
+		return 0, nil, err
 	}
-	s.expect(number, end{isRequest: true})
+	outcome = s.expect(number, end{isRequest: true})
 	faultpoint.Here("before a request of the operator is sent")
 	_, err = s.requestOf(s.process, step)
 	if refused, isRefused := err.(*Refused); isRefused && refused.Number == 90 {
 		s.forget(number)
-		return 0, s.takeRequestBack(number, err)
+		return 0, nil, s.takeRequestBack(number, err)
 	}
 	if err == nil {
 		err = s.readSizes(s.process)
 	}
-	return number, err
+	return number, outcome, err
 }
 
 func (s *Store) hasStream(tenant string) bool {

@@ -32,7 +32,7 @@ func (s *Store) Save(ctx context.Context) error {
 		return err
 	}
 	defer s.endMaintenance()
-	if !s.journal.HasSteps() && !s.journal.IsBroken() {
+	if !s.journal.HasSteps() && !s.journal.IsHealedBySave() {
 		return nil
 	}
 	began := time.Now()
@@ -67,6 +67,9 @@ func (s *Store) save(ctx context.Context) error {
 		return err
 	}
 	faultpoint.Here("after the pool file is synced")
+	if err := s.copyPool(); err != nil {
+		return fmt.Errorf("%s: %w", s.config.Copy, err)
+	}
 	return s.journal.Drop()
 }
 

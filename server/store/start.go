@@ -4,6 +4,7 @@ import (
 	"bytes"
 	"context"
 	"encoding/binary"
+	"errors"
 	"fmt"
 	"io"
 	"os"
@@ -34,7 +35,7 @@ func (s *Store) start() error {
 	if err := s.carryOut(process, journal.Digest(digest)); err != nil {
 		process.Kill()
 		os.RemoveAll(room)
-		return fmt.Errorf("%w: %v (%s)", ErrLoad, err, said.last())
+		return &loadError{err, said.last()}
 	}
 	os.RemoveAll(s.room)
 	s.process, s.room = process, room
@@ -43,6 +44,21 @@ func (s *Store) start() error {
 	s.mutex.Unlock()
 	go s.watch(process)
 	return nil
+}
+
+// loadError is ErrLoad with its reason, and what the child said last.
+type loadError struct {
+	reason error
+	said   string
+}
+
+func (l *loadError) Error() string { return fmt.Sprintf("%v: %v (%s)", ErrLoad, l.reason, l.said) }
+
+func (l *loadError) Unwrap() error { return l.reason }
+
+// Is tells that this is ErrLoad, where nothing is wrong with the way to the journal.
+func (l *loadError) Is(err error) bool {
+	return err == ErrLoad && !errors.Is(l.reason, journal.ErrUnread)
 }
 
 func (s *Store) startChild(said io.Writer) (*child.Process, string, error) {
@@ -73,20 +89,7 @@ func linkOrCopy(from, to string) error {
 	if os.Link(from, to) == nil {
 		return nil
 	}
-	source, err := os.Open(from)
-	if err != nil {
-		return err
-	}
-	defer source.Close()
-	target, err := os.OpenFile(to, os.O_WRONLY|os.O_CREATE|os.O_EXCL, 0o600)
-	if err != nil {
-		return err
-	}
-	defer target.Close()
-	if _, err = io.Copy(target, source); err != nil {
-		return err
-	}
-	return target.Sync()
+	return copyFile(from, to)
 }
 
 // lines tells the operator what the child prints on standard error, and keeps the last of it.
@@ -141,7 +144,7 @@ func (s *Store) revive() {
 			return
 		}
 		s.config.Tell("no child could be started: %v", err)
-		if wait > time.Second/4 {
+		if wait > time.Second/4 && !isOfLog(err) {
 			s.takeBackUntold()
 		}
 		select {
@@ -155,19 +158,25 @@ func (s *Store) revive() {
 	}
 }
 
-// takeBackUntold takes back what nobody was told of, where the journal cannot be carried out with them.
+// takeBackUntold takes back what nobody was told of, where the journal cannot be carried out with them. What cannot be taken back stays.
 func (s *Store) takeBackUntold() {
 	s.mutex.Lock()
-	untold := s.ends
-	s.ends = map[uint64]end{}
+	untold := map[uint64]end{}
+	for number, it := range s.ends {
+		untold[number] = it
+	}
 	s.mutex.Unlock()
 	for number, it := range untold {
+		var err error
 		if it.isRequest {
-			_ = s.takeRequestBack(number, nil)
+			err = s.takeRequestBack(number, nil)
 		} else {
-			s.takeBack(it.tenant)
+			err = s.takeBack(it.tenant)
 		}
-		it.answer <- frames.Answer{Status: frames.Fault, Value: 90}
+		if err == nil {
+			s.forget(number)
+			it.answer <- frames.Answer{Status: frames.Fault, Value: 90}
+		}
 	}
 }
 
@@ -203,6 +212,7 @@ const replayAhead = 64
 
 // carryOut carries out the journal, and waits until the child has done so.
 func (s *Store) carryOut(process *child.Process, pool journal.Digest) error {
+	s.journal.Resume()
 	fate, err := s.fateOf(pool)
 	if err != nil {
 		return err

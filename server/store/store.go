@@ -51,6 +51,12 @@ type Config struct {
 	Program string
 	// ChildMemory is the most bytes of address space that the child may take, 0 for no limit.
 	ChildMemory int64
+	// Log says which log in Redis has the journal; without it, the journal is in the folder's files.
+	Log *journal.Options
+	// Copy is a path to which each save copies the pool file before the journal drops what the file has; empty for none.
+	Copy string
+	// Stop ends the server at once: the log in Redis is another server's now, or lost records. It does not return.
+	Stop func(why error)
 	// Tell writes a line for the operator.
 	Tell func(format string, values ...any)
 }
@@ -59,7 +65,7 @@ type Config struct {
 type Store struct {
 	config   Config
 	locks    locks
-	journal  *journal.Journal
+	journal  journal.Journal
 	maintain chan struct{}
 	wanted   chan struct{}
 	stopping chan struct{}
@@ -115,11 +121,14 @@ func (s *Store) begin() error {
 	if err != nil {
 		return err
 	}
-	s.journal, err = journal.Open(s.folder("journal"), digest, s.config.Tell)
-	if err != nil {
+	if err := s.openJournal(digest); err != nil {
 		return err
 	}
-	return s.start()
+	if err := s.start(); err != nil {
+		s.journal.Close()
+		return err
+	}
+	return nil
 }
 
 func (s *Store) folder(name string) string { return filepath.Join(s.config.Folder, name) }
@@ -259,6 +268,8 @@ type State struct {
 	Records       uint64
 	IsAnswering   bool
 	ChildPid      int
+	// Log is nil where the journal is in files.
+	Log *journal.RedisCounts
 }
 
 // State tells how the store stands. While the child is replaced, its process is 0.
@@ -266,6 +277,10 @@ func (s *Store) State() State {
 	state := State{Counts: s.Counts(), JournalBytes: s.journal.Bytes(), JournalBroken: s.journal.IsBroken(),
 		Records: s.journal.Number()}
 	state.FirstSegment, state.LastSegment = s.journal.Segments()
+	if log, isRedis := s.journal.(*journal.Redis); isRedis {
+		counts := log.Counts()
+		state.Log = &counts
+	}
 	s.mutex.Lock()
 	state.Streams = len(s.open)
 	s.mutex.Unlock()

@@ -35,7 +35,10 @@ func folder(t testing.TB) string {
 	return made
 }
 
-func config(t testing.TB, folder string) Config {
+func config(t testing.TB, folder string) Config { return placed(t, plain(t, folder)) }
+
+// plain is the configuration of a pool whose journal is in files.
+func plain(t testing.TB, folder string) Config {
 	return Config{Folder: folder, Program: program(t), Tell: func(format string, values ...any) {
 		if testing.Verbose() {
 			fmt.Printf(format+"\n", values...)
@@ -347,4 +350,17 @@ func TestAServerWithoutAProgramStops(t *testing.T) {
 	s = opened(t, c)
 	defer s.Close(background)
 	hasMessages(t, s, "a", "refs/heads/main", []string{"m"})
+}
+
+// TestAnOutcomeMayComeEarly has a child that carries an end out before its push waits for that.
+func TestAnOutcomeMayComeEarly(t *testing.T) {
+	s := &Store{ends: map[uint64]end{}, closing: make(chan struct{})}
+	told := s.expect(7, end{tenant: "a"})
+	s.tellEnds(map[uint64]frames.Answer{7: {Reply: []byte("x")}})
+	if len(told) != 1 {
+		t.Fatal("the outcome is lost")
+	}
+	if answers, err := s.outcome(told); err != nil || string(answers[0].Reply) != "x" {
+		t.Fatal(answers, err)
+	}
 }

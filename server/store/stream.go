@@ -31,17 +31,21 @@ type Stream struct {
 	fed      int64
 	isClosed bool
 
-	// These are set inside the gate `steps`, and read while it is shut: the child that has the stream, and the number of its Open in the
-	// journal.
+	// These are set inside the gate `steps`, and read while it is shut: the child that has the stream, the number of its Open in the
+	// journal, and how often the journal had lost records before.
 	process *child.Process
 	number  uint64
+	losses  uint64
 	isEnded bool
 }
 
 // openNumber gives the number of the stream's Open, if this child has the stream open. The gate `steps` is shut.
 func (st *Stream) openNumber(process *child.Process) (number uint64, isOpen bool) {
-	return st.number, st.process == process && st.number > 0 && !st.isEnded
+	return st.number, st.process == process && st.number > 0 && !st.isEnded && st.isInJournal()
 }
+
+// isInJournal tells whether the journal may have all steps of the stream.
+func (st *Stream) isInJournal() bool { return st.losses == st.store.journal.Losses() }
 
 // Pending is a piece that is on its way.
 type Pending struct{ batch *Batch }
@@ -112,7 +116,7 @@ func (st *Stream) openIn(ctx context.Context) (Pending, error) {
 		return Pending{}, err
 	}
 	defer st.store.steps.leave()
-	st.process = st.store.process
+	st.process, st.losses = st.store.process, st.store.journal.Losses()
 	record := frames.Step{Kind: frames.Open, Tenant: st.tenant, Body: []byte{byte(st.form)}}
 	number, err := st.store.journal.Append(record)
 	if err != nil {
@@ -127,7 +131,7 @@ func (st *Stream) openIn(ctx context.Context) (Pending, error) {
 func (st *Stream) Feed(ctx context.Context, body []byte) (Pending, error) {
 	st.mutex.Lock()
 	defer st.mutex.Unlock()
-	if err := st.enter(ctx); err != nil {
+	if err := st.enterWhole(ctx); err != nil {
 		return Pending{}, err
 	}
 	defer st.store.steps.leave()
@@ -156,25 +160,35 @@ func (st *Stream) enter(ctx context.Context) error {
 	return nil
 }
 
+// enterWhole goes in where the journal has what the stream was fed, too.
+func (st *Stream) enterWhole(ctx context.Context) error {
+	err := st.enter(ctx)
+	if err == nil && !st.isInJournal() {
+		st.store.steps.leave()
+		err = journal.ErrBroken
+	}
+	return err
+}
+
 // Commit ends the stream with its last piece, which may be empty, and gives what that printed. The piece and the End are in the
 // journal and synced before the child gets them; so when Commit returns nil, the push lasts. On an error of the journal, and
 // where the context ends before, the stream is open still, and nothing of it lasts if it is given up. Refused closes the stream.
 func (st *Stream) Commit(ctx context.Context, last []byte) ([]byte, error) {
 	st.mutex.Lock()
 	defer st.mutex.Unlock()
-	number, batch, err := st.sendEnd(ctx, last)
+	sent, err := st.sendEnd(ctx, last)
 	if err != nil {
 		return nil, err
 	}
-	answers, err := batch.Wait(context.Background())
+	answers, err := sent.batch.Wait(context.Background())
 	switch {
 	case err != nil:
 		// The journal has the End, so the next child carries it out.
-		answers, err = st.store.outcome(number)
+		answers, err = st.store.outcome(sent.outcome)
 	case outOfMemory(answers):
-		st.withdraw()
+		err = st.withdraw()
 	}
-	st.store.forget(number)
+	st.store.forget(sent.number)
 	faultpoint.Here("before a push is told")
 	if err != nil {
 		st.close(false)
@@ -186,25 +200,28 @@ func (st *Stream) Commit(ctx context.Context, last []byte) ([]byte, error) {
 }
 
 // withdraw takes back an End for which the child had no memory, and which nobody was told of. What the child has then is not what
-// the journal says, so it is replaced.
-func (st *Stream) withdraw() {
+// the journal says, so it is replaced. It is ErrUnknown where the journal keeps the End.
+func (st *Stream) withdraw() error {
 	if err := st.enter(context.Background()); err != nil {
-		return
+		return ErrUnknown
 	}
 	defer st.store.steps.leave()
-	st.store.takeBack(st.tenant)
+	err := st.store.takeBack(st.tenant)
 	st.process.Kill()
+	return err
 }
 
-// takeBack notes that the last End of a tenant does not count.
-func (s *Store) takeBack(tenant string) {
+// takeBack notes that the last End of a tenant does not count. It is ErrUnknown where the journal keeps the End.
+func (s *Store) takeBack(tenant string) error {
 	number, err := s.journal.Append(frames.Step{Kind: journal.GivenUp, Tenant: tenant})
 	if err == nil {
 		err = s.journal.Sync(number)
 	}
 	if err != nil {
 		s.config.Tell("the journal keeps the end of a push that is refused for want of memory: %v", err)
+		return ErrUnknown
 	}
+	return nil
 }
 
 func outOfMemory(answers []frames.Answer) bool {
@@ -216,9 +233,17 @@ func outOfMemory(answers []frames.Answer) bool {
 	return false
 }
 
-func (st *Stream) sendEnd(ctx context.Context, last []byte) (uint64, *Batch, error) {
-	if err := st.enter(ctx); err != nil {
-		return 0, nil, err
+// sentEnd is an End that is in the journal, under a number, and was sent to the child. Where the child dies, its outcome comes from the
+// next one.
+type sentEnd struct {
+	number  uint64
+	batch   *Batch
+	outcome <-chan frames.Answer
+}
+
+func (st *Stream) sendEnd(ctx context.Context, last []byte) (sentEnd, error) {
+	if err := st.enterWhole(ctx); err != nil {
+		return sentEnd{}, err
 	}
 	s := st.store
 	defer s.steps.leave()
@@ -232,17 +257,17 @@ func (st *Stream) sendEnd(ctx context.Context, last []byte) (uint64, *Batch, err
 		err = s.journal.Sync(number)
 	}
 	if err != nil {
-		return 0, nil, err
+		return sentEnd{}, err
 	}
 	st.isEnded = true
-	s.expect(number, end{tenant: st.tenant})
+	outcome := s.expect(number, end{tenant: st.tenant})
 	s.taken.Add(int64(len(steps)))
 	faultpoint.Here("before the end is sent")
 	batch, err := st.process.Send(child.Endless(ctx), child.Short, steps...)
 	if err != nil {
 		batch = child.Lost(err)
 	}
-	return number, batch, nil
+	return sentEnd{number, batch, outcome}, nil
 }
 
 // GiveUp ends the stream: of a Whole one nothing stays, of another one its checkpoints. It does nothing where the stream has ended.
@@ -294,12 +319,14 @@ type end struct {
 	answer    chan frames.Answer
 }
 
-// expect lets `outcome` wait for the answer to what is in the journal under a number.
-func (s *Store) expect(number uint64, it end) {
+// expect gives the channel to which the answer to what is in the journal under a number comes, if a later child carries that out. It may
+// come before anybody waits for it.
+func (s *Store) expect(number uint64, it end) <-chan frames.Answer {
 	s.mutex.Lock()
 	defer s.mutex.Unlock()
 	it.answer = make(chan frames.Answer, 1)
 	s.ends[number] = it
+	return it.answer
 }
 
 func (s *Store) forget(number uint64) {
@@ -309,12 +336,9 @@ func (s *Store) forget(number uint64) {
 }
 
 // outcome waits until another child has carried it out, and gives its answer.
-func (s *Store) outcome(number uint64) ([]frames.Answer, error) {
-	s.mutex.Lock()
-	it := s.ends[number]
-	s.mutex.Unlock()
+func (s *Store) outcome(from <-chan frames.Answer) ([]frames.Answer, error) {
 	select {
-	case answer := <-it.answer:
+	case answer := <-from:
 		return []frames.Answer{answer}, nil
 	case <-s.closing:
 		return nil, ErrUnknown

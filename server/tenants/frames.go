@@ -81,7 +81,7 @@ func ErrorNumber(err error) int {
 		return fault.Number
 	case errors.As(err, &refused):
 		return refused.Number
-	case errors.Is(err, journal.ErrFull), errors.Is(err, journal.ErrBroken):
+	case errors.Is(err, journal.ErrFull), errors.Is(err, journal.ErrBroken), errors.Is(err, journal.ErrAway):
 		return 68
 	}
 	return 0

@@ -95,8 +95,17 @@ type expectation struct {
 // Write appends commands, or any part of one: a stream may be cut anywhere. What is written goes to the child in pieces; so an
 // error, which is final, may be about what was written before.
 func (s *Stream) Write(text []byte) (int, error) {
-	written := 0
+	return write(s, text)
+}
+
+// WriteString appends commands, as Write does.
+func (s *Stream) WriteString(text string) (int, error) { return write(s, text) }
+
+func write[T string | []byte](s *Stream, text T) (written int, err error) {
 	for written < len(text) {
+		if s.waiting == nil {
+			s.waiting = make([]byte, 0, pieceBytes)
+		}
 		take := min(pieceBytes-len(s.waiting), len(text)-written)
 		s.waiting = append(s.waiting, text[written:written+take]...)
 		written += take
@@ -109,14 +118,11 @@ func (s *Stream) Write(text []byte) (int, error) {
 	return written, nil
 }
 
-// WriteString appends commands, as Write does.
-func (s *Stream) WriteString(text string) (int, error) { return s.Write([]byte(text)) }
-
 // Expect asks for the name of the object that a mark holds, by `get-mark`, and lets the push fail with ErrOtherName where it is not
 // this one. It waits for no answer, so use it for each object of a long push. It stands between commands.
 func (s *Stream) Expect(mark string, name Name) error {
 	s.expected = append(s.expected, expectation{name: name})
-	_, err := fmt.Fprintf(s, "get-mark %s\n", mark)
+	_, err := s.WriteString("get-mark " + mark + "\n")
 	return err
 }
 

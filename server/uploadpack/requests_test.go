@@ -225,7 +225,9 @@ func TestAnswersOfTheFirstProtocols(t *testing.T) {
 		if it.commits < 0 {
 			continue
 		}
-		if got := len(packIn(t, answer).Names(tenants.Commit)); got != it.commits {
+		got := 0
+		_ = packIn(t, answer).Each(tenants.Commit, func(int) error { got++; return nil })
+		if got != it.commits {
 			t.Errorf("%s: %d commits", what, got)
 		}
 	}

@@ -90,7 +90,8 @@ func (s *selection) unlisted(names []tenants.Name) (left []tenants.Name) {
 
 // lead finds what names lead to: commits, and tags on the way; trees and blobs become named ones.
 func (s *selection) lead(ctx context.Context, names []tenants.Name) (commits []tenants.Name, tags tenants.Listing, err error) {
-	for seen := map[tenants.Name]bool{}; len(names) > 0; {
+	seen := map[tenants.Name]bool{}
+	for names = unseen(names, seen); len(names) > 0; {
 		var after []tenants.Name
 		err = s.source.Objects(ctx, names, func(o tenants.Object) error {
 			target, isTag := objects.Tagged(o.Contents)

@@ -1,0 +1,268 @@
+package journal
+
+import (
+	"bufio"
+	"bytes"
+	"errors"
+	"fmt"
+	"io"
+	"strconv"
+	"strings"
+
+	"github.com/gomodule/redigo/redis"
+
+	"gitpoold/frames"
+)
+
+// ErrUnread says that the Redis of a journal could not be read. What is in it stands.
+var ErrUnread = errors.New("the journal cannot be read now")
+
+// BadLog says why a server may not go on with a log. Nothing is changed.
+type BadLog struct {
+	Log    string
+	Reason string
+	// IsTaken says that the log is as it should be, and that another server has it.
+	IsTaken bool
+}
+
+func (b *BadLog) Error() string {
+	return fmt.Sprintf("%s: %s; nothing was changed (docs/SERVER.md, \"The journal in Redis\")", b.Log, b.Reason)
+}
+
+func (a Address) bad(form string, values ...any) error {
+	return &BadLog{Log: a.String(), Reason: fmt.Sprintf(form, values...)}
+}
+
+// reading reads the entries of a stream in order, some at a time.
+type reading struct {
+	conn    redis.Conn
+	address Address
+	from    uint64
+	count   int
+	got     []any
+	isEnd   bool
+}
+
+const (
+	fewestAtOnce = 16
+	mostAtOnce   = 1024
+	fewBytes     = 4 << 20
+	manyBytes    = 16 << 20
+)
+
+// next gives the record of the next entry, or io.EOF.
+func (r *reading) next() ([]byte, error) {
+	if len(r.got) == 0 && !r.isEnd {
+		if err := r.fetch(); err != nil {
+			return nil, err
+		}
+	}
+	if len(r.got) == 0 {
+		return nil, io.EOF
+	}
+	id, record, err := entryOf(r.got[0])
+	if err != nil {
+		return nil, r.address.bad("the entry %s is not one of this service", id)
+	}
+	number, err := numberOf(id)
+	if err != nil || number < r.from {
+		return nil, r.address.bad("the entry %s has no place of this service", id)
+	}
+	r.got, r.from = r.got[1:], number+1
+	if h := headOf(record); !h.isGood || h.number != number || h.recordBytes() != int64(len(record)) {
+		return nil, r.address.bad("record %d is not as it was written", number)
+	}
+	return record, nil
+}
+
+// headOf reads the head of a record, which is bad where the record is too short for one.
+func headOf(record []byte) head {
+	if len(record) < headBytes+chainBytes {
+		return head{}
+	}
+	return readHead(record)
+}
+
+func (r *reading) fetch() error {
+	if r.count == 0 {
+		r.count = fewestAtOnce
+	}
+	got, err := redis.Values(r.conn.Do("XRANGE", r.address.key, idOf(r.from), "+", "COUNT", r.count))
+	if err != nil {
+		return fmt.Errorf("%w: %v", ErrUnread, err)
+	}
+	size := 0
+	for _, it := range got {
+		if _, record, err := entryOf(it); err == nil {
+			size += len(record)
+		}
+	}
+	r.got, r.isEnd = got, len(got) < r.count
+	if size < fewBytes && r.count < mostAtOnce {
+		r.count *= 2
+	} else if size > manyBytes && r.count > fewestAtOnce {
+		r.count /= 2
+	}
+	return nil
+}
+
+// entryOf gives the place and the record of an entry as Redis tells it.
+func entryOf(entry any) (id string, record []byte, err error) {
+	pair, err := redis.Values(entry, nil)
+	if err != nil || len(pair) != 2 {
+		return "", nil, errBad
+	}
+	if id, err = redis.String(pair[0], nil); err != nil {
+		return "", nil, err
+	}
+	fields, err := redis.ByteSlices(pair[1], nil)
+	if err != nil || len(fields) != 2 || string(fields[0]) != recordField {
+		return id, nil, errBad
+	}
+	return id, fields[1], nil
+}
+
+// The place of a record in the stream is its number.
+func idOf(number uint64) string { return strconv.FormatUint(number, 10) + "-0" }
+
+func numberOf(id string) (uint64, error) {
+	number, rest, _ := strings.Cut(id, "-")
+	if rest != "0" {
+		return 0, errBad
+	}
+	return strconv.ParseUint(number, 10, 64)
+}
+
+// walk reads a log through. It calls `use`, if there is one, with each record that is a step, and the place of its segment.
+type walk struct {
+	address  Address
+	segments []segment
+	end      mark
+	hasSteps bool
+	// before is the chain at the number of the place that was kept, where the log has that record.
+	kept  place
+	found *Chain
+	use   func(at int, record Record) error
+}
+
+// all reads to the end of the log, or to the record of a number.
+func (w *walk) all(conn redis.Conn, from, to uint64) error {
+	entries := reading{conn: conn, address: w.address, from: from}
+	for to == 0 || w.end.number < to {
+		record, err := entries.next()
+		if err == io.EOF {
+			return nil
+		}
+		if err == nil {
+			err = w.take(record)
+		}
+		if err != nil {
+			return err
+		}
+	}
+	return nil
+}
+
+// take takes the next record of the log.
+func (w *walk) take(record []byte) error {
+	if len(w.segments) == 0 {
+		var first segment
+		if !first.takeFirst(record, 0) {
+			return w.address.bad("record %d is not one that a log begins with, or not as it was written", readHead(record).number)
+		}
+		first.number = 1
+		w.segments, w.end = []segment{first}, first.end
+		w.look()
+		return nil
+	}
+	read, err := readRecord(bufio.NewReader(bytes.NewReader(record)), &w.end)
+	if err != nil {
+		return w.address.bad("record %d is not as it was written, or those before it are missing", readHead(record).number)
+	}
+	w.look()
+	return w.step(read, int64(len(record)))
+}
+
+func (w *walk) step(read Record, size int64) error {
+	last := len(w.segments) - 1
+	switch read.Step.Kind {
+	case saved:
+		it := segment{number: w.segments[last].number + 1, first: read.Number}
+		if !it.readBody(read.Step.Body) {
+			return w.address.bad("record %d is not as it was written", read.Number)
+		}
+		w.segments[last].size = w.end.size - size
+		w.segments, w.end.size, w.hasSteps = append(w.segments, it), size, false
+	case TakenOver:
+	default:
+		w.hasSteps = true
+		if w.use != nil {
+			return w.use(last, read)
+		}
+	}
+	return nil
+}
+
+// look compares the log with the place that was kept.
+func (w *walk) look() {
+	if w.end.number == w.kept.number {
+		chain := w.end.chain
+		w.found = &chain
+	}
+}
+
+// check says what is wrong where the log is not what this server had before.
+func (w *walk) check() error {
+	switch {
+	case len(w.segments) == 0:
+		return w.address.bad("there is no log; `gitpoold init DIR --log ADDRESS` begins one")
+	case w.kept.number > w.end.number:
+		return w.address.bad("the log ends at record %d, and this server had come to record %d: the log lost its end", w.end.number, w.kept.number)
+	case w.kept.number >= w.segments[0].first && (w.found == nil || *w.found != w.kept.chain):
+		return w.address.bad("record %d is another one than this server had: this is another log, or it lost records and went on", w.kept.number)
+	}
+	return nil
+}
+
+// Records calls `use` with each record that a pool file has not, in order.
+func (r *Redis) Records(pool Digest, use func(Record) error) error {
+	r.mutex.Lock()
+	appended, all := r.appended, append([]segment(nil), r.segments...)
+	r.mutex.Unlock()
+	if err := r.Sync(appended.number); err != nil {
+		return fmt.Errorf("%w: %v", ErrUnread, err)
+	}
+	base, found := baseOf(all, pool)
+	if !found {
+		return r.options.Address.lostPool(pool)
+	}
+	conn, err := r.options.connect()
+	if err != nil {
+		return fmt.Errorf("%w: %v", ErrUnread, err)
+	}
+	defer conn.Close()
+	older := openOnly(all[base].open, use)
+	needed := neededFrom(all, base)
+	w := walk{address: r.options.Address, kept: place{appended.number, appended.chain}, use: func(at int, record Record) error {
+		if needed+at < base {
+			return older(record)
+		}
+		return use(record)
+	}}
+	if err := w.all(conn, all[needed].first, appended.number); err != nil {
+		return err
+	}
+	return w.check()
+}
+
+func (a Address) lostPool(pool Digest) error {
+	return a.bad("no record goes on from the pool file with the digest %x; it is another one, or older than the log", pool)
+}
+
+// stepOf gives the step of a record.
+func stepOf(record []byte) (step frames.Step, is bool) {
+	if !headOf(record).isGood {
+		return step, false
+	}
+	return frames.Parse(record[headBytes : len(record)-chainBytes])
+}

@@ -1,0 +1,194 @@
+package store
+
+import (
+	"context"
+	"errors"
+	"fmt"
+	"io"
+	"os"
+	"path/filepath"
+	"time"
+
+	"gitpoold/child"
+	"gitpoold/frames"
+	"gitpoold/journal"
+	"gitpoold/poolfile"
+)
+
+// What a store does so that its journal can be in Redis stands in this file.
+
+const (
+	// placeName is the file of the place in the log, and rescuedName that of the pool as it was when the log lost records.
+	placeName   = "log-place"
+	rescuedName = "pool.rescued"
+)
+
+// openJournal opens the journal where the configuration says that it is, unless it is elsewhere.
+func (s *Store) openJournal(pool journal.Digest) error {
+	if s.config.Log == nil {
+		return s.openFiles(pool)
+	}
+	if has, err := hasFiles(s.folder("journal")); err != nil || has {
+		if err == nil {
+			err = errors.New("the journal of this folder is in files; `gitpoold init DIR --log ADDRESS` moves it")
+		}
+		return err
+	}
+	options := *s.config.Log
+	options.Place, options.Tell, options.Stale, options.Lost = s.folder(placeName), s.config.Tell, s.replaceChild, s.lost
+	opened, err := journal.OpenRedis(options, pool)
+	if err == nil {
+		s.journal = opened
+	}
+	return err
+}
+
+func (s *Store) openFiles(pool journal.Digest) error {
+	if _, err := os.Stat(s.folder(placeName)); !errors.Is(err, os.ErrNotExist) {
+		return fmt.Errorf("the journal of this folder is in Redis: give --log, or remove %s if the pool file has all of it", s.folder(placeName))
+	}
+	opened, err := journal.Open(s.folder("journal"), pool, s.config.Tell)
+	if err == nil {
+		s.journal = opened
+	}
+	return err
+}
+
+func hasFiles(folder string) (bool, error) {
+	entries, err := os.ReadDir(folder)
+	return len(entries) > 0, err
+}
+
+// CreateLog begins a log in Redis for the pool file of a folder, unless there is one. A journal in files has to be empty, and is removed.
+func CreateLog(folder string, options journal.Options) error {
+	held, err := lockAll(folder)
+	if err != nil {
+		return err
+	}
+	defer held.close()
+	digest, err := poolfile.Digest(filepath.Join(folder, "pool"))
+	if err != nil {
+		return err
+	}
+	if err := removeFiles(filepath.Join(folder, "journal"), digest); err != nil {
+		return err
+	}
+	options.Place = filepath.Join(folder, placeName)
+	return journal.CreateRedis(options, digest)
+}
+
+// removeFiles removes the segments of a journal that has no steps.
+func removeFiles(folder string, pool journal.Digest) error {
+	if has, err := hasFiles(folder); err != nil || !has {
+		return err
+	}
+	files, err := journal.Open(folder, pool, func(string, ...any) {})
+	if err != nil {
+		return err
+	}
+	defer files.Close()
+	if files.HasSteps() {
+		return errors.New("the journal in files has pushes that the pool file has not: start the server without --log and stop it by SIGTERM first")
+	}
+	entries, err := os.ReadDir(folder)
+	for _, it := range entries {
+		if err == nil {
+			err = os.Remove(filepath.Join(folder, it.Name()))
+		}
+	}
+	return err
+}
+
+// replaceChild replaces a child that was given other records than the journal has.
+func (s *Store) replaceChild() {
+	s.mutex.Lock()
+	process := s.newest
+	s.mutex.Unlock()
+	if process != nil {
+		process.Kill()
+	}
+}
+
+// isOfLog tells whether an error is that of a log in Redis, and no matter of what is in it.
+func isOfLog(err error) bool {
+	var bad *journal.BadLog
+	return errors.Is(err, journal.ErrUnread) || errors.As(err, &bad)
+}
+
+// lost ends the server: its log is another server's now, or lost records. Then the child has what the log lost, so it is kept in a file.
+func (s *Store) lost(why error) {
+	var bad *journal.BadLog
+	if !errors.As(why, &bad) || !bad.IsTaken {
+		s.rescue()
+	}
+	s.config.Stop(why)
+}
+
+// rescueWithin is how long a server that stops waits for those who use the child.
+const rescueWithin = 10 * time.Second
+
+// rescue saves what the child has beside the pool file.
+func (s *Store) rescue() {
+	ctx, stop := context.WithTimeout(context.Background(), rescueWithin)
+	defer stop()
+	err := s.beginMaintenance(ctx)
+	if err == nil {
+		defer s.endMaintenance()
+		if err = s.steps.shut(ctx); err == nil {
+			defer s.steps.open()
+			err = s.saveTo(s.process, s.folder(rescuedName))
+		}
+	}
+	if err != nil {
+		s.config.Tell("what the log lost is not saved: %v", err)
+		return
+	}
+	s.config.Tell("%s has all pushes that were told", s.folder(rescuedName))
+}
+
+func (s *Store) saveTo(process *child.Process, path string) error {
+	if _, err := s.requestOf(process, frames.Step{Kind: frames.Save, Body: frames.AsOpened}); err != nil {
+		return err
+	}
+	return copySynced(filepath.Join(s.room, "pool"), path)
+}
+
+// copyPool copies the pool file to where another machine may take it from.
+func (s *Store) copyPool() error {
+	if s.config.Copy == "" {
+		return nil
+	}
+	return copySynced(s.folder("pool"), s.config.Copy)
+}
+
+// copySynced copies a file, which appears whole under its new name.
+func copySynced(from, to string) error {
+	next := to + ".new"
+	if err := os.Remove(next); err != nil && !errors.Is(err, os.ErrNotExist) {
+		return err
+	}
+	if err := copyFile(from, next); err != nil {
+		return err
+	}
+	if err := os.Rename(next, to); err != nil {
+		return err
+	}
+	return syncFolder(filepath.Dir(to))
+}
+
+func copyFile(from, to string) error {
+	source, err := os.Open(from)
+	if err != nil {
+		return err
+	}
+	defer source.Close()
+	target, err := os.OpenFile(to, os.O_WRONLY|os.O_CREATE|os.O_EXCL, 0o600)
+	if err != nil {
+		return err
+	}
+	defer target.Close()
+	if _, err = io.Copy(target, source); err != nil {
+		return err
+	}
+	return target.Sync()
+}

@@ -1,0 +1,242 @@
+package store
+
+import (
+	"errors"
+	"os"
+	"path/filepath"
+	"strings"
+	"syscall"
+	"testing"
+	"time"
+
+	"gitpoold/journal"
+	"gitpoold/redistest"
+)
+
+// placed gives a configuration a journal in Redis where GITPOOLD_LOG asks for one: so each test of this package is one of both journals.
+func placed(t testing.TB, c Config) Config {
+	t.Helper()
+	if os.Getenv("GITPOOLD_LOG") == "" {
+		return c
+	}
+	return overRedis(t, redistest.Start(t), c)
+}
+
+// overRedis gives a configuration a journal in a Redis, which is begun if there is none.
+func overRedis(t testing.TB, server *redistest.Server, c Config) Config {
+	t.Helper()
+	address, err := journal.ParseAddress(server.Address("site"), "")
+	if err != nil {
+		t.Fatal(err)
+	}
+	c.Log = &journal.Options{Address: address, Wait: 5 * time.Second}
+	c.Stop = func(why error) { t.Errorf("the server stops: %v", why) }
+	if err := CreateLog(c.Folder, *c.Log); err != nil {
+		t.Fatal(err)
+	}
+	return c
+}
+
+func pushAll(t testing.TB, s *Store, texts ...string) {
+	t.Helper()
+	for _, text := range texts {
+		if err := push(s, "a", "refs/heads/main", text); err != nil {
+			t.Fatal(err)
+		}
+	}
+}
+
+// stopped lets a configuration's Stop be waited for.
+func stopped(c *Config) chan error {
+	why := make(chan error, 1)
+	c.Stop = func(err error) { why <- err }
+	return why
+}
+
+func waitFor(t testing.TB, why chan error, isTaken bool) {
+	t.Helper()
+	select {
+	case err := <-why:
+		var bad *journal.BadLog
+		if !errors.As(err, &bad) || bad.IsTaken != isTaken {
+			t.Fatal(err)
+		}
+	case <-time.After(30 * time.Second):
+		t.Fatal("the server goes on")
+	}
+}
+
+// endStopped ends a store that may go on no more, and so starts no other child.
+func endStopped(s *Store) {
+	close(s.stopping)
+	crash(s)
+}
+
+// copied copies the pool file of a folder to another one.
+func copied(t testing.TB, from, to string) {
+	t.Helper()
+	if err := os.Remove(filepath.Join(to, "pool")); err != nil {
+		t.Fatal(err)
+	}
+	if err := copyFile(from, filepath.Join(to, "pool")); err != nil {
+		t.Fatal(err)
+	}
+}
+
+// TestAnotherMachineGoesOn starts a second server from a copy of the pool file of the last save, while the first one runs still.
+func TestAnotherMachineGoesOn(t *testing.T) {
+	server := redistest.Start(t)
+	c := overRedis(t, server, plain(t, folder(t)))
+	c.Copy = filepath.Join(t.TempDir(), "shared.pool")
+	why := stopped(&c)
+	first := opened(t, c)
+	pushAll(t, first, "m0", "m1")
+	if err := first.Save(background); err != nil {
+		t.Fatal(err)
+	}
+	pushAll(t, first, "m2")
+	other := plain(t, folder(t))
+	copied(t, c.Copy, other.Folder)
+	second := opened(t, overRedis(t, server, other))
+	hasMessages(t, second, "a", "refs/heads/main", []string{"m0", "m1", "m2"})
+	if err := push(first, "a", "refs/heads/main", "late"); err == nil {
+		t.Fatal("the first server tells a push")
+	}
+	waitFor(t, why, true)
+	pushAll(t, second, "m3")
+	if err := second.Save(background); err != nil {
+		t.Fatal(err)
+	}
+	endStopped(first)
+	hasMessages(t, second, "a", "refs/heads/main", []string{"m0", "m1", "m2", "m3"})
+	if err := second.Close(background); err != nil {
+		t.Fatal(err)
+	}
+	if _, err := Open(c); err == nil || !strings.Contains(err.Error(), "no record goes on from the pool file") {
+		t.Fatalf("an old pool file: %v", err)
+	}
+}
+
+// TestALostEndIsRescued has a Redis that loses pushes that were told: the server stops, and leaves a pool file that has them.
+func TestALostEndIsRescued(t *testing.T) {
+	server := redistest.Start(t)
+	c := overRedis(t, server, plain(t, folder(t)))
+	why := stopped(&c)
+	s := opened(t, c)
+	pushAll(t, s, "m0", "m1")
+	size := server.LogBytes()
+	pushAll(t, s, "m2", "m3")
+	server.Lose(size)
+	waitFor(t, why, false)
+	endStopped(s)
+	other := plain(t, folder(t))
+	copied(t, filepath.Join(c.Folder, rescuedName), other.Folder)
+	s = opened(t, other)
+	defer s.Close(background)
+	hasMessages(t, s, "a", "refs/heads/main", []string{"m0", "m1", "m2", "m3"})
+}
+
+// TestASilentRedisIsWaitedFor stops Redis inside a push: the push is told to be unknown, reading goes on, and what Redis has then is served.
+func TestASilentRedisIsWaitedFor(t *testing.T) {
+	server := redistest.Start(t)
+	c := overRedis(t, server, plain(t, folder(t)))
+	c.Log.Wait = time.Second
+	s := opened(t, c)
+	pushAll(t, s, "m0")
+	server.Signal(syscall.SIGSTOP)
+	if err := push(s, "a", "refs/heads/main", "m1"); err != journal.ErrUnsure {
+		t.Fatal(err)
+	}
+	hasMessages(t, s, "a", "refs/heads/main", []string{"m0"})
+	if err := push(s, "a", "refs/heads/main", "m2"); err != journal.ErrAway {
+		t.Fatal(err)
+	}
+	server.Signal(syscall.SIGCONT)
+	for until := time.Now().Add(20 * time.Second); push(s, "a", "refs/heads/main", "m3") != nil; {
+		if time.Now().After(until) {
+			t.Fatal("no push is taken")
+		}
+		time.Sleep(10 * time.Millisecond)
+	}
+	hasMessages(t, s, "a", "refs/heads/main", []string{"m0", "m1", "m3"})
+	crash(s)
+	s = opened(t, c)
+	defer s.Close(background)
+	hasMessages(t, s, "a", "refs/heads/main", []string{"m0", "m1", "m3"})
+}
+
+// TestAChildThatDiesWhileRedisIsAway has a push whose end is in the log when the child dies and Redis stops: it is told once both are back.
+func TestAChildThatDiesWhileRedisIsAway(t *testing.T) {
+	server := redistest.Start(t)
+	c := overRedis(t, server, plain(t, folder(t)))
+	c.Log.Wait = time.Second
+	s := opened(t, c)
+	pushAll(t, s, "m0")
+	server.Kill()
+	s.process.Kill()
+	time.Sleep(1500 * time.Millisecond)
+	server.Restart()
+	hasMessages(t, s, "a", "refs/heads/main", []string{"m0"})
+	for until := time.Now().Add(20 * time.Second); push(s, "a", "refs/heads/main", "m1") != nil; {
+		if time.Now().After(until) {
+			t.Fatal("no push is taken")
+		}
+		time.Sleep(10 * time.Millisecond)
+	}
+	s.Close(background)
+}
+
+// TestMoves moves a journal from files to Redis and back, and refuses to leave one behind that has pushes.
+func TestMoves(t *testing.T) {
+	server := redistest.Start(t)
+	c := plain(t, folder(t))
+	s := opened(t, c)
+	pushAll(t, s, "m0")
+	crash(s)
+	address, _ := journal.ParseAddress(server.Address("site"), "")
+	log := journal.Options{Address: address, Wait: 5 * time.Second}
+	if err := CreateLog(c.Folder, log); err == nil || !strings.Contains(err.Error(), "has pushes that the pool file has not") {
+		t.Fatal(err)
+	}
+	s = opened(t, c)
+	inRedis := c
+	inRedis.Log, inRedis.Stop = &log, func(why error) { t.Error(why) }
+	if err := s.Close(background); err != nil {
+		t.Fatal(err)
+	}
+	if _, err := Open(inRedis); err == nil || !strings.Contains(err.Error(), "is in files") {
+		t.Fatal(err)
+	}
+	s = opened(t, overRedis(t, server, c))
+	hasMessages(t, s, "a", "refs/heads/main", []string{"m0"})
+	pushAll(t, s, "m1")
+	if err := s.Close(background); err != nil {
+		t.Fatal(err)
+	}
+	if _, err := Open(c); err == nil || !strings.Contains(err.Error(), "is in Redis") {
+		t.Fatal(err)
+	}
+	if err := os.Remove(filepath.Join(c.Folder, placeName)); err != nil {
+		t.Fatal(err)
+	}
+	s = opened(t, c)
+	defer s.Close(background)
+	hasMessages(t, s, "a", "refs/heads/main", []string{"m0", "m1"})
+}
+
+// TestACopyThatFails has a path to which no pool file can be copied: the save is told to have failed, and the log keeps all.
+func TestACopyThatFails(t *testing.T) {
+	server := redistest.Start(t)
+	c := overRedis(t, server, plain(t, folder(t)))
+	c.Copy = filepath.Join(c.Folder, "nowhere", "pool")
+	s := opened(t, c)
+	pushAll(t, s, "m0")
+	before := s.journal.Bytes()
+	if err := s.Save(background); err == nil || s.journal.Bytes() < before {
+		t.Fatal(err)
+	}
+	crash(s)
+	s = opened(t, c)
+	defer s.Close(background)
+	hasMessages(t, s, "a", "refs/heads/main", []string{"m0"})
+}
