@@ -20,39 +20,35 @@ from __future__ import annotations
 
 import hashlib
 import os
-from typing import BinaryIO, Callable, Iterable, Iterator, List, Optional, Sequence, Tuple, Union
+import struct
+from typing import Callable, Iterable, Iterator, List, Optional, Sequence, Tuple
 
-from gitpool_frames import (ANSWER_HEAD, AS_OPENED, LONGEST_BODY, PIECE, STEP_HEAD, STEP_SIZE, Answer, Fault, Kind, OutOfMemory, Step, Text,
-                            as_bytes, read_answer, read_step, write_answer, write_step)
+from gitpool_calls import Calls, pieces_of
+from gitpool_frames import (ANSWER_HEAD, LONGEST_BODY, PIECE, STEP_HEAD, STEP_SIZE, Answer, Fault, Kind, OutOfMemory, Step, Text, as_bytes,
+                            read_answer, read_step, write_answer, write_step)
 from gitpool_program import (TRY_AGAIN, Channel, PathLike, PoolBusy, Run, ServiceError, connect, error_of, find_program,
                              folder_of_server, link_to, pool_of_stopped_server)
-from gitpool_replies import (GitObject, LogEntry, Ref, Sizes, TreeEntry, read_kept, read_log, read_object, read_refs, read_sizes,
-                             read_tree, unquote)
+from gitpool_replies import (GitObject, Listed, Listing, LogEntry, Ref, Sizes, TreeEntry, read_kept, read_log, read_object, read_refs,
+                             read_sizes, read_tree, unquote)
 
 __all__ = [
-    "LONGEST_BODY", "PIECE", "TRY_AGAIN", "Answer", "Fault", "GitObject", "Kind", "LogEntry", "OutOfMemory", "PoolBusy", "Ref", "Service",
-    "ServiceError", "Sizes", "Step", "Text", "TreeEntry", "as_bytes", "connect", "error_of", "find_program", "link_to", "pieces_of", "read_answer",
-    "read_kept", "read_log", "read_object", "read_refs", "read_sizes", "read_step", "read_tree", "unquote", "write_answer", "write_step",
+    "LONGEST_BODY", "PIECE", "TRY_AGAIN", "Answer", "Fault", "GitObject", "Kind", "Listed", "Listing", "LogEntry", "OutOfMemory",
+    "PoolBusy", "Ref", "Service", "ServiceError", "Sizes", "Step", "Text", "TreeEntry", "as_bytes", "connect", "error_of",
+    "find_program", "link_to", "pieces_of", "read_answer", "read_kept", "read_log", "read_object", "read_refs", "read_sizes",
+    "read_step", "read_tree", "unquote", "write_answer", "write_step",
 ]
+
+# About how many bytes of entries are asked for at once.
+_ENTRY_BYTES = 1 << 20
 
 # Questions that may be on their way at once. All of them fit into a pipe of 64 KiB together, so
 # that the program never waits for us while we wait for it.
 _ON_THEIR_WAY = 32_768
 
-
-def pieces_of(source: Union[BinaryIO, Iterable[bytes]], size: int = PIECE) -> Iterator[bytes]:
-    """A stream in pieces of at most size bytes: of a file as they come, of a list of pieces each cut where it is longer."""
-    for part in _parts_of(source, size):
-        for at in range(0, len(part), size):
-            yield part[at : at + size]
+_QUESTIONS = (Kind.ASK, Kind.SIZES, Kind.MISSING, Kind.ENTRIES)
 
 
-def _parts_of(source: Union[BinaryIO, Iterable[bytes]], size: int) -> Iterable[bytes]:
-    read: Optional[Callable[[int], bytes]] = getattr(source, "read1", None) or getattr(source, "read", None)
-    return iter(lambda: read(size), b"") if read is not None else source  # type: ignore[misc]
-
-
-class Service:
+class Service(Calls):
     """A service over a pool file, as a context manager.
 
     pool is the pool file, which need not be there yet; without one the service begins empty and keeps nothing.
@@ -111,64 +107,11 @@ class Service:
         self._send(write_step(step))
         return self._receive()
 
-    def open(self, tenant: Text) -> None:
-        """Opens a stream of the tenant. Raises Fault 31 where it has one, and 32 where its name is bad."""
-        self.step(Step(Kind.OPEN, as_bytes(tenant))).check()
-
-    def feed(self, tenant: Text, data: bytes) -> bytes:
-        """Feeds bytes of the tenant's stream, cut anywhere, and gives what they print. More than LONGEST_BODY bytes go in
-        several steps. Raises Fault 30 where the tenant has no stream, and a stream's own faults."""
-        cut = [data[at : at + LONGEST_BODY] for at in range(0, len(data), LONGEST_BODY)] or [b""]
-        return b"".join(self.step(Step(Kind.FEED, as_bytes(tenant), it)).check() for it in cut)
-
     def feed_while(self, tenant: Text, data: bytes, work: Callable[[], None]) -> bytes:
         """The same for at most LONGEST_BODY bytes, with work that is done while the service takes them."""
         self._send(write_step(Step(Kind.FEED, as_bytes(tenant), data)))
         work()
         return self._receive().check()
-
-    def end(self, tenant: Text) -> bytes:
-        """Ends the tenant's stream, which is a checkpoint, and gives what that prints. It lasts from `close` on; where a server
-        keeps the pool file, from the answer on. Raises
-        Fault 30 where the tenant has no stream, and the faults of a stream that may not end here."""
-        return self.step(Step(Kind.END, as_bytes(tenant))).check()
-
-    def ask(self, tenant: Text, query: Text) -> bytes:
-        """The answer to a query (QUERIES in gitpool(1)) about the tenant's last checkpoint. Raises Fault: 15, 16, 17, 25, 32,
-        40 or 41."""
-        return self.step(Step(Kind.ASK, as_bytes(tenant), as_bytes(query))).check()
-
-    def restart(self) -> None:
-        """Drops all open streams back to their last checkpoints."""
-        self.step(Step(Kind.RESTART)).check()
-
-    # Requests of the operator
-
-    def save(self, as_opened: bool = False) -> None:
-        """Saves the pool file now; streams go on. Of a tenant with a stream the file gets the last checkpoint, or with as_opened
-        what it had when that stream was opened. Raises Fault 68 where the file cannot be written; it is then as it was."""
-        self.step(Step(Kind.SAVE, b"", AS_OPENED if as_opened else b"")).check()
-
-    def abandon(self, tenant: Text) -> None:
-        """Gives up the tenant's stream: its last checkpoint stays. Raises Fault 30 where it has none, and 32."""
-        self.step(Step(Kind.ABANDON, as_bytes(tenant))).check()
-
-    def remove(self, tenant: Text) -> None:
-        """Removes the tenant, with all that it alone has. Raises Fault 31 where it has a stream, and 32."""
-        self.step(Step(Kind.REMOVE, as_bytes(tenant))).check()
-
-    def compact(self, tenant: Text) -> None:
-        """Drops the objects that no ref of the tenant reaches. Raises Fault 31 where it has a stream, and 32."""
-        self.step(Step(Kind.COMPACT, as_bytes(tenant))).check()
-
-    def copy(self, source: Text, target: Text) -> None:
-        """Copies what a tenant has at its last checkpoint to an empty one. Raises Fault 31 where that has a stream, 32, and 33
-        where it has something."""
-        self.step(Step(Kind.COPY, as_bytes(source), as_bytes(target))).check()
-
-    def sizes(self) -> List[Sizes]:
-        """What each tenant has at its last checkpoint, in the order of their names."""
-        return read_sizes(self.step(Step(Kind.SIZES)).check())
 
     # Many questions
 
@@ -231,55 +174,42 @@ class Service:
         at = reply.index(b"\n")
         return reply[41 : reply.index(b" ", 41)], reply[at + 1 : -1]
 
-    # Answers as values
+    # Packs
 
-    def refs(self, tenant: Text) -> List[Ref]:
-        """All refs of the tenant, in the order of their bytes."""
-        return read_refs(self.ask(tenant, b"refs"))
+    def missing(self, tenant: Text, wants: Sequence[bytes], haves: Sequence[bytes] = ()) -> Listing:
+        """The objects that the wanted ones reach and the had ones do not, each after all that it refers to. Names are given in
+        hexadecimal digits, of objects of any kind; a had one that the tenant has not counts for nothing. Raises Fault 16 where
+        the tenant has not a wanted one, 25 where the names are more than a frame can have, 838,860, and 32."""
+        body = struct.pack(">I", len(wants)) + bytes.fromhex(b"".join((*wants, *haves)).decode())
+        if len(body) > LONGEST_BODY:
+            raise Fault(25)
+        return Listing(self.step(Step(Kind.MISSING, as_bytes(tenant), body)).check())
 
-    def head(self, tenant: Text) -> bytes:
-        """The ref that the tenant's HEAD names, which need not be there."""
-        return self.ask(tenant, b"head")[:-1]
+    def entries(self, tenant: Text, listing: Listing) -> Iterator[bytes]:
+        """The entries of a pack that has these objects, in pieces of at most PIECE bytes, all of which have to be taken before the
+        next step. About a megabyte is asked for while the one before is taken. Raises Fault 16 where the tenant has not an
+        object, and ServiceError where entries have another length than the sizes of their objects say."""
+        waiting: Optional[int] = None
+        for size, names in listing.parts(_ENTRY_BYTES, _ON_THEIR_WAY):
+            self._send(write_step(Step(Kind.ENTRIES, as_bytes(tenant), struct.pack(">Q", size) + names)))
+            if waiting is not None:
+                yield from self._receive_pieces(waiting)
+            waiting = size
+        if waiting is not None:
+            yield from self._receive_pieces(waiting)
 
-    def resolve(self, tenant: Text, expression: Text) -> str:
-        """The name of the object that an expression of gitrevisions(7) names. Raises Fault 3, 15, 16 or 17."""
-        return self.ask(tenant, b"rev-parse " + as_bytes(expression))[:-1].decode()
-
-    def log(self, tenant: Text, commits: Text) -> List[LogEntry]:
-        """The commits of a range, from new to old. Raises Fault as `resolve` does."""
-        return read_log(self.ask(tenant, b"log " + as_bytes(commits)))
-
-    def tree(self, tenant: Text, expression: Text) -> List[TreeEntry]:
-        """The entries of the tree that an expression names or peels to. Raises Fault as `resolve` does."""
-        return read_tree(self.ask(tenant, b"ls " + as_bytes(expression)))
-
-    def object(self, tenant: Text, expression: Text) -> GitObject:
-        """The object that an expression names. Raises Fault as `resolve` does."""
-        return read_object(self.ask(tenant, b"cat " + as_bytes(expression)))
-
-    def export(self, tenant: Text) -> bytes:
-        """The tenant's repository as a stream of git-fast-import(1). Raises Fault 25 where its refs are too many."""
-        return self.ask(tenant, b"export")
-
-    def import_stream(self, tenant: Text, source: Union[BinaryIO, Iterable[bytes]], size: int = PIECE,
-                      told: Optional[Callable[[int, bytes], None]] = None) -> bytes:
-        """Imports a whole stream, a file or a list of pieces, and gives all that it prints. After each piece told is called
-        with the bytes fed so far and what the piece printed. Raises Fault where the stream is refused; it is then closed,
-        and the tenant is as at its last checkpoint."""
-        self.open(tenant)
-        fed, printed = 0, []
-        try:
-            for piece in pieces_of(source, min(size, LONGEST_BODY)):
-                printed.append(self.feed(tenant, piece))
-                fed += len(piece)
-                if told:
-                    told(fed, printed[-1])
-        except Fault:
-            # A dead stream answers its number again, and is closed by its End.
-            self.step(Step(Kind.END, as_bytes(tenant)))
-            raise
-        printed.append(self.end(tenant))
-        return b"".join(printed)
+    def _receive_pieces(self, wanted: int) -> Iterator[bytes]:
+        """An answer of so many bytes, in pieces."""
+        status, value, left = self._receive_head()
+        if status:
+            Answer(status, value, self._receive_bytes(left)).check()
+        if left != wanted:
+            self.kill()
+            raise ServiceError(0, f"{self._channel.name} answers entries of {left} bytes, and not of {wanted}")
+        while left:
+            piece = self._receive_bytes(min(PIECE, left))
+            left -= len(piece)
+            yield piece
 
     # The way to the service
 
@@ -304,7 +234,7 @@ class Service:
     def _send(self, frames: bytes) -> None:
         if self._ended:
             raise ServiceError(0, "the service was closed")
-        if self._asks_only and frames and frames[0] not in (Kind.ASK, Kind.SIZES):
+        if self._asks_only and frames and frames[0] not in _QUESTIONS:
             raise ServiceError(0, "this service takes questions alone")
         try:
             self._in.write(frames)

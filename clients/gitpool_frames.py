@@ -58,6 +58,8 @@ class Kind(enum.IntEnum):
     COMPACT = 19
     COPY = 20
     SIZES = 21
+    MISSING = 22
+    ENTRIES = 23
 
 
 @dataclass(frozen=True)

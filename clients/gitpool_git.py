@@ -23,7 +23,8 @@ class Repository:
     """The repository that git's environment names, or the one of a folder."""
 
     def __init__(self, folder: Optional[str] = None):
-        self._words = ["git"] + (["-C", folder] if folder is not None else [])
+        # (git says of GIT_GRAFT_FILE that nobody should have one)
+        self._words = ["git", "-c", "advice.graftFileDeprecated=false"] + (["-C", folder] if folder is not None else [])
         self._environment = dict(os.environ, GIT_NO_REPLACE_OBJECTS="1", GIT_GRAFT_FILE=os.devnull, LC_ALL="C")
         self._batches: Dict[str, "subprocess.Popen[bytes]"] = {}
 
@@ -70,16 +71,34 @@ class Repository:
         told = self.lines("count-objects", "-v")
         return b"count: 0" not in told or b"in-pack: 0" not in told or any(line.startswith(b"alternate:") for line in told)
 
-    def reachable_commits(self) -> List[bytes]:
-        """The names, in hexadecimal digits, of all commits that a ref or HEAD reaches."""
-        return self.lines("rev-list", "--all", "--ignore-missing", "HEAD") if self._has_head() else self.lines("rev-list", "--all")
+    def is_shallow(self) -> bool:
+        """Whether commits are here without their parents."""
+        return self.run("rev-parse", "--is-shallow-repository").strip() == b"true"
 
-    def _has_head(self) -> bool:
+    def tips(self) -> List[bytes]:
+        """The names, in hexadecimal digits, of what is here of the objects that refs and HEAD hold, and of the commits that refs of
+        repositories hold from which this one borrows."""
+        commits = self.lines("rev-list", "--no-walk", "--ignore-missing", "--all", "--alternate-refs", *self._head())
+        found = list(dict.fromkeys(self.lines("for-each-ref", "--format=%(objectname)") + commits))
+        return [it for it, is_here in zip(found, self.check(found)) if is_here]
+
+    def _head(self) -> List[str]:
+        """What HEAD holds, if that is a commit."""
         try:
-            self.run("rev-parse", "--verify", "-q", "HEAD^{commit}")
-            return True
+            return [self.run("rev-parse", "--verify", "-q", "HEAD^{commit}").decode().strip()]
         except GitError:
-            return False
+            return []
+
+    def commits_of(self, tips: Sequence[bytes], hidden: Sequence[bytes], most: int) -> List[bytes]:
+        """The names, in hexadecimal digits, of the commits that some objects reach and hidden ones do not: the newest ones, at most so
+        many."""
+        asked = b"".join([it + b"\n" for it in tips] + [b"^" + it + b"\n" for it in hidden])
+        return self.lines("rev-list", "--ignore-missing", f"--max-count={most}", "--stdin", data=asked) if tips else []
+
+    def trees(self) -> List[bytes]:
+        """The names of the trees of all commits that a ref or HEAD reaches."""
+        told = self.lines("rev-list", "--all", *self._head(), "--format=%T")
+        return list(dict.fromkeys(it for it in told if not it.startswith(b"commit ")))
 
     def check(self, names: Iterable[bytes]) -> Iterator[Optional[Tuple[bytes, int]]]:
         """The kind and the size of each object, in turn, or None of one that is not there."""

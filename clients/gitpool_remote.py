@@ -217,14 +217,19 @@ class Helper:
         self._service = service
         from gitpool_fetch import Fetch
 
-        fetch = Fetch(service, self._address.tenant, self._local, self._progress.count)
-        kept = fetch.run(dict.fromkeys(line.split(b" ")[0] for line in batch), self._progress.shown and self._verbosity > 0)
-        self._progress.end()
+        is_verbose = self._progress.shown and self._verbosity > 0
+        fetch = Fetch(service, self._address.tenant, self._local, self._told if is_verbose else None, self._address.host is None)
+        kept = fetch.run(dict.fromkeys(line.split(b" ")[0] for line in batch))
         if kept:
             self._out.write(b"lock " + os.fsencode(kept) + b"\n")
         if self._wants(b"check-connectivity") and fetch.began_empty:
             self._out.write(b"connectivity-ok\n")
         self._out.write(b"\n")
+
+    def _told(self, what: str, count: int) -> None:
+        """Tells how many there are, in a line of its own: what git says of the pack comes after it."""
+        self._progress.count(what, count)
+        self._progress.end()
 
     # Pushes
 

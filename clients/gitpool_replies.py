@@ -2,8 +2,12 @@
 from __future__ import annotations
 
 import re
+import struct
 from dataclasses import dataclass
-from typing import List
+from functools import lru_cache
+from typing import Iterable, Iterator, List, NamedTuple, Tuple
+
+_LISTED = struct.Struct(">20sBQ")
 
 
 @dataclass(frozen=True)
@@ -51,6 +55,68 @@ class Sizes:
     bytes: int
     own: int
     refs: int
+
+
+class Listed(NamedTuple):
+    """An object of a listing: its name as 20 bytes, its kind (1 commit, 2 tree, 3 blob, 4 tag), and the bytes of its contents."""
+
+    name: bytes
+    kind: int
+    size: int
+
+
+class Listing:
+    """Objects with their kinds and sizes, as a Missing lists them. It is kept as 29 bytes for each."""
+
+    def __init__(self, listed: bytes = b""):
+        if len(listed) % _LISTED.size:
+            raise ValueError(f"a listing has {len(listed)} bytes")
+        self._listed = listed
+
+    @classmethod
+    def of(cls, objects: Iterable[Listed]) -> "Listing":
+        """The listing of these objects."""
+        return cls(b"".join(_LISTED.pack(*it) for it in objects))
+
+    def __len__(self) -> int:
+        return len(self._listed) // _LISTED.size
+
+    def __iter__(self) -> Iterator[Listed]:
+        return map(Listed._make, _LISTED.iter_unpack(self._listed))
+
+    def __add__(self, other: "Listing") -> "Listing":
+        return Listing(self._listed + other._listed)
+
+    def names(self) -> List[bytes]:
+        """The names, each of 20 bytes."""
+        return [name for name, _, _ in _LISTED.iter_unpack(self._listed)]
+
+    def parts(self, most: int, most_names: int) -> Iterator[Tuple[int, bytes]]:
+        """The names of these objects in runs, each with the length of their entries: at most so many bytes of entries, but where
+        one object has more, and at most so many bytes of names."""
+        begin = at = total = 0
+        for _, _, size in _LISTED.iter_unpack(self._listed):
+            more = entry_size(size)
+            if at > begin and (total + more > most or 20 * (at - begin + 1) > most_names):
+                yield total, self._raw(begin, at)
+                begin, total = at, 0
+            total += more
+            at += 1
+        if at > begin:
+            yield total, self._raw(begin, at)
+
+    def _raw(self, begin: int, end: int) -> bytes:
+        """The names of the objects of these places, one after another."""
+        step = _LISTED.size
+        return b"".join([self._listed[at : at + 20] for at in range(step * begin, step * end, step)])
+
+
+@lru_cache(maxsize=4096)
+def entry_size(size: int) -> int:
+    """How many bytes an object has as an entry of a pack, by the bytes of its contents: kind and size, four bits of it and then seven
+    to a byte; two bytes of zlib; the contents in stored blocks of at most 65,535 bytes, with five bytes before each; four of Adler-32."""
+    head = 1 + -(-(size >> 4).bit_length() // 7)
+    return head + 2 + 5 * max(1, -(-size // 65_535)) + size + 4
 
 
 def read_refs(reply: bytes) -> List[Ref]:

@@ -1,7 +1,15 @@
 """Scenes of `git clone` and `git fetch`."""
 from __future__ import annotations
 
-from .room import Room, os, scene
+from typing import List
+
+from .room import Kind, Room, os, scene
+
+
+def asked_for(room: Room) -> List[bytes]:
+    """The names of the objects whose entries a fetch asked for that was recorded."""
+    bodies = [body[8:] for kind, body in room.recorded() if kind == Kind.ENTRIES]
+    return [body[at : at + 20].hex().encode() for body in bodies for at in range(0, len(body), 20)]
 
 
 @scene
@@ -25,17 +33,68 @@ def a_fetch_asks_for_what_is_missing(room: Room) -> None:
     new = room.objects(site, "main", "^main~2")
     room.git(site, "push", "-q", "pool", "main")
     room.git("copy", "fetch", "-q", GITPOOL=room.recording())
-    asked = {body[4:44] for kind, body in room.recorded() if kind == 4 and body.startswith(b"cat ")}
     # The old page is here already.
-    assert asked == new - {room.name(site, "main:index.html").encode()}, asked
+    assert set(asked_for(room)) == new - {room.name(site, "main:index.html").encode()}, asked_for(room)
     assert room.name("copy", "origin/main") == room.name(site, "main")
     room.is_sound("copy")
     room.git("copy", "fetch", "-q", GITPOOL=room.recording())
-    assert not [body for _, body in room.recorded() if body.startswith(b"cat ")]
+    assert not asked_for(room)
 
 
 @scene
-def objects_that_no_ref_reaches_are_used(room: Room) -> None:
+def own_commits_hide_nothing(room: Room) -> None:
+    site = room.pushed()
+    room.git("", "clone", "-q", room.url(), "copy")
+    for count in range(3):
+        room.commit("copy", f"Mine {count}", {"mine": f"{count}\n"})
+    room.git("copy", "update-ref", "-d", "refs/remotes/origin/main")
+    room.git("copy", "tag", "-d", "light", "v1")
+    room.commit(site, "New", {"css/b.css": "b{}\n"})
+    room.git(site, "push", "-q", "pool", "main")
+    new = room.objects(site, "main", "^main~1")
+    # The tenant does not know what main of the copy holds, but a commit below that.
+    room.git("copy", "fetch", "-q", "--no-tags", "origin", "main", GITPOOL=room.recording())
+    assert set(asked_for(room)) == new or not room.has_helper, asked_for(room)
+    room.is_sound("copy")
+
+
+@scene
+def a_fetch_leaves_the_pool_file(room: Room) -> None:
+    site = room.pushed()
+    before = os.stat(room.pool)
+    room.git("", "clone", "-q", room.url(), "copy")
+    room.git(site, "fetch", "-q", "pool")
+    room.git("", "ls-remote", room.url())
+    after = os.stat(room.pool)
+    assert (before.st_ino, before.st_mtime_ns, before.st_nlink) == (after.st_ino, after.st_mtime_ns, after.st_nlink)
+    left = [it for it in os.listdir(room.folder) if it.startswith((".gitpool-", "gitpool-", "all.pool."))]
+    assert not left, left
+
+
+@scene
+def a_fetch_into_a_shallow_repository(room: Room) -> None:
+    site = room.pushed()
+    for count in range(6):
+        room.commit(site, f"Change {count}", {"old": f"{count % 3}\n", f"d{count}/f": f"{count}\n"})
+    room.git(site, "push", "-q", "pool", "main")
+    room.git("", "clone", "-q", "--depth", "2", "file://" + room.path(site), "shallow")
+    room.git("shallow", "remote", "add", "pool", room.url())
+    # The files of this commit are those of one that is not here.
+    room.git(site, "rm", "-q", "-r", "d5", "d4")
+    room.commit(site, "As long ago", {"old": "0\n", "css/a.css": "b{}\n"})
+    room.git(site, "push", "-q", "pool", "main", "main~4:refs/heads/below")
+    room.git("shallow", "fetch", "-q", "pool", "main", GITPOOL=room.recording())
+    assert room.name("shallow", "FETCH_HEAD") == room.name(site, "main")
+    assert room.git(site, "rev-parse", "main~3").strip() not in asked_for(room), "the history came that was cut off"
+    room.is_sound("shallow")
+    # What is below the cut comes with all that is below it.
+    room.git("shallow", "fetch", "-q", "--no-tags", "pool", "below:below")
+    assert room.git("shallow", "rev-list", "below") == room.git(site, "rev-list", "main~4")
+    room.is_sound("shallow")
+
+
+@scene
+def objects_that_no_ref_reaches_do_no_harm(room: Room) -> None:
     site = room.pushed()
     room.git("", "clone", "-q", room.url(), "copy")
     room.commit(site, "New", {"new/a": "a\n", "new/b": "b\n"})
@@ -125,8 +184,8 @@ def clones_of_all_kinds(room: Room) -> None:
     room.git("", "clone", "-q", "--no-tags", room.url(), "untagged")
     assert not room.refs("untagged", "refs/tags")
     room.git("", "clone", "-q", "--reference", site, room.url(), "borrowing")
-    room.git("", "clone", "-q", "--no-checkout", "-c", "transfer.fsckObjects=true", room.url(), "checked")
-    for name in ("bare", "branch", "tag", "single", "untagged", "borrowing", "checked"):
+    room.git("", "clone", "-q", "--no-checkout", "-c", "fetch.fsckObjects=false", room.url(), "unchecked")
+    for name in ("bare", "branch", "tag", "single", "untagged", "borrowing", "unchecked"):
         room.is_sound(name)
 
 

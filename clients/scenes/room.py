@@ -16,7 +16,7 @@ from typing import Callable, Dict, List, Optional, Sequence, Set, Tuple
 CLIENTS = os.path.dirname(os.path.dirname(os.path.realpath(__file__)))
 sys.path.insert(0, CLIENTS)
 
-from gitpool import Service  # noqa: E402
+from gitpool import Kind, Service  # noqa: E402
 
 Done = subprocess.CompletedProcess
 
@@ -40,6 +40,8 @@ _SETTINGS = b"""[init]
 \tallow = always
 [gc]
 \tauto = 0
+[fetch]
+\tfsckObjects = true
 """
 
 
@@ -51,6 +53,9 @@ def scene(function: Callable[["Room"], None]) -> Callable[["Room"], None]:
 
 class Room:
     """A folder, and the environment that git and the clients run in there."""
+
+    # Whether git asks by git-remote-gitpool, whose questions can be recorded.
+    has_helper = True
 
     def __init__(self, program: str):
         # In memory where that is to be had, for what is saved is synced to the disk.
@@ -267,4 +272,4 @@ def matches(pattern: str, said: str) -> bool:
     return re.search(pattern, said) is not None
 
 
-__all__ = ["Done", "Room", "SCENES", "Service", "commit_text", "matches", "os", "scene", "signal", "subprocess", "text", "wait_for"]
+__all__ = ["Done", "Kind", "Room", "SCENES", "Service", "commit_text", "matches", "os", "scene", "signal", "subprocess", "text", "wait_for"]

@@ -1,149 +1,124 @@
-"""Packs, beside git."""
+"""Packs, read by Python's zlib, and by git."""
 import hashlib
-import io
 import os
-import random
 import shutil
 import subprocess
 import tempfile
 import unittest
-from typing import List, Tuple
+import zlib
+from typing import Callable, List, Tuple
 
-from gitpool_fetch import StoredTree, changed_entries, spots_of
-from gitpool_pack import TYPES, PackWriter, delta_of_ends, delta_of_spot, delta_of_spots, distance, header
+from gitpool import Fault, Listed, Listing, Service, ServiceError
+from gitpool_fetch import Fetch
+from gitpool_git import Repository
+from gitpool_replies import entry_size
 
-
-def number_at(data: bytes, at: int) -> Tuple[int, int]:
-    """A size of a delta, and where it ends."""
-    number = shift = 0
-    while True:
-        byte = data[at]
-        number |= (byte & 0x7F) << shift
-        at, shift = at + 1, shift + 7
-        if not byte & 0x80:
-            return number, at
+KINDS = {1: b"commit", 2: b"tree", 3: b"blob", 4: b"tag"}
+SIZES = (0, 1, 15, 16, 2_047, 2_048, 65_534, 65_535, 65_536, 131_070, 131_071, 3_000_000)
 
 
-def applied(old: bytes, delta: bytes) -> bytes:
-    """What a delta makes of its base, as gitformat-pack(5) says."""
-    size, at = number_at(delta, 0)
-    wanted, at = number_at(delta, at)
-    assert size == len(old)
-    out = bytearray()
-    while at < len(delta):
-        code = delta[at]
+def read_entry(text: bytes) -> Tuple[int, bytes, bytes]:
+    """The kind and the contents of the first entry, and what stands after it."""
+    at, kind = 1, text[0] >> 4 & 7
+    while text[at - 1] & 0x80:
         at += 1
-        if code & 0x80:
-            start = length = 0
-            for bit in range(4):
-                if code & 1 << bit:
-                    start |= delta[at] << 8 * bit
-                    at += 1
-            for bit in range(3):
-                if code & 0x10 << bit:
-                    length |= delta[at] << 8 * bit
-                    at += 1
-            length = length or 0x10000
-            assert start + length <= len(old)
-            out += old[start : start + length]
-        else:
-            assert code
-            out += delta[at : at + code]
-            at += code
-    assert len(out) == wanted
-    return bytes(out)
+    inflater = zlib.decompressobj()
+    contents = inflater.decompress(text[at:])
+    return kind, contents, inflater.unused_data
 
 
-class Deltas(unittest.TestCase):
-    def test_ends(self) -> None:
-        chance = random.Random(5)
-        for _ in range(400):
-            old = chance.randbytes(chance.choice((0, 1, 20, 300, 70_000)))
-            cut, more = sorted(chance.randrange(len(old) + 1) for _ in range(2))
-            new = old[:cut] + chance.randbytes(chance.choice((0, 1, 130, 400))) + old[more:]
-            self.assertEqual(applied(old, delta_of_ends(old, new)), new)
-
-    def test_spots(self) -> None:
-        chance = random.Random(6)
-        for _ in range(300):
-            size = chance.choice((25, 400, 66_000, 200_000))
-            old = chance.randbytes(size)
-            places = range(0, size - 20, 20)
-            spots = sorted(chance.sample(places, min(chance.randrange(1, 5), len(places))))
-            new = bytearray(old)
-            for spot in spots:
-                new[spot : spot + 20] = chance.randbytes(20)
-            self.assertEqual(applied(old, delta_of_spots(bytes(new), spots)), new)
-            one = old[: spots[0]] + bytes(new[spots[0] : spots[0] + 20]) + old[spots[0] + 20 :]
-            self.assertEqual(applied(old, delta_of_spot(one, spots[0])), one)
+def stream_of(blobs: List[bytes]) -> bytes:
+    """A stream with a commit that has these blobs."""
+    parts = [b"blob\nmark :%d\ndata %d\n%b\n" % (place + 1, len(it), it) for place, it in enumerate(blobs)]
+    files = [b"M 644 :%d f%d\n" % (place + 1, place) for place in range(len(blobs))]
+    return b"".join(parts) + b"commit refs/heads/main\ncommitter A <a@b> 1 +0000\ndata 2\nm\n" + b"".join(files)
 
 
-class Trees(unittest.TestCase):
-    def tree(self, entries: List[Tuple[bytes, bytes, bytes]]) -> StoredTree:
-        contents = b"".join(mode + b" " + path + b"\0" + target for mode, path, target in entries)
-        return contents, int.from_bytes(contents, "big"), spots_of(entries), 0, 0
+class Listings(unittest.TestCase):
+    def test_values(self) -> None:
+        objects = [Listed(bytes([it]) * 20, it % 4 + 1, it << 33) for it in range(5)]
+        listing = Listing.of(objects[:2]) + Listing.of(objects[2:])
+        self.assertEqual((len(listing), list(listing), listing.names()), (5, objects, [it.name for it in objects]))
+        self.assertEqual(len(Listing()), 0)
+        with self.assertRaises(ValueError):
+            Listing(b"x" * 28)
 
-    def test_changed_entries(self) -> None:
-        chance = random.Random(7)
-        entries = [(b"100644", b"file%d" % it, chance.randbytes(20)) for it in range(30)]
-        old = self.tree(entries)
-        for count in (1, 2, 5, 30):
-            changed = sorted(chance.sample(range(30), count))
-            new = list(entries)
-            for it in changed:
-                target = bytearray(entries[it][2])
-                target[chance.choice((0, 10, 19))] ^= 0x80
-                new[it] = (*entries[it][:2], bytes(target))
-            found = changed_entries(old, *self.tree(new)[:2])
-            self.assertEqual(found, changed)
-
-    def test_other_changes(self) -> None:
-        entries = [(b"100644", b"a", b"\1" * 20), (b"100644", b"b", b"\2" * 20)]
-        old = self.tree(entries)
-        for new in ([(b"100755", b"a", b"\1" * 20), entries[1]], [entries[0], (b"100644", b"c", b"\2" * 20)], entries[:1],
-                    [(b"100755", b"a", b"\3" * 20), entries[1]], [(b"100644", b"a", b"\3" * 20), (b"100644", b"c", b"\2" * 20)]):
-            self.assertIsNone(changed_entries(old, *self.tree(new)[:2]))
+    def test_parts(self) -> None:
+        objects = [Listed(bytes([it]) * 20, 3, size) for it, size in enumerate((10, 10, 5_000, 10, 10, 10))]
+        small = entry_size(10)
+        parts = list(Listing.of(objects).parts(2 * small, 1_000))
+        self.assertEqual([total for total, _ in parts], [2 * small, entry_size(5_000), 2 * small, small])
+        self.assertEqual(b"".join(names for _, names in parts), b"".join(it.name for it in objects))
+        self.assertEqual([len(names) for _, names in Listing.of(objects).parts(1 << 20, 50)], [40, 40, 40])
+        self.assertEqual(list(Listing().parts(1, 20)), [])
 
 
 class Packs(unittest.TestCase):
     def setUp(self) -> None:
         self.folder = tempfile.mkdtemp()
         self.addCleanup(shutil.rmtree, self.folder)
-        subprocess.run(["git", "init", "-q", "--bare", self.folder], check=True)
+        self.service = Service()
+        self.addCleanup(self.service.kill)
+        self.blobs = [bytes([place]) * size for place, size in enumerate(SIZES)]
+        self.service.import_stream("t", [stream_of(self.blobs)])
+        self.tip = self.service.resolve("t", "main").encode()
 
-    def test_git_reads_what_is_written(self) -> None:
-        chance = random.Random(8)
-        blobs = [chance.randbytes(size) for size in (0, 1, 15, 16, 511, 512, 513, 65_535, 70_000, 3_000_000)] + [b"text\n" * 500]
-        part, out = io.BytesIO(), io.BytesIO()
-        early = PackWriter(part)
-        place = early.add(TYPES[b"blob"], blobs[-1])
-        for count in range(40):
-            new = blobs[-1][:100] + b"%d" % count + blobs[-1][100:]
-            blobs.append(new)
-            place = early.add_delta(place, delta_of_ends(blobs[-2], new))
-        early.flush()
-        part.seek(0)
-        writer = PackWriter(out, 0)
-        writer.begin(len(blobs))
-        writer.append(part)
-        for blob in blobs[:10]:
-            writer.add(TYPES[b"blob"], blob)
-        writer.finish()
-        subprocess.run(["git", "-C", self.folder, "index-pack", "--strict", "--stdin"], input=out.getvalue(), check=True, capture_output=True)
-        for blob in blobs:
-            name = hashlib.sha1(b"blob %d\0%b" % (len(blob), blob)).hexdigest()
-            shown = subprocess.run(["git", "-C", self.folder, "cat-file", "blob", name], check=True, capture_output=True).stdout
-            self.assertEqual(shown, blob)
-        (pack,) = [it for it in os.listdir(os.path.join(self.folder, "objects/pack")) if it.endswith(".idx")]
-        subprocess.run(["git", "-C", self.folder, "verify-pack", os.path.join(self.folder, "objects/pack", pack)], check=True)
+    def test_sizes_of_entries(self) -> None:
+        listing = self.service.missing("t", [self.tip])
+        self.assertEqual(len(listing), len(SIZES) + 2)
+        for it in listing:
+            entry = b"".join(self.service.entries("t", Listing.of([it])))
+            self.assertEqual(len(entry), entry_size(it.size))
+            kind, contents, rest = read_entry(entry)
+            self.assertEqual((kind, len(contents), rest), (it.kind, it.size, b""))
+            self.assertEqual(hashlib.sha1(b"%b %d\0%b" % (KINDS[kind], len(contents), contents)).digest(), it.name)
 
-    def test_heads_and_distances(self) -> None:
-        self.assertEqual(header(3, 5), b"\x35")
-        self.assertEqual(header(3, 16), b"\xb0\x01")
-        self.assertEqual(header(2, 2048), b"\xa0\x80\x01")
-        self.assertEqual(distance(127), b"\x7f")
-        self.assertEqual(distance(128), b"\x80\x00")
-        self.assertEqual(distance(16_512), b"\x80\x80\x00")
+    def test_pieces(self) -> None:
+        listing = self.service.missing("t", [self.tip])
+        pieces = list(self.service.entries("t", listing))
+        self.assertLessEqual(max(map(len, pieces)), 1 << 20)
+        text, found = b"".join(pieces), []
+        while text:
+            kind, contents, text = read_entry(text)
+            found.append(contents)
+        self.assertEqual(len(found), len(listing))
+        self.assertTrue(set(self.blobs) <= set(found))
+
+    def test_haves_and_refusals(self) -> None:
+        tree = self.service.resolve("t", "main^{tree}").encode()
+        self.assertEqual([it.kind for it in self.service.missing("t", [self.tip], [tree, b"ab" * 20])], [1])
+        self.assertEqual(len(self.service.missing("t", [self.tip], [self.tip])), 0)
+        asks: List[Callable[[], object]] = [
+            lambda: self.service.missing("t", [self.tip, b"ab" * 20]), lambda: self.service.missing("other", [self.tip]),
+            lambda: list(self.service.entries("t", Listing.of([Listed(b"\xab" * 20, 3, 1)])))]
+        for ask in asks:
+            with self.assertRaises(Fault) as refused:
+                ask()
+            self.assertEqual(refused.exception.number, 16)
+
+    def test_as_many_names_as_a_frame_has(self) -> None:
+        most = [b"ab" * 20] * 838_859
+        self.assertEqual(len(self.service.missing("t", [self.tip], most)), len(SIZES) + 2)
+        with self.assertRaises(Fault) as refused:
+            self.service.missing("t", [self.tip], [*most, self.tip])
+        self.assertEqual(refused.exception.number, 25)
+
+    def test_git_takes_it(self) -> None:
+        for is_near in (True, False):
+            path = os.path.join(self.folder, str(is_near))
+            subprocess.run(["git", "init", "-q", "--bare", path], check=True)
+            local = Repository(path)
+            self.addCleanup(local.close)
+            fetch = Fetch(self.service, b"t", local, is_near=is_near)
+            kept = fetch.run([self.tip])
+            self.assertTrue(kept is not None and fetch.began_empty)
+            listed = subprocess.run(["git", "-C", path, "rev-list", "--objects", self.tip.decode()], check=True, capture_output=True).stdout
+            self.assertEqual(len(listed.splitlines()), len(SIZES) + 2)
+
+    def test_entries_of_another_length(self) -> None:
+        (blob,) = [it for it in self.service.missing("t", [self.tip]) if it.size == 16]
+        with self.assertRaises((Fault, ServiceError)):
+            list(self.service.entries("t", Listing.of([blob._replace(size=15)])))
 
 
 if __name__ == "__main__":

@@ -79,7 +79,9 @@ class OverARepository(unittest.TestCase):
     def test_a_repository_as_git_has_it(self) -> None:
         self.assertEqual(self.local.object_format(), "sha1")
         self.assertTrue(self.local.has_objects())
-        self.assertEqual(len(self.local.reachable_commits()), 3)
+        commits = self.local.commits_of(self.local.tips(), [], 10)
+        self.assertEqual((len(commits), self.local.commits_of([self.name("main")], commits[1:], 10)), (3, commits[:1]))
+        self.assertEqual((len(self.local.commits_of(commits[:1], [], 2)), self.local.is_shallow(), len(self.local.trees())), (2, False, 3))
         self.assertEqual(list(self.local.check([self.name("main"), b"1" * 40]))[1], None)
         found = list(self.local.contents([self.name("main:f")] * 1500))
         self.assertEqual(found, [(self.name("main:f"), b"blob", b"2")] * 1500)

@@ -130,11 +130,11 @@ class OverAPool(unittest.TestCase):
                     service.head("t")
             self.assertEqual((caught.exception.status, caught.exception.number), (status, number))
             self.assertIn(says, str(caught.exception))
+
+    def test_a_program_that_writes_no_answers(self) -> None:
         with self.assertRaises(ServiceError) as caught:
             Service(self.pool, os.path.join(self.folder, "none"))
         self.assertEqual(caught.exception.status, 127)
-
-    def test_a_program_that_writes_no_answers(self) -> None:
         for words in (["cat"], ["sh", "-c", "printf too-short"], ["true"], ["sh", "-c", "exit 3"]):
             with self.assertRaises(ServiceError):
                 with Service(command=words) as service:
@@ -161,16 +161,25 @@ class OverAPool(unittest.TestCase):
                 with self.assertRaises(Fault) as caught:
                     call()
                 self.assertEqual(caught.exception.number, number)
-            for as_opened, refs in ((True, 1), (False, 2)):
-                service.save(as_opened)
-                with Service(self.pool, read_only=True) as saved:
-                    self.assertEqual((len(saved.refs("a")), len(saved.refs("b"))), (0, refs))
+            service.save()
+            with Service(self.pool, read_only=True) as saved:
+                self.assertEqual((len(saved.refs("a")), len(saved.refs("b"))), (0, 2))
             service.abandon("b")
             with self.assertRaises(Fault) as caught:
                 service.copy("b", "b")
             self.assertEqual(caught.exception.number, 33)
         with Service(self.pool) as service:
             self.assertEqual([it.tenant for it in service.sizes()], [b"b"])
+
+    def test_a_save_of_what_was_there_when_a_stream_was_opened(self) -> None:
+        with Service(self.pool) as service:
+            service.import_stream("b", [BLOB, COMMIT])
+            service.open("b")
+            service.feed("b", b"reset refs/heads/new\nfrom refs/heads/main^0\n\ncheckpoint\n")
+            for as_opened, refs in ((True, 1), (False, 2)):
+                service.save(as_opened)
+                with Service(self.pool, read_only=True) as saved:
+                    self.assertEqual(len(saved.refs("b")), refs)
 
     def test_the_pool_of_a_stopped_server(self) -> None:
         os.mkdir(os.path.join(self.folder, "journal"))
