@@ -48,13 +48,17 @@ _gitpool_offer_arguments() {
   case $command-$place in
     ask-1) _gitpool_offer_queries ;;
     merge-0) _gitpool_offer_files ;;
-    help-0) _gitpool_offer "serve import ask check copy remove compact sizes extract merge host" ;;
+    help-0) _gitpool_offer "serve import ask check copy remove compact sizes extract merge host pack" ;;
     serve-* | check-* | sizes-* | host-* | import-[1-9]* | remove-[1-9]* | compact-[1-9]* | merge-[1-9]* | ask-[2-9]* | copy-[2-9]*)
       [ "$has_pool" ] || _gitpool_offer --pool
       ;;
     extract-[1-9]*)
       [ "$has_pool" ] || _gitpool_offer --pool
       [ "$has_to" ] || _gitpool_offer --to
+      ;;
+    pack-[1-9]*)
+      [ "$has_pool" ] || _gitpool_offer --pool
+      _gitpool_offer --all
       ;;
   esac
 }
@@ -70,10 +74,11 @@ _gitpool() {
   if [[ $word == -* ]]; then
     if [ ! "$command" ]; then _gitpool_offer "--help --version"; else _gitpool_offer "--pool --help"; fi
     [ "$command" != extract ] || _gitpool_offer --to
+    [ "$command" != pack ] || _gitpool_offer --all
   elif [ "$command" ]; then
     _gitpool_offer_arguments
   else
-    _gitpool_offer "serve import ask check copy remove compact sizes extract merge host help"
+    _gitpool_offer "serve import ask check copy remove compact sizes extract merge host pack help"
   fi
 }
 

@@ -1,6 +1,6 @@
 # Completion of gitpool for fish. completions/README.md says where it goes.
 
-set -l commands serve import ask check copy remove compact sizes extract merge host help
+set -l commands serve import ask check copy remove compact sizes extract merge host pack help
 
 complete -c gitpool -f
 complete -c gitpool -s h -l help -d 'print help'
@@ -16,10 +16,12 @@ complete -c gitpool -n "not __fish_seen_subcommand_from $commands" -a sizes -d '
 complete -c gitpool -n "not __fish_seen_subcommand_from $commands" -a extract -d 'write a tenant to a pool file of its own'
 complete -c gitpool -n "not __fish_seen_subcommand_from $commands" -a merge -d 'add the tenants of another pool file'
 complete -c gitpool -n "not __fish_seen_subcommand_from $commands" -a host -d 'answer frames of steps and of the operator, and save when asked'
+complete -c gitpool -n "not __fish_seen_subcommand_from $commands" -a pack -d 'write a pack of what the lines of standard input ask for'
 complete -c gitpool -n "not __fish_seen_subcommand_from $commands" -a help -d 'print the help of a subcommand'
-complete -c gitpool -n '__fish_seen_subcommand_from serve import ask check copy remove compact sizes extract merge host' -l pool -rF -d 'the pool file'
+complete -c gitpool -n '__fish_seen_subcommand_from serve import ask check copy remove compact sizes extract merge host pack' -l pool -rF -d 'the pool file'
 complete -c gitpool -n '__fish_seen_subcommand_from extract' -l to -rF -d 'the pool file to write'
-complete -c gitpool -n '__fish_seen_subcommand_from help' -a 'serve import ask check copy remove compact sizes extract merge host'
+complete -c gitpool -n '__fish_seen_subcommand_from pack' -l all -d 'also want every ref'
+complete -c gitpool -n '__fish_seen_subcommand_from help' -a 'serve import ask check copy remove compact sizes extract merge host pack'
 
 # How many words stand after the subcommand, without options and the files of --pool and --to.
 function __gitpool_place

@@ -17,10 +17,10 @@ pages_render_without_warnings() {
   done
 }
 
+# mandoc gets no name, for it would take the section from the last dot in a path, even from that of a folder.
 mandoc_finds_no_fault_in_pages() {
   for it in "$prefix"/share/man/man1/*; do
-    gunzip < "$it" > "$room/page"
-    same "$(mandoc -T lint -W warning "$room/page" 2>&1)" ""
+    same "$(gunzip < "$it" | mandoc -T lint -W warning 2>&1)" ""
   done
 }
 
@@ -54,7 +54,7 @@ links_of_documents_work() {
 }
 
 removes_as_the_document_says() {
-  "$top/install" --program "$program" "$room/to remove"
+  "$top/install" --program "$program" "${library[@]}" "$room/to remove"
   (cd "$room/to remove" && xargs rm -f < lib/gitpool/others && rm -r lib/gitpool share/doc/gitpool)
   same "$(find "$room/to remove" ! -type d)" ""
 }

@@ -4,7 +4,7 @@
 prefix="$room/second place/gitpool"
 
 installs_and_moves() {
-  "$top/install" --program "$program" "$room/first place/gitpool"
+  "$top/install" --program "$program" "${library[@]}" "$room/first place/gitpool"
   mv "$room/first place" "$room/second place"
   cmp "$program" "$prefix/lib/gitpool/gitpool"
   ! grep -rIlF -e "$room" -e "$top" "$prefix"

@@ -24,7 +24,7 @@ END
 # install_killed AFTER TREE PLACE: an install from this tree, which is killed after its step of this number.
 install_killed() {
   : > "$3.steps"
-  (AFTER=$1 PLACE=$3 STEPS=$3.steps PATH=$room/killers:$plain_path "$2/install" --program "$2/program" "$3" > "$3.said" 2>&1) 2> /dev/null
+  (AFTER=$1 PLACE=$3 STEPS=$3.steps PATH=$room/killers:$plain_path "$2/install" --program "$2/program" "${library[@]}" "$3" > "$3.said" 2>&1) 2> /dev/null
 }
 
 # Every command that is there runs, and says this version or that.
@@ -40,7 +40,10 @@ commands_run() {
 # make_tree NAME VERSION: what an install reads, with one document and a program that says its version and nothing else.
 make_tree() {
   mkdir -p "$room/$1/crates/command_lines/src"
-  cp -R "$top/install" "$top/build" "$top/packaging" "$top/clients" "$top/man" "$top/completions" "$top/LICENSE" "$room/$1"
+  cp -R "$top/install" "$top/build" "$top/packaging" "$top/clients" "$top/man" "$top/completions" "$top/include" "$top/LICENSE" "$room/$1"
+  mkdir "$room/$1/bindings"
+  cp -R "$top/bindings/python" "$top/bindings/rust" "$room/$1/bindings"
+  sed -i "s/^\(#define GITPOOL_VERSION\|version =\) \"$version\"/\1 \"$2\"/" "$room/$1/include/gitpool.h" "$room/$1/bindings/rust/Cargo.toml"
   echo "pub const VERSION: &str = \"$2\";" > "$room/$1/crates/command_lines/src/version.rt"
   echo "Version $2." > "$room/$1/README.md"
   make_program "$room/$1/program" "gitpool $2"
@@ -60,7 +63,7 @@ make_trees() {
 # Where an install was killed, the next one leaves what this tree has.
 completes() {
   cp -a "$1" "$1.again"
-  "$room/newer/install" --program "$room/newer/program" "$1.again" && diff -r "$1.again" "$room/wanted" -x __pycache__ && rm -rf "$1.again"
+  "$room/newer/install" --program "$room/newer/program" "${library[@]}" "$1.again" && diff -r "$1.again" "$room/wanted" -x __pycache__ && rm -rf "$1.again"
 }
 
 # kills PLACE [OLD]: installs the newer version into a place, over what the folder OLD has; kills that after each step, and at last does not.
@@ -82,8 +85,8 @@ kills_of_an_upgrade() { kills "$room/upgraded" "$room/former"; }
 prepare_kills() {
   make_killers
   make_trees
-  "$room/newer/install" --program "$room/newer/program" "$room/wanted"
-  "$room/older/install" --program "$room/older/program" "$room/former"
+  "$room/newer/install" --program "$room/newer/program" "${library[@]}" "$room/wanted"
+  "$room/older/install" --program "$room/older/program" "${library[@]}" "$room/former"
   commands_run "$room/wanted" "$version" "$version"
   commands_run "$room/former" 0.3.9 0.3.9
 }

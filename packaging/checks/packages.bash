@@ -44,9 +44,10 @@ versions_of_packages_sort() {
 }
 
 packages_have_the_same_bytes() {
-  local words=(--program "$program" --no-static) count=2
-  [ -z "$static" ] || words[2]=--static words[3]=$static count=3
+  local words=(--program "$program" "${library[@]}") count=2
+  if [ "$static" ]; then words+=(--static "$static") count=3; else words+=(--no-static); fi
   ! has_server || count=$((count + 1))
+  [ ${#library[@]} = 0 ] || count=$((count + 4))
   export GOCACHE=$room/gocache
   (umask 077; cd "$room/one"; HOME=/ TZ=Asia/Tokyo LC_ALL=C ./package "${words[@]}" "$room/out one")
   mkdir -m 2777 "$room/tmp/of a group"

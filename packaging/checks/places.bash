@@ -11,11 +11,11 @@ installs_into_an_odd_place() {
 }
 
 installs_below_destdir() {
-  DESTDIR="$room/a stage" "$top/install" --program "$program" /opt/gitpool
+  DESTDIR="$room/a stage" "$top/install" --program "$program" "${library[@]}" /opt/gitpool
   same "$("$room/a stage/opt/gitpool/bin/gitpool" < "$top/streams/hello.fi")" $hello
   diff -r "$prefix" "$room/a stage/opt/gitpool" -x __pycache__
   cd "$room"
-  DESTDIR=stage "$top/install" --program "$program" /
+  DESTDIR=stage "$top/install" --program "$program" "${library[@]}" /
   diff -r "$prefix" "$room/stage" -x __pycache__
   ! grep -rIlF "stage/" "$room/a stage/opt/gitpool/"{bin,lib} "$room/stage"/{bin,lib}
 }

@@ -3,13 +3,17 @@
 ghost use Rattle.std.specs.Prelude.{◌≡◌};
 ghost use Rattle.byte_devices.specs.Reading.{fill_code};
 
+use thiserror::Error;
+
 /// Why a buffer was not filled.
-#[derive(Clone, Copy, PartialEq, Eq)]
+#[derive(Clone, Copy, Debug, PartialEq, Eq, Error)]
 pub enum FillFault {
     /// The input ended before the buffer was full: 51. A caller may decide that this is no fault,
     /// or that it has another number: a pool file that is cut off is 62.
+    #[error("input ended")]
     Ended,
     /// A call of the reader failed: 68.
+    #[error("a reader failed")]
     Failed,
 }
 

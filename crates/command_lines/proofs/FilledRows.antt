@@ -88,16 +88,22 @@ used_filled action.Version id how values rows v e = e
 
 -- ---- a use of an argument
 
--- a use of the argument has a value, or asks for help
+-- a use of the argument has a value, or gets one, or asks for help
 abbrev pub wants_value : Rule → Bool
-wants_value a = is_request (action_of a) || nat_lt 0 (unwrap_or_range a.range).start_inclusive
+wants_value a = is_request (action_of a) || (nat_lt 0 (unwrap_or_range a.range).start_inclusive || is_some (slice_get a.missing 0))
 
-some_values : (a : Rule) (least most : ℕ) (values : List Text) → nat_lt 0 least ≡ true → range_kinds least most (length values) ≡ []
-    → is_some (slice_get (values_or_missing a values) 0) ≡ true
-some_values a least most [] lt none = absurd (cond_nil (nat_lt 0 least && (0 == 0)) _ _ _ (ap (λ b. b && (0 == 0)) lt) none)
+-- a use without a value gets the one that stands for it
+gets_value : (b c : Bool) (k : ErrorKind) (ks rest : Kinds) → (b || c) ≡ true → cond (b && (0 == 0)) (k ∷ ks) rest ≡ [] → c ≡ true
+gets_value true c k ks rest is none = absurd (no_nil k ks none)
+gets_value false c k ks rest is none = is
+
+some_values : (a : Rule) (least most : ℕ) (values : List Text) → (nat_lt 0 least || is_some (slice_get a.missing 0)) ≡ true
+    → range_kinds least most (length values) ≡ [] → is_some (slice_get (values_or_missing a values) 0) ≡ true
+some_values a least most [] lt none = gets_value (nat_lt 0 least) _ _ _ _ lt none
 some_values a least most (v ∷ vs) lt none = refl
 
-action_filled : (x : ArgAction) (again : Bool) (a : Rule) (least most : ℕ) (values : List Text) (rows : List Row) → (is_request x || nat_lt 0 least) ≡ true
+action_filled : (x : ArgAction) (again : Bool) (a : Rule) (least most : ℕ) (values : List Text) (rows : List Row)
+    → (is_request x || (nat_lt 0 least || is_some (slice_get a.missing 0))) ≡ true
     → range_kinds least most (length values) ≡ [] → action_fault x again a (values_or_missing a values) rows ≡ [] → filled rows ≡ true
     → filled (used_as x a.id (reading_by a) (values_or_missing a values) rows) ≡ true
 action_filled action.Set again a least most values rows wants range none e = used_filled action.Set a.id (reading_by a) (values_or_missing a values) rows (some_values a least most values wants range) e

@@ -14,8 +14,8 @@ use Rattle.clap.specs.Simple.{Shape, built, built_leaf, entered, help_shape, inh
 use Rattle.clap.specs.Walk.{answers_to}
 use Rattle.clap.specs.Takes.{is_given}
 use Rattle.clap.specs.declared.error.kind.ErrorKind.{ErrorKind}
-use Rattle.command_lines.specs.Lines.{Said, ask, compact, copy, extract, import, merge, remove, said_by, said_in}
-use Rattle.command_lines.specs.Usage.{ask_usage, check_usage, compact_usage, copy_usage, extract_usage, gitpool, host_usage, import_usage, merge_usage, remove_usage, serve_usage, sizes_usage}
+use Rattle.command_lines.specs.Lines.{Said, ask, compact, copy, extract, import, is_set, merge, pack, remove, said_by, said_in}
+use Rattle.command_lines.specs.Usage.{ask_usage, check_usage, compact_usage, copy_usage, extract_usage, gitpool, host_usage, import_usage, merge_usage, pack_usage, remove_usage, serve_usage, sizes_usage}
 use Rattle.command_lines.proofs.FilledRows.{defaults_filled, filled, no_nil, or_else_nil, settled_filled, wants_value}
 use Rattle.command_lines.proofs.FilledWalk.{given_value, walk_filled}
 
@@ -256,33 +256,44 @@ extract_says words none =
     some_two extract (first_of (codes "tenant") rows) (first_of (codes "to") rows) (first_of (codes "pool") rows) (given_value (codes "tenant") rows all.0 tenant.0)
     (given_value (codes "to") rows all.0 file.0) (given_value (codes "pool") rows all.0 pool.0)
 
+pack_says : Says pack_usage
+pack_says words none =
+    let all = leaf_filled (leaf pack_usage) words refl none in
+    let rows = rows_after (leaf pack_usage).rules [] words in
+    let tenant = first_given (is_given (codes "tenant") rows) (not (is_given (codes "pool") rows) || false) (wanted (leaf pack_usage) rows false all.1).1 in
+    let pool = first_given (is_given (codes "pool") rows) false tenant.1 in
+    some_one (λ tenant pool. pack tenant (is_set rows (codes "all")) pool) (first_of (codes "tenant") rows) (first_of (codes "pool") rows)
+    (given_value (codes "tenant") rows all.0 tenant.0) (given_value (codes "pool") rows all.0 pool.0)
+
 -- ---- the whole command line
 
 -- the first subcommand whose test holds
-abbrev first : Bool → Bool → Bool → Bool → Bool → Bool → Bool → Bool → Bool → Bool → Bool → Bool → Option Shape
-first a b c d e f g h i j k l =
+abbrev first : Bool → Bool → Bool → Bool → Bool → Bool → Bool → Bool → Bool → Bool → Bool → Bool → Bool → Option Shape
+first a b c d e f g h i j k l m =
     cond a (Some (leaf serve_usage)) (cond b (Some (leaf import_usage)) (cond c (Some (leaf ask_usage)) (
     cond d (Some (leaf check_usage)) (cond e (Some (leaf copy_usage)) (cond f (Some (leaf remove_usage)) (
     cond g (Some (leaf compact_usage)) (cond h (Some (leaf sizes_usage)) (cond i (Some (leaf extract_usage)) (
-    cond j (Some (leaf merge_usage)) (cond k (Some (leaf host_usage)) (cond l (Some (built_leaf help_shape)) None)))))))))))
+    cond j (Some (leaf merge_usage)) (cond k (Some (leaf host_usage)) (cond l (Some (leaf pack_usage)) (
+    cond m (Some (built_leaf help_shape)) None))))))))))))
 
-first_says : (words : List Text) (a b c d e f g h i j k l : Bool) → l ≡ false
-    → option_map_or (λ s. level_fault s [] nothing_held words false []) (first a b c d e f g h i j k l) [] ≡ []
-    → is_some (option_map (λ s. rows_at s words) (first a b c d e f g h i j k l)) ≡ true
-    → is_some (option_and_then said_by (option_map (λ s. rows_at s words) (first a b c d e f g h i j k l))) ≡ true
-first_says words true b c d e f g h i j k l other none some = serve_says words none
-first_says words false true c d e f g h i j k l other none some = import_says words none
-first_says words false false true d e f g h i j k l other none some = ask_says words none
-first_says words false false false true e f g h i j k l other none some = check_says words none
-first_says words false false false false true f g h i j k l other none some = copy_says words none
-first_says words false false false false false true g h i j k l other none some = remove_says words none
-first_says words false false false false false false true h i j k l other none some = compact_says words none
-first_says words false false false false false false false true i j k l other none some = sizes_says words none
-first_says words false false false false false false false false true j k l other none some = extract_says words none
-first_says words false false false false false false false false false true k l other none some = merge_says words none
-first_says words false false false false false false false false false false true l other none some = host_says words none
-first_says words false false false false false false false false false false false true other none some = absurd (true≢false other)
-first_says words false false false false false false false false false false false false other none some = absurd (true≢false (sym some))
+first_says : (words : List Text) (a b c d e f g h i j k l m : Bool) → m ≡ false
+    → option_map_or (λ s. level_fault s [] nothing_held words false []) (first a b c d e f g h i j k l m) [] ≡ []
+    → is_some (option_map (λ s. rows_at s words) (first a b c d e f g h i j k l m)) ≡ true
+    → is_some (option_and_then said_by (option_map (λ s. rows_at s words) (first a b c d e f g h i j k l m))) ≡ true
+first_says words true b c d e f g h i j k l m other none some = serve_says words none
+first_says words false true c d e f g h i j k l m other none some = import_says words none
+first_says words false false true d e f g h i j k l m other none some = ask_says words none
+first_says words false false false true e f g h i j k l m other none some = check_says words none
+first_says words false false false false true f g h i j k l m other none some = copy_says words none
+first_says words false false false false false true g h i j k l m other none some = remove_says words none
+first_says words false false false false false false true h i j k l m other none some = compact_says words none
+first_says words false false false false false false false true i j k l m other none some = sizes_says words none
+first_says words false false false false false false false false true j k l m other none some = extract_says words none
+first_says words false false false false false false false false false true k l m other none some = merge_says words none
+first_says words false false false false false false false false false false true l m other none some = host_says words none
+first_says words false false false false false false false false false false false true m other none some = pack_says words none
+first_says words false false false false false false false false false false false false true other none some = absurd (true≢false other)
+first_says words false false false false false false false false false false false false false other none some = absurd (true≢false (sym some))
 
 entered_says : (stop : Option (Text × List Text)) → is_own stop ≡ true → entered_fault (built gitpool) stop ≡ [] → is_some (entered (built gitpool) stop) ≡ true
     → is_some (option_and_then said_by (entered (built gitpool) stop)) ≡ true
@@ -291,7 +302,7 @@ entered_says (Some p) own none some =
     let answers : Shape → Bool = λ s. answers_to p.0 (label_of s) in
     first_says p.1 (answers (leaf serve_usage)) (answers (leaf import_usage)) (answers (leaf ask_usage)) (answers (leaf check_usage))
     (answers (leaf copy_usage)) (answers (leaf remove_usage)) (answers (leaf compact_usage)) (answers (leaf sizes_usage))
-    (answers (leaf extract_usage)) (answers (leaf merge_usage)) (answers (leaf host_usage)) (answers (built_leaf help_shape)) (no_help p.0 own) none some
+    (answers (leaf extract_usage)) (answers (leaf merge_usage)) (answers (leaf host_usage)) (answers (leaf pack_usage)) (answers (built_leaf help_shape)) (no_help p.0 own) none some
 
 is_met : (b : Bool) → (not b && true) ≡ false → b ≡ true
 is_met true e = refl

@@ -1,5 +1,6 @@
 -- Command lines: which words name which line, by what `clap` matches them with.
-use Rattle.std.specs.Prelude.{◌≡◌, ◌⊎◌, List, [], ◌∷◌, ◌++◌, Option, Some, None, codes, if◌then◌else◌, option_and_then, option_map}
+use Rattle.std.specs.Prelude.{◌≡◌, ◌⊎◌, Bool, true, false, List, [], ◌∷◌, ◌++◌, Option, Some, None, codes, if◌then◌else◌, option_and_then, option_map}
+use Rattle.std.specs.Option.{option_map_or}
 use Rattle.std.specs.Str.{bytes_eq}
 use Rattle.clap.specs.Words.{Row, Text, first_of, subcommand_of}
 use Rattle.command_lines.specs.Usage.{gitpool}
@@ -23,6 +24,7 @@ pub data Said : Type 0 where
   extract : Text → Text → Text → Said
   merge : Text → Text → Said
   host : Text → Said
+  pack : Text → Bool → Text → Said
 
 -- What a line says, as text.
 abbrev pub said : Line → Said
@@ -37,6 +39,7 @@ said (line.Sizes pool) = sizes pool.now
 said (line.Extract tenant file pool) = extract tenant.now file.now pool.now
 said (line.Merge file pool) = merge file.now pool.now
 said (line.Host pool) = host pool.now
+said (line.Pack tenant all pool) = pack tenant.now all pool.now
 
 -- The value that the matches have under this name.
 abbrev pub given : List Row → Text → Option Text
@@ -68,6 +71,14 @@ extract_in rows pool = option_and_then (λ tenant.
 abbrev pub merge_in : List Row → Text → Option Said
 merge_in rows pool = option_map (λ file. merge file pool) (given rows (codes "file"))
 
+-- Whether the flag of this name was given: `clap` gives it a value, `true` or `false`.
+abbrev pub is_set : List Row → Text → Bool
+is_set rows id = option_map_or (λ text. bytes_eq text (codes "true")) (given rows id) false
+
+abbrev pub pack_in : List Row → Text → Option Said
+pack_in rows pool =
+    option_map (λ tenant. pack tenant (is_set rows (codes "all")) pool) (given rows (codes "tenant"))
+
 -- What a subcommand of this name with these matches says beside the pool file.
 abbrev pub said_with : Text → List Row → Text → Option Said
 said_with name rows pool =
@@ -81,7 +92,8 @@ said_with name rows pool =
     else (if bytes_eq name (codes "sizes") then Some (sizes pool)
     else (if bytes_eq name (codes "extract") then extract_in rows pool
     else (if bytes_eq name (codes "merge") then merge_in rows pool
-    else (if bytes_eq name (codes "host") then Some (host pool) else None))))))))))
+    else (if bytes_eq name (codes "host") then Some (host pool)
+    else (if bytes_eq name (codes "pack") then pack_in rows pool else None)))))))))))
 
 -- What a subcommand with its matches says.
 abbrev pub said_by : Text × List Row → Option Said
@@ -118,3 +130,7 @@ words_of (extract tenant file pool) =
     codes "extract" ∷ pool_word pool ∷ to_word file ∷ codes "--" ∷ tenant ∷ []
 words_of (merge file pool) = codes "merge" ∷ pool_word pool ∷ codes "--" ∷ file ∷ []
 words_of (host pool) = codes "host" ∷ pool_word pool ∷ []
+words_of (pack tenant false pool) =
+    codes "pack" ∷ pool_word pool ∷ codes "--" ∷ tenant ∷ []
+words_of (pack tenant true pool) =
+    codes "pack" ∷ pool_word pool ∷ codes "--all" ∷ codes "--" ∷ tenant ∷ []

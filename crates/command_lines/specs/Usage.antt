@@ -2,6 +2,7 @@
 use Rattle.std.specs.Prelude.{◌≡◌, List, [], ◌∷◌, ◌++◌, Some, codes, true, false}
 use Rattle.clap.specs.Words.{App, Rule, Shape, Text, app_of, new_rule}
 use Rattle.clap.specs.Simple.{new_shape}
+use Rattle.clap.specs.declared.builder.action.ArgAction.TheVariants.{SetTrue}
 use Rattle.clap.specs.declared.builder.command.Command.{Command}
 use Rattle.clap.specs.declared.builder.command.Command.TheViews.{out-Command}
 
@@ -20,6 +21,14 @@ pool_option = option_of (codes "pool")
 -- `--to FILE`.
 abbrev pub to_option : Rule
 to_option = option_of (codes "to")
+
+-- An option without a value, `--ID`, which need not be there.
+abbrev pub flag_of : Text → Rule
+flag_of id = record (new_rule id) { long = Some id; action = Some SetTrue }
+
+-- `--all`.
+abbrev pub all_flag : Rule
+all_flag = flag_of (codes "all")
 
 -- A subcommand with what it takes, in order.
 abbrev pub subcommand : Text → List Rule → Shape
@@ -72,6 +81,10 @@ merge_usage = subcommand (codes "merge") (argument (codes "file") ∷ pool_optio
 abbrev pub host_usage : Shape
 host_usage = subcommand (codes "host") (pool_option ∷ [])
 
+-- `pack TENANT --pool FILE [--all]`
+abbrev pub pack_usage : Shape
+pack_usage = subcommand (codes "pack") (argument (codes "tenant") ∷ pool_option ∷ all_flag ∷ [])
+
 -- The program: one of its subcommands has to be there, its own name is none of the words, and it
 -- takes `--version`, which no subcommand does.
 abbrev pub gitpool : App
@@ -83,7 +96,7 @@ gitpool = record {
     subcommand_required = true;
   };
   subs = serve_usage ∷ import_usage ∷ ask_usage ∷ check_usage ∷ copy_usage ∷ remove_usage
-      ∷ compact_usage ∷ sizes_usage ∷ extract_usage ∷ merge_usage ∷ host_usage ∷ [];
+      ∷ compact_usage ∷ sizes_usage ∷ extract_usage ∷ merge_usage ∷ host_usage ∷ pack_usage ∷ [];
 }
 
 -- A command that reads what the shape says, and has no subcommand.

@@ -9,7 +9,7 @@ ghost use Rattle.clap.specs.Words.{subcommand_of, subcommand_rows_of, takes};
 ghost use Rattle.clap.specs.declared.error.kind.ErrorKind.TheVariants.{DisplayVersion};
 ghost use Rattle.clap.specs.declared.error.kind.ErrorKind.TheVariants.{OutOfMemory};
 ghost use Rattle.command_lines.specs.Lines.{AsksVersion, Said, ask_in, compact_in, copy_in, extract_in};
-ghost use Rattle.command_lines.specs.Lines.{import_in, merge_in, remove_in, said, said_by};
+ghost use Rattle.command_lines.specs.Lines.{import_in, is_set, merge_in, pack_in, remove_in, said, said_by};
 ghost use Rattle.command_lines.specs.Lines.{said_in, words_of};
 ghost use Rattle.command_lines.specs.Usage.{gitpool};
 
@@ -78,6 +78,13 @@ pub enum Line<'a> {
     Host {
         pool: &'a str,
     },
+    /// `pack TENANT --pool FILE [--all]`: write the pack of what a tenant's objects reach. `all` is
+    /// whether every ref is wanted.
+    Pack {
+        tenant: &'a str,
+        all: bool,
+        pool: &'a str,
+    },
 }
 
 // The value of an argument that takes one.
@@ -85,6 +92,16 @@ fn value<'a>(given: &ArgMatches<'a>, id: &str) -> Option<&'a str>
     ensures { option_map (λ s. s.now) result ≡ first_of id.now (rows_of (found_of given.now)) }
 {
     given.get_str(id)
+}
+
+// Whether a flag is among the words.
+fn is_set(given: &ArgMatches<'_>, id: &str) -> bool
+    ensures { result ≡ is_set (rows_of (found_of given.now)) id.now }
+{
+    match value(given, id) {
+        Some(text) => text == "true",
+        None => false,
+    }
 }
 
 // What `clap` finds in the words.
@@ -148,6 +165,7 @@ impl<'a> Line<'a> {
             "extract" => Line::extract(given, pool),
             "merge" => Line::merge(given, pool),
             "host" => Some(Line::Host { pool }),
+            "pack" => Line::pack(given, pool),
             _ => None,
         }
     }
@@ -213,5 +231,14 @@ impl<'a> Line<'a> {
     {
         let file = value(given, "file")?;
         Some(Line::Merge { file, pool })
+    }
+
+    fn pack(given: &ArgMatches<'a>, pool: &'a str) -> Option<Line<'a>>
+        ensures { option_map said result
+            ≡ pack_in (rows_of (found_of given.now)) pool.entry.now }
+    {
+        let tenant = value(given, "tenant")?;
+        let all = is_set(given, "all");
+        Some(Line::Pack { tenant, all, pool })
     }
 }

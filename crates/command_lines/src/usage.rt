@@ -8,13 +8,14 @@
 ghost use Rattle.std.specs.Prelude.{◌≡◌, IfOk, codes, false, []};
 ghost use Rattle.clap.specs.Words.{App, Shape, app_of, rule_of, with_subcommand};
 ghost use Rattle.command_lines.specs.Usage.{ReadsWords, alone, argument, ask_usage, check_usage};
-ghost use Rattle.command_lines.specs.Usage.{compact_usage, copy_usage, extract_usage, gitpool};
-ghost use Rattle.command_lines.specs.Usage.{host_usage, import_usage, merge_usage, option_of};
-ghost use Rattle.command_lines.specs.Usage.{pool_option, remove_usage, serve_usage, sizes_usage};
+ghost use Rattle.command_lines.specs.Usage.{all_flag, compact_usage, copy_usage, extract_usage};
+ghost use Rattle.command_lines.specs.Usage.{flag_of, gitpool, host_usage, import_usage, merge_usage};
+ghost use Rattle.command_lines.specs.Usage.{option_of, pack_usage, pool_option, remove_usage};
+ghost use Rattle.command_lines.specs.Usage.{serve_usage, sizes_usage};
 ghost use Rattle.command_lines.specs.Usage.{subcommand, taking, to_option};
 
 use crate::version::VERSION;
-use clap::{Arg, Command};
+use clap::{Arg, ArgAction, Command};
 use std::alloc::{AllocError, Global};
 
 fn argument<'a>(alloc: Global, id: &'a str, shown: &'a str, help: &'a str) -> Arg<'a>
@@ -33,6 +34,17 @@ fn file_option<'a>(alloc: Global, id: &'a str, help: &'a str) -> Arg<'a>
     ensures local { result.global ≡ false }
 {
     argument(alloc, id, "FILE", help).long(id)
+}
+
+// An option without a value.
+fn flag<'a>(alloc: Global, id: &'a str, help: &'a str) -> Arg<'a>
+    ensures rule { rule_of result ≡ flag_of id.entry.now }
+    ensures local { result.global ≡ false }
+{
+    Arg::new(alloc, id)
+        .long(id)
+        .action(ArgAction::SetTrue)
+        .help(help)
 }
 
 fn subcommand<'a>(alloc: Global, name: &'a str, about: &'a str) -> Command<'a>
@@ -85,6 +97,17 @@ fn with_target<'a>(
         → IfOk result (λ c. ReadsWords c (taking shape to_option)) }
 {
     command?.arg(file_option(alloc, "to", "The pool file to write"))
+}
+
+// The subcommand with `--all`, which wants every ref.
+fn with_all<'a>(
+    alloc: Global,
+    command: Result<Command<'a>, AllocError>,
+) -> Result<Command<'a>, AllocError>
+    ensures { (shape : Shape) → IfOk command.entry (λ c. ReadsWords c shape)
+        → IfOk result (λ c. ReadsWords c (taking shape all_flag)) }
+{
+    command?.arg(flag(alloc, "all", "Also want every ref"))
 }
 
 fn serve<'a>(alloc: Global) -> Result<Command<'a>, AllocError>
@@ -182,6 +205,15 @@ fn host<'a>(alloc: Global) -> Result<Command<'a>, AllocError>
     with_pool(alloc, Ok(subcommand(alloc, "host", about)))
 }
 
+fn pack<'a>(alloc: Global) -> Result<Command<'a>, AllocError>
+    ensures { IfOk result (λ c. ReadsWords c pack_usage) }
+{
+    let about = "Write a pack of what the lines of standard input ask for";
+    let command = with_tenant(alloc, Ok(subcommand(alloc, "pack", about)));
+    let command = with_pool(alloc, command);
+    with_all(alloc, command)
+}
+
 // The program without its subcommands.
 fn program<'a>(alloc: Global) -> Result<Command<'a>, AllocError>
     ensures { IfOk result (λ c. app_of c ≡ alone) }
@@ -220,5 +252,6 @@ pub(crate) fn gitpool<'a>(alloc: Global) -> Result<Command<'a>, AllocError>
     let program = with(program, sizes(alloc));
     let program = with(program, extract(alloc));
     let program = with(program, merge(alloc));
-    with(program, host(alloc))
+    let program = with(program, host(alloc));
+    with(program, pack(alloc))
 }

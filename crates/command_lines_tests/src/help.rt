@@ -22,6 +22,7 @@ Commands:
   extract  Write a tenant to a pool file of its own
   merge    Add the tenants of another pool file
   host     Answer frames of steps and of the operator, and save when asked
+  pack     Write a pack of what the lines of standard input ask for
   help     Print this message or the help of the given subcommand(s)
 
 Options:
@@ -163,6 +164,20 @@ Options:
   -h, --help         Print help
 ";
 
+const PACK: &str = "\
+Write a pack of what the lines of standard input ask for
+
+Usage: gitpool pack [OPTIONS] --pool <FILE> <TENANT>
+
+Arguments:
+  <TENANT>  The tenant's name
+
+Options:
+      --pool <FILE>  The pool file
+      --all          Also want every ref
+  -h, --help         Print help
+";
+
 // Words that ask for help, each with a bar before it, and the help.
 const SHOWN: &[(&str, &str)] = &[
     ("|-h", PROGRAM),
@@ -192,6 +207,8 @@ const SHOWN: &[(&str, &str)] = &[
     ("|help|merge", MERGE),
     ("|host|-h", HOST),
     ("|help|host", HOST),
+    ("|pack|-h", PACK),
+    ("|help|pack", PACK),
 ];
 
 #[test]

@@ -142,6 +142,30 @@ const READ: &[(&[&str], Line<'static>)] = &[
         },
     ),
     (&["host", "--pool", "f"], Line::Host { pool: "f" }),
+    (
+        &["pack", "t", "--pool", "f"],
+        Line::Pack {
+            tenant: "t",
+            all: false,
+            pool: "f",
+        },
+    ),
+    (
+        &["pack", "--all", "t", "--pool", "f"],
+        Line::Pack {
+            tenant: "t",
+            all: true,
+            pool: "f",
+        },
+    ),
+    (
+        &["pack", "--pool=f", "--", "--all"],
+        Line::Pack {
+            tenant: "--all",
+            all: false,
+            pool: "f",
+        },
+    ),
     (&["check", "--pool=-f"], Line::Check { pool: "-f" }),
     (&["check", "--pool=a=b"], Line::Check { pool: "a=b" }),
     (&["check", "--pool="], Line::Check { pool: "" }),

@@ -11,7 +11,7 @@ const REFUSED: &[(&str, ErrorKind, &str)] = &[
         ErrorKind::MissingSubcommand,
         "\
 error: 'gitpool' requires a subcommand but one was not provided
-  [subcommands: serve, import, ask, check, copy, remove, compact, sizes, extract, merge, host, help]
+  [subcommands: serve, import, ask, check, copy, remove, compact, sizes, extract, merge, host, pack, help]
 
 Usage: gitpool <COMMAND>
 
@@ -112,6 +112,18 @@ error: the following required arguments were not provided:
   --to <FILE>
 
 Usage: gitpool extract --pool <FILE> --to <FILE> <TENANT>
+
+For more information, try '--help'.
+",
+    ),
+    (
+        "|pack|--all|--pool|f",
+        ErrorKind::MissingRequiredArgument,
+        "\
+error: the following required arguments were not provided:
+  <TENANT>
+
+Usage: gitpool pack --pool <FILE> --all <TENANT>
 
 For more information, try '--help'.
 ",

@@ -7,3 +7,5 @@ mod StepLemmas
 pub mod ImportLemmas
 mod ExportLemmas
 mod AskLemmas
+mod RevisionLemmas
+mod PackLemmas

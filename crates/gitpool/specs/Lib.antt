@@ -34,6 +34,9 @@ pub mod Asking
 pub mod Checking
 pub mod Sizing
 pub mod Packing
+pub mod Revisions
+pub mod Packs
+pub mod RevisionReading
 pub mod SaveFaults
 pub mod Places
 pub mod Requests

@@ -20,6 +20,8 @@ mod hosting_laws;
 mod import_fault;
 mod importing;
 pub mod laws;
+mod pack_lines;
+mod pack_writing;
 mod packing;
 mod pool_place;
 mod save_fault;
@@ -39,6 +41,7 @@ pub use git_objects::{
 pub use hosting::host;
 pub use import_fault::ImportFault;
 pub use importing::import;
+pub use pack_writing::pack;
 pub use pool_file_format::{DigestState, Fault as PoolFault, Refusal, StreamingDigest};
 pub use pool_place::PoolPlace;
 pub use save_fault::SaveFault;

@@ -1,6 +1,6 @@
 //! Why a run failed, with the number of the fault and the exit status.
 
-use gitpool::{AskFault, CheckFault, ExtractFault, FrameFault, ImportFault, PoolFault};
+use gitpool::{AskFault, CheckFault, ExtractFault, FrameFault, ImportFault, PackFault, PoolFault};
 use lock_files::LockFault;
 use std::alloc::AllocError;
 use std::io::ErrorKind;
@@ -89,6 +89,16 @@ impl From<ExtractFault> for RunFault {
         match fault {
             ExtractFault::Device => RunFault::Device,
             ExtractFault::Memory => RunFault::Memory,
+            refused => RunFault::Step(refused.code()),
+        }
+    }
+}
+
+impl From<PackFault> for RunFault {
+    fn from(fault: PackFault) -> RunFault {
+        match fault {
+            PackFault::Device => RunFault::Device,
+            PackFault::Memory => RunFault::Memory,
             refused => RunFault::Step(refused.code()),
         }
     }

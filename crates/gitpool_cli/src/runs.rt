@@ -35,6 +35,7 @@ pub fn run(rt: &HostRuntime, line: Line<'_>) -> Result<(), RunFault> {
         Line::Sizes { pool } => run_to_read(rt, line, pool),
         Line::Extract { pool, .. } => run_to_read(rt, line, pool),
         Line::Host { pool } => run_hosted(rt, pool),
+        Line::Pack { pool, .. } => run_to_read(rt, line, pool),
     }
 }
 
@@ -109,6 +110,7 @@ fn carry_out(
         Line::Sizes { .. } => sizes(rt, service),
         Line::Extract { tenant, file, pool } => extract(rt, service, tenant, file, pool),
         Line::Merge { file, .. } => answered(merge(rt, service, file)?),
+        Line::Pack { tenant, all, .. } => pack(rt, service, tenant.as_bytes(), all),
         // `run_hosted` carries it out, over the lock file.
         Line::Host { .. } => Ok(()),
     }
@@ -153,6 +155,18 @@ fn check(rt: &HostRuntime, service: &Service<Sha1Naming>) -> Result<(), RunFault
 fn sizes(rt: &HostRuntime, service: &Service<Sha1Naming>) -> Result<(), RunFault> {
     let mut writer = Counted::new(rt.stdout());
     Ok(gitpool::sizes(rt.alloc(), service, &mut writer)?)
+}
+
+// Writes the pack that standard input asks for.
+fn pack(
+    rt: &HostRuntime,
+    service: &Service<Sha1Naming>,
+    tenant: &[u8],
+    all: bool,
+) -> Result<(), RunFault> {
+    let mut reader = Counted::new(rt.stdin());
+    let mut writer = Counted::new(rt.stdout());
+    Ok(gitpool::pack(rt.alloc(), service, tenant, all, &mut reader, &mut writer)?)
 }
 
 // What the answer to a call for one tenant makes of the run.

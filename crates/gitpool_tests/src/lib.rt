@@ -34,6 +34,8 @@ mod opened;
 #[cfg(test)]
 mod packing;
 #[cfg(test)]
+mod packs;
+#[cfg(test)]
 mod removals;
 #[cfg(test)]
 mod replies;

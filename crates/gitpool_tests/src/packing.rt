@@ -3,11 +3,11 @@
 
 use crate::told::{feeds, takes, tells};
 use byte_devices::FailingWriter;
-use gitpool::{Counted, Kind, MissingObject, Name, Service, Sha1Naming, Step};
+use gitpool::{Counted, Kind, MissingObject, Name, PackFault, Service, Sha1Naming, Step};
 use std::alloc::{AllocError, Global};
 
 // Two commits: `f` with `hello`, and then `g` with `ab`.
-const STREAM: &[u8] = b"blob\nmark :1\ndata 6\nhello\n\n\
+pub const STREAM: &[u8] = b"blob\nmark :1\ndata 6\nhello\n\n\
     commit refs/heads/main\ncommitter A <a@b> 0 +0000\ndata 2\nx\nM 100644 :1 f\n\n\
     blob\nmark :2\ndata 3\nab\n\n\
     commit refs/heads/main\ncommitter A <a@b> 1 +0000\ndata 2\ny\nM 100644 :2 g\n\n";
@@ -37,7 +37,7 @@ const ADDED: &[(&[u8], Kind, u64)] = &[
 const ENTRIES: &[u8] = b"\x36\x78\x01\x01\x06\x00\xf9\xffhello\n\x08\x4b\x02\x1f\
     \x33\x78\x01\x01\x03\x00\xfc\xffab\n\x01\xf4\x00\xce";
 
-const PACK: &[u8] = b"PACK\x00\x00\x00\x02\x00\x00\x00\x01\
+pub const PACK: &[u8] = b"PACK\x00\x00\x00\x02\x00\x00\x00\x01\
     \x33\x78\x01\x01\x03\x00\xfc\xffab\n\x01\xf4\x00\xce\
     \x60\xf3\xce\x03\x2b\x35\x33\xd5\xab\xb3\xc8\x48\x84\x90\x2c\x75\x96\xb8\xec\x71";
 
@@ -66,6 +66,18 @@ fn is_told(told: &[MissingObject], expected: &[(&[u8], Kind, u64)]) -> bool {
 }
 
 // Whether just these objects are told; or nothing, under this number.
+fn are_told(
+    told: &Result<Vec<MissingObject>, PackFault>,
+    expected: Result<&[(&[u8], Kind, u64)], u16>,
+) -> bool {
+    match (told, expected) {
+        (Ok(told), Ok(expected)) => is_told(told, expected),
+        (Err(fault), Err(code)) => fault.code() == code,
+        _ => false,
+    }
+}
+
+// The same for what these wants reach and these haves do not.
 fn tells_missing(
     alloc: Global,
     service: &Service<Sha1Naming>,
@@ -73,167 +85,165 @@ fn tells_missing(
     wants: &[&[u8]],
     haves: &[&[u8]],
     expected: Result<&[(&[u8], Kind, u64)], u16>,
-) -> Result<bool, AllocError> {
-    let wants = names(alloc, wants)?;
-    let haves = names(alloc, haves)?;
-    Ok(match (service.missing(tenant, &wants, &haves), expected) {
-        (Ok(told), Ok(expected)) => is_told(&told, expected),
-        (Err(fault), Err(code)) => fault.code() == code,
+) -> bool {
+    let (wants, haves) = (names(alloc, wants), names(alloc, haves));
+    match (&wants, &haves) {
+        (Ok(wants), Ok(haves)) => are_told(&service.missing(tenant, wants, haves), expected),
         _ => false,
-    })
+    }
 }
 
-fn tells_what_is_missing(
-    alloc: Global,
-    service: &mut Service<Sha1Naming>,
-) -> Result<bool, AllocError> {
-    let is_filled = is_filled(alloc, service);
-    let added = tells_missing(alloc, service, b"acme", &[SECOND], &[FIRST], Ok(ADDED))?;
-    let foreign = tells_missing(
-        alloc,
-        service,
-        b"acme",
-        &[SECOND],
-        &[FIRST, FOREIGN],
-        Ok(ADDED),
-    )?;
-    let nothing = tells_missing(alloc, service, b"acme", &[FIRST], &[SECOND], Ok(&[]))?;
-    let unknown = tells_missing(alloc, service, b"acme", &[SECOND, FOREIGN], &[], Err(16))?;
-    let of_another = tells_missing(alloc, service, b"other", &[SECOND], &[], Err(16))?;
-    let nobody = tells_missing(alloc, service, b"nobody", &[], &[SECOND], Ok(&[]))?;
-    let unseen = tells_missing(alloc, service, b"nobody", &[SECOND], &[], Err(16))?;
-    let bad = tells_missing(alloc, service, b"a b", &[], &[], Err(32))?;
-    Ok(is_filled && added && foreign && nothing && unknown && of_another && nobody && unseen && bad)
+fn tells_what_acme_misses(alloc: Global, service: &Service<Sha1Naming>) -> bool {
+    tells_missing(alloc, service, b"acme", &[SECOND], &[FIRST], Ok(ADDED))
+        && tells_missing(
+            alloc,
+            service,
+            b"acme",
+            &[SECOND],
+            &[FIRST, FOREIGN],
+            Ok(ADDED),
+        )
+        && tells_missing(alloc, service, b"acme", &[FIRST], &[SECOND], Ok(&[]))
+        && tells_missing(alloc, service, b"acme", &[SECOND, FOREIGN], &[], Err(16))
+}
+
+fn tells_what_others_miss(alloc: Global, service: &Service<Sha1Naming>) -> bool {
+    tells_missing(alloc, service, b"other", &[SECOND], &[], Err(16))
+        && tells_missing(alloc, service, b"nobody", &[], &[SECOND], Ok(&[]))
+        && tells_missing(alloc, service, b"nobody", &[SECOND], &[], Err(16))
+        && tells_missing(alloc, service, b"a b", &[], &[], Err(32))
 }
 
 // Whether a tenant is told of its last checkpoint while a stream runs.
-fn tells_of_the_last_checkpoint(
-    alloc: Global,
-    service: &mut Service<Sha1Naming>,
-) -> Result<bool, AllocError> {
-    let opened = tells(alloc, service, Step::Open { tenant: b"nobody" }, 0, b"")
-        && feeds(alloc, service, b"nobody", STREAM, 0, b"");
-    let before = tells_missing(alloc, service, b"nobody", &[SECOND], &[FIRST], Err(16))?;
-    let saved = feeds(alloc, service, b"nobody", b"checkpoint\n\n", 0, b"");
-    let after = tells_missing(alloc, service, b"nobody", &[SECOND], &[FIRST], Ok(ADDED))?;
-    Ok(opened && before && saved && after)
+fn tells_of_the_last_checkpoint(alloc: Global, service: &mut Service<Sha1Naming>) -> bool {
+    tells(alloc, service, Step::Open { tenant: b"nobody" }, 0, b"")
+        && feeds(alloc, service, b"nobody", STREAM, 0, b"")
+        && tells_missing(alloc, service, b"nobody", &[SECOND], &[FIRST], Err(16))
+        && feeds(alloc, service, b"nobody", b"checkpoint\n\n", 0, b"")
+        && tells_missing(alloc, service, b"nobody", &[SECOND], &[FIRST], Ok(ADDED))
 }
 
-fn all_is_told(alloc: Global) -> Result<bool, AllocError> {
-    let mut service = Service::new(alloc, Sha1Naming);
-    let told = tells_what_is_missing(alloc, &mut service);
-    let later = tells_of_the_last_checkpoint(alloc, &mut service);
-    drop(service);
-    Ok(told? && later?)
+fn all_is_told(alloc: Global, service: &mut Service<Sha1Naming>) -> bool {
+    is_filled(alloc, service)
+        && tells_what_acme_misses(alloc, service)
+        && tells_what_others_miss(alloc, service)
+        && tells_of_the_last_checkpoint(alloc, service)
 }
 
 #[test]
 fn a_tenant_is_told_what_a_client_is_missing(rt: HostRuntime) {
-    assert!(rt; matches!(all_is_told(rt.alloc()), Ok(true)));
+    let mut service = Service::new(rt.alloc(), Sha1Naming);
+    let told = all_is_told(rt.alloc(), &mut service);
+    drop(service);
+    assert!(rt; told);
 }
 
-// Whether entries are appended so; or nothing, under this number.
+// Whether `out`, which had one byte, has these entries too; or that byte alone, under this number.
+fn are_appended(out: &[u8], told: Result<(), PackFault>, expected: Result<&[u8], u16>) -> bool {
+    match (out.strip_prefix(b"\x07"), told, expected) {
+        (Some(rest), Ok(()), Ok(entries)) => rest == entries,
+        (Some(rest), Err(fault), Err(code)) => fault.code() == code && rest.is_empty(),
+        _ => false,
+    }
+}
+
 fn appends(
     alloc: Global,
     service: &Service<Sha1Naming>,
     digits: &[&[u8]],
     limit: u64,
     expected: Result<&[u8], u16>,
-) -> Result<bool, AllocError> {
-    let names = names(alloc, digits)?;
-    let mut out = vec![in alloc; 7; 1]?;
-    let told = service.entries(b"acme", &names, limit, &mut out);
-    let (front, rest) = out.split_at(1);
-    Ok(
-        front == [7].as_slice()
-            && match (told, expected) {
-                (Ok(()), Ok(entries)) => rest == entries,
-                (Err(fault), Err(code)) => fault.code() == code && rest.is_empty(),
-                _ => false,
-            },
-    )
+) -> bool {
+    let names = names(alloc, digits);
+    let mut out: Result<_, _> = vec![in alloc; 7; 1];
+    match (&names, &mut out) {
+        (Ok(names), Ok(out)) => {
+            let told = service.entries(b"acme", names, limit, out);
+            are_appended(out, told, expected)
+        }
+        _ => false,
+    }
 }
 
-fn entries_of(alloc: Global, service: &mut Service<Sha1Naming>) -> Result<bool, AllocError> {
-    let is_filled = is_filled(alloc, service);
-    let all = ENTRIES.len() as u64;
-    let whole = appends(alloc, service, &[HELLO, AB], all, Ok(ENTRIES))?;
-    let none = appends(alloc, service, &[], 0, Ok(b""))?;
-    let too_long = appends(alloc, service, &[HELLO, AB], 32, Err(25))?;
-    let unknown = appends(alloc, service, &[HELLO, AB, FOREIGN], 32, Err(16))?;
-    Ok(is_filled && all == 33 && whole && none && too_long && unknown)
-}
-
-fn all_is_appended(alloc: Global) -> Result<bool, AllocError> {
-    let mut service = Service::new(alloc, Sha1Naming);
-    let appended = entries_of(alloc, &mut service);
-    drop(service);
-    appended
+fn all_is_appended(alloc: Global, service: &mut Service<Sha1Naming>) -> bool {
+    is_filled(alloc, service)
+        && appends(alloc, service, &[HELLO, AB], 33, Ok(ENTRIES))
+        && appends(alloc, service, &[], 0, Ok(b""))
+        && appends(alloc, service, &[HELLO, AB], 32, Err(25))
+        && appends(alloc, service, &[HELLO, AB, FOREIGN], 32, Err(16))
 }
 
 #[test]
 fn objects_are_appended_as_entries(rt: HostRuntime) {
-    assert!(rt; matches!(all_is_appended(rt.alloc()), Ok(true)));
+    let mut service = Service::new(rt.alloc(), Sha1Naming);
+    let appended = all_is_appended(rt.alloc(), &mut service);
+    drop(service);
+    assert!(rt; appended);
 }
 
 // Whether a pack is written so; or nothing, under this number.
+fn is_packed(pack: &[u8], told: Result<(), PackFault>, expected: Result<&[u8], u16>) -> bool {
+    match (told, expected) {
+        (Ok(()), Ok(expected)) => pack == expected,
+        (Err(fault), Err(code)) => fault.code() == code && pack.is_empty(),
+        _ => false,
+    }
+}
+
 fn packs(
     alloc: Global,
     service: &Service<Sha1Naming>,
     tenant: &[u8],
     digits: &[&[u8]],
     expected: Result<&[u8], u16>,
-) -> Result<bool, AllocError> {
-    let wants = names(alloc, digits)?;
+) -> bool {
     let mut writer = Counted::new(Vec::new(alloc));
-    let told = service.write_pack(tenant, &wants, &[], &mut writer);
-    let pack = writer.into_inner();
-    Ok(match (told, expected) {
-        (Ok(()), Ok(expected)) => pack.as_slice() == expected,
-        (Err(fault), Err(code)) => fault.code() == code && pack.is_empty(),
-        _ => false,
-    })
+    let wants = names(alloc, digits);
+    match &wants {
+        Ok(wants) => {
+            let told = service.write_pack(tenant, wants, &[], &mut writer);
+            is_packed(&writer.into_inner(), told, expected)
+        }
+        Err(_) => false,
+    }
 }
 
-fn packs_of(alloc: Global, service: &mut Service<Sha1Naming>) -> Result<bool, AllocError> {
-    let is_filled = is_filled(alloc, service);
-    let one = packs(alloc, service, b"acme", &[AB], Ok(PACK))?;
-    let unknown = packs(alloc, service, b"other", &[AB], Err(16))?;
-    let bad = packs(alloc, service, b"a b", &[], Err(32))?;
-    Ok(is_filled && one && unknown && bad)
-}
-
-fn all_is_packed(alloc: Global) -> Result<bool, AllocError> {
-    let mut service = Service::new(alloc, Sha1Naming);
-    let packed = packs_of(alloc, &mut service);
-    drop(service);
-    packed
+fn all_is_packed(alloc: Global, service: &mut Service<Sha1Naming>) -> bool {
+    is_filled(alloc, service)
+        && packs(alloc, service, b"acme", &[AB], Ok(PACK))
+        && packs(alloc, service, b"other", &[AB], Err(16))
+        && packs(alloc, service, b"a b", &[], Err(32))
 }
 
 #[test]
 fn a_pack_is_written(rt: HostRuntime) {
-    assert!(rt; matches!(all_is_packed(rt.alloc()), Ok(true)));
-}
-
-// Whether a device that fails is told, and a prefix of the pack is written.
-fn is_blamed(alloc: Global, service: &mut Service<Sha1Naming>) -> Result<bool, AllocError> {
-    let is_filled = is_filled(alloc, service);
-    let wants = names(alloc, &[AB])?;
-    let mut writer = Counted::new(FailingWriter::new(Vec::new(alloc), 0));
-    let told = service.write_pack(b"acme", &wants, &[], &mut writer);
-    let faults = writer.faults();
-    drop(writer);
-    Ok(is_filled && faults == 1 && matches!(told, Err(fault) if fault.code() == 68))
-}
-
-fn a_device_is_blamed(alloc: Global) -> Result<bool, AllocError> {
-    let mut service = Service::new(alloc, Sha1Naming);
-    let blamed = is_blamed(alloc, &mut service);
+    let mut service = Service::new(rt.alloc(), Sha1Naming);
+    let packed = all_is_packed(rt.alloc(), &mut service);
     drop(service);
-    blamed
+    assert!(rt; packed);
+}
+
+// Whether a device that fails is told.
+fn is_blamed(alloc: Global, service: &mut Service<Sha1Naming>, wants: &[Name]) -> bool {
+    let is_filled = is_filled(alloc, service);
+    let mut writer = Counted::new(FailingWriter::new(Vec::new(alloc), 0));
+    let told = service.write_pack(b"acme", wants, &[], &mut writer);
+    let faults = writer.faults();
+    is_filled && faults == 1 && matches!(told, Err(fault) if fault.code() == 68)
+}
+
+fn a_device_is_blamed(alloc: Global, service: &mut Service<Sha1Naming>) -> bool {
+    let wants = names(alloc, &[AB]);
+    match &wants {
+        Ok(wants) => is_blamed(alloc, service, wants),
+        Err(_) => false,
+    }
 }
 
 #[test]
 fn a_device_that_fails_under_a_pack_is_told(rt: HostRuntime) {
-    assert!(rt; matches!(a_device_is_blamed(rt.alloc()), Ok(true)));
+    let mut service = Service::new(rt.alloc(), Sha1Naming);
+    let blamed = a_device_is_blamed(rt.alloc(), &mut service);
+    drop(service);
+    assert!(rt; blamed);
 }

@@ -21,7 +21,7 @@ pub struct NextFile {
 }
 
 impl NextFile {
-    // Whoever calls this holds the lock, so what has the name was left behind.
+    // Whoever calls this holds the lock, so what has the name is left from an earlier run.
     pub(crate) fn make(rt: &HostRuntime, locked: &str) -> Result<NextFile, LockFault> {
         let name = name_of(rt, locked)?;
         remove_left(rt, &name);

@@ -61,6 +61,7 @@ impl Marks {
         self.open_count
     }
 
+    /// Whether the object at a place is had.
     pub fn is_had(&self, place: usize) -> bool
         requires { place < length self.now.had }
         ensures { result ≡ get_or self.now.had place false }

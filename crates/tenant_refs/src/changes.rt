@@ -9,6 +9,7 @@ use crate::changed_entries::change_entries;
 use crate::refs::Refs;
 use git_names::{Memory, Name, RefName};
 use std::alloc::AllocError;
+use thiserror::Error;
 
 /// A change to one ref: git-update-ref(1).
 #[derive(Drop)]
@@ -20,11 +21,13 @@ pub struct RefChange {
 }
 
 /// Why `Refs::change_all` made no change.
-#[derive(Clone, Copy)]
+#[derive(Clone, Copy, Debug, PartialEq, Eq, Error)]
 pub enum ChangesFault {
     /// There would be too many refs after the changes (25).
+    #[error("too many refs")]
     Limit,
     /// An allocation failed (90).
+    #[error("out of memory")]
     Memory,
 }
 

@@ -1,6 +1,6 @@
 //! What the operator takes from a tenant's repository: the objects that its refs do not reach.
 //!
-//! A force push leaves the old commits behind, and a ref that is removed leaves what it held.
+//! After a force push the old commits are still there, and so is what a removed ref held.
 //! Queries and exports go by the refs, but `cat` still reads these objects, and the pool still
 //! holds their contents. A compaction takes them out of the tenant's table, and changes nothing
 //! else of it.

@@ -18,3 +18,8 @@ stop_of refusal count = stop.Fault (code_of refusal)
 abbrev pub unfed : LexFault → StreamError
 unfed lex_fault.Memory = stop.Memory 0
 unfed failure = stop.Fault (item_code failure)
+
+-- The number under which it is reported.
+abbrev pub stopping_code : StreamError → ℕ
+stopping_code (stop.Fault code) = code
+stopping_code (stop.Memory _) = 90

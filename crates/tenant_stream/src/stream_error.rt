@@ -1,7 +1,7 @@
 //! Why a stream stops.
 
 ghost use Rattle.std.specs.Prelude.{◌≡◌};
-ghost use Rattle.tenant_stream.specs.Stopping.{stop_of};
+ghost use Rattle.tenant_stream.specs.Stopping.{stop_of, stopping_code};
 
 use import_session::Fault;
 
@@ -12,6 +12,18 @@ pub enum StreamError {
     Fault(u16),
     /// Memory ran out (90) after so many whole items of this call, which took effect.
     Memory(u64),
+}
+
+impl StreamError {
+    /// The number of the fault: that of the refusal, or 90 if memory ran out.
+    pub fn code(self) -> u16
+        ensures { result ≡ stopping_code self }
+    {
+        match self {
+            StreamError::Fault(code) => code,
+            StreamError::Memory(_) => 90,
+        }
+    }
 }
 
 // Why a stream stops whose next item is refused, after `count` items of the call.

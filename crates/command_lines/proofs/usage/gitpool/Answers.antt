@@ -1,5 +1,5 @@
 use Rattle.clap.specs.Words.{App, with_subcommand}
-use Rattle.command_lines.specs.Usage.{alone, ask_usage, check_usage, compact_usage, copy_usage, extract_usage, host_usage, import_usage, merge_usage, remove_usage, serve_usage, sizes_usage}
+use Rattle.command_lines.specs.Usage.{alone, ask_usage, check_usage, compact_usage, copy_usage, extract_usage, host_usage, import_usage, merge_usage, pack_usage, remove_usage, serve_usage, sizes_usage}
 use Rattle.command_lines.proofs.usage.gitpool.Goals as goal
 
 abbrev one : App
@@ -32,9 +32,13 @@ nine = with_subcommand eight extract_usage
 abbrev ten : App
 ten = with_subcommand nine merge_usage
 
+abbrev eleven : App
+eleven = with_subcommand ten host_usage
+
 pub returns : goal.returns
 returns c =
-    c.with.ensures ten host_usage
+    c.with.ensures eleven pack_usage
+    (c.with-program-11.ensures ten host_usage
     (c.with-program-10.ensures nine merge_usage
     (c.with-program-9.ensures eight extract_usage
     (c.with-program-8.ensures seven sizes_usage
@@ -54,4 +58,5 @@ returns c =
     c.sizes.ensures)
     c.extract.ensures)
     c.merge.ensures)
-    c.host.ensures
+    c.host.ensures)
+    c.pack.ensures

@@ -73,3 +73,9 @@ returns-in-host c =
     let pool : first_of (codes "pool") (rows_of (found_of c.args.given.now)) ≡ Some c.in_ok-pool.pool.now = search rules in
     let host : c.args.name.now ≡ codes "host" = search rules in
     rw (pool, host) refl
+
+pub returns-in-pack : goal.returns-in-pack
+returns-in-pack c =
+    let pool : first_of (codes "pool") (rows_of (found_of c.args.given.now)) ≡ Some c.in_ok-pool.pool.now = search rules in
+    let pack : c.args.name.now ≡ codes "pack" = search rules in
+    rw (pool, pack) c.pack.ensures

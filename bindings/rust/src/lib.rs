@@ -1,0 +1,67 @@
+//! Git repositories of many tenants in one process.
+//!
+//! This crate calls the library gitpool, whose functions are proved: each tenant is told, and has, what it would in a repository of its own,
+//! and a stream that is refused leaves the last checkpoint. The crate itself is not proved.
+//!
+//! ```
+//! use gitpool::Service;
+//!
+//! # fn main() -> Result<(), gitpool::ImportError> {
+//! let mut service = Service::new()?;
+//! service.import("alice", &b"blob\nmark :1\ndata 6\nhello\ncommit refs/heads/main\ncommitter A <a@b> 0 +0000\ndata 6\nfirst\nM 644 :1 f\n"[..])?;
+//! for it in service.refs("alice")? {
+//!     println!("{} {}", it.target, String::from_utf8_lossy(&it.name));
+//! }
+//! let first = service.log("alice", "main")?.next().unwrap();
+//! assert_eq!(first.subject, b"first");
+//! assert_eq!(service.refs("bob")?.count(), 0);
+//! assert_eq!(service.object("bob", "ce01").unwrap_err().number(), 16);
+//! # Ok(())
+//! # }
+//! ```
+//!
+//! # Linking
+//!
+//! The build script looks for `libgitpool.a` in the folder that the environment variable `GITPOOL_LIB_DIR` names, else in the one that
+//! pkg-config tells. If that folder has no archive, or `GITPOOL_SHARED=1` is set, it links `libgitpool.so`. No other crate is needed.
+//!
+//! # Threads
+//!
+//! A [`Service`] is `Send` and not `Sync`: it may be moved to another thread, and one thread at a time uses it.
+//!
+//! That it may be moved is **not proved**. The prover knows no threads, so no clause of the library speaks of them. It rests on this:
+//!
+//! - The archive has no thread-local variable, and no static one that is written. The one byte outside of its constants is of the kit's
+//!   allocator, and only its address is used, for an allocation of no bytes. `bindings/check` looks at the sections and at that byte.
+//! - All that a service owns is memory of `malloc`, `realloc` and `free`, and the C library lets one thread free what another one allocated.
+//! - Two services have no memory in common.
+//!
+//! ```
+//! let mut service = gitpool::Service::new().unwrap();
+//! let counted = std::thread::spawn(move || service.refs("alice").unwrap().count());
+//! assert_eq!(counted.join().unwrap(), 0);
+//! ```
+//!
+//! ```compile_fail
+//! fn is_shared<T: Sync>() {}
+//! is_shared::<gitpool::Service>();
+//! ```
+//!
+//! # Memory
+//!
+//! Where the library finds no memory, a call is refused with 90. Replies are copied to a `Vec`; where there is no memory for that, Rust ends
+//! the process, as it does for each `Vec`.
+
+#![warn(missing_docs)]
+
+mod error;
+mod faults;
+mod ffi;
+mod handles;
+mod replies;
+mod service;
+
+pub use error::{Error, ImportError, OUT_OF_MEMORY};
+pub use handles::TENANT_NAME_LIMIT;
+pub use replies::{Kind, Log, LogEntry, Object, ObjectName, Ref, Refs, Tree, TreeEntry};
+pub use service::{Service, TenantSizes, Totals};

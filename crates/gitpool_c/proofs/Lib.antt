@@ -1,0 +1,3 @@
+mod Handles
+mod Lists
+mod Values
