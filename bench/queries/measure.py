@@ -18,7 +18,7 @@ rounds = int(sys.argv[2]) if len(sys.argv) > 2 else 3
 commits = int(sys.argv[3]) if len(sys.argv) > 3 else 5000
 here = os.path.dirname(os.path.abspath(__file__))
 BRANCH = b"refs/heads/b0"
-OBJECTS, PLACES = 20_000, 5_000
+OBJECTS, PLACES, RANGES = 20_000, 5_000, 100
 OPEN, FEED, END, ASK = 1, 2, 3, 4
 ANSWER = struct.Struct(">BQQ")
 PIECE = 1 << 20
@@ -86,6 +86,18 @@ def chosen(path):
     return objects, places
 
 
+def ranges():
+    """Ranges of twenty commits each along the branch, from the tip to its middle."""
+    step = max(20, commits // 2 // RANGES)
+    return [b"%s~%d..%s~%d" % (BRANCH, back + 20, BRANCH, back) for back in range(0, step * RANGES, step)]
+
+
+def logs(path):
+    """Git's logs of the ranges, by a process each."""
+    told = [git(path, "log", "--format=%H %s", it.decode()) for it in ranges()]
+    return b"".join(text for text, _ in told), sum(took for _, took in told)
+
+
 def lines(all_of_them):
     return b"".join(it + b"\n" for it in all_of_them)
 
@@ -129,6 +141,7 @@ def main():
         for what, (queries, words, given) in asked.items():
             own, other = (lambda: ours(process, queries)), (lambda: git(path, *words, given=given))
             told = compare(what, len(queries), own, other, what != "export")
+        compare("ranges", RANGES, lambda: ours(process, [b"log " + it for it in ranges()]), lambda: logs(path), True)
         read = fresh(folder, "export", told)
         refs = [git(it, "for-each-ref")[0] for it in (path, read)]
         assert refs[0] == refs[1], "the export has other refs"

@@ -91,7 +91,7 @@ in_kind os place kind.Tree bytes h = All-nil (IsCommit os)
 in_kind os place kind.Tag bytes h = All-nil (IsCommit os)
 
 -- of two tests that say the same
-same_test : (a b : Bool) → (a ≡ true → b ≡ true) → (b ≡ true → a ≡ true) → a ≡ b
+pub same_test : (a b : Bool) → (a ≡ true → b ≡ true) → (b ≡ true → a ≡ true) → a ≡ b
 same_test true b f g = sym (f refl)
 same_test false true f g = g refl
 same_test false false f g = refl
@@ -120,11 +120,11 @@ module _ (digest : List ℕ → List ℕ) (os : List Object) (good : AreObjects 
       least (parents_of os) (λ x. place_of x os) (parents_fall digest os good) (length os) tip id
       (place_within tip os)
 
-  reaches_parts : (tip id : List ℕ) → reaches os tip id ≡ true → Reaches (parents_of os) tip id
+  pub reaches_parts : (tip id : List ℕ) → reaches os tip id ≡ true → Reaches (parents_of os) tip id
   unfolding reaches
   reaches_parts tip id e = (by_least tip id).0 (and_parts _ _ e).1
 
-  reaches_all : (tip id : List ℕ) → IsTrue (is_of os kind.Commit tip)
+  pub reaches_all : (tip id : List ℕ) → IsTrue (is_of os kind.Commit tip)
       → Reaches (parents_of os) tip id → reaches os tip id ≡ true
   unfolding reaches
   reaches_all tip id there r =

@@ -5,5 +5,6 @@ pub mod Answers
 pub mod CommitsAt
 pub mod Orders
 pub mod LogOrder
+pub mod RangeWalks
 pub mod HeaderLines
 pub mod CommitTimes

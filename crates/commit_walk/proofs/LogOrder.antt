@@ -161,14 +161,14 @@ module _ (os : List Object) (set : List ℕ → Bool) (flags : List Bool)
 contains_later : {X : Type 0} (x q : X) (xs : List X) → Contains xs q → Contains (x ∷ xs) q
 contains_later x q xs h = (suc h.0, omega arith, h.2)
 
-contains_mapped : {X Y : Type 0} (f : X → Y) (xs : List X) (x : X) → Contains xs x
+pub contains_mapped : {X Y : Type 0} (f : X → Y) (xs : List X) (x : X) → Contains xs x
     → Contains (map f xs) (f x)
 contains_mapped f xs x h =
     let n = length-map xs f in
     (h.0, omega arith, get_or-map f xs h.0 x (f x) h.1 ∙ ap f h.2)
 
 -- where an element of a mapped list comes from
-contains_source : {X Y : Type 0} (f : X → Y) (xs : List X) (y : Y) → Contains (map f xs) y
+pub contains_source : {X Y : Type 0} (f : X → Y) (xs : List X) (y : Y) → Contains (map f xs) y
     → (x : X) × Contains xs x × (f x ≡ y)
 contains_source f [] y h = absurd (omega arith)
 contains_source f (x ∷ xs) y (zero, within, is) = (x, (0, omega arith, refl), is)
@@ -176,7 +176,7 @@ contains_source f (x ∷ xs) y (suc k, within, is) =
     let rest = contains_source f xs y (k, omega arith, is) in
     (rest.0, contains_later x rest.0 xs rest.1, rest.2)
 
-filtered : {X : Type 0} (p : X → Bool) (xs : List X) (x : X) → Contains (filter p xs) x
+pub filtered : {X : Type 0} (p : X → Bool) (xs : List X) (x : X) → Contains (filter p xs) x
     → Contains xs x × (p x ≡ true)
 filtered p [] x h = absurd (omega arith)
 filtered p (y ∷ ys) x h = by (p y) refl (λ c. filtered p ys x c) h
@@ -188,7 +188,7 @@ filtered p (y ∷ ys) x h = by (p y) refl (λ c. filtered p ys x c) h
     by true e rest (suc k, within, is) =
         let r = rest (k, omega arith, is) in (contains_later y x ys r.0, r.1)
 
-kept_by : {X : Type 0} (p : X → Bool) (xs : List X) (x : X) → Contains xs x → p x ≡ true
+pub kept_by : {X : Type 0} (p : X → Bool) (xs : List X) (x : X) → Contains xs x → p x ≡ true
     → Contains (filter p xs) x
 kept_by p [] x h yea = absurd (omega arith)
 kept_by p (y ∷ ys) x (zero, within, is) yea =

@@ -17,7 +17,7 @@ use Rattle.commit_walk.proofs.Flags.{has_flag, is_flagged, not_flagged}
 pub Reaches-itself : {A : Type 0} (leads : A → List A) (a : A) → Reaches leads a a
 Reaches-itself leads a = record { in_each = λ set starts closed. starts }
 
-Reaches-next : {A : Type 0} (leads : A → List A) (from to next : A) → Reaches leads from to
+pub Reaches-next : {A : Type 0} (leads : A → List A) (from to next : A) → Reaches leads from to
     → Contains (leads to) next → Reaches leads from next
 Reaches-next leads from to next r among = record {
   in_each = λ set starts closed. All-contains (λ b. IsTrue (set b)) (leads to) next

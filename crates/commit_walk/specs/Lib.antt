@@ -1,4 +1,5 @@
 -- In reading order.
 pub mod Marks
 pub mod Logs
+pub mod Ranges
 pub mod HeaderLines

@@ -36,3 +36,8 @@ in_log_order ks = finmap.keys (finmap.from_entries {R = log_cmp} (map (λ k. (k,
 unfoldable pub log_of : List Object → (List ℕ → Bool) → List (List ℕ)
 log_of os set =
     map (λ k. k.id) (in_log_order (map (λ o. log_key os o.id) (filter (λ o. set o.id) os)))
+
+-- Keys are those of the members of a set, in any order.
+abbrev pub AreKeysOf : List Object → (List ℕ → Bool) → List LogKey → Type 0
+AreKeysOf os set keys =
+    (k : LogKey) → Contains keys k ↔ Contains (map (λ o. log_key os o.id) (filter (λ o. set o.id) os)) k

@@ -1,5 +1,5 @@
 -- Marks of objects by their positions, and when they are what a commit reaches.
-use Rattle.std.specs.Prelude.{◌≡◌, ◌⊎◌, ℕ, ◌+◌, ◌-◌, ◌<◌, ◌≤◌, ◌&&◌, nat_le, Bool, false, IsTrue, List, length, All, slice_index_or}
+use Rattle.std.specs.Prelude.{◌≡◌, ◌⊎◌, ℕ, ◌+◌, ◌-◌, ◌<◌, ◌≤◌, ◌&&◌, nat_le, Bool, true, false, IsTrue, List, length, All, slice_index_or}
 use Rattle.std.specs.List.{Contains}
 use Rattle.git_model.specs.Repository.{Object}
 use Rattle.git_model.specs.References.{place_of, object_at, parents_of}
@@ -30,6 +30,11 @@ pub record Marks (os : List Object) (floor : ℕ) (old new : List Bool)
   pub added : (p : ℕ) → IsTrue (is_marked floor new p)
       → IsTrue (is_marked floor old p) ⊎ IsPlaceOfOne os ids p
   pub all : All (IsMarkedName os floor new) ids
+
+-- The same if a condition holds, and else the marks stay as they were.
+abbrev pub MarksIf : Bool → List Object → List Bool → List Bool → List (List ℕ) → Type 0
+MarksIf true os old new ids = Marks os 0 old new ids
+MarksIf false os old new ids = new ≡ old
 
 -- The marks are those of what a commit reaches, at the position `floor` and after it.
 pub record IsReached (os : List Object) (tip : List ℕ) (floor : ℕ)

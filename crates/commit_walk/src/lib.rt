@@ -9,9 +9,11 @@ mod lines;
 mod log;
 mod log_key;
 mod marks;
+mod ranges;
 mod reach;
 mod times;
 
 pub use lines::first_parent_in;
 pub use log::{a_log_is_one_list, log_of};
+pub use ranges::{log_between, log_of_either};
 pub use reach::{reached_from, reaches};

@@ -31,7 +31,16 @@ pub fn log_of<N: Naming>(
         → ((id : List ℕ) → IsTrue (set id) → IsTrue (is_of objects.now Kind.Commit id))
         → IfOk result (λ ids. ids.items ≡ log_of objects.now set) }
 {
-    let mut keys = keys_of(alloc, objects, flags)?;
+    let keys = keys_of(alloc, objects, flags)?;
+    let ids = ids_in_order(alloc, keys)?;
+    Ok(ids)
+}
+
+/// The names of the commits with these keys, in the order of a log and each once. `Memory` (90) if
+/// there is no room for them.
+pub(crate) fn ids_in_order(alloc: Global, mut keys: Vec<LogKey>) -> Result<Vec<Name>, Memory>
+    ensures { IfOk result (λ ids. ids.items ≡ map (λ k. k.id) (in_log_order keys.items)) }
+{
     keys.sort_unstable();
     keys.dedup();
     let ids = ids_of(alloc, &keys)?;
@@ -67,8 +76,8 @@ fn keys_of<N: Naming>(
     Ok(keys)
 }
 
-// Appends the key of the commit at a position.
-fn push_key<N: Naming>(
+/// Appends the key of the commit at a position.
+pub(crate) fn push_key<N: Naming>(
     objects: &Objects<'_, N>,
     place: usize,
     keys: &mut Vec<LogKey>,

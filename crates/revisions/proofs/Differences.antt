@@ -1,5 +1,5 @@
--- Flags of two sets, and the log of a range.
-use Rattle.std.proofs.Common.{◌≡◌, ℕ, Bool, true, inl, inr, ◌&&◌, not, List, [], ◌∷◌, map, zip, refl, ap}
+-- The commits of a range.
+use Rattle.std.proofs.Common.{◌≡◌, ℕ, true, inl, inr, ◌&&◌, not, List}
 use Rattle.std.specs.Prelude.{IsTrue}
 use Rattle.std.proofs.lemmas.Bool.{and_parts, or_cases}
 use Rattle.git_model.specs.declared.kind.Kind.TheVariants as kind
@@ -10,13 +10,8 @@ use Rattle.revisions.specs.declared.commit_range.Range.{Range}
 use Rattle.revisions.specs.declared.commit_range.Range.TheVariants.{From, Between, Either}
 use Rattle.revisions.specs.Ranges.{is_in_range}
 
-pub joined : {X : Type 0} (f g : X → Bool) (h : Bool × Bool → Bool) (xs : List X)
-    → map h (zip (map f xs) (map g xs)) ≡ map (λ x. h (f x, g x)) xs
-joined f g h [] = refl
-joined f g h (x ∷ xs) = ap (λ (flags : List Bool). h (f x, g x) ∷ flags) (joined f g h xs)
-
 -- what is reached is a commit
-reached_commit : (os : List Object) (tip id : List ℕ) → reaches os tip id ≡ true
+pub reached_commit : (os : List Object) (tip id : List ℕ) → reaches os tip id ≡ true
     → IsTrue (is_of os kind.Commit id)
 unfolding reaches
 reached_commit os tip id e = (and_parts _ _ (and_parts _ _ e).0).1

@@ -1,14 +1,16 @@
 //! The commits of a range: gitrevisions(7), "Specifying Ranges".
 
-ghost use Rattle.std.specs.Prelude.{◌≡◌, ◌&&◌, ◌||◌, not, true, map, zip, All, IfOk};
+ghost use Rattle.std.specs.Prelude.{◌≡◌, true, All, IfOk};
 ghost use Rattle.git_model.specs.GoodRepository.{AreObjects};
 ghost use Rattle.git_model.specs.Peeling.{is_of};
+ghost use Rattle.git_model.specs.Reach.{reaches};
+ghost use Rattle.commit_walk.specs.Logs.{log_of};
 ghost use Rattle.tenant_tables.specs.Objects.{objects};
 ghost use Rattle.tenant_tables.specs.IsBackedBy.{IsBackedBy};
 ghost use Rattle.tenant_tables.specs.View.{in_sight};
 ghost use Rattle.revisions.specs.Faults.{Gives, GivesBy};
 ghost use Rattle.revisions.specs.FirstParents.{IsFirstParentChain};
-ghost use Rattle.revisions.specs.Ranges.{both_named, range_named, reaches_without, is_in_range};
+ghost use Rattle.revisions.specs.Ranges.{both_named, range_named, is_in_range};
 ghost use Rattle.revisions.specs.Logs.{named_log, range_log};
 
 use crate::commit_range::Range;
@@ -17,7 +19,7 @@ use crate::fault::Fault;
 use crate::first_parents::FirstParentCache;
 use crate::range_reading::read_range;
 use crate::resolving::resolve_commit;
-use commit_walk::{log_of, reached_from};
+use commit_walk::{log_between, log_of, log_of_either, reached_from};
 use content_pool::Pool;
 use git_objects::{Kind, Memory, Name, Naming};
 use std::alloc::Global;
@@ -69,8 +71,7 @@ pub fn resolve_range<N: Naming>(
         → IsFirstParentChain objects.now chain.new }
 {
     let range = range_named(alloc, objects, refs, chain, range)?;
-    let flags = flags_of(alloc, objects, &range)?;
-    let ids = log_of(alloc, objects, &flags)?;
+    let ids = log_of_range(alloc, objects, &range)?;
     Ok(ids)
 }
 
@@ -122,71 +123,32 @@ fn both_named<N: Naming>(
     Ok((left, right))
 }
 
-// Whether each object is a commit of the range.
-fn flags_of<N: Naming>(
+// The log of a range by the names of its commits.
+fn log_of_range<N: Naming>(
     alloc: Global,
     objects: &Objects<'_, N>,
     range: &Range<Name>,
-) -> Result<Vec<bool>, Memory>
-    ensures { AreObjects N.digest_of objects.now → IfOk result (λ flags.
-        flags.items ≡ map (λ o. is_in_range objects.now range.now o.id) objects.now) }
+) -> Result<Vec<Name>, Memory>
+    ensures { AreObjects N.digest_of objects.now → IfOk result (λ ids.
+        ids.items ≡ log_of objects.now (is_in_range objects.now range.now)) }
 {
     match range {
-        Range::From(tip) => reached_from(alloc, objects, tip),
-        Range::Between(old, tip) => reached_without(alloc, objects, tip, old),
-        Range::Either(left, right) => reached_by_one(alloc, objects, left, right),
+        Range::From(tip) => log_from(alloc, objects, tip),
+        Range::Between(old, tip) => log_between(alloc, objects, old, tip),
+        Range::Either(left, right) => log_of_either(alloc, objects, left, right),
     }
 }
 
-// Whether each object is reached from one commit and not from the other.
-fn reached_without<N: Naming>(
+// The log of what a commit reaches.
+fn log_from<N: Naming>(
     alloc: Global,
     objects: &Objects<'_, N>,
     tip: &Name,
-    old: &Name,
-) -> Result<Vec<bool>, Memory>
-    ensures { AreObjects N.digest_of objects.now → IfOk result (λ flags.
-        flags.items ≡ map (λ o. reaches_without objects.now tip.now old.now o.id) objects.now) }
+) -> Result<Vec<Name>, Memory>
+    ensures { AreObjects N.digest_of objects.now → IfOk result (λ ids.
+        ids.items ≡ log_of objects.now (reaches objects.now tip.now)) }
 {
-    let inside = reached_from(alloc, objects, tip)?;
-    let outside = reached_from(alloc, objects, old)?;
-    let flags = without(alloc, &inside, &outside)?;
-    Ok(flags)
-}
-
-// Whether each object is reached from one of two commits and not from both.
-fn reached_by_one<N: Naming>(
-    alloc: Global,
-    objects: &Objects<'_, N>,
-    left: &Name,
-    right: &Name,
-) -> Result<Vec<bool>, Memory>
-    ensures { AreObjects N.digest_of objects.now → IfOk result (λ flags. flags.items
-        ≡ map (λ o. reaches_without objects.now left.now right.now o.id
-        || reaches_without objects.now right.now left.now o.id) objects.now) }
-{
-    let left = reached_from(alloc, objects, left)?;
-    let right = reached_from(alloc, objects, right)?;
-    let flags = by_one(alloc, &left, &right)?;
-    Ok(flags)
-}
-
-fn without(alloc: Global, inside: &[bool], outside: &[bool]) -> Result<Vec<bool>, Memory>
-    ensures { IfOk result (λ flags.
-        flags.items ≡ map (λ e. e.0 && not e.1) (zip inside.now outside.now)) }
-{
-    let both = inside.iter().zip(outside);
-    let flags = both.map(|(x, y)| *x && !*y).collect(alloc)?;
-    Ok(flags)
-}
-
-fn by_one(alloc: Global, left: &[bool], right: &[bool]) -> Result<Vec<bool>, Memory>
-    ensures { IfOk result (λ flags. flags.items
-        ≡ map (λ e. (e.0 && not e.1) || (e.1 && not e.0)) (zip left.now right.now)) }
-{
-    let both = left.iter().zip(right);
-    let flags = both
-        .map(|(x, y)| (*x && !*y) || (*y && !*x))
-        .collect(alloc)?;
-    Ok(flags)
+    let flags = reached_from(alloc, objects, tip)?;
+    let ids = log_of(alloc, objects, &flags)?;
+    Ok(ids)
 }

@@ -1,4 +1,4 @@
-use Rattle.std.proofs.Common.{◌≡◌, ◌+◌, ◌++◌, length, drop, ap, ◌∙◌, arith, codes}
+use Rattle.std.proofs.Common.{◌≡◌, ◌++◌, length, drop, ap, ◌∙◌, arith, codes}
 use Rattle.std.proofs.lemmas.List.{length-append, drop_at}
 use Rattle.git_model.specs.Commit.{name_line}
 use Rattle.commit_walk.specs.HeaderLines.{after_tree}

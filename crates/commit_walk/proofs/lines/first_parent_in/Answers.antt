@@ -1,4 +1,4 @@
-use Rattle.std.proofs.Common.{sym, ap, ◌∙◌, slice_get, List, ℕ}
+use Rattle.std.proofs.Common.{sym, ap, slice_get, List, ℕ}
 use Rattle.commit_walk.proofs.HeaderLines.{first_there, first_missing}
 use Rattle.commit_walk.proofs.lines.first_parent_in.Goals as goal
 

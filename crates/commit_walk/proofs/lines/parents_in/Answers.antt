@@ -1,4 +1,4 @@
-use Rattle.std.proofs.Common.{◌≡◌, ◌++◌, List, ℕ, refl, ap, ◌∙◌}
+use Rattle.std.proofs.Common.{◌++◌, List, ℕ, refl, ap, ◌∙◌}
 use Rattle.commit_walk.proofs.HeaderLines.{one_taken, none_left}
 use Rattle.commit_walk.proofs.lines.parents_in.Goals as goal
 

@@ -12,9 +12,7 @@ use Rattle.revisions.proofs.range_log.resolve_range.Goals as goal
 pub returns-clause-log : goal.returns-clause-log
 returns-clause-log g c good chain =
     let os = c.args.objects.now in
-    let range = c.in_ok-range.range in
-    let flags = c.deref.ensures.value ∙ c.in_ok-flags.ensures good in
-    let log = c.in_ok-ids.ensures (is_in_range os range) good flags (range_commit os range) in
+    let log = c.in_ok-ids.ensures good in
     ap (λ (r : Result (Range (List ℕ)) Fault). and_then r
     (λ (range : Range (List ℕ)). Ok (log_of os (is_in_range os range)))) (c.in_ok-range.ensures.named good chain)
     ∙ ap (λ (ids : List (List ℕ)). Ok ids) (sym log)
@@ -24,8 +22,7 @@ returns-clause-commits g c good k d within =
     let os = c.args.objects.now in
     let range = c.in_ok-range.range in
     let ids = c.in_ok-ids.ids.items in
-    let flags = c.deref.ensures.value ∙ c.in_ok-flags.ensures good in
-    let log = c.in_ok-ids.ensures (is_in_range os range) good flags (range_commit os range) in
+    let log = c.in_ok-ids.ensures good in
     let is_log = (one_log os (is_in_range os range) ids).1 log in
     let member = All-contains_itself ids k d within in
     range_commit os range _ ((is_log.members _).0 member).1
